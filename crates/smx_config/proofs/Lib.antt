@@ -15,6 +15,8 @@ pub mod NextMoveLemmas
 pub mod LoneMessageLemmas
 pub mod SettleLemmas
 pub mod MoveLemmas
+pub mod WayLemmas
+pub mod RowLemmas
 pub mod NextPlaceLemmas
 pub mod DoneLemmas
 pub mod ClosingLemmas

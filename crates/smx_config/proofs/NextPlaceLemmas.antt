@@ -52,7 +52,7 @@ pub record IsNext (drivers : List DriverSpec) (p q : Place) : Type 0 where
   pub differ : p.stream.driver ≢ q.stream.driver
 
 -- a place that is not barred
-open_is : (b : Bool) (p q : Place) → cond b None (Some p) ≡ Some q → (b ≡ false) × (p ≡ q)
+pub open_is : (b : Bool) (p q : Place) → cond b None (Some p) ≡ Some q → (b ≡ false) × (p ≡ q)
 open_is true p q e = absurd cc
 open_is false p q e = (refl, some_is p q e)
 

@@ -16,7 +16,7 @@ use Rattle.smx_model.specs.Paths.{AreLowersApart}
 use Rattle.smx_model.specs.Queues.{first_message}
 use Rattle.smx_model.specs.RunMarks.{all_but, both}
 use Rattle.smx_queues.specs.PlaceMarks.{MarkList, has_mark}
-use Rattle.smx_config.specs.Marking.{IsMarkedWhere, is_read_below_driver}
+use Rattle.smx_config.specs.Marking.{IsMarkedUnless, IsMarkedWhere, is_read_below_driver}
 use Rattle.smx_tables.proofs.AboveLemmas.{any_once, once_below}
 use Rattle.smx_queues.proofs.PlaceLemmas.{place_is, place_self, same_turned}
 
@@ -150,6 +150,12 @@ pub left_empty : (flow : List QueuedMessage) (one other : Place → Bool) (old n
 left_empty flow one other old new none h = both_marked flow one other old old new (none_marked flow one old none) h
 
 -- ---- a mark that is taken before another one is put
+
+-- where it had messages, no mark is asked for
+pub no_more_marked : (filled : Bool) (place : Place) (m : MarkList) → filled ≡ true
+    → IsMarkedUnless filled place m m
+no_more_marked filled place m h =
+    record { here = λ none. absurd (false≢true (sym none ∙ h)); kept = λ q k. k; drivers = refl }
 
 -- with a mark at this place too
 abbrev pub with_one : MarkList → Place → MarkList

@@ -28,7 +28,7 @@ use Rattle.smx_queues.proofs.PlaceLemmas.{place_is}
 
 -- ---- what an accepted lookup says
 
-bound : {A B : Type 0} (r : Result A Fault) (f : A → Result B Fault) (y : B) → (r >>= f) ≡ Ok y
+pub bound : {A B : Type 0} (r : Result A Fault) (f : A → Result B Fault) (y : B) → (r >>= f) ≡ Ok y
     → (x : A) × (r ≡ Ok x) × (f x ≡ Ok y)
 bound (Err e) f y h = absurd cc
 bound (Ok x) f y h = (x, refl, h)
@@ -67,7 +67,7 @@ live_is drivers c name minor s e =
 
 -- ---- the links stay as they are
 
-accepted : (x y : Configuration × Reply) → ◌≡◌ {A = Outcome} (Ok x) (Ok y) → x ≡ y
+pub accepted : (x y : Configuration × Reply) → ◌≡◌ {A = Outcome} (Ok x) (Ok y) → x ≡ y
 accepted x y h = cc
 
 received_links : (drivers : List DriverSpec) (c : Configuration) (p : Place) (x : Configuration × Reply)

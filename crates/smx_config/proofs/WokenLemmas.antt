@@ -11,6 +11,7 @@ use Rattle.smx_types.specs.declared.command.Command.TheVariants as command
 use Rattle.smx_types.specs.declared.driver.DriverSpec.{DriverSpec}
 use Rattle.smx_types.specs.declared.link.Binding.{Binding}
 use Rattle.smx_types.specs.declared.link.Link.{Link}
+use Rattle.smx_types.specs.declared.message.Message.{Message}
 use Rattle.smx_types.specs.declared.reply.Fault.{Fault}
 use Rattle.smx_types.specs.declared.reply.Fault.TheVariants.{AddressInUse}
 use Rattle.smx_types.specs.declared.reply.Reply.{Reply}
@@ -34,6 +35,7 @@ use Rattle.smx_model.specs.Swept.{IsSwept}
 use Rattle.smx_model.specs.TurnedPlaces.{of_stream, read_side, turned_by, write_side}
 use Rattle.smx_config.specs.declared.marks.Marks.{Marks}
 use Rattle.smx_config.specs.declared.step_error.StepError.{StepError}
+use Rattle.smx_config.specs.declared.step_error.StepError.TheVariants as step_error
 use Rattle.smx_config.specs.Marking.{AreMarks, IsWoken}
 use Rattle.smx_config.specs.Machine.{Machine}
 use Rattle.smx_config.specs.Refinement.{Refines}
@@ -188,15 +190,23 @@ frees drivers c new process (command.Hangup name minor) p t = absurd (false≢tr
 
 -- ---- both ends of a move
 
--- each place that a move turns is the one that it takes from, or the one that it goes to
-pub move_turns : (drivers : List DriverSpec) (c : Configuration) (from to p : Place)
-    → next_open_place drivers c from ≡ Some to → turned_by_move drivers c from p ≡ true
-    → both (same_place from) (same_place to) p ≡ true
-move_turns drivers c from to p e t = by (same_place from p)
+-- each place that a move turns is the one that it takes from, or the one that it goes to, which had no message
+pub turned_ends : (drivers : List DriverSpec) (c : Configuration) (from to p : Place)
+    → next_open_place drivers c from ≡ Some to
+    → first_message (after_leaving drivers c from).flow to ≡ first_message c.flow to
+    → turned_by_move drivers c from p ≡ true
+    → (same_place from p ≡ true) ⊎ ((same_place to p ≡ true) × (is_some (first_message c.flow to) ≡ false))
+turned_ends drivers c from to p e stays t = by (same_place from p) refl
     (subst (λ (o : Option Place). (same_place from p || is_first_there drivers c from o p) ≡ true) e t) where
-      by : (b : Bool) → (b || is_first_there drivers c from (Some to) p) ≡ true → (b || same_place to p) ≡ true
-      by true h = refl
-      by false h = first_part (same_place to p) _ h
+      empty : (b : Bool) → not b ≡ true → b ≡ false
+      empty true h = sym h
+      empty false h = refl
+
+      by : (b : Bool) → same_place from p ≡ b → (b || is_first_there drivers c from (Some to) p) ≡ true
+          → (b ≡ true) ⊎ ((same_place to p ≡ true) × (is_some (first_message c.flow to) ≡ false))
+      by true k h = inl refl
+      by false k h = let parts = and_parts (same_place to p) _ h in
+          inr (parts.0, empty _ (subst (λ (o : Option Message). not (is_some o) ≡ true) stays parts.1))
 
 -- what a move turns, by where it goes
 pub turned_is : (drivers : List DriverSpec) (c new : Configuration) (from to : Place)
@@ -259,6 +269,13 @@ pub woken_if : (old new : Machine) (process : ℕ) (k : Command) (result : Resul
 woken_if old new process k (Ok r) w m n is refines tells enough woken =
     woken_after old new process k (Ok r) r w m n refl refines tells enough woken
 woken_if old new process k (Err e) w m n is refines tells enough woken = absurd (false≢true is)
+
+-- where it was not accepted, nothing has changed
+pub unchanged : (old new : Machine) (process : ℕ) (k : Command) (result : Result Reply StepError)
+    → is_ok result ≡ false → Refines old new process k result → new ≡ old
+unchanged old new process k (Ok r) not_ok refines = absurd (false≢true (sym not_ok))
+unchanged old new process k (Err (step_error.Refused f)) not_ok refines = refines.0
+unchanged old new process k (Err step_error.NoMemory) not_ok refines = refines.0
 
 -- where its reply is a fault, nothing has changed once messages have moved on
 pub fault_keeps : (old mid new : Machine) (process : ℕ) (k : Command) (result : Result Reply StepError) (r : Reply)

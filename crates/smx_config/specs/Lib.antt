@@ -2,6 +2,7 @@ pub mod Machine
 pub mod CommandsInPlace
 pub mod DriverFaults
 pub mod FaultWords
+pub mod Ways
 pub mod Moves
 pub mod LinkFaults
 pub mod StreamFaults

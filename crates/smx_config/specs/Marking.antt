@@ -8,7 +8,7 @@ use Rattle.smx_model.specs.Configuration.{Configuration, QueuedMessage, same_pla
 use Rattle.smx_model.specs.KnownStreams.{IsKnown}
 use Rattle.smx_model.specs.LoneMessages.{IsAlone}
 use Rattle.smx_model.specs.Queues.{first_message, is_full}
-use Rattle.smx_model.specs.RunMarks.{all_but, is_below_driver, next_of_first}
+use Rattle.smx_model.specs.RunMarks.{is_below_driver, next_of_first}
 use Rattle.smx_model.specs.SettlingByMarks.{HasItsMarks, MarkedConfiguration}
 use Rattle.smx_queues.specs.PlaceMarks.{MarkList, has_mark}
 use Rattle.smx_queues.specs.Waiters.{WaitList, target_of}
@@ -63,9 +63,10 @@ pub record HasNeeded (drivers : List DriverSpec) (c : Configuration) (all some :
   pub needed : (p : Place) → has_mark all p ≡ true → next_of_first drivers c p ≢ None → has_mark some p ≡ true
   pub same_drivers : some.drivers ≡ all.drivers
 
--- the mark of the place is gone
-pub record IsWithoutMark (place : Place) (old new : MarkList) : Type 0 where
-  pub gone : (q : Place) → has_mark new q ≡ all_but (has_mark old) place q
+-- the place has a mark too, unless it had messages before
+pub record IsMarkedUnless (filled : Bool) (place : Place) (old new : MarkList) : Type 0 where
+  pub here : filled ≡ false → IsKnown old.drivers place.stream → has_mark new place ≡ true
+  pub kept : (q : Place) → has_mark old q ≡ true → has_mark new q ≡ true
   pub drivers : new.drivers ≡ old.drivers
 
 -- the places that wait for this one have a mark, and all that had one

@@ -5,8 +5,9 @@ use Rattle.smx_model.specs.SettlingByMarks.{HasNoRunMark}
 use Rattle.smx_queues.specs.PlaceMarks.{has_mark}
 use Rattle.smx_config.specs.Machine.{Machine}
 use Rattle.smx_config.specs.Marking.{AreMarks}
+use Rattle.smx_config.specs.Ways.{AreWays}
 
--- the tables are the value that a contract sees: the marks beside them tell nothing more
+-- the tables are the value that a contract sees: the marks and ways beside them tell nothing more
 abbrev pub machine_of : Inside → Machine
 machine_of c = c.tables
 
@@ -17,5 +18,7 @@ pub record ConfigInvariant (c : Inside) : Type 0 where
   -- each place without a run mark waits, a wanted mark stands at full places alone, and what is held up is listed
   -- with the place that holds it up
   pub marks : AreMarks c.tables.drivers c.tables.configuration c.marks
+  -- where messages go on to, as it is noted, they go on to still
+  pub ways : AreWays c.tables.drivers c.tables.configuration c.ways
   -- none has a run mark
   pub none : HasNoRunMark (has_mark c.marks.run)

@@ -18,6 +18,7 @@ use crate::laws_of_waking::woken_marks_are_enough;
 use crate::marks::{Marks, copy_marks, no_marks};
 use crate::step_error::StepError;
 use crate::tables::Tables;
+use crate::ways::Ways;
 use smx_model::laws_of_marked_commands::empty_needs_no_mark;
 use smx_model::laws_of_steps::{
     commands_keep, empty_is_kept, outcomes_are_sound, refusals_change_nothing,
@@ -27,10 +28,22 @@ use std::alloc::Global;
 use std::marker::Model;
 
 /// Drivers and the configuration over them. A contract sees both as one value.
-#[derive(Debug, Drop)]
+#[derive(Debug)]
 pub struct Config {
     tables: Tables,
     marks: Marks,
+    ways: Ways,
+}
+
+impl Drop for Config {
+    // One call in each body that has one, however many ways it ends, in place of a drop for each part.
+    fn drop(self) {
+        let Config {
+            tables: _tables,
+            marks: _marks,
+            ways: _ways,
+        } = self;
+    }
 }
 
 impl Model for Config {
@@ -59,7 +72,12 @@ impl Config {
         check_drivers(drivers)?;
         let tables = Tables::new(alloc, drivers)?;
         let marks = no_marks(alloc, drivers)?;
-        Ok(Config { tables, marks })
+        let ways = Ways::new(alloc, drivers.len())?;
+        Ok(Config {
+            tables,
+            marks,
+            ways,
+        })
     }
 
     /// Does a command of a process: its reply and the new configuration are those of the command table. A fault for a
@@ -84,8 +102,9 @@ impl Config {
         let wakes = self.tables.wakes_of(process, command, named);
         let answer = self.tables.perform(process, command, named);
         if answer.is_ok() {
+            self.ways.forget_after(command);
             self.tables.wake(&mut self.marks, wakes);
-            self.tables.settle(&mut self.marks);
+            self.tables.settle(&mut self.marks, &mut self.ways);
         }
         match answer {
             Ok(reply) => Ok(reply),
@@ -173,6 +192,7 @@ impl Config {
         Ok(Config {
             tables: self.tables.copy()?,
             marks: copy_marks(alloc, &self.marks)?,
+            ways: self.ways.copy(alloc)?,
         })
     }
 }

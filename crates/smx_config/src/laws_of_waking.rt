@@ -7,8 +7,8 @@ ghost use Rattle.smx_types.specs.declared.stream.Place.{Place};
 ghost use Rattle.smx_model.specs.Commands.{outcome};
 ghost use Rattle.smx_model.specs.Configuration.{Configuration, same_place};
 ghost use Rattle.smx_model.specs.KeptConfigurations.{IsSound};
-ghost use Rattle.smx_model.specs.RunMarks.{both};
 ghost use Rattle.smx_model.specs.Settling.{after_move, next_open_place};
+ghost use Rattle.smx_model.specs.SettlingByMarks.{turned_by_move};
 ghost use Rattle.smx_config.specs.Marking.{AreMarks, IsWoken};
 ghost use Rattle.smx_config.specs.Wakes.{freed_under, turned_under, wakes_of};
 ghost use Rattle.smx_config.specs.declared.marks.Marks.{Marks};
@@ -36,11 +36,12 @@ pub fn woken_marks_are_enough()
     outcomes_are_sound();
 }
 
-// After a move it is enough to mark both its ends, and what waits for the place that it takes from, if that is freed.
+// After a move it is enough to mark the place that it takes from, the one that it goes to, if that was empty, and what
+// waits for the first of them, if that is freed.
 pub fn moved_marks_are_enough()
     ensures { (drivers : List DriverSpec) (c : Configuration) (p q : Place) (old new : Marks) → IsSound drivers c
         → AreMarks drivers c old → next_open_place drivers c p ≡ Some q
-        → IsWoken (after_move drivers c p) (both (same_place p) (same_place q)) (same_place p) old new
+        → IsWoken (after_move drivers c p) (turned_by_move drivers c p) (same_place p) old new
         → AreMarks drivers (after_move drivers c p) new }
 {
     moves_free_one();

@@ -18,6 +18,7 @@ mod lookups;
 mod marks;
 mod next_places;
 mod perform;
+mod rows;
 mod run_marks;
 mod second_reply;
 mod settling;
@@ -27,6 +28,7 @@ mod verdict;
 mod views;
 mod wakes;
 mod waking;
+mod ways;
 
 pub use config::Config;
 pub use config_fault::ConfigFault;

@@ -14,10 +14,12 @@ ghost use Rattle.smx_model.specs.SettlingByMarks.{HasNoRunMark};
 ghost use Rattle.smx_queues.specs.PlaceMarks.{has_mark};
 ghost use Rattle.smx_queues.specs.Waiters.{target_of};
 ghost use Rattle.smx_config.specs.Marking.{AreMarks, MovesAlone};
+ghost use Rattle.smx_config.specs.Ways.{AreWays};
 
 use crate::marks::Marks;
 use crate::settling::mark_wanted;
 use crate::tables::Tables;
+use crate::ways::Ways;
 use smx_model::laws_of_lone_messages::{
     empty_places_are_passed, lone_messages_change_two, lone_messages_come_to_rest,
     lone_messages_set_out,
@@ -57,14 +59,14 @@ impl Tables {
     }
 
     // Whether there is a message at the place.
-    fn has_messages(&self, place: Place) -> bool
+    pub fn has_messages(&self, place: Place) -> bool
         ensures { result ≡ is_some (first_message self.now.configuration.flow place) }
     {
         self.lists.queues.has_messages(place)
     }
 
     // The address of the first message at the place.
-    fn first_addr(&self, place: Place) -> u32
+    pub fn first_addr(&self, place: Place) -> u32
         requires { IsSome (first_message self.now.configuration.flow place) }
         ensures { (m : MessageValue) → first_message self.now.configuration.flow place ≡ Some m → result ≡ m.addr }
     {
@@ -75,7 +77,14 @@ impl Tables {
     }
 
     // Where it comes to rest, within so many moves, of which it has made the first one.
-    pub fn rest_of(&self, marks: &Marks, from: Place, first: Place, moves: u128) -> Rest
+    pub fn rest_of(
+        &self,
+        marks: &Marks,
+        ways: &mut Ways,
+        from: Place,
+        first: Place,
+        moves: u128,
+    ) -> Rest
         requires sound { IsSound self.now.drivers self.now.configuration }
         requires alone { MovesAlone self.now.drivers self.now.configuration marks.now from }
         requires least { least_movable self.now.drivers self.now.configuration ≡ Some from }
@@ -83,6 +92,8 @@ impl Tables {
         requires some { 0 < moves }
         requires settled { IsSettled self.now.drivers
             (after_settling_within self.now.drivers moves self.now.configuration) }
+        requires ways { AreWays self.now.drivers self.now.configuration ways.old }
+        ensures ways { AreWays self.now.drivers self.now.configuration ways.new }
         ensures way { (left : ℕ) × IsUnderWay self.now.drivers self.now.configuration moves from result.at left }
         ensures stays { (m : MessageValue) → first_message self.now.configuration.flow from ≡ Some m
             → StaysAt self.now.drivers self.now.configuration result.at m result.waits }
@@ -92,11 +103,13 @@ impl Tables {
         let addr = self.first_addr(from);
         let mut at = first;
         let mut left = moves - 1;
-        while !self.has_messages(at) {
-            let next = self.next_place(at, addr);
+        let mut filled = self.has_messages(first);
+        while !filled {
+            let next = self.next_by_ways(ways, at, addr);
             let Some(open) = self.if_open(next) else {
                 return Rest { at, waits: next };
             };
+            filled = self.has_messages(open);
             at = open;
             left -= 1;
         }

@@ -3,8 +3,10 @@
 ghost use Rattle.std.specs.Prelude.{◌≡◌, false, None};
 ghost use Rattle.smx_model.specs.RunMarks.{next_of_first};
 ghost use Rattle.smx_model.specs.Settling.{live_write_side, place_below, place_above, next_place};
+ghost use Rattle.smx_config.specs.Ways.{AreWays};
 
 use crate::tables::Tables;
+use crate::ways::Ways;
 use smx_tables::driver_specs::is_mux;
 use smx_types::{Place, Side, StreamId};
 
@@ -73,11 +75,38 @@ impl Tables {
         }
     }
 
+    // The next place, which is noted. Apart, so that what comes before it is inlined.
+    #[inline(never)]
+    fn note_next(&self, ways: &mut Ways, place: Place, addr: u32) -> Option<Place>
+        requires { AreWays self.now.drivers self.now.configuration ways.old }
+        ensures value { result ≡ next_place self.now.drivers self.now.configuration place addr }
+        ensures ways { AreWays self.now.drivers self.now.configuration ways.new }
+    {
+        let next = self.next_place(place, addr)?;
+        ways.note(place, addr, next);
+        Some(next)
+    }
+
+    // The next place, by what is noted, if it is.
+    #[inline(always)]
+    pub fn next_by_ways(&self, ways: &mut Ways, place: Place, addr: u32) -> Option<Place>
+        requires { AreWays self.now.drivers self.now.configuration ways.old }
+        ensures value { result ≡ next_place self.now.drivers self.now.configuration place addr }
+        ensures ways { AreWays self.now.drivers self.now.configuration ways.new }
+    {
+        match ways.find(place, addr) {
+            Some(next) => Some(next),
+            None => self.note_next(ways, place, addr),
+        }
+    }
+
     // Where the first message of the place goes next, if there is one, whether that is full or not.
-    pub fn next_of_first(&self, place: Place) -> Option<Place>
-        ensures { result ≡ next_of_first self.now.drivers self.now.configuration place }
+    pub fn next_of_first(&self, ways: &mut Ways, place: Place) -> Option<Place>
+        requires { AreWays self.now.drivers self.now.configuration ways.old }
+        ensures value { result ≡ next_of_first self.now.drivers self.now.configuration place }
+        ensures ways { AreWays self.now.drivers self.now.configuration ways.new }
     {
         let message = self.lists.queues.front(place)?;
-        self.next_place(place, message.addr)
+        self.next_by_ways(ways, place, message.addr)
     }
 }

@@ -4,7 +4,7 @@ ghost use Rattle.std.specs.Prelude.{◌≡◌, ◌≢◌, None};
 ghost use Rattle.smx_model.specs.Configuration.{same_place};
 ghost use Rattle.smx_model.specs.Queues.{first_message};
 ghost use Rattle.smx_queues.specs.PlaceMarks.{MarkList};
-ghost use Rattle.smx_config.specs.Marking.{is_read_below_driver, is_write_of, HasNeeded, IsMarkedWhere, IsOneMore, IsWithoutMark};
+ghost use Rattle.smx_config.specs.Marking.{is_read_below_driver, is_write_of, HasNeeded, IsMarkedUnless, IsMarkedWhere, IsOneMore};
 
 use crate::tables::Tables;
 use smx_queues::PlaceMarks;
@@ -31,26 +31,23 @@ impl Tables {
         }
     }
 
-    // The same, if it has a message.
+    // Marks a place where a message arrived, if it is the first one there.
+    pub fn mark_arrived(&self, run: &mut PlaceMarks, place: Place, filled: bool)
+        ensures { (all : MarkList) × IsMarkedUnless filled place run.old all
+            × HasNeeded self.now.drivers self.now.configuration all run.new }
+    {
+        if !filled {
+            self.mark_leading(run, place);
+        }
+    }
+
+    // Marks a place that has a message, unless none goes on from it.
     pub fn mark_waiting(&self, run: &mut PlaceMarks, place: Place)
         ensures { (all : MarkList) × IsMarkedWhere self.now.configuration.flow (same_place place) run.old all
             × HasNeeded self.now.drivers self.now.configuration all run.new }
     {
         if self.lists.queues.has_messages(place) {
             self.mark_leading(run, place);
-        }
-    }
-
-    // Marks a place that a message has left, if it has another, and else takes its mark.
-    pub fn mark_left(&self, run: &mut PlaceMarks, left: Place)
-        ensures some { first_message self.now.configuration.flow left ≢ None
-            → IsMarkedWhere self.now.configuration.flow (same_place left) run.old run.new }
-        ensures none { first_message self.now.configuration.flow left ≡ None → IsWithoutMark left run.old run.new }
-    {
-        if self.lists.queues.has_messages(left) {
-            run.mark(left);
-        } else {
-            run.clear(left);
         }
     }
 

@@ -6,22 +6,23 @@ ghost use Rattle.smx_model.specs.Configuration.{same_place};
 ghost use Rattle.smx_model.specs.KeptConfigurations.{IsSound};
 ghost use Rattle.smx_model.specs.KnownStreams.{IsKnown};
 ghost use Rattle.smx_model.specs.RunMarks.{next_of_first};
-ghost use Rattle.smx_model.specs.Settling.{after_move, after_settling, next_open_place};
+ghost use Rattle.smx_model.specs.Settling.{after_settling};
 ghost use Rattle.smx_model.specs.SettlingByMarks.{HasNoRunMark, IsLeastMarked};
 ghost use Rattle.smx_queues.specs.PlaceMarks.{has_mark};
 ghost use Rattle.smx_queues.specs.Waiters.{target_of};
 ghost use Rattle.smx_config.specs.Moves.{if_open, IsLeastMove};
 ghost use Rattle.smx_config.specs.Marking.{AreMarks};
+ghost use Rattle.smx_config.specs.Ways.{AreWays};
 
-use crate::laws_of_waking::moved_marks_are_enough;
 use crate::marks::Marks;
 use crate::tables::Tables;
+use crate::ways::Ways;
 use smx_model::laws_of_lone_messages::lone_messages_come_to_rest;
 use smx_model::laws_of_run_marks::{
     places_are_known, the_least_marked_is_the_least, without_marks_it_is_settled,
 };
 use smx_model::laws_of_settling_by_marks::clearing_keeps_marks;
-use smx_model::laws_of_steps::{moves_keep_soundness, settling_suffices};
+use smx_model::laws_of_steps::settling_suffices;
 use smx_queues::{PlaceMarks, Waiters};
 use smx_types::Place;
 
@@ -89,17 +90,19 @@ impl Tables {
     // The least movable place, with where its first message goes. Only places with a run mark are looked at, and the
     // marks of those that come before it are cleared. Apart, so that the test before it is inlined.
     #[inline(never)]
-    fn marked_move(&self, marks: &mut Marks) -> Option<Move>
+    fn marked_move(&self, marks: &mut Marks, ways: &mut Ways) -> Option<Move>
         requires sound { IsSound self.now.drivers self.now.configuration }
         requires marks { AreMarks self.now.drivers self.now.configuration marks.old }
+        requires ways { AreWays self.now.drivers self.now.configuration ways.old }
         ensures least { IsLeastMove self.now.drivers self.now.configuration result }
         ensures marks { AreMarks self.now.drivers self.now.configuration marks.new }
+        ensures ways { AreWays self.now.drivers self.now.configuration ways.new }
         ensures none { IfNone result (HasNoRunMark (has_mark marks.new.run)) }
     {
         the_least_marked_is_the_least();
         without_marks_it_is_settled();
         while let Some(from) = marks.run.first() {
-            let next = self.next_of_first(from);
+            let next = self.next_of_first(ways, from);
             if let Some(to) = self.if_open(next) {
                 return Some(Move { from, to });
             }
@@ -109,70 +112,46 @@ impl Tables {
     }
 
     // The same, for where mostly no place has a run mark.
-    fn next_move(&self, marks: &mut Marks) -> Option<Move>
+    fn next_move(&self, marks: &mut Marks, ways: &mut Ways) -> Option<Move>
         requires sound { IsSound self.now.drivers self.now.configuration }
         requires marks { AreMarks self.now.drivers self.now.configuration marks.old }
+        requires ways { AreWays self.now.drivers self.now.configuration ways.old }
         ensures least { IsLeastMove self.now.drivers self.now.configuration result }
         ensures marks { AreMarks self.now.drivers self.now.configuration marks.new }
+        ensures ways { AreWays self.now.drivers self.now.configuration ways.new }
         ensures none { IfNone result (HasNoRunMark (has_mark marks.new.run)) }
     {
         without_marks_it_is_settled();
         match marks.run.first() {
-            Some(_place) => self.marked_move(marks),
+            Some(_place) => self.marked_move(marks, ways),
             None => None,
         }
     }
 
-    // The first message of a place moves on to its next place.
-    fn move_on(&mut self, next: Move)
-        requires sound { IsSound self.old.drivers self.old.configuration }
-        requires open { next_open_place self.old.drivers self.old.configuration next.from ≡ Some next.to }
-        ensures { self.new ≡ record self.old { configuration = after_move self.old.drivers self.old.configuration next.from } }
-    {
-        self.carry(next.from, next.to);
-    }
-
-    // The first message of a place moves on, and what that wakes is marked.
-    fn move_marked(&mut self, marks: &mut Marks, next: Move)
-        requires sound { IsSound self.old.drivers self.old.configuration }
-        requires marks { AreMarks self.old.drivers self.old.configuration marks.old }
-        requires open { next_open_place self.old.drivers self.old.configuration next.from ≡ Some next.to }
-        ensures value { self.new ≡ record self.old { configuration = after_move self.old.drivers self.old.configuration next.from } }
-        ensures marks { AreMarks self.new.drivers self.new.configuration marks.new }
-    {
-        moved_marks_are_enough();
-        places_are_known();
-        self.move_on(next);
-        self.release_if_open(marks, next.from);
-        self.mark_left(&mut marks.run, next.from);
-        self.mark_leading(&mut marks.run, next.to);
-        marks.waits.clear(next.from);
-    }
-
     // Moves messages on until none can, and no run mark is left. A message that moves alone is moved once.
-    pub fn settle(&mut self, marks: &mut Marks)
+    pub fn settle(&mut self, marks: &mut Marks, ways: &mut Ways)
         requires sound { IsSound self.old.drivers self.old.configuration }
         requires marks { AreMarks self.old.drivers self.old.configuration marks.old }
+        requires ways { AreWays self.old.drivers self.old.configuration ways.old }
         ensures value { self.new ≡ record self.old { configuration = after_settling self.old.drivers self.old.configuration } }
         ensures marks { AreMarks self.new.drivers self.new.configuration marks.new }
+        ensures ways { AreWays self.new.drivers self.new.configuration ways.new }
         ensures none { HasNoRunMark (has_mark marks.new.run) }
     {
         lone_messages_come_to_rest();
-        moves_keep_soundness();
         settling_suffices();
         let mut left = self.lists.queues.len() as u128 * self.drivers.len() as u128;
         while left > 0 {
-            let Some(next) = self.next_move(marks) else {
+            let Some(next) = self.next_move(marks, ways) else {
                 return;
             };
             if self.moves_alone(marks, next.from) {
-                let rest = self.rest_of(marks, next.from, next.to, left);
+                let rest = self.rest_of(marks, ways, next.from, next.to, left);
                 self.come_to_rest(marks, next.from, rest);
                 return;
             }
-            self.move_marked(marks, next);
-            left -= 1;
+            left = self.move_row(marks, next, left);
         }
-        let _none = self.next_move(marks);
+        let _none = self.next_move(marks, ways);
     }
 }

@@ -37,10 +37,11 @@ fn release(marks: &mut Marks, place: Place)
 
 impl Tables {
     // So it is with the place, if it is wanted and not full.
+    #[inline(always)]
     pub fn release_if_open(&self, marks: &mut Marks, place: Place)
         ensures { IsReleased self.now.configuration (same_place place) marks.old marks.new }
     {
-        if marks.wanted.is_marked(place) && !self.is_full(place) {
+        if !self.is_full(place) && marks.wanted.is_marked(place) {
             release(marks, place);
         }
     }

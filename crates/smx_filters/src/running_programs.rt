@@ -5,7 +5,7 @@ use smx_model::laws_of_hangups::reports_need_no_later_version;
 use smx_run::{Gate, GrowingRun, RunFault};
 use smx_text::ProgramTaker;
 use smx_types::{Command, DriverSpec, NoMemory, Version};
-use smx_words::{command_of, push_command};
+use smx_words::command_in;
 use std::alloc::Global;
 
 /// Performs each command as its line is read, and tells the gate. What it makes of all of them is the transcript of the
@@ -14,8 +14,8 @@ use std::alloc::Global;
 pub struct RunningPrograms<'a, G: Gate> {
     run: GrowingRun<TextRecorder>,
     gate: &'a G,
-    // Where each command is read to, in turn: its room stays, and it is not moved.
-    next: Vec<Command>,
+    // Where the bytes of each message are read to, in turn.
+    room: Vec<u8>,
 }
 
 impl<'a, G: Gate> ProgramTaker for RunningPrograms<'a, G> {
@@ -36,7 +36,7 @@ impl<'a, G: Gate> ProgramTaker for RunningPrograms<'a, G> {
         RunningPrograms {
             run,
             gate,
-            next: Vec::new(alloc),
+            room: Vec::new(alloc),
         }
     }
 
@@ -51,17 +51,13 @@ impl<'a, G: Gate> ProgramTaker for RunningPrograms<'a, G> {
 
     fn add_command(&mut self, alloc: Global, line: &[u8]) -> Result<bool, NoMemory> {
         let version = self.run.version();
-        self.next.clear();
-        if self.next.reserve(1).is_err() {
-            return match command_of(alloc, version, line)? {
-                Some(_) => Err(NoMemory),
-                None => Ok(false),
-            };
-        }
-        if !push_command(&mut self.next, alloc, version, line)? {
+        let Some(command) = command_in(&mut self.room, alloc, version, line)? else {
             return Ok(false);
+        };
+        self.run.add_line(self.gate, &command, line);
+        if let Command::Write { bytes, .. } | Command::Inject { bytes, .. } = command {
+            self.room = bytes.into_vec();
         }
-        self.run.add_command(self.gate, &self.next[0]);
         Ok(true)
     }
 

@@ -193,6 +193,15 @@ pub read_other : (chains : List Chain) (p q : ℕ) (after chain : Chain) → p �
 read_other chains p q after chain differ read =
     read ∙ get_or-set_other chains p q after chain (λ e. differ (sym e))
 
+-- a place that is read twice
+pub read_twice : (chains : List Chain) (p : ℕ) (x y : Chain) → p < length chains → x ≡ get_or chains p x
+    → y ≡ get_or chains p y → y ≡ x
+read_twice chains p x y below first second = second ∙ (get_or_default chains p y x below ∙ sym first)
+
+-- a place is still there once another chain was replaced
+pub second_below : (chains : List Chain) (p q : ℕ) (after : Chain) → q < length chains → q < length (set chains p after)
+second_below chains p q after below = omega (arith, below, length-set chains p after)
+
 two_counts : (chains : List Chain) (p q : ℕ) (first second : Chain) → p < length chains → q < length chains → q ≢ p
     → first ≡ get_or chains p no_chain → second ≡ get_or chains q no_chain
     → first.count + second.count ≤ sum_by (λ (chain : Chain). chain.count) chains

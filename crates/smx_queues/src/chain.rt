@@ -53,42 +53,31 @@ impl Chain {
         }
     }
 
-    // With one node more at the end, whose message has so many bytes.
-    pub fn with_last(self, key: usize, size: usize) -> Chain
-        requires count { self.count + 1 < 2 ^ 64 }
-        requires bytes { self.bytes + size < 2 ^ 64 }
-        ensures { result ≡ chain_with_last self key size }
+    // One node more at the end, whose message has so many bytes.
+    pub fn add_last(&mut self, key: usize, size: usize)
+        requires count { self.old.count + 1 < 2 ^ 64 }
+        requires bytes { self.old.bytes + size < 2 ^ 64 }
+        ensures { self.new ≡ chain_with_last self.old key size }
     {
-        let bytes = self.bytes + size;
-        Chain {
-            there: self.there,
-            full: self.full || self.high <= bytes,
-            first: if self.count == 0 { key } else { self.first },
-            last: key,
-            count: self.count + 1,
-            bytes,
-            high: self.high,
-            low: self.low,
+        if self.count == 0 {
+            self.first = key;
         }
+        self.last = key;
+        self.count += 1;
+        self.bytes += size;
+        self.full = self.full || self.high <= self.bytes;
     }
 
-    // Without the first node, whose message had so many bytes, and behind which this one stands.
-    pub fn without_first(self, next: usize, size: usize) -> Chain
-        requires count { 0 < self.count }
-        requires bytes { size ≤ self.bytes }
-        ensures { result ≡ chain_without_first self next size }
+    // The first node leaves, whose message had so many bytes, and behind which this one stands.
+    pub fn drop_first(&mut self, next: usize, size: usize)
+        requires count { 0 < self.old.count }
+        requires bytes { size ≤ self.old.bytes }
+        ensures { self.new ≡ chain_without_first self.old next size }
     {
-        let bytes = self.bytes - size;
-        Chain {
-            there: self.there,
-            full: self.full && self.low < bytes,
-            first: next,
-            last: self.last,
-            count: self.count - 1,
-            bytes,
-            high: self.high,
-            low: self.low,
-        }
+        self.first = next;
+        self.count -= 1;
+        self.bytes -= size;
+        self.full = self.full && self.low < self.bytes;
     }
 }
 

@@ -171,7 +171,7 @@ impl Queues {
         let key = self.nodes.insert_reserved(Node { message, next: 0 });
         let _count = self.nodes.len();
         follow(&mut self.nodes, chain, key);
-        self.chains[p] = chain.with_last(key, size);
+        self.chains[p].add_last(key, size);
     }
 
     /// The message at the front leaves, if there is one. Takes no memory.
@@ -189,7 +189,7 @@ impl Queues {
         }
         let node = self.nodes.remove(chain.first);
         let size = node.message.bytes.as_slice().len();
-        self.chains[p] = chain.without_first(node.next, size);
+        self.chains[p].drop_first(node.next, size);
         Some(node.message)
     }
 
@@ -212,10 +212,10 @@ impl Queues {
         let size = node.message.bytes.as_slice().len();
         let next = node.next;
         let _count = self.nodes.len();
-        self.chains[from] = source.without_first(next, size);
+        self.chains[from].drop_first(next, size);
         let target = self.chains[to];
         follow(&mut self.nodes, target, source.first);
-        self.chains[to] = target.with_last(source.first, size);
+        self.chains[to].add_last(source.first, size);
     }
 
     /// All messages of the place are dropped, and it is not full. Takes no memory.

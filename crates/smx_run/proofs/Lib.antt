@@ -1,4 +1,5 @@
 pub mod FrontLemmas
+pub mod FullHistoryLemmas
 pub mod GatheringLemmas
 pub mod GrowingRunLemmas
 pub mod HandLemmas

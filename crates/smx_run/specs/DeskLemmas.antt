@@ -64,6 +64,15 @@ seated_more known a b c xs ys p q = record {
 }
 
 -- the same with a recorder
+pub recording_none : {K : Type 0} (told : Version → List DriverSpec → List Entry → K → Type 0) → (a : Recording K)
+    → PerformedRecording told a [] a
+recording_none told a = record {
+  process = refl;
+  drivers = refl;
+  more = λ version asked h. subst (HasRecorded (told version) a.recorder a.config) (sym (append-nil asked)) h;
+}
+
+-- the same with a recorder
 pub recording_more : {K : Type 0} (told : Version → List DriverSpec → List Entry → K → Type 0)
     → (a b c : Recording K) (xs ys : List Command) → PerformedRecording told a xs b → PerformedRecording told b ys c
     → PerformedRecording told a (xs ++ ys) c

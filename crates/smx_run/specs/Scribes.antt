@@ -8,6 +8,7 @@ pub record Scribed : Type 0 where
   pub entries : List Entry
   pub is_there : Bool
 
+-- what is seen of these entries and this recorder
 abbrev pub scribed_of : {K : Type 0} → List Entry → Option K → Scribed
 scribed_of entries recorder = record { entries = entries; is_there = is_some recorder }
 

@@ -1,12 +1,14 @@
 //! A run of programs that come piece by piece: each command is performed as it comes.
 
-ghost use Rattle.std.specs.Prelude.{◌≡◌, ◌<◌, [], length, IfErr, IfOk, OnErr, OnOk};
+ghost use Rattle.std.specs.Prelude.{◌≡◌, ◌<◌, [], length, IfErr, IfOk, IfSome, OnErr, OnOk};
 ghost use Rattle.smx_types.specs.GrowingPrograms.{with_command, with_driver, with_program};
 ghost use Rattle.smx_types.specs.ProgramLists.{AreWithinLimits, ProgramLists};
 ghost use Rattle.smx_types.specs.declared.limits.TheConstants.{MAX_PROCESSES};
 ghost use Rattle.smx_run.specs.GrowingRuns.{IsGrown, IsRecordingOf};
 ghost use Rattle.smx_run.specs.RecordedRuns.{IsRecordOf};
 ghost use Rattle.smx_run.specs.RunFaults.{RefusesAlone};
+ghost use Rattle.smx_run.specs.declared.growing_run.Stage.TheVariants as stage;
+ghost use Rattle.smx_run.specs.declared.run_fault.RunFault.TheVariants as run;
 
 use crate::came::Came;
 use crate::gate::Gate;
@@ -114,7 +116,25 @@ impl<K: NewRecorder> GrowingRun<K> {
         requires { 0 < length self.old.programs }
         ensures { self.new ≡ with_command self.old command.now }
     {
-        self.stage.perform(gate, self.commands, command);
+        self.ask(gate, command, None);
+    }
+
+    /// The same, where the command was read from this line, which the recorder is told of.
+    pub fn add_line<G: Gate>(&mut self, gate: &G, command: &Command, line: &[u8])
+        requires some { 0 < length self.old.programs }
+        requires line { K.spells line.now command.now }
+        ensures { self.new ≡ with_command self.old command.now }
+    {
+        self.ask(gate, command, Some(line));
+    }
+
+    // The same, with or without a line.
+    fn ask<G: Gate>(&mut self, gate: &G, command: &Command, line: Option<&[u8]>)
+        requires some { 0 < length self.old.programs }
+        requires line { IfSome line (λ l. K.spells l.now command.now) }
+        ensures { self.new ≡ with_command self.old command.now }
+    {
+        self.stage.perform(gate, self.commands, command, line);
         self.commands = self.commands.saturating_add(1);
         self.came = self.came.then(command);
     }
@@ -135,18 +155,27 @@ impl<K: NewRecorder> GrowingRun<K> {
 
 impl<K: NewRecorder> Stage<K> {
     // Has this command of a process performed, which has this number there, where nothing failed before.
-    fn perform<G: Gate>(&mut self, gate: &G, number: usize, command: &Command)
+    fn perform<G: Gate>(&mut self, gate: &G, number: usize, command: &Command, line: Option<&[u8]>)
+        requires { IfSome line (λ l. K.spells l.now command.now) }
         ensures { (lists : ProgramLists) → 0 < length lists.programs → IsGrown K.told lists self.old
             → IsGrown K.told (with_command lists command.now) self.new }
     {
         match self {
             Stage::Running(recording) => {
-                if recording.perform_at(gate, number, command).is_err() {
-                    *self = Stage::Failed(RunFault::NoMemory);
+                if recording.perform_at(gate, number, command, line).is_err() {
+                    self.fail();
                 }
             }
             Stage::Gathering(_, _) | Stage::Failed(_) => {}
         }
+    }
+
+    // Nothing more is performed, for want of memory. Apart, since a stage is large, and set to zero where it is made.
+    #[inline(never)]
+    fn fail(&mut self)
+        ensures { self.new ≡ stage.Failed run.NoMemory }
+    {
+        *self = Stage::Failed(RunFault::NoMemory);
     }
 }
 

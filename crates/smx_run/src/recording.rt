@@ -1,6 +1,6 @@
 //! A configuration that nobody shares, and the recorder that is told what becomes of it.
 
-ghost use Rattle.std.specs.Prelude.{◌≡◌, ◌≤◌, [], ◌∷◌, length, IfErr, IfOk, OnOk};
+ghost use Rattle.std.specs.Prelude.{◌≡◌, ◌≤◌, [], ◌∷◌, length, IfErr, IfOk, IfSome, OnOk};
 ghost use Rattle.smx_types.specs.declared.limits.TheConstants.{MAX_PROCESSES};
 ghost use Rattle.smx_types.specs.declared.version.Version.{Version as AnyVersion};
 ghost use Rattle.smx_model.specs.DriverList.{IsDriverList};
@@ -86,37 +86,44 @@ impl<K: Recorder> Recording<K> {
     {
         let mut number = 0;
         for command in commands.into_vec() {
-            self.perform_at(gate, number, &command)?;
+            self.perform_at(gate, number, &command, None)?;
             number += 1;
         }
         Ok(())
     }
 
-    /// Performs the next command, and tells the gate before and after, whatever came of it. Fails only for want of
-    /// memory.
+    /// Performs the next command, which was read from this line, if it was read from one, and tells the gate before and
+    /// after, whatever came of it. Fails only for want of memory.
+    #[inline(always)]
     pub fn perform_at<G: Gate>(
         &mut self,
         gate: &G,
         number: usize,
         command: &Command,
+        line: Option<&[u8]>,
     ) -> Result<(), NoMemory>
+        requires { IfSome line (λ l. K.spells l.now command.now) }
         ensures { OnOk result (PerformedRecording K.told self.old (command.now ∷ []) self.new) }
     {
         gate.before(self.process, number);
-        let outcome = self.perform(command);
+        let outcome = self.perform(command, line);
         gate.after(self.process, number);
         outcome
     }
 
     // Performs the next command. Fails only for want of memory.
-    fn perform(&mut self, command: &Command) -> Result<(), NoMemory>
+    #[inline(always)]
+    fn perform(&mut self, command: &Command, line: Option<&[u8]>) -> Result<(), NoMemory>
+        requires { IfSome line (λ l. K.spells l.now command.now) }
         ensures { OnOk result (PerformedRecording K.told self.old (command.now ∷ []) self.new) }
     {
         one_entry_more();
         let process = self.process;
         let reply = self.config.step(process, command)?;
-        self.recorder.add(process, command, &reply)?;
-        Ok(())
+        match line {
+            Some(line) => self.recorder.add_line(process, command, line, &reply),
+            None => self.recorder.add(process, command, &reply),
+        }
     }
 
     /// The recorder, and the view of the configuration. Fails only for want of memory.

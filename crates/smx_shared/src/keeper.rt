@@ -23,7 +23,7 @@ pub trait Keeper: Drop {
         ensures same { told self.new ≡ told self.old }
         ensures room { OnOk result (has_room self.new) };
 
-    /// Tells it of the next entry, for which there is room. Takes no memory.
+    /// Tells it of the next entry, for which there is room. It can't fail.
     fn add(&mut self, entry: Entry)
         requires room { has_room self.old }
         requires few { length (told self.old) < MAX_COMMANDS }

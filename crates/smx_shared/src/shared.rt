@@ -1,11 +1,12 @@
 //! A system that many threads share: they take turns, and look on without waiting.
 
-ghost use Rattle.std.specs.Prelude.{◌≡◌, ◌≤◌, ◌+◌, map, IfOk, IfErr, OnOk};
+ghost use Rattle.std.specs.Prelude.{◌≡◌, ◌≤◌, ◌+◌, [], map, vec_capacity, IfOk, IfErr, OnOk};
 ghost use Rattle.std.specs.List.{range_with_len};
 ghost use Rattle.smx_types.specs.declared.limits.TheConstants.{MAX_PROCESSES};
 ghost use Rattle.smx_shared.specs.Calls.{AddsEntry, AnswersEntry, EndsAs, GoesOnFrom, HasSeenMore, LooksOnce, Meets, Refuses, RefusesTry, Rests};
 ghost use Rattle.smx_shared.specs.CloseFaults.{IsHeld};
 ghost use Rattle.smx_shared.specs.Recorded.{IsSoundSystem};
+ghost use Rattle.smx_shared.specs.SeatViews.{opened};
 ghost use Rattle.smx_shared.specs.Seats.{first_seat};
 
 use crate::close_fault::CloseFault;
@@ -17,7 +18,7 @@ use crate::seat::Seat;
 use crate::shared_fault::ApplyFault;
 use crate::system::System;
 use crate::try_fault::TryFault;
-use crate::turn_table::TurnTable;
+use crate::turn_table::{Token, TurnTable};
 use smx_model::laws_of_limits::limits_hold;
 use smx_types::{Command, Entry, NoMemory, Process};
 use std::alloc::Global;
@@ -39,6 +40,31 @@ impl<K: Keeper> Model for Shared<K> {
     ghost view = { λ s. shared_as s.turns.table.shared.table_id s.turns.table.shared.key.system.value s.turns.table.shared.key.processes };
 }
 
+// Puts the seats of so many processes, from process 0 on, into the room for them. The first one may take the first name,
+// and deals the next one, which may take the next name.
+fn deal_seats<K: Keeper>(
+    turns: &TurnTable<K>,
+    first: Token<K>,
+    processes: usize,
+    seats: &mut Vec<Seat<K>>,
+)
+    requires table { first.table_id ≡ turns.now.table.shared.table_id }
+    requires first { first.me ≡ (opened turns.now.table.shared.key.system.value, []) }
+    requires processes { (turns.now.table.shared.key.processes ≡ processes) × (processes ≤ MAX_PROCESSES) }
+    requires room { (seats.old.items ≡ []) × (processes ≤ vec_capacity seats.old) }
+    ensures { seats.new.items
+        ≡ map (first_seat turns.now.table.shared.table_id turns.now.table.shared.key.system.value) (range_with_len 0 processes) }
+{
+    let mut token = first;
+    for number in 0..processes {
+        let process = Process::new(number as u32).unwrap();
+        turns.name(&mut token);
+        let next = turns.deal(&mut token);
+        seats.push_reserved(Seat { process, token });
+        token = next;
+    }
+}
+
 impl<K: Keeper> Shared<K> {
     /// Shares a system among so many processes, 1 to 64: the seats are theirs, from process 0 on. Fails only for want
     /// of memory.
@@ -53,14 +79,8 @@ impl<K: Keeper> Shared<K> {
         ensures sound { IfOk result (λ _. IsSoundSystem system) }
     {
         let mut seats = Vec::with_capacity(alloc, processes)?;
-        let (turns, mut token) = TurnTable::open(alloc, system, processes)?;
-        for number in 0..processes {
-            let process = Process::new(number as u32).unwrap();
-            turns.name(&mut token);
-            let next = turns.deal(&mut token);
-            seats.push_reserved(Seat { process, token });
-            token = next;
-        }
+        let (turns, first) = TurnTable::open(alloc, system, processes)?;
+        deal_seats(&turns, first, processes, &mut seats);
         Ok((Shared { turns }, seats))
     }
 

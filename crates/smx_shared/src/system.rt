@@ -19,12 +19,24 @@ use std::marker::Model;
 
 /// The configuration, and one entry for each command that it was asked, up to a limit. Contracts see the drivers, the
 /// limit and the history, of which the keeper keeps what it wants: all entries, where nothing else is said.
-#[derive(Debug, Drop)]
+#[derive(Debug)]
 pub struct System<K: Keeper = Vec<Entry>> {
     alloc: Global,
     config: Config,
     limit: usize,
     kept: K,
+}
+
+impl<K: Keeper> Drop for System<K> {
+    // One call in each body that has one, however many ways it ends, in place of a drop for each part.
+    fn drop(self) {
+        let System {
+            alloc: _,
+            config: _config,
+            limit: _,
+            kept: _kept,
+        } = self;
+    }
 }
 
 impl<K: Keeper> Model for System<K> {
@@ -86,7 +98,13 @@ impl System {
         ensures entries { result ≡ self.history }
         ensures sound { IsSoundSystem self }
     {
-        Entries::from_vec(self.kept)
+        let System {
+            alloc: _,
+            config: _config,
+            limit: _,
+            kept,
+        } = self;
+        Entries::from_vec(kept)
     }
 
     /// The same system again, by the allocator that this one has. Fails only for want of memory.
@@ -157,7 +175,7 @@ impl<K: Keeper> System<K> {
     }
 
     /// The same for a command that is given up: it is moved into the history, no entry is answered, and so nothing is
-    /// copied. Takes no memory for the entry where there is room for it.
+    /// copied.
     pub fn append(&mut self, process: Process, command: Command) -> Result<(), ApplyFault>
         // What it does.
         ensures ok { OnOk result (self.new ≡ with_entry self.old process command) }
@@ -201,6 +219,12 @@ impl<K: Keeper> System<K> {
         ensures now { result.1.configuration ≡ after self.drivers self.history }
         ensures sound { IsSoundSystem self }
     {
-        (self.kept, self.config)
+        let System {
+            alloc: _,
+            config,
+            limit: _,
+            kept,
+        } = self;
+        (kept, config)
     }
 }

@@ -25,10 +25,16 @@ use std::time::Duration;
 pub type Token<K> = atomic_table::Seat<Option<Parked<K>>, SeatView>;
 
 /// Two words and a slot: the front with the turn bit, the names given, and the system.
-#[derive(Drop)]
 pub struct TurnTable<K: Keeper> {
     pub table: Table<Option<Parked<K>>, SeatView, Start<K>, OneTurn, Global>,
     pub ghost sized: { (table.shared.table_id.words ≡ 2) × (table.shared.table_id.slots ≡ 1) },
+}
+
+impl<K: Keeper> Drop for TurnTable<K> {
+    // One call in each body that has one, however many ways it ends, in place of a drop for each part.
+    fn drop(self) {
+        let TurnTable { table: _table } = self;
+    }
 }
 
 // Where these lie.
@@ -57,16 +63,19 @@ fn front_word<K: Keeper>(system: &System<K>) -> u64
 }
 
 // Lets others go on, after so many tries: at first it only yields, and later it sleeps, longer each time. Nobody wakes
-// it: a sleep on the first word would end with each call of others, and who calls often would hardly sleep.
-fn let_others_go_on<R: Wait>(rt: &R, tries: u32)
+// it: a sleep on the first word would end with each call of others, and who calls often would hardly sleep. Counts one
+// try more, up to the most.
+fn let_others_go_on<R: Wait>(rt: &R, tries: u32) -> u32
     requires { tries ≤ MOST_TRIES }
+    ensures { result ≤ MOST_TRIES }
 {
     if tries < YIELDS {
         thread::yield_now();
-        return;
+    } else {
+        let dur = Duration::from_micros(SHORTEST_SLEEP << (tries - YIELDS));
+        Parker::new().park_timeout(rt, dur);
     }
-    let dur = Duration::from_micros(SHORTEST_SLEEP << (tries - YIELDS));
-    Parker::new().park_timeout(rt, dur);
+    (tries + 1).min(MOST_TRIES)
 }
 
 impl<K: Keeper> TurnTable<K> {
@@ -152,9 +161,8 @@ impl<K: Keeper> TurnTable<K> {
         for _ in rt.forever() {
             match self.try_take(token) {
                 Ok(()) => return,
-                Err(_) => let_others_go_on(rt, tries),
+                Err(_) => tries = let_others_go_on(rt, tries),
             }
-            tries = if tries < MOST_TRIES { tries + 1 } else { tries };
         }
         unreachable!()
     }

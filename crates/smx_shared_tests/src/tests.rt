@@ -1,23 +1,16 @@
-//! Histories and programs that were typed in, and what comes of them.
+//! Systems, alone and shared by threads, and runs.
 
 mod callers;
 mod doors;
 mod gates;
 mod gathered;
-mod grown;
-mod hangups;
 mod holds;
-mod looks;
-mod many_looks;
-mod many_tries;
+mod made;
 mod recorded;
-mod recorded_together;
 mod runs;
 mod shared;
 mod shared_use;
 mod stage;
-mod system_lines;
 mod systems;
 mod told;
 mod tried_again;
-mod workers;

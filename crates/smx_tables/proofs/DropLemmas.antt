@@ -1,9 +1,11 @@
 -- What is dropped at a place, and the serials that were dropped, in order.
 use Rattle.std.proofs.Common.{◌≡◌, ◌≢◌, ℕ, suc, ◌+◌, ◌≤◌, Bool, true, false, ◌&&◌, ◌||◌, not, cond, eqb, ltb, List, []}
 use Rattle.std.proofs.Common.{◌∷◌, ◌++◌, length, map, filter, get_or, refl, sym, ap, ◌∙◌, subst, arith, inl, inr}
-use Rattle.std.specs.List.{AllPairs, sum_by}
+use Rattle.std.specs.List.{AllPairs, list_any, sum_by}
+use Rattle.std.specs.Option.{is_some}
 use Rattle.std.specs.List.Sorted.{IsNonDecreasing, IsPermutation}
 use Rattle.std.proofs.lemmas.Bool.{cases_Bool, cases_eq, eq-eqb, ltb-true, ltb-false, ne_eqb}
+use Rattle.std.proofs.lemmas.Bool.Decides.{nat_tests}
 use Rattle.std.proofs.lemmas.List.{map-append}
 use Rattle.std.proofs.lemmas.List.Sums.{sum_by-cons}
 use Rattle.std.proofs.lemmas.List.Sorted.{IsPermutation-append_left, IsPermutation-cons, IsPermutation-map}
@@ -16,9 +18,9 @@ use Rattle.smx_types.specs.declared.stream.Side.{Side}
 use Rattle.smx_types.specs.declared.stream.Side.TheVariants as side
 use Rattle.smx_types.specs.declared.stream.StreamId.{StreamId}
 use Rattle.smx_model.specs.Commands.{is_side}
-use Rattle.smx_model.specs.Configuration.{QueuedMessage, is_at, same_stream}
+use Rattle.smx_model.specs.Configuration.{QueuedMessage, is_at, same_place, same_stream}
 use Rattle.smx_model.specs.Ordered.{in_rising_order, with_inserted}
-use Rattle.smx_model.specs.Queues.{queue}
+use Rattle.smx_model.specs.Queues.{first_message, queue}
 use Rattle.smx_model.specs.Removal.{serials, serials_that_left}
 use Rattle.smx_tables.specs.DroppedMessages.{AreDropped, is_flushed_at}
 
@@ -100,6 +102,30 @@ none_dropped flow dropped none = record {
       (subst (λ (hs : List QueuedMessage). IsPermutation (serials hs) []) (sym (none_kept flow).1)
       (IsPermutation-refl []));
 }
+
+-- ---- where there is nothing to drop
+
+-- of a place without a message none goes
+pub no_message_goes : (flow : List QueuedMessage) (p : Place) → is_some (first_message flow p) ≡ false
+    → flow ≡ filter (λ h. not (is_at p h)) flow
+no_message_goes [] p none = refl
+no_message_goes (h ∷ hs) p none = elim (cases_Bool (is_at p h)) [
+  | inl t ↦ let k : true ≡ false = rw t at none in absurd cc
+  | inr f ↦ rw f (ap (λ (xs : List QueuedMessage). h ∷ xs) (no_message_goes hs p (rw f at none)))
+]
+
+-- whether two places are the same is told in either order
+same_turned : (p q : Place) → same_place p q ≡ same_place q p
+same_turned p q = grind (arith, nat_tests)
+
+-- of a place without a full mark none goes
+pub no_mark_goes : (fulls : List Place) (p : Place) → list_any (same_place p) fulls ≡ false
+    → fulls ≡ filter (λ q. not (same_place q p)) fulls
+no_mark_goes [] p none = refl
+no_mark_goes (q ∷ qs) p none = elim (cases_Bool (same_place q p)) [
+  | inl t ↦ let k : true ≡ false = rw (same_turned p q, t) at none in absurd cc
+  | inr f ↦ rw f (ap (λ (xs : List Place). q ∷ xs) (no_mark_goes qs p (rw (same_turned p q, f) at none)))
+]
 
 -- ---- how many messages are left, and at a place
 

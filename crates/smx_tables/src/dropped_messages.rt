@@ -12,8 +12,9 @@ use smx_model::laws_of_queues::dropped_are_not_kept;
 use smx_queues::FlowTable;
 use smx_types::{Place, Side, Sides, StreamId};
 
-/// Drops the messages at a place, and its full mark. Their serials come to a list that has room for those of all.
-pub fn drop_at(queues: &mut FlowTable, place: Place, dropped: &mut Vec<u32>)
+// What `drop_at` does where there is something to drop. Apart, so that the test before it is inlined.
+#[inline(never)]
+fn drop_all_at(queues: &mut FlowTable, place: Place, dropped: &mut Vec<u32>)
     requires { length dropped.old.items + length queues.old.flow ≤ vec_capacity dropped.old }
     ensures flow { queues.new.flow ≡ filter (λ h. not (same_place h.place place)) queues.old.flow }
     ensures fulls { queues.new.fulls ≡ filter (λ p. not (same_place p place)) queues.old.fulls }
@@ -23,6 +24,23 @@ pub fn drop_at(queues: &mut FlowTable, place: Place, dropped: &mut Vec<u32>)
     ensures room { length dropped.new.items + length queues.new.flow ≤ vec_capacity dropped.new }
 {
     queues.drop_at(place, dropped);
+}
+
+/// Drops the messages at a place, and its full mark. Their serials come to a list that has room for those of all. Quick
+/// where there are none.
+#[inline(always)]
+pub fn drop_at(queues: &mut FlowTable, place: Place, dropped: &mut Vec<u32>)
+    requires { length dropped.old.items + length queues.old.flow ≤ vec_capacity dropped.old }
+    ensures flow { queues.new.flow ≡ filter (λ h. not (same_place h.place place)) queues.old.flow }
+    ensures fulls { queues.new.fulls ≡ filter (λ p. not (same_place p place)) queues.old.fulls }
+    ensures drivers { queues.new.drivers ≡ queues.old.drivers }
+    ensures dropped { (old : List QueuedMessage) → AreDropped old queues.old.flow dropped.old.items
+        → AreDropped old queues.new.flow dropped.new.items }
+    ensures room { length dropped.new.items + length queues.new.flow ≤ vec_capacity dropped.new }
+{
+    if queues.has_messages(place) || queues.is_full(place) {
+        drop_all_at(queues, place, dropped);
+    }
 }
 
 fn is_side(sides: Sides, side: Side) -> bool

@@ -1,6 +1,6 @@
 //! The sweep: what goes with streams that don't exist any longer, and the reply that names it.
 
-ghost use Rattle.std.specs.Prelude.{◌≡◌, ◌≢◌, ◌+◌, ◌≤◌, true, false, length, vec_capacity, IfOk, [], ◌∷◌, List};
+ghost use Rattle.std.specs.Prelude.{◌≡◌, ◌≢◌, ◌+◌, ◌≤◌, ◌==◌, ◌&&◌, true, false, not, filter, length, vec_capacity, IfOk, [], ◌∷◌, List};
 ghost use Rattle.std.specs.List.{AllPairs, list_all};
 ghost use Rattle.smx_types.specs.declared.driver.DriverSpec.{DriverSpec as DriverValue};
 ghost use Rattle.smx_types.specs.declared.reply.Reply.TheVariants.{Done};
@@ -23,11 +23,22 @@ use crate::lists::Lists;
 use crate::orphans::release_orphans;
 use crate::removal::drop_links;
 use crate::standing::tells_existing;
+use smx_addresses::Bindings;
 use smx_model::laws_of_links::{paths_join, reaches_is_path};
 use smx_model::laws_of_streams::{climbs_suffice, sweeping_again_changes_nothing};
 use smx_streams::Streams;
 use smx_types::{DriverSpec, Reply, Serials, Sides, StreamId};
 use std::alloc::{AllocError, Global};
+
+// Takes away the binding of the stream, if it has one. Where nothing is bound, none is looked for.
+fn unbind(binds: &mut Bindings, stream: StreamId)
+    ensures { binds.new
+        ≡ filter (λ b. not ((b.driver == stream.driver) && (b.minor == stream.minor))) binds.old }
+{
+    if !binds.is_empty() {
+        let _binding = binds.unbind(stream);
+    }
+}
 
 // Takes away the binding, the messages and the full marks of the stream, unless it exists.
 fn drop_if_dead(lists: &mut Lists, stream: StreamId, dropped: &mut Vec<u32>)
@@ -41,7 +52,7 @@ fn drop_if_dead(lists: &mut Lists, stream: StreamId, dropped: &mut Vec<u32>)
     ensures room { length dropped.new.items + length lists.new.queues.flow ≤ vec_capacity dropped.new }
 {
     if !lists.streams.exists(stream) {
-        let _binding = lists.binds.unbind(stream);
+        unbind(&mut lists.binds, stream);
         drop_sides(&mut lists.queues, stream, Sides::RW, dropped);
     }
 }

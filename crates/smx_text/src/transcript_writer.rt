@@ -1,6 +1,7 @@
 //! A transcript that is written while its history grows, so that no entry is kept for it.
 
 ghost use Rattle.std.specs.Prelude.{◌≡◌, ◌∷◌, ◌++◌, [], List, map, IfOk, OnOk};
+ghost use Rattle.smx_types.specs.declared.command.Command.{Command as AnyCommand};
 ghost use Rattle.smx_types.specs.declared.command.Entry.{Entry as AnyEntry};
 ghost use Rattle.smx_types.specs.declared.driver.DriverSpec.{DriverSpec as AnyDriver};
 ghost use Rattle.smx_types.specs.declared.version.Version.{Version as AnyVersion};
@@ -9,10 +10,12 @@ ghost use Rattle.smx_text.specs.GrowingTranscripts.{transcript_with, BeginsTrans
 ghost use Rattle.smx_text.specs.TranscriptText.{transcript_grammar, transcript_text, view_body};
 ghost use Rattle.smx_text.specs.TranscriptText.{IsSpellable, IsSpellableView};
 ghost use Rattle.smx_text.specs.TranscriptText.{line_words as view_words};
-ghost use Rattle.smx_words.specs.Words.{LINE_FEED, text_of};
+ghost use Rattle.smx_words.specs.Spellable.{FitsCommand};
+ghost use Rattle.smx_words.specs.Spelling.{command_words};
+ghost use Rattle.smx_words.specs.Words.{LINE_FEED, line_of, text_of};
 
 use smx_types::{Command, ConfigView, DriverSpec, Entry, NoMemory, Process, Reply, Version};
-use smx_words::{write_entry, write_lines, write_next};
+use smx_words::{write_entry, write_entry_of_line, write_lines, write_next};
 use std::marker::Model;
 
 /// A transcript as far as it is written: its drivers, and the entries so far. Contracts see its bytes. Once a call
@@ -69,6 +72,16 @@ impl TranscriptWriter {
             ++ record { process = process; command = command.now; reply = reply.now } ∷ []) self.new) }
     {
         write_entry(&mut self.text, process, command, reply)
+    }
+
+    /// The same of an entry whose command has this line, without a line feed. Fails only for want of memory.
+    pub fn add_line(&mut self, process: Process, line: &[u8], reply: &Reply) -> Result<(), NoMemory>
+        ensures { OnOk result ((version : AnyVersion) (drivers : List AnyDriver) (before : List AnyEntry) (command : AnyCommand)
+            → line.now ≡ line_of (command_words command) → FitsCommand command
+            → BeginsTranscript version drivers before self.old → BeginsTranscript version drivers (before
+            ++ record { process = process; command = command; reply = reply.now } ∷ []) self.new) }
+    {
+        write_entry_of_line(&mut self.text, process, line, reply)
     }
 
     /// The one text of the transcript, whose configuration at its end is shown so. Fails only for want of memory.

@@ -93,7 +93,7 @@ pub type FullLines = Items<FullLine>;
 pub type HungLines = Items<HungLine>;
 
 /// A configuration as it is shown.
-#[derive(Debug, Drop, PartialEq)]
+#[derive(Debug, PartialEq)]
 pub struct ConfigView {
     /// The id that the next link gets. Ids start from 1.
     pub next_id: u32,
@@ -106,6 +106,23 @@ pub struct ConfigView {
     pub msgs: MessageLines,
     pub fulls: FullLines,
     pub hungs: HungLines,
+}
+
+impl Drop for ConfigView {
+    // One call in each body that has one, however many ways it ends, in place of a drop for each list.
+    fn drop(self) {
+        let ConfigView {
+            next_id: _,
+            next_serial: _,
+            fds: _fds,
+            links: _links,
+            binds: _binds,
+            routes: _routes,
+            msgs: _msgs,
+            fulls: _fulls,
+            hungs: _hungs,
+        } = self;
+    }
 }
 
 impl MessageLine {

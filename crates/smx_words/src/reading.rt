@@ -12,7 +12,7 @@ mod verb;
 mod view;
 pub mod word;
 
-pub use command::command_of;
+pub use command::{command_in, command_of};
 pub use entry::entry_of;
 pub use line::{driver_of, next_of, process_of};
 pub use pushing::push_command;

@@ -13,7 +13,7 @@ mod reply;
 mod view;
 mod word;
 
-pub use entry::write_entry;
+pub use entry::{write_entry, write_entry_of_line};
 pub use number::{write_next, write_process};
 use smx_types::NoMemory;
 

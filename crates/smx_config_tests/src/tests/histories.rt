@@ -1,11 +1,11 @@
 //! Worked histories: short ones, a long one, and copies that go their own way.
 
-use super::worked::{IP_AND_ETH, are_worked, goes_on_by, is_worked};
+use super::worked::{IP_AND_ETH, are_worked, goes_on_by, is_worked, new_config};
 use smx_config::Config;
-use smx_samples::ip_and_eth;
-use std::alloc::AllocError;
+use smx_samples::Part;
+use smx_samples::Part::{Each, Once};
+use std::mem::forget;
 use std::process::Abort;
-use std::test::Fail;
 
 // The drivers, what processes ask and are answered, and what is shown in the end.
 const WORKED: [(&str, &str, &str); 4] = [
@@ -61,34 +61,23 @@ fn short_histories(rt: HostRuntime) {
     }
 }
 
-const JOIN: &str = "transcript 1
-driver ip mux 4 8 3 16
-driver eth leaf 2 8 3 16
-0 clone ip = fd 0 0
-0 clone eth = fd 1 0
-0 link 0 1 = id 1
-0 route 0 5 1 = done
-";
-
 // Ten thousand times a message goes down through the link, and the device takes it.
-fn add_rounds(text: &mut String) -> Result<(), AllocError> {
-    text.push_str(JOIN)?;
-    for serial in 1..10_001u32 {
-        write!(
-            text,
-            "0 write 0 5 aa = took {serial}\n0 transmit eth 0 = got {serial} 5 aa\n"
-        )?;
-    }
-    let view = "next 2 10001\nfd 0 0 ip 0\nfd 0 1 eth 0\nlink 1 ip 0 eth 0 link\nroute ip 5 1\n";
-    write!(text, "config\n{view}end\n")
-}
+const ROUNDS: &[Part] = &[
+    Once("transcript 1\n"),
+    Once(IP_AND_ETH),
+    Once("0 clone ip = fd 0 0\n0 clone eth = fd 1 0\n0 link 0 1 = id 1\n0 route 0 5 1 = done\n"),
+    Each(
+        1,
+        10_001,
+        "0 write 0 5 aa = took {n}\n0 transmit eth 0 = got {n} 5 aa\n",
+    ),
+    Once("config\nnext 2 10001\nfd 0 0 ip 0\nfd 0 1 eth 0\n"),
+    Once("link 1 ip 0 eth 0 link\nroute ip 5 1\nend\n"),
+];
 
 #[test]
-fn ten_thousand_rounds(rt: HostRuntime) -> Result<(), AllocError> {
-    let mut text = String::new(rt.alloc());
-    add_rounds(&mut text)?;
-    is_worked(&rt, text.as_str());
-    Ok(())
+fn ten_thousand_rounds(rt: HostRuntime) {
+    is_worked(&rt, ROUNDS);
 }
 
 // What comes before a copy is made, how the copy goes on, and how its original does behind that.
@@ -178,35 +167,16 @@ end
 fn its_copy_goes_on(rt: &(impl AllocGlobal + Abort), config: &Config, text: &str) {
     let mut again = config.copy().expect(rt, "there is memory");
     goes_on_by(rt, &mut again, text);
-}
-
-fn leaves_its_copy(
-    rt: &(impl AllocGlobal + Abort),
-    config: &mut Config,
-    before: &str,
-    of_the_copy: &str,
-    behind: &str,
-) {
-    goes_on_by(rt, config, before);
-    its_copy_goes_on(rt, config, of_the_copy);
-    goes_on_by(rt, config, behind);
-}
-
-fn go_apart(
-    rt: &(impl AllocGlobal + Abort),
-    before: &str,
-    of_the_copy: &str,
-    behind: &str,
-) -> Result<(), Fail> {
-    let mut config = ip_and_eth(rt.alloc())?;
-    leaves_its_copy(rt, &mut config, before, of_the_copy, behind);
-    Ok(())
+    forget(again);
 }
 
 #[test]
-fn a_copy_goes_its_own_way(rt: HostRuntime) -> Result<(), Fail> {
+fn a_copy_goes_its_own_way(rt: HostRuntime) {
     for (before, of_the_copy, behind) in &APART {
-        go_apart(&rt, *before, *of_the_copy, *behind)?;
+        let mut config = new_config(&rt, *before);
+        goes_on_by(&rt, &mut config, *before);
+        its_copy_goes_on(&rt, &config, *of_the_copy);
+        goes_on_by(&rt, &mut config, *behind);
+        forget(config);
     }
-    Ok(())
 }

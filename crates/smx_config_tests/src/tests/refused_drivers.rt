@@ -2,76 +2,61 @@
 //! under them, whatever the entries are.
 
 use smx_config::{Config, ConfigFault, check_history};
-use smx_samples::{an_entry, driver, ip, leaves, nothing_open};
-use smx_types::{ConfigView, DriverKind, DriverSpec, Entry, SpecFault};
+use smx_text::read_transcript;
+use smx_types::{DriverKind, DriverSpec, Name, SpecFault};
+use std::mem::forget;
 use std::process::Abort;
-use std::slice::from_ref;
-use std::test::Fail;
 
-fn both_refuse(
-    rt: &(impl AllocGlobal + Abort),
-    drivers: &[DriverSpec],
-    entries: &[Entry],
-    view: &ConfigView,
-    want: ConfigFault,
-) {
+// One entry, which is wrong, and nothing open.
+const WRONG: &[u8] = b"transcript 1\n0 close 0 = id 7\nconfig\nnext 1 1\nend\n";
+
+fn are_refused(rt: &(impl AllocGlobal + Abort), drivers: &[DriverSpec], want: ConfigFault) {
     let made = Config::new(rt.alloc(), drivers).err();
     assert!(rt; made == Some(want));
-    let judged = check_history(rt.alloc(), drivers, entries, view).err();
+    let wrong = read_transcript(rt.alloc(), WRONG).expect(rt, "it is a transcript");
+    let judged = check_history(rt.alloc(), drivers, wrong.entries.as_slice(), &wrong.view).err();
     assert!(rt; judged == Some(want));
+    forget(wrong);
 }
 
-// Under an entry that is wrong.
-fn are_refused_under(
-    rt: &(impl AllocGlobal + Abort),
-    drivers: &[DriverSpec],
-    view: &ConfigView,
-    want: ConfigFault,
-) -> Result<(), Fail> {
-    let entry = an_entry()?;
-    both_refuse(rt, drivers, from_ref(&entry), view, want);
-    Ok(())
+// The driver of this name, with so many streams.
+fn driver(rt: &impl Abort, name: &str, minors: u32) -> DriverSpec {
+    DriverSpec {
+        name: Name::new(name).expect(rt, "it is a name"),
+        kind: DriverKind::Mux,
+        minors,
+        high: 8,
+        low: 3,
+        max: 16,
+    }
 }
 
-fn are_refused(
-    rt: &(impl AllocGlobal + Abort),
-    drivers: &[DriverSpec],
-    want: ConfigFault,
-) -> Result<(), Fail> {
-    let view = nothing_open(rt.alloc(), 1, 1);
-    are_refused_under(rt, drivers, &view, want)
-}
+const BAD_MINORS: ConfigFault = ConfigFault::BadSpec(0, SpecFault::BadMinors);
 
-// This driver, so often.
-fn so_many_are_refused(
-    rt: &(impl AllocGlobal + Abort),
-    one: &DriverSpec,
-    count: usize,
-    want: ConfigFault,
-) -> Result<(), Fail> {
-    let many = Vec::from_elem(rt.alloc(), *one, count)?;
-    are_refused(rt, many.as_slice(), want)
+// How often there is a driver of so many streams, and why.
+const SO_MANY: [(usize, u32, ConfigFault); 6] = [
+    (2, 4, ConfigFault::SameName(1)),
+    (128, 4, ConfigFault::SameName(1)),
+    (129, 4, ConfigFault::TooMany),
+    (1, 0, BAD_MINORS),
+    (128, 0, BAD_MINORS),
+    (129, 0, ConfigFault::TooMany),
+];
+
+#[test]
+fn of_one_name_and_of_no_streams(rt: HostRuntime) {
+    for (count, minors, want) in SO_MANY {
+        let drivers = [driver(&rt, "ip", minors); 129];
+        are_refused(&rt, &drivers[..count.min(129)], want);
+    }
 }
 
 #[test]
-fn of_one_name(rt: HostRuntime) -> Result<(), Fail> {
-    let ip = ip()?;
-    so_many_are_refused(&rt, &ip, 2, ConfigFault::SameName(1))?;
-    so_many_are_refused(&rt, &ip, 128, ConfigFault::SameName(1))?;
-    so_many_are_refused(&rt, &ip, 129, ConfigFault::TooMany)
-}
-
-#[test]
-fn of_no_streams(rt: HostRuntime) -> Result<(), Fail> {
-    let none = driver("ip", DriverKind::Mux, 0)?;
-    let fault = ConfigFault::BadSpec(0, SpecFault::BadMinors);
-    so_many_are_refused(&rt, &none, 1, fault)?;
-    so_many_are_refused(&rt, &none, 128, fault)?;
-    so_many_are_refused(&rt, &none, 129, ConfigFault::TooMany)
-}
-
-#[test]
-fn one_too_many_of_different_names(rt: HostRuntime) -> Result<(), Fail> {
-    let many = leaves(rt.alloc(), 129)?;
-    are_refused(&rt, many.as_slice(), ConfigFault::TooMany)
+fn one_too_many_of_different_names(rt: HostRuntime) {
+    let mut drivers = [driver(&rt, "a", 1); 129];
+    for number in 0..129usize {
+        let name = format!(in rt.alloc(); "a{number}").expect(&rt, "there is memory");
+        drivers[number] = driver(&rt, name.as_str(), 1);
+    }
+    are_refused(&rt, &drivers, ConfigFault::TooMany);
 }

@@ -1,85 +1,84 @@
-//! Every number of drivers, every size of a message, and commands at many addresses: no call of a configuration wants
-//! memory at some of them alone.
+//! Every number of drivers and of programs, every size of a message, and commands at many addresses: no call of a
+//! configuration, and none that reads or writes, wants memory at some of them alone.
 
 use super::worked::is_worked;
-use std::alloc::AllocError;
+use smx_samples::Part::{At, Each, Once};
+use smx_samples::{Part, text_of};
+use smx_text::{read_programs, write_programs};
+use std::mem::forget;
 use std::process::Abort;
 
-fn add_drivers(text: &mut String, count: u32) -> Result<(), AllocError> {
-    text.push_str("transcript 2\n")?;
-    for number in 0..count {
-        write!(text, "driver a{number} leaf 1 1 0 1\n")?;
-    }
-    text.push_str("config\nnext 1 1\nend\n")
-}
-
-fn are_worked(rt: &(impl AllocGlobal + Abort), count: u32) -> Result<(), AllocError> {
-    let mut text = String::new(rt.alloc());
-    add_drivers(&mut text, count)?;
-    is_worked(rt, text.as_str());
-    Ok(())
-}
-
 #[test]
-fn every_number_of_drivers(rt: HostRuntime) -> Result<(), AllocError> {
+fn every_number_of_drivers(rt: HostRuntime) {
     for count in 0..129u32 {
-        are_worked(&rt, count)?;
+        let drivers = Each(0, count, "driver a{n} leaf 1 1 0 1\n");
+        let end = Once("config\nnext 1 1\nend\n");
+        is_worked(&rt, &[Once("transcript 2\n"), drivers, end]);
     }
-    Ok(())
 }
 
-/// Spells the bytes of which messages are made.
-pub fn add_bytes(hex: &mut String) -> Result<(), AllocError> {
-    for k in 0..2_048u32 {
-        write!(hex, "{:02x}", k % 251)?;
-    }
-    Ok(())
-}
-
-/// A message of so many of them, which differ, and differ from size to size.
-pub fn of_size(hex: &str, size: usize) -> &str {
-    let start = size.wrapping_mul(2);
-    hex.get(start..start.wrapping_mul(2)).unwrap_or("")
-}
-
-// A message of these bytes goes down, and one comes up.
-fn add_messages(text: &mut String, bytes: &str, down: usize, up: usize) -> Result<(), AllocError> {
-    write!(
-        text,
-        "0 write 0 5 {bytes} = took {down}\n0 inject eth0 0 9 {bytes} = took {up}\n"
-    )?;
-    write!(
-        text,
-        "0 transmit eth0 0 = got {down} 5 {bytes}\n0 read 0 = got {up} 9 {bytes}\n"
-    )
-}
-
-// So do messages of each size.
-fn add_sizes(text: &mut String, hex: &str) -> Result<(), AllocError> {
-    for size in 1..1_025usize {
-        add_messages(text, of_size(hex, size), size * 2 - 1, size * 2)?;
-    }
-    Ok(())
-}
-
-fn steps_of_sizes(text: &mut String, hex: &mut String) -> Result<(), AllocError> {
-    add_bytes(hex)?;
-    text.push_str("transcript 1\ndriver eth0 leaf 64 4096 0 1024\n0 clone eth0 = fd 0 0\n")?;
-    add_sizes(text, hex.as_str())?;
-    text.push_str("config\nnext 1 2049\nfd 0 0 eth0 0\nend\n")
+// The programs of this text are written as they were read.
+fn stay(rt: &(impl AllocGlobal + Abort), text: &[Part]) {
+    let text = text_of(rt.alloc(), text).expect(rt, "there is memory");
+    let programs = read_programs(rt.alloc(), text.as_bytes()).expect(rt, "they are programs");
+    let again = write_programs(rt.alloc(), &programs).expect(rt, "there is memory");
+    assert!(rt; again.as_slice() == text.as_bytes());
+    forget(programs);
 }
 
 #[test]
-fn steps_at_every_size_of_a_message(rt: HostRuntime) -> Result<(), AllocError> {
-    let mut hex = String::new(rt.alloc());
-    let mut text = String::new(rt.alloc());
-    steps_of_sizes(&mut text, &mut hex)?;
-    is_worked(&rt, text.as_str());
-    Ok(())
+fn every_number_of_programs(rt: HostRuntime) {
+    for count in 0..65u32 {
+        let programs = Each(0, count, "process {n}\nexit\n");
+        stay(&rt, &[Once("programs 1\n"), programs, Once("end\n")]);
+    }
 }
 
-/// Numbers of few and of many digits, the least and the largest among them.
-pub const ADDRESSES: [u32; 12] = [
+// Messages of these bytes go down and come up, and one stays.
+fn are_sent(rt: &(impl AllocGlobal + Abort), bytes: Part) {
+    let text = [
+        Once("transcript 1\ndriver eth0 leaf 64 4096 0 1024\n0 clone eth0 = fd 0 0\n"),
+        Once("0 write 0 5 "),
+        bytes,
+        Once(" = took 1\n0 inject eth0 0 9 "),
+        bytes,
+        Once(" = took 2\n0 transmit eth0 0 = got 1 5 "),
+        bytes,
+        Once("\n0 read 0 = got 2 9 "),
+        bytes,
+        Once("\n0 write 0 5 "),
+        bytes,
+        Once(" = took 3\nconfig\nnext 1 4\nfd 0 0 eth0 0\nmsg eth0 0 w 3 5 "),
+        bytes,
+        Once("\nend\n"),
+    ];
+    is_worked(rt, &text);
+}
+
+#[test]
+fn every_size_of_a_message(rt: HostRuntime) {
+    for size in 1..1_025u32 {
+        // They differ, and differ from size to size.
+        let bytes = [Each(size, size.wrapping_mul(2), "{n % 251 hex}")];
+        let hex = text_of(rt.alloc(), &bytes).expect(&rt, "there is memory");
+        let bytes = Once(hex.as_str());
+        are_sent(&rt, bytes);
+        let begin = Once("programs 1\nprocess 0\nwrite 0 5 ");
+        stay(
+            &rt,
+            &[
+                begin,
+                bytes,
+                Once("\ninject eth 0 5 "),
+                bytes,
+                Once("\nend\n"),
+            ],
+        );
+    }
+}
+
+// Numbers of few and of many digits, the least and the largest among them.
+const ADDRESSES: [u32; 12] = [
     0,
     1,
     2,
@@ -94,43 +93,36 @@ pub const ADDRESSES: [u32; 12] = [
     4_294_967_295,
 ];
 
-const JOIN: &str = "transcript 1
+// All commands that name an address, and what they are answered.
+const AT_AN_ADDRESS: &str = "0 bind 0 {n} = done
+0 route 0 {n} 1 = done
+0 write 0 {n} aa = took 1
+0 inject eth 0 {n} bb = took 2
+0 transmit eth 0 = got 1 {n} aa
+0 read 0 = got 2 {n} bb
+0 unroute 0 {n} = done
+0 unbind 0 = done
+";
+
+const JOIN: Part = Once(
+    "transcript 1
 driver ip mux 4 8 3 16
 driver eth leaf 2 8 3 16
 0 clone ip = fd 0 0
 0 clone eth = fd 1 0
 0 link 0 1 = id 1
 0 route 0 5 1 = done
-";
-
-// All commands that name an address.
-fn add_address(text: &mut String, a: u32, down: usize, up: usize) -> Result<(), AllocError> {
-    write!(
-        text,
-        "0 bind 0 {a} = done\n0 route 0 {a} 1 = done\n0 write 0 {a} aa = took {down}\n"
-    )?;
-    write!(
-        text,
-        "0 inject eth 0 {a} bb = took {up}\n0 transmit eth 0 = got {down} {a} aa\n"
-    )?;
-    write!(
-        text,
-        "0 read 0 = got {up} {a} bb\n0 unroute 0 {a} = done\n0 unbind 0 = done\n"
-    )
-}
-
-fn add_addresses(text: &mut String) -> Result<(), AllocError> {
-    text.push_str(JOIN)?;
-    for number in 0..ADDRESSES.len() {
-        add_address(text, ADDRESSES[number], number * 2 + 1, number * 2 + 2)?;
-    }
-    text.push_str("config\nnext 2 25\nfd 0 0 ip 0\nfd 0 1 eth 0\nlink 1 ip 0 eth 0 link\nend\n")
-}
+0 unroute 0 5 = done
+",
+);
 
 #[test]
-fn steps_at_many_addresses(rt: HostRuntime) -> Result<(), AllocError> {
-    let mut text = String::new(rt.alloc());
-    add_addresses(&mut text)?;
-    is_worked(&rt, text.as_str());
-    Ok(())
+fn commands_at_many_addresses(rt: HostRuntime) {
+    let end = Once("config\nnext 2 3\nfd 0 0 ip 0\nfd 0 1 eth 0\nlink 1 ip 0 eth 0 link\nend\n");
+    for address in ADDRESSES {
+        is_worked(&rt, &[JOIN, At(address, AT_AN_ADDRESS), end]);
+        let lines = "bind 0 {n}\nroute 0 {n} 1\nwrite 0 {n} aa\ninject e 0 {n} bb\nunroute 0 {n}\n";
+        let begin = Once("programs 1\nprocess 0\n");
+        stay(&rt, &[begin, At(address, lines), Once("end\n")]);
+    }
 }

@@ -2,23 +2,32 @@
 
 use super::worked::{IP_AND_ETH, is_judged};
 use smx_config::Verdict;
-use smx_samples::with_lines;
+use smx_samples::Part;
 use std::process::Abort;
-use std::test::Fail;
+
+const HEADERS: [Part; 2] = [Part::Once("transcript 1\n"), Part::Once("transcript 2\n")];
 
 // What is said of these entries and this view, in a text of the second version, and where it can be told, of the first.
-fn are_judged(
+fn are_judged<'a>(
     rt: &(impl AllocGlobal + Abort),
-    first: u32,
-    entries: &str,
-    view: &str,
+    headers: &[Part<'a>],
+    entries: [&'a str; 2],
+    view: [&'a str; 3],
     want: Verdict,
 ) {
-    for version in first..3 {
-        let text = format!(in rt.alloc();
-            "transcript {version}\n{IP_AND_ETH}{entries}config\n{view}end\n"
-        ).expect(rt, "there is memory");
-        is_judged(rt, text.as_bytes(), want);
+    for header in headers {
+        let text = [
+            *header,
+            Part::Once(IP_AND_ETH),
+            Part::Once(entries[0]),
+            Part::Once(entries[1]),
+            Part::Once("config\n"),
+            Part::Once(view[0]),
+            Part::Once(view[1]),
+            Part::Once(view[2]),
+            Part::Once("end\n"),
+        ];
+        is_judged(rt, &text, want);
     }
 }
 
@@ -100,7 +109,7 @@ const CASES: [(&str, &str, Verdict); 15] = [
 #[test]
 fn on_short_transcripts(rt: HostRuntime) {
     for (entries, view, want) in &CASES {
-        are_judged(&rt, 1, *entries, *view, *want);
+        are_judged(&rt, &HEADERS, [*entries, ""], [*view, "", ""], *want);
     }
 }
 
@@ -198,39 +207,28 @@ const OF_BOTH: [(&str, &str); 6] = [
     ("hung eth 1", "hung eth 2"),
 ];
 
-// The view with this in the place of that is another.
-fn differs(
+// The view is the right one, and in each of these things, with this in the place of that, another.
+fn differ<'a>(
     rt: &(impl AllocGlobal + Abort),
-    first: u32,
-    entries: &str,
-    view: &str,
-    (stands, claim): (&str, &str),
+    headers: &[Part<'a>],
+    entries: &'a str,
+    view: &'a str,
+    claims: &[(&'a str, &'a str)],
 ) {
-    let (before, behind) = view.split_once(stands).expect(rt, "it stands there");
-    let view = format!(in rt.alloc(); "{before}{claim}{behind}").expect(rt, "there is memory");
-    are_judged(rt, first, entries, view.as_str(), Verdict::ConfigDiffers);
-}
-
-// The view is the right one, and differs in each of these things.
-fn differ(
-    rt: &(impl AllocGlobal + Abort),
-    first: u32,
-    entries: &str,
-    view: &str,
-    claims: &[(&str, &str)],
-) {
-    are_judged(rt, first, entries, view, Verdict::Legal);
-    for claim in claims {
-        differs(rt, first, entries, view, *claim);
+    are_judged(rt, headers, [entries, ""], [view, "", ""], Verdict::Legal);
+    for (stands, claim) in claims {
+        let (before, behind) = view.split_once(*stands).expect(rt, "it stands there");
+        let other = [before, *claim, behind];
+        are_judged(rt, headers, [entries, ""], other, Verdict::ConfigDiffers);
     }
 }
 
 #[test]
 fn on_views_that_differ_in_one_thing(rt: HostRuntime) {
     let after_bound = "next 1 1\nfd 0 0 ip 0\nbind ip 9 0\n";
-    differ(&rt, 1, MARKS, AFTER_MARKS, &OF_MARKS);
-    differ(&rt, 1, BOUND, after_bound, &OF_BOUND);
-    differ(&rt, 2, BOTH, AFTER_BOTH, &OF_BOTH);
+    differ(&rt, &HEADERS, MARKS, AFTER_MARKS, &OF_MARKS);
+    differ(&rt, &HEADERS, BOUND, after_bound, &OF_BOUND);
+    differ(&rt, &HEADERS[1..], BOTH, AFTER_BOTH, &OF_BOTH);
 }
 
 // Behind both hangups, a last entry whose reply is another one than it gets.
@@ -248,31 +246,32 @@ const ILLEGAL: [&str; 8] = [
 #[test]
 fn on_replies_that_differ(rt: HostRuntime) {
     for last in &ILLEGAL {
-        let entries = format!(in rt.alloc(); "{BOTH}{last}").expect(&rt, "there is memory");
         let want = Verdict::Illegal { entry: 5 };
-        are_judged(&rt, 2, entries.as_str(), AFTER_BOTH, want);
+        are_judged(
+            &rt,
+            &HEADERS[1..],
+            [BOTH, *last],
+            [AFTER_BOTH, "", ""],
+            want,
+        );
     }
 }
 
 // The 100,000th entry, and the verdict.
-const LAST: [(&[u8], Verdict); 2] = [
-    (
-        b"0 close 0 = EBADF fd\nconfig\nnext 1 1\nend\n",
-        Verdict::Legal,
-    ),
-    (
-        b"0 clone ip = fd 1 0\nconfig\nnext 1 1\nend\n",
-        Verdict::Illegal { entry: 100_000 },
-    ),
+const LAST: [(&str, Verdict); 2] = [
+    ("0 close 0 = EBADF fd\n", Verdict::Legal),
+    ("0 clone ip = fd 1 0\n", Verdict::Illegal { entry: 100_000 }),
 ];
 
-const BEGIN: &[u8] = b"transcript 1\ndriver ip mux 4 8 3 16\n";
-
 #[test]
-fn on_the_most_entries(rt: HostRuntime) -> Result<(), Fail> {
-    for (end, want) in &LAST {
-        let text = with_lines(rt.alloc(), BEGIN, b"0 close 0 = EBADF fd\n", 99_999, *end)?;
-        is_judged(&rt, text.as_slice(), *want);
+fn on_the_most_entries(rt: HostRuntime) {
+    for (last, want) in &LAST {
+        let text = [
+            Part::Once("transcript 1\ndriver ip mux 4 8 3 16\n"),
+            Part::Each(0, 99_999, "0 close 0 = EBADF fd\n"),
+            Part::Once(*last),
+            Part::Once("config\nnext 1 1\nend\n"),
+        ];
+        is_judged(&rt, &text, *want);
     }
-    Ok(())
 }

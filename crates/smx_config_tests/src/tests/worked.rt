@@ -1,9 +1,12 @@
 //! How a worked history is tried. It is typed in as a transcript: its entries are legal, its commands get their replies
-//! from `step` and twice from `step_twin`, and in the end just its view is shown, of a copy too.
+//! from `step` and twice from `step_twin`, and in the end just its view is shown, of a copy too. What is large is not
+//! given back, since a proof grows where such a value is dropped.
 
 use smx_config::{Config, Verdict, check_history};
-use smx_text::read_transcript;
-use smx_types::{Entry, Transcript};
+use smx_samples::{Part, text_of};
+use smx_text::{read_transcript, write_transcript};
+use smx_types::{Entry, Transcript, Version};
+use std::mem::forget;
 use std::process::Abort;
 
 /// The drivers `ip`, a multiplexer of 4 minors, and `eth`, a leaf of 2.
@@ -22,11 +25,13 @@ fn steps(rt: &impl Abort, config: &mut Config, entries: &[Entry]) {
 fn steps_twice(rt: &impl Abort, config: &mut Config, entries: &[Entry]) {
     for number in 0..entries.len() {
         let entry = &entries[number];
-        let replies = config
+        let (reply, twin) = config
             .step_twin(entry.process, &entry.command)
             .expect(rt, "there is memory");
-        assert!(rt; replies.0 == entry.reply, "behind {number} entries");
-        assert!(rt; replies.1 == entry.reply, "behind {number} entries");
+        assert!(rt;
+            reply == entry.reply && twin == entry.reply,
+            "behind {number} entries"
+        );
     }
 }
 
@@ -37,6 +42,7 @@ fn is_so(rt: &impl Abort, config: &Config, want: &Transcript) {
     assert!(rt; config.shows(&want.view));
     let view = config.show().expect(rt, "there is memory");
     assert!(rt; view == want.view);
+    forget(view);
 }
 
 // The configuration goes on by these entries, and so ends in this view.
@@ -50,51 +56,71 @@ fn goes_on(rt: &impl Abort, config: &mut Config, want: &Transcript, is_twin: boo
     is_so(rt, config, want);
     let again = config.copy().expect(rt, "there is memory");
     is_so(rt, &again, want);
+    forget(again);
 }
 
 /// The configuration goes on by the entries of this text, and so ends in its view.
 pub fn goes_on_by(rt: &(impl AllocGlobal + Abort), config: &mut Config, text: &str) {
     let want = read_transcript(rt.alloc(), text.as_bytes()).expect(rt, "it is a transcript");
     goes_on(rt, config, &want, false);
+    forget(want);
 }
 
 fn is_played(rt: &(impl AllocGlobal + Abort), want: &Transcript, is_twin: bool) {
     let drivers = want.drivers.as_slice();
     let mut config = Config::new(rt.alloc(), drivers).expect(rt, "the drivers can be had");
     goes_on(rt, &mut config, want, is_twin);
+    forget(config);
 }
 
-// This is the verdict. What is legal is a worked history.
-fn is_right(rt: &(impl AllocGlobal + Abort), transcript: &Transcript, want: Verdict) {
-    let drivers = transcript.drivers.as_slice();
-    let entries = transcript.entries.as_slice();
-    let verdict = check_history(rt.alloc(), drivers, entries, &transcript.view).expect(
-        rt,
-        "the drivers can be had",
-    );
-    assert!(rt; verdict == want);
+/// A new configuration over the drivers of this text.
+pub fn new_config(rt: &(impl AllocGlobal + Abort), text: &str) -> Config {
+    let want = read_transcript(rt.alloc(), text.as_bytes()).expect(rt, "it is a transcript");
+    let config = Config::new(rt.alloc(), want.drivers.as_slice());
+    forget(want);
+    config.expect(rt, "the drivers can be had")
+}
+
+// It is written as it was read.
+fn is_written(rt: &(impl AllocGlobal + Abort), transcript: &Transcript, text: &[u8]) {
+    assert!(rt; transcript.version == Version::V2 || transcript.least() == Version::V1);
+    let again = write_transcript(rt.alloc(), transcript).expect(rt, "there is memory");
+    assert!(rt; again.as_slice() == text);
+}
+
+/// This is the verdict on the transcript of this text, which is written as it was read. One that is legal is a worked
+/// history.
+pub fn is_judged(rt: &(impl AllocGlobal + Abort), text: &[Part], want: Verdict) {
+    let text = text_of(rt.alloc(), text).expect(rt, "there is memory");
+    let all = read_transcript(rt.alloc(), text.as_bytes()).expect(rt, "it is a transcript");
+    is_written(rt, &all, text.as_bytes());
+    let (drivers, entries) = (all.drivers.as_slice(), all.entries.as_slice());
+    let verdict = check_history(rt.alloc(), drivers, entries, &all.view).ok();
+    assert!(rt; verdict == Some(want));
     if want == Verdict::Legal {
-        is_played(rt, transcript, false);
-        is_played(rt, transcript, true);
+        is_played(rt, &all, false);
+        is_played(rt, &all, true);
     }
-}
-
-/// This is the verdict on the transcript of this text. One that is legal is a worked history.
-pub fn is_judged(rt: &(impl AllocGlobal + Abort), text: &[u8], want: Verdict) {
-    let transcript = read_transcript(rt.alloc(), text).expect(rt, "it is a transcript");
-    is_right(rt, &transcript, want);
+    forget(all);
 }
 
 /// The transcript of this text is a worked history.
-pub fn is_worked(rt: &(impl AllocGlobal + Abort), text: &str) {
-    is_judged(rt, text.as_bytes(), Verdict::Legal);
+pub fn is_worked(rt: &(impl AllocGlobal + Abort), text: &[Part]) {
+    is_judged(rt, text, Verdict::Legal);
 }
 
 /// So is the one of these drivers, of these entries and of this view.
-pub fn are_worked(rt: &(impl AllocGlobal + Abort), drivers: &str, entries: &str, view: &str) {
-    let text = format!(in rt.alloc(); "transcript 2\n{drivers}{entries}config\n{view}end\n").expect(
+pub fn are_worked<'a>(
+    rt: &(impl AllocGlobal + Abort),
+    drivers: &'a str,
+    entries: &'a str,
+    view: &'a str,
+) {
+    let begin = Part::Once("transcript 2\n");
+    let (drivers, entries) = (Part::Once(drivers), Part::Once(entries));
+    let (config, view) = (Part::Once("config\n"), Part::Once(view));
+    is_worked(
         rt,
-        "there is memory",
+        &[begin, drivers, entries, config, view, Part::Once("end\n")],
     );
-    is_worked(rt, text.as_str());
 }

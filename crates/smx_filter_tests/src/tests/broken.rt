@@ -114,37 +114,19 @@ fn writes_no_more<R: AllocGlobal + Abort + Threads + Wait + Sync>(
 }
 
 #[test]
-fn a_run_reads_no_more(rt: HostRuntime) {
+fn a_job_reads_no_more(rt: HostRuntime) {
     reads_no_more(&rt, Job::Run, OPENS_AND_CLOSES);
-}
-
-#[test]
-fn a_check_reads_no_more(rt: HostRuntime) {
     reads_no_more(&rt, Job::Check, TWO_PROCESSES);
-}
-
-#[test]
-fn a_replay_reads_no_more(rt: HostRuntime) {
     reads_no_more(&rt, Job::Replay, IN_TURN);
 }
 
 #[test]
-fn a_run_writes_no_more(rt: HostRuntime) {
-    writes_no_more(&rt, Job::Run, OPENS_AND_CLOSES, OPENED_AND_CLOSED);
+fn a_job_writes_no_more(rt: HostRuntime) {
+    for (job, input, output, _status) in &DONE {
+        writes_no_more(&rt, *job, *input, *output);
+    }
     for kind in &ERRORS {
         let stop = Stop::Fails(*kind);
         leaves(&rt, Job::Run, OPENS_AND_CLOSES, b"transcript 1\n", stop);
     }
-}
-
-#[test]
-fn a_check_writes_no_more(rt: HostRuntime) {
-    writes_no_more(&rt, Job::Check, TWO_PROCESSES, b"legal 2\n");
-    writes_no_more(&rt, Job::Check, WRONG_REPLY, b"illegal 2\n");
-    writes_no_more(&rt, Job::Check, OTHER_CONFIGURATION, b"config differs\n");
-}
-
-#[test]
-fn a_replay_writes_no_more(rt: HostRuntime) {
-    writes_no_more(&rt, Job::Replay, IN_TURN, IN_TURN_REPLAYED);
 }

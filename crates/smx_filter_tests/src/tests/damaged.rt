@@ -1,10 +1,10 @@
 //! Damaged texts: the line and the cause of each fault, typed in from the rules.
 
-use super::jobs::{Job, refuses};
+use super::jobs::{Job, refuses, whole};
 use super::runs::OPENS_AND_CLOSES;
+use smx_samples::Part::{At, Once};
 use std::process::Abort;
 use std::sync::Wait;
-use std::test::Fail;
 use std::thread::Threads;
 
 const WRONG: [(&[u8], &str); 7] = [
@@ -22,13 +22,6 @@ const WRONG: [(&[u8], &str); 7] = [
         "line 3: form",
     ),
 ];
-
-#[test]
-fn names_the_first_wrong_line(rt: HostRuntime) {
-    for (input, line) in &WRONG {
-        refuses(&rt, Job::Run, *input, *line, 3);
-    }
-}
 
 const NO_COMMANDS: [&str; 26] = [
     "hangup ip 0",
@@ -60,14 +53,15 @@ const NO_COMMANDS: [&str; 26] = [
 ];
 
 #[test]
-fn refuses_what_is_no_command(rt: HostRuntime) -> Result<(), Fail> {
+fn names_the_first_wrong_line(rt: HostRuntime) {
+    for (input, line) in &WRONG {
+        refuses(&rt, Job::Run, *input, *line, 3);
+    }
     for line in &NO_COMMANDS {
-        let input = format!(in rt.alloc();
-            "programs 1\ndriver ip mux 4 8 3 16\nprocess 0\n{line}\nend\n"
-        )?;
+        let begin = Once("programs 1\ndriver ip mux 4 8 3 16\nprocess 0\n");
+        let input = whole(&rt, &[begin, Once(*line), Once("\nend\n")]);
         refuses(&rt, Job::Run, input.as_bytes(), "line 4: form", 3);
     }
-    Ok(())
 }
 
 // The line behind this beginning is the one that is named, for this cause.
@@ -75,22 +69,11 @@ fn names_the_next<R: AllocGlobal + Abort + Threads + Wait + Sync>(
     rt: &R,
     beginning: &[u8],
     input: &[u8],
-    cause: &str,
-) -> Result<(), Fail> {
+    cause: &'static str,
+) {
     let number = lines_in(beginning).wrapping_add(1);
-    let line = format!(in rt.alloc(); "line {number}: {cause}")?;
+    let line = whole(rt, &[At(number, "line {n}: "), Once(cause)]);
     refuses(rt, Job::Run, input, line.as_str(), 3);
-    Ok(())
-}
-
-#[test]
-fn finds_every_cut(rt: HostRuntime) -> Result<(), Fail> {
-    assert_eq!(rt; OPENS_AND_CLOSES.len(), 83);
-    for k in 0..OPENS_AND_CLOSES.len() {
-        let beginning = &OPENS_AND_CLOSES[..k];
-        names_the_next(&rt, beginning, beginning, "cut")?;
-    }
-    Ok(())
 }
 
 // The cause where this byte is wrong.
@@ -103,15 +86,23 @@ fn cause_at(k: usize) -> &'static str {
 }
 
 #[test]
-fn finds_every_wrong_byte(rt: HostRuntime) -> Result<(), Fail> {
+fn finds_every_cut_and_every_wrong_byte(rt: HostRuntime) {
+    assert_eq!(rt; OPENS_AND_CLOSES.len(), 83);
+    let mut input = Vec::from_slice(rt.alloc(), OPENS_AND_CLOSES).expect(&rt, "there is memory");
     for k in 0..OPENS_AND_CLOSES.len() {
-        let mut input = Vec::from_slice(rt.alloc(), OPENS_AND_CLOSES)?;
+        let beginning = &OPENS_AND_CLOSES[..k];
+        names_the_next(&rt, beginning, beginning, "cut");
+        let right = input[k];
         input[k] = 0xff;
-        names_the_next(&rt, &OPENS_AND_CLOSES[..k], input.as_slice(), cause_at(k))?;
+        names_the_next(&rt, beginning, input.as_slice(), cause_at(k));
+        input[k] = right;
     }
-    Ok(())
 }
 
-fn lines_in(bytes: &[u8]) -> usize {
-    bytes.iter().filter(|b| **b == b'\n').count()
+fn lines_in(bytes: &[u8]) -> u32 {
+    let mut count = 0u32;
+    for byte in bytes {
+        count = count.wrapping_add(u32::from(*byte == b'\n'));
+    }
+    count
 }

@@ -9,6 +9,7 @@ use smx_filters::{
 };
 use smx_live::live_text;
 use smx_run::NoGate;
+use smx_samples::{Part, text_of};
 use std::fmt::InlineText;
 use std::process::Abort;
 use std::sync::Wait;
@@ -124,4 +125,9 @@ pub fn refuses<R: AllocGlobal + Abort + Threads + Wait + Sync>(
     status: u8,
 ) {
     has_refused(rt, &done(rt, job, input), line, status);
+}
+
+/// The text of these parts.
+pub fn whole(rt: &(impl AllocGlobal + Abort), parts: &[Part]) -> String {
+    text_of(rt.alloc(), parts).expect(rt, "there is memory")
 }

@@ -1,51 +1,30 @@
 //! The limits of a run and of a check: the most of each, and one more.
 
-use super::jobs::{Job, done, refuses, writes};
-use smx_samples::with_lines;
-use std::alloc::{AllocError, Global};
+use super::jobs::{Job, done, refuses, whole, writes};
+use smx_samples::Part::{Each, Once};
 use std::io;
 use std::io::Read;
 use std::process::Abort;
 use std::sync::Wait;
-use std::test::Fail;
 use std::thread::Threads;
 
-// What a text may have many of.
-#[derive(Clone, Copy)]
-enum Many {
-    Drivers,
-    Processes,
-}
-
-fn add_lines(text: &mut String, many: Many, count: usize) -> Result<(), AllocError> {
-    for number in 0..count {
-        match many {
-            Many::Drivers => write!(text, "driver a{number} leaf 1 1 0 1\n")?,
-            Many::Processes => write!(text, "process {number}\n")?,
-        }
-    }
-    Ok(())
-}
-
-// A header, and so many lines.
-fn add_programs(
-    text: &mut String,
-    header: &str,
-    many: Many,
-    count: usize,
-) -> Result<(), AllocError> {
-    text.push_str(header)?;
-    add_lines(text, many, count)?;
-    text.push_str("end\n")
-}
-
-// A header, how many lines there may be behind it, and what is said of one more.
-const MOST: [(&str, Many, usize, &str); 3] = [
-    ("programs 1\n", Many::Drivers, 64, "line 66: many"),
-    ("programs 2\n", Many::Drivers, 128, "line 130: many"),
+// A header, a line of which there may be so many behind it, and what is said of one more.
+const MOST: [(&str, &str, u32, &str); 3] = [
+    (
+        "programs 1\n",
+        "driver a{n} leaf 1 1 0 1\n",
+        64,
+        "line 66: many",
+    ),
+    (
+        "programs 2\n",
+        "driver a{n} leaf 1 1 0 1\n",
+        128,
+        "line 130: many",
+    ),
     (
         "programs 1\ndriver ip mux 4 8 3 16\n",
-        Many::Processes,
+        "process {n}\n",
         64,
         "line 67: many",
     ),
@@ -54,141 +33,134 @@ const MOST: [(&str, Many, usize, &str); 3] = [
 // Programs with no command run.
 fn runs<R: AllocGlobal + Abort + Threads + Wait + Sync>(
     rt: &R,
-    header: &str,
-    many: Many,
-    count: usize,
-) -> Result<(), AllocError> {
-    let mut text = String::new(rt.alloc());
-    add_programs(&mut text, header, many, count)?;
-    let ran = done(rt, Job::Run, text.as_bytes());
-    assert!(rt; ran.status == 0, "with {count} lines");
-    Ok(())
+    header: &'static str,
+    line: &'static str,
+    count: u32,
+) {
+    let text = whole(rt, &[Once(header), Each(0, count, line), Once("end\n")]);
+    assert!(rt;
+        done(rt, Job::Run, text.as_bytes()).status == 0,
+        "with {count} lines"
+    );
 }
 
 #[test]
-fn runs_with_each_number_up_to_the_most(rt: HostRuntime) -> Result<(), AllocError> {
-    for (header, many, most, _line) in &MOST {
+fn runs_with_each_number_up_to_the_most_and_refuses_one_more(rt: HostRuntime) {
+    for (header, line, most, fault) in &MOST {
         for count in 0..most.saturating_add(1) {
-            runs(&rt, *header, *many, count)?;
+            runs(&rt, *header, *line, count);
         }
+        let more = Each(0, most.saturating_add(1), *line);
+        let text = whole(&rt, &[Once(*header), more, Once("end\n")]);
+        refuses(&rt, Job::Run, text.as_bytes(), *fault, 3);
     }
-    Ok(())
 }
 
-#[test]
-fn refuses_one_more(rt: HostRuntime) -> Result<(), AllocError> {
-    for (header, many, most, line) in &MOST {
-        let mut text = String::new(rt.alloc());
-        add_programs(&mut text, *header, *many, most.saturating_add(1))?;
-        refuses(&rt, Job::Run, text.as_bytes(), *line, 3);
-    }
-    Ok(())
+// So many commands, and what they are answered.
+fn with_commands(rt: &(impl AllocGlobal + Abort), count: u32) -> String {
+    whole(
+        rt,
+        &[
+            Once("programs 1\nprocess 0\n"),
+            Each(0, count, "close 0\n"),
+            Once("end\n"),
+        ],
+    )
 }
 
-fn with_commands(alloc: Global, count: usize) -> Result<Vec<u8>, Fail> {
-    let begin = b"programs 1\nprocess 0\n";
-    with_lines(alloc, begin, b"close 0\n", count, b"end\n")
-}
-
-fn with_entries(alloc: Global, count: usize) -> Result<Vec<u8>, Fail> {
-    let end = b"config\nnext 1 1\nend\n";
-    with_lines(
-        alloc,
-        b"transcript 1\n",
-        b"0 close 0 = EBADF fd\n",
-        count,
-        end,
+fn with_entries(rt: &(impl AllocGlobal + Abort), count: u32) -> String {
+    let entries = Each(0, count, "0 close 0 = EBADF fd\n");
+    whole(
+        rt,
+        &[
+            Once("transcript 1\n"),
+            entries,
+            Once("config\nnext 1 1\nend\n"),
+        ],
     )
 }
 
 #[test]
-fn refuses_one_command_more(rt: HostRuntime) -> Result<(), Fail> {
-    let input = with_commands(rt.alloc(), 100_001)?;
-    refuses(&rt, Job::Run, input.as_slice(), "line 100003: many", 3);
-    Ok(())
-}
-
-#[test]
-fn refuses_one_entry_more(rt: HostRuntime) -> Result<(), Fail> {
-    let input = with_entries(rt.alloc(), 100_001)?;
-    refuses(&rt, Job::Check, input.as_slice(), "line 100002: many", 3);
-    Ok(())
-}
-
-#[test]
-fn runs_the_most_commands(rt: HostRuntime) -> Result<(), Fail> {
-    let input = with_commands(rt.alloc(), 100_000)?;
-    let output = with_entries(rt.alloc(), 100_000)?;
-    writes(&rt, Job::Run, input.as_slice(), output.as_slice(), 0);
-    writes(&rt, Job::Check, output.as_slice(), b"legal 100000\n", 0);
-    Ok(())
+fn the_most_commands_and_one_more(rt: HostRuntime) {
+    let (input, output) = (with_commands(&rt, 100_000), with_entries(&rt, 100_000));
+    writes(&rt, Job::Run, input.as_bytes(), output.as_bytes(), 0);
+    writes(&rt, Job::Check, output.as_bytes(), b"legal 100000\n", 0);
+    let (input, output) = (with_commands(&rt, 100_001), with_entries(&rt, 100_001));
+    refuses(&rt, Job::Run, input.as_bytes(), "line 100003: many", 3);
+    refuses(&rt, Job::Check, output.as_bytes(), "line 100002: many", 3);
 }
 
 // An input of this size, which is no text, is refused by this line.
-fn is_refused<R: AllocGlobal + Abort + Threads + Wait + Sync>(
-    rt: &R,
-    size: u64,
-    line: &str,
-) -> Result<(), Fail> {
+fn is_refused<R: AllocGlobal + Abort + Threads + Wait + Sync>(rt: &R, size: u64, line: &str) {
     let mut input = Vec::new(rt.alloc());
-    io::repeat(b'a').take(size).read_to_end(&mut input)?;
+    assert!(rt; io::repeat(b'a').take(size).read_to_end(&mut input).is_ok());
     refuses(rt, Job::Run, input.as_slice(), line, 3);
     refuses(rt, Job::Check, input.as_slice(), line, 3);
-    Ok(())
 }
 
 #[test]
-fn refuses_an_input_that_is_too_long(rt: HostRuntime) -> Result<(), Fail> {
-    is_refused(&rt, 16_777_216, "line 1: cut")?;
-    is_refused(&rt, 16_777_217, "input too long")
+fn refuses_an_input_that_is_too_long(rt: HostRuntime) {
+    is_refused(&rt, 16_777_216, "line 1: cut");
+    is_refused(&rt, 16_777_217, "input too long");
 }
 
-// A message of these bytes comes up.
-fn passes<R: AllocGlobal + Abort + Threads + Wait + Sync>(
-    rt: &R,
-    payload: &str,
-) -> Result<(), Fail> {
-    let driver = "driver eth leaf 1 1024 0 1024";
-    let input = format!(in rt.alloc();
-        "programs 1\n{driver}\nprocess 0\nclone eth\ninject eth 0 9 {payload}\nread 0\nend\n"
-    )?;
-    let entries = "0 clone eth = fd 0 0\n0 inject eth 0 9";
-    let output = format!(in rt.alloc();
-        "transcript 1\n{driver}\n{entries} {payload} = took 1\n0 read 0 = got 1 9 {payload}\nconfig\nnext 1 2\nfd 0 0 eth 0\nend\n"
-    )?;
+const DRIVER: &str = "driver eth leaf 1 1024 0 1024\n";
+
+// A message of so many bytes comes up.
+fn passes<R: AllocGlobal + Abort + Threads + Wait + Sync>(rt: &R, size: u32) {
+    let payload = Each(0, size, "5a");
+    let input = [
+        Once("programs 1\n"),
+        Once(DRIVER),
+        Once("process 0\nclone eth\ninject eth 0 9 "),
+        payload,
+        Once("\nread 0\nend\n"),
+    ];
+    let output = [
+        Once("transcript 1\n"),
+        Once(DRIVER),
+        Once("0 clone eth = fd 0 0\n0 inject eth 0 9 "),
+        payload,
+        Once(" = took 1\n0 read 0 = got 1 9 "),
+        payload,
+        Once("\nconfig\nnext 1 2\nfd 0 0 eth 0\nend\n"),
+    ];
+    let (input, output) = (whole(rt, &input), whole(rt, &output));
     writes(rt, Job::Run, input.as_bytes(), output.as_bytes(), 0);
-    Ok(())
 }
 
 #[test]
-fn passes_every_size_of_a_message(rt: HostRuntime) -> Result<(), Fail> {
-    let mut hex = String::new(rt.alloc());
-    for _ in 1..1025 {
-        hex.push_str("5a")?;
-        passes(&rt, hex.as_str())?;
+fn passes_every_size_of_a_message(rt: HostRuntime) {
+    for size in 1..1_025u32 {
+        passes(&rt, size);
     }
-    Ok(())
 }
 
-// Nearly 16 MiB, read in pieces.
-fn longest_input(alloc: Global) -> Result<Vec<u8>, Fail> {
-    let line = with_lines(alloc, b"write 0 5 ", b"7", 2048, b"\n")?;
-    let begin = b"programs 1\nprocess 0\n";
-    with_lines(alloc, begin, line.as_slice(), 8148, b"end\n")
+// So many lines with 2,048 digits each, between a beginning and an end.
+fn longest(rt: &(impl AllocGlobal + Abort), parts: [&'static str; 4]) -> String {
+    let line = whole(rt, &[Once(parts[1]), Each(0, 2_048, "7"), Once(parts[2])]);
+    whole(
+        rt,
+        &[
+            Once(parts[0]),
+            Each(0, 8_148, line.as_str()),
+            Once(parts[3]),
+        ],
+    )
 }
 
-// What is written of it, at once.
-fn longest_output(alloc: Global) -> Result<Vec<u8>, Fail> {
-    let line = with_lines(alloc, b"0 write 0 5 ", b"7", 2048, b" = EBADF fd\n")?;
-    let end = b"config\nnext 1 1\nend\n";
-    with_lines(alloc, b"transcript 1\n", line.as_slice(), 8148, end)
-}
-
+// Nearly 16 MiB, read in pieces, and what is written of it, at once.
 #[test]
-fn runs_the_longest_texts(rt: HostRuntime) -> Result<(), Fail> {
-    let input = longest_input(rt.alloc())?;
-    let output = longest_output(rt.alloc())?;
+fn runs_the_longest_texts(rt: HostRuntime) {
+    let input = longest(
+        &rt,
+        ["programs 1\nprocess 0\n", "write 0 5 ", "\n", "end\n"],
+    );
+    let end = "config\nnext 1 1\nend\n";
+    let output = longest(
+        &rt,
+        ["transcript 1\n", "0 write 0 5 ", " = EBADF fd\n", end],
+    );
     assert_eq!(rt; input.len(), 16_776_757);
-    writes(&rt, Job::Run, input.as_slice(), output.as_slice(), 0);
-    Ok(())
+    writes(&rt, Job::Run, input.as_bytes(), output.as_bytes(), 0);
 }

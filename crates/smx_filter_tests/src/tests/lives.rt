@@ -3,11 +3,9 @@
 use super::devices::{ERRORS, Stop, TWO_ERRORS, one_byte_feed, one_byte_sink};
 use super::jobs::{Job, done, perform, refuses, writes};
 use smx_filters::MAX_INPUT;
-use std::alloc::Global;
 use std::io::ErrorKind;
 use std::process::Abort;
 use std::sync::Wait;
-use std::test::Fail;
 use std::thread::Threads;
 
 /// A session with each kind of line.
@@ -66,15 +64,11 @@ const NO_TABLES: [(&[u8], &str, u8); 8] = [
 ];
 
 #[test]
-fn answers_each_line(rt: HostRuntime) {
+fn answers_each_line_and_begins_no_session_over_a_table_at_fault(rt: HostRuntime) {
     writes(&rt, Job::Live, LINES, ANSWERS, 0);
     for (input, output) in &ANSWERED {
         writes(&rt, Job::Live, *input, *output, 0);
     }
-}
-
-#[test]
-fn begins_no_session_over_a_table_at_fault(rt: HostRuntime) {
     for (input, line, status) in &NO_TABLES {
         refuses(&rt, Job::Live, *input, *line, *status);
     }
@@ -177,27 +171,30 @@ const LONG: [(&[u8], usize, &[u8], &[u8], &str, u8); 4] = [
 
 // The session with a line of so many bytes.
 fn with_a_long_line(
-    alloc: Global,
+    rt: &(impl AllocGlobal + Abort),
     begin: &[u8],
     bytes: usize,
     end: &[u8],
-) -> Result<Vec<u8>, Fail> {
-    let mut input = Vec::from_slice(alloc, begin)?;
-    input.resize(begin.len().saturating_add(bytes), b'a')?;
-    input.extend_from_slice(end)?;
-    Ok(input)
+) -> Vec<u8> {
+    let mut input = Vec::from_slice(rt.alloc(), begin).expect(rt, "there is memory");
+    assert!(rt;
+        input
+            .resize(begin.len().saturating_add(bytes), b'a')
+            .is_ok()
+    );
+    assert!(rt; input.extend_from_slice(end).is_ok());
+    input
 }
 
 #[test]
-fn takes_the_longest_line_and_no_longer_one(rt: HostRuntime) -> Result<(), Fail> {
+fn takes_the_longest_line_and_no_longer_one(rt: HostRuntime) {
     for (begin, bytes, end, output, line, status) in &LONG {
-        let input = with_a_long_line(rt.alloc(), *begin, *bytes, *end)?;
+        let input = with_a_long_line(&rt, *begin, *bytes, *end);
         let ran = done(&rt, Job::Live, input.as_slice());
         assert!(rt; ran.output.as_slice() == *output);
         assert!(rt; ran.line.as_str() == *line);
         assert!(rt; ran.status == *status);
     }
-    Ok(())
 }
 
 // A session of which a read fails behind so many bytes has answered each line that was whole by then, and that is

@@ -5,26 +5,21 @@ use smx_filters::{MAX_INPUT, MainFault, Source, read_all};
 use std::io;
 use std::io::{ErrorKind, Read};
 use std::process::Abort;
-use std::test::Fail;
 
 const INPUTS: [&[u8]; 3] = [b"", b"a", b"abc"];
 
-fn is_read(rt: &(impl AllocGlobal + Abort), bytes: &[u8]) -> Result<(), Fail> {
-    let mut feed = one_byte_feed(bytes, 4, ErrorKind::Other);
-    let read = read_all(rt.alloc(), &mut feed)?;
-    assert_eq!(rt; read.as_slice(), bytes);
-    assert!(rt; feed.ended);
-    assert_eq!(rt; feed.failures, 0);
-    assert_eq!(rt; feed.reader.asked, bytes.len().saturating_add(1));
-    Ok(())
-}
-
 #[test]
-fn reads_to_the_end(rt: HostRuntime) -> Result<(), Fail> {
+fn reads_to_the_end(rt: HostRuntime) {
     for bytes in &INPUTS {
-        is_read(&rt, *bytes)?;
+        let mut feed = one_byte_feed(*bytes, 4, ErrorKind::Other);
+        let read = read_all(rt.alloc(), &mut feed)
+            .ok()
+            .expect(&rt, "it can be read");
+        assert_eq!(rt; read.as_slice(), *bytes);
+        assert!(rt; feed.ended);
+        assert_eq!(rt; feed.failures, 0);
+        assert_eq!(rt; feed.reader.asked, bytes.len().saturating_add(1));
     }
-    Ok(())
 }
 
 const ABC: &[u8] = b"abc";
@@ -68,17 +63,14 @@ impl<R: Read> Read for Counted<R> {
 }
 
 #[test]
-fn takes_the_longest_input_in_few_reads(rt: HostRuntime) -> Result<(), Fail> {
+fn takes_the_longest_input_in_few_reads_and_none_longer(rt: HostRuntime) {
     let reader = io::repeat(b'a').take(MAX_INPUT as u64);
     let mut feed = Source::new(Counted { reader, asked: 0 });
-    let read = read_all(rt.alloc(), &mut feed)?;
+    let read = read_all(rt.alloc(), &mut feed)
+        .ok()
+        .expect(&rt, "it can be read");
     assert_eq!(rt; read.len(), MAX_INPUT);
     assert!(rt; feed.reader.asked < 100);
-    Ok(())
-}
-
-#[test]
-fn takes_none_longer(rt: HostRuntime) {
     let mut feed = Source::new(io::repeat(b'a').take(MAX_INPUT as u64 + 1));
     let answer = read_all(rt.alloc(), &mut feed);
     assert!(rt; matches!(answer, Err(MainFault::TooLong)));

@@ -38,10 +38,6 @@ fn writes_what_the_commands_give(rt: HostRuntime) {
         writes(&rt, Job::Replay, *input, *output, 0);
         writes(&rt, Job::Replay, *output, *output, 0);
     }
-}
-
-#[test]
-fn gives_legal_transcripts_back(rt: HostRuntime) {
     for legal in &[TWO_PROCESSES, MARKS_ACROSS_THE_JOIN, HANGUP_END_OF_FILE] {
         writes(&rt, Job::Replay, *legal, *legal, 0);
     }

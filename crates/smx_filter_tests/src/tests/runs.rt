@@ -1,9 +1,8 @@
 //! Runs over memory, with what is wanted typed in from the rules.
 
 use super::jobs::{Job, refuses, writes};
-use smx_samples::with_lines;
-use std::alloc::Global;
-use std::test::Fail;
+use smx_samples::Part;
+use smx_samples::Part::{Each, Once};
 
 /// Two opens, a close, and an open that gets what was closed.
 pub const OPENS_AND_CLOSES: &[u8] =
@@ -33,13 +32,6 @@ const WRITTEN: [(&[u8], &[u8]); 5] = [
         b"transcript 1\ndriver ip mux 64 8 3 16\n0 open ip 0 = fd 0 0\n0 open ip 0 = fd 1 0\n0 open ip 0 = fd 2 0\n0 open ip 0 = fd 3 0\n0 open ip 0 = fd 4 0\n0 open ip 0 = fd 5 0\n0 open ip 0 = fd 6 0\n0 open ip 0 = fd 7 0\n0 open ip 0 = fd 8 0\n0 open ip 0 = fd 9 0\n0 open ip 0 = fd 10 0\n0 open ip 0 = fd 11 0\n0 open ip 0 = fd 12 0\n0 open ip 0 = fd 13 0\n0 open ip 0 = fd 14 0\n0 open ip 0 = fd 15 0\n0 open ip 0 = EMFILE\n0 clone ip = EMFILE\n0 dup 15 = EMFILE\n0 dup 16 = EBADF fd\n0 exit = done\nconfig\nnext 1 1\nend\n",
     ),
 ];
-
-#[test]
-fn writes_the_transcript(rt: HostRuntime) {
-    for (input, output) in &WRITTEN {
-        writes(&rt, Job::Run, *input, *output, 0);
-    }
-}
 
 const REFUSED: [(&[u8], &str); 7] = [
     (
@@ -73,20 +65,20 @@ const REFUSED: [(&[u8], &str); 7] = [
 ];
 
 #[test]
-fn refuses_drivers(rt: HostRuntime) {
+fn writes_the_transcript_or_refuses_drivers(rt: HostRuntime) {
+    for (input, output) in &WRITTEN {
+        writes(&rt, Job::Run, *input, *output, 0);
+    }
     for (input, line) in &REFUSED {
         refuses(&rt, Job::Run, *input, *line, 1);
     }
 }
 
 /// Two processes with five thousand commands each, in more than 64 KiB.
-pub fn two_long_programs(alloc: Global) -> Result<Vec<u8>, Fail> {
-    let second = with_lines(alloc, b"process 1\n", b"close 0\n", 5_000, b"end\n")?;
-    with_lines(
-        alloc,
-        b"programs 1\nprocess 0\n",
-        b"close 0\n",
-        5_000,
-        second.as_slice(),
-    )
-}
+pub const TWO_LONG_PROGRAMS: [Part; 5] = [
+    Once("programs 1\nprocess 0\n"),
+    Each(0, 5_000, "close 0\n"),
+    Once("process 1\n"),
+    Each(0, 5_000, "close 0\n"),
+    Once("end\n"),
+];

@@ -2,16 +2,15 @@
 
 ghost use Rattle.std.specs.Prelude.{◌≤◌};
 
-use super::jobs::{Job, writes};
-use super::runs::two_long_programs;
+use super::jobs::{Job, whole, writes};
+use super::runs::TWO_LONG_PROGRAMS;
 use smx_filters::{Source, Target, run_text};
 use smx_run::Gate;
+use smx_samples::Part::{Each, Once};
 use smx_types::Process;
-use std::alloc::AllocError;
 use std::process::Abort;
 use std::sync::Wait;
 use std::sync::atomic::{AtomicU64, Ordering};
-use std::test::Fail;
 use std::thread;
 use std::thread::Threads;
 
@@ -74,12 +73,10 @@ impl Gate for Meet {
 }
 
 // So many processes, each of which opens two streams and links one below the other.
-fn add_processes(text: &mut String, count: usize) -> Result<(), AllocError> {
-    text.push_str("programs 1\ndriver ip mux 64 8 3 16\ndriver eth leaf 64 8 3 16\n")?;
-    for process in 0..count {
-        write!(text, "process {process}\nclone ip\nclone eth\nlink 0 1\n")?;
-    }
-    text.push_str("end\n")
+fn linking(rt: &(impl AllocGlobal + Abort), count: u32) -> String {
+    let begin = Once("programs 1\ndriver ip mux 64 8 3 16\ndriver eth leaf 64 8 3 16\n");
+    let processes = Each(0, count, "process {n}\nclone ip\nclone eth\nlink 0 1\n");
+    whole(rt, &[begin, processes, Once("end\n")])
 }
 
 // What a run by so many workers writes, all of whom were inside at once.
@@ -109,87 +106,33 @@ fn met_and_wrote<R: AllocGlobal + Abort + Threads + Wait + Sync>(
     written.writer
 }
 
-// The check of what they wrote says this line.
-fn all_meet<R: AllocGlobal + Abort + Threads + Wait + Sync>(
-    rt: &R,
-    input: &[u8],
-    workers: usize,
-    last: usize,
-    line: &[u8],
-)
-    requires { (1 ≤ workers) × (workers ≤ 64) }
-{
-    let written = met_and_wrote(rt, input, workers, false, last);
-    writes(rt, Job::Check, written.as_slice(), line, 0);
-}
-
-// How many workers are asked for, for as many processes, and the verdict on what they write.
-const MEETINGS: [(usize, &[u8]); 5] = [
-    (2, b"legal 6\n"),
-    (3, b"legal 9\n"),
-    (4, b"legal 12\n"),
-    (16, b"legal 48\n"),
-    (64, b"legal 192\n"),
+// How many workers are asked for, for as many processes, the verdict on what they write, and the front that each of
+// these sees at its end.
+const MEETINGS: [(u32, &[u8], &str); 5] = [
+    (2, b"legal 6\n", "front {n} 6 2\n"),
+    (3, b"legal 9\n", "front {n} 9 3\n"),
+    (4, b"legal 12\n", "front {n} 12 4\n"),
+    (16, b"legal 48\n", "front {n} 48 16\n"),
+    (64, b"legal 192\n", "front {n} 192 64\n"),
 ];
 
 #[test]
-fn as_many_workers_as_asked_for_are_inside_at_once(rt: HostRuntime) -> Result<(), AllocError> {
-    for (workers, line) in MEETINGS {
-        let mut text = String::new(rt.alloc());
-        add_processes(&mut text, workers)?;
-        all_meet(&rt, text.as_bytes(), workers, 2, line);
+fn as_many_workers_as_asked_for_are_inside_at_once(rt: HostRuntime) {
+    for (workers, verdict, front) in MEETINGS {
+        let input = linking(&rt, workers);
+        let written = met_and_wrote(&rt, input.as_bytes(), workers as usize, false, 2);
+        writes(&rt, Job::Check, written.as_slice(), verdict, 0);
+        let written = met_and_wrote(&rt, input.as_bytes(), workers as usize, true, 2);
+        let fronts = [Once("fronts 1\n"), Each(0, workers, front), Once("end\n")];
+        assert!(rt; written.as_slice() == whole(&rt, &fronts).as_bytes());
     }
-    Ok(())
 }
 
 #[test]
-fn two_workers_are_inside_at_once_on_a_long_input(rt: HostRuntime) -> Result<(), Fail> {
-    let input = two_long_programs(rt.alloc())?;
-    all_meet(&rt, input.as_slice(), 2, 4_999, b"legal 10000\n");
-    Ok(())
-}
-
-// The fronts of so many processes, which all see the same.
-fn add_fronts(text: &mut String, processes: usize, seen: &str) -> Result<(), AllocError> {
-    text.push_str("fronts 1\n")?;
-    for process in 0..processes {
-        write!(text, "front {process} {seen}\n")?;
-    }
-    text.push_str("end\n")
-}
-
-// A run by so many workers, for as many processes, writes this of each.
-fn all_see<R: AllocGlobal + Abort + Threads + Wait + Sync>(
-    rt: &R,
-    workers: usize,
-    seen: &str,
-) -> Result<(), AllocError>
-    requires { (1 ≤ workers) × (workers ≤ 64) }
-{
-    let mut text = String::new(rt.alloc());
-    add_processes(&mut text, workers)?;
-    let written = met_and_wrote(rt, text.as_bytes(), workers, true, 2);
-    text.clear();
-    add_fronts(&mut text, workers, seen)?;
-    assert!(rt; written.as_slice() == text.as_bytes());
-    Ok(())
-}
-
-// How many workers are asked for, for as many processes, and how many entries and links each process sees at its end.
-const SEEN: [(usize, &str); 5] = [
-    (2, "6 2"),
-    (3, "9 3"),
-    (4, "12 4"),
-    (16, "48 16"),
-    (64, "192 64"),
-];
-
-#[test]
-fn each_process_sees_at_its_end_what_all_have_done(rt: HostRuntime) -> Result<(), AllocError> {
-    for (workers, seen) in SEEN {
-        all_see(&rt, workers, seen)?;
-    }
-    Ok(())
+fn two_workers_are_inside_at_once_on_a_long_input(rt: HostRuntime) {
+    let input = whole(&rt, &TWO_LONG_PROGRAMS);
+    let written = met_and_wrote(&rt, input.as_bytes(), 2, false, 4_999);
+    writes(&rt, Job::Check, written.as_slice(), b"legal 10000\n", 0);
 }
 
 // How often it was told that a command is performed next, and that one was.

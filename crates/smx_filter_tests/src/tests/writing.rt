@@ -3,36 +3,30 @@
 ghost use Rattle.std.specs.Prelude.{◌≤◌};
 
 use super::devices::{ERRORS, Stop, WholeWriter, one_byte_sink};
-use super::runs::two_long_programs;
+use super::jobs::whole;
+use super::runs::TWO_LONG_PROGRAMS;
 use smx_filters::{MainFault, Source, Target, run_text, write_all};
 use smx_run::NoGate;
 use std::io::ErrorKind;
 use std::process::Abort;
 use std::sync::Wait;
-use std::test::Fail;
 use std::thread::Threads;
 
 #[test]
-fn writes_all(rt: HostRuntime) -> Result<(), Fail> {
+fn writes_all(rt: HostRuntime) {
     let mut sink = one_byte_sink(rt.alloc(), 4, Stop::Fails(ErrorKind::Other));
-    write_all(&mut sink, b"abc")?;
+    assert!(rt; write_all(&mut sink, b"abc").is_ok());
     assert_eq!(rt; sink.writer.taken.as_slice(), b"abc".as_slice());
     assert!(rt; sink.flushed);
     assert_eq!(rt; sink.failures, 0);
     assert_eq!(rt; sink.writer.asked, 4);
-    Ok(())
-}
-
-#[test]
-fn writes_all_at_once(rt: HostRuntime) -> Result<(), Fail> {
     let mut sink = Target::new(WholeWriter {
         taken: Vec::new(rt.alloc()),
         asked: 0,
     });
-    write_all(&mut sink, b"abc")?;
+    assert!(rt; write_all(&mut sink, b"abc").is_ok());
     assert_eq!(rt; sink.writer.taken.as_slice(), b"abc".as_slice());
     assert_eq!(rt; sink.writer.asked, 2);
-    Ok(())
 }
 
 const ABC: &[u8] = b"abc";
@@ -59,15 +53,12 @@ fn stops_behind_each(rt: &(impl AllocGlobal + Abort), stop: Stop) {
 }
 
 #[test]
-fn tries_no_write_again(rt: HostRuntime) {
+fn tries_no_write_and_no_flush_again(rt: HostRuntime) {
     for kind in &ERRORS {
         stops_behind_each(&rt, Stop::Fails(*kind));
     }
     stops_behind_each(&rt, Stop::TakesNone);
-}
-
-#[test]
-fn tries_no_flush_again(rt: HostRuntime) {
+    // Nor a flush.
     for kind in &ERRORS {
         stops_behind(&rt, ABC, Stop::Fails(*kind));
     }
@@ -110,10 +101,9 @@ const RUNS: [(usize, bool, &[u8]); 4] = [
 ];
 
 #[test]
-fn runs_write_a_large_output_at_once(rt: HostRuntime) -> Result<(), Fail> {
-    let input = two_long_programs(rt.alloc())?;
+fn runs_write_a_large_output_at_once(rt: HostRuntime) {
+    let input = whole(&rt, &TWO_LONG_PROGRAMS);
     for (workers, fronts, beginning) in RUNS {
-        writes_once(&rt, input.as_slice(), workers, fronts, beginning);
+        writes_once(&rt, input.as_bytes(), workers, fronts, beginning);
     }
-    Ok(())
 }

@@ -1,19 +1,17 @@
 //! Workers at a door of the test's own, whose seats own systems, and what a gate is told of them.
 
-ghost use Rattle.std.specs.Prelude.{◌≡◌, [], All, IfOk};
+ghost use Rattle.std.specs.Prelude.{◌≡◌, [], All};
 
 use super::gates::Log;
 use super::gates::Told::{After, Before};
+use super::made::{ip, numbered};
 use smx_run::{SeatedProgram, work};
-use smx_samples::{closes, ip, numbered};
 use smx_shared::{ApplyFault, Door, Front, System};
-use smx_types::{Command, Entry, Process};
+use smx_types::{Command, Commands, Entry, Process};
 use std::alloc::Global;
 use std::process::Abort;
 use std::sync::Wait;
 use std::sync::atomic::{AtomicU64, Ordering};
-use std::test::Fail;
-use std::thread::{Threads, join};
 
 // Counts the calls of its seats.
 #[derive(Drop)]
@@ -67,81 +65,51 @@ impl Door for OwnDoor {
     }
 }
 
-// The seat of a process, at a system with no entry, and of one at most.
-fn seat_of(alloc: Global, process: u32) -> Result<OwnSeat, Fail>
-    ensures { IfOk result (λ s. s.system.history ≡ []) }
+// Three commands for a process, with a seat of its own at a system with no entry, and of one at most.
+fn job_of(rt: &(impl AllocGlobal + Abort), process: u32) -> SeatedProgram<OwnSeat>
+    ensures { result.seat.system.history ≡ [] }
 {
-    let process = numbered(process)?;
-    let system = System::new(alloc, &[ip()?], 1)?;
-    Ok(OwnSeat { process, system })
+    let mut commands = Commands::new(rt.alloc());
+    for fd in 0..3 {
+        assert!(rt; commands.push(Command::Close { fd }).is_ok());
+    }
+    let system = System::new(rt.alloc(), &[ip(rt, 4)], 1).expect(rt, "a system");
+    let process = numbered(rt, process);
+    SeatedProgram {
+        seat: OwnSeat { process, system },
+        commands,
+    }
 }
 
-// Three commands for a process, with a seat of its own.
-fn job_of(alloc: Global, process: u32) -> Result<SeatedProgram<OwnSeat>, Fail>
-    ensures { IfOk result (λ j. j.seat.system.history ≡ []) }
+// Two processes of one worker.
+fn hand_of(rt: &(impl AllocGlobal + Abort), earlier: u32, later: u32) -> Vec<SeatedProgram<OwnSeat>>
+    ensures { All (λ j. j.seat.system.history ≡ []) result.items }
 {
-    let commands = closes(alloc, 3)?;
-    let seat = seat_of(alloc, process)?;
-    Ok(SeatedProgram { seat, commands })
+    let hand = vec![in rt.alloc(); job_of(rt, earlier), job_of(rt, later)];
+    hand.expect(rt, "room")
 }
 
-type Hand = Vec<SeatedProgram<OwnSeat>>;
-
-// The hand of a worker who has these two processes.
-fn hand_of(alloc: Global, earlier: u32, later: u32) -> Result<Hand, Fail>
-    ensures { IfOk result (λ v. All (λ j. j.seat.system.history ≡ []) v.items) }
-{
-    let hand = vec![in alloc; job_of(alloc, earlier)?, job_of(alloc, later)?];
-    Ok(hand?)
-}
-
-// Whether two workers who have these hands stop where a history is full, each on a thread of its own.
-fn both_stop<R: Threads + Wait + Sync>(
-    rt: &R,
-    alloc: Global,
-    door: &OwnDoor,
-    hands: (Hand, Hand),
-    log: &Log,
-) -> bool
-    requires first { All (λ j. j.seat.system.history ≡ []) hands.0.items }
-    requires second { All (λ j. j.seat.system.history ≡ []) hands.1.items }
-{
-    let (first, second) = hands;
-    let full = Some(ApplyFault::HistoryFull);
-    let faults = join(
-        rt,
-        || -> Option<ApplyFault>
-            requires { All (λ j. j.seat.system.history ≡ []) first.items }
-        { work(rt, alloc, door, first, log).err() },
-        || -> Option<ApplyFault>
-            requires { All (λ j. j.seat.system.history ≡ []) second.items }
-        { work(rt, alloc, door, second, log).err() },
-    );
-    faults == (full, full)
-}
-
-// The log was told by this worker of the command of its first process that was performed, of the one that was refused,
-// and of no other.
-fn is_told_of_two(rt: &impl Abort, log: &Log, worker: u32) {
-    let wanted = [
-        Before(worker, 0),
-        After(worker, 0),
-        Before(worker, 1),
-        After(worker, 1),
-    ];
-    assert!(rt; log.is_told(worker, 2, &wanted));
-}
-
-#[test]
-fn two_workers_stop_at_full_histories(rt: HostRuntime) -> Result<(), Fail> {
-    let log = Log::of(rt.alloc(), 24)?;
+// A worker who has these two processes stops where the history of the first is full. The log is told of the command
+// that was performed, of the one that was refused, and of no other.
+fn stops<R: AllocGlobal + Abort + Wait>(rt: &R, earlier: u32, later: u32) {
+    let log = Log::of(rt, 12);
     let door = OwnDoor {
         calls: AtomicU64::new(0),
     };
-    let hands = (hand_of(rt.alloc(), 0, 2)?, hand_of(rt.alloc(), 1, 3)?);
-    assert!(rt; both_stop(&rt, rt.alloc(), &door, hands, &log));
-    assert_eq!(rt; door.calls.load(Ordering::SeqCst), 4);
-    is_told_of_two(&rt, &log, 0);
-    is_told_of_two(&rt, &log, 1);
-    Ok(())
+    let fault = work(rt, rt.alloc(), &door, hand_of(rt, earlier, later), &log).err();
+    assert!(rt; fault == Some(ApplyFault::HistoryFull));
+    assert_eq!(rt; door.calls.load(Ordering::SeqCst), 2);
+    let wanted = [
+        Before(earlier, 0),
+        After(earlier, 0),
+        Before(earlier, 1),
+        After(earlier, 1),
+    ];
+    assert!(rt; log.has(&wanted));
+}
+
+#[test]
+fn workers_stop_at_full_histories(rt: HostRuntime) {
+    stops(&rt, 0, 2);
+    stops(&rt, 1, 3);
 }

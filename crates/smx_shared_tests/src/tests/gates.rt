@@ -1,10 +1,10 @@
-//! Gates of tests: one at which workers wait for one another, and one that writes down what it is told.
+//! Gates of tests: one at which processes go on one by one, and one that writes down what it is told.
 
 ghost use Rattle.std.specs.Prelude.{◌≤◌};
 
 use smx_run::Gate;
 use smx_types::Process;
-use std::alloc::{AllocError, Global};
+use std::process::Abort;
 use std::sync::atomic::{AtomicBool, AtomicU32, AtomicU64, AtomicUsize, Ordering};
 use std::thread;
 
@@ -20,57 +20,6 @@ pub fn is_reached(count: &AtomicU64, wanted: u64) -> bool {
         thread::yield_now();
     }
     false
-}
-
-/// Each process waits before its first command until so many are there, and after its last one until so many have
-/// performed theirs.
-#[derive(Drop)]
-pub struct Meeting {
-    wanted: u64,
-    // The number of each last command.
-    last: usize,
-    inside: AtomicU64,
-    met: AtomicU64,
-    ended: AtomicU64,
-}
-
-impl Meeting {
-    /// Nobody is there yet.
-    pub fn of(wanted: u64, last: usize) -> Meeting {
-        Meeting {
-            wanted,
-            last,
-            inside: AtomicU64::new(0),
-            met: AtomicU64::new(0),
-            ended: AtomicU64::new(0),
-        }
-    }
-
-    /// How many processes have seen all inside.
-    pub fn met(&self) -> u64 {
-        self.met.load(Ordering::SeqCst)
-    }
-}
-
-impl Gate for Meeting {
-    fn before(&self, _process: Process, number: usize) {
-        if number == 0 {
-            self.inside.fetch_add(1, Ordering::SeqCst);
-            if is_reached(&self.inside, self.wanted) {
-                self.met.fetch_add(1, Ordering::SeqCst);
-            }
-        }
-    }
-
-    // Where they have not met, nobody waits again.
-    fn after(&self, _process: Process, number: usize) {
-        if number == self.last {
-            self.ended.fetch_add(1, Ordering::SeqCst);
-            if self.met() > 0 {
-                is_reached(&self.ended, self.wanted);
-            }
-        }
-    }
 }
 
 /// What a gate is told, of a process and the number of its command.
@@ -156,15 +105,15 @@ pub struct Log {
 
 impl Log {
     /// A log of so many lines, with nothing in it.
-    pub fn of(alloc: Global, lines: usize) -> Result<Log, AllocError> {
-        let mut empty = Vec::with_capacity(alloc, lines)?;
+    pub fn of(rt: &(impl AllocGlobal + Abort), lines: usize) -> Log {
+        let mut empty = Vec::new(rt.alloc());
         for _ in 0..lines {
-            empty.push(Line::empty())?;
+            assert!(rt; empty.push(Line::empty()).is_ok());
         }
-        Ok(Log {
+        Log {
             lines: empty,
             count: AtomicUsize::new(0),
-        })
+        }
     }
 
     /// Whether this worker of so many told it just that, in this order.

@@ -1,18 +1,15 @@
 //! What is called while a call has the turn: once, also where the command or the call is refused. And calls of a seat
 //! whose history is full.
 
-ghost use Rattle.std.specs.Prelude.{◌≡◌, All, IfOk};
+ghost use Rattle.std.specs.Prelude.{◌≡◌, All};
 
-use super::callers::{closes_with, front, is_answer, last_of};
-use super::system_lines::system_over;
-use smx_samples::{Answer, Call, command_of, ip};
+use super::callers::{closes_with, last_of};
+use super::made::{clone_of, front, ip, system_over};
 use smx_shared::{ApplyFault, Door, Hold, Seat, Shared, TryFault};
-use smx_types::Fault;
-use std::alloc::Global;
+use smx_types::{Command, Fault, Reply};
 use std::process::Abort;
 use std::sync::Wait;
 use std::sync::atomic::{AtomicU64, Ordering};
-use std::test::Fail;
 
 // Counts how often it is called.
 #[derive(Drop)]
@@ -26,83 +23,72 @@ impl Hold for Count {
     }
 }
 
-// The call is answered so, and has called what it was given once.
-fn holds_once<R: Abort + Wait>(
+// The answer of a call that has called what it was given once.
+fn held_once<R: AllocGlobal + Abort + Wait>(
     rt: &R,
     shared: &Shared,
     seat: &mut Seat,
-    alloc: Global,
-    call: Call,
-    want: Option<Answer>,
-) -> Result<(), Fail>
+    command: &Command,
+) -> Result<Reply, ApplyFault>
     requires { seat.old.shared ≡ shared.now.name }
     ensures { seat.new.shared ≡ shared.now.name }
 {
     let count = Count {
         calls: AtomicU64::new(0),
     };
-    let command = command_of(alloc, call)?;
-    let answer = shared.call_holding(rt, alloc, seat, &command, &count);
+    let answer = shared.call_holding(rt, rt.alloc(), seat, command, &count);
     assert_eq!(rt; count.calls.load(Ordering::SeqCst), 1);
-    is_answer(rt, alloc, answer, want)
+    match answer {
+        Ok(entry) => Ok(entry.reply),
+        Err(fault) => Err(fault),
+    }
 }
 
 // A command is performed, one more while the turn is held, one is refused, and one finds the history full.
-fn fills<R: Abort + Wait>(
-    rt: &R,
-    shared: &Shared,
-    seat: &mut Seat,
-    alloc: Global,
-) -> Result<(), Fail>
+fn fills<R: AllocGlobal + Abort + Wait>(rt: &R, shared: &Shared, seat: &mut Seat)
     requires { seat.old.shared ≡ shared.now.name }
     ensures { seat.new.shared ≡ shared.now.name }
 {
-    shared.perform(rt, alloc, seat, command_of(alloc, Call::Clone("ip"))?)?;
-    let second = Some(Answer::Fd(1, 1));
-    holds_once(rt, shared, seat, alloc, Call::Clone("ip"), second)?;
-    let third = Some(Answer::Refused(Fault::BadDescriptor));
-    holds_once(rt, shared, seat, alloc, Call::Close(7), third)?;
-    holds_once(rt, shared, seat, alloc, Call::Clone("ip"), None)
+    let clone = clone_of(rt, "ip");
+    assert!(rt;
+        shared
+            .perform(rt, rt.alloc(), seat, clone_of(rt, "ip"))
+            .is_ok()
+    );
+    assert!(rt; held_once(rt, shared, seat, &clone) == Ok(Reply::Fd { fd: 1, minor: 1 }));
+    let refused = Ok(Reply::Fault(Fault::BadDescriptor));
+    assert!(rt; held_once(rt, shared, seat, &Command::Close { fd: 7 }) == refused);
+    assert!(rt; held_once(rt, shared, seat, &clone) == Err(ApplyFault::HistoryFull));
 }
 
 // A try is refused, and a command that is given up; nothing is added.
-fn is_full<R: Abort + Wait>(
-    rt: &R,
-    shared: &Shared,
-    seat: &mut Seat,
-    alloc: Global,
-) -> Result<(), Fail>
+fn is_full<R: AllocGlobal + Abort + Wait>(rt: &R, shared: &Shared, seat: &mut Seat)
     requires { seat.old.shared ≡ shared.now.name }
     ensures { seat.new.shared ≡ shared.now.name }
 {
-    let command = command_of(alloc, Call::Clone("ip"))?;
-    let fault = shared.try_call(alloc, seat, &command).err();
+    let fault = shared.try_call(rt.alloc(), seat, &Command::CloseAll).err();
     assert!(rt; fault == Some(TryFault::HistoryFull));
-    let fault = shared.perform(rt, alloc, seat, command).err();
+    let fault = shared
+        .perform(rt, rt.alloc(), seat, Command::CloseAll)
+        .err();
     assert!(rt; fault == Some(ApplyFault::HistoryFull));
     assert!(rt; shared.glance(seat) == front(3, 0, false));
-    Ok(())
 }
 
-fn one_holds<R: Abort + Wait>(
-    rt: &R,
-    shared: &Shared,
-    mut seats: Vec<Seat>,
-    alloc: Global,
-) -> Result<Seat, Fail>
+fn one_holds<R: AllocGlobal + Abort + Wait>(rt: &R, shared: &Shared, mut seats: Vec<Seat>) -> Seat
     requires { All (λ s. s.shared ≡ shared.now.name) seats.items }
-    ensures { IfOk result (λ s. s.shared ≡ shared.now.name) }
+    ensures { result.shared ≡ shared.now.name }
 {
-    let mut zero = last_of(shared, &mut seats)?;
-    fills(rt, shared, &mut zero, alloc)?;
-    is_full(rt, shared, &mut zero, alloc)?;
-    Ok(zero)
+    let mut zero = last_of(rt, shared, &mut seats);
+    fills(rt, shared, &mut zero);
+    is_full(rt, shared, &mut zero);
+    zero
 }
 
 #[test]
-fn a_call_holds_once_also_where_it_is_refused(rt: HostRuntime) -> Result<(), Fail> {
-    let system = system_over(rt.alloc(), &[ip()?], 3)?;
-    let (shared, seats) = Shared::start(rt.alloc(), system, 1)?;
-    let zero = one_holds(&rt, &shared, seats, rt.alloc())?;
-    closes_with(&rt, shared, zero, 3)
+fn a_call_holds_once_also_where_it_is_refused(rt: HostRuntime) {
+    let system = system_over(&rt, &[ip(&rt, 4)], 3);
+    let (shared, seats) = Shared::start(rt.alloc(), system, 1).expect(&rt, "a start");
+    let zero = one_holds(&rt, &shared, seats);
+    closes_with(&rt, shared, zero, 3);
 }

@@ -1,17 +1,15 @@
 //! Seats that each have a thread of their own, and what they do there.
 
-ghost use Rattle.std.specs.Prelude.{◌≡◌, All, IfOk};
+ghost use Rattle.std.specs.Prelude.{◌≡◌, All};
 
-use super::callers::{closes_with, front, last_of, opens};
+use super::callers::{closes_with, last_of, opens};
 use super::gates::{TURNS, is_reached};
-use smx_samples::{Call, command_of};
+use super::made::{clone_of, front};
 use smx_shared::{ApplyFault, Door, Front, Hold, Seat, Shared, TryFault};
 use smx_types::Command;
-use std::alloc::Global;
 use std::process::Abort;
 use std::sync::Wait;
 use std::sync::atomic::{AtomicU64, Ordering};
-use std::test::Fail;
 use std::thread;
 use std::thread::{Scope, Threads};
 
@@ -35,7 +33,6 @@ pub enum Part {
 /// What the first so many seats do, what the others do, and how far they are.
 #[derive(Drop)]
 pub struct Stage {
-    pub alloc: Global,
     clone_ip: Command,
     first: (u32, Part),
     others: Part,
@@ -43,35 +40,27 @@ pub struct Stage {
     wanted: u64,
     // Whether the turn is held, or was.
     begun: AtomicU64,
-    /// How often the turn was seen free.
-    pub free: AtomicU64,
-    /// How often the turn was seen held.
-    pub held: AtomicU64,
-    /// How many of those that open and close have ended.
-    pub ended: AtomicU64,
-    /// How many of the calls of those that call twice were answered.
-    pub answered: AtomicU64,
-    /// How many of them found the history full.
-    pub full: AtomicU64,
-    // How many have done their part, and all went as it should.
-    well: AtomicU64,
+    // How often the turn was seen free.
+    free: AtomicU64,
+    // How often the turn was seen held.
+    held: AtomicU64,
+    // How many of those that open and close have ended.
+    ended: AtomicU64,
+    // How many of the calls of those that call twice were answered.
+    answered: AtomicU64,
+    // How many of them found the history full.
+    full: AtomicU64,
 }
 
 fn add_one(count: &AtomicU64) {
     count.fetch_add(1, Ordering::SeqCst);
 }
 
-/// This was counted so often.
-pub fn is_counted(rt: &impl Abort, count: &AtomicU64, wanted: u64) {
-    assert_eq!(rt; count.load(Ordering::SeqCst), wanted);
-}
-
 impl Stage {
     /// Nothing is done yet. So many have to see the turn held before it is given back.
-    pub fn of(alloc: Global, first: (u32, Part), others: Part, wanted: u64) -> Result<Stage, Fail> {
-        Ok(Stage {
-            alloc,
-            clone_ip: command_of(alloc, Call::Clone("ip"))?,
+    pub fn of(rt: &impl Abort, first: (u32, Part), others: Part, wanted: u64) -> Stage {
+        Stage {
+            clone_ip: clone_of(rt, "ip"),
             first,
             others,
             wanted,
@@ -81,31 +70,13 @@ impl Stage {
             ended: AtomicU64::new(0),
             answered: AtomicU64::new(0),
             full: AtomicU64::new(0),
-            well: AtomicU64::new(0),
-        })
+        }
     }
 
     // What the seat of this process does.
     fn part_of(&self, process: u32) -> Part {
         let (count, part) = self.first;
         if process < count { part } else { self.others }
-    }
-
-    // A part has ended.
-    fn ends(&self, part: Part, well: bool) {
-        match part {
-            Part::Tries(_) => self.sees(true),
-            Part::OpensAndCloses => add_one(&self.ended),
-            Part::Looks(_) | Part::Holds | Part::LooksOn | Part::CallsTwice => {}
-        }
-        if well {
-            add_one(&self.well);
-        }
-    }
-
-    // The turn is seen so.
-    fn sees(&self, held: bool) {
-        add_one(if held { &self.held } else { &self.free });
     }
 }
 
@@ -116,25 +87,28 @@ impl Hold for Stage {
     }
 }
 
-// Whether each of so many looks finds nothing.
-fn finds_nothing(shared: &Shared, mut seat: Seat, count: u32) -> bool
+// Each of so many looks finds nothing.
+fn finds_nothing(rt: &impl Abort, shared: &Shared, mut seat: Seat, count: u32)
     requires { seat.shared ≡ shared.now.name }
 {
     for _ in 0..count {
-        if shared.glance(&mut seat) != front(0, 0, false) {
-            return false;
-        }
+        assert!(rt; shared.glance(&mut seat) == front(0, 0, false));
     }
-    true
 }
 
-/// Holds the turn until so many have seen it held as are wanted. Whether it gets the stream of this minor.
-pub fn holds<R: Wait>(rt: &R, shared: &Shared, seat: &mut Seat, stage: &Stage, minor: u32) -> bool
+/// Holds the turn until so many have seen it held as are wanted, and gets the stream of this minor.
+pub fn holds<R: AllocGlobal + Abort + Wait>(
+    rt: &R,
+    shared: &Shared,
+    seat: &mut Seat,
+    stage: &Stage,
+    minor: u32,
+)
     requires { seat.old.shared ≡ shared.now.name }
     ensures { seat.new.shared ≡ shared.now.name }
 {
-    let answer = shared.call_holding(rt, stage.alloc, seat, &stage.clone_ip, stage);
-    opens(answer.ok(), minor)
+    let answer = shared.call_holding(rt, rt.alloc(), seat, &stage.clone_ip, stage);
+    assert!(rt; opens(&answer.expect(rt, "an answer"), minor));
 }
 
 /// Waits until the turn is held.
@@ -142,157 +116,135 @@ pub fn waits_for_the_turn(stage: &Stage) {
     is_reached(&stage.begun, 1);
 }
 
-// Whether a try finds the turn held, as this front shows.
-fn is_busy(shared: &Shared, seat: &mut Seat, stage: &Stage, want: Front) -> bool
+/// A try finds the turn held, as this front shows.
+pub fn is_busy(
+    rt: &(impl AllocGlobal + Abort),
+    shared: &Shared,
+    seat: &mut Seat,
+    stage: &Stage,
+    want: Front,
+)
     requires { seat.old.shared ≡ shared.now.name }
     ensures { seat.new.shared ≡ shared.now.name }
 {
-    let fault = shared.try_call(stage.alloc, seat, &stage.clone_ip).err();
-    fault == Some(TryFault::Busy(want))
+    let fault = shared.try_call(rt.alloc(), seat, &stage.clone_ip).err();
+    assert!(rt; fault == Some(TryFault::Busy(want)));
 }
 
-/// Whether a look and a try find the turn held, as this front shows.
-pub fn finds_it_held(shared: &Shared, seat: &mut Seat, stage: &Stage, want: Front) -> bool
-    requires { seat.old.shared ≡ shared.now.name }
-    ensures { seat.new.shared ≡ shared.now.name }
-{
-    shared.glance(seat) == want && is_busy(shared, seat, stage, want)
+/// The turn was seen held by one more.
+pub fn sees_it_held(stage: &Stage) {
+    add_one(&stage.held);
 }
 
-/// The turn was seen held by as many as are wanted.
-pub fn gives_back(stage: &Stage) {
-    stage.held.store(stage.wanted, Ordering::SeqCst);
-}
-
-/// Whether a try gets the stream of this minor.
-pub fn tries_to_open(shared: &Shared, seat: &mut Seat, stage: &Stage, minor: u32) -> bool
-    requires { seat.old.shared ≡ shared.now.name }
-    ensures { seat.new.shared ≡ shared.now.name }
-{
-    let answer = shared.try_call(stage.alloc, seat, &stage.clone_ip);
-    opens(answer.ok(), minor)
-}
-
-// Whether it is held, with nothing in the history, in a look and then in each of so many tries.
-fn tries(shared: &Shared, mut seat: Seat, stage: &Stage, count: u32) -> bool
+// It is held, with nothing in the history, in a look and then in each of so many tries.
+fn tries(
+    rt: &(impl AllocGlobal + Abort),
+    shared: &Shared,
+    mut seat: Seat,
+    stage: &Stage,
+    count: u32,
+)
     requires { seat.shared ≡ shared.now.name }
 {
     waits_for_the_turn(stage);
-    if shared.glance(&mut seat) != front(0, 0, true) {
-        return false;
-    }
+    assert!(rt; shared.glance(&mut seat) == front(0, 0, true));
     for _ in 0..count {
-        if !is_busy(shared, &mut seat, stage, front(0, 0, true)) {
-            return false;
-        }
+        is_busy(rt, shared, &mut seat, stage, front(0, 0, true));
     }
-    true
+    sees_it_held(stage);
 }
 
-// Looks on until two have ended. Whether the history never seemed to have become shorter.
-fn looks_on(shared: &Shared, mut seat: Seat, stage: &Stage) -> bool
+// Whether two have ended. If not, others go on first.
+fn is_ended(stage: &Stage) -> bool {
+    thread::yield_now();
+    stage.ended.load(Ordering::SeqCst) == 2
+}
+
+// Looks on until two have ended. The history never seems to have become shorter.
+fn looks_on(rt: &impl Abort, shared: &Shared, mut seat: Seat, stage: &Stage)
     requires { seat.shared ≡ shared.now.name }
 {
     let mut entries = 0;
     for _ in 0..TURNS {
         let front = shared.glance(&mut seat);
-        if front.entries < entries {
-            return false;
-        }
+        assert!(rt; entries <= front.entries);
         entries = front.entries;
-        stage.sees(front.held);
+        add_one(if front.held { &stage.held } else { &stage.free });
         if is_ended(stage) {
-            return true;
+            return;
         }
     }
-    false
+    panic!(rt; "two have not ended");
 }
 
-// Whether two have ended. If not, others go on first.
-fn is_ended(stage: &Stage) -> bool {
-    let is_ended = stage.ended.load(Ordering::SeqCst) == 2;
-    if !is_ended {
-        thread::yield_now();
-    }
-    is_ended
-}
-
-// Closes the stream, and opens one. Whether both were answered.
-fn closes_and_opens<R: Wait>(rt: &R, shared: &Shared, seat: &mut Seat, stage: &Stage) -> bool
+// Closes the stream, and opens one.
+fn closes_and_opens<R: AllocGlobal + Abort + Wait>(
+    rt: &R,
+    shared: &Shared,
+    seat: &mut Seat,
+    stage: &Stage,
+)
     requires { seat.old.shared ≡ shared.now.name }
     ensures { seat.new.shared ≡ shared.now.name }
 {
-    let closed = shared.call(rt, stage.alloc, seat, &Command::Close { fd: 0 });
-    let opened = shared.call(rt, stage.alloc, seat, &stage.clone_ip);
+    assert!(rt;
+        shared
+            .call(rt, rt.alloc(), seat, &Command::Close { fd: 0 })
+            .is_ok()
+    );
+    assert!(rt; shared.call(rt, rt.alloc(), seat, &stage.clone_ip).is_ok());
     thread::yield_now();
-    closed.is_ok() && opened.is_ok()
 }
 
 // The same 500 times, behind a first stream, which is opened once somebody has seen the turn free.
-fn opens_and_closes<R: Wait>(rt: &R, shared: &Shared, mut seat: Seat, stage: &Stage) -> bool
+fn opens_and_closes<R: AllocGlobal + Abort + Wait>(
+    rt: &R,
+    shared: &Shared,
+    mut seat: Seat,
+    stage: &Stage,
+)
     requires { seat.shared ≡ shared.now.name }
 {
     is_reached(&stage.free, 1);
-    let first = shared.call_holding(rt, stage.alloc, &mut seat, &stage.clone_ip, stage);
+    let first = shared.call_holding(rt, rt.alloc(), &mut seat, &stage.clone_ip, stage);
+    assert!(rt; first.is_ok());
     for _ in 0..500 {
-        if !closes_and_opens(rt, shared, &mut seat, stage) {
-            return false;
-        }
+        closes_and_opens(rt, shared, &mut seat, stage);
     }
-    first.is_ok()
+    add_one(&stage.ended);
 }
 
 // A call, which is counted.
-fn calls<R: Wait>(rt: &R, shared: &Shared, seat: &mut Seat, stage: &Stage)
+fn calls<R: AllocGlobal + Abort + Wait>(rt: &R, shared: &Shared, seat: &mut Seat, stage: &Stage)
     requires { seat.old.shared ≡ shared.now.name }
     ensures { seat.new.shared ≡ shared.now.name }
 {
-    match shared.call(rt, stage.alloc, seat, &stage.clone_ip) {
+    match shared.call(rt, rt.alloc(), seat, &stage.clone_ip) {
         Ok(_) => add_one(&stage.answered),
         Err(ApplyFault::HistoryFull) => add_one(&stage.full),
         Err(ApplyFault::NoMemory) => {}
     }
 }
 
-fn calls_twice<R: Wait>(rt: &R, shared: &Shared, mut seat: Seat, stage: &Stage) -> bool
+// This seat does its part, and is dropped.
+fn plays<R: AllocGlobal + Abort + Wait>(rt: &R, shared: &Shared, mut seat: Seat, stage: &Stage)
     requires { seat.shared ≡ shared.now.name }
 {
-    calls(rt, shared, &mut seat, stage);
-    calls(rt, shared, &mut seat, stage);
-    true
-}
-
-fn holds_first<R: Wait>(rt: &R, shared: &Shared, mut seat: Seat, stage: &Stage) -> bool
-    requires { seat.shared ≡ shared.now.name }
-{
-    holds(rt, shared, &mut seat, stage, 0)
-}
-
-// Whether all went as it should.
-fn does<R: Wait>(rt: &R, shared: &Shared, seat: Seat, stage: &Stage, part: Part) -> bool
-    requires { seat.shared ≡ shared.now.name }
-{
-    match part {
-        Part::Looks(count) => finds_nothing(shared, seat, count),
-        Part::Holds => holds_first(rt, shared, seat, stage),
-        Part::Tries(count) => tries(shared, seat, stage, count),
-        Part::LooksOn => looks_on(shared, seat, stage),
+    match stage.part_of(<Shared as Door>::process(&seat).get()) {
+        Part::Looks(count) => finds_nothing(rt, shared, seat, count),
+        Part::Holds => holds(rt, shared, &mut seat, stage, 0),
+        Part::Tries(count) => tries(rt, shared, seat, stage, count),
+        Part::LooksOn => looks_on(rt, shared, seat, stage),
         Part::OpensAndCloses => opens_and_closes(rt, shared, seat, stage),
-        Part::CallsTwice => calls_twice(rt, shared, seat, stage),
+        Part::CallsTwice => {
+            calls(rt, shared, &mut seat, stage);
+            calls(rt, shared, &mut seat, stage);
+        }
     }
 }
 
-// This seat does its part, and is dropped.
-fn plays<R: Wait>(rt: &R, shared: &Shared, seat: Seat, stage: &Stage)
-    requires { seat.shared ≡ shared.now.name }
-{
-    let part = stage.part_of(<Shared as Door>::process(&seat).get());
-    let well = does(rt, shared, seat, stage, part);
-    stage.ends(part, well);
-}
-
 // Each of these seats does its part on a thread of its own.
-fn start_all<'s, E, R: Threads + Wait + Sync>(
+fn start_all<'s, E, R: AllocGlobal + Abort + Threads + Wait + Sync>(
     scope: &'s Scope<'s, E>,
     rt: &'s R,
     shared: &'s Shared,
@@ -311,7 +263,12 @@ fn start_all<'s, E, R: Threads + Wait + Sync>(
     }
 }
 
-fn all_play<R: Threads + Wait + Sync>(rt: &R, shared: &Shared, seats: Vec<Seat>, stage: &Stage)
+fn all_play<R: AllocGlobal + Abort + Threads + Wait + Sync>(
+    rt: &R,
+    shared: &Shared,
+    seats: Vec<Seat>,
+    stage: &Stage,
+)
     requires { All (λ s. s.shared ≡ shared.now.name) seats.items }
 {
     thread::scope(
@@ -324,52 +281,60 @@ fn all_play<R: Threads + Wait + Sync>(rt: &R, shared: &Shared, seats: Vec<Seat>,
 }
 
 /// What comes of it when all have played: how many entries one more seat sees, the minor that it then gets, if the
-/// history isn't full, and how many entries there are at the end.
-pub type End = (u32, Option<u32>, usize);
+/// history isn't full, and how many entries there are at the end; and how many calls of those that call twice were
+/// answered, and how many found the history full.
+pub type End = (u32, Option<u32>, usize, u64, u64);
 
 // This seat sees so many entries, and gets a stream or finds the history full.
-fn is_at_end<R: Abort + Wait>(rt: &R, shared: &Shared, seat: &mut Seat, stage: &Stage, end: End)
+fn is_at_end<R: AllocGlobal + Abort + Wait>(
+    rt: &R,
+    shared: &Shared,
+    seat: &mut Seat,
+    stage: &Stage,
+    seen: u32,
+    minor: Option<u32>,
+)
     requires { seat.old.shared ≡ shared.now.name }
     ensures { seat.new.shared ≡ shared.now.name }
 {
-    let (seen, minor, _) = end;
     assert!(rt; shared.glance(seat) == front(seen, 0, false));
-    let answer = shared.call(rt, stage.alloc, seat, &stage.clone_ip);
-    match minor {
-        Some(minor) => assert!(rt; opens(answer.ok(), minor)),
-        None => assert!(rt; answer.err() == Some(ApplyFault::HistoryFull)),
+    match shared.call(rt, rt.alloc(), seat, &stage.clone_ip) {
+        Ok(entry) => assert!(rt; minor.is_some_and(|minor| opens(&entry, minor))),
+        Err(fault) => assert!(rt; minor.is_none() && fault == ApplyFault::HistoryFull),
     }
 }
 
-// All but the last seat play: the last one.
-fn last_looks<R: Abort + Threads + Wait + Sync>(
+// All but the last seat play: the last one, which finds this end.
+fn last_looks<R: AllocGlobal + Abort + Threads + Wait + Sync>(
     rt: &R,
     shared: &Shared,
     mut seats: Vec<Seat>,
     stage: &Stage,
-    end: End,
-) -> Result<Seat, Fail>
+    seen: u32,
+    minor: Option<u32>,
+) -> Seat
     requires { All (λ s. s.shared ≡ shared.now.name) seats.items }
-    ensures { IfOk result (λ s. s.shared ≡ shared.now.name) }
+    ensures { result.shared ≡ shared.now.name }
 {
-    let mut last = last_of(shared, &mut seats)?;
+    let mut last = last_of(rt, shared, &mut seats);
     all_play(rt, shared, seats, stage);
-    is_at_end(rt, shared, &mut last, stage, end);
-    Ok(last)
+    is_at_end(rt, shared, &mut last, stage, seen, minor);
+    last
 }
 
-/// All of these seats but the last play, that one finds this end, and all went as it should.
-pub fn is_played<R: Abort + Threads + Wait + Sync>(
+/// All of these seats but the last play, and that one finds this end.
+pub fn is_played<R: AllocGlobal + Abort + Threads + Wait + Sync>(
     rt: &R,
     stage: &Stage,
     shared: Shared,
     seats: Vec<Seat>,
     end: End,
-) -> Result<(), Fail>
+)
     requires { All (λ s. s.shared ≡ shared.name) seats.items }
 {
-    let count = seats.len() as u64;
-    let last = last_looks(rt, &shared, seats, stage, end)?;
-    is_counted(rt, &stage.well, count.saturating_sub(1));
-    closes_with(rt, shared, last, end.2)
+    let (seen, minor, entries, answered, full) = end;
+    let last = last_looks(rt, &shared, seats, stage, seen, minor);
+    assert_eq!(rt; stage.answered.load(Ordering::SeqCst), answered);
+    assert_eq!(rt; stage.full.load(Ordering::SeqCst), full);
+    closes_with(rt, shared, last, entries);
 }

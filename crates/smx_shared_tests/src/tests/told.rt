@@ -5,12 +5,10 @@ ghost use Rattle.smx_run.specs.declared.run.TheConstants.{MAX_WORKERS};
 
 use super::gates::Told::{After, Before};
 use super::gates::{Log, Told};
-use smx_run::run_programs;
-use smx_text::read_programs;
-use std::alloc::Global;
+use super::runs::report_of;
+use std::mem::forget;
 use std::process::Abort;
 use std::sync::Wait;
-use std::test::Fail;
 use std::thread::Threads;
 
 /// Six programs, one of them with no command. Those of processes 0 and 2 have a command that is refused.
@@ -101,27 +99,18 @@ const BY_EACH: [&[Told]; 3] = [
 ];
 
 // The programs are run by as many workers, and each tells a log its part.
-fn tells<R: Abort + Threads + Wait + Sync>(
-    rt: &R,
-    alloc: Global,
-    parts: &[&[Told]],
-) -> Result<(), Fail>
+fn tells<R: AllocGlobal + Abort + Threads + Wait + Sync>(rt: &R, parts: &[&[Told]])
     requires { (1 ≤ length parts.now) × (length parts.now ≤ MAX_WORKERS) }
 {
-    let log = Log::of(alloc, 40)?;
-    run_programs(rt, alloc, read_programs(alloc, SIX)?, parts.len(), &log)?;
+    let log = Log::of(rt, 40);
+    forget(report_of(rt, SIX, parts.len(), &log));
     for (worker, part) in parts.iter().enumerate() {
         assert!(rt; log.is_told(worker as u32, parts.len() as u32, part));
     }
-    Ok(())
 }
 
 #[test]
-fn one_worker_tells_of_each_command_in_turn(rt: HostRuntime) -> Result<(), Fail> {
-    tells(&rt, rt.alloc(), &[&IN_TURN])
-}
-
-#[test]
-fn three_workers_tell_of_their_processes_in_turn(rt: HostRuntime) -> Result<(), Fail> {
-    tells(&rt, rt.alloc(), &BY_EACH)
+fn each_worker_tells_of_its_commands_in_turn(rt: HostRuntime) {
+    tells(&rt, &[&IN_TURN]);
+    tells(&rt, &BY_EACH);
 }

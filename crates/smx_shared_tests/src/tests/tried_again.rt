@@ -2,227 +2,230 @@
 
 ghost use Rattle.std.specs.Prelude.{◌≡◌, All, IfOk};
 
-use super::callers::{closes_with, front, last_two, opens};
-use super::system_lines::{play as play_by, system_of_twenty, system_over};
-use smx_config::{Config, ConfigFault, Verdict, check_history};
+use super::callers::{closes_with, last_two, opens};
+use super::made::{clone_of, front, ip, read, system_over, tells_of_want};
+use super::systems::plays;
+use smx_config::{Config, Verdict, check_history};
 use smx_run::{NoGate, RunFault, run_programs};
-use smx_samples::{
-    Answer, Call, JOIN, Line, entry_of, eth, held_above, ip, ip_and_eth, nothing_open, play,
-    play_twice, shows,
-};
-use smx_shared::{Door, Seat, Shared, System};
+use smx_shared::{Door, Seat, Shared};
 use smx_text::read_programs;
-use smx_types::{Command, ConfigView, Entry, Fault, NoMemory, Programs, Which};
-use std::alloc::Global;
+use smx_types::{Command, ConfigView, DriverSpec, Entry, NoMemory, Programs, Reply, Transcript};
+use std::mem::forget;
 use std::process::Abort;
 use std::sync::Wait;
-use std::test::Fail;
 use std::thread::Threads;
 
-const MARKS: [Line; 9] = [
-    (Call::Write(0, 5, &[0, 0, 0, 1]), Answer::Took(1)),
-    (Call::Write(0, 5, &[0, 0, 0, 2]), Answer::Took(2)),
-    (Call::Write(0, 5, &[0, 0, 0, 3]), Answer::Took(3)),
-    (Call::Write(0, 5, &[0, 0, 0, 4]), Answer::Took(4)),
-    (
-        Call::Write(0, 5, &[0, 0, 0, 5]),
-        Answer::Refused(Fault::Full),
-    ),
-    (Call::Transmit("eth", 0), Answer::Got(1, 5, &[0, 0, 0, 1])),
-    (
-        Call::Write(0, 5, &[0, 0, 0, 5]),
-        Answer::Refused(Fault::Full),
-    ),
-    (Call::Transmit("eth", 0), Answer::Got(2, 5, &[0, 0, 0, 2])),
-    (Call::Write(0, 5, &[0, 0, 0, 5]), Answer::Took(5)),
+// Marks across a join, three causes of dropping, deliveries, and a device that hangs up.
+const WORKED: [&[u8]; 4] = [
+    b"transcript 1
+driver ip mux 4 8 3 16
+driver eth leaf 2 8 3 16
+0 clone ip = fd 0 0
+0 clone eth = fd 1 0
+0 link 0 1 = id 1
+0 route 0 5 1 = done
+0 write 0 5 00000001 = took 1
+0 write 0 5 00000002 = took 2
+0 write 0 5 00000003 = took 3
+0 write 0 5 00000004 = took 4
+0 write 0 5 00000005 = EAGAIN full
+0 transmit eth 0 = got 1 5 00000001
+0 write 0 5 00000005 = EAGAIN full
+0 transmit eth 0 = got 2 5 00000002
+0 write 0 5 00000005 = took 5
+config
+next 2 6
+fd 0 0 ip 0
+fd 0 1 eth 0
+link 1 ip 0 eth 0 link
+route ip 5 1
+msg ip 0 w 5 5 00000005
+msg eth 0 w 3 5 00000003
+msg eth 0 w 4 5 00000004
+full eth 0 w
+end
+",
+    b"transcript 1
+driver ip mux 4 8 3 16
+driver eth leaf 2 8 3 16
+0 clone ip = fd 0 0
+0 clone eth = fd 1 0
+0 link 0 1 = id 1
+0 route 0 5 1 = done
+0 write 0 5 aa = took 1
+0 inject eth 0 9 bb = took 2
+0 unlink 0 1 = done 2
+0 write 0 5 cc = took 3
+0 close 1 = done 1
+0 close 0 = done 3
+config
+next 2 4
+end
+",
+    b"transcript 1
+driver ip mux 4 8 3 16
+driver eth leaf 2 8 3 16
+0 clone eth = fd 0 0
+0 inject eth 0 9 aabb = took 1
+0 read 0 = got 1 9 aabb
+0 read 0 = EAGAIN empty
+0 write 0 5 cc = took 2
+0 transmit eth 0 = got 2 5 cc
+0 exit = done
+config
+next 1 3
+end
+",
+    b"transcript 2
+driver ip mux 4 8 3 16
+driver eth leaf 2 8 3 16
+0 clone eth = fd 0 0
+0 inject eth 0 9 aa = took 1
+0 hangup eth 0 = done
+0 hangup eth 0 = done
+0 read 0 = got 1 9 aa
+0 read 0 = eof
+0 clone ip = fd 1 0
+0 plink 1 0 = id 1
+0 read 0 = EINVAL below
+config
+next 2 2
+fd 0 0 eth 0
+fd 0 1 ip 0
+link 1 ip 0 eth 0 plink
+hung eth 0
+end
+",
 ];
 
-fn plays_marks(rt: &(impl AllocGlobal + Print), config: &mut Config) -> Result<(), Fail> {
-    play(rt, config, &JOIN)?;
-    play(rt, config, &MARKS)?;
-    shows(config, held_above(rt.alloc())?)
-}
-
-#[test]
-fn marks_across_the_join(rt: HostRuntime) -> Result<(), Fail> {
-    let mut config = ip_and_eth(rt.alloc())?;
-    plays_marks(&rt, &mut config)
-}
-
-const CAUSES: [Line; 6] = [
-    (Call::Write(0, 5, &[0xaa]), Answer::Took(1)),
-    (Call::Inject("eth", 0, 9, &[0xbb]), Answer::Took(2)),
-    (Call::Unlink(0, Which::Id(1)), Answer::Done(&[2])),
-    (Call::Write(0, 5, &[0xcc]), Answer::Took(3)),
-    (Call::Close(1), Answer::Done(&[1])),
-    (Call::Close(0), Answer::Done(&[3])),
-];
-
-fn plays_causes(rt: &(impl AllocGlobal + Print), config: &mut Config) -> Result<(), Fail> {
-    play(rt, config, &JOIN)?;
-    play(rt, config, &CAUSES)?;
-    shows(config, nothing_open(rt.alloc(), 2, 4))
-}
-
-#[test]
-fn three_causes_of_dropping(rt: HostRuntime) -> Result<(), Fail> {
-    let mut config = ip_and_eth(rt.alloc())?;
-    plays_causes(&rt, &mut config)
-}
-
-fn room_for_entries(alloc: Global) -> Result<Vec<Entry>, Fail> {
-    if let Ok(made) = Vec::with_capacity(alloc, 13) {
-        return Ok(made);
+fn config_over(rt: &(impl AllocGlobal + Abort), drivers: &[DriverSpec]) -> Config {
+    match Config::new(rt.alloc(), drivers) {
+        Ok(config) => config,
+        Err(_) => Config::new(rt.alloc(), drivers).expect(rt, "a configuration"),
     }
-    Ok(Vec::with_capacity(alloc, 13)?)
 }
 
-fn add_marks(alloc: Global, entries: &mut Vec<Entry>) -> Result<(), Fail> {
-    for line in JOIN.iter().chain(&MARKS) {
-        entries.push(entry_of(alloc, *line)?)?;
+/// The configuration, as it is shown.
+pub fn shown(rt: &impl Abort, config: &Config) -> ConfigView {
+    match config.show() {
+        Ok(view) => view,
+        Err(_) => config.show().expect(rt, "a view"),
     }
-    Ok(())
 }
 
-fn entries_of_marks(alloc: Global) -> Result<Vec<Entry>, Fail> {
-    let mut entries = room_for_entries(alloc)?;
-    add_marks(alloc, &mut entries)?;
-    Ok(entries)
+/// Just this is shown.
+pub fn is_shown(rt: &impl Abort, config: &Config, view: &ConfigView) {
+    let now = shown(rt, config);
+    assert!(rt; now == *view);
+    forget(now);
+    assert!(rt; config.shows(view));
 }
 
-// Tells that a growth inside the judging was refused.
-fn tells_of_a_verdict(rt: &impl Print) -> Result<(), Fail> {
-    println!(rt; "a verdict wanted memory")?;
-    Ok(())
+// What memory was wanting for has changed nothing that is shown, and is tried again.
+fn reply_to(rt: &(impl Abort + Print), config: &mut Config, entry: &Entry) -> Reply {
+    let before = shown(rt, config);
+    let answer = match config.step(entry.process, &entry.command) {
+        Ok(reply) => reply,
+        Err(_) => {
+            tells_of_want(rt, "a step");
+            is_shown(rt, config, &before);
+            config
+                .step(entry.process, &entry.command)
+                .expect(rt, "a reply")
+        }
+    };
+    forget(before);
+    answer
+}
+
+// The same of a step that is answered twice.
+fn replies_to(rt: &(impl Abort + Print), config: &mut Config, entry: &Entry) -> (Reply, Reply) {
+    let before = shown(rt, config);
+    let answer = match config.step_twin(entry.process, &entry.command) {
+        Ok(replies) => replies,
+        Err(_) => {
+            tells_of_want(rt, "a step");
+            is_shown(rt, config, &before);
+            config
+                .step_twin(entry.process, &entry.command)
+                .expect(rt, "replies")
+        }
+    };
+    forget(before);
+    answer
+}
+
+fn by_steps(rt: &(impl AllocGlobal + Abort + Print), want: &Transcript) {
+    let mut config = config_over(rt, want.drivers.as_slice());
+    for entry in want.entries.as_slice() {
+        assert!(rt; reply_to(rt, &mut config, entry) == entry.reply);
+    }
+    is_shown(rt, &config, &want.view);
+    forget(config);
+}
+
+fn by_twin_steps(rt: &(impl AllocGlobal + Abort + Print), want: &Transcript) {
+    let mut config = config_over(rt, want.drivers.as_slice());
+    for entry in want.entries.as_slice() {
+        let (reply, twin) = replies_to(rt, &mut config, entry);
+        assert!(rt; reply == entry.reply);
+        assert!(rt; twin == entry.reply);
+    }
+    is_shown(rt, &config, &want.view);
+    forget(config);
+}
+
+fn by_a_system(rt: &(impl AllocGlobal + Abort + Print), want: &Transcript) {
+    let mut system = system_over(rt, want.drivers.as_slice(), 20);
+    plays(rt, &mut system, want.entries.as_slice());
+    assert!(rt; system.entries() == want.entries.as_slice());
+    is_shown(rt, system.config(), &want.view);
+    forget(system);
 }
 
 // Where memory was wanting, the same is judged again.
-fn judged(
-    rt: &(impl AllocGlobal + Print),
-    entries: &[Entry],
-    view: &ConfigView,
-) -> Result<Verdict, Fail> {
-    let drivers = [ip()?, eth()?];
-    match check_history(rt.alloc(), &drivers, entries, view) {
-        Err(ConfigFault::NoMemory) => {
-            tells_of_a_verdict(rt)?;
-            Ok(check_history(rt.alloc(), &drivers, entries, view)?)
+fn verdict_on(rt: &(impl AllocGlobal + Abort + Print), want: &Transcript) -> Verdict {
+    let (drivers, entries) = (want.drivers.as_slice(), want.entries.as_slice());
+    match check_history(rt.alloc(), drivers, entries, &want.view) {
+        Ok(verdict) => verdict,
+        Err(_) => {
+            tells_of_want(rt, "a verdict");
+            check_history(rt.alloc(), drivers, entries, &want.view).expect(rt, "a verdict")
         }
-        judged => Ok(judged?),
     }
 }
 
-fn are_legal(rt: &(impl Abort + AllocGlobal + Print), entries: &[Entry]) -> Result<(), Fail> {
-    let view = held_above(rt.alloc())?;
-    assert_eq!(rt; judged(rt, entries, &view)?, Verdict::Legal);
-    Ok(())
+fn is_worked(rt: &(impl AllocGlobal + Abort + Print), text: &[u8]) {
+    let want = read(rt, text);
+    by_steps(rt, &want);
+    by_twin_steps(rt, &want);
+    by_a_system(rt, &want);
+    assert!(rt; verdict_on(rt, &want) == Verdict::Legal);
+    forget(want);
 }
 
 #[test]
-fn a_history_is_judged(rt: HostRuntime) -> Result<(), Fail> {
-    let entries = entries_of_marks(rt.alloc())?;
-    are_legal(&rt, entries.as_slice())
-}
-
-fn plays_marks_by(
-    rt: &(impl Abort + AllocGlobal + Print),
-    system: &mut System,
-) -> Result<(), Fail> {
-    play_by(rt, system, &JOIN)?;
-    play_by(rt, system, &MARKS)?;
-    assert_eq!(rt; system.entries().len(), 13);
-    shows(system.config(), held_above(rt.alloc())?)
-}
-
-#[test]
-fn marks_by_a_system(rt: HostRuntime) -> Result<(), Fail> {
-    let mut system = system_of_twenty(rt.alloc())?;
-    plays_marks_by(&rt, &mut system)
-}
-
-fn plays_causes_by(
-    rt: &(impl Abort + AllocGlobal + Print),
-    system: &mut System,
-) -> Result<(), Fail> {
-    play_by(rt, system, &JOIN)?;
-    play_by(rt, system, &CAUSES)?;
-    assert_eq!(rt; system.entries().len(), 10);
-    shows(system.config(), nothing_open(rt.alloc(), 2, 4))
-}
-
-#[test]
-fn causes_by_a_system(rt: HostRuntime) -> Result<(), Fail> {
-    let mut system = system_of_twenty(rt.alloc())?;
-    plays_causes_by(&rt, &mut system)
-}
-
-fn plays_causes_twice(rt: &(impl AllocGlobal + Print), config: &mut Config) -> Result<(), Fail> {
-    play_twice(rt, config, &JOIN)?;
-    play_twice(rt, config, &CAUSES)?;
-    shows(config, nothing_open(rt.alloc(), 2, 4))
-}
-
-#[test]
-fn three_causes_of_dropping_twice(rt: HostRuntime) -> Result<(), Fail> {
-    let mut config = ip_and_eth(rt.alloc())?;
-    plays_causes_twice(&rt, &mut config)
-}
-
-const DELIVERIES: [Line; 6] = [
-    (Call::Clone("eth"), Answer::Fd(0, 0)),
-    (Call::Inject("eth", 0, 9, &[0xaa, 0xbb]), Answer::Took(1)),
-    (Call::Read(0), Answer::Got(1, 9, &[0xaa, 0xbb])),
-    (Call::Read(0), Answer::Refused(Fault::Empty)),
-    (Call::Write(0, 5, &[0xcc]), Answer::Took(2)),
-    (Call::Transmit("eth", 0), Answer::Got(2, 5, &[0xcc])),
-];
-
-fn plays_deliveries_twice(
-    rt: &(impl AllocGlobal + Print),
-    config: &mut Config,
-) -> Result<(), Fail> {
-    play_twice(rt, config, &DELIVERIES)?;
-    play_twice(rt, config, &[(Call::Exit, Answer::Done(&[]))])?;
-    shows(config, nothing_open(rt.alloc(), 1, 3))
-}
-
-#[test]
-fn deliveries_twice(rt: HostRuntime) -> Result<(), Fail> {
-    let mut config = ip_and_eth(rt.alloc())?;
-    plays_deliveries_twice(&rt, &mut config)
-}
-
-// The system, shared by two processes.
-fn start_for_two(alloc: Global, system: System) -> Result<(Shared, Vec<Seat>), NoMemory>
-    ensures { IfOk result (λ r. All (λ s. s.shared ≡ r.0.name) r.1.items) }
-{
-    Shared::start(alloc, system, 2)
-}
-
-// A system of at most ten entries over `ip`, shared by two processes. It is started again where memory was wanting.
-fn shared_by_two(alloc: Global) -> Result<(Shared, Vec<Seat>), Fail>
-    ensures { IfOk result (λ r. All (λ s. s.shared ≡ r.0.name) r.1.items) }
-{
-    let drivers = [ip()?];
-    if let Ok(both) = start_for_two(alloc, system_over(alloc, &drivers, 10)?) {
-        return Ok(both);
+fn worked_histories(rt: HostRuntime) {
+    for text in &WORKED {
+        is_worked(&rt, *text);
     }
-    Ok(start_for_two(alloc, system_over(alloc, &drivers, 10)?)?)
 }
 
-// A growth inside a call was refused, and the other seat sees only so many entries.
-fn sees(
-    rt: &(impl Abort + Print),
-    shared: &Shared,
-    other: &mut Seat,
-    entries: u32,
-) -> Result<(), Fail>
-    requires { other.old.shared ≡ shared.now.name }
-    ensures { other.new.shared ≡ shared.now.name }
+// A system of at most ten entries over `ip`, shared by two processes.
+fn start_for_two(rt: &(impl AllocGlobal + Abort)) -> Result<(Shared, Vec<Seat>), NoMemory>
+    ensures { IfOk result (λ r. All (λ s. s.shared ≡ r.0.name) r.1.items) }
 {
-    println!(rt; "a call wanted memory")?;
-    assert!(rt; shared.glance(other) == front(entries, 0, false));
-    Ok(())
+    Shared::start(rt.alloc(), system_over(rt, &[ip(rt, 4)], 10), 2)
+}
+
+// It is started again where memory was wanting.
+fn shared_by_two(rt: &(impl AllocGlobal + Abort)) -> (Shared, Vec<Seat>)
+    ensures { All (λ s. s.shared ≡ result.0.name) result.1.items }
+{
+    match start_for_two(rt) {
+        Ok(both) => both,
+        Err(_) => start_for_two(rt).expect(rt, "a start"),
+    }
 }
 
 // Where memory was wanting the other seat sees nothing new, and the call is made again.
@@ -232,15 +235,20 @@ fn called(
     seat: &mut Seat,
     other: &mut Seat,
     command: &Command,
-) -> Result<Entry, Fail>
+) -> Entry
     requires { (seat.old.shared ≡ shared.now.name) × (other.old.shared ≡ shared.now.name) }
     ensures { (seat.new.shared ≡ shared.now.name) × (other.new.shared ≡ shared.now.name) }
 {
-    if let Ok(entry) = shared.call(rt, rt.alloc(), seat, command) {
-        return Ok(entry);
+    match shared.call(rt, rt.alloc(), seat, command) {
+        Ok(entry) => entry,
+        Err(_) => {
+            tells_of_want(rt, "a call");
+            assert!(rt; shared.glance(other) == front(0, 0, false));
+            shared
+                .call(rt, rt.alloc(), seat, command)
+                .expect(rt, "an answer")
+        }
     }
-    sees(rt, shared, other, 0)?;
-    Ok(shared.call(rt, rt.alloc(), seat, command)?)
 }
 
 // The same for a try, once the history has one entry.
@@ -250,52 +258,43 @@ fn tried(
     seat: &mut Seat,
     other: &mut Seat,
     command: &Command,
-) -> Result<Entry, Fail>
+) -> Entry
     requires { (seat.old.shared ≡ shared.now.name) × (other.old.shared ≡ shared.now.name) }
     ensures { (seat.new.shared ≡ shared.now.name) × (other.new.shared ≡ shared.now.name) }
 {
-    if let Ok(entry) = shared.try_call(rt.alloc(), seat, command) {
-        return Ok(entry);
+    match shared.try_call(rt.alloc(), seat, command) {
+        Ok(entry) => entry,
+        Err(_) => {
+            tells_of_want(rt, "a call");
+            assert!(rt; shared.glance(other) == front(1, 0, false));
+            shared
+                .try_call(rt.alloc(), seat, command)
+                .expect(rt, "an answer")
+        }
     }
-    sees(rt, shared, other, 1)?;
-    Ok(shared.try_call(rt.alloc(), seat, command)?)
 }
 
-// A call of the first seat, and then a try of the second.
-fn call_and_try(
-    rt: &(impl AllocGlobal + Abort + Print + Wait),
-    shared: &Shared,
-    zero: &mut Seat,
-    one: &mut Seat,
-    command: &Command,
-) -> Result<(), Fail>
-    requires { (zero.old.shared ≡ shared.now.name) × (one.old.shared ≡ shared.now.name) }
-    ensures { (zero.new.shared ≡ shared.now.name) × (one.new.shared ≡ shared.now.name) }
-{
-    assert!(rt; opens(Some(called(rt, shared, zero, one, command)?), 0));
-    assert!(rt; opens(Some(tried(rt, shared, one, zero, command)?), 1));
-    Ok(())
-}
-
+// A call of the first seat, and then a try of the second: the first.
 fn both_call(
     rt: &(impl AllocGlobal + Abort + Print + Wait),
     shared: &Shared,
     seats: Vec<Seat>,
-) -> Result<Seat, Fail>
+) -> Seat
     requires { All (λ s. s.shared ≡ shared.now.name) seats.items }
-    ensures { IfOk result (λ s. s.shared ≡ shared.now.name) }
+    ensures { result.shared ≡ shared.now.name }
 {
-    let command = Command::OpenClone { driver: ip()?.name };
-    let (mut zero, mut one) = last_two(shared, seats)?;
-    call_and_try(rt, shared, &mut zero, &mut one, &command)?;
-    Ok(zero)
+    let command = clone_of(rt, "ip");
+    let (mut zero, mut one) = last_two(rt, shared, seats);
+    assert!(rt; opens(&called(rt, shared, &mut zero, &mut one, &command), 0));
+    assert!(rt; opens(&tried(rt, shared, &mut one, &mut zero, &command), 1));
+    zero
 }
 
 #[test]
-fn calls_of_two_seats(rt: HostRuntime) -> Result<(), Fail> {
-    let (shared, seats) = shared_by_two(rt.alloc())?;
-    let zero = both_call(&rt, &shared, seats)?;
-    closes_with(&rt, shared, zero, 2)
+fn calls_of_two_seats(rt: HostRuntime) {
+    let (shared, seats) = shared_by_two(&rt);
+    let zero = both_call(&rt, &shared, seats);
+    closes_with(&rt, shared, zero, 2);
 }
 
 const TWO: &[u8] = b"programs 1
@@ -311,38 +310,30 @@ end
 ";
 
 // They are read again where memory was wanting.
-fn two_programs(alloc: Global) -> Result<Programs, Fail> {
-    if let Ok(programs) = read_programs(alloc, TWO) {
-        return Ok(programs);
+fn two_programs(rt: &(impl AllocGlobal + Abort)) -> Programs {
+    match read_programs(rt.alloc(), TWO) {
+        Ok(programs) => programs,
+        Err(_) => read_programs(rt.alloc(), TWO).expect(rt, "programs"),
     }
-    Ok(read_programs(alloc, TWO)?)
 }
 
 // How many entries a run of the two programs on two workers has.
-fn entries_by_two<R: AllocGlobal + Threads + Wait + Sync>(
+fn entries_by_two<R: AllocGlobal + Abort + Threads + Wait + Sync>(
     rt: &R,
-) -> Result<Result<usize, RunFault>, Fail> {
-    let programs = two_programs(rt.alloc())?;
-    Ok(match run_programs(rt, rt.alloc(), programs, 2, &NoGate) {
-        Ok(report) => Ok(report.entries.as_slice().len()),
-        Err(fault) => Err(fault),
-    })
+) -> Result<usize, RunFault> {
+    let report = run_programs(rt, rt.alloc(), two_programs(rt), 2, &NoGate)?;
+    let count = report.entries.as_slice().len();
+    forget(report);
+    Ok(count)
 }
 
 // Where memory was wanting, or a worker could not be started, they are run again. No other fault is told.
-fn entries_again<R: AllocGlobal + Print + Threads + Wait + Sync>(
-    rt: &R,
-) -> Result<Result<usize, RunFault>, Fail> {
-    let first = entries_by_two(rt)?;
-    if first != Err(RunFault::NoMemory) {
-        return Ok(first);
-    }
-    println!(rt; "a run wanted memory")?;
-    entries_by_two(rt)
-}
-
 #[test]
-fn a_run_on_two_workers(rt: HostRuntime) -> Result<(), Fail> {
-    assert!(rt; entries_again(&rt)? == Ok(5));
-    Ok(())
+fn a_run_on_two_workers(rt: HostRuntime) {
+    let mut entries = entries_by_two(&rt);
+    if entries == Err(RunFault::NoMemory) {
+        tells_of_want(&rt, "a run");
+        entries = entries_by_two(&rt);
+    }
+    assert!(rt; entries == Ok(5));
 }

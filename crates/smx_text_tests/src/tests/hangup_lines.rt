@@ -1,136 +1,67 @@
 //! Lines that tell of a hangup: version 2 has them, and version 1 refuses them.
 
-use super::command_lines::of_one as program_of_one;
+use super::asked::{Answer, Call, program_of};
 use super::entry_lines::of_one;
-use super::headers::{PROGRAMS, TRANSCRIPTS, behind};
-use super::lists::{given, put};
-use super::spelling::{is_spelled, is_written_again};
-use super::{program_faults, transcript_faults};
-use smx_samples::{Answer, Call, entry_of, named, nothing_open};
+use super::spelling::{are_none, are_spelled, is_none, is_spelled, transcript};
+use smx_samples::Part::Once;
 use smx_text::Cause;
-use smx_types::{ConfigView, Fault, HungLine, Items, Transcript, Version};
+use smx_types::{Fault, Version};
+use std::mem::forget;
 use std::process::Abort;
-use std::test::Fail;
 
-const HANGUP: &[u8] = b"process 0\nhangup eth 31\nend\n";
-
-#[test]
-fn a_hangup_has_its_line(rt: HostRuntime) -> Result<(), Fail> {
-    let text = behind(&rt, PROGRAMS[1], HANGUP);
-    is_spelled(
-        &rt,
-        program_of_one(&rt, Call::Hangup("eth", 31)),
-        text.as_slice(),
-    );
-    Ok(())
-}
+const HANGUP: &str = "process 0\nhangup eth 31\nend\n";
 
 #[test]
-fn version_1_has_no_hangup(rt: HostRuntime) -> Result<(), Fail> {
-    let text = behind(&rt, PROGRAMS[0], HANGUP);
-    program_faults::is_refused(&rt, text.as_slice(), 3, Cause::Form);
-    Ok(())
+fn a_hangup_has_its_line(rt: HostRuntime) {
+    let value = program_of(&rt, Call::Hangup("eth", 31));
+    are_spelled(&rt, &value, &[Once("programs 2\n"), Once(HANGUP)]);
+    are_none(&rt, &[Once("programs 1\n"), Once(HANGUP)], 3, Cause::Form);
 }
 
-type TellingLine = (Call<'static>, Answer<'static>, &'static [u8]);
-
-const LINES: [TellingLine; 3] = [
+const LINES: [(Call, Answer, &str); 3] = [
     (
         Call::Hangup("eth", 0),
         Answer::Done(&[]),
-        b"0 hangup eth 0 = done\nconfig\nnext 1 1\nend\n",
+        "0 hangup eth 0 = done\nconfig\nnext 1 1\nend\n",
     ),
     (
         Call::Read(0),
         Answer::Eof,
-        b"0 read 0 = eof\nconfig\nnext 1 1\nend\n",
+        "0 read 0 = eof\nconfig\nnext 1 1\nend\n",
     ),
     (
         Call::Transmit("eth", 0),
         Answer::Refused(Fault::HungUp),
-        b"0 transmit eth 0 = ENXIO hangup\nconfig\nnext 1 1\nend\n",
+        "0 transmit eth 0 = ENXIO hangup\nconfig\nnext 1 1\nend\n",
     ),
 ];
 
-// A transcript of version 2, of what process 0 asks alone.
-fn told(rt: &(impl AllocGlobal + Abort), call: Call, answer: Answer) -> Transcript {
-    let entry = given(rt, entry_of(rt.alloc(), (call, answer)));
-    let mut transcript = of_one(rt, entry);
-    transcript.version = Version::V2;
-    transcript
-}
-
-fn is_line_of(rt: &(impl AllocGlobal + Abort), (call, answer, rest): TellingLine) {
-    let text = behind(rt, TRANSCRIPTS[1], rest);
-    is_spelled(rt, told(rt, call, answer), text.as_slice());
-}
-
-// Version 1 has no such line.
-fn is_none_of_version_1(rt: &(impl AllocGlobal + Abort), rest: &[u8], line: usize) {
-    let text = behind(rt, TRANSCRIPTS[0], rest);
-    transcript_faults::is_refused(rt, text.as_slice(), line, Cause::Form);
+fn tells(rt: &(impl AllocGlobal + Abort), call: Call, answer: Answer, rest: &str) {
+    let value = of_one(rt, Version::V2, 0, call, answer);
+    is_spelled(rt, &value, &[Once("transcript 2\n"), Once(rest)]);
+    forget(value);
 }
 
 #[test]
-fn each_tells_of_a_hangup(rt: HostRuntime) -> Result<(), Fail> {
-    for row in &LINES {
-        is_line_of(&rt, *row);
-        is_none_of_version_1(&rt, row.2, 2);
-    }
-    Ok(())
-}
-
-fn add_hung(rt: &impl Abort, view: &mut ConfigView, minor: u32) {
-    let hung = HungLine {
-        driver: given(rt, named("eth")),
-        minor,
-    };
-    put(rt, &mut view.hungs, hung);
-}
-
-/// A transcript of hung-up streams alone.
-pub fn with_hungs(rt: &(impl AllocGlobal + Abort)) -> Transcript {
-    let mut view = nothing_open(rt.alloc(), 1, 1);
-    add_hung(rt, &mut view, 0);
-    add_hung(rt, &mut view, u32::MAX);
-    Transcript {
-        version: Version::V2,
-        drivers: Items::new(rt.alloc()),
-        entries: Items::new(rt.alloc()),
-        view,
+fn each_tells_of_a_hangup(rt: HostRuntime) {
+    for (call, answer, rest) in &LINES {
+        tells(&rt, *call, *answer, *rest);
+        is_none(&rt, &[Once("transcript 1\n"), Once(*rest)], 2, Cause::Form);
     }
 }
 
-const HUNGS: &[u8] = b"config\nnext 1 1\nhung eth 0\nhung eth 4294967295\nend\n";
-
-#[test]
-fn hung_up_streams_have_their_lines(rt: HostRuntime) -> Result<(), Fail> {
-    let text = behind(&rt, TRANSCRIPTS[1], HUNGS);
-    is_spelled(&rt, with_hungs(&rt), text.as_slice());
-    is_none_of_version_1(&rt, HUNGS, 4);
-    Ok(())
-}
-
-const MALFORMED: [&[u8]; 5] = [
-    b"transcript 2\nconfig\nnext 1 1\nhung eth\nend\n",
-    b"transcript 2\nconfig\nnext 1 1\nhung eth 00\nend\n",
-    b"transcript 2\nconfig\nnext 1 1\nhung eth 0 r\nend\n",
-    b"transcript 2\nconfig\nnext 1 1\nhung 0 eth\nend\n",
-    b"transcript 2\ndriver eth leaf 2 8 3 16\nconfig\nhung eth 0\nend\n",
+const MALFORMED: [&str; 5] = [
+    "transcript 2\nconfig\nnext 1 1\nhung eth\nend\n",
+    "transcript 2\nconfig\nnext 1 1\nhung eth 00\nend\n",
+    "transcript 2\nconfig\nnext 1 1\nhung eth 0 r\nend\n",
+    "transcript 2\nconfig\nnext 1 1\nhung 0 eth\nend\n",
+    "transcript 2\ndriver eth leaf 2 8 3 16\nconfig\nhung eth 0\nend\n",
 ];
 
 // Hung-up streams come last.
-const NOT_LAST: &[u8] = b"transcript 2\nconfig\nnext 1 1\nhung eth 0\nfull eth 0 r\nend\n";
+const NOT_LAST: &str = "transcript 2\nconfig\nnext 1 1\nhung eth 0\nfull eth 0 r\nend\n";
 
-#[test]
-fn lines_that_are_no_hung_up_stream(rt: HostRuntime) {
-    for text in &MALFORMED {
-        transcript_faults::is_refused(&rt, *text, 4, Cause::Form);
-    }
-    transcript_faults::is_refused(&rt, NOT_LAST, 5, Cause::Form);
-}
-
-const END_OF_FILE: &[u8] = b"driver ip mux 4 8 3 16
+const END_OF_FILE: &str = "driver ip mux 4 8 3 16
 driver eth leaf 2 8 3 16
 0 clone eth = fd 0 0
 0 inject eth 0 9 aa = took 1
@@ -150,7 +81,7 @@ hung eth 0
 end
 ";
 
-const REFUSALS: &[u8] = b"driver ip mux 4 8 3 16
+const REFUSALS: &str = "driver ip mux 4 8 3 16
 driver eth leaf 2 8 3 16
 0 clone ip = fd 0 0
 0 clone eth = fd 1 0
@@ -181,19 +112,31 @@ msg ip 0 w 2 5 bb
 end
 ";
 
-// What is told behind the header, and the line at which version 1 refuses it.
-const HISTORIES: [(&[u8], usize); 2] = [(END_OF_FILE, 6), (REFUSALS, 9)];
+const HUNGS: &str = "config\nnext 1 1\nhung eth 0\nhung eth 4294967295\nend\n";
 
-fn is_history(rt: &(impl AllocGlobal + Abort), rest: &[u8], line: usize) {
-    let text = behind(rt, TRANSCRIPTS[1], rest);
-    is_written_again::<Transcript>(rt, text.as_slice());
-    is_none_of_version_1(rt, rest, line);
+// What is told behind the header, and the line at which version 1 refuses it.
+const TOLD: [(&str, usize); 3] = [(END_OF_FILE, 6), (REFUSALS, 9), (HUNGS, 4)];
+
+#[test]
+fn of_version_2_alone(rt: HostRuntime) {
+    for (rest, line) in &TOLD {
+        let text = [Once("transcript 2\n"), Once(*rest)];
+        let value = transcript(&rt, &text);
+        is_spelled(&rt, &value, &text);
+        forget(value);
+        is_none(
+            &rt,
+            &[Once("transcript 1\n"), Once(*rest)],
+            *line,
+            Cause::Form,
+        );
+    }
 }
 
 #[test]
-fn reads_and_writes_hangups(rt: HostRuntime) -> Result<(), Fail> {
-    for (rest, line) in &HISTORIES {
-        is_history(&rt, *rest, *line);
+fn lines_that_are_no_hung_up_stream(rt: HostRuntime) {
+    for text in &MALFORMED {
+        is_none(&rt, &[Once(*text)], 4, Cause::Form);
     }
-    Ok(())
+    is_none(&rt, &[Once(NOT_LAST)], 5, Cause::Form);
 }

@@ -2,7 +2,6 @@
 
 use smx_types::{DriverKind, DriverSpec, Name, Process, SpecFault};
 use std::process::Abort;
-use std::test::Fail;
 
 const IP: DriverSpecNumbers = (4, 8, 3, 16);
 
@@ -25,28 +24,18 @@ fn is_name(rt: &impl Abort, text: &str, bytes: &[u8]) {
     assert!(rt; name.as_bytes() == bytes);
 }
 
-#[test]
-fn names_that_can_be_had(rt: HostRuntime) -> Result<(), Fail> {
-    is_name(&rt, "ip", b"ip");
-    is_name(&rt, "abcdefg8", b"abcdefg8");
-    Ok(())
-}
-
 const NO_NAMES: [&str; 6] = ["", "9a", "ninelette", "Ip", "i p", "ip\n"];
 
 #[test]
-fn names_that_are_none(rt: HostRuntime) {
+fn names_and_processes(rt: HostRuntime) {
+    is_name(&rt, "ip", b"ip");
+    is_name(&rt, "abcdefg8", b"abcdefg8");
     for text in &NO_NAMES {
         assert!(rt; Name::new(*text).is_none());
     }
-}
-
-#[test]
-fn processes_below_64(rt: HostRuntime) -> Result<(), Fail> {
     let last = Process::new(63).expect(&rt, "a process");
     assert!(rt; last.get() == 63);
     assert!(rt; Process::new(64).is_none());
-    Ok(())
 }
 
 const WANTS: [(DriverSpecNumbers, Result<(), SpecFault>); 8] = [
@@ -61,9 +50,8 @@ const WANTS: [(DriverSpecNumbers, Result<(), SpecFault>); 8] = [
 ];
 
 #[test]
-fn drivers_that_can_be_had(rt: HostRuntime) -> Result<(), Fail> {
+fn drivers_that_can_be_had(rt: HostRuntime) {
     for (numbers, want) in &WANTS {
         assert!(rt; ip(&rt, *numbers).check() == *want);
     }
-    Ok(())
 }

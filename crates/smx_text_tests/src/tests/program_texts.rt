@@ -1,38 +1,37 @@
 //! Programs and their texts.
 
-use super::lists::{given, one_program, put};
-use super::spelling::{is_spelled, is_written_again};
-use smx_samples::{ip, named};
-use smx_types::{Command, Commands, Items, Programs};
+use super::asked::{list, named};
+use super::spelling::{are_spelled, programs};
+use smx_samples::Part::Once;
+use smx_types::{Command, DriverKind, DriverSpec, Programs};
+use std::mem::forget;
 use std::process::Abort;
-use std::test::Fail;
 
 /// Streams that are opened and closed.
-pub const OPENS_AND_CLOSES: &[u8] =
-    b"programs 1\ndriver ip mux 4 8 3 16\nprocess 0\nclone ip\nclone ip\nclose 0\nclone ip\nend\n";
-
-fn opening_and_closing(rt: &(impl AllocGlobal + Abort)) -> Commands {
-    let driver = given(rt, named("ip"));
-    let mut commands = Items::new(rt.alloc());
-    put(rt, &mut commands, Command::OpenClone { driver });
-    put(rt, &mut commands, Command::OpenClone { driver });
-    put(rt, &mut commands, Command::Close { fd: 0 });
-    put(rt, &mut commands, Command::OpenClone { driver });
-    commands
-}
+pub const OPENS_AND_CLOSES: &str =
+    "programs 1\ndriver ip mux 4 8 3 16\nprocess 0\nclone ip\nclone ip\nclose 0\nclone ip\nend\n";
 
 /// What that text spells.
 pub fn opens_and_closes(rt: &(impl AllocGlobal + Abort)) -> Programs {
-    one_program(rt, given(rt, ip()), opening_and_closing(rt))
+    let name = named(rt, "ip");
+    let ip = DriverSpec {
+        name,
+        kind: DriverKind::Mux,
+        minors: 4,
+        high: 8,
+        low: 3,
+        max: 16,
+    };
+    let commands = [
+        Command::OpenClone { driver: name },
+        Command::OpenClone { driver: name },
+        Command::Close { fd: 0 },
+        Command::OpenClone { driver: name },
+    ];
+    Programs::new(list(rt, [ip]), list(rt, [list(rt, commands)])).expect(rt, "few")
 }
 
-#[test]
-fn reads_and_writes_programs(rt: HostRuntime) -> Result<(), Fail> {
-    is_spelled(&rt, opens_and_closes(&rt), OPENS_AND_CLOSES);
-    Ok(())
-}
-
-const MARKS_ACROSS_THE_JOIN: &[u8] = b"programs 1
+const MARKS_ACROSS_THE_JOIN: &str = "programs 1
 driver ip mux 4 8 3 16
 driver eth leaf 2 8 3 16
 process 0
@@ -52,7 +51,7 @@ write 0 5 00000005
 end
 ";
 
-const BINDINGS: &[u8] = b"programs 1
+const BINDINGS: &str = "programs 1
 driver ip mux 4 8 3 16
 driver eth leaf 2 8 3 16
 process 0
@@ -74,7 +73,7 @@ route 0 5 9
 end
 ";
 
-const IDS_OF_THE_WRONG_KIND_OR_STREAM: &[u8] = b"programs 1
+const IDS_OF_THE_WRONG_KIND_OR_STREAM: &str = "programs 1
 driver ip mux 4 8 3 16
 driver eth leaf 2 8 3 16
 process 0
@@ -95,7 +94,7 @@ punlink 2 all
 end
 ";
 
-const TWO_LEVELS_DOWN_AND_UP: &[u8] = b"programs 1
+const TWO_LEVELS_DOWN_AND_UP: &str = "programs 1
 driver top mux 2 8 3 16
 driver mid mux 2 8 3 16
 driver eth leaf 2 8 3 16
@@ -119,7 +118,7 @@ close 1
 end
 ";
 
-const TEXTS: [&[u8]; 5] = [
+const TEXTS: [&str; 5] = [
     OPENS_AND_CLOSES,
     MARKS_ACROSS_THE_JOIN,
     BINDINGS,
@@ -127,10 +126,16 @@ const TEXTS: [&[u8]; 5] = [
     TWO_LEVELS_DOWN_AND_UP,
 ];
 
+// These programs are written as this text, and read from it.
+fn have_text(rt: &(impl AllocGlobal + Abort), value: Programs, text: &str) {
+    are_spelled(rt, &value, &[Once(text)]);
+    forget(value);
+}
+
 #[test]
-fn writes_what_it_reads(rt: HostRuntime) -> Result<(), Fail> {
+fn reads_and_writes_programs(rt: HostRuntime) {
+    have_text(&rt, opens_and_closes(&rt), OPENS_AND_CLOSES);
     for text in &TEXTS {
-        is_written_again::<Programs>(&rt, *text);
+        have_text(&rt, programs(&rt, &[Once(*text)]), *text);
     }
-    Ok(())
 }

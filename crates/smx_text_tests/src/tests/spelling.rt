@@ -1,81 +1,56 @@
-//! How a text is compared with what it spells.
+//! How a text is compared with what it spells. What is large is not given back, since a proof grows where such a value
+//! is dropped.
 
-use smx_text::{read_programs, read_transcript, write_programs, write_transcript};
+use smx_samples::{Part, text_of};
+use smx_text::{
+    Cause, TextFault, read_programs, read_transcript, write_programs, write_transcript,
+};
 use smx_types::{Programs, Transcript, Version};
-use std::alloc::Global;
+use std::mem::forget;
 use std::process::Abort;
 
-/// What is written as a text, and read from it.
-pub trait Spelled: PartialEq + Drop {
-    /// Its text.
-    fn written(&self, alloc: Global) -> Option<Vec<u8>>;
-
-    /// The first version that can tell it.
-    fn first(&self) -> Version;
-
-    /// What this text spells.
-    fn read(alloc: Global, text: &[u8]) -> Option<Self>
-    where
-        Self: Sized;
+/// The text of these parts.
+pub fn whole(rt: &(impl AllocGlobal + Abort), parts: &[Part]) -> String {
+    text_of(rt.alloc(), parts).expect(rt, "memory")
 }
 
-impl Spelled for Programs {
-    fn written(&self, alloc: Global) -> Option<Vec<u8>> {
-        write_programs(alloc, self).ok()
-    }
-
-    fn first(&self) -> Version {
-        self.least()
-    }
-
-    fn read(alloc: Global, text: &[u8]) -> Option<Programs> {
-        read_programs(alloc, text).ok()
-    }
+/// The programs that the text spells.
+pub fn programs(rt: &(impl AllocGlobal + Abort), text: &[Part]) -> Programs {
+    read_programs(rt.alloc(), whole(rt, text).as_bytes()).expect(rt, "programs")
 }
 
-impl Spelled for Transcript {
-    fn written(&self, alloc: Global) -> Option<Vec<u8>> {
-        // Version 1 can't tell it.
-        if self.version == Version::V1 && self.least() == Version::V2 {
-            return None;
-        }
-        write_transcript(alloc, self).ok()
-    }
-
-    fn first(&self) -> Version {
-        self.least()
-    }
-
-    fn read(alloc: Global, text: &[u8]) -> Option<Transcript> {
-        read_transcript(alloc, text).ok()
-    }
+/// The transcript that the text spells.
+pub fn transcript(rt: &(impl AllocGlobal + Abort), text: &[Part]) -> Transcript {
+    read_transcript(rt.alloc(), whole(rt, text).as_bytes()).expect(rt, "a transcript")
 }
 
-// It is written as this text.
-fn has_text<T: Spelled>(rt: &(impl AllocGlobal + Abort), value: &T, text: &[u8]) {
-    let written = value.written(rt.alloc()).expect(rt, "a text");
-    assert!(rt; written.as_slice() == text);
-}
-
-/// This is the first version that can tell it.
-pub fn is_first<T: Spelled>(rt: &impl Abort, value: T, version: Version) {
-    assert!(rt; value.first() == version);
-}
-
-/// It is written as this text.
-pub fn is_written<T: Spelled>(rt: &(impl AllocGlobal + Abort), value: T, text: &[u8]) {
-    has_text(rt, &value, text);
+/// They are written as this text, and read from it.
+pub fn are_spelled(rt: &(impl AllocGlobal + Abort), value: &Programs, text: &[Part]) {
+    let written = write_programs(rt.alloc(), value).expect(rt, "memory");
+    assert!(rt; written.as_slice() == whole(rt, text).as_bytes());
+    let read = programs(rt, text);
+    assert!(rt; read == *value);
+    forget(read);
 }
 
 /// It is written as this text, and read from it.
-pub fn is_spelled<T: Spelled>(rt: &(impl AllocGlobal + Abort), value: T, text: &[u8]) {
-    has_text(rt, &value, text);
-    let read = T::read(rt.alloc(), text).expect(rt, "what it spells");
-    assert!(rt; read == value);
+pub fn is_spelled(rt: &(impl AllocGlobal + Abort), value: &Transcript, text: &[Part]) {
+    assert!(rt; value.version == Version::V2 || value.least() == Version::V1);
+    let written = write_transcript(rt.alloc(), value).expect(rt, "memory");
+    assert!(rt; written.as_slice() == whole(rt, text).as_bytes());
+    let read = transcript(rt, text);
+    assert!(rt; read == *value);
+    forget(read);
 }
 
-/// What is read from the text is written as the same text.
-pub fn is_written_again<T: Spelled>(rt: &(impl AllocGlobal + Abort), text: &[u8]) {
-    let value = T::read(rt.alloc(), text).expect(rt, "what it spells");
-    has_text(rt, &value, text);
+/// The text is no programs, for this cause at this line.
+pub fn are_none(rt: &(impl AllocGlobal + Abort), text: &[Part], line: usize, cause: Cause) {
+    let fault = read_programs(rt.alloc(), whole(rt, text).as_bytes()).err();
+    assert!(rt; fault == Some(TextFault { line, cause }));
+}
+
+/// The text is no transcript, for this cause at this line.
+pub fn is_none(rt: &(impl AllocGlobal + Abort), text: &[Part], line: usize, cause: Cause) {
+    let fault = read_transcript(rt.alloc(), whole(rt, text).as_bytes()).err();
+    assert!(rt; fault == Some(TextFault { line, cause }));
 }

@@ -1,12 +1,12 @@
 //! Programs that are taken while their text is read.
 
-use super::spelling::is_written;
+use super::spelling::are_spelled;
+use smx_samples::Part::Once;
 use smx_text::{Cause, ProgramTaker, Programs, TakenPrograms, TextFault, take_programs};
 use smx_types::{DriverSpec, NoMemory, Version};
 use std::alloc::Global;
 use std::process::Abort;
 use std::sync::atomic::{AtomicUsize, Ordering};
-use std::test::Fail;
 
 // Keeps all, and counts the lines that it has taken.
 #[derive(Drop)]
@@ -56,7 +56,7 @@ impl<'a> ProgramTaker for Counting<'a> {
     }
 }
 
-const THREE_PROCESSES: &[u8] = b"programs 2
+const THREE_PROCESSES: &str = "programs 2
 driver ip mux 2 8 3 16
 driver eth leaf 1 4 0 2
 process 0
@@ -69,14 +69,12 @@ end
 ";
 
 #[test]
-fn each_line_is_taken(rt: HostRuntime) -> Result<(), Fail> {
+fn each_line_is_taken(rt: HostRuntime) {
     let lines = AtomicUsize::new(0);
-    let programs = take_programs::<Counting>(rt.alloc(), &lines, THREE_PROCESSES)
-        .ok()
-        .expect(&rt, "programs");
+    let taken = take_programs::<Counting>(rt.alloc(), &lines, THREE_PROCESSES.as_bytes());
+    let programs = taken.expect(&rt, "programs");
     assert!(rt; lines.load(Ordering::SeqCst) == 8);
-    is_written(&rt, programs, THREE_PROCESSES);
-    Ok(())
+    are_spelled(&rt, &programs, &[Once(THREE_PROCESSES)]);
 }
 
 // Texts at fault, the line and the cause, and how many lines were taken before.

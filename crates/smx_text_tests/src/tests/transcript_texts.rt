@@ -1,13 +1,14 @@
 //! Transcripts that are read and written again.
 
-use super::spelling::is_written_again;
-use smx_text::{TranscriptWriter, read_transcript};
+use super::spelling::{is_spelled, transcript};
+use smx_samples::Part::Once;
+use smx_text::TranscriptWriter;
 use smx_types::Transcript;
+use std::mem::forget;
 use std::process::Abort;
 use std::slice;
-use std::test::Fail;
 
-const OPENS_AND_CLOSES: &[u8] = b"transcript 1
+const OPENS_AND_CLOSES: &str = "transcript 1
 driver ip mux 4 8 3 16
 driver eth0 leaf 64 4096 0 1024
 0 clone ip = fd 0 0
@@ -21,7 +22,7 @@ fd 0 1 ip 1
 end
 ";
 
-const MARKS_ACROSS_THE_JOIN: &[u8] = b"transcript 1
+const MARKS_ACROSS_THE_JOIN: &str = "transcript 1
 driver ip mux 4 8 3 16
 driver eth leaf 2 8 3 16
 0 clone ip = fd 0 0
@@ -50,7 +51,7 @@ full eth 0 w
 end
 ";
 
-const WAYS_BY_ROUTE_AND_BINDING: &[u8] = b"transcript 1
+const WAYS_BY_ROUTE_AND_BINDING: &str = "transcript 1
 driver ip mux 4 8 3 16
 driver eth leaf 2 8 3 16
 0 clone ip = fd 0 0
@@ -83,7 +84,7 @@ route ip 5 2
 end
 ";
 
-const SIZES_AND_ENDS: &[u8] = b"transcript 1
+const SIZES_AND_ENDS: &str = "transcript 1
 driver eth leaf 1 4 0 2
 0 clone eth = fd 0 0
 0 write 0 5 - = ERANGE
@@ -108,7 +109,7 @@ msg eth 0 w 4 5 01
 end
 ";
 
-const ORDER_OF_REFUSALS: &[u8] = b"transcript 1
+const ORDER_OF_REFUSALS: &str = "transcript 1
 driver a mux 2 8 3 16
 driver b mux 2 8 3 16
 driver eth leaf 2 8 3 16
@@ -137,7 +138,7 @@ link 2 a 0 eth 0 plink
 end
 ";
 
-const A_HANGUP: &[u8] = b"transcript 2
+const A_HANGUP: &str = "transcript 2
 driver eth leaf 2 8 3 16
 0 clone eth = fd 0 0
 0 hangup eth 0 = done
@@ -149,7 +150,7 @@ hung eth 0
 end
 ";
 
-const TEXTS: [&[u8]; 6] = [
+const TEXTS: [&str; 6] = [
     OPENS_AND_CLOSES,
     MARKS_ACROSS_THE_JOIN,
     WAYS_BY_ROUTE_AND_BINDING,
@@ -158,44 +159,26 @@ const TEXTS: [&[u8]; 6] = [
     A_HANGUP,
 ];
 
-#[test]
-fn reads_and_writes_again(rt: HostRuntime) -> Result<(), Fail> {
-    for text in &TEXTS {
-        is_written_again::<Transcript>(&rt, *text);
-    }
-    Ok(())
-}
-
-fn begin(rt: &(impl AllocGlobal + Abort), transcript: &Transcript) -> TranscriptWriter {
-    let room = Vec::from_slice(rt.alloc(), b"no longer wanted")
-        .ok()
-        .expect(rt, "memory");
-    TranscriptWriter::begin(room, transcript.version, transcript.drivers.as_slice())
-        .ok()
-        .expect(rt, "memory")
-}
-
 // The text of a transcript that is written entry by entry, in the room of other bytes.
 fn written_as_it_grows(rt: &(impl AllocGlobal + Abort), transcript: &Transcript) -> Vec<u8> {
-    let mut writer = begin(rt, transcript);
+    let room = Vec::from_slice(rt.alloc(), b"no longer wanted").expect(rt, "memory");
+    let mut writer = TranscriptWriter::begin(
+        room,
+        transcript.version,
+        transcript.drivers.as_slice(),
+    ).expect(rt, "memory");
     for entry in transcript.entries.as_slice() {
         assert!(rt; writer.add(slice::from_ref(entry)).is_ok());
     }
-    writer.finish(&transcript.view).ok().expect(rt, "memory")
-}
-
-fn is_written_as_it_grows(rt: &(impl AllocGlobal + Abort), text: &[u8]) {
-    let transcript = read_transcript(rt.alloc(), text)
-        .ok()
-        .expect(rt, "a transcript");
-    let written = written_as_it_grows(rt, &transcript);
-    assert!(rt; written.as_slice() == text);
+    writer.finish(&transcript.view).expect(rt, "memory")
 }
 
 #[test]
-fn writes_entry_by_entry(rt: HostRuntime) -> Result<(), Fail> {
+fn reads_and_writes_again(rt: HostRuntime) {
     for text in &TEXTS {
-        is_written_as_it_grows(&rt, *text);
+        let value = transcript(&rt, &[Once(*text)]);
+        is_spelled(&rt, &value, &[Once(*text)]);
+        assert!(rt; written_as_it_grows(&rt, &value).as_slice() == text.as_bytes());
+        forget(value);
     }
-    Ok(())
 }

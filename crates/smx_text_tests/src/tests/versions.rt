@@ -1,59 +1,49 @@
 //! In which version values are told.
 
-use super::command_lines::of_one as program_of_one;
+use super::asked::{Answer, Call, program_of};
 use super::entry_lines::of_one;
-use super::headers::{PROGRAMS, behind};
-use super::lists::{given, put};
 use super::program_texts::{OPENS_AND_CLOSES, opens_and_closes};
-use super::spelling::{is_first, is_spelled};
-use smx_samples::{Answer, Call, entry_of, leaves, longest_transcript, named};
-use smx_types::{Fault, HungLine, Items, Programs, Transcript, Version};
+use super::spelling::{are_spelled, programs, transcript};
+use smx_samples::Part;
+use smx_samples::Part::{Each, Once};
+use smx_types::{Fault, Programs, Version};
+use std::mem::forget;
 use std::process::Abort;
-use std::test::Fail;
 
 // They are programs of this version, and this is the first that can tell them.
 fn are_of(rt: &impl Abort, programs: Programs, version: Version, least: Version) {
     assert!(rt; programs.version() == version);
     assert!(rt; programs.least() == least);
-}
-
-// Programs without a hangup, in version 2.
-fn raised(rt: &(impl AllocGlobal + Abort)) -> Programs {
-    opens_and_closes(rt).raised()
+    forget(programs);
 }
 
 #[test]
-fn raised_programs_have_their_text(rt: HostRuntime) -> Result<(), Fail> {
-    let text = behind(&rt, PROGRAMS[1], &OPENS_AND_CLOSES[11..]);
-    is_spelled(&rt, raised(&rt), text.as_slice());
-    Ok(())
-}
-
-fn of_drivers(rt: &(impl AllocGlobal + Abort), count: usize) -> Programs {
-    let drivers = given(rt, leaves(rt.alloc(), count));
-    Programs::new(drivers, Items::new(rt.alloc()))
-        .ok()
-        .expect(rt, "few")
-}
-
-#[test]
-fn programs_of_each_version(rt: HostRuntime) -> Result<(), Fail> {
+fn programs_of_each_version(rt: HostRuntime) {
+    let raised = opens_and_closes(&rt).raised();
+    are_spelled(
+        &rt,
+        &raised,
+        &[Once("programs 2\n"), Once(&OPENS_AND_CLOSES[11..])],
+    );
+    are_of(&rt, raised, Version::V2, Version::V1);
     are_of(&rt, opens_and_closes(&rt), Version::V1, Version::V1);
-    are_of(&rt, raised(&rt), Version::V2, Version::V1);
-    let hangup = Call::Hangup("eth", 0);
-    are_of(&rt, program_of_one(&rt, hangup), Version::V2, Version::V2);
-    are_of(&rt, of_drivers(&rt, 64), Version::V1, Version::V1);
-    are_of(&rt, of_drivers(&rt, 65), Version::V2, Version::V2);
-    Ok(())
+    let hangup = program_of(&rt, Call::Hangup("eth", 0));
+    are_of(&rt, hangup, Version::V2, Version::V2);
 }
 
-fn told(rt: &(impl AllocGlobal + Abort), call: Call, answer: Answer) -> Transcript {
-    of_one(rt, given(rt, entry_of(rt.alloc(), (call, answer))))
+// Drivers of version 2, and the first version that has so many.
+const DRIVERS: [(u32, Version); 2] = [(64, Version::V1), (65, Version::V2)];
+
+#[test]
+fn so_many_drivers(rt: HostRuntime) {
+    for (count, version) in &DRIVERS {
+        let drivers = Each(0, *count, "driver a{n} leaf 1 1 0 1\n");
+        let value = programs(&rt, &[Once("programs 2\n"), drivers, Once("end\n")]);
+        are_of(&rt, value, Version::V2, *version);
+    }
 }
 
-type Told = (Call<'static>, Answer<'static>, Version);
-
-const ENTRIES: [Told; 6] = [
+const ENTRIES: [(Call, Answer, Version); 6] = [
     (Call::Exit, Answer::Done(&[]), Version::V1),
     (Call::Read(0), Answer::Refused(Fault::Empty), Version::V1),
     (Call::Hangup("eth", 0), Answer::Done(&[]), Version::V2),
@@ -66,31 +56,30 @@ const ENTRIES: [Told; 6] = [
     (Call::Read(0), Answer::Refused(Fault::HungUp), Version::V2),
 ];
 
-fn is_least_of(rt: &(impl AllocGlobal + Abort), (call, answer, version): Told) {
-    is_first(rt, told(rt, call, answer), version);
+fn is_of(rt: &(impl AllocGlobal + Abort), call: Call, answer: Answer, version: Version) {
+    let value = of_one(rt, Version::V2, 0, call, answer);
+    assert!(rt; value.least() == version);
+    forget(value);
 }
 
+// A hung-up stream, and 65 drivers.
+const SHOWN: [&[Part]; 2] = [
+    &[Once("transcript 2\n0 exit = done\nconfig\nnext 1 1\nhung eth 0\nend\n")],
+    &[
+        Once("transcript 2\n"),
+        Each(0, 65, "driver a{n} leaf 1 1 0 1\n"),
+        Once("config\nnext 1 1\nend\n"),
+    ],
+];
+
 #[test]
-fn entries_of_each_version(rt: HostRuntime) -> Result<(), Fail> {
-    for row in &ENTRIES {
-        is_least_of(&rt, *row);
+fn transcripts_of_each_version(rt: HostRuntime) {
+    for (call, answer, version) in &ENTRIES {
+        is_of(&rt, *call, *answer, *version);
     }
-    Ok(())
-}
-
-fn with_a_hung_up_stream(rt: &(impl AllocGlobal + Abort)) -> Transcript {
-    let hung = HungLine {
-        driver: given(rt, named("eth")),
-        minor: 0,
-    };
-    let mut transcript = told(rt, Call::Exit, Answer::Done(&[]));
-    put(rt, &mut transcript.view.hungs, hung);
-    transcript
-}
-
-#[test]
-fn a_view_with_a_hung_up_stream_and_128_drivers(rt: HostRuntime) -> Result<(), Fail> {
-    is_first(&rt, with_a_hung_up_stream(&rt), Version::V2);
-    is_first(&rt, given(&rt, longest_transcript(rt.alloc())), Version::V2);
-    Ok(())
+    for text in &SHOWN {
+        let value = transcript(&rt, *text);
+        assert!(rt; value.least() == Version::V2);
+        forget(value);
+    }
 }

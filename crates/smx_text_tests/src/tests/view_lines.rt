@@ -1,77 +1,94 @@
-//! The groups of a view, as they are written.
+//! The groups of a view, read and written.
 
-use super::lists::{given, put};
-use super::spelling::is_written;
-use smx_samples::{items, named, nothing_open, open_on_ip};
+use super::asked::{items, list, named, nothing_open, told};
+use super::spelling::is_spelled;
+use smx_samples::Part::Once;
 use smx_types::{
-    BindingLine, ConfigView, FullLine, Items, LinkKind, LinkLine, Message, MessageLine, RouteLine,
-    Side, Transcript, Version,
+    BindingLine, ConfigView, DescriptorLine, FullLine, HungLine, Items, LinkKind, LinkLine,
+    Message, MessageLine, Process, RouteLine, Side, Version,
 };
+use std::mem::{forget, replace};
 use std::process::Abort;
-use std::test::Fail;
 
 fn linked(rt: &impl Abort, id: u32, kind: LinkKind) -> LinkLine {
     LinkLine {
         id,
-        ctl_driver: given(rt, named("ip")),
+        ctl_driver: named(rt, "ip"),
         ctl_minor: 0,
-        lower_driver: given(rt, named("eth")),
+        lower_driver: named(rt, "eth"),
         lower_minor: id,
         kind,
     }
 }
 
-fn add_links(rt: &impl Abort, view: &mut ConfigView) {
-    put(rt, &mut view.fds, given(rt, open_on_ip(0, 0)));
-    put(rt, &mut view.links, linked(rt, 0, LinkKind::Ordinary));
-    put(rt, &mut view.links, linked(rt, 1, LinkKind::Persistent));
-}
-
-fn add_addresses(rt: &impl Abort, view: &mut ConfigView) {
-    let driver = given(rt, named("eth"));
-    let bound = BindingLine {
-        driver,
-        addr: 9,
-        minor: 1,
-    };
-    put(rt, &mut view.binds, bound);
-    let routed = RouteLine {
-        driver,
-        addr: 5,
-        id: 2,
-    };
-    put(rt, &mut view.routes, routed);
-}
-
 fn queued(rt: &(impl AllocGlobal + Abort), side: Side, serial: u32, payload: &[u8]) -> MessageLine {
     MessageLine {
-        driver: given(rt, named("eth")),
+        driver: named(rt, "eth"),
         minor: 0,
         side,
         message: Message {
             serial,
             addr: 5,
-            bytes: given(rt, items(rt.alloc(), payload)),
+            bytes: items(rt, payload),
         },
     }
 }
 
-fn add_messages(rt: &(impl AllocGlobal + Abort), view: &mut ConfigView) {
-    assert!(rt;
-        view.msgs
-            .push(queued(rt, Side::Write, 3, &[0, 0, 0, 3]))
-            .is_ok()
-    );
-    put(rt, &mut view.msgs, queued(rt, Side::Read, 4, &[188]));
+fn hung(rt: &impl Abort, minor: u32) -> HungLine {
+    HungLine {
+        driver: named(rt, "eth"),
+        minor,
+    }
+}
+
+// A line or two of each group but the last one.
+fn with_groups(rt: &(impl AllocGlobal + Abort)) -> ConfigView {
+    let eth = named(rt, "eth");
+    let opened = DescriptorLine {
+        process: Process::new(0).expect(rt, "a process"),
+        fd: 0,
+        driver: named(rt, "ip"),
+        minor: 0,
+    };
+    let links = [
+        linked(rt, 0, LinkKind::Ordinary),
+        linked(rt, 1, LinkKind::Persistent),
+    ];
+    let bound = BindingLine {
+        driver: eth,
+        addr: 9,
+        minor: 1,
+    };
+    let routed = RouteLine {
+        driver: eth,
+        addr: 5,
+        id: 2,
+    };
     let full = FullLine {
-        driver: given(rt, named("eth")),
+        driver: eth,
         minor: 0,
         side: Side::Write,
     };
-    put(rt, &mut view.fulls, full);
+    ConfigView {
+        next_id: 3,
+        next_serial: 6,
+        fds: items(rt, &[opened]),
+        links: items(rt, &links),
+        binds: items(rt, &[bound]),
+        routes: items(rt, &[routed]),
+        msgs: list(
+            rt,
+            [
+                queued(rt, Side::Write, 3, &[0, 0, 0, 3]),
+                queued(rt, Side::Read, 4, &[188]),
+            ],
+        ),
+        fulls: items(rt, &[full]),
+        hungs: Items::new(rt.alloc()),
+    }
 }
 
-const GROUPS: &[u8] = b"transcript 1
+const GROUPS: &str = "transcript 1
 config
 next 3 6
 fd 0 0 ip 0
@@ -85,21 +102,28 @@ full eth 0 w
 end
 ";
 
-fn with_groups(rt: &(impl AllocGlobal + Abort)) -> Transcript {
-    let mut view = nothing_open(rt.alloc(), 3, 6);
-    add_links(rt, &mut view);
-    add_addresses(rt, &mut view);
-    add_messages(rt, &mut view);
-    Transcript {
-        version: Version::V1,
-        drivers: Items::new(rt.alloc()),
-        entries: Items::new(rt.alloc()),
-        view,
-    }
+const HUNGS: &str = "transcript 2
+config
+next 1 1
+hung eth 0
+hung eth 4294967295
+end
+";
+
+// The view of a transcript of this version, with no entries, has this text.
+fn is_text_of(rt: &(impl AllocGlobal + Abort), version: Version, view: ConfigView, text: &str) {
+    let value = told(rt, version, Items::new(rt.alloc()), view);
+    is_spelled(rt, &value, &[Once(text)]);
+    forget(value);
 }
 
 #[test]
-fn writes_groups_in_order(rt: HostRuntime) -> Result<(), Fail> {
-    is_written(&rt, with_groups(&rt), GROUPS);
-    Ok(())
+fn groups_come_in_order(rt: HostRuntime) {
+    is_text_of(&rt, Version::V1, with_groups(&rt), GROUPS);
+    let mut view = nothing_open(&rt);
+    forget(replace(
+        &mut view.hungs,
+        items(&rt, &[hung(&rt, 0), hung(&rt, u32::MAX)]),
+    ));
+    is_text_of(&rt, Version::V2, view, HUNGS);
 }

@@ -24,13 +24,27 @@ pub fn command_of(alloc: Global, version: Version, line: &[u8]) -> Result<Option
     ensures reading { IfOk result (IsReadAs (FitsCommandIn version) command_words line.now) }
     ensures wanted { IfErr result (λ _. IsLineOf (FitsCommandIn version) command_words line.now) }
 {
+    let mut room = Vec::new(alloc);
+    command_in(&mut room, alloc, version, line)
+}
+
+/// The same, of which a message takes the room that is given, and leaves none there.
+pub fn command_in(
+    room: &mut Vec<u8>,
+    alloc: Global,
+    version: Version,
+    line: &[u8],
+) -> Result<Option<Command>, NoMemory>
+    ensures reading { IfOk result (IsReadAs (FitsCommandIn version) command_words line.now) }
+    ensures wanted { IfErr result (λ _. IsLineOf (FitsCommandIn version) command_words line.now) }
+{
     let Some((verb, rest)) = first_verb(line) else {
         return Ok(lone_command(line));
     };
     if lacks(version, verb) {
         return Ok(None);
     }
-    command_after(alloc, verb, rest)
+    command_after(room, alloc, verb, rest)
 }
 
 // Whether a version has no command of a verb.
@@ -55,20 +69,27 @@ pub(super) fn lone_command(line: &[u8]) -> Option<Command>
 }
 
 // The command of a verb and what stands behind it.
-fn command_after(alloc: Global, verb: Verb, rest: &[u8]) -> Result<Option<Command>, NoMemory>
+#[inline(always)]
+fn command_after(
+    room: &mut Vec<u8>,
+    alloc: Global,
+    verb: Verb,
+    rest: &[u8],
+) -> Result<Option<Command>, NoMemory>
     ensures reading { IfOk result (IsReadAs FitsCommand command_words (line_of (verb_word verb ∷ rest.now ∷ []))) }
     ensures wanted { IfErr result (λ _. IsLineOf (FitsCommandIn V1) command_words (line_of (verb_word verb ∷ rest.now ∷ []))) }
 {
     if let Verb::Write = verb {
-        return write(alloc, rest);
+        return write(room, alloc, rest);
     }
     if let Verb::Inject = verb {
-        return inject(alloc, rest);
+        return inject(room, alloc, rest);
     }
     Ok(short_command(verb, rest))
 }
 
 // The same of a verb whose command has no message, for which no memory is wanted.
+#[inline(always)]
 pub(super) fn short_command(verb: Verb, rest: &[u8]) -> Option<Command>
     ensures { verb ≢ WriteVerb → verb ≢ InjectVerb
         → IsReadAs FitsCommand command_words (line_of (verb_word verb ∷ rest.now ∷ [])) result }
@@ -242,7 +263,11 @@ pub(super) fn hangup(rest: &[u8]) -> Option<Command>
 }
 
 #[inline(never)]
-pub(super) fn write(alloc: Global, rest: &[u8]) -> Result<Option<Command>, NoMemory>
+pub(super) fn write(
+    room: &mut Vec<u8>,
+    alloc: Global,
+    rest: &[u8],
+) -> Result<Option<Command>, NoMemory>
     ensures reading { IfOk result (IsReadAs FitsCommand command_words (line_of (codes "write" ∷ rest.now ∷ []))) }
     ensures wanted { IfErr result (λ _. IsLineOf (FitsCommandIn V1) command_words (line_of (codes "write" ∷ rest.now ∷ []))) }
 {
@@ -252,7 +277,7 @@ pub(super) fn write(alloc: Global, rest: &[u8]) -> Result<Option<Command>, NoMem
     let Some((addr, rest)) = first_number(rest) else {
         return Ok(None);
     };
-    let bytes = match bytes_of(alloc, rest) {
+    let bytes = match bytes_of(room, alloc, rest) {
         Ok(Some(bytes)) => bytes,
         Ok(None) => return Ok(None),
         Err(error) => return Err(error),
@@ -261,7 +286,11 @@ pub(super) fn write(alloc: Global, rest: &[u8]) -> Result<Option<Command>, NoMem
 }
 
 #[inline(never)]
-pub(super) fn inject(alloc: Global, rest: &[u8]) -> Result<Option<Command>, NoMemory>
+pub(super) fn inject(
+    room: &mut Vec<u8>,
+    alloc: Global,
+    rest: &[u8],
+) -> Result<Option<Command>, NoMemory>
     ensures reading { IfOk result (IsReadAs FitsCommand command_words (line_of (codes "inject" ∷ rest.now ∷ []))) }
     ensures wanted { IfErr result (λ _. IsLineOf (FitsCommandIn V1) command_words (line_of (codes "inject" ∷ rest.now ∷ []))) }
 {
@@ -274,7 +303,7 @@ pub(super) fn inject(alloc: Global, rest: &[u8]) -> Result<Option<Command>, NoMe
     let Some((addr, rest)) = first_number(rest) else {
         return Ok(None);
     };
-    let bytes = match bytes_of(alloc, rest) {
+    let bytes = match bytes_of(room, alloc, rest) {
         Ok(Some(bytes)) => bytes,
         Ok(None) => return Ok(None),
         Err(error) => return Err(error),

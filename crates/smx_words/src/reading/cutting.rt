@@ -32,13 +32,21 @@ pub fn cut_soon(bytes: &[u8], separator: u8) -> Option<(&[u8], &[u8])>
     Some((&bytes[..at], &bytes[at + 1..]))
 }
 
-// The bytes behind others that they begin with.
+// The bytes behind others that they begin with. Where the compiler knows those, it makes a few tests of it.
 #[inline(always)]
 pub fn after<'a>(bytes: &'a [u8], front: &[u8]) -> Option<&'a [u8]>
     ensures { MatchOption result ((rest : List ℕ) → bytes.now ≢ front.now ++ rest)
         (λ rest. bytes.now ≡ front.now ++ rest.now) }
 {
-    bytes.strip_prefix(front)
+    if bytes.len() < front.len() {
+        return None;
+    }
+    for at in 0..front.len() {
+        if bytes[at] != front[at] {
+            return None;
+        }
+    }
+    Some(&bytes[front.len()..])
 }
 
 // The bytes before others that they end with.

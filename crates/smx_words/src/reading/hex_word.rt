@@ -11,17 +11,18 @@ ghost use Rattle.smx_words.specs.Spellable.{FitsBytes};
 
 use smx_types::{Bytes, NoMemory};
 use std::alloc::{AllocError, Global};
+use std::mem::replace;
 
-// The bytes that a word spells: two lower-case digits for each, or a dash for none. Fails only for want of memory, and
-// then the word spells some.
-pub fn bytes_of(alloc: Global, word: &[u8]) -> Result<Option<Bytes>, NoMemory>
+// The bytes that a word spells, in the room that is given: two lower-case digits for each, or a dash for none. Fails
+// only for want of memory, and then the word spells some.
+pub fn bytes_of(room: &mut Vec<u8>, alloc: Global, word: &[u8]) -> Result<Option<Bytes>, NoMemory>
     ensures reading { IfOk result (IsFoundIn FitsBytes hex_word word.now) }
     ensures wanted { IfErr result (λ _. IsSpelled FitsBytes hex_word word.now) }
 {
     if word.is_empty() || word.len() % 2 == 1 {
         return Ok(dash(alloc, word));
     }
-    let Ok(mut bytes) = zeros(alloc, word.len() / 2) else {
+    let Ok(mut bytes) = sized(room, alloc, word.len() / 2) else {
         return unless_bad(word);
     };
     if set_bytes(bytes.as_mut_slice(), word) < 16 {
@@ -48,11 +49,11 @@ pub fn spells_bytes(word: &[u8]) -> bool
     false
 }
 
-// So many bytes, in a block that has no room for more.
-fn zeros(alloc: Global, count: usize) -> Result<Vec<u8>, AllocError>
+// So many bytes, in the room that is given.
+fn sized(room: &mut Vec<u8>, alloc: Global, count: usize) -> Result<Vec<u8>, AllocError>
     ensures { IfOk result (λ v. vec_len v ≡ count) }
 {
-    let mut bytes = Vec::with_capacity(alloc, count)?;
+    let mut bytes = replace(room, Vec::new(alloc));
     bytes.resize(count, 0)?;
     Ok(bytes)
 }

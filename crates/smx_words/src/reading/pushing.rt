@@ -54,11 +54,12 @@ fn push_after(
     ensures wanted { IfErr result (λ _. IsLineOf (FitsCommandIn V1) command_words (line_of (verb_word verb ∷ rest.now ∷ []))) }
     ensures kept { OnErr result (commands.new.items ≡ commands.old.items) }
 {
+    let mut room = Vec::new(alloc);
     if let Verb::Write = verb {
-        return push_read(commands, write(alloc, rest));
+        return push_read(commands, write(&mut room, alloc, rest));
     }
     if let Verb::Inject = verb {
-        return push_read(commands, inject(alloc, rest));
+        return push_read(commands, inject(&mut room, alloc, rest));
     }
     Ok(push_if(commands, short_command(verb, rest)))
 }

@@ -90,7 +90,7 @@ fn got(alloc: Global, rest: &[u8]) -> Result<Option<Reply>, NoMemory>
     let Some((addr, rest)) = first_number(rest) else {
         return Ok(None);
     };
-    let bytes = match bytes_of(alloc, rest) {
+    let bytes = match bytes_of(&mut Vec::new(alloc), alloc, rest) {
         Ok(Some(bytes)) => bytes,
         Ok(None) => return Ok(None),
         Err(error) => return Err(error),

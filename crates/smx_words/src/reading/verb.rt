@@ -1,6 +1,6 @@
 //! The first words of commands and of replies.
 
-ghost use Rattle.std.specs.Prelude.{◌≡◌, ◌≢◌, ◌∷◌, ◌++◌, ℕ, List, codes, MatchOption, Some};
+ghost use Rattle.std.specs.Prelude.{◌≡◌, ◌≢◌, ◌∷◌, ◌++◌, ℕ, List, MatchOption, Some};
 ghost use Rattle.smx_words.specs.LineReading.{IsFoundIn, BeginsWith};
 ghost use Rattle.smx_words.specs.Spellable.{FitsAlways};
 ghost use Rattle.smx_words.specs.Verbs.{verb_word, reply_verb_word};
@@ -79,10 +79,10 @@ fn behind(text: &[u8], verb: Verb) -> Option<&[u8]>
         (λ rest. text.now ≡ verb_word verb ++ SPACE ∷ rest.now) }
 {
     match verb {
-        Verb::Clone => behind_clone(text),
+        Verb::Clone => after(text, b"clone "),
         Verb::Open => after(text, b"open "),
         Verb::Dup => after(text, b"dup "),
-        Verb::Close => behind_close(text),
+        Verb::Close => after(text, b"close "),
         Verb::Exit => after(text, b"exit "),
         Verb::Link => after(text, b"link "),
         Verb::Plink => after(text, b"plink "),
@@ -92,90 +92,12 @@ fn behind(text: &[u8], verb: Verb) -> Option<&[u8]>
         Verb::Unbind => after(text, b"unbind "),
         Verb::Route => after(text, b"route "),
         Verb::Unroute => after(text, b"unroute "),
-        Verb::Write => behind_write(text),
-        Verb::Read => behind_read(text),
+        Verb::Write => after(text, b"write "),
+        Verb::Read => after(text, b"read "),
         Verb::Flush => after(text, b"flush "),
-        Verb::Inject => behind_inject(text),
-        Verb::Transmit => behind_transmit(text),
+        Verb::Inject => after(text, b"inject "),
+        Verb::Transmit => after(text, b"transmit "),
         Verb::Hangup => after(text, b"hangup "),
-    }
-}
-
-// Of the verbs that are most in long programs each has its pattern, of which the compiler makes a few tests of bytes.
-#[inline(always)]
-fn behind_clone(text: &[u8]) -> Option<&[u8]>
-    ensures { MatchOption result ((rest : List ℕ) → text.now ≢ codes "clone" ++ SPACE ∷ rest)
-        (λ rest. text.now ≡ codes "clone" ++ SPACE ∷ rest.now) }
-{
-    match text {
-        [b'c', b'l', b'o', b'n', b'e', b' ', rest @ ..] => Some(rest),
-        _ => None,
-    }
-}
-
-#[inline(always)]
-fn behind_close(text: &[u8]) -> Option<&[u8]>
-    ensures { MatchOption result ((rest : List ℕ) → text.now ≢ codes "close" ++ SPACE ∷ rest)
-        (λ rest. text.now ≡ codes "close" ++ SPACE ∷ rest.now) }
-{
-    match text {
-        [b'c', b'l', b'o', b's', b'e', b' ', rest @ ..] => Some(rest),
-        _ => None,
-    }
-}
-
-#[inline(always)]
-fn behind_write(text: &[u8]) -> Option<&[u8]>
-    ensures { MatchOption result ((rest : List ℕ) → text.now ≢ codes "write" ++ SPACE ∷ rest)
-        (λ rest. text.now ≡ codes "write" ++ SPACE ∷ rest.now) }
-{
-    match text {
-        [b'w', b'r', b'i', b't', b'e', b' ', rest @ ..] => Some(rest),
-        _ => None,
-    }
-}
-
-#[inline(always)]
-fn behind_read(text: &[u8]) -> Option<&[u8]>
-    ensures { MatchOption result ((rest : List ℕ) → text.now ≢ codes "read" ++ SPACE ∷ rest)
-        (λ rest. text.now ≡ codes "read" ++ SPACE ∷ rest.now) }
-{
-    match text {
-        [b'r', b'e', b'a', b'd', b' ', rest @ ..] => Some(rest),
-        _ => None,
-    }
-}
-
-#[inline(always)]
-fn behind_inject(text: &[u8]) -> Option<&[u8]>
-    ensures { MatchOption result ((rest : List ℕ) → text.now ≢ codes "inject" ++ SPACE ∷ rest)
-        (λ rest. text.now ≡ codes "inject" ++ SPACE ∷ rest.now) }
-{
-    match text {
-        [b'i', b'n', b'j', b'e', b'c', b't', b' ', rest @ ..] => Some(rest),
-        _ => None,
-    }
-}
-
-#[inline(always)]
-fn behind_transmit(text: &[u8]) -> Option<&[u8]>
-    ensures { MatchOption result ((rest : List ℕ) → text.now ≢ codes "transmit" ++ SPACE ∷ rest)
-        (λ rest. text.now ≡ codes "transmit" ++ SPACE ∷ rest.now) }
-{
-    match text {
-        [
-            b't',
-            b'r',
-            b'a',
-            b'n',
-            b's',
-            b'm',
-            b'i',
-            b't',
-            b' ',
-            rest @ ..,
-        ] => Some(rest),
-        _ => None,
     }
 }
 

@@ -166,7 +166,7 @@ pub fn message_of(alloc: Global, line: &[u8]) -> Result<Option<MessageLine>, NoM
     let Some((addr, rest)) = first_number(rest) else {
         return Ok(None);
     };
-    let bytes = match bytes_of(alloc, rest) {
+    let bytes = match bytes_of(&mut Vec::new(alloc), alloc, rest) {
         Ok(Some(bytes)) => bytes,
         Ok(None) => return Ok(None),
         Err(error) => return Err(error),

@@ -1,9 +1,11 @@
 use Rattle.std.proofs.Common.{rules, ◌≡◌, ◌∷◌, ◌++◌, [], map, Some, ap, sym, ◌∙◌}
-use Rattle.std.specs.Prelude.{IfOk}
+use Rattle.std.specs.Prelude.{IfOk, IsErrOf}
 use Rattle.std.proofs.lemmas.List.{map-append}
 use Rattle.std.proofs.lemmas.List.Elements.{All-pop}
 use Rattle.std.proofs.lemmas.Result.{IfOk-weaker}
-use Rattle.smx_run.specs.Hands.{called_hand, given_hand, AreFresh, HaveEnded}
+use Rattle.smx_shared.specs.declared.shared_fault.ApplyFault.TheVariants as apply
+use Rattle.smx_run.specs.Hands.{called_hand, given_hand, AreFresh, HaveEnded, IsSeenFull}
+use Rattle.smx_run.proofs.FullHistoryLemmas.{joined}
 use Rattle.smx_run.proofs.HandLemmas.{all_of_none}
 use Rattle.smx_run.proofs.threads.+run_from.Goals as goal
 
@@ -56,3 +58,12 @@ returns-in-Ok-clause-ended g n c =
     IfOk-weaker c.and_then-in-Ok.result _ _
     (λ v both. both name c.run_from-before.ensures.ended (IfOk-weaker c.join.result _ _ (λ d k. k.1) kept))
     c.and_then-in-Ok.ensures.ended
+
+pub returns-then-is_empty-clause-full : goal.returns-then-is_empty-clause-full
+returns-then-is_empty-clause-full g n c =
+    joined _ _ _ c.and_then.ensures.full (λ none. absurd (cc)) c.work-first.ensures.full
+
+pub returns-in-Ok-clause-full : goal.returns-in-Ok-clause-full
+returns-in-Ok-clause-full g n c =
+    let kept : IsErrOf c.join.result apply.HistoryFull → IsSeenFull c.args.shared.now.name = search rules in
+    joined _ _ _ c.and_then-in-Ok.ensures.full c.run_from-before.ensures.full kept

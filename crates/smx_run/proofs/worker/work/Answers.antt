@@ -2,6 +2,7 @@ use Rattle.std.proofs.Common.{rules, arith, ◌∷◌, []}
 use Rattle.std.proofs.lemmas.List.{length-append}
 use Rattle.smx_run.specs.Hands.{given, called, HasEnded}
 use Rattle.smx_run.specs.declared.worker.EndedProgram.{EndedProgram}
+use Rattle.smx_run.proofs.FullHistoryLemmas.{handed_on, memory_is_not_full}
 use Rattle.smx_run.proofs.HandLemmas.{one_more, all_more}
 use Rattle.smx_run.proofs.worker.work.Goals as goal
 
@@ -23,3 +24,10 @@ loop-job-preserved g c =
           (given g.D.Door.known) _ _ _ _ _ before.called here.called c.push_reserved.ensures.items;
       ended = all_more has_ended _ _ _ before.ended here.ended c.push_reserved.ensures.items;
     }
+
+pub returns-in_err-done-clause-full : goal.returns-in_err-done-clause-full
+returns-in_err-done-clause-full g c = memory_is_not_full _ c.from_residual.ensures.1
+
+pub returns-in_err-run_job-clause-full : goal.returns-in_err-run_job-clause-full
+returns-in_err-run_job-clause-full g c =
+    handed_on _ _ _ c.in_err-run_job.was c.from_residual-in_err-run_job.ensures.1 c.run_job.ensures.full

@@ -9,5 +9,6 @@ invariant_of-result c =
     record {
       kept = rw c.in_ok-tables.ensures (c.empty_is_kept.ensures c.args.drivers.now);
       marks = rw c.in_ok-tables.ensures at_first.0;
+      ways = λ p q addr way. absurd (c.in_ok-ways.ensures p q addr way);
       none = at_first.1;
     }

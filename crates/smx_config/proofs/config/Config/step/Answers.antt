@@ -1,7 +1,8 @@
 use Rattle.std.proofs.Common.{rules, refl, sym, ◌∙◌}
 use Rattle.smx_config.specs.declared.marks.Marks.{Marks}
 use Rattle.smx_config.proofs.NeededLemmas.{needed_do}
-use Rattle.smx_config.proofs.WokenLemmas.{fault_keeps, woken_if}
+use Rattle.smx_config.proofs.WayLemmas.{ways_after}
+use Rattle.smx_config.proofs.WokenLemmas.{fault_keeps, unchanged, woken_if}
 use Rattle.smx_config.proofs.config.Config.step.Goals as goal
 use Rattle.smx_config.proofs.config.Config.step.Goals.{then-is_ok, else-is_ok}
 
@@ -17,6 +18,23 @@ settle-requires-clause-marks c =
     (c.woken_marks_are_enough.ensures old.drivers old.configuration c.args.process c.args.command.now
     c.self.inside.marks all c.self.invariant.kept.sound c.self.invariant.marks) c.wake.ensures.1)
     c.wake.ensures.2 refl refl
+
+pub settle-requires-clause-ways : goal.settle-requires-clause-ways
+settle-requires-clause-ways c = ways_after c.self.inside.tables c.perform-answer.new.self c.args.process
+    c.args.command.now c.perform-answer.result c.self.inside.ways c.forget_after.new.self
+    (sym c.is_ok.ensures.value ∙ c.if-is_ok.true) c.perform-answer.ensures.refines c.self.invariant.ways
+    c.forget_after.ensures
+
+pub invariant_of-self-else-is_ok : goal.invariant_of-self-else-is_ok
+invariant_of-self-else-is_ok c =
+    let same = unchanged c.self.inside.tables c.perform-answer.new.self c.args.process c.args.command.now
+    c.perform-answer.result (sym c.is_ok.ensures.value ∙ c.if-is_ok.false) c.perform-answer.ensures.refines in
+    record {
+      kept = rw same c.self.invariant.kept;
+      marks = rw same c.self.invariant.marks;
+      ways = rw same c.self.invariant.ways;
+      none = c.self.invariant.none;
+    }
 
 pub returns-in-Ok-clause-fault : goal.returns-in-Ok-clause-fault
 returns-in-Ok-clause-fault c = elim c.if-is_ok.branch [

@@ -1,30 +1,36 @@
-use Rattle.std.proofs.Common.{◌≡◌, ◌∙◌, Option, None, Some, refl, sym, ap, subst, inl, inr, List}
+use Rattle.std.proofs.Common.{◌≡◌, ◌∙◌, true, ap, refl, sym, subst, inl, inr, List}
+use Rattle.std.specs.Prelude.{slice_get}
 use Rattle.smx_types.specs.declared.driver.DriverSpec.{DriverSpec}
 use Rattle.smx_types.specs.declared.message.Message.{Message}
 use Rattle.smx_types.specs.declared.stream.Place.{Place}
 use Rattle.smx_model.specs.Configuration.{Configuration, same_place}
 use Rattle.smx_model.specs.KnownStreams.{IsKnown}
-use Rattle.smx_model.specs.Queues.{first_message}
-use Rattle.smx_model.specs.RunMarks.{both}
-use Rattle.smx_queues.specs.PlaceMarks.{MarkList}
+use Rattle.smx_model.specs.Queues.{after_leaving, first_message}
+use Rattle.smx_model.specs.SettlingByMarks.{turned_by_move}
+use Rattle.smx_queues.specs.PlaceMarks.{MarkList, has_mark}
 use Rattle.smx_config.specs.Machine.{Machine}
 use Rattle.smx_config.specs.declared.marks.Marks.{Marks}
-use Rattle.smx_config.specs.Marking.{AreMarks, HasNeeded, IsMarkedWhere, IsOneMore, IsWoken}
+use Rattle.smx_config.specs.Marking.{AreMarks, HasNeeded, IsMarkedUnless, IsMarkedWhere, IsWoken}
 use Rattle.smx_config.proofs.NeededLemmas.{needed_do}
-use Rattle.smx_config.proofs.RunMarkLemmas.{both_marked, left_empty, one_marked, one_more, taken_first, with_one}
-use Rattle.smx_config.proofs.NextMoveLemmas.{emptied_marks, forgotten, open_has_message}
+use Rattle.smx_config.proofs.NextMoveLemmas.{movable_to}
 use Rattle.smx_config.proofs.NextPlaceLemmas.{IsOpenNext, open_next}
-use Rattle.smx_queues.proofs.PlaceLemmas.{place_is, place_self}
+use Rattle.smx_queues.proofs.PlaceLemmas.{place_is}
 use Rattle.smx_config.proofs.WakeLemmas.{woken}
+use Rattle.smx_config.proofs.WokenLemmas.{turned_ends}
 use Rattle.smx_config.proofs.tables.Tables.move_marked.Goals as goal
 
 pub returns-clause-marks : goal.returns-clause-marks
 returns-clause-marks c = subst (λ (ds : List DriverSpec). AreMarks ds now last) (sym (ap (λ (m : Machine). m.drivers)
     c.move_on.ensures))
-    (needed_do c.args.self.now.drivers now (record (with_run all) { waits = c.clear.new.self }) last
-    (by (first_message now.flow from) refl)
-    (subst (λ (m : Machine). HasNeeded m.drivers m.configuration all c.mark_leading.new.run) same_machine
-    c.mark_leading.ensures.2) refl refl) where
+    (needed_do drivers now (with_run all) last enough
+    (subst (λ (m : Machine). HasNeeded m.drivers m.configuration all c.mark_arrived.new.run) same_machine
+    c.mark_arrived.ensures.2) refl refl) where
+      drivers : List DriverSpec
+      drivers = c.args.self.now.drivers
+
+      before : Configuration
+      before = c.args.self.now.configuration
+
       now : Configuration
       now = c.move_on.new.self.configuration
 
@@ -34,7 +40,7 @@ returns-clause-marks c = subst (λ (ds : List DriverSpec). AreMarks ds now last)
       to : Place
       to = c.args.next.to
 
-      same_machine : c.move_on.new.self ≡ record { drivers = c.args.self.now.drivers; configuration = now }
+      same_machine : c.move_on.new.self ≡ record { drivers = drivers; configuration = now }
       same_machine = c.move_on.ensures ∙ sym (ap (λ (x : Configuration). record c.args.self.now { configuration = x })
           (ap (λ (m : Machine). m.configuration) c.move_on.ensures))
 
@@ -43,66 +49,53 @@ returns-clause-marks c = subst (λ (ds : List DriverSpec). AreMarks ds now last)
           record { run = run; wanted = c.release_if_open.new.marks.wanted; waits = c.release_if_open.new.marks.waits }
 
       last : Marks
-      last = record (with_run c.mark_leading.new.run) { waits = c.clear.new.self }
+      last = with_run c.mark_arrived.new.run
 
-      -- the marks as if the place where it goes had one, whether a message goes on from there or not
+      -- the marks as if a message went on from the place where it goes
       all : MarkList
-      all = c.mark_leading.ensures.0
+      all = c.mark_arrived.ensures.0
 
-      more : IsOneMore to c.mark_left.new.run all
-      more = c.mark_leading.ensures.1
+      released : MarkList
+      released = c.release_if_open.new.marks.run
 
-      before : MarkList
-      before = c.release_if_open.new.marks.run
+      arrived : IsMarkedUnless c.args.filled to released all
+      arrived = c.mark_arrived.ensures.1
 
-      over : before.drivers ≡ c.args.self.now.drivers
-      over = c.release_if_open.ensures.run_drivers ∙ c.requires.marks.run
+      next : IsOpenNext drivers before from to
+      next = open_next drivers before from to c.requires.sound c.requires.open
 
-      next : IsOpenNext c.args.self.now.drivers c.args.self.now.configuration from to
-      next = open_next c.args.self.now.drivers c.args.self.now.configuration from to c.requires.sound c.requires.open
+      -- a message that leaves one place is not the first of the other
+      stays : first_message (after_leaving drivers before from).flow to ≡ first_message before.flow to
+      stays = c.the_first_leaves.ensures.first (after_leaving drivers before from).flow to
+          ∙ (ap (λ (ms : List Message). slice_get ms 0)
+          (c.the_first_leaves.ensures.queues before.flow from to ∙ rw next.differ refl)
+          ∙ sym (c.the_first_leaves.ensures.first before.flow to))
 
-      known : IsKnown before.drivers from.stream
-      known = subst (λ (ds : List DriverSpec). IsKnown ds from.stream) (sym over)
-          (c.places_are_known.ensures.with_messages c.args.self.now.drivers c.args.self.now.configuration from
-          c.requires.sound
-          (open_has_message c.args.self.now.drivers c.args.self.now.configuration from to c.requires.open))
+      -- the place that it takes from has had a mark all along
+      left : has_mark all from ≡ true
+      left = arrived.kept from (c.release_if_open.ensures.kept from
+          (c.movable_places_are_marked.ensures drivers before (has_mark c.args.marks.now.run)
+          (has_mark c.args.marks.now.wanted) from c.requires.marks.waiting
+          (movable_to drivers before from to c.requires.open)))
 
-      enough : (run : MarkList) → IsMarkedWhere now.flow (both (same_place from) (same_place to)) before run
-          → AreMarks c.args.self.now.drivers now (with_run run)
-      enough run h = subst
-          (λ (x : Configuration). IsWoken x (both (same_place from) (same_place to)) (same_place from) c.args.marks.now
-          (with_run run) → AreMarks c.args.self.now.drivers x (with_run run))
+      marked : IsMarkedWhere now.flow (turned_by_move drivers before from) released all
+      marked = record {
+        kept = arrived.kept;
+        marked = λ p known some t. elim (turned_ends drivers before from to p c.requires.open stays t) [
+          | inl f ↦ subst (λ (x : Place). has_mark all x ≡ true) (place_is from p f) left
+          | inr there ↦ let e = place_is to p there.0 in subst (λ (x : Place). has_mark all x ≡ true) e
+              (arrived.here (c.requires.filled ∙ there.1)
+              (subst (λ (x : Place). IsKnown released.drivers x.stream) (sym e) known))
+        ];
+        drivers = arrived.drivers;
+      }
+
+      enough : AreMarks drivers now (with_run all)
+      enough = subst
+          (λ (x : Configuration). IsWoken x (turned_by_move drivers before from) (same_place from) c.args.marks.now
+          (with_run all) → AreMarks drivers x (with_run all))
           (sym (ap (λ (m : Machine). m.configuration) c.move_on.ensures))
-          (c.moved_marks_are_enough.ensures c.args.self.now.drivers c.args.self.now.configuration from to
-          c.args.marks.now
-          (with_run run) c.requires.sound c.requires.marks c.requires.open)
-          (woken now (both (same_place from) (same_place to))
-          (same_place from) c.args.marks.now c.release_if_open.new.marks run c.release_if_open.ensures h)
-
-      by : (o : Option Message) → first_message now.flow from ≡ o
-          → AreMarks c.args.self.now.drivers now (record (with_run all) { waits = c.clear.new.self })
-      by None e =
-          let gone = c.mark_left.ensures.none e in
-          let here = more.here (subst (λ (ds : List DriverSpec). IsKnown ds to.stream)
-          (sym (gone.drivers ∙ over)) next.known) in
-          let ahead = enough (with_one before to)
-          (left_empty now.flow (same_place from) (same_place to) _ _
-          (λ p same. subst (λ (x : Place). first_message now.flow x ≡ None) (place_is from p same) e)
-          (one_more now.flow to before)) in
-          let left = emptied_marks c.args.self.now.drivers now from (with_run (with_one before to)) (with_run all) e
-          ahead (taken_first from to before c.mark_left.new.run all next.differ gone.gone here more.others)
-          (more.drivers ∙ gone.drivers) refl refl in
-          forgotten c.args.self.now.drivers now from (with_run all)
-          (record (with_run all) { waits = c.clear.new.self }) left
-          (inr e) refl refl c.clear.ensures.others c.clear.ensures.drivers
-      by (Some m) e =
-          let one = c.mark_left.ensures.some (λ none. some_none (sym e ∙ none)) in
-          let there = one_marked now.flow to c.mark_left.new.run all more.here more.kept more.drivers in
-          let left = enough all (both_marked now.flow (same_place from) (same_place to) _ _ _ one there) in
-          forgotten c.args.self.now.drivers now from (with_run all)
-          (record (with_run all) { waits = c.clear.new.self }) left
-          (inl (more.kept from
-          (one.marked from known (λ none. some_none (sym e ∙ none)) (place_self from)))) refl refl
-          c.clear.ensures.others c.clear.ensures.drivers where
-            some_none : ◌≡◌ {A = Option Message} (Some m) None → ⊥
-            some_none x = cc
+          (c.moved_marks_are_enough.ensures drivers before from to c.args.marks.now (with_run all) c.requires.sound
+          c.requires.marks c.requires.open)
+          (woken now (turned_by_move drivers before from) (same_place from) c.args.marks.now
+          c.release_if_open.new.marks all c.release_if_open.ensures marked)

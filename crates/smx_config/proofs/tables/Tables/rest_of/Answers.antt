@@ -10,39 +10,48 @@ pub first_addr-addr-requires : goal.first_addr-addr-requires
 first_addr-addr-requires c = some_message c.args.self.now.drivers c.args.self.now.configuration c.args.from c.args.first
     c.requires.next
 
-pub loop-next-init : goal.loop-next-init
-loop-next-init c = record {
+pub loop-filled-init : goal.loop-filled-init
+loop-filled-init c = record {
+  filled = c.has_messages-filled.ensures;
   addr = c.first_addr-addr.ensures;
+  ways = c.requires.ways;
   way = c.lone_messages_set_out.ensures c.args.self.now.drivers c.args.self.now.configuration c.args.from c.args.first
       c.args.moves c.requires.sound c.requires.least c.requires.next c.requires.some;
 }
 
 -- it goes on to the next place, which is open
-on : (c : goal.In-Some) → (0 < c.loop-next.left)
+on : (c : goal.After-has_messages-filled-in-loop-filled) → (0 < c.loop-filled.left)
     × IsUnderWay c.args.self.now.drivers c.args.self.now.configuration c.args.moves c.args.from c.in-Some.open
-    (c.loop-next.left - 1)
+    (c.loop-filled.left - 1)
 on c =
     let now = c.args.self.now.configuration in
     let drivers = c.args.self.now.drivers in
     let m = the_message drivers now c.args.from c.args.first c.requires.next in
-    let o = opened now c.next_place-next.result c.in-Some.open (sym c.in-Some.is ∙ c.if_open.ensures) in
+    let o = opened now c.next_by_ways-next.result c.in-Some.open (sym c.in-Some.is ∙ c.if_open.ensures) in
     c.empty_places_are_passed.ensures drivers now (has_mark c.args.marks.now.run) (has_mark c.args.marks.now.wanted)
-    c.args.from c.loop-next.at c.in-Some.open m.0 c.args.moves c.loop-next.left c.requires.sound c.requires.alone m.1
-    c.requires.settled c.loop-next.invariant.way (sym (told_none _ c.loop-next-test.ensures))
-    (ap (next_place drivers now c.loop-next.at) (sym (c.loop-next.invariant.addr m.0 m.1))
-    ∙ (sym c.next_place-next.ensures ∙ o.0)) o.1
+    c.args.from c.loop-filled.at c.in-Some.open m.0 c.args.moves c.loop-filled.left c.requires.sound
+    c.requires.alone m.1 c.requires.settled c.loop-filled.invariant.way
+    (sym (told_none _ (sym c.loop-filled-test.true ∙ c.loop-filled.invariant.filled)))
+    (ap (next_place drivers now c.loop-filled.at) (sym (c.loop-filled.invariant.addr m.0 m.1))
+    ∙ (sym c.next_by_ways-next.ensures.value ∙ o.0)) o.1
 
-pub loop-next-preserved : goal.loop-next-preserved
-loop-next-preserved c = record { addr = c.loop-next.invariant.addr; way = (on c).1 }
+pub loop-filled-preserved : goal.loop-filled-preserved
+loop-filled-preserved c = record {
+  filled = c.has_messages-filled-in-loop-filled.ensures;
+  addr = c.loop-filled.invariant.addr;
+  ways = c.next_by_ways-next.ensures.ways;
+  way = (on c).1;
+}
 
-pub loop-next-smaller : goal.loop-next-smaller
-loop-next-smaller c = omega (arith, (on c).0)
+pub loop-filled-smaller : goal.loop-filled-smaller
+loop-filled-smaller c = omega (arith, (on c).0)
 
-pub overflow_sub-left-in-loop-next : goal.overflow_sub-left-in-loop-next
-overflow_sub-left-in-loop-next c = (on c).0
+pub overflow_sub-left-in-loop-filled : goal.overflow_sub-left-in-loop-filled
+overflow_sub-left-in-loop-filled c = (on c).0
 
 pub returns : goal.returns
 returns c = record {
-  way = (c.loop-next.left, c.loop-next.invariant.way);
-  stays = λ m e. inl (told_some _ c.loop-next-test.ensures, refl);
+  ways = c.loop-filled.invariant.ways;
+  way = (c.loop-filled.left, c.loop-filled.invariant.way);
+  stays = λ m e. inl (told_some _ (sym c.loop-filled-test.false ∙ c.loop-filled.invariant.filled), refl);
 }

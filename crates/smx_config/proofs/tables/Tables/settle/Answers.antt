@@ -4,20 +4,23 @@ use Rattle.smx_model.specs.SettlingByMarks.{HasNoRunMark}
 use Rattle.smx_queues.specs.PlaceMarks.{has_mark}
 use Rattle.smx_config.specs.Machine.{Machine}
 use Rattle.smx_config.proofs.LoneMessageLemmas.{the_message}
-use Rattle.smx_config.proofs.SettleLemmas.{settled_one, settled_to, within_zero}
+use Rattle.smx_config.proofs.SettleLemmas.{settled_to, within_zero}
 use Rattle.smx_config.proofs.NextMoveLemmas.{none_left}
+use Rattle.smx_config.proofs.WayLemmas.{after_rest, alike}
 use Rattle.smx_config.proofs.tables.Tables.settle.Goals as goal
 
 pub loop-left-preserved : goal.loop-left-preserved
 loop-left-preserved c =
     let old = c.loop-left.self in
     record {
-      drivers = ap (λ (m : Machine). m.drivers) c.move_marked.ensures.value ∙ c.loop-left.invariant.drivers;
-      comes_to = rw c.move_marked.ensures.value (settled_one old.drivers c.loop-left.left old.configuration _
-          c.in-Some.next.from (omega arith) c.in-Some.ensures.least.0 refl ∙ c.loop-left.invariant.comes_to);
-      sound = rw c.move_marked.ensures.value (c.moves_keep_soundness.ensures old.drivers old.configuration
-          c.in-Some.next.from c.loop-left.invariant.sound);
-      marks = c.move_marked.ensures.marks;
+      drivers = c.move_row-left.ensures.drivers ∙ c.loop-left.invariant.drivers;
+      comes_to = rw c.move_row-left.ensures.drivers (c.move_row-left.ensures.moved.comes_to
+          ∙ c.loop-left.invariant.comes_to);
+      sound = rw c.move_row-left.ensures.drivers c.move_row-left.ensures.moved.sound;
+      marks = c.move_row-left.ensures.marks;
+      ways = rw c.move_row-left.ensures.drivers (alike old.drivers old.configuration
+          c.move_row-left.new.self.configuration c.next_move.new.ways c.next_move.new.ways
+          c.move_row-left.ensures.moved.alike c.in-Some.ensures.ways (λ p q addr way. way));
     }
 
 pub returns-clause-value : goal.returns-clause-value
@@ -50,3 +53,9 @@ returns-then-moves_alone-clause-value c =
     (has_mark c.next_move.new.marks.wanted) c.in-Some.next.from c.rest_of-rest.result.at m.0 c.loop-left.left way.0
     c.rest_of-rest.result.waits c.loop-left.invariant.sound (c.if-moves_alone.ensures refl) m.1 way.1
     (c.rest_of-rest.ensures.stays m.0 m.1) ∙ c.loop-left.invariant.comes_to))
+
+pub returns-then-moves_alone-clause-ways : goal.returns-then-moves_alone-clause-ways
+returns-then-moves_alone-clause-ways c =
+    let old = c.loop-left.self in
+    rw c.come_to_rest.ensures.value (after_rest old.drivers old.configuration c.in-Some.next.from
+    c.rest_of-rest.result.at c.rest_of-rest.new.ways c.rest_of-rest.ensures.ways)

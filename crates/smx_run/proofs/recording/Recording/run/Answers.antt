@@ -1,7 +1,10 @@
-use Rattle.std.proofs.Common.{arith, [], ◌∷◌}
+use Rattle.std.proofs.Common.{rules, arith, [], ◌∷◌}
 use Rattle.std.proofs.lemmas.List.{length-append}
-use Rattle.smx_run.specs.DeskLemmas.{recording_more}
+use Rattle.smx_run.specs.DeskLemmas.{recording_more, recording_none}
 use Rattle.smx_run.proofs.recording.Recording.run.Goals as goal
+
+pub loop-command-init : goal.loop-command-init
+loop-command-init g c = record { performed = recording_none g.K.Recorder.told _; numbered = search rules }
 
 pub loop-command-preserved : goal.loop-command-preserved
 loop-command-preserved g c =

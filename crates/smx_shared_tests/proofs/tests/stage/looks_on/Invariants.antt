@@ -2,4 +2,4 @@ use Rattle.std.proofs.Common.{◌≡◌}
 use Rattle.smx_shared_tests.proofs.tests.stage.looks_on.Given as goal
 
 abbrev pub invariant-loop : goal.invariant-loop
-invariant-loop l = record { shared : l.seat.shared ≡ l.shared.name }
+invariant-loop g l = record { shared : l.seat.shared ≡ l.shared.name }

@@ -1,0 +1,187 @@
+-- Ways that are noted, and what leaves them right.
+use Rattle.std.proofs.Common.{◌≡◌, ℕ, zero, suc, Bool, true, false, ◌+◌, ◌&&◌, ◌||◌, eqb, not, List, [], ◌∷◌}
+use Rattle.std.proofs.Common.{length, Option, None, Some, Result, Ok, Err, refl, sym, ap, ◌∙◌, subst, inl, inr}
+use Rattle.std.proofs.Math.ListN.{set}
+use Rattle.std.specs.Prelude.{◌⊎◌, nat_le, nat_lt, slice_get}
+use Rattle.std.specs.Option.{is_some}
+use Rattle.std.specs.Result.{is_ok}
+use Rattle.std.proofs.lemmas.Bool.{false≢true}
+use Rattle.smx_types.specs.declared.command.Command.{Command}
+use Rattle.smx_types.specs.declared.command.Command.TheVariants as command
+use Rattle.smx_types.specs.declared.driver.DriverSpec.{DriverSpec}
+use Rattle.smx_types.specs.declared.limits.TheConstants.{NUMBER_END}
+use Rattle.smx_types.specs.declared.link.Binding.{Binding}
+use Rattle.smx_types.specs.declared.link.Link.{Link}
+use Rattle.smx_types.specs.declared.link.Route.{Route}
+use Rattle.smx_types.specs.declared.message.Message.{Message}
+use Rattle.smx_types.specs.declared.reply.Fault.TheVariants.{BadSize, Empty, Full}
+use Rattle.smx_types.specs.declared.reply.Reply.{Reply}
+use Rattle.smx_types.specs.declared.reply.Reply.TheVariants as reply
+use Rattle.smx_types.specs.declared.stream.Place.{Place}
+use Rattle.smx_types.specs.declared.stream.StreamId.{StreamId}
+use Rattle.smx_model.specs.Commands.{outcome, read_outcome, receive_outcome, send_outcome}
+use Rattle.smx_model.specs.Configuration.{Configuration}
+use Rattle.smx_model.specs.DriverList.{max_of}
+use Rattle.smx_model.specs.Hangups.{is_hung}
+use Rattle.smx_model.specs.Lookups.{free_stream, live_leaf, live_stream}
+use Rattle.smx_model.specs.LoneMessages.{moved}
+use Rattle.smx_model.specs.Outcomes.{Outcome, ◌>>=◌, or_fault, refuse}
+use Rattle.smx_model.specs.Queues.{after_arrival, first_message, is_full}
+use Rattle.smx_model.specs.Settling.{after_move, after_move_to, next_open_place, next_place}
+use Rattle.smx_model.specs.TurnedPlaces.{read_side, write_side}
+use Rattle.smx_config.specs.Machine.{Machine}
+use Rattle.smx_config.specs.Refinement.{Refines}
+use Rattle.smx_config.specs.declared.step_error.StepError.{StepError}
+use Rattle.smx_config.specs.Ways.{AreWays, IsSameWay, IsWay, LeadAlike, WayList, keeps_ways}
+use Rattle.smx_config.specs.declared.ways.Way.{Way}
+use Rattle.smx_config.proofs.StayingLemmas.{accepted, bound}
+
+-- ---- one more is noted
+
+-- where an element is replaced, each that stands there stood there before, or is the new one
+was_or_is : {X : Type 0} (xs : List X) (i k : ℕ) (x y : X) → slice_get (set xs i x) k ≡ Some y
+    → (slice_get xs k ≡ Some y) ⊎ (x ≡ y)
+was_or_is [] i k x y e = inl e
+was_or_is (z ∷ zs) zero zero x y e = inr cc
+was_or_is (z ∷ zs) zero (suc k) x y e = inl e
+was_or_is (z ∷ zs) (suc i) zero x y e = inl e
+was_or_is (z ∷ zs) (suc i) (suc k) x y e = was_or_is zs i k x y e
+
+-- a way that is noted was so before, or is the one that was noted now
+pub noted_or_new : (round : ℕ) (ways : List Way) (i : ℕ) (from : Place) (addr : ℕ) (to : Place) (p q : Place) (a : ℕ)
+    → IsWay (record {
+      round = round;
+      ways = set ways i (record { round = round; addr = addr; from = from; to = to });
+    }) p a q
+    → IsWay (record { round = round; ways = ways }) p a q ⊎ IsSameWay from addr to p a q
+noted_or_new round ways i from addr to p q a h =
+    let new : Way = record { round = round; addr = addr; from = from; to = to } in
+    let way : Way = record { round = round; addr = a; from = p; to = q } in
+    elim (was_or_is ways i h.0 new way h.1) [
+      | inl was ↦ inl (h.0, was)
+      | inr is ↦ inr (
+        ap (λ (w : Way). w.from) (sym is),
+        ap (λ (w : Way). w.addr) (sym is),
+        ap (λ (w : Way). w.to) (sym is),
+      )
+    ]
+
+-- where one more is noted that is right, all are
+pub one_more_way : (drivers : List DriverSpec) (c : Configuration) (old new : WayList) (from : Place) (addr : ℕ)
+    (to : Place) → AreWays drivers c old → next_place drivers c from addr ≡ Some to
+    → ((p q : Place) (a : ℕ) → IsWay new p a q → IsWay old p a q ⊎ IsSameWay from addr to p a q)
+    → AreWays drivers c new
+one_more_way drivers c old new from addr to h is few p q a w = elim (few p q a w) [
+  | inl was ↦ h p q a was
+  | inr same ↦ rw (same.0, same.1, same.2) is
+]
+
+-- ---- what leaves them right
+
+pub next_alike : (drivers : List DriverSpec) (c d : Configuration) (p : Place) (addr : ℕ) → LeadAlike c d
+    → next_place drivers d p addr ≡ next_place drivers c p addr
+next_alike drivers c d p addr h =
+    ap (λ (x : List Link). by x d.routes d.binds d.hungs) h.links
+    ∙ (ap (λ (x : List Route). by c.links x d.binds d.hungs) h.routes
+    ∙ (ap (λ (x : List Binding). by c.links c.routes x d.hungs) h.binds
+    ∙ ap (λ (x : List StreamId). by c.links c.routes c.binds x) h.hungs)) where
+      by : List Link → List Route → List Binding → List StreamId → Option Place
+      by ls rs bs hs =
+          next_place drivers (record c { links = ls; routes = rs; binds = bs; hungs = hs }) p addr
+
+-- ways stay right where all leads alike
+pub alike : (drivers : List DriverSpec) (c d : Configuration) (old new : WayList) → LeadAlike c d
+    → AreWays drivers c old
+    → ((p q : Place) (addr : ℕ) → IsWay new p addr q → IsWay old p addr q) → AreWays drivers d new
+alike drivers c d old new same h few p q addr w = next_alike drivers c d p addr same ∙ h p q addr (few p q addr w)
+
+-- a message that goes from one place to another leaves all as it leads
+pub moved_alike : (drivers : List DriverSpec) (c : Configuration) (p : Place) (o : Option Place) (m : Option Message)
+    → LeadAlike c (after_move_to drivers c p o m)
+moved_alike drivers c p None m = record { links = refl; routes = refl; binds = refl; hungs = refl }
+moved_alike drivers c p (Some q) None = record { links = refl; routes = refl; binds = refl; hungs = refl }
+moved_alike drivers c p (Some q) (Some m) = record { links = refl; routes = refl; binds = refl; hungs = refl }
+
+-- a move leaves them right
+pub after_moving : (drivers : List DriverSpec) (c : Configuration) (p : Place) (t : WayList) → AreWays drivers c t
+    → AreWays drivers (after_move drivers c p) t
+after_moving drivers c p t h = alike drivers c (after_move drivers c p) t t
+    (moved_alike drivers c p (next_open_place drivers c p) (first_message c.flow p)) h (λ q r addr w. w)
+
+-- so does a message that comes to rest
+pub after_rest : (drivers : List DriverSpec) (c : Configuration) (p q : Place) (t : WayList) → AreWays drivers c t
+    → AreWays drivers (moved drivers c p q) t
+after_rest drivers c p q t h = alike drivers c (moved drivers c p q) t t
+    (moved_alike drivers c p (Some q) (first_message c.flow p)) h (λ r s addr w. w)
+
+sent_alike : (drivers : List DriverSpec) (c : Configuration) (p : Place) (addr : ℕ) (bytes : List ℕ)
+    (x : Configuration × Reply) → send_outcome drivers c p addr bytes ≡ Ok x → LeadAlike c x.0
+sent_alike drivers c p addr bytes x e =
+    let sent : Outcome = Ok (
+      record (after_arrival drivers c p (record { serial = c.next_serial; addr = addr; bytes = bytes })) {
+        next_serial = c.next_serial + 1;
+      },
+      reply.Took c.next_serial,
+    ) in
+    let size = bound (refuse BadSize (eqb (length bytes) 0 || nat_lt (max_of drivers p.stream.driver) (length bytes)))
+    (λ s. refuse Full (is_full c p || nat_le NUMBER_END c.next_serial) >>= (λ r. sent)) x e in
+    let room = bound (refuse Full (is_full c p || nat_le NUMBER_END c.next_serial)) (λ r. sent) x size.2 in
+    subst (λ (y : Configuration × Reply). LeadAlike c y.0) (accepted _ x room.2)
+    (record { links = refl; routes = refl; binds = refl; hungs = refl })
+
+received_alike : (drivers : List DriverSpec) (c : Configuration) (p : Place) (x : Configuration × Reply)
+    → receive_outcome drivers c p ≡ Ok x → LeadAlike c x.0
+received_alike drivers c p x e =
+    let found = bound (or_fault Empty (first_message c.flow p)) _ x e in
+    subst (λ (y : Configuration × Reply). LeadAlike c y.0) (accepted _ x found.2)
+    (record { links = refl; routes = refl; binds = refl; hungs = refl })
+
+read_alike : (drivers : List DriverSpec) (c : Configuration) (s : StreamId) (x : Configuration × Reply)
+    → read_outcome drivers c s ≡ Ok x → LeadAlike c x.0
+read_alike drivers c s x e = by (is_hung c.hungs s && not (is_some (first_message c.flow (read_side s)))) refl where
+  by : (b : Bool) → (is_hung c.hungs s && not (is_some (first_message c.flow (read_side s)))) ≡ b → LeadAlike c x.0
+  by true t = let k : ◌≡◌ {A = Outcome} (Ok (c, _)) (Ok x) = rw t at e in
+      subst (λ (y : Configuration × Reply). LeadAlike c y.0) (accepted _ x k)
+      (record { links = refl; routes = refl; binds = refl; hungs = refl })
+  by false f = let k : receive_outcome drivers c (read_side s) ≡ Ok x = rw f at e in
+      received_alike drivers c (read_side s) x k
+
+-- a command that sends or takes a message leaves all as it leads
+pub messages_alike : (drivers : List DriverSpec) (c : Configuration) (process : ℕ) (k : Command)
+    (x : Configuration × Reply) → keeps_ways k ≡ true → outcome drivers c process k ≡ Ok x → LeadAlike c x.0
+messages_alike drivers c process (command.Write fd addr bytes) x h e =
+    let s = bound (live_stream c process fd) _ x e in sent_alike drivers c (write_side s.0) addr bytes x s.2
+messages_alike drivers c process (command.Read fd) x h e =
+    let s = bound (free_stream c process fd) _ x e in read_alike drivers c s.0 x s.2
+messages_alike drivers c process (command.Inject name minor addr bytes) x h e =
+    let s = bound (live_leaf drivers c name minor) _ x e in sent_alike drivers c (read_side s.0) addr bytes x s.2
+messages_alike drivers c process (command.Transmit name minor) x h e =
+    let s = bound (live_leaf drivers c name minor) _ x e in received_alike drivers c (write_side s.0) x s.2
+messages_alike drivers c process (command.OpenClone name) x h e = absurd (false≢true h)
+messages_alike drivers c process (command.OpenMinor name minor) x h e = absurd (false≢true h)
+messages_alike drivers c process (command.Dup fd) x h e = absurd (false≢true h)
+messages_alike drivers c process (command.Close fd) x h e = absurd (false≢true h)
+messages_alike drivers c process command.CloseAll x h e = absurd (false≢true h)
+messages_alike drivers c process (command.Link fd arg) x h e = absurd (false≢true h)
+messages_alike drivers c process (command.Plink fd arg) x h e = absurd (false≢true h)
+messages_alike drivers c process (command.Unlink fd w) x h e = absurd (false≢true h)
+messages_alike drivers c process (command.Punlink fd w) x h e = absurd (false≢true h)
+messages_alike drivers c process (command.Bind fd addr) x h e = absurd (false≢true h)
+messages_alike drivers c process (command.Unbind fd) x h e = absurd (false≢true h)
+messages_alike drivers c process (command.Route fd addr id) x h e = absurd (false≢true h)
+messages_alike drivers c process (command.Unroute fd addr) x h e = absurd (false≢true h)
+messages_alike drivers c process (command.Flush fd w) x h e = absurd (false≢true h)
+messages_alike drivers c process (command.Hangup name minor) x h e = absurd (false≢true h)
+
+-- after an accepted command all that is noted still is right
+pub ways_after : (old new : Machine) (process : ℕ) (k : Command) (result : Result Reply StepError) (t u : WayList)
+    → is_ok result ≡ true → Refines old new process k result → AreWays old.drivers old.configuration t
+    → ((p q : Place) (addr : ℕ) → IsWay u p addr q → (keeps_ways k ≡ true) × IsWay t p addr q)
+    → AreWays new.drivers new.configuration u
+ways_after old new process k (Ok r) t u is refines h few p q addr w =
+    let known = few p q addr w in
+    subst (λ (ds : List DriverSpec). next_place ds new.configuration p addr ≡ Some q) (sym refines.0)
+    (next_alike old.drivers old.configuration new.configuration p addr
+    (messages_alike old.drivers old.configuration process k (new.configuration, r) known.0 refines.1)
+    ∙ h p q addr known.1)
+ways_after old new process k (Err e) t u is refines h few p q addr w = absurd (false≢true is)

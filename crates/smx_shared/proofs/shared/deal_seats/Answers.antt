@@ -1,0 +1,43 @@
+use Rattle.std.proofs.Common.{rules, ◌≡◌, ◌<◌, [], true, ap, ap₂, ◌∙◌}
+use Rattle.smx_shared.specs.SeatViews.{Mine, unnamed, called, left, dealt, seated_of}
+use Rattle.smx_shared.proofs.CallLemmas.{one_seat_more}
+use Rattle.smx_shared.proofs.shared.deal_seats.Goals as goal
+
+pub name-requires-clause-table : goal.name-requires-clause-table
+name-requires-clause-table g c = c.loop-number.invariant.table
+
+pub name-requires-clause-right : goal.name-requires-clause-right
+name-requires-clause-right g c =
+    let next = c.loop-number.invariant.next in
+    let below : c.loop-number.number < 64 = search rules in
+    rw next (search rules, below)
+
+pub name-requires-clause-one_of : goal.name-requires-clause-one_of
+name-requires-clause-one_of g c =
+    let is = c.requires.processes.0 in
+    let below : c.loop-number.number < c.args.processes = search rules in
+    rw (c.loop-number.invariant.next, is) below
+
+pub name-requires-clause-idle : goal.name-requires-clause-idle
+name-requires-clause-idle g c = rw c.loop-number.invariant.next (search rules)
+
+pub loop-number-preserved : goal.loop-number-preserved
+loop-number-preserved g c =
+    let before = c.loop-number.invariant in
+    let named = c.name.ensures.same in
+    let dealt_now = c.deal-next.ensures in
+    let was : c.name.new.token.me
+    ≡ (called (unnamed c.args.turns.now.table.shared.key.system.value true c.loop-number.number), []) =
+    named.1 ∙ ap (λ (m : Mine). (called m.0, m.1)) before.next in
+    let seat : c.deal-next.new.token.me.0
+    ≡ left (called (unnamed c.args.turns.now.table.shared.key.system.value true c.loop-number.number)) =
+    ap (λ (m : Mine). m.0) dealt_now.same.1 ∙ ap (λ (m : Mine). left m.0) was in
+    let number : c.unwrap-process.result ≡ c.loop-number.number = search rules in
+    record {
+      room = search rules;
+      counted = search rules;
+      seats = one_seat_more _ _ _ _ _ _ before.seats
+          (ap₂ seated_of (dealt_now.same.0 ∙ named.0 ∙ before.table) seat) c.push_reserved.ensures.items;
+      table = dealt_now.other.0 ∙ named.0 ∙ before.table;
+      next = dealt_now.other.1 ∙ ap (λ (m : Mine). (dealt m.0, [])) was;
+    }

@@ -1,0 +1,14 @@
+use Rattle.std.proofs.Common.{append_assoc}
+use Rattle.smx_words.proofs.EntryLemmas.{entry_line}
+use Rattle.smx_words.proofs.writing.entry.write_entry_of_line.Goals as goal
+
+pub returns-clause-written : goal.returns-clause-written
+returns-clause-written c = λ command same.
+    rw (
+      entry_line (record { process = c.args.process; command = command; reply = c.args.reply.now }),
+      ← same,
+      c.in_ok-put_reply.ensures.written,
+      c.in_ok-put_text.ensures,
+      c.in_ok-put_first.ensures,
+      c.get.ensures.value,
+    ) (simp append_assoc)
