@@ -51,11 +51,13 @@ impl<'a, G: Gate> ProgramTaker for RunningPrograms<'a, G> {
 
     fn add_command(&mut self, alloc: Global, line: &[u8]) -> Result<bool, NoMemory> {
         let version = self.run.version();
-        let Some(command) = command_in(&mut self.room, alloc, version, line)? else {
-            return Ok(false);
-        };
-        self.run.add_line(self.gate, &command, line);
-        if let Command::Write { bytes, .. } | Command::Inject { bytes, .. } = command {
+        let read = command_in(&mut self.room, alloc, version, line);
+        match &read {
+            Ok(Some(command)) => self.run.add_line(self.gate, command, line),
+            Ok(None) => return Ok(false),
+            Err(NoMemory) => return Err(NoMemory),
+        }
+        if let Ok(Some(Command::Write { bytes, .. } | Command::Inject { bytes, .. })) = read {
             self.room = bytes.into_vec();
         }
         Ok(true)

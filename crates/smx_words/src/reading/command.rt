@@ -29,6 +29,7 @@ pub fn command_of(alloc: Global, version: Version, line: &[u8]) -> Result<Option
 }
 
 /// The same, of which a message takes the room that is given, and leaves none there.
+#[inline(always)]
 pub fn command_in(
     room: &mut Vec<u8>,
     alloc: Global,
