@@ -11,10 +11,11 @@ ghost use Rattle.smx_words.specs.Words.{SPACE, line_of};
 ghost use Rattle.smx_words.specs.declared.reading.verb.Verb.{Verb as AnyVerb};
 ghost use Rattle.smx_words.specs.declared.reading.verb.Verb.TheVariants.{Hangup as HangupVerb, Inject as InjectVerb, Write as WriteVerb};
 
+use crate::reading::cutting::is;
 use crate::reading::hex_word::bytes_of;
-use crate::reading::number::{first_number, number};
+use crate::reading::number::{first_number, number, pair};
 use crate::reading::verb::{Verb, first_verb};
-use crate::reading::word::{first_name, name, sides, which};
+use crate::reading::word::{first_name, name, name_and_number, sides, which};
 use smx_types::{Command, NoMemory, Version};
 use std::alloc::Global;
 
@@ -62,7 +63,7 @@ pub(super) fn lone_command(line: &[u8]) -> Option<Command>
     requires { (v : AnyVerb) (after : List ℕ) → FitsAlways v → line.now ≢ verb_word v ++ SPACE ∷ after }
     ensures { (v : AnyVersion) → IsReadAs (FitsCommandIn v) command_words line.now result }
 {
-    if line == b"exit".as_slice() {
+    if is(line, b"exit") {
         return Some(Command::CloseAll);
     }
     None
@@ -128,10 +129,9 @@ pub(super) fn clone(rest: &[u8]) -> Option<Command>
 pub(super) fn open(rest: &[u8]) -> Option<Command>
     ensures { IsReadAs FitsCommand command_words (line_of (codes "open" ∷ rest.now ∷ [])) result }
 {
-    let Some((driver, rest)) = first_name(rest) else {
+    let Some((driver, minor)) = name_and_number(rest) else {
         return None;
     };
-    let minor = number(rest)?;
     Some(Command::OpenMinor { driver, minor })
 }
 
@@ -155,8 +155,9 @@ pub(super) fn close(rest: &[u8]) -> Option<Command>
 pub(super) fn link(rest: &[u8]) -> Option<Command>
     ensures { IsReadAs FitsCommand command_words (line_of (codes "link" ∷ rest.now ∷ [])) result }
 {
-    let (fd, rest) = first_number(rest)?;
-    let arg = number(rest)?;
+    let Some((fd, arg)) = pair(rest) else {
+        return None;
+    };
     Some(Command::Link { fd, arg })
 }
 
@@ -164,8 +165,9 @@ pub(super) fn link(rest: &[u8]) -> Option<Command>
 pub(super) fn plink(rest: &[u8]) -> Option<Command>
     ensures { IsReadAs FitsCommand command_words (line_of (codes "plink" ∷ rest.now ∷ [])) result }
 {
-    let (fd, rest) = first_number(rest)?;
-    let arg = number(rest)?;
+    let Some((fd, arg)) = pair(rest) else {
+        return None;
+    };
     Some(Command::Plink { fd, arg })
 }
 
@@ -173,7 +175,9 @@ pub(super) fn plink(rest: &[u8]) -> Option<Command>
 pub(super) fn unlink(rest: &[u8]) -> Option<Command>
     ensures { IsReadAs FitsCommand command_words (line_of (codes "unlink" ∷ rest.now ∷ [])) result }
 {
-    let (fd, rest) = first_number(rest)?;
+    let Some((fd, rest)) = first_number(rest) else {
+        return None;
+    };
     let which = which(rest)?;
     Some(Command::Unlink { fd, which })
 }
@@ -182,7 +186,9 @@ pub(super) fn unlink(rest: &[u8]) -> Option<Command>
 pub(super) fn punlink(rest: &[u8]) -> Option<Command>
     ensures { IsReadAs FitsCommand command_words (line_of (codes "punlink" ∷ rest.now ∷ [])) result }
 {
-    let (fd, rest) = first_number(rest)?;
+    let Some((fd, rest)) = first_number(rest) else {
+        return None;
+    };
     let which = which(rest)?;
     Some(Command::Punlink { fd, which })
 }
@@ -191,8 +197,9 @@ pub(super) fn punlink(rest: &[u8]) -> Option<Command>
 pub(super) fn bind(rest: &[u8]) -> Option<Command>
     ensures { IsReadAs FitsCommand command_words (line_of (codes "bind" ∷ rest.now ∷ [])) result }
 {
-    let (fd, rest) = first_number(rest)?;
-    let addr = number(rest)?;
+    let Some((fd, addr)) = pair(rest) else {
+        return None;
+    };
     Some(Command::Bind { fd, addr })
 }
 
@@ -208,9 +215,12 @@ pub(super) fn unbind(rest: &[u8]) -> Option<Command>
 pub(super) fn route(rest: &[u8]) -> Option<Command>
     ensures { IsReadAs FitsCommand command_words (line_of (codes "route" ∷ rest.now ∷ [])) result }
 {
-    let (fd, rest) = first_number(rest)?;
-    let (addr, rest) = first_number(rest)?;
-    let id = number(rest)?;
+    let Some((fd, rest)) = first_number(rest) else {
+        return None;
+    };
+    let Some((addr, id)) = pair(rest) else {
+        return None;
+    };
     Some(Command::Route { fd, addr, id })
 }
 
@@ -218,8 +228,9 @@ pub(super) fn route(rest: &[u8]) -> Option<Command>
 pub(super) fn unroute(rest: &[u8]) -> Option<Command>
     ensures { IsReadAs FitsCommand command_words (line_of (codes "unroute" ∷ rest.now ∷ [])) result }
 {
-    let (fd, rest) = first_number(rest)?;
-    let addr = number(rest)?;
+    let Some((fd, addr)) = pair(rest) else {
+        return None;
+    };
     Some(Command::Unroute { fd, addr })
 }
 
@@ -235,7 +246,9 @@ pub(super) fn read(rest: &[u8]) -> Option<Command>
 pub(super) fn flush(rest: &[u8]) -> Option<Command>
     ensures { IsReadAs FitsCommand command_words (line_of (codes "flush" ∷ rest.now ∷ [])) result }
 {
-    let (fd, rest) = first_number(rest)?;
+    let Some((fd, rest)) = first_number(rest) else {
+        return None;
+    };
     let sides = sides(rest)?;
     Some(Command::Flush { fd, sides })
 }
@@ -244,10 +257,9 @@ pub(super) fn flush(rest: &[u8]) -> Option<Command>
 pub(super) fn transmit(rest: &[u8]) -> Option<Command>
     ensures { IsReadAs FitsCommand command_words (line_of (codes "transmit" ∷ rest.now ∷ [])) result }
 {
-    let Some((driver, rest)) = first_name(rest) else {
+    let Some((driver, minor)) = name_and_number(rest) else {
         return None;
     };
-    let minor = number(rest)?;
     Some(Command::Transmit { driver, minor })
 }
 
@@ -255,10 +267,9 @@ pub(super) fn transmit(rest: &[u8]) -> Option<Command>
 pub(super) fn hangup(rest: &[u8]) -> Option<Command>
     ensures { IsReadAs FitsCommand command_words (line_of (codes "hangup" ∷ rest.now ∷ [])) result }
 {
-    let Some((driver, rest)) = first_name(rest) else {
+    let Some((driver, minor)) = name_and_number(rest) else {
         return None;
     };
-    let minor = number(rest)?;
     Some(Command::Hangup { driver, minor })
 }
 
