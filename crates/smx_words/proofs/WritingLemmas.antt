@@ -23,14 +23,7 @@ pieces : {X : Type 0} (f : X → List ℕ) (xs : List X) (x : X) → flat_map f 
 pieces f xs x = flat_map-append f xs (x ∷ [])
     ∙ ap (λ (l : List ℕ). flat_map f xs ++ l) (flat_map-cons f x [] ∙ append-nil (f x))
 
-pub pieces_more : {X : Type 0} (f : X → List ℕ) (xs : List X) (i : ℕ) (x : X) (new old start : List ℕ)
-    → take (i + 1) xs ≡ take i xs ++ x ∷ [] → new ≡ old ++ f x → old ≡ start ++ flat_map f (take i xs)
-    → new ≡ start ++ flat_map f (take (i + 1) xs)
-pieces_more {X} f xs i x new old start one piece before =
-    piece ∙ ap (λ (l : List ℕ). l ++ f x) before ∙ append_assoc start (flat_map f (take i xs)) (f x)
-    ∙ ap (λ (l : List ℕ). start ++ l) (sym (ap (λ (l : List X). flat_map f l) one ∙ pieces f (take i xs) x))
-
--- the same of lines
+-- the lines of some, and that of one more
 pub lines_more : {X : Type 0} (words : X → List (List ℕ)) (xs : List X) (i : ℕ) (x : X) (new old start : List ℕ)
     → take (i + 1) xs ≡ take i xs ++ x ∷ [] → new ≡ old ++ line_of (words x) ++ LINE_FEED ∷ []
     → old ≡ start ++ text_of (map words (take i xs)) → new ≡ start ++ text_of (map words (take (i + 1) xs))

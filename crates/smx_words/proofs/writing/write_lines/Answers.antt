@@ -1,5 +1,5 @@
 use Rattle.std.proofs.Common.{◌∷◌, ◌++◌, [], ap, sym, take, ◌∙◌}
-use Rattle.std.proofs.lemmas.List.{take_more}
+use Rattle.std.proofs.lemmas.List.{append-nil, take_all, take_more}
 use Rattle.smx_words.proofs.WritingLemmas.{all_more, lines_more}
 use Rattle.smx_words.proofs.writing.write_lines.Goals as goal
 
@@ -18,3 +18,14 @@ loop-item-preserved g c =
           c.in_ok-write_line.ensures.fits
           c.loop-item.invariant.fits;
     }
+
+pub loop-item-init : goal.loop-item-init
+loop-item-init g c = record { written = sym (append-nil _); fits = tt }
+
+pub returns-clause-written : goal.returns-clause-written
+returns-clause-written g c =
+    rw (take_all c.loop-item.item-index c.args.items.now c.loop-item-test.false) at c.loop-item.invariant.written
+
+pub returns-clause-fits : goal.returns-clause-fits
+returns-clause-fits g c =
+    rw (take_all c.loop-item.item-index c.args.items.now c.loop-item-test.false) at c.loop-item.invariant.fits
