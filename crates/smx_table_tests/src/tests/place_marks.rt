@@ -3,8 +3,8 @@
 use super::flow_tables::ethernet;
 use smx_queues::PlaceMarks;
 use smx_types::{Place, Side, StreamId};
+use std::mem::forget;
 use std::process::Abort;
-use std::test::Fail;
 
 // A side of a stream of driver 0.
 fn place(minor: u8, side: Side) -> Place {
@@ -37,18 +37,17 @@ fn two_come(rt: &impl Abort, marks: &mut PlaceMarks) {
     assert!(rt; marks.first().is_none());
 }
 
-fn come_in_order(rt: &(impl AllocGlobal + Abort), marks: &mut PlaceMarks) {
-    mark_two(rt, marks);
-    let mut same = marks.copy(rt.alloc()).ok().expect(rt, "memory");
-    two_come(rt, marks);
+fn copy_comes(rt: &(impl AllocGlobal + Abort), marks: &PlaceMarks) {
+    let mut same = marks.copy(rt.alloc()).expect(rt, "memory");
     two_come(rt, &mut same);
+    forget(same);
 }
 
 #[test]
-fn marks_come_in_order(rt: HostRuntime) -> Result<(), Fail> {
-    let mut marks = PlaceMarks::new(rt.alloc(), &[ethernet(&rt)])
-        .ok()
-        .expect(&rt, "memory");
-    come_in_order(&rt, &mut marks);
-    Ok(())
+fn marks_come_in_order(rt: HostRuntime) {
+    let mut marks = PlaceMarks::new(rt.alloc(), &[ethernet(&rt)]).expect(&rt, "memory");
+    mark_two(&rt, &mut marks);
+    copy_comes(&rt, &marks);
+    two_come(&rt, &mut marks);
+    forget(marks);
 }
