@@ -1,7 +1,7 @@
-//! Reports of a system and of what its callers were answered. The first test passes with any one growth refused too,
+//! A report of a system and of what its callers were answered, and its copy. It passes with any one growth refused too,
 //! and tests/refused_growths runs it so.
 
-use super::made::{numbered, read, system_over, tells_of_want};
+use super::made::{read, system_over, tells_of_want};
 use super::systems::{copied, plays};
 use smx_run::{GatherFault, Report, gather};
 use smx_shared::System;
@@ -23,14 +23,12 @@ fd 2 0 ip 1
 end
 ";
 
-// The entry of each of them, and none.
+// The entry of each of them.
 const BY_ZERO: &[u8] = b"transcript 1\n0 clone ip = fd 0 0\nconfig\nnext 1 1\nend\n";
 
 const BY_ONE: &[u8] = b"transcript 1\n1 clone ip = fd 0 2\nconfig\nnext 1 1\nend\n";
 
 const BY_TWO: &[u8] = b"transcript 1\n2 clone ip = fd 0 1\nconfig\nnext 1 1\nend\n";
-
-const BY_NONE: &[u8] = b"transcript 1\nconfig\nnext 1 1\nend\n";
 
 // A system whose processes have opened these.
 fn three_opened(rt: &(impl AllocGlobal + Abort + Print), want: &Transcript) -> System {
@@ -117,31 +115,6 @@ fn three_entries_are_reported(rt: HostRuntime) {
     let want = read(&rt, OPENED);
     let system = three_opened(&rt, &want);
     are_reported(&rt, &system, &want);
-    forget(system);
-    forget(want);
-}
-
-// Transcripts of the three, and the process whose entries in the history are not its transcript: one is empty, one is
-// not given, two are exchanged.
-const STRANGE: [(&[&[u8]], u32); 3] = [
-    (&[BY_ZERO, BY_NONE, BY_TWO], 1),
-    (&[BY_ZERO, BY_ONE], 2),
-    (&[BY_ZERO, BY_TWO, BY_ONE], 1),
-];
-
-fn is_strange(rt: &(impl AllocGlobal + Abort), system: &System, texts: &[&[u8]], process: u32) {
-    let transcripts = transcripts_of(rt, texts);
-    let fault = gathered_of(rt, system, transcripts.as_slice()).err();
-    assert!(rt; fault == Some(GatherFault::Strange(numbered(rt, process))));
-}
-
-#[test]
-fn strange_transcripts(rt: HostRuntime) {
-    let want = read(&rt, OPENED);
-    let system = three_opened(&rt, &want);
-    for (texts, process) in STRANGE {
-        is_strange(&rt, &system, texts, process);
-    }
     forget(system);
     forget(want);
 }

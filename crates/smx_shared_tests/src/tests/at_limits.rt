@@ -95,6 +95,20 @@ const LONGEST_MESSAGE: &[Part] = &[
     Once("\nconfig\nnext 1 3\nfd 0 0 eth0 0\nend\n"),
 ];
 
+// Ten thousand times a message goes down through the link, and the device takes it.
+const ROUNDS: &[Part] = &[
+    Once("transcript 1\n"),
+    Once("driver ip mux 4 8 3 16\ndriver eth leaf 2 8 3 16\n"),
+    Once("0 clone ip = fd 0 0\n0 clone eth = fd 1 0\n0 link 0 1 = id 1\n0 route 0 5 1 = done\n"),
+    Each(
+        1,
+        10_001,
+        "0 write 0 5 aa = took {n}\n0 transmit eth 0 = got {n} 5 aa\n",
+    ),
+    Once("config\nnext 2 10001\nfd 0 0 ip 0\nfd 0 1 eth 0\n"),
+    Once("link 1 ip 0 eth 0 link\nroute ip 5 1\nend\n"),
+];
+
 #[test]
 fn of_drivers_links_and_descriptors(rt: HostRuntime) {
     is_worked(&rt, CHAIN);
@@ -107,4 +121,5 @@ fn of_messages(rt: HostRuntime) {
     is_worked(&rt, MOST_MESSAGES);
     is_worked(&rt, MOST_DROPPED);
     is_worked(&rt, LONGEST_MESSAGE);
+    is_worked(&rt, ROUNDS);
 }
