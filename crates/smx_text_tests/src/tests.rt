@@ -6,5 +6,6 @@ mod driver_counts;
 mod faults;
 mod program_texts;
 mod spelling;
+mod sweeps;
 mod taken_lines;
 mod transcript_texts;

