@@ -877,6 +877,9 @@ end
 """),
 ]
 
+# Lines of a live session of version 1 that are no process and command. (An empty line asks for the configuration.)
+NO_LINES = ["0", "64 exit", "00 exit", "0 exit ", "0 exit = done", "0 hangup eth 0", "clone ip", "0 write 0 5 C0"]
+
 # Tables that are none, the line that says so, and the status.
 NO_TABLES = [
     ("", "line 1: cut", 3),
