@@ -771,6 +771,8 @@ driver ip mux 4 8 3 16
 end
 """,
      "line 3: form"),
+    # A fault of the text comes before that of its drivers.
+    ("programs 1\ndriver ip mux 2 8 3 16\ndriver ip leaf 1 1 0 1\nprocess 0\nexit\nexit 0\nend\n", "line 6: form"),
 ]
 
 # Lines that are no command of version 1.
