@@ -1,7 +1,7 @@
-//! A report of a system and of what its callers were answered, and its copy. It passes with any one growth refused too,
-//! and tests/refused_growths runs it so.
+//! A report of a system and of what its callers were answered, and its copy; and transcripts that it doesn't bear out. The
+//! first test passes with any one growth refused too, and tests/refused_growths runs it so.
 
-use super::made::{read, system_over, tells_of_want};
+use super::made::{numbered, read, system_over, tells_of_want};
 use super::systems::{copied, plays};
 use smx_run::{GatherFault, Report, gather};
 use smx_shared::System;
@@ -115,6 +115,19 @@ fn three_entries_are_reported(rt: HostRuntime) {
     let want = read(&rt, OPENED);
     let system = three_opened(&rt, &want);
     are_reported(&rt, &system, &want);
+    forget(system);
+    forget(want);
+}
+
+// Two of the three transcripts are exchanged: the entries of process 1 in the history are not its transcript.
+#[test]
+fn exchanged_transcripts_are_strange(rt: HostRuntime) {
+    let want = read(&rt, OPENED);
+    let system = three_opened(&rt, &want);
+    let transcripts = transcripts_of(&rt, &[BY_ZERO, BY_TWO, BY_ONE]);
+    let fault = gathered_of(&rt, &system, transcripts.as_slice()).err();
+    assert!(rt; fault == Some(GatherFault::Strange(numbered(&rt, 1))));
+    forget(transcripts);
     forget(system);
     forget(want);
 }
