@@ -4,6 +4,7 @@ mod bindings;
 mod flow_tables;
 mod link_tables;
 mod place_marks;
+mod queue_calls;
 mod queues;
 mod routes;
 mod stream_tables;

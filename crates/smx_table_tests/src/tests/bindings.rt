@@ -1,4 +1,4 @@
-//! Tables of bindings: bound, listed in their order, and copied.
+//! Tables of bindings: bound, listed in their order, copied, looked up and unbound.
 
 use smx_addresses::Bindings;
 use smx_types::{Binding, StreamId};
@@ -65,10 +65,28 @@ fn copy_has_bindings(rt: &(impl AllocGlobal + Abort), table: &Bindings) {
     forget(again);
 }
 
+// The third goes, and no other.
+fn unbinds(rt: &impl Abort, table: &mut Bindings) {
+    let stream = StreamId {
+        driver: 1,
+        minor: 63,
+    };
+    let third = Some(Binding {
+        driver: 1,
+        addr: 9,
+        minor: 63,
+    });
+    assert!(rt; table.at(1, 9) == third && table.of(stream) == third);
+    assert!(rt; table.unbind(stream) == third);
+    assert!(rt; table.at(1, 9).is_none() && table.of(stream).is_none());
+    assert!(rt; table.len() == 3 && !table.is_empty());
+}
+
 #[test]
 fn bindings_of_four_streams(rt: HostRuntime) {
     let mut table = Bindings::new(rt.alloc());
     has_bindings(&rt, &mut table);
     copy_has_bindings(&rt, &table);
+    unbinds(&rt, &mut table);
     forget(table);
 }

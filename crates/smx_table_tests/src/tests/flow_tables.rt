@@ -26,8 +26,8 @@ pub fn ethernet(rt: &impl Abort) -> DriverSpec
     driver
 }
 
-// The table of its queues.
-fn table(rt: &(impl AllocGlobal + Abort)) -> FlowTable
+/// The table of its queues.
+pub fn table(rt: &(impl AllocGlobal + Abort)) -> FlowTable
     ensures first { IsKnown result.drivers (record { driver = 0; minor = 0 }) }
     ensures second { IsKnown result.drivers (record { driver = 0; minor = 1 }) }
 {
@@ -69,7 +69,8 @@ fn walks(rt: &impl Abort, table: &FlowTable, serials: &[u32]) {
     assert!(rt; rest.next().is_none());
 }
 
-const DOWN: Place = Place {
+/// A write side.
+pub const DOWN: Place = Place {
     stream: StreamId {
         driver: 0,
         minor: 0,
@@ -77,7 +78,8 @@ const DOWN: Place = Place {
     side: Side::Write,
 };
 
-const UP: Place = Place {
+/// A read side behind it.
+pub const UP: Place = Place {
     stream: StreamId {
         driver: 0,
         minor: 1,
@@ -85,10 +87,11 @@ const UP: Place = Place {
     side: Side::Read,
 };
 
-// Two messages at a write side, and one that fills a read side behind it.
-fn fill(rt: &(impl AllocGlobal + Abort), table: &mut FlowTable)
+/// Two messages at a write side, and one that fills a read side behind it.
+pub fn fill(rt: &(impl AllocGlobal + Abort), table: &mut FlowTable)
     requires first { IsKnown table.old.drivers (record { driver = 0; minor = 0 }) }
     requires second { IsKnown table.old.drivers (record { driver = 0; minor = 1 }) }
+    ensures { table.new.drivers ≡ table.old.drivers }
 {
     put(rt, table, UP, 1, b"eight by");
     put(rt, table, DOWN, 2, b"two");

@@ -1,9 +1,10 @@
-//! Tables of links: 1,024 links over 128 drivers, in a chain, a fan and a ladder, and none more; and copies of these.
+//! Tables of links: two links, looked up and taken away; and 1,024 links over 128 drivers, in a chain, a fan and a ladder, and
+//! none more; and copies of these.
 
 ghost use Rattle.std.specs.Prelude.{◌≡◌, ◌<◌};
 
 use smx_links::{LinkFault, LinkTable};
-use smx_types::{LinkKind, StreamId};
+use smx_types::{Link, LinkKind, StreamId};
 use std::mem::forget;
 use std::process::Abort;
 
@@ -101,4 +102,67 @@ fn a_chain_a_fan_and_a_ladder(rt: HostRuntime) {
     is_at_its_limit(&rt, Shape::Chain);
     is_at_its_limit(&rt, Shape::Fan);
     is_at_its_limit(&rt, Shape::Ladder);
+}
+
+// Of a stream of driver 0 over one of driver 1.
+const FIRST: Link = Link {
+    id: 1,
+    ctl: StreamId {
+        driver: 0,
+        minor: 4,
+    },
+    lower: StreamId {
+        driver: 1,
+        minor: 5,
+    },
+    kind: LinkKind::Persistent,
+};
+
+// Of a stream of driver 1 over one of driver 2.
+const SECOND: Link = Link {
+    id: 2,
+    ctl: StreamId {
+        driver: 1,
+        minor: 6,
+    },
+    lower: StreamId {
+        driver: 2,
+        minor: 7,
+    },
+    kind: LinkKind::Ordinary,
+};
+
+fn link_two(rt: &impl Abort, table: &mut LinkTable)
+    requires { table.old.drivers ≡ 3 }
+{
+    assert!(rt; table.is_empty());
+    assert!(rt; table.try_link(FIRST.ctl, FIRST.lower, FIRST.kind) == Ok(1));
+    assert!(rt; table.try_link(SECOND.ctl, SECOND.lower, SECOND.kind) == Ok(2));
+}
+
+fn finds_two(rt: &impl Abort, table: &LinkTable) {
+    assert!(rt; table.get(1) == Some(&FIRST));
+    assert!(rt; table.at(1) == Some(&SECOND));
+    assert!(rt; table.above(SECOND.lower) == Some(&SECOND));
+    assert!(rt; table.is_below(FIRST.lower) && !table.is_below(FIRST.ctl));
+    assert!(rt; table.ordinary() == [SECOND].as_slice());
+    assert!(rt; table.next_id() == 3 && !table.is_empty());
+    assert!(rt; table.reaches(0, 2) && !table.reaches(2, 0));
+    assert!(rt; table.is_upper(1) && !table.is_upper(2));
+}
+
+// The second goes, and a link that is not there.
+fn removes_one(rt: &impl Abort, table: &mut LinkTable) {
+    table.remove_each(&[2, 9]);
+    assert!(rt; table.links() == [FIRST].as_slice());
+    assert!(rt; table.reaches(0, 1) && !table.reaches(0, 2));
+}
+
+#[test]
+fn two_links(rt: HostRuntime) {
+    let mut table = LinkTable::new(rt.alloc(), 3).expect(&rt, "memory");
+    link_two(&rt, &mut table);
+    finds_two(&rt, &table);
+    removes_one(&rt, &mut table);
+    forget(table);
 }

@@ -27,7 +27,14 @@ fn is_wanting(rt: &(impl Abort + Print)) {
     assert!(rt; println!(rt; "a call wanted memory").is_ok());
 }
 
-fn adds(rt: &(impl Abort + Print), queues: &mut Queues, high: usize, low: usize, number: usize) {
+/// A place with these marks gets this number.
+pub fn adds(
+    rt: &(impl Abort + Print),
+    queues: &mut Queues,
+    high: usize,
+    low: usize,
+    number: usize,
+) {
     assert!(rt; low < high && high <= 4096);
     let mut added = queues.add_place(high, low).ok();
     if added.is_none() {
@@ -53,7 +60,8 @@ fn bytes(rt: &(impl AllocGlobal + Abort), size: usize) -> Bytes {
     Bytes::from_vec(vec![in alloc; 0xaa; size].expect(rt, "memory"))
 }
 
-fn put(
+/// A message of this serial and so many bytes arrives.
+pub fn put(
     rt: &(impl AllocGlobal + Abort + Print),
     queues: &mut Queues,
     p: usize,

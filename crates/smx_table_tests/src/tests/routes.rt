@@ -1,4 +1,4 @@
-//! Tables of routes: routed, and routed anew, listed in their order, and copied.
+//! Tables of routes: routed, and routed anew, listed in their order, copied, looked up and taken away.
 
 use smx_addresses::Routes;
 use smx_types::Route;
@@ -57,10 +57,27 @@ fn copy_has_routes(rt: &(impl AllocGlobal + Abort), table: &Routes) {
     forget(again);
 }
 
+// One goes by its address, then that of link 3, and then those of link 2.
+fn unroutes(rt: &impl Abort, table: &mut Routes) {
+    let first = Some(Route {
+        driver: 0,
+        addr: 4,
+        id: 2,
+    });
+    assert!(rt; table.at(0, 4) == first && table.is_routed(0, 4));
+    assert!(rt; table.unroute(0, 4) == first);
+    assert!(rt; table.at(0, 4).is_none() && !table.is_routed(0, 4));
+    table.unroute_link(3);
+    assert!(rt; table.len() == 2 && !table.is_routed(1, 5));
+    table.unroute_links(&[1, 2]);
+    assert!(rt; table.is_empty());
+}
+
 #[test]
 fn routes_of_three_links(rt: HostRuntime) {
     let mut table = Routes::new(rt.alloc());
     has_routes(&rt, &mut table);
     copy_has_routes(&rt, &table);
+    unroutes(&rt, &mut table);
     forget(table);
 }

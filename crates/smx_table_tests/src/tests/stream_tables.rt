@@ -1,9 +1,10 @@
-//! Tables of streams at their limits: 64 processes with 16 descriptors each, and 128 drivers; and copies of these.
+//! Tables of streams: two streams, looked up, held, hung up and released; and at their limits, 64 processes with 16
+//! descriptors each, and 128 drivers; and copies of these.
 
 ghost use Rattle.std.specs.Prelude.{◌<◌};
 
 use smx_streams::{StreamFault, Streams};
-use smx_types::{Process, StreamId};
+use smx_types::{Descriptor, Process, StreamId};
 use std::mem::forget;
 use std::process::Abort;
 
@@ -72,5 +73,66 @@ fn the_most_drivers(rt: HostRuntime) {
     let mut table = Streams::new(rt.alloc(), &[255; 128]).expect(&rt, "memory");
     opens(&rt, &mut table, 0, (127, 254), Ok((0, stream(127, 254))));
     clones(&rt, &mut table, 0, 127, Ok((1, stream(127, 0))));
+    forget(table);
+}
+
+// Process 5 has two descriptors of one stream, and process 2 has one of another.
+fn open_two(rt: &impl Abort, table: &mut Streams) {
+    assert!(rt; table.first_fd().is_none());
+    clones(rt, table, 5, 0, Ok((0, stream(0, 0))));
+    clones(rt, table, 2, 0, Ok((0, stream(0, 1))));
+    assert!(rt; table.dup(process(rt, 5), 0) == Ok((1, stream(0, 0))));
+}
+
+fn finds_two(rt: &impl Abort, table: &Streams) {
+    assert!(rt; table.in_range(0, 1) && !table.in_range(0, 2));
+    assert!(rt; table.exists(stream(0, 1)) && !table.exists(stream(1, 0)));
+    assert!(rt; table.stream_of(process(rt, 5), 1) == Some(stream(0, 0)));
+    assert!(rt; table.is_last(process(rt, 2), 0) && !table.is_last(process(rt, 5), 0));
+}
+
+fn come_in_order(rt: &impl Abort, table: &Streams) {
+    let first = Descriptor {
+        process: process(rt, 2),
+        fd: 0,
+        stream: stream(0, 1),
+    };
+    let second = Descriptor {
+        process: process(rt, 5),
+        fd: 0,
+        stream: stream(0, 0),
+    };
+    assert!(rt; table.first_fd() == Some(first));
+    assert!(rt; table.next_fd(process(rt, 2), 1) == Some(second));
+}
+
+// It hangs up, is held, and loses its descriptors.
+fn holds(rt: &impl Abort, table: &mut Streams, held: StreamId) {
+    assert!(rt; table.exists(held) && table.holds_of(held) == 0);
+    table.hang(held);
+    table.hold(held);
+    table.close_process(process(rt, 5));
+    assert!(rt; table.stream_of(process(rt, 5), 0).is_none());
+    assert!(rt; table.is_hung(held) && table.holds_of(held) == 1);
+}
+
+// It alone has hung up, and goes with its hold.
+fn releases(rt: &impl Abort, table: &mut Streams, held: StreamId) {
+    let mut rest = table.hungs();
+    assert!(rt; rest.next() == Some(held));
+    assert!(rt; rest.next().is_none());
+    assert!(rt; table.holds_of(held) == 1);
+    assert!(rt; table.release(held));
+    assert!(rt; !table.exists(held) && !table.is_hung(held));
+}
+
+#[test]
+fn two_streams(rt: HostRuntime) {
+    let mut table = Streams::new(rt.alloc(), &[2, 1]).expect(&rt, "memory");
+    open_two(&rt, &mut table);
+    finds_two(&rt, &table);
+    come_in_order(&rt, &table);
+    holds(&rt, &mut table, stream(0, 0));
+    releases(&rt, &mut table, stream(0, 0));
     forget(table);
 }

@@ -6,8 +6,8 @@ use smx_types::{Place, Side, StreamId};
 use std::mem::forget;
 use std::process::Abort;
 
-// A side of a stream of driver 0.
-fn place(minor: u8, side: Side) -> Place {
+/// A side of a stream of driver 0.
+pub fn place(minor: u8, side: Side) -> Place {
     Place {
         stream: StreamId { driver: 0, minor },
         side,
@@ -28,6 +28,8 @@ fn copy_waits(rt: &(impl AllocGlobal + Abort), waiters: &Waiters) {
     one_waits(rt, &same);
     same.wait(place(1, Side::Write), place(0, Side::Write));
     assert!(rt; same.waits().len() == 2);
+    same.clear(place(1, Side::Write));
+    one_waits(rt, &same);
     forget(same);
 }
 
