@@ -3,6 +3,7 @@
 mod at_limits;
 mod copies;
 mod driver_counts;
+mod entries;
 mod faults;
 mod program_texts;
 mod spelling;
