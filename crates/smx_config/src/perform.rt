@@ -22,6 +22,7 @@ fn as_step_error(answer: Result<Reply, Fault>) -> Result<Reply, StepError>
 }
 
 impl Tables {
+    #[inline(always)]
     pub fn perform(
         &mut self,
         process: Process,

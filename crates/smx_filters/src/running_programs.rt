@@ -51,11 +51,13 @@ impl<'a, G: Gate> ProgramTaker for RunningPrograms<'a, G> {
 
     fn add_command(&mut self, alloc: Global, line: &[u8]) -> Result<bool, NoMemory> {
         let version = self.run.version();
-        let Some(command) = command_in(&mut self.room, alloc, version, line)? else {
+        let mut read = None;
+        command_in(&mut read, &mut self.room, alloc, version, line)?;
+        let Some(command) = &read else {
             return Ok(false);
         };
-        self.run.add_line(self.gate, &command, line);
-        if let Command::Write { bytes, .. } | Command::Inject { bytes, .. } = command {
+        self.run.add_line(self.gate, command, line);
+        if let Some(Command::Write { bytes, .. } | Command::Inject { bytes, .. }) = read {
             self.room = bytes.into_vec();
         }
         Ok(true)

@@ -1,11 +1,12 @@
 -- Bits of words, and what one link more joins.
 use Rattle.std.proofs.Common.{◌≡◌, ℕ, zero, suc, ◌<◌, ◌≤◌, ◌^◌, Bool, true, false, ◌&&◌, ◌||◌, eqb, cond, List, length}
-use Rattle.std.proofs.Common.{get_or, max, min, bit_and, bit_or, not, refl, sym, ap, ◌∙◌, arith, inl, inr}
+use Rattle.std.proofs.Common.{◌+◌, ◌*◌, ◌/◌, ◌%◌, get_or, max, min, bit_and, bit_or, not, refl, sym, ap, ◌∙◌, arith, inl, inr}
 use Rattle.std.specs.Int.{bit_at}
-use Rattle.std.proofs.lemmas.Bool.{eqb-true, eq-eqb, cases_eq, cases_lt, false_from_ne_true}
+use Rattle.std.proofs.lemmas.Bool.{eqb-true, eq-eqb, cases_eq, cases_lt, false_from_ne_true, ne_eqb}
 use Rattle.std.proofs.lemmas.List.{get_or_past}
 use Rattle.std.proofs.lemmas.Nat.Bits.{bit_at_and, bit_at_or, bit_at-lt, bit_at-pow_same, bit_at-pow_other, bit_at-zero}
-use Rattle.std.proofs.lemmas.Nat.Bits.{bit_at_above}
+use Rattle.std.proofs.lemmas.Nat.Bits.{and_pow, bit_at_above}
+use Rattle.std.proofs.lemmas.Nat.{pow_pos, pow-add, shr-shr, one_shl}
 use Rattle.smx_links.specs.declared.masks.TheConstants.{WORD_BITS}
 use Rattle.smx_links.specs.Masks.{is_set, has_bit, AreJoined}
 
@@ -87,6 +88,24 @@ is_set_and v w b = rw (bit_at_and v w b) (set_min (bit_at v b) (bit_at w b) (bit
   set_min (suc zero) (suc zero) h k = refl
   set_min (suc (suc x)) y h k = absurd (omega arith)
   set_min (suc zero) (suc (suc y)) h k = absurd (omega arith)
+
+-- a word has a bit exactly where it meets the word of that bit alone
+pub meets_bit : (w b : ℕ) → not (eqb (bit_and w (2 ^ b)) 0) ≡ is_set w b
+meets_bit w b = rw (and_pow w b) (some (bit_at w b) (2 ^ b) (bit_at-lt w b) (pow_pos b)) where
+  some : (x p : ℕ) → x < 2 → 0 < p → not (eqb (x * p) 0) ≡ eqb x 1
+  some zero p h k = ap not (eq-eqb (0 * p) 0 (omega arith))
+  some (suc zero) p h k = ap not (ne_eqb (1 * p) 0 (λ e. absurd (omega (arith, e, k))))
+  some (suc (suc x)) p h k = absurd (omega arith)
+
+-- the bits above the lowest one are each a place lower in the half
+pub set_above : (w b : ℕ) → is_set (w / 2) b ≡ is_set w (b + 1)
+set_above w b = ap (λ n. eqb (n % 2) 1) (shr-shr w 1 b ∙ ap (λ k. w / 2 ^ k) (omega arith))
+
+-- the next power of two, of a word that has room for it
+pub next_power : (b lone : ℕ) → b + 1 < WORD_BITS → lone ≡ 2 ^ b → lone * 2 % 2 ^ WORD_BITS ≡ 2 ^ (b + 1)
+next_power b lone fits is =
+    let twice : lone * 2 ≡ 1 * 2 ^ (b + 1) = ap (λ n. n * 2) is ∙ sym (pow-add 2 b 1) ∙ omega arith in
+    ap (λ n. n % 2 ^ WORD_BITS) twice ∙ one_shl (b + 1) WORD_BITS fits
 
 -- one bit more
 pub is_set_with : (w k b : ℕ) → is_set (bit_or w (2 ^ k)) b ≡ (is_set w b || eqb k b)

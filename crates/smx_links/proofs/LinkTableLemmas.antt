@@ -16,11 +16,10 @@ use Rattle.smx_model.specs.Standing.{is_below}
 use Rattle.smx_links.specs.declared.link_fault.LinkFault.{LinkFault}
 use Rattle.smx_links.specs.Ids.{Rows, HasIds}
 use Rattle.smx_links.specs.LinkLists.{LinkList, ordinary_of, refusal}
-use Rattle.smx_links.specs.Masks.{AreJoined, AreMasks, IsWithin, LeadAlikeBut}
+use Rattle.smx_links.specs.Masks.{AreMasks, IsWithin, LeadAlikeBut}
 use Rattle.smx_links.specs.Pairs.{AreCounts, with_one_more}
 use Rattle.smx_links.specs.TableFields.{AreParts, list_of_parts}
 use Rattle.smx_links.proofs.CountLemmas.{counts_more, fewer}
-use Rattle.smx_links.proofs.MaskLemmas.{Joins, masks_push}
 
 -- no refusal applies
 
@@ -56,17 +55,17 @@ is_free t ctl lower h =
 -- one link more
 
 -- the fields of a table with one link more
-pub parts_push : Joins → (ws vs : List ℕ) (ls os ks : List Link) (es fs : Rows) (ps : List ℕ) (n : ℕ)
+pub parts_push : (ws vs : List ℕ) (ls os ks : List Link) (es fs : Rows) (ps : List ℕ) (n : ℕ)
     (ctl lower : StreamId) (kind : LinkKind) → AreParts ws ls os es ps n → IsFree (list_of_parts ws ls n) ctl lower
     → ctl.driver < length ws → lower.driver < length ws
     → AreLinksSound (ls ++ record { id = n; ctl = ctl; lower = lower; kind = kind } ∷ [])
     → AreIdsRising (ls ++ record { id = n; ctl = ctl; lower = lower; kind = kind } ∷ []) (n + 1)
     → HasIds fs (ls ++ record { id = n; ctl = ctl; lower = lower; kind = kind } ∷ []) → length fs ≡ length es
     → ks ≡ ordinary_of (ls ++ record { id = n; ctl = ctl; lower = lower; kind = kind } ∷ [])
-    → length vs ≡ length ws → AreJoined ws ctl.driver lower.driver vs
+    → length vs ≡ length ws → AreMasks (ls ++ record { id = n; ctl = ctl; lower = lower; kind = kind } ∷ []) vs
     → AreParts vs (ls ++ record { id = n; ctl = ctl; lower = lower; kind = kind } ∷ []) ks fs
     (with_one_more (length ws) ps (record { id = n; ctl = ctl; lower = lower; kind = kind })) (n + 1)
-parts_push joins ws vs ls os ks es fs ps n ctl lower kind h free up low sound ids more rows same long joined = record {
+parts_push ws vs ls os ks es fs ps n ctl lower kind h free up low sound ids more rows same long masks = record {
   list = record {
     sound = sound;
     ids = ids;
@@ -76,7 +75,7 @@ parts_push joins ws vs ls os ks es fs ps n ctl lower kind h free up low sound id
   };
   within = rw long (All-push (IsWithin (length ws)) ls _ h.within (up, low));
   few = rw long h.few;
-  masks = masks_push joins ls _ ws vs h.masks joined;
+  masks = masks;
   ordinary = same;
   ids = more;
   rows = rows ∙ h.rows ∙ sym long;

@@ -4,7 +4,7 @@ use Rattle.std.proofs.Common.{sym, ◌∙◌}
 use Rattle.std.proofs.lemmas.Bool.{cases_Bool, or_cases, or_left, and_parts, eqb-true, false_from_ne_true, both_ways}
 use Rattle.smx_types.specs.declared.link.Link.{Link}
 use Rattle.smx_model.specs.Paths.{reaches}
-use Rattle.smx_links.specs.Masks.{AreJoined, AreMasks, LeadAlike}
+use Rattle.smx_links.specs.Masks.{has_bit, AreJoined, AreMasks, LeadAlike}
 
 -- what the laws of paths say
 
@@ -51,3 +51,9 @@ known_same trans ls l k a b = elim (cases_Bool (reaches ls a b)) [
   | inl t ↦ t ∙ sym (or_left _ _ t)
   | inr f ↦ f ∙ sym (false_from_ne_true (reaches (l ∷ ls) a b) (λ t. both_ways _ f (known trans ls l a b k t)))
 ]
+
+-- the masks with one link more along a path that is there
+pub masks_known : Joins → PathsJoin → (ls : List Link) (l : Link) (ws : List ℕ) → AreMasks ls ws
+    → has_bit ws l.ctl.driver l.lower.driver ≡ true → AreMasks (ls ++ l ∷ []) ws
+masks_known joins trans ls l ws m k a b =
+    m a b ∙ known_same trans ls l (sym (m l.ctl.driver l.lower.driver) ∙ k) a b ∙ sym (joins ls l a b)

@@ -1,13 +1,13 @@
 -- Where links go, only the masks of drivers that lost some, and of those that led to one, are other than before.
 use Rattle.std.proofs.Common.{◌≡◌, ℕ, ◌<◌, ◌≤◌, ◌^◌, Bool, true, false, ◌&&◌, ◌||◌, ◌+◌, not, cond, eqb, List, [], ◌∷◌}
-use Rattle.std.proofs.Common.{length, filter, find}
+use Rattle.std.proofs.Common.{length, filter, find, set}
 use Rattle.std.proofs.Common.{get_or, bit_and, bit_or, Some, refl, sym, ap, subst, ◌∙◌, arith, inl, inr, if◌then◌else◌}
 use Rattle.std.specs.Prelude.{nat_lt}
 use Rattle.std.specs.Int.Bits.{and_le_r, and_zero_l}
 use Rattle.std.proofs.lemmas.Bool.{cases_Bool, cases_eq, cases_lt, and_parts, and_from, eqb-true, eq-eqb}
 use Rattle.std.proofs.lemmas.Bool.{false_from_ne_true, false≢true, ne_eqb, or_left, or_parts, or_right}
 use Rattle.std.proofs.lemmas.Bool.Decides.{nat_tests}
-use Rattle.std.proofs.lemmas.List.{get_or_past}
+use Rattle.std.proofs.lemmas.List.{get_or_past, get_or-set_other, get_or-set_same}
 use Rattle.std.proofs.lemmas.List.Elements.{filter_agree}
 use Rattle.smx_types.specs.declared.link.Link.{Link}
 use Rattle.smx_model.specs.Ordered.{IsRising}
@@ -110,6 +110,25 @@ fresh_led trans ws lost a b old fits m h path =
           let on = trans old a b some.0 path (sym (m b some.0) ∙ both.0) in
           absurd (false≢true (sym (clear.led some.0 on) ∙ both.1))
     ])
+
+-- the word of a stale driver is cleared with those before it
+pub cleared_more : (old ws : List ℕ) (stale i : ℕ) → i < length ws → is_set stale i ≡ true
+    → ((k : ℕ) → k < i → get_or ws k 0 ≡ cond (is_set stale k) 0 (get_or old k 0)) → (k : ℕ) → k < i + 1
+    → get_or (set ws i 0) k 0 ≡ cond (is_set stale k) 0 (get_or old k 0)
+cleared_more old ws stale i here bit so_far k lt = elim (cases_eq k i) [
+  | inl same ↦ rw (same, bit) (get_or-set_same ws i 0 0 here)
+  | inr other ↦ get_or-set_other ws i k 0 0 other ∙ so_far k (grind (arith, nat_tests))
+]
+
+-- the word of another driver stays with those before it
+pub cleared_same : (old ws : List ℕ) (stale i : ℕ) → is_set stale i ≡ false
+    → ((k : ℕ) → k < i → get_or ws k 0 ≡ cond (is_set stale k) 0 (get_or old k 0))
+    → get_or ws i 0 ≡ get_or old i 0 → (k : ℕ) → k < i + 1
+    → get_or ws k 0 ≡ cond (is_set stale k) 0 (get_or old k 0)
+cleared_same old ws stale i bit so_far here k lt = elim (cases_eq k i) [
+  | inl same ↦ rw (same, bit) here
+  | inr other ↦ so_far k (grind (arith, nat_tests))
+]
 
 -- words of which those of stale drivers are cleared
 pub cleared_words : (old new : List ℕ) (stale : ℕ) → length new ≡ length old

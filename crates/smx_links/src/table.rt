@@ -12,7 +12,7 @@ ghost use Rattle.smx_links.specs.LinkLists.{with_link, without_id, without_ids};
 use crate::ids::{Ids, copy_ids, no_ids};
 use crate::link_fault::LinkFault;
 use crate::links::{above, get, is_below, lose, put, take, take_each};
-use crate::masks::{Word, has_any_bit, has_bit, join, renew};
+use crate::masks::{Word, has_any_bit, has_bit, join_link, renew};
 use crate::pairs::{Count, count};
 use smx_model::laws_of_links::{
     fewer_links_stay_sound, linking_keeps_soundness, linking_takes_the_next_id, no_links_are_sound,
@@ -24,7 +24,7 @@ use std::marker::Model;
 
 /// Links in the order of their ids, without a cycle, and no stream below two of them. A contract sees the list, the
 /// next id and the number of drivers.
-#[derive(Debug, Drop)]
+#[derive(Debug)]
 pub struct LinkTable {
     masks: Vec<Word>,
     // By rising id.
@@ -35,6 +35,20 @@ pub struct LinkTable {
     // A row for each upper driver, with an entry for each lower one.
     pairs: Vec<Count>,
     next_id: u32,
+}
+
+impl Drop for LinkTable {
+    // One call in each body that has one, however many ways it ends, in place of a drop for each part.
+    fn drop(self) {
+        let LinkTable {
+            masks: _masks,
+            links: _links,
+            ordinary: _ordinary,
+            ids: _ids,
+            pairs: _pairs,
+            next_id: _,
+        } = self;
+    }
 }
 
 impl Model for LinkTable {
@@ -85,7 +99,6 @@ impl LinkTable {
     {
         linking_keeps_soundness();
         linking_takes_the_next_id();
-        one_link_more_joins();
         if let Some(fault) = self.refusal(ctl, lower) {
             return Err(fault);
         }
@@ -98,7 +111,7 @@ impl LinkTable {
         };
         put(&mut self.links, &mut self.ordinary, &mut self.ids, link)?;
         count(&mut self.pairs, self.masks.len(), link);
-        join(&mut self.masks, ctl.driver, lower.driver);
+        join_link(&mut self.masks, link);
         self.next_id = id + 1;
         Ok(id)
     }

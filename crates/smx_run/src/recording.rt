@@ -119,10 +119,12 @@ impl<K: Recorder> Recording<K> {
     {
         one_entry_more();
         let process = self.process;
-        let reply = self.config.step(process, command)?;
-        match line {
-            Some(line) => self.recorder.add_line(process, command, line, &reply),
-            None => self.recorder.add(process, command, &reply),
+        match &self.config.step(process, command) {
+            Ok(reply) => match line {
+                Some(line) => self.recorder.add_line(process, command, line, reply),
+                None => self.recorder.add(process, command, reply),
+            },
+            Err(NoMemory) => Err(NoMemory),
         }
     }
 

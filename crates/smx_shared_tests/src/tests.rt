@@ -1,16 +1,20 @@
-//! Systems, alone and shared by threads, and runs.
+//! Configurations, systems, alone and shared by threads, and runs.
 
+mod at_limits;
 mod callers;
 mod doors;
 mod gates;
 mod gathered;
-mod holds;
+mod growing;
 mod made;
 mod recorded;
 mod runs;
-mod shared;
+mod seats;
 mod shared_use;
 mod stage;
+mod sweeps;
 mod systems;
 mod told;
 mod tried_again;
+mod verdicts;
+mod worked;

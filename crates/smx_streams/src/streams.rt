@@ -23,11 +23,22 @@ use std::marker::Model;
 
 /// The descriptors of all processes, how many holds each stream has, and which have hung up. A contract sees the
 /// minors of each driver, the list of descriptors, the holds, and the list of hung-up streams.
-#[derive(Debug, Drop)]
+#[derive(Debug)]
 pub struct Streams {
     alloc: Global,
     descriptors: Descriptors,
     records: Records,
+}
+
+impl Drop for Streams {
+    // One call in each body that has one, however many ways it ends, in place of a drop for each part.
+    fn drop(self) {
+        let Streams {
+            alloc: _,
+            descriptors: _descriptors,
+            records: _records,
+        } = self;
+    }
 }
 
 impl Model for Streams {

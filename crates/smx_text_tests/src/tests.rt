@@ -1,18 +1,12 @@
-//! Values and texts that were typed in, and what comes of them.
+//! Texts that were typed in, and what comes of them.
 
-mod asked;
 mod at_limits;
-mod command_lines;
 mod copies;
 mod driver_counts;
-mod entry_lines;
-mod hangup_lines;
-mod plain_values;
-mod program_faults;
+mod entries;
+mod faults;
 mod program_texts;
 mod spelling;
+mod sweeps;
 mod taken_lines;
-mod transcript_faults;
 mod transcript_texts;
-mod versions;
-mod view_lines;

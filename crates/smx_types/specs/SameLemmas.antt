@@ -1,9 +1,9 @@
 -- What `==` tells of the larger values, where a search through all cases at once finds nothing.
-use Rattle.std.specs.Prelude.{◌≡◌, Bool, List}
-use Rattle.std.proofs.Common.{rules, ap, ◌∙◌}
+use Rattle.std.specs.Prelude.{◌≡◌, ℕ, Bool, false, List}
+use Rattle.std.proofs.Common.{rules, arith, refl, ap, ◌∙◌, eqb}
 use Rattle.std.specs.Bool.{Decides}
 use Rattle.std.specs.Cmp.Lexicographic.{pointwise, pointwise_decides}
-use Rattle.std.proofs.lemmas.Bool.Decides.{Decides-and}
+use Rattle.std.proofs.lemmas.Bool.Decides.{Decides-and, nat_tests}
 use Rattle.smx_types.specs.declared.command.Command.{Command}
 use Rattle.smx_types.specs.declared.command.Command.TheVariants as command
 use Rattle.smx_types.specs.declared.driver.DriverSpec.{DriverSpec}
@@ -30,27 +30,77 @@ use Rattle.smx_types.specs.contracts.view.RouteLinePartialEq.TheImpl as of_route
 abbrev pub Tells : {X : Type 0} → (X → X → Bool) → Type 0
 Tells {X} test = (a b : X) → Decides (test a b) (a ≡ b)
 
--- a search for each command, since all of them at once are too many for one
+-- a number for each kind of command
+abbrev number_of : Command → ℕ
+number_of (command.OpenClone _) = 0
+number_of (command.OpenMinor _ _) = 1
+number_of (command.Dup _) = 2
+number_of (command.Close _) = 3
+number_of command.CloseAll = 4
+number_of (command.Link _ _) = 5
+number_of (command.Plink _ _) = 6
+number_of (command.Unlink _ _) = 7
+number_of (command.Punlink _ _) = 8
+number_of (command.Bind _ _) = 9
+number_of (command.Unbind _) = 10
+number_of (command.Route _ _ _) = 11
+number_of (command.Unroute _ _) = 12
+number_of (command.Write _ _ _) = 13
+number_of (command.Read _) = 14
+number_of (command.Flush _ _) = 15
+number_of (command.Inject _ _ _ _) = 16
+number_of (command.Transmit _ _) = 17
+number_of (command.Hangup _ _) = 18
+
+-- commands of two kinds differ, and the test says so
+apart : (a b : Command) → eqb (number_of a) (number_of b) ≡ false → of_command.ghosts.eq a b ≡ false
+    → Decides (of_command.ghosts.eq a b) (a ≡ b)
+apart a b other says = (λ h. absurd (cc (h, says)), λ e. absurd (differs e)) where
+  differs : a ≡ b → ⊥
+  differs e =
+      let same : eqb (number_of a) (number_of a) ≡ false = ap (λ (x : Command). eqb (number_of a) (number_of x)) e ∙ other in
+      grind (arith, nat_tests)
+
+-- a search for each kind of command, since all of them at once are too many for one
 pub command_tells : Tells of_command.ghosts.eq
-command_tells (command.OpenClone d) b = search rules
-command_tells (command.OpenMinor d m) b = search rules
-command_tells (command.Dup f) b = search rules
-command_tells (command.Close f) b = search rules
-command_tells command.CloseAll b = search rules
-command_tells (command.Link f a) b = search rules
-command_tells (command.Plink f a) b = search rules
-command_tells (command.Unlink f w) b = search rules
-command_tells (command.Punlink f w) b = search rules
-command_tells (command.Bind f a) b = search rules
-command_tells (command.Unbind f) b = search rules
-command_tells (command.Route f a i) b = search rules
-command_tells (command.Unroute f a) b = search rules
-command_tells (command.Write f a bytes) b = search rules
-command_tells (command.Read f) b = search rules
-command_tells (command.Flush f s) b = search rules
-command_tells (command.Inject d m a bytes) b = search rules
-command_tells (command.Transmit d m) b = search rules
-command_tells (command.Hangup d m) b = search rules
+command_tells (command.OpenClone k) (command.OpenClone k') = search rules
+command_tells (command.OpenClone k) b = apart (command.OpenClone k) b refl refl
+command_tells (command.OpenMinor k l) (command.OpenMinor k' l') = search rules
+command_tells (command.OpenMinor k l) b = apart (command.OpenMinor k l) b refl refl
+command_tells (command.Dup k) (command.Dup k') = search rules
+command_tells (command.Dup k) b = apart (command.Dup k) b refl refl
+command_tells (command.Close k) (command.Close k') = search rules
+command_tells (command.Close k) b = apart (command.Close k) b refl refl
+command_tells command.CloseAll command.CloseAll = search rules
+command_tells command.CloseAll b = apart command.CloseAll b refl refl
+command_tells (command.Link k l) (command.Link k' l') = search rules
+command_tells (command.Link k l) b = apart (command.Link k l) b refl refl
+command_tells (command.Plink k l) (command.Plink k' l') = search rules
+command_tells (command.Plink k l) b = apart (command.Plink k l) b refl refl
+command_tells (command.Unlink k l) (command.Unlink k' l') = search rules
+command_tells (command.Unlink k l) b = apart (command.Unlink k l) b refl refl
+command_tells (command.Punlink k l) (command.Punlink k' l') = search rules
+command_tells (command.Punlink k l) b = apart (command.Punlink k l) b refl refl
+command_tells (command.Bind k l) (command.Bind k' l') = search rules
+command_tells (command.Bind k l) b = apart (command.Bind k l) b refl refl
+command_tells (command.Unbind k) (command.Unbind k') = search rules
+command_tells (command.Unbind k) b = apart (command.Unbind k) b refl refl
+command_tells (command.Route k l m) (command.Route k' l' m') = search rules
+command_tells (command.Route k l m) b = apart (command.Route k l m) b refl refl
+command_tells (command.Unroute k l) (command.Unroute k' l') = search rules
+command_tells (command.Unroute k l) b = apart (command.Unroute k l) b refl refl
+command_tells (command.Write k l m) (command.Write k' l' m') = search rules
+command_tells (command.Write k l m) b = apart (command.Write k l m) b refl refl
+command_tells (command.Read k) (command.Read k') = search rules
+command_tells (command.Read k) b = apart (command.Read k) b refl refl
+command_tells (command.Flush k l) (command.Flush k' l') = search rules
+command_tells (command.Flush k l) b = apart (command.Flush k l) b refl refl
+command_tells (command.Inject k l m n) (command.Inject k' l' m' n') = search rules
+command_tells (command.Inject k l m n) b = apart (command.Inject k l m n) b refl refl
+command_tells (command.Transmit k l) (command.Transmit k' l') = search rules
+command_tells (command.Transmit k l) b = apart (command.Transmit k l) b refl refl
+command_tells (command.Hangup k l) (command.Hangup k' l') = search rules
+command_tells (command.Hangup k l) b = apart (command.Hangup k l) b refl refl
 
 pub reply_tells : Tells of_reply.ghosts.eq
 reply_tells a b = search rules

@@ -3,9 +3,8 @@ use Rattle.std.proofs.Common.{◌≡◌, ◌≢◌, ℕ, zero, suc, ◌+◌, ◌
 use Rattle.std.proofs.Common.{◌∷◌, ◌++◌, length, slice_index, take, drop, refl, sym, ap, ◌∙◌, arith}
 use Rattle.std.proofs.Common.{drop-cons, add-one}
 use Rattle.std.proofs.lemmas.Bool.Decides.{nat_tests}
-use Rattle.std.proofs.lemmas.List.{append_cancel_left, length-append, take-append-drop, take_rest}
-use Rattle.std.proofs.lemmas.Slice.Eq.{bytes_eq-Decides}
-use Rattle.std.specs.Str.{bytes_eq}
+use Rattle.std.proofs.lemmas.List.{length-append, take-append-drop, take_rest}
+use Rattle.std.specs.Prelude.{IsTrue, ◌↔◌}
 use Rattle.memchr.specs.Find.{Nowhere, Passes, is_byte}
 use Rattle.smx_words.specs.Words.{SPACE, IsFree}
 
@@ -83,22 +82,9 @@ pub no_field : {X : Type 0} (Fits : X → Type 0) (word_of : X → List ℕ)
 no_field Fits word_of free bytes word rest clear is none x after fits e =
     none x fits (apart SPACE word (word_of x) rest after clear (free x fits) (sym is ∙ e)).0
 
--- what bytes don't begin with, they are not with more behind it
-pub not_behind : (bytes given front : List ℕ) → given ≡ front → ((rest : List ℕ) → bytes ≢ given ++ rest)
-    → (rest : List ℕ) → bytes ≢ front ++ rest
-not_behind bytes given front same none rest e = none rest (e ∙ ap (λ (x : List ℕ). x ++ rest) (sym same))
-
--- and what they begin with stands before the rest
-pub behind : (bytes given front rest more : List ℕ) → given ≡ front → bytes ≡ given ++ rest
-    → bytes ≡ front ++ more → rest ≡ more
-behind bytes given front rest more same is e =
-    append_cancel_left front rest more (ap (λ (x : List ℕ). x ++ rest) (sym same) ∙ sym is ∙ e)
-
 -- what the code's test says of other bytes
-pub differs : (bytes given word : List ℕ) (r : Bool) → given ≡ word → r ≡ bytes_eq bytes given → r ≡ false
-    → bytes ≢ word
-differs bytes given word r is test other e = let same = (bytes_eq-Decides bytes given).1 (e ∙ sym is) in
-    let bad : true ≡ false = sym same ∙ sym test ∙ other in absurd (cc bad)
+pub differs : (bytes word : List ℕ) (r : Bool) → (IsTrue r ↔ (bytes ≡ word)) → r ≡ false → bytes ≢ word
+differs bytes word r is other e = let same = is.1 e in absurd (cc (same, other))
 
 -- a word has no space in it
 pub no_space_in : (v after w : List ℕ) → IsFree SPACE w → v ++ SPACE ∷ after ≡ w → ⊥

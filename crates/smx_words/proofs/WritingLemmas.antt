@@ -1,18 +1,47 @@
 -- What is written piece by piece, as one line.
 use Rattle.std.proofs.Common.{◌≡◌, ℕ, ◌+◌, ◌/◌, ◌%◌, ◌^◌, ◌<◌, ◌≤◌, List, [], ◌∷◌, ◌++◌, length, get_or}
-use Rattle.std.proofs.Common.{slice_index, take, map, sym, ap, ◌∙◌, arith}
+use Rattle.std.proofs.Common.{slice_index, take, map, sym, ap, ◌∙◌, append_assoc, arith}
 use Rattle.std.proofs.lemmas.Fmt.{decimal_digit, decimal_step}
-use Rattle.std.proofs.lemmas.List.{append-nil, take_more}
+use Rattle.std.proofs.lemmas.Grind.{flat_map-append}
+use Rattle.std.proofs.lemmas.List.{append-nil, map-append, take_more}
+use Rattle.std.proofs.lemmas.List.Concat.{flat_map-cons}
 use Rattle.std.specs.Fmt.{decimal}
-use Rattle.std.specs.List.{flat_map}
+use Rattle.std.specs.List.{AllByRecursion, flat_map}
 use Rattle.hex.specs.Hex.{encode_lower, lower_digits}
-use Rattle.smx_words.specs.Words.{line_of}
+use Rattle.smx_words.specs.Words.{LINE_FEED, line_of, text_of}
 use Rattle.smx_words.proofs.HexLemmas.{encode_push}
 
 -- a word and then numbers
 pub numbers_line : (w : List ℕ) (ns : List ℕ) → line_of (w ∷ map decimal ns) ≡ w ++ flat_map (λ n. 32 ∷ decimal n) ns
 numbers_line w [] = sym (append-nil w)
 numbers_line w (n ∷ ns) = ap (λ (l : List ℕ). w ++ 32 ∷ l) (numbers_line (decimal n) ns)
+
+-- ---- what a loop has written, with one more
+
+-- the pieces of some, and that of one more
+pieces : {X : Type 0} (f : X → List ℕ) (xs : List X) (x : X) → flat_map f (xs ++ x ∷ []) ≡ flat_map f xs ++ f x
+pieces f xs x = flat_map-append f xs (x ∷ [])
+    ∙ ap (λ (l : List ℕ). flat_map f xs ++ l) (flat_map-cons f x [] ∙ append-nil (f x))
+
+-- the lines of some, and that of one more
+pub lines_more : {X : Type 0} (words : X → List (List ℕ)) (xs : List X) (i : ℕ) (x : X) (new old start : List ℕ)
+    → take (i + 1) xs ≡ take i xs ++ x ∷ [] → new ≡ old ++ line_of (words x) ++ LINE_FEED ∷ []
+    → old ≡ start ++ text_of (map words (take i xs)) → new ≡ start ++ text_of (map words (take (i + 1) xs))
+lines_more {X} words xs i x new old start one line before =
+    let whole : map words (take (i + 1) xs) ≡ map words (take i xs) ++ words x ∷ [] =
+    ap (λ (l : List X). map words l) one ∙ map-append words (take i xs) (x ∷ []) in
+    let text : text_of (map words (take (i + 1) xs)) ≡ text_of (map words (take i xs)) ++ line_of (words x) ++ LINE_FEED ∷ [] =
+    ap text_of whole ∙ pieces (λ ws. line_of ws ++ LINE_FEED ∷ []) (map words (take i xs)) (words x)
+    ∙ sym (append_assoc (text_of (map words (take i xs))) (line_of (words x)) (LINE_FEED ∷ [])) in
+    line ∙ ap (λ (l : List ℕ). l ++ line_of (words x) ++ LINE_FEED ∷ []) before ∙ simp (text, append_assoc)
+
+-- what holds of some and of one more holds of all of them
+pub all_more : {X : Type 0} (P : X → Type 0) (xs : List X) (i : ℕ) (x : X) → take (i + 1) xs ≡ take i xs ++ x ∷ []
+    → P x → AllByRecursion P (take i xs) → AllByRecursion P (take (i + 1) xs)
+all_more {X} P xs i x one holds before = rw one (push (take i xs) before) where
+  push : (ys : List X) → AllByRecursion P ys → AllByRecursion P (ys ++ x ∷ [])
+  push [] h = (holds, tt)
+  push (y ∷ ys) h = (h.0, push ys h.1)
 
 -- ---- short numbers, digit by digit
 

@@ -1,11 +1,13 @@
 //! Runs, checks and replays with devices that stop once, at each read and at each write, and would then go on.
 
-use super::checks::{OTHER_CONFIGURATION, TWO_PROCESSES, WRONG_REPLY};
-use super::devices::{ERRORS, Stop, TWO_ERRORS, one_byte_feed, one_byte_sink};
-use super::jobs::{Job, perform};
-use super::replays::{IN_TURN, IN_TURN_REPLAYED};
-use super::runs::{OPENED_AND_CLOSED, OPENS_AND_CLOSES};
+use super::devices::{ERRORS, Stop, TWO_ERRORS};
+use super::jobs::{Job, ends_so, outcome};
+use super::texts::{
+    IN_TURN, IN_TURN_REPLAYED, OPENED_AND_CLOSED, OPENS_AND_CLOSES, OTHER_CONFIGURATION,
+    TWO_PROCESSES, WRONG_REPLY,
+};
 use std::io::ErrorKind;
+use std::mem::forget;
 use std::process::Abort;
 use std::sync::Wait;
 use std::thread::Threads;
@@ -27,13 +29,11 @@ fn writes_nothing<R: AllocGlobal + Abort + Threads + Wait + Sync>(
     reads: usize,
     kind: ErrorKind,
 ) {
-    let mut feed = one_byte_feed(input, reads, kind);
-    let mut sink = one_byte_sink(rt.alloc(), usize::MAX, Stop::TakesNone);
-    let (line, status) = perform(rt, job, &mut feed, &mut sink);
-    assert!(rt; line.as_str() == "read failed", "after {reads} reads");
-    assert_eq!(rt; status, 5);
-    assert_eq!(rt; feed.reader.asked, reads.saturating_add(1));
-    assert_eq!(rt; sink.writer.asked, 0);
+    let ran = outcome(rt, job, input, reads, kind, usize::MAX, Stop::TakesNone);
+    ends_so(rt, &ran, "read failed", 5, b"");
+    assert!(rt; ran.reads == reads.saturating_add(1));
+    assert!(rt; ran.calls == 0);
+    forget(ran);
 }
 
 // So it is at each read, the one that shows the end among them.
@@ -59,14 +59,13 @@ fn ends<R: AllocGlobal + Abort + Threads + Wait + Sync>(
 ) {
     let reads = input.len().saturating_add(1);
     let calls = output.len().saturating_add(1);
-    let mut feed = one_byte_feed(input, reads, ErrorKind::Other);
-    let mut sink = one_byte_sink(rt.alloc(), calls, Stop::Fails(ErrorKind::Other));
-    let (_line, status) = perform(rt, job, &mut feed, &mut sink);
-    assert_eq!(rt; status, wanted);
-    assert!(rt; sink.writer.taken.as_slice() == output);
-    assert!(rt; sink.flushed);
-    assert_eq!(rt; feed.reader.asked, reads);
-    assert_eq!(rt; sink.writer.asked, calls);
+    let stop = Stop::Fails(ErrorKind::Other);
+    let ran = outcome(rt, job, input, reads, ErrorKind::Other, calls, stop);
+    ends_so(rt, &ran, "", wanted, output);
+    assert!(rt; ran.flushed);
+    assert!(rt; ran.reads == reads);
+    assert!(rt; ran.calls == calls);
+    forget(ran);
 }
 
 #[test]
@@ -85,13 +84,10 @@ fn leaves<R: AllocGlobal + Abort + Threads + Wait + Sync>(
     stop: Stop,
 ) {
     let writes = beginning.len();
-    let mut feed = one_byte_feed(input, usize::MAX, ErrorKind::Other);
-    let mut sink = one_byte_sink(rt.alloc(), writes, stop);
-    let (line, status) = perform(rt, job, &mut feed, &mut sink);
-    assert!(rt; line.as_str() == "write failed", "after {writes} writes");
-    assert_eq!(rt; status, 5);
-    assert!(rt; sink.writer.taken.as_slice() == beginning);
-    assert_eq!(rt; sink.writer.asked, writes.saturating_add(1));
+    let ran = outcome(rt, job, input, usize::MAX, ErrorKind::Other, writes, stop);
+    ends_so(rt, &ran, "write failed", 5, beginning);
+    assert!(rt; ran.calls == writes.saturating_add(1));
+    forget(ran);
 }
 
 // So it does behind each beginning, and behind the whole where the flush fails.

@@ -1,16 +1,15 @@
-//! What the filters and a live session are asked to do, over memory and over devices.
+//! What the filters and a live session are asked to do.
 
 ghost use Rattle.std.specs.Prelude.{◌≡◌, false};
 
+use super::devices::{Stop, one_byte_feed, one_byte_sink};
 use smx_config::Verdict;
-use smx_draw::Form;
-use smx_filters::{
-    Done, Feed, MainFault, Sink, Source, Target, check_text, draw_text, replay_text, run_text,
-};
+use smx_filters::{Done, Feed, MainFault, Sink, Source, Target, check_text, replay_text, run_text};
 use smx_live::live_text;
 use smx_run::NoGate;
 use smx_samples::{Part, text_of};
 use std::fmt::InlineText;
+use std::io::ErrorKind;
 use std::process::Abort;
 use std::sync::Wait;
 use std::thread::Threads;
@@ -21,16 +20,7 @@ pub enum Job {
     Run,
     Check,
     Replay,
-    Draw(Form),
     Live,
-}
-
-/// What was written, the line that is left on standard error, and the status.
-#[derive(Drop)]
-pub struct Ran {
-    pub output: Vec<u8>,
-    pub line: InlineText<64>,
-    pub status: u8,
 }
 
 fn finished(outcome: Result<(), MainFault>) -> Result<Done, MainFault> {
@@ -58,8 +48,8 @@ fn ending(outcome: Result<Done, MainFault>) -> (InlineText<64>, u8) {
     }
 }
 
-/// Does this job from a feed to a sink: the line on standard error, behind the program's name, and the status.
-pub fn perform<R: AllocGlobal + Threads + Wait + Sync, F: Feed, S: Sink>(
+// Does this job from a feed to a sink: the line on standard error, behind the program's name, and the status.
+fn perform<R: AllocGlobal + Threads + Wait + Sync, F: Feed, S: Sink>(
     rt: &R,
     job: Job,
     feed: &mut F,
@@ -74,57 +64,73 @@ pub fn perform<R: AllocGlobal + Threads + Wait + Sync, F: Feed, S: Sink>(
         Job::Run => finished(run_text(rt, alloc, feed, sink, 1, false, &NoGate)),
         Job::Check => judged(check_text(alloc, feed, sink)),
         Job::Replay => finished(replay_text(alloc, feed, sink)),
-        Job::Draw(form) => finished(draw_text(alloc, feed, sink, form)),
         Job::Live => finished(live_text(alloc, feed, sink)),
     })
 }
 
-/// Does it in memory.
-pub fn done<R: AllocGlobal + Threads + Wait + Sync>(rt: &R, job: Job, input: &[u8]) -> Ran {
-    let mut feed = Source::new(input);
-    let mut sink = Target::new(Vec::new(rt.alloc()));
+/// What came of a job between devices that move one byte a call.
+#[derive(Drop)]
+pub struct Tried {
+    line: InlineText<64>,
+    status: u8,
+    /// How often the reader was asked.
+    pub reads: usize,
+    /// How many bytes it still has.
+    pub left: usize,
+    /// How often the writer was asked to write or to flush.
+    pub calls: usize,
+    /// What it has taken.
+    pub taken: Vec<u8>,
+    pub flushed: bool,
+}
+
+/// Does it from a reader whose read after so many is an error of this kind to a writer that stops after so many calls.
+pub fn outcome<R: AllocGlobal + Threads + Wait + Sync>(
+    rt: &R,
+    job: Job,
+    input: &[u8],
+    reads: usize,
+    kind: ErrorKind,
+    calls: usize,
+    stop: Stop,
+) -> Tried {
+    let mut feed = one_byte_feed(input, reads, kind);
+    let mut sink = one_byte_sink(rt.alloc(), calls, stop);
     let (line, status) = perform(rt, job, &mut feed, &mut sink);
-    Ran {
-        output: sink.writer,
+    Tried {
         line,
         status,
+        reads: feed.reader.asked,
+        left: feed.reader.bytes.len(),
+        calls: sink.writer.asked,
+        flushed: sink.flushed,
+        taken: sink.writer.taken,
     }
 }
 
-fn has_written(rt: &impl Abort, ran: &Ran, output: &[u8], status: u8) {
-    let size = output.len();
-    assert!(rt; ran.output.as_slice() == output, "of {size} bytes");
-    assert!(rt; ran.status == status);
-    assert!(rt; ran.line.as_str().is_empty());
+/// It has left this line and this status, and these bytes are out.
+pub fn ends_so(rt: &impl Abort, tried: &Tried, line: &str, status: u8, taken: &[u8]) {
+    let (reads, calls) = (tried.reads, tried.calls);
+    assert!(rt;
+        tried.line.as_str() == line,
+        "behind {reads} reads and {calls} calls"
+    );
+    assert!(rt;
+        tried.status == status,
+        "behind {reads} reads and {calls} calls"
+    );
+    assert!(rt;
+        tried.taken.as_slice() == taken,
+        "behind {reads} reads and {calls} calls"
+    );
 }
 
-/// Of this input, it writes this output and ends with this status.
-pub fn writes<R: AllocGlobal + Abort + Threads + Wait + Sync>(
-    rt: &R,
-    job: Job,
-    input: &[u8],
-    output: &[u8],
-    status: u8,
-) {
-    has_written(rt, &done(rt, job, input), output, status);
-}
-
-/// It has written nothing, and leaves this line and this status.
-pub fn has_refused(rt: &impl Abort, ran: &Ran, line: &str, status: u8) {
-    assert!(rt; ran.line.as_str() == line, "for {line}");
-    assert!(rt; ran.status == status, "for {line}");
-    assert!(rt; ran.output.is_empty(), "for {line}");
-}
-
-/// This input is refused by this line and this status.
-pub fn refuses<R: AllocGlobal + Abort + Threads + Wait + Sync>(
-    rt: &R,
-    job: Job,
-    input: &[u8],
-    line: &str,
-    status: u8,
-) {
-    has_refused(rt, &done(rt, job, input), line, status);
+/// The verdict on this transcript is this line.
+pub fn is_judged(rt: &(impl AllocGlobal + Abort), transcript: &[u8], line: &[u8]) {
+    let mut sink = Target::new(Vec::new(rt.alloc()));
+    let judged = check_text(rt.alloc(), &mut Source::new(transcript), &mut sink);
+    assert!(rt; judged.is_ok());
+    assert!(rt; sink.writer.as_slice() == line);
 }
 
 /// The text of these parts.

@@ -3,8 +3,9 @@
 
 ghost use Rattle.std.specs.Prelude.{◌≤◌};
 
-use super::checks::{HANGUP_END_OF_FILE, MARKS_ACROSS_THE_JOIN, TWO_PROCESSES};
-use super::replays::{IN_TURN, IN_TURN_REPLAYED};
+use super::texts::{
+    HANGUP_END_OF_FILE, IN_TURN, IN_TURN_REPLAYED, MARKS_ACROSS_THE_JOIN, TWO_PROCESSES,
+};
 use smx_config::Verdict;
 use smx_filters::{MainFault, Source, Target, check_text, replay_text, run_text};
 use smx_run::{NoGate, RunFault};
@@ -31,7 +32,7 @@ fn is_answered(rt: &(impl AllocGlobal + Abort), input: &[u8], wanted: &[u8]) -> 
     let mut sink = Target::new(buffer.as_mut_slice());
     match check_text(rt.alloc(), &mut Source::new(input), &mut sink) {
         Ok(verdict) => {
-            assert_eq!(rt; verdict, Verdict::Legal);
+            assert!(rt; verdict == Verdict::Legal);
             assert!(rt; buffer.starts_with(wanted));
             true
         }
@@ -51,19 +52,17 @@ fn judges(rt: &(impl AllocGlobal + Abort + Print), input: &[u8], wanted: &[u8]) 
     }
 }
 
-#[test]
-fn two_processes(rt: HostRuntime) {
-    judges(&rt, TWO_PROCESSES, b"legal 2\n");
-}
+const LEGAL: [(&[u8], &[u8]); 3] = [
+    (TWO_PROCESSES, b"legal 2\n"),
+    (MARKS_ACROSS_THE_JOIN, b"legal 13\n"),
+    (HANGUP_END_OF_FILE, b"legal 9\n"),
+];
 
 #[test]
-fn marks_across_the_join(rt: HostRuntime) {
-    judges(&rt, MARKS_ACROSS_THE_JOIN, b"legal 13\n");
-}
-
-#[test]
-fn hangup_end_of_file(rt: HostRuntime) {
-    judges(&rt, HANGUP_END_OF_FILE, b"legal 9\n");
+fn checks(rt: HostRuntime) {
+    for (input, wanted) in &LEGAL {
+        judges(&rt, *input, *wanted);
+    }
 }
 
 // Whether a replay is answered, by the whole transcript; else it wanted memory, and has written nothing.
@@ -131,11 +130,7 @@ fn writes_fronts<R: AllocGlobal + Abort + Print + Threads + Wait + Sync>(rt: &R,
 }
 
 #[test]
-fn fronts_on_one_worker(rt: HostRuntime) {
+fn fronts(rt: HostRuntime) {
     writes_fronts(&rt, 1);
-}
-
-#[test]
-fn fronts_on_two_workers(rt: HostRuntime) {
     writes_fronts(&rt, 2);
 }

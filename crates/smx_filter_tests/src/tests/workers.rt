@@ -2,8 +2,8 @@
 
 ghost use Rattle.std.specs.Prelude.{◌≤◌};
 
-use super::jobs::{Job, whole, writes};
-use super::runs::TWO_LONG_PROGRAMS;
+use super::jobs::{is_judged, whole};
+use super::texts::TWO_LONG_PROGRAMS;
 use smx_filters::{Source, Target, run_text};
 use smx_run::Gate;
 use smx_samples::Part::{Each, Once};
@@ -102,7 +102,7 @@ fn met_and_wrote<R: AllocGlobal + Abort + Threads + Wait + Sync>(
         &gate,
     );
     assert!(rt; ran.is_ok());
-    assert_eq!(rt; gate.met.load(Ordering::SeqCst), workers as u64);
+    assert!(rt; gate.met.load(Ordering::SeqCst) == workers as u64);
     written.writer
 }
 
@@ -121,7 +121,7 @@ fn as_many_workers_as_asked_for_are_inside_at_once(rt: HostRuntime) {
     for (workers, verdict, front) in MEETINGS {
         let input = linking(&rt, workers);
         let written = met_and_wrote(&rt, input.as_bytes(), workers as usize, false, 2);
-        writes(&rt, Job::Check, written.as_slice(), verdict, 0);
+        is_judged(&rt, written.as_slice(), verdict);
         let written = met_and_wrote(&rt, input.as_bytes(), workers as usize, true, 2);
         let fronts = [Once("fronts 1\n"), Each(0, workers, front), Once("end\n")];
         assert!(rt; written.as_slice() == whole(&rt, &fronts).as_bytes());
@@ -132,7 +132,7 @@ fn as_many_workers_as_asked_for_are_inside_at_once(rt: HostRuntime) {
 fn two_workers_are_inside_at_once_on_a_long_input(rt: HostRuntime) {
     let input = whole(&rt, &TWO_LONG_PROGRAMS);
     let written = met_and_wrote(&rt, input.as_bytes(), 2, false, 4_999);
-    writes(&rt, Job::Check, written.as_slice(), b"legal 10000\n", 0);
+    is_judged(&rt, written.as_slice(), b"legal 10000\n");
 }
 
 // How often it was told that a command is performed next, and that one was.
@@ -180,8 +180,8 @@ fn is_told_of_eight<R: AllocGlobal + Abort + Threads + Wait + Sync>(
         &gate,
     );
     assert!(rt; ran.is_ok());
-    assert_eq!(rt; gate.before.load(Ordering::SeqCst), 8);
-    assert_eq!(rt; gate.after.load(Ordering::SeqCst), 8);
+    assert!(rt; gate.before.load(Ordering::SeqCst) == 8);
+    assert!(rt; gate.after.load(Ordering::SeqCst) == 8);
 }
 
 #[test]

@@ -4,7 +4,7 @@ ghost use Rattle.std.specs.Prelude.{◌≤◌};
 
 use super::devices::{ERRORS, Stop, WholeWriter, one_byte_sink};
 use super::jobs::whole;
-use super::runs::TWO_LONG_PROGRAMS;
+use super::texts::TWO_LONG_PROGRAMS;
 use smx_filters::{MainFault, Source, Target, run_text, write_all};
 use smx_run::NoGate;
 use std::io::ErrorKind;
@@ -16,17 +16,17 @@ use std::thread::Threads;
 fn writes_all(rt: HostRuntime) {
     let mut sink = one_byte_sink(rt.alloc(), 4, Stop::Fails(ErrorKind::Other));
     assert!(rt; write_all(&mut sink, b"abc").is_ok());
-    assert_eq!(rt; sink.writer.taken.as_slice(), b"abc".as_slice());
+    assert!(rt; sink.writer.taken.as_slice() == b"abc".as_slice());
     assert!(rt; sink.flushed);
-    assert_eq!(rt; sink.failures, 0);
-    assert_eq!(rt; sink.writer.asked, 4);
+    assert!(rt; sink.failures == 0);
+    assert!(rt; sink.writer.asked == 4);
     let mut sink = Target::new(WholeWriter {
         taken: Vec::new(rt.alloc()),
         asked: 0,
     });
     assert!(rt; write_all(&mut sink, b"abc").is_ok());
-    assert_eq!(rt; sink.writer.taken.as_slice(), b"abc".as_slice());
-    assert_eq!(rt; sink.writer.asked, 2);
+    assert!(rt; sink.writer.taken.as_slice() == b"abc".as_slice());
+    assert!(rt; sink.writer.asked == 2);
 }
 
 const ABC: &[u8] = b"abc";
@@ -40,9 +40,9 @@ fn stops_behind(rt: &(impl AllocGlobal + Abort), beginning: &[u8], stop: Stop) {
         matches!(answer, Err(MainFault::WriteFailed)),
         "after {calls} calls"
     );
-    assert_eq!(rt; sink.failures, 1);
-    assert_eq!(rt; sink.writer.taken.as_slice(), beginning);
-    assert_eq!(rt; sink.writer.asked, calls.saturating_add(1));
+    assert!(rt; sink.failures == 1);
+    assert!(rt; sink.writer.taken.as_slice() == beginning);
+    assert!(rt; sink.writer.asked == calls.saturating_add(1));
 }
 
 // So it does behind each beginning that is not the whole.
@@ -90,7 +90,7 @@ fn writes_once<R: AllocGlobal + Abort + Threads + Wait + Sync>(
     );
     assert!(rt; ran.is_ok());
     assert!(rt; sink.writer.taken.starts_with(beginning));
-    assert_eq!(rt; sink.writer.asked, 2);
+    assert!(rt; sink.writer.asked == 2);
 }
 
 const RUNS: [(usize, bool, &[u8]); 4] = [

@@ -1,11 +1,25 @@
 //! What callers that share a system do in several tests.
 
-ghost use Rattle.std.specs.Prelude.{◌≡◌, All};
+ghost use Rattle.std.specs.Prelude.{◌≡◌, ◌≤◌, All, IfOk};
+ghost use Rattle.smx_types.specs.declared.limits.TheConstants.{MAX_PROCESSES};
 
-use smx_shared::{Seat, Shared};
-use smx_types::{Entry, Reply};
+use smx_shared::{Seat, Shared, System};
+use smx_types::{Entry, NoMemory, Reply};
 use std::mem::forget;
 use std::process::Abort;
+
+/// The system is shared by so many processes, of which each has a seat.
+#[tactic(auto, using(crate::proofs::SeatLemmas::are_of))]
+pub fn start(
+    rt: &impl AllocGlobal,
+    system: System,
+    processes: usize,
+) -> Result<(Shared, Vec<Seat>), NoMemory>
+    requires { (1 ≤ processes) × (processes ≤ MAX_PROCESSES) }
+    ensures { IfOk result (λ r. All (λ s. s.shared ≡ r.0.name) r.1.items) }
+{
+    Shared::start(rt.alloc(), system, processes)
+}
 
 /// The last of these seats, which is taken from them.
 pub fn last_of(rt: &impl Abort, shared: &Shared, seats: &mut Vec<Seat>) -> Seat

@@ -9,6 +9,7 @@ use smx_run::{SeatedProgram, work};
 use smx_shared::{ApplyFault, Door, Front, System};
 use smx_types::{Command, Commands, Entry, Process};
 use std::alloc::Global;
+use std::mem::forget;
 use std::process::Abort;
 use std::sync::Wait;
 use std::sync::atomic::{AtomicU64, Ordering};
@@ -89,6 +90,17 @@ fn hand_of(rt: &(impl AllocGlobal + Abort), earlier: u32, later: u32) -> Vec<Sea
     hand.expect(rt, "room")
 }
 
+// Why a worker who has these two processes stops.
+fn works<R: AllocGlobal + Abort + Wait>(
+    rt: &R,
+    door: &OwnDoor,
+    earlier: u32,
+    later: u32,
+    log: &Log,
+) -> Option<ApplyFault> {
+    work(rt, rt.alloc(), door, hand_of(rt, earlier, later), log).err()
+}
+
 // A worker who has these two processes stops where the history of the first is full. The log is told of the command
 // that was performed, of the one that was refused, and of no other.
 fn stops<R: AllocGlobal + Abort + Wait>(rt: &R, earlier: u32, later: u32) {
@@ -96,9 +108,8 @@ fn stops<R: AllocGlobal + Abort + Wait>(rt: &R, earlier: u32, later: u32) {
     let door = OwnDoor {
         calls: AtomicU64::new(0),
     };
-    let fault = work(rt, rt.alloc(), &door, hand_of(rt, earlier, later), &log).err();
-    assert!(rt; fault == Some(ApplyFault::HistoryFull));
-    assert_eq!(rt; door.calls.load(Ordering::SeqCst), 2);
+    assert!(rt; works(rt, &door, earlier, later, &log) == Some(ApplyFault::HistoryFull));
+    assert!(rt; door.calls.load(Ordering::SeqCst) == 2);
     let wanted = [
         Before(earlier, 0),
         After(earlier, 0),
@@ -106,6 +117,7 @@ fn stops<R: AllocGlobal + Abort + Wait>(rt: &R, earlier: u32, later: u32) {
         After(earlier, 1),
     ];
     assert!(rt; log.has(&wanted));
+    forget(log);
 }
 
 #[test]

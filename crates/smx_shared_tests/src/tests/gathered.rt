@@ -1,5 +1,5 @@
-//! Reports of a system and of what its callers were answered. The first test passes with any one growth refused too,
-//! and tests/refused_growths runs it so.
+//! A report of a system and of what its callers were answered, and its copy; and transcripts that it doesn't bear out. The
+//! first test passes with any one growth refused too, and tests/refused_growths runs it so.
 
 use super::made::{numbered, read, system_over, tells_of_want};
 use super::systems::{copied, plays};
@@ -23,14 +23,12 @@ fd 2 0 ip 1
 end
 ";
 
-// The entry of each of them, and none.
+// The entry of each of them.
 const BY_ZERO: &[u8] = b"transcript 1\n0 clone ip = fd 0 0\nconfig\nnext 1 1\nend\n";
 
 const BY_ONE: &[u8] = b"transcript 1\n1 clone ip = fd 0 2\nconfig\nnext 1 1\nend\n";
 
 const BY_TWO: &[u8] = b"transcript 1\n2 clone ip = fd 0 1\nconfig\nnext 1 1\nend\n";
-
-const BY_NONE: &[u8] = b"transcript 1\nconfig\nnext 1 1\nend\n";
 
 // A system whose processes have opened these.
 fn three_opened(rt: &(impl AllocGlobal + Abort + Print), want: &Transcript) -> System {
@@ -91,13 +89,6 @@ fn copy_of(rt: &(impl AllocGlobal + Abort + Print), report: &Report) -> Report {
     }
 }
 
-fn is_reported(rt: &impl Abort, report: &Report, want: &Transcript) {
-    assert!(rt; report.entries == want.entries);
-    assert!(rt; report.drivers == want.drivers);
-    assert!(rt; report.fronts.as_slice().is_empty());
-    assert!(rt; report.view == want.view);
-}
-
 fn is_copied(rt: &(impl AllocGlobal + Abort + Print), report: &Report) {
     let again = copy_of(rt, report);
     assert!(rt; again == *report);
@@ -107,9 +98,11 @@ fn is_copied(rt: &(impl AllocGlobal + Abort + Print), report: &Report) {
 fn are_reported(rt: &(impl AllocGlobal + Abort + Print), system: &System, want: &Transcript) {
     let transcripts = transcripts_of(rt, &[BY_ZERO, BY_ONE, BY_TWO]);
     let report = gathered(rt, system, transcripts.as_slice());
-    is_reported(rt, &report, want);
     is_copied(rt, &report);
-    forget(report);
+    assert!(rt; report.fronts.as_slice().is_empty());
+    let made = report.into_transcript(want.version);
+    assert!(rt; made == *want);
+    forget(made);
 }
 
 #[test]
@@ -121,27 +114,15 @@ fn three_entries_are_reported(rt: HostRuntime) {
     forget(want);
 }
 
-// Transcripts of the three, and the process whose entries in the history are not its transcript: one is empty, one is
-// not given, two are exchanged.
-const STRANGE: [(&[&[u8]], u32); 3] = [
-    (&[BY_ZERO, BY_NONE, BY_TWO], 1),
-    (&[BY_ZERO, BY_ONE], 2),
-    (&[BY_ZERO, BY_TWO, BY_ONE], 1),
-];
-
-fn is_strange(rt: &(impl AllocGlobal + Abort), system: &System, texts: &[&[u8]], process: u32) {
-    let transcripts = transcripts_of(rt, texts);
-    let fault = gathered_of(rt, system, transcripts.as_slice()).err();
-    assert!(rt; fault == Some(GatherFault::Strange(numbered(rt, process))));
-}
-
+// Two of the three transcripts are exchanged: the entries of process 1 in the history are not its transcript.
 #[test]
-fn strange_transcripts(rt: HostRuntime) {
+fn exchanged_transcripts_are_strange(rt: HostRuntime) {
     let want = read(&rt, OPENED);
     let system = three_opened(&rt, &want);
-    for (texts, process) in STRANGE {
-        is_strange(&rt, &system, texts, process);
-    }
+    let transcripts = transcripts_of(&rt, &[BY_ZERO, BY_TWO, BY_ONE]);
+    let fault = gathered_of(&rt, &system, transcripts.as_slice()).err();
+    assert!(rt; fault == Some(GatherFault::Strange(numbered(&rt, 1))));
+    forget(transcripts);
     forget(system);
     forget(want);
 }

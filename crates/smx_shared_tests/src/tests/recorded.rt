@@ -5,143 +5,17 @@ ghost use Rattle.std.specs.Prelude.{◌<◌, ◌≤◌, length};
 
 use super::gates::Told::{After, Before};
 use super::gates::{Log, Told};
+use super::growing::{Growing, Kept};
 use super::made::read;
-use super::runs::ONE_HISTORY;
 use super::told::{IN_TURN, SIX};
-use smx_run::{
-    Gate, GrowingRun, NewRecorder, Recorder, RunFault, run_recorded, run_recorded_together,
-};
-use smx_text::{Cause, ProgramTaker, TextFault, read_programs, take_programs};
-use smx_types::{
-    Command, ConfigView, Copied, DriverSpec, Drivers, Entries, Entry, NoMemory, Process, Programs,
-    Reply, Transcript, Version,
-};
-use smx_words::command_of;
-use std::alloc::Global;
+use smx_run::{Gate, RunFault, run_recorded, run_recorded_together};
+use smx_text::{read_programs, take_programs};
+use smx_types::{ConfigView, Process, Programs, Transcript};
 use std::mem::forget;
 use std::process::Abort;
 use std::sync::Wait;
 use std::sync::atomic::{AtomicUsize, Ordering};
 use std::thread::Threads;
-
-// Keeps a copy of all that it is told, counts how often it is told, of the drivers and of each entry, and wants memory
-// from some time on.
-#[derive(Drop)]
-struct Kept<'a> {
-    alloc: Global,
-    count: &'a AtomicUsize,
-    // How often it may be told.
-    most: usize,
-    version: Version,
-    drivers: Drivers,
-    entries: Entries,
-}
-
-impl<'a> Recorder for Kept<'a> {
-    ghost use Rattle.std.specs.Prelude.{◌≡◌};
-
-    ghost told = { λ version drivers entries kept.
-        (kept.version ≡ version) × (kept.drivers ≡ drivers) × (kept.entries ≡ entries) };
-
-    ghost spells = { λ _ _. Unit {0} };
-
-    fn add(&mut self, process: Process, command: &Command, reply: &Reply) -> Result<(), NoMemory> {
-        if self.count.fetch_add(1, Ordering::SeqCst) >= self.most {
-            return Err(NoMemory);
-        }
-        let command = command.copy(self.alloc)?;
-        let reply = reply.copy(self.alloc)?;
-        self.entries.push(Entry {
-            process,
-            command,
-            reply,
-        })
-    }
-
-    fn add_line(
-        &mut self,
-        process: Process,
-        command: &Command,
-        _line: &[u8],
-        reply: &Reply,
-    ) -> Result<(), NoMemory> {
-        self.add(process, command, reply)
-    }
-}
-
-impl<'a> NewRecorder for Kept<'a> {
-    type Room = (Global, &'a AtomicUsize, usize);
-
-    fn begin(
-        room: (Global, &'a AtomicUsize, usize),
-        version: Version,
-        drivers: &[DriverSpec],
-    ) -> Result<Kept<'a>, NoMemory> {
-        let (alloc, count, most) = room;
-        count.fetch_add(1, Ordering::SeqCst);
-        let drivers = Drivers::from_vec(DriverSpec::copies(alloc, drivers)?);
-        Ok(Kept {
-            alloc,
-            count,
-            most,
-            version,
-            drivers,
-            entries: Entries::new(alloc),
-        })
-    }
-}
-
-// Performs each command as its line is read, and tells of the line too where it has an even number of bytes.
-#[derive(Drop)]
-struct Growing<'a> {
-    run: GrowingRun<Kept<'a>>,
-    log: &'a Log,
-}
-
-impl<'a> ProgramTaker for Growing<'a> {
-    type With = ((Global, &'a AtomicUsize, usize), &'a Log);
-
-    type Whole = Result<(Kept<'a>, ConfigView), RunFault>;
-
-    ghost taken = { λ g. g.run };
-
-    ghost makes = { λ _ _. Unit {0} };
-
-    fn begin(
-        alloc: Global,
-        with: ((Global, &'a AtomicUsize, usize), &'a Log),
-        version: Version,
-    ) -> Growing<'a> {
-        let (room, log) = with;
-        let run = GrowingRun::new(alloc, version, room);
-        Growing { run, log }
-    }
-
-    fn add_driver(&mut self, driver: DriverSpec) -> Result<(), NoMemory> {
-        self.run.add_driver(driver)
-    }
-
-    fn add_program(&mut self, _alloc: Global) -> Result<(), NoMemory> {
-        self.run.add_program();
-        Ok(())
-    }
-
-    fn add_command(&mut self, alloc: Global, line: &[u8]) -> Result<bool, NoMemory> {
-        let Some(command) = command_of(alloc, self.run.version(), line)? else {
-            return Ok(false);
-        };
-        if line.len() % 2 == 0 {
-            self.run.add_line(self.log, &command, line);
-        } else {
-            self.run.add_command(self.log, &command);
-        }
-        Ok(true)
-    }
-
-    fn finish(self) -> Result<(Kept<'a>, ConfigView), RunFault> {
-        self.run.finish()
-    }
-}
 
 // What comes of a run.
 type Ran<'a> = Result<(Kept<'a>, ConfigView), RunFault>;
@@ -166,31 +40,8 @@ fn programs_of(rt: &(impl AllocGlobal + Abort), text: &[u8]) -> Programs
     programs
 }
 
-// A run of the programs of this text, of which a log is told, and a recorder, which counts and may be told so often.
-fn ran<'a, R: AllocGlobal + Abort + Threads + Wait + Sync>(
-    rt: &R,
-    way: Way,
-    text: &[u8],
-    count: &'a AtomicUsize,
-    most: usize,
-    log: &'a Log,
-) -> Ran<'a> {
-    let room = (rt.alloc(), count, most);
-    match way {
-        Way::Read => run_recorded(rt.alloc(), programs_of(rt, text), room, log),
-        Way::Growing => take_programs::<Growing>(rt.alloc(), (room, log), text).expect(
-            rt, "a text",
-        ),
-        Way::Together(workers) => {
-            assert!(rt; 1 <= workers);
-            run_recorded_together(rt, rt.alloc(), programs_of(rt, text), workers, room, log)
-        }
-    }
-}
-
 // The recorder was told this.
-fn is_told(rt: &(impl AllocGlobal + Abort), ran: Ran, wanted: &[u8]) {
-    let (kept, view) = ran.expect(rt, "a report");
+fn is_told(rt: &(impl AllocGlobal + Abort), kept: Kept, view: ConfigView, wanted: &[u8]) {
     let told = Transcript {
         version: kept.version,
         drivers: kept.drivers,
@@ -203,14 +54,48 @@ fn is_told(rt: &(impl AllocGlobal + Abort), ran: Ran, wanted: &[u8]) {
     forget(want);
 }
 
-// Why it is refused.
-fn fault_of(ran: Ran) -> Option<RunFault> {
+// Why it is refused. Where it isn't, the recorder was told this, if it is said.
+fn end_of(rt: &(impl AllocGlobal + Abort), ran: Ran, wanted: &[u8]) -> Option<RunFault> {
     match ran {
-        Ok(both) => {
-            forget(both);
+        Ok((kept, view)) => {
+            if wanted.is_empty() {
+                forget((kept, view));
+            } else {
+                is_told(rt, kept, view, wanted);
+            }
             None
         }
         Err(fault) => Some(fault),
+    }
+}
+
+// The end of a run of the programs of this text, of which a log is told, and a recorder, which counts and may be told so
+// often.
+fn ran<R: AllocGlobal + Abort + Threads + Wait + Sync>(
+    rt: &R,
+    way: Way,
+    text: &[u8],
+    count: &AtomicUsize,
+    most: usize,
+    log: &Log,
+    wanted: &[u8],
+) -> Option<RunFault> {
+    let room = (rt.alloc(), count, most);
+    match way {
+        Way::Read => {
+            let ran = run_recorded(rt.alloc(), programs_of(rt, text), room, log);
+            end_of(rt, ran, wanted)
+        }
+        Way::Growing => {
+            let ran = take_programs::<Growing>(rt.alloc(), (room, log), text);
+            end_of(rt, ran.expect(rt, "a text"), wanted)
+        }
+        Way::Together(workers) => {
+            assert!(rt; 1 <= workers);
+            let programs = programs_of(rt, text);
+            let ran = run_recorded_together(rt, rt.alloc(), programs, workers, room, log);
+            end_of(rt, ran, wanted)
+        }
     }
 }
 
@@ -250,37 +135,23 @@ const NO_PROCESS: &[u8] = b"programs 2\ndriver ip mux 2 8 3 16\nend\n";
 
 const OF_NO_PROCESS: &[u8] = b"transcript 2\ndriver ip mux 2 8 3 16\nconfig\nnext 1 1\nend\n";
 
-const ONE_BY_ONE: [Way; 2] = [Way::Read, Way::Growing];
+// A recorder of a run of this text is told this.
+fn tells<R: AllocGlobal + Abort + Threads + Wait + Sync>(
+    rt: &R,
+    way: Way,
+    text: &[u8],
+    wanted: &[u8],
+) {
+    let (count, log) = (AtomicUsize::new(0), Log::of(rt, 0));
+    assert!(rt; ran(rt, way, text, &count, 1000, &log, wanted).is_none());
+    forget(log);
+}
 
 #[test]
 fn a_recorder_is_told_of_all(rt: HostRuntime) {
-    let (count, log) = (AtomicUsize::new(0), Log::of(&rt, 0));
-    for way in ONE_BY_ONE {
-        let ran = ran(&rt, way, TWO_PROCESSES, &count, 1000, &log);
-        is_told(&rt, ran, OF_TWO_PROCESSES);
-    }
-    let ran = ran(&rt, Way::Growing, NO_PROCESS, &count, 1000, &log);
-    is_told(&rt, ran, OF_NO_PROCESS);
-}
-
-const WAYS: [Way; 6] = [
-    Way::Read,
-    Way::Growing,
-    Way::Together(1),
-    Way::Together(2),
-    Way::Together(3),
-    Way::Together(64),
-];
-
-// So it is of each text of which only one history can come.
-#[test]
-fn a_recorder_is_told_of_the_one_history(rt: HostRuntime) {
-    let (count, log) = (AtomicUsize::new(0), Log::of(&rt, 0));
-    for way in WAYS {
-        for (input, output) in &ONE_HISTORY[1..] {
-            is_told(&rt, ran(&rt, way, *input, &count, 1000, &log), *output);
-        }
-    }
+    tells(&rt, Way::Read, TWO_PROCESSES, OF_TWO_PROCESSES);
+    tells(&rt, Way::Growing, TWO_PROCESSES, OF_TWO_PROCESSES);
+    tells(&rt, Way::Growing, NO_PROCESS, OF_NO_PROCESS);
 }
 
 // What a gate is told of the six commands of the two processes.
@@ -313,9 +184,13 @@ fn stops_behind<R: AllocGlobal + Abort + Threads + Wait + Sync>(rt: &R, way: Way
     requires { entries < 6 }
 {
     let (count, log) = (AtomicUsize::new(0), Log::of(rt, 16));
-    let fault = fault_of(ran(rt, way, TWO_PROCESSES, &count, entries + 1, &log));
-    assert!(rt; fault == Some(RunFault::NoMemory));
+    let fault = ran(rt, way, TWO_PROCESSES, &count, entries + 1, &log, b"");
+    assert!(rt;
+        fault == Some(RunFault::NoMemory),
+        "behind {entries} entries"
+    );
     are_told(rt, &count, entries + 2, &log, 2 * entries + 2);
+    forget(log);
 }
 
 #[test]
@@ -327,58 +202,56 @@ fn a_run_stops_where_its_recorder_does(rt: HostRuntime) {
 }
 
 // On two workers it is told once more than it may, and never again.
+fn stops_two<R: AllocGlobal + Abort + Threads + Wait + Sync>(rt: &R, log: &Log, entries: usize)
+    requires { entries < 8 }
+{
+    let count = AtomicUsize::new(0);
+    let way = Way::Together(2);
+    let fault = ran(rt, way, TWO_PROCESSES, &count, entries + 1, log, b"");
+    assert!(rt;
+        fault.is_none() == (6 <= entries),
+        "behind {entries} entries"
+    );
+    assert!(rt; count.load(Ordering::SeqCst) == (entries + 2).min(7));
+}
+
 #[test]
 fn a_recorder_that_wants_memory_is_told_of_nothing_more(rt: HostRuntime) {
+    let log = Log::of(&rt, 0);
     for entries in 0..8 {
-        let (count, log) = (AtomicUsize::new(0), Log::of(&rt, 0));
-        let way = Way::Together(2);
-        let fault = fault_of(ran(&rt, way, TWO_PROCESSES, &count, entries + 1, &log));
-        assert_eq!(rt; fault.is_none(), 6 <= entries);
-        assert_eq!(rt; count.load(Ordering::SeqCst), (entries + 2).min(7));
+        stops_two(&rt, &log, entries);
     }
+    forget(log);
 }
 
 const SAME_NAME: &[u8] =
     b"programs 1\ndriver ip mux 4 8 3 16\ndriver ip leaf 1 1 0 1\nprocess 0\nexit\nend\n";
 
+fn drivers_come_first<R: AllocGlobal + Abort + Threads + Wait + Sync>(rt: &R, way: Way) {
+    let (count, log) = (AtomicUsize::new(0), Log::of(rt, 4));
+    let fault = ran(rt, way, SAME_NAME, &count, 9, &log, b"");
+    assert!(rt; matches!(fault, Some(RunFault::ConfigFault(_))));
+    are_told(rt, &count, 0, &log, 0);
+    forget(log);
+}
+
+fn tells_in_turn<R: AllocGlobal + Abort + Threads + Wait + Sync>(rt: &R, way: Way) {
+    let (count, log) = (AtomicUsize::new(0), Log::of(rt, 40));
+    assert!(rt; ran(rt, way, SIX, &count, 14, &log, b"").is_none());
+    assert!(rt; log.has(&IN_TURN));
+    forget(log);
+}
+
 #[test]
 fn drivers_come_before_the_recorder_and_commands(rt: HostRuntime) {
-    for way in ONE_BY_ONE {
-        let (count, log) = (AtomicUsize::new(0), Log::of(&rt, 4));
-        let fault = fault_of(ran(&rt, way, SAME_NAME, &count, 9, &log));
-        assert!(rt; matches!(fault, Some(RunFault::ConfigFault(_))));
-        are_told(&rt, &count, 0, &log, 0);
-    }
+    drivers_come_first(&rt, Way::Read);
+    drivers_come_first(&rt, Way::Growing);
 }
 
 #[test]
 fn a_recorded_run_tells_of_each_command_in_turn(rt: HostRuntime) {
-    for way in ONE_BY_ONE {
-        let (count, log) = (AtomicUsize::new(0), Log::of(&rt, 40));
-        assert!(rt; fault_of(ran(&rt, way, SIX, &count, 14, &log)).is_none());
-        assert!(rt; log.has(&IN_TURN));
-    }
-}
-
-const WRONG_BEHIND: &[u8] = b"programs 1
-driver ip mux 2 8 3 16
-driver ip leaf 1 1 0 1
-process 0
-exit
-exit 0
-end
-";
-
-#[test]
-fn a_fault_of_the_text_comes_before_that_of_drivers(rt: HostRuntime) {
-    let (count, log) = (AtomicUsize::new(0), Log::of(&rt, 0));
-    let with = ((rt.alloc(), &count, 9), &log);
-    let fault = take_programs::<Growing>(rt.alloc(), with, WRONG_BEHIND).err();
-    let wanted = TextFault {
-        line: 6,
-        cause: Cause::Form,
-    };
-    assert!(rt; fault == Some(wanted));
+    tells_in_turn(&rt, Way::Read);
+    tells_in_turn(&rt, Way::Growing);
 }
 
 // Counts how often it is told in time: before a command, while the recorder was told of just those before it, and after
@@ -419,13 +292,18 @@ impl<'a> Gate for InTime<'a> {
     }
 }
 
+// Whether a run of the six programs, of which this gate is told, comes to its end.
+fn runs(rt: &(impl AllocGlobal + Abort), told: &AtomicUsize, gate: &InTime) -> bool {
+    let room = (rt.alloc(), told, 14);
+    let ran: Ran = run_recorded(rt.alloc(), programs_of(rt, SIX), room, gate);
+    end_of(rt, ran, b"").is_none()
+}
+
 #[test]
 fn a_recorded_run_tells_right_before_and_right_after(rt: HostRuntime) {
     let told = AtomicUsize::new(0);
     let gate = InTime::of(&told);
-    let room = (rt.alloc(), &told, 14);
-    let ran: Ran = run_recorded(rt.alloc(), programs_of(&rt, SIX), room, &gate);
-    assert!(rt; fault_of(ran).is_none());
-    assert_eq!(rt; told.load(Ordering::SeqCst), 14);
-    assert_eq!(rt; gate.in_time.load(Ordering::SeqCst), 26);
+    assert!(rt; runs(&rt, &told, &gate));
+    assert!(rt; told.load(Ordering::SeqCst) == 14);
+    assert!(rt; gate.in_time.load(Ordering::SeqCst) == 26);
 }

@@ -5,8 +5,9 @@ ghost use Rattle.std.specs.Prelude.{◌≡◌, All};
 use super::callers::{closes_with, last_of, opens};
 use super::gates::{TURNS, is_reached};
 use super::made::{clone_of, front};
-use smx_shared::{ApplyFault, Door, Front, Hold, Seat, Shared, TryFault};
+use smx_shared::{ApplyFault, Door, Hold, Seat, Shared, TryFault};
 use smx_types::Command;
+use std::mem::forget;
 use std::process::Abort;
 use std::sync::Wait;
 use std::sync::atomic::{AtomicU64, Ordering};
@@ -88,70 +89,52 @@ impl Hold for Stage {
 }
 
 // Each of so many looks finds nothing.
-fn finds_nothing(rt: &impl Abort, shared: &Shared, mut seat: Seat, count: u32)
-    requires { seat.shared ≡ shared.now.name }
+fn finds_nothing(rt: &impl Abort, shared: &Shared, seat: &mut Seat, count: u32)
+    requires { seat.old.shared ≡ shared.now.name }
+    ensures { seat.new.shared ≡ shared.now.name }
 {
     for _ in 0..count {
-        assert!(rt; shared.glance(&mut seat) == front(0, 0, false));
+        assert!(rt; shared.glance(seat) == front(0, 0, false));
     }
 }
 
-/// Holds the turn until so many have seen it held as are wanted, and gets the stream of this minor.
-pub fn holds<R: AllocGlobal + Abort + Wait>(
-    rt: &R,
-    shared: &Shared,
-    seat: &mut Seat,
-    stage: &Stage,
-    minor: u32,
-)
+// Holds the turn until so many have seen it held as are wanted, and gets the stream of minor 0.
+fn holds<R: AllocGlobal + Abort + Wait>(rt: &R, shared: &Shared, seat: &mut Seat, stage: &Stage)
     requires { seat.old.shared ≡ shared.now.name }
     ensures { seat.new.shared ≡ shared.now.name }
 {
     let answer = shared.call_holding(rt, rt.alloc(), seat, &stage.clone_ip, stage);
-    assert!(rt; opens(&answer.expect(rt, "an answer"), minor));
+    let entry = answer.expect(rt, "an answer");
+    assert!(rt; opens(&entry, 0));
+    forget(entry);
 }
 
-/// Waits until the turn is held.
-pub fn waits_for_the_turn(stage: &Stage) {
-    is_reached(&stage.begun, 1);
-}
-
-/// A try finds the turn held, as this front shows.
-pub fn is_busy(
-    rt: &(impl AllocGlobal + Abort),
-    shared: &Shared,
-    seat: &mut Seat,
-    stage: &Stage,
-    want: Front,
-)
+// A try finds the turn held, with nothing in the history.
+fn is_busy(rt: &(impl AllocGlobal + Abort), shared: &Shared, seat: &mut Seat, stage: &Stage)
     requires { seat.old.shared ≡ shared.now.name }
     ensures { seat.new.shared ≡ shared.now.name }
 {
     let fault = shared.try_call(rt.alloc(), seat, &stage.clone_ip).err();
-    assert!(rt; fault == Some(TryFault::Busy(want)));
-}
-
-/// The turn was seen held by one more.
-pub fn sees_it_held(stage: &Stage) {
-    add_one(&stage.held);
+    assert!(rt; fault == Some(TryFault::Busy(front(0, 0, true))));
 }
 
 // It is held, with nothing in the history, in a look and then in each of so many tries.
 fn tries(
     rt: &(impl AllocGlobal + Abort),
     shared: &Shared,
-    mut seat: Seat,
+    seat: &mut Seat,
     stage: &Stage,
     count: u32,
 )
-    requires { seat.shared ≡ shared.now.name }
+    requires { seat.old.shared ≡ shared.now.name }
+    ensures { seat.new.shared ≡ shared.now.name }
 {
-    waits_for_the_turn(stage);
-    assert!(rt; shared.glance(&mut seat) == front(0, 0, true));
+    is_reached(&stage.begun, 1);
+    assert!(rt; shared.glance(seat) == front(0, 0, true));
     for _ in 0..count {
-        is_busy(rt, shared, &mut seat, stage, front(0, 0, true));
+        is_busy(rt, shared, seat, stage);
     }
-    sees_it_held(stage);
+    add_one(&stage.held);
 }
 
 // Whether two have ended. If not, others go on first.
@@ -161,12 +144,13 @@ fn is_ended(stage: &Stage) -> bool {
 }
 
 // Looks on until two have ended. The history never seems to have become shorter.
-fn looks_on(rt: &impl Abort, shared: &Shared, mut seat: Seat, stage: &Stage)
-    requires { seat.shared ≡ shared.now.name }
+fn looks_on(rt: &impl Abort, shared: &Shared, seat: &mut Seat, stage: &Stage)
+    requires { seat.old.shared ≡ shared.now.name }
+    ensures { seat.new.shared ≡ shared.now.name }
 {
     let mut entries = 0;
     for _ in 0..TURNS {
-        let front = shared.glance(&mut seat);
+        let front = shared.glance(seat);
         assert!(rt; entries <= front.entries);
         entries = front.entries;
         add_one(if front.held { &stage.held } else { &stage.free });
@@ -177,8 +161,23 @@ fn looks_on(rt: &impl Abort, shared: &Shared, mut seat: Seat, stage: &Stage)
     panic!(rt; "two have not ended");
 }
 
-// Closes the stream, and opens one.
-fn closes_and_opens<R: AllocGlobal + Abort + Wait>(
+// A command is answered.
+fn is_answered<R: AllocGlobal + Abort + Wait>(
+    rt: &R,
+    shared: &Shared,
+    seat: &mut Seat,
+    command: &Command,
+)
+    requires { seat.old.shared ≡ shared.now.name }
+    ensures { seat.new.shared ≡ shared.now.name }
+{
+    let answer = shared.call(rt, rt.alloc(), seat, command);
+    assert!(rt; answer.is_ok());
+    forget(answer);
+}
+
+// Opens a stream once somebody has seen the turn free, and then closes it and opens one 500 times.
+fn opens_and_closes<R: AllocGlobal + Abort + Wait>(
     rt: &R,
     shared: &Shared,
     seat: &mut Seat,
@@ -187,29 +186,14 @@ fn closes_and_opens<R: AllocGlobal + Abort + Wait>(
     requires { seat.old.shared ≡ shared.now.name }
     ensures { seat.new.shared ≡ shared.now.name }
 {
-    assert!(rt;
-        shared
-            .call(rt, rt.alloc(), seat, &Command::Close { fd: 0 })
-            .is_ok()
-    );
-    assert!(rt; shared.call(rt, rt.alloc(), seat, &stage.clone_ip).is_ok());
-    thread::yield_now();
-}
-
-// The same 500 times, behind a first stream, which is opened once somebody has seen the turn free.
-fn opens_and_closes<R: AllocGlobal + Abort + Wait>(
-    rt: &R,
-    shared: &Shared,
-    mut seat: Seat,
-    stage: &Stage,
-)
-    requires { seat.shared ≡ shared.now.name }
-{
     is_reached(&stage.free, 1);
-    let first = shared.call_holding(rt, rt.alloc(), &mut seat, &stage.clone_ip, stage);
+    let first = shared.call_holding(rt, rt.alloc(), seat, &stage.clone_ip, stage);
     assert!(rt; first.is_ok());
+    forget(first);
     for _ in 0..500 {
-        closes_and_opens(rt, shared, &mut seat, stage);
+        is_answered(rt, shared, seat, &Command::Close { fd: 0 });
+        is_answered(rt, shared, seat, &stage.clone_ip);
+        thread::yield_now();
     }
     add_one(&stage.ended);
 }
@@ -219,11 +203,13 @@ fn calls<R: AllocGlobal + Abort + Wait>(rt: &R, shared: &Shared, seat: &mut Seat
     requires { seat.old.shared ≡ shared.now.name }
     ensures { seat.new.shared ≡ shared.now.name }
 {
-    match shared.call(rt, rt.alloc(), seat, &stage.clone_ip) {
+    let answer = shared.call(rt, rt.alloc(), seat, &stage.clone_ip);
+    match &answer {
         Ok(_) => add_one(&stage.answered),
         Err(ApplyFault::HistoryFull) => add_one(&stage.full),
         Err(ApplyFault::NoMemory) => {}
     }
+    forget(answer);
 }
 
 // This seat does its part, and is dropped.
@@ -231,11 +217,11 @@ fn plays<R: AllocGlobal + Abort + Wait>(rt: &R, shared: &Shared, mut seat: Seat,
     requires { seat.shared ≡ shared.now.name }
 {
     match stage.part_of(<Shared as Door>::process(&seat).get()) {
-        Part::Looks(count) => finds_nothing(rt, shared, seat, count),
-        Part::Holds => holds(rt, shared, &mut seat, stage, 0),
-        Part::Tries(count) => tries(rt, shared, seat, stage, count),
-        Part::LooksOn => looks_on(rt, shared, seat, stage),
-        Part::OpensAndCloses => opens_and_closes(rt, shared, seat, stage),
+        Part::Looks(count) => finds_nothing(rt, shared, &mut seat, count),
+        Part::Holds => holds(rt, shared, &mut seat, stage),
+        Part::Tries(count) => tries(rt, shared, &mut seat, stage, count),
+        Part::LooksOn => looks_on(rt, shared, &mut seat, stage),
+        Part::OpensAndCloses => opens_and_closes(rt, shared, &mut seat, stage),
         Part::CallsTwice => {
             calls(rt, shared, &mut seat, stage);
             calls(rt, shared, &mut seat, stage);
@@ -298,10 +284,13 @@ fn is_at_end<R: AllocGlobal + Abort + Wait>(
     ensures { seat.new.shared ≡ shared.now.name }
 {
     assert!(rt; shared.glance(seat) == front(seen, 0, false));
-    match shared.call(rt, rt.alloc(), seat, &stage.clone_ip) {
-        Ok(entry) => assert!(rt; minor.is_some_and(|minor| opens(&entry, minor))),
-        Err(fault) => assert!(rt; minor.is_none() && fault == ApplyFault::HistoryFull),
+    let answer = shared.call(rt, rt.alloc(), seat, &stage.clone_ip);
+    match (&answer, minor) {
+        (Ok(entry), Some(minor)) => assert!(rt; opens(entry, minor)),
+        (Err(fault), None) => assert!(rt; *fault == ApplyFault::HistoryFull),
+        _ => panic!(rt; "another end"),
     }
+    forget(answer);
 }
 
 // All but the last seat play: the last one, which finds this end.

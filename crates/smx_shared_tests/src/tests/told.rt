@@ -107,6 +107,7 @@ fn tells<R: AllocGlobal + Abort + Threads + Wait + Sync>(rt: &R, parts: &[&[Told
     for (worker, part) in parts.iter().enumerate() {
         assert!(rt; log.is_told(worker as u32, parts.len() as u32, part));
     }
+    forget(log);
 }
 
 #[test]

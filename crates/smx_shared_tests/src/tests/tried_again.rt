@@ -1,15 +1,15 @@
 //! Worked histories whole. They pass with any one growth refused too, and tests/refused_growths runs them so.
 
-ghost use Rattle.std.specs.Prelude.{◌≡◌, All, IfOk};
+ghost use Rattle.std.specs.Prelude.{◌≡◌, All};
 
-use super::callers::{closes_with, last_two, opens};
-use super::made::{clone_of, front, ip, read, system_over, tells_of_want};
-use super::systems::plays;
-use smx_config::{Config, Verdict, check_history};
+use super::callers::{closes_with, last_two, opens, start};
+use super::made::{clone_of, ip, system_over, tells_of_want};
+use super::worked::is_judged;
+use smx_config::Verdict;
 use smx_run::{NoGate, RunFault, run_programs};
 use smx_shared::{Door, Seat, Shared};
 use smx_text::read_programs;
-use smx_types::{Command, ConfigView, DriverSpec, Entry, NoMemory, Programs, Reply, Transcript};
+use smx_types::{Command, Entry, Programs};
 use std::mem::forget;
 use std::process::Abort;
 use std::sync::Wait;
@@ -98,178 +98,59 @@ end
 ",
 ];
 
-fn config_over(rt: &(impl AllocGlobal + Abort), drivers: &[DriverSpec]) -> Config {
-    match Config::new(rt.alloc(), drivers) {
-        Ok(config) => config,
-        Err(_) => Config::new(rt.alloc(), drivers).expect(rt, "a configuration"),
-    }
-}
-
-/// The configuration, as it is shown.
-pub fn shown(rt: &impl Abort, config: &Config) -> ConfigView {
-    match config.show() {
-        Ok(view) => view,
-        Err(_) => config.show().expect(rt, "a view"),
-    }
-}
-
-/// Just this is shown.
-pub fn is_shown(rt: &impl Abort, config: &Config, view: &ConfigView) {
-    let now = shown(rt, config);
-    assert!(rt; now == *view);
-    forget(now);
-    assert!(rt; config.shows(view));
-}
-
-// What memory was wanting for has changed nothing that is shown, and is tried again.
-fn reply_to(rt: &(impl Abort + Print), config: &mut Config, entry: &Entry) -> Reply {
-    let before = shown(rt, config);
-    let answer = match config.step(entry.process, &entry.command) {
-        Ok(reply) => reply,
-        Err(_) => {
-            tells_of_want(rt, "a step");
-            is_shown(rt, config, &before);
-            config
-                .step(entry.process, &entry.command)
-                .expect(rt, "a reply")
-        }
-    };
-    forget(before);
-    answer
-}
-
-// The same of a step that is answered twice.
-fn replies_to(rt: &(impl Abort + Print), config: &mut Config, entry: &Entry) -> (Reply, Reply) {
-    let before = shown(rt, config);
-    let answer = match config.step_twin(entry.process, &entry.command) {
-        Ok(replies) => replies,
-        Err(_) => {
-            tells_of_want(rt, "a step");
-            is_shown(rt, config, &before);
-            config
-                .step_twin(entry.process, &entry.command)
-                .expect(rt, "replies")
-        }
-    };
-    forget(before);
-    answer
-}
-
-fn by_steps(rt: &(impl AllocGlobal + Abort + Print), want: &Transcript) {
-    let mut config = config_over(rt, want.drivers.as_slice());
-    for entry in want.entries.as_slice() {
-        assert!(rt; reply_to(rt, &mut config, entry) == entry.reply);
-    }
-    is_shown(rt, &config, &want.view);
-    forget(config);
-}
-
-fn by_twin_steps(rt: &(impl AllocGlobal + Abort + Print), want: &Transcript) {
-    let mut config = config_over(rt, want.drivers.as_slice());
-    for entry in want.entries.as_slice() {
-        let (reply, twin) = replies_to(rt, &mut config, entry);
-        assert!(rt; reply == entry.reply);
-        assert!(rt; twin == entry.reply);
-    }
-    is_shown(rt, &config, &want.view);
-    forget(config);
-}
-
-fn by_a_system(rt: &(impl AllocGlobal + Abort + Print), want: &Transcript) {
-    let mut system = system_over(rt, want.drivers.as_slice(), 20);
-    plays(rt, &mut system, want.entries.as_slice());
-    assert!(rt; system.entries() == want.entries.as_slice());
-    is_shown(rt, system.config(), &want.view);
-    forget(system);
-}
-
-// Where memory was wanting, the same is judged again.
-fn verdict_on(rt: &(impl AllocGlobal + Abort + Print), want: &Transcript) -> Verdict {
-    let (drivers, entries) = (want.drivers.as_slice(), want.entries.as_slice());
-    match check_history(rt.alloc(), drivers, entries, &want.view) {
-        Ok(verdict) => verdict,
-        Err(_) => {
-            tells_of_want(rt, "a verdict");
-            check_history(rt.alloc(), drivers, entries, &want.view).expect(rt, "a verdict")
-        }
-    }
-}
-
-fn is_worked(rt: &(impl AllocGlobal + Abort + Print), text: &[u8]) {
-    let want = read(rt, text);
-    by_steps(rt, &want);
-    by_twin_steps(rt, &want);
-    by_a_system(rt, &want);
-    assert!(rt; verdict_on(rt, &want) == Verdict::Legal);
-    forget(want);
-}
-
 #[test]
 fn worked_histories(rt: HostRuntime) {
     for text in &WORKED {
-        is_worked(&rt, *text);
+        is_judged(&rt, *text, Verdict::Legal);
     }
 }
 
-// A system of at most ten entries over `ip`, shared by two processes.
-fn start_for_two(rt: &(impl AllocGlobal + Abort)) -> Result<(Shared, Vec<Seat>), NoMemory>
-    ensures { IfOk result (λ r. All (λ s. s.shared ≡ r.0.name) r.1.items) }
-{
-    Shared::start(rt.alloc(), system_over(rt, &[ip(rt, 4)], 10), 2)
-}
-
-// It is started again where memory was wanting.
+// A system of at most ten entries over `ip`, shared by two processes. It is started again where memory was wanting.
 fn shared_by_two(rt: &(impl AllocGlobal + Abort)) -> (Shared, Vec<Seat>)
     ensures { All (λ s. s.shared ≡ result.0.name) result.1.items }
 {
-    match start_for_two(rt) {
+    match start(rt, system_over(rt, &[ip(rt, 4)], 10), 2) {
         Ok(both) => both,
-        Err(_) => start_for_two(rt).expect(rt, "a start"),
+        Err(_) => start(rt, system_over(rt, &[ip(rt, 4)], 10), 2).expect(rt, "a start"),
     }
 }
 
-// Where memory was wanting the other seat sees nothing new, and the call is made again.
+// A call, which is made again where memory was wanting.
 fn called(
     rt: &(impl AllocGlobal + Abort + Print + Wait),
     shared: &Shared,
     seat: &mut Seat,
-    other: &mut Seat,
     command: &Command,
 ) -> Entry
-    requires { (seat.old.shared ≡ shared.now.name) × (other.old.shared ≡ shared.now.name) }
-    ensures { (seat.new.shared ≡ shared.now.name) × (other.new.shared ≡ shared.now.name) }
+    requires { seat.old.shared ≡ shared.now.name }
+    ensures { seat.new.shared ≡ shared.now.name }
 {
     match shared.call(rt, rt.alloc(), seat, command) {
         Ok(entry) => entry,
         Err(_) => {
             tells_of_want(rt, "a call");
-            assert!(rt; shared.glance(other) == front(0, 0, false));
-            shared
-                .call(rt, rt.alloc(), seat, command)
-                .expect(rt, "an answer")
+            let again = shared.call(rt, rt.alloc(), seat, command);
+            again.expect(rt, "an answer")
         }
     }
 }
 
-// The same for a try, once the history has one entry.
+// The same of a try.
 fn tried(
     rt: &(impl AllocGlobal + Abort + Print),
     shared: &Shared,
     seat: &mut Seat,
-    other: &mut Seat,
     command: &Command,
 ) -> Entry
-    requires { (seat.old.shared ≡ shared.now.name) × (other.old.shared ≡ shared.now.name) }
-    ensures { (seat.new.shared ≡ shared.now.name) × (other.new.shared ≡ shared.now.name) }
+    requires { seat.old.shared ≡ shared.now.name }
+    ensures { seat.new.shared ≡ shared.now.name }
 {
     match shared.try_call(rt.alloc(), seat, command) {
         Ok(entry) => entry,
         Err(_) => {
             tells_of_want(rt, "a call");
-            assert!(rt; shared.glance(other) == front(1, 0, false));
-            shared
-                .try_call(rt.alloc(), seat, command)
-                .expect(rt, "an answer")
+            let again = shared.try_call(rt.alloc(), seat, command);
+            again.expect(rt, "an answer")
         }
     }
 }
@@ -285,8 +166,11 @@ fn both_call(
 {
     let command = clone_of(rt, "ip");
     let (mut zero, mut one) = last_two(rt, shared, seats);
-    assert!(rt; opens(&called(rt, shared, &mut zero, &mut one, &command), 0));
-    assert!(rt; opens(&tried(rt, shared, &mut one, &mut zero, &command), 1));
+    let first = called(rt, shared, &mut zero, &command);
+    let second = tried(rt, shared, &mut one, &command);
+    assert!(rt; opens(&first, 0));
+    assert!(rt; opens(&second, 1));
+    forget((first, second));
     zero
 }
 

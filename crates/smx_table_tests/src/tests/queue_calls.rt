@@ -1,182 +1,127 @@
-//! Calls of queues by plain numbers. Each tests what the call asks for, and tries once more where memory is wanting.
+//! Calls of queues that take no memory, and what each answers: by number, by place, and of marks.
 
-use smx_queues::Queues;
-use smx_types::{Bytes, Message};
+ghost use Rattle.smx_model.specs.KnownStreams.{IsKnown};
+
+use super::flow_tables::{DOWN, UP, ethernet, fill, table};
+use super::queues::{adds, put};
+use super::waiters::place;
+use smx_queues::{FlowTable, PlaceMarks, Queues};
+use smx_types::{Place, Side, StreamId};
+use std::mem::forget;
 use std::process::Abort;
 
-fn is_wanting(rt: &(impl Abort + Print)) {
-    assert!(rt; println!(rt; "a call wanted memory").is_ok());
+// Messages 7 and 8 are at place 0, and no place is full.
+fn has_two(rt: &impl Abort, queues: &Queues) {
+    assert!(rt; queues.has_place(0));
+    assert!(rt; queues.len() == 2);
+    assert!(rt; queues.front(0).expect(rt, "a message").serial == 7);
+    assert!(rt; queues.nth(0, 1).expect(rt, "a message").serial == 8);
+    let mut rest = queues.messages(0);
+    assert!(rt; rest.next().expect(rt, "a message").serial == 7);
+    assert!(rt; queues.full_from(0).is_none());
 }
 
-fn bytes(rt: &(impl AllocGlobal + Abort), size: usize) -> Bytes {
-    let alloc = rt.alloc();
-    if let Ok(made) = vec![in alloc; 0xaa; size] {
-        return Bytes::from_vec(made);
-    }
-    Bytes::from_vec(vec![in alloc; 0xaa; size].ok().expect(rt, "memory"))
+// Their serials come to a list that has room for them.
+fn adds_serials(rt: &(impl AllocGlobal + Abort), queues: &Queues) {
+    let mut serials = Vec::with_capacity(rt.alloc(), 2).expect(rt, "memory");
+    assert!(rt; queues.has_place(0));
+    assert!(rt; queues.message_count(0) == 2);
+    queues.add_serials(0, &mut serials);
+    assert!(rt; serials.as_slice() == [7, 8].as_slice());
+    forget(serials);
 }
 
-/// A place with these marks.
-pub fn add(rt: &(impl Abort + Print), queues: &mut Queues, high: usize, low: usize) -> usize {
-    assert!(rt; low < high && high <= 4096);
-    if let Ok(p) = queues.add_place(high, low) {
-        return p;
-    }
-    is_wanting(rt);
-    queues.add_place(high, low).ok().expect(rt, "memory")
+fn drops_the_place(rt: &impl Abort, queues: &mut Queues) {
+    queues.drop_place(0);
+    assert!(rt; queues.len() == 0);
 }
 
-/// So many places with these marks.
-pub fn add_all(
-    rt: &(impl Abort + Print),
-    queues: &mut Queues,
-    count: usize,
-    high: usize,
-    low: usize,
-) {
-    assert!(rt; low < high && high <= 4096);
-    if queues.add_places(count, high, low).is_ok() {
-        return;
-    }
-    is_wanting(rt);
-    assert!(rt; queues.add_places(count, high, low).is_ok());
+#[test]
+fn of_queues(rt: HostRuntime) {
+    let mut queues = Queues::new(rt.alloc());
+    adds(&rt, &mut queues, 8, 3, 0);
+    put(&rt, &mut queues, 0, 7, 1);
+    put(&rt, &mut queues, 0, 8, 3);
+    has_two(&rt, &queues);
+    adds_serials(&rt, &queues);
+    drops_the_place(&rt, &mut queues);
+    forget(queues);
 }
 
-fn reserve(rt: &(impl Abort + Print), queues: &mut Queues) {
-    if queues.reserve_one().is_ok() {
-        return;
-    }
-    is_wanting(rt);
-    assert!(rt; queues.reserve_one().is_ok());
+// A place between the other two.
+const ACROSS: Place = Place {
+    stream: StreamId {
+        driver: 0,
+        minor: 1,
+    },
+    side: Side::Write,
+};
+
+// The first of two messages moves on, to a place that has none.
+fn moves(rt: &impl Abort, table: &mut FlowTable)
+    requires { IsKnown table.old.drivers (record { driver = 0; minor = 1 }) }
+{
+    assert!(rt; table.has_messages(DOWN));
+    assert!(rt; !table.has_lone_message(DOWN));
+    assert!(rt; table.front(DOWN).expect(rt, "a message").serial == 2);
+    assert!(rt; !table.is_full(ACROSS));
+    table.move_front(DOWN, ACROSS);
+    assert!(rt; table.has_lone_message(DOWN));
+    assert!(rt; table.len() == 3);
 }
 
-/// A message of this serial and so many bytes arrives by an entry that was reserved before.
-pub fn put_by_spare(
-    rt: &(impl AllocGlobal + Abort),
-    queues: &mut Queues,
-    p: usize,
-    serial: u32,
-    size: usize,
-) {
-    let message = Message {
-        serial,
-        addr: 5,
-        bytes: bytes(rt, size),
-    };
-    assert!(rt; queues.has_place(p) && queues.has_spare() && !queues.is_full(p));
-    assert!(rt; !message.bytes.as_slice().is_empty());
-    queues.put(p, message);
+// Each is now the first of its place, and one place is full.
+fn stand_in_front(rt: &impl Abort, table: &FlowTable) {
+    let mut rest = table.fronts();
+    assert!(rt; rest.next().expect(rt, "a message").message.serial == 3);
+    assert!(rt; rest.next().expect(rt, "a message").message.serial == 2);
+    assert!(rt; rest.next().expect(rt, "a message").message.serial == 1);
+    assert!(rt; rest.next().is_none());
+    let mut full = table.fulls();
+    assert!(rt; full.next() == Some(UP));
+    assert!(rt; full.next().is_none());
 }
 
-/// A message of this serial and so many bytes arrives.
-pub fn put(
-    rt: &(impl AllocGlobal + Abort + Print),
-    queues: &mut Queues,
-    p: usize,
-    serial: u32,
-    size: usize,
-) {
-    reserve(rt, queues);
-    put_by_spare(rt, queues, p, serial, size);
+// One message is dropped by its place.
+fn drops_one(rt: &(impl AllocGlobal + Abort), table: &mut FlowTable) {
+    let mut dropped = Vec::with_capacity(rt.alloc(), 1).expect(rt, "memory");
+    assert!(rt; table.has_lone_message(DOWN));
+    table.drop_at(DOWN, &mut dropped);
+    assert!(rt; dropped.as_slice() == [3].as_slice());
+    forget(dropped);
 }
 
-/// The serial of the message that leaves.
-pub fn take(rt: &impl Abort, queues: &mut Queues, p: usize) -> Option<u32> {
-    assert!(rt; queues.has_place(p));
-    match queues.take(p) {
-        Some(message) => Some(message.serial),
-        None => None,
-    }
+// Another one leaves, and the one that moved on is left.
+fn takes_one(rt: &impl Abort, table: &mut FlowTable) {
+    assert!(rt; table.take(UP).expect(rt, "a message").serial == 1);
+    let mut rest = table.messages();
+    assert!(rt; rest.next().expect(rt, "a message").message.serial == 2);
+    assert!(rt; rest.next().is_none());
 }
 
-/// The front message of one place moves to the other.
-pub fn move_front(rt: &impl Abort, queues: &mut Queues, from: usize, to: usize) {
-    assert!(rt; from != to && queues.has_place(from) && queues.has_place(to));
-    assert!(rt; !queues.is_full(to) && queues.message_count(from) > 0);
-    queues.move_front(from, to);
+#[test]
+fn of_queues_by_place(rt: HostRuntime) {
+    let mut made = table(&rt);
+    fill(&rt, &mut made);
+    moves(&rt, &mut made);
+    stand_in_front(&rt, &made);
+    drops_one(&rt, &mut made);
+    takes_one(&rt, &mut made);
+    forget(made);
 }
 
-/// All messages of the place are dropped.
-pub fn clear(rt: &impl Abort, queues: &mut Queues, p: usize) {
-    assert!(rt; queues.has_place(p));
-    queues.clear(p);
+// One place is marked, and no other.
+fn is_one_marked(rt: &impl Abort, marks: &PlaceMarks) {
+    assert!(rt; marks.is_marked(place(1, Side::Read)));
+    let mut rest = marks.marked();
+    assert!(rt; rest.next() == Some(place(1, Side::Read)));
+    assert!(rt; rest.next().is_none());
 }
 
-/// The same queues again.
-pub fn copied(rt: &(impl AllocGlobal + Abort + Print), queues: &Queues) -> Queues {
-    if let Ok(made) = queues.copy(rt.alloc()) {
-        return made;
-    }
-    is_wanting(rt);
-    queues.copy(rt.alloc()).ok().expect(rt, "memory")
-}
-
-fn listed(rt: &(impl Abort + Print), queues: &Queues, p: usize) -> Vec<u32> {
-    assert!(rt; queues.has_place(p));
-    if let Ok(made) = queues.serials(p) {
-        return made;
-    }
-    is_wanting(rt);
-    queues.serials(p).ok().expect(rt, "memory")
-}
-
-fn is_serial(message: Option<&Message>, serial: Option<u32>) -> bool {
-    match message {
-        Some(message) => serial == Some(message.serial),
-        None => serial.is_none(),
-    }
-}
-
-// Whether each of the calls that look for one message finds the one of its serial.
-fn finds(queues: &Queues, p: usize, serials: &[u32]) -> bool {
-    if !queues.has_place(p) || !is_serial(queues.front(p), serials.first().copied()) {
-        return false;
-    }
-    for i in 0..serials.len() {
-        if !is_serial(queues.nth(p, i), Some(serials[i])) {
-            return false;
-        }
-    }
-    queues.nth(p, serials.len()).is_none()
-}
-
-// Whether a walk over the messages meets just these serials.
-fn walks(queues: &Queues, p: usize, serials: &[u32]) -> bool {
-    if !queues.has_place(p) {
-        return false;
-    }
-    let mut rest = queues.messages(p);
-    for serial in serials {
-        if !is_serial(rest.next(), Some(*serial)) {
-            return false;
-        }
-    }
-    rest.next().is_none()
-}
-
-fn lists(rt: &(impl Abort + Print), queues: &Queues, p: usize, serials: &[u32]) {
-    let listed = listed(rt, queues, p);
-    assert!(rt; listed.as_slice() == serials);
-}
-
-/// The list of the serials at the place has so many.
-pub fn lists_so_many(rt: &(impl Abort + Print), queues: &Queues, p: usize, count: usize) {
-    let listed = listed(rt, queues, p);
-    assert!(rt; listed.len() == count);
-}
-
-/// The place has so many bytes, this mark, and messages of these serials, whichever call is asked.
-pub fn has(
-    rt: &(impl Abort + Print),
-    queues: &Queues,
-    p: usize,
-    bytes: usize,
-    full: bool,
-    serials: &[u32],
-) {
-    assert!(rt; queues.has_place(p));
-    assert!(rt; queues.bytes(p) == bytes && queues.is_full(p) == full);
-    assert!(rt; queues.message_count(p) == serials.len());
-    assert!(rt; finds(queues, p, serials) && walks(queues, p, serials));
-    lists(rt, queues, p, serials);
+#[test]
+fn of_marks(rt: HostRuntime) {
+    let mut marks = PlaceMarks::new(rt.alloc(), &[ethernet(&rt)]).expect(&rt, "memory");
+    marks.mark(place(1, Side::Read));
+    is_one_marked(&rt, &marks);
+    forget(marks);
 }

@@ -1,141 +1,107 @@
-//! Programs and their texts.
+//! Programs that are read, written again and copied.
 
-use super::asked::{list, named};
-use super::spelling::{are_spelled, programs};
-use smx_samples::Part::Once;
-use smx_types::{Command, DriverKind, DriverSpec, Programs};
+use super::spelling::{are_spelled, programs, spells_programs};
+use smx_samples::Part;
+use smx_samples::Part::{Each, Once};
+use smx_types::Version;
 use std::mem::forget;
-use std::process::Abort;
 
-/// Streams that are opened and closed.
-pub const OPENS_AND_CLOSES: &str =
+// Streams that are opened and closed.
+const OPENS_AND_CLOSES: &str =
     "programs 1\ndriver ip mux 4 8 3 16\nprocess 0\nclone ip\nclone ip\nclose 0\nclone ip\nend\n";
 
-/// What that text spells.
-pub fn opens_and_closes(rt: &(impl AllocGlobal + Abort)) -> Programs {
-    let name = named(rt, "ip");
-    let ip = DriverSpec {
-        name,
-        kind: DriverKind::Mux,
-        minors: 4,
-        high: 8,
-        low: 3,
-        max: 16,
-    };
-    let commands = [
-        Command::OpenClone { driver: name },
-        Command::OpenClone { driver: name },
-        Command::Close { fd: 0 },
-        Command::OpenClone { driver: name },
-    ];
-    Programs::new(list(rt, [ip]), list(rt, [list(rt, commands)])).expect(rt, "few")
-}
-
-const MARKS_ACROSS_THE_JOIN: &str = "programs 1
-driver ip mux 4 8 3 16
-driver eth leaf 2 8 3 16
+// Each command of version 1.
+const COMMANDS: &str = "programs 1
 process 0
-clone ip
 clone eth
-link 0 1
-route 0 5 1
-write 0 5 00000001
-write 0 5 00000002
-write 0 5 00000003
-write 0 5 00000004
-write 0 5 00000005
-transmit eth 0
-write 0 5 00000005
-transmit eth 0
-write 0 5 00000005
+open eth 1
+dup 2
+close 3
+exit
+link 4 5
+plink 6 7
+unlink 8 9
+unlink 10 all
+punlink 11 4294967295
+punlink 12 all
+bind 13 14
+unbind 15
+route 16 17 18
+unroute 19 20
+write 21 22 000a9fff
+write 23 24 -
+read 25
+flush 26 r
+flush 27 w
+flush 28 rw
+inject eth 29 30 ab
+transmit eth 31
 end
 ";
 
-const BINDINGS: &str = "programs 1
-driver ip mux 4 8 3 16
-driver eth leaf 2 8 3 16
-process 0
-clone ip
-clone ip
-clone eth
-bind 2 9
-plink 0 2
-inject eth 0 9 aa
-bind 0 9
-bind 1 9
-bind 0 8
-inject eth 0 9 bb
-flush 0 r
-unbind 0
-unbind 0
-read 0
-route 0 5 9
-end
-";
-
-const IDS_OF_THE_WRONG_KIND_OR_STREAM: &str = "programs 1
-driver ip mux 4 8 3 16
-driver eth leaf 2 8 3 16
-process 0
-clone ip
-clone ip
-clone eth
-clone eth
-link 0 2
-plink 0 3
-unlink 0 2
-punlink 0 1
-unlink 1 1
-punlink 1 2
-unlink 1 all
-unlink 0 all
-unlink 0 1
-punlink 2 all
-end
-";
-
-const TWO_LEVELS_DOWN_AND_UP: &str = "programs 1
-driver top mux 2 8 3 16
-driver mid mux 2 8 3 16
-driver eth leaf 2 8 3 16
-process 0
-clone top
-clone mid
-clone eth
-link 1 2
-route 1 5 1
-bind 1 9
-link 0 1
-route 0 5 2
-bind 0 9
-route 1 6 1
-write 0 5 aa
-inject eth 0 9 bb
-transmit eth 0
-read 0
-close 0
-close 1
-end
-";
-
-const TEXTS: [&str; 5] = [
-    OPENS_AND_CLOSES,
-    MARKS_ACROSS_THE_JOIN,
-    BINDINGS,
-    IDS_OF_THE_WRONG_KIND_OR_STREAM,
-    TWO_LEVELS_DOWN_AND_UP,
+// A ring of 128 multiplexers, each above the next, but for one link, that link, and what it takes to have it.
+const ALMOST_A_RING: &[Part] = &[
+    Once("programs 2\n"),
+    Each(0, 128, "driver d{n} mux 2 8 3 16\n"),
+    Once("process 0\n"),
+    Each(0, 127, "clone d{n}\nclone d{n + 1}\nplink 0 1\nexit\n"),
+    Once("clone d127\nclone d0\nplink 0 1\nopen d1 0\nclone d63\npunlink 2 all\nplink 0 1\nend\n"),
 ];
 
-// These programs are written as this text, and read from it.
-fn have_text(rt: &(impl AllocGlobal + Abort), value: Programs, text: &str) {
-    are_spelled(rt, &value, &[Once(text)]);
-    forget(value);
+/// The same under the header of version 1, which has no 65th driver.
+pub const ALMOST_A_RING_OF_VERSION_1: &[Part] = &[
+    Once("programs 1\n"),
+    Each(0, 128, "driver d{n} mux 2 8 3 16\n"),
+    Once("process 0\n"),
+    Each(0, 127, "clone d{n}\nclone d{n + 1}\nplink 0 1\nexit\n"),
+    Once("clone d127\nclone d0\nplink 0 1\nopen d1 0\nclone d63\npunlink 2 all\nplink 0 1\nend\n"),
+];
+
+// Texts of either version, and the first version that can tell the same.
+const ROWS: [(&[Part], Version); 7] = [
+    (ALMOST_A_RING, Version::V2),
+    (&[Once(OPENS_AND_CLOSES)], Version::V1),
+    (&[Once(COMMANDS)], Version::V1),
+    (
+        &[Once("programs 2\nprocess 0\nhangup eth 31\nend\n")],
+        Version::V2,
+    ),
+    (
+        &[Once("programs 2\nprocess 0\nclone abcdefg8\nend\n")],
+        Version::V1,
+    ),
+    (
+        &[
+            Once("programs 2\n"),
+            Each(0, 64, "driver a{n} leaf 1 1 0 1\n"),
+            Once("end\n"),
+        ],
+        Version::V1,
+    ),
+    (
+        &[
+            Once("programs 2\n"),
+            Each(0, 65, "driver a{n} leaf 1 1 0 1\n"),
+            Once("end\n"),
+        ],
+        Version::V2,
+    ),
+];
+
+#[test]
+fn programs_are_read_written_and_copied(rt: HostRuntime) {
+    for (text, least) in &ROWS {
+        spells_programs(&rt, *text, *least);
+    }
 }
 
 #[test]
-fn reads_and_writes_programs(rt: HostRuntime) {
-    have_text(&rt, opens_and_closes(&rt), OPENS_AND_CLOSES);
-    for text in &TEXTS {
-        have_text(&rt, programs(&rt, &[Once(*text)]), *text);
-    }
+fn raised_programs_have_another_header(rt: HostRuntime) {
+    let value = programs(&rt, &[Once(OPENS_AND_CLOSES)]);
+    assert!(rt; value.version() == Version::V1);
+    let raised = value.raised();
+    assert!(rt; raised.version() == Version::V2);
+    let text = [Once("programs 2\n"), Once(&OPENS_AND_CLOSES[11..])];
+    are_spelled(&rt, &raised, &text, Version::V1);
+    forget(raised);
 }

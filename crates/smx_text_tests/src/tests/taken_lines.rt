@@ -74,7 +74,7 @@ fn each_line_is_taken(rt: HostRuntime) {
     let taken = take_programs::<Counting>(rt.alloc(), &lines, THREE_PROCESSES.as_bytes());
     let programs = taken.expect(&rt, "programs");
     assert!(rt; lines.load(Ordering::SeqCst) == 8);
-    are_spelled(&rt, &programs, &[Once(THREE_PROCESSES)]);
+    are_spelled(&rt, &programs, &[Once(THREE_PROCESSES)], Version::V2);
 }
 
 // Texts at fault, the line and the cause, and how many lines were taken before.

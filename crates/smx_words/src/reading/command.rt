@@ -1,6 +1,6 @@
 //! The words of a command.
 
-ghost use Rattle.std.specs.Prelude.{◌≡◌, ◌≢◌, ◌∷◌, ◌++◌, [], ℕ, List, codes, IsTrue, ◌↔◌, IfOk, IfErr};
+ghost use Rattle.std.specs.Prelude.{◌≡◌, ◌≢◌, ◌∷◌, ◌++◌, [], ℕ, List, None, codes, IsTrue, ◌↔◌, IfOk, IfErr, OnOk};
 ghost use Rattle.smx_types.specs.declared.version.Version.{Version as AnyVersion};
 ghost use Rattle.smx_types.specs.declared.version.Version.TheVariants.{V1};
 ghost use Rattle.smx_words.specs.LineReading.{IsReadAs, IsLineOf};
@@ -11,10 +11,11 @@ ghost use Rattle.smx_words.specs.Words.{SPACE, line_of};
 ghost use Rattle.smx_words.specs.declared.reading.verb.Verb.{Verb as AnyVerb};
 ghost use Rattle.smx_words.specs.declared.reading.verb.Verb.TheVariants.{Hangup as HangupVerb, Inject as InjectVerb, Write as WriteVerb};
 
+use crate::reading::cutting::is;
 use crate::reading::hex_word::bytes_of;
-use crate::reading::number::{first_number, number};
+use crate::reading::number::{first_number, number, pair};
 use crate::reading::verb::{Verb, first_verb};
-use crate::reading::word::{first_name, name, sides, which};
+use crate::reading::word::{first_name, name, name_and_number, sides, which};
 use smx_types::{Command, NoMemory, Version};
 use std::alloc::Global;
 
@@ -25,26 +26,33 @@ pub fn command_of(alloc: Global, version: Version, line: &[u8]) -> Result<Option
     ensures wanted { IfErr result (λ _. IsLineOf (FitsCommandIn version) command_words line.now) }
 {
     let mut room = Vec::new(alloc);
-    command_in(&mut room, alloc, version, line)
+    let mut read = None;
+    command_in(&mut read, &mut room, alloc, version, line)?;
+    Ok(read)
 }
 
-/// The same, of which a message takes the room that is given, and leaves none there.
+/// The same, which is written where none is yet, so that it is not moved. A message takes the room that is given, and
+/// leaves none there.
+#[inline(always)]
 pub fn command_in(
+    read: &mut Option<Command>,
     room: &mut Vec<u8>,
     alloc: Global,
     version: Version,
     line: &[u8],
-) -> Result<Option<Command>, NoMemory>
-    ensures reading { IfOk result (IsReadAs (FitsCommandIn version) command_words line.now) }
+) -> Result<(), NoMemory>
+    requires { read.old ≡ None }
+    ensures reading { OnOk result (IsReadAs (FitsCommandIn version) command_words line.now read.new) }
     ensures wanted { IfErr result (λ _. IsLineOf (FitsCommandIn version) command_words line.now) }
 {
     let Some((verb, rest)) = first_verb(line) else {
-        return Ok(lone_command(line));
+        lone_command(read, line);
+        return Ok(());
     };
     if lacks(version, verb) {
-        return Ok(None);
+        return Ok(());
     }
-    command_after(room, alloc, verb, rest)
+    command_after(read, room, alloc, verb, rest)
 }
 
 // Whether a version has no command of a verb.
@@ -58,260 +66,312 @@ pub(super) fn lacks(version: Version, verb: Verb) -> bool
 }
 
 // The command of a line that begins with no verb: one has one word alone.
-pub(super) fn lone_command(line: &[u8]) -> Option<Command>
-    requires { (v : AnyVerb) (after : List ℕ) → FitsAlways v → line.now ≢ verb_word v ++ SPACE ∷ after }
-    ensures { (v : AnyVersion) → IsReadAs (FitsCommandIn v) command_words line.now result }
+pub(super) fn lone_command(read: &mut Option<Command>, line: &[u8])
+    requires none { read.old ≡ None }
+    requires no_verb { (v : AnyVerb) (after : List ℕ) → FitsAlways v → line.now ≢ verb_word v ++ SPACE ∷ after }
+    ensures { (v : AnyVersion) → IsReadAs (FitsCommandIn v) command_words line.now read.new }
 {
-    if line == b"exit".as_slice() {
-        return Some(Command::CloseAll);
+    if is(line, b"exit") {
+        *read = Some(Command::CloseAll);
     }
-    None
 }
 
 // The command of a verb and what stands behind it.
 #[inline(always)]
-fn command_after(
+pub(super) fn command_after(
+    read: &mut Option<Command>,
     room: &mut Vec<u8>,
     alloc: Global,
     verb: Verb,
     rest: &[u8],
-) -> Result<Option<Command>, NoMemory>
-    ensures reading { IfOk result (IsReadAs FitsCommand command_words (line_of (verb_word verb ∷ rest.now ∷ []))) }
+) -> Result<(), NoMemory>
+    requires { read.old ≡ None }
+    ensures reading { OnOk result (IsReadAs FitsCommand command_words (line_of (verb_word verb ∷ rest.now ∷ [])) read.new) }
     ensures wanted { IfErr result (λ _. IsLineOf (FitsCommandIn V1) command_words (line_of (verb_word verb ∷ rest.now ∷ []))) }
 {
     if let Verb::Write = verb {
-        return write(room, alloc, rest);
+        return write(read, room, alloc, rest);
     }
     if let Verb::Inject = verb {
-        return inject(room, alloc, rest);
+        return inject(read, room, alloc, rest);
     }
-    Ok(short_command(verb, rest))
+    short_command(read, verb, rest);
+    Ok(())
 }
 
 // The same of a verb whose command has no message, for which no memory is wanted.
 #[inline(always)]
-pub(super) fn short_command(verb: Verb, rest: &[u8]) -> Option<Command>
+fn short_command(read: &mut Option<Command>, verb: Verb, rest: &[u8])
+    requires { read.old ≡ None }
     ensures { verb ≢ WriteVerb → verb ≢ InjectVerb
-        → IsReadAs FitsCommand command_words (line_of (verb_word verb ∷ rest.now ∷ [])) result }
+        → IsReadAs FitsCommand command_words (line_of (verb_word verb ∷ rest.now ∷ [])) read.new }
 {
     match verb {
-        Verb::Write | Verb::Inject | Verb::Exit => None,
-        Verb::Clone => clone(rest),
-        Verb::Open => open(rest),
-        Verb::Dup => dup(rest),
-        Verb::Close => close(rest),
-        Verb::Link => link(rest),
-        Verb::Plink => plink(rest),
-        Verb::Unlink => unlink(rest),
-        Verb::Punlink => punlink(rest),
-        Verb::Bind => bind(rest),
-        Verb::Unbind => unbind(rest),
-        Verb::Route => route(rest),
-        Verb::Unroute => unroute(rest),
-        Verb::Read => read(rest),
-        Verb::Flush => flush(rest),
-        Verb::Transmit => transmit(rest),
-        Verb::Hangup => hangup(rest),
+        Verb::Write | Verb::Inject | Verb::Exit => {}
+        Verb::Clone => clone(read, rest),
+        Verb::Open => open(read, rest),
+        Verb::Dup => dup(read, rest),
+        Verb::Close => close(read, rest),
+        Verb::Link => link(read, rest),
+        Verb::Plink => plink(read, rest),
+        Verb::Unlink => unlink(read, rest),
+        Verb::Punlink => punlink(read, rest),
+        Verb::Bind => bind(read, rest),
+        Verb::Unbind => unbind(read, rest),
+        Verb::Route => route(read, rest),
+        Verb::Unroute => unroute(read, rest),
+        Verb::Read => read_next(read, rest),
+        Verb::Flush => flush(read, rest),
+        Verb::Transmit => transmit(read, rest),
+        Verb::Hangup => hangup(read, rest),
     }
 }
 
 // Each of these is apart: a function sets its locals to zero as it begins, and one that has all of them in it has many.
 #[inline(never)]
-pub(super) fn clone(rest: &[u8]) -> Option<Command>
-    ensures { IsReadAs FitsCommand command_words (line_of (codes "clone" ∷ rest.now ∷ [])) result }
+fn clone(read: &mut Option<Command>, rest: &[u8])
+    requires { read.old ≡ None }
+    ensures { IsReadAs FitsCommand command_words (line_of (codes "clone" ∷ rest.now ∷ [])) read.new }
 {
-    let driver = name(rest)?;
-    Some(Command::OpenClone { driver })
-}
-
-#[inline(never)]
-pub(super) fn open(rest: &[u8]) -> Option<Command>
-    ensures { IsReadAs FitsCommand command_words (line_of (codes "open" ∷ rest.now ∷ [])) result }
-{
-    let Some((driver, rest)) = first_name(rest) else {
-        return None;
+    let Some(driver) = name(rest) else {
+        return;
     };
-    let minor = number(rest)?;
-    Some(Command::OpenMinor { driver, minor })
+    *read = Some(Command::OpenClone { driver });
 }
 
 #[inline(never)]
-pub(super) fn dup(rest: &[u8]) -> Option<Command>
-    ensures { IsReadAs FitsCommand command_words (line_of (codes "dup" ∷ rest.now ∷ [])) result }
+fn open(read: &mut Option<Command>, rest: &[u8])
+    requires { read.old ≡ None }
+    ensures { IsReadAs FitsCommand command_words (line_of (codes "open" ∷ rest.now ∷ [])) read.new }
 {
-    let fd = number(rest)?;
-    Some(Command::Dup { fd })
-}
-
-#[inline(never)]
-pub(super) fn close(rest: &[u8]) -> Option<Command>
-    ensures { IsReadAs FitsCommand command_words (line_of (codes "close" ∷ rest.now ∷ [])) result }
-{
-    let fd = number(rest)?;
-    Some(Command::Close { fd })
-}
-
-#[inline(never)]
-pub(super) fn link(rest: &[u8]) -> Option<Command>
-    ensures { IsReadAs FitsCommand command_words (line_of (codes "link" ∷ rest.now ∷ [])) result }
-{
-    let (fd, rest) = first_number(rest)?;
-    let arg = number(rest)?;
-    Some(Command::Link { fd, arg })
-}
-
-#[inline(never)]
-pub(super) fn plink(rest: &[u8]) -> Option<Command>
-    ensures { IsReadAs FitsCommand command_words (line_of (codes "plink" ∷ rest.now ∷ [])) result }
-{
-    let (fd, rest) = first_number(rest)?;
-    let arg = number(rest)?;
-    Some(Command::Plink { fd, arg })
-}
-
-#[inline(never)]
-pub(super) fn unlink(rest: &[u8]) -> Option<Command>
-    ensures { IsReadAs FitsCommand command_words (line_of (codes "unlink" ∷ rest.now ∷ [])) result }
-{
-    let (fd, rest) = first_number(rest)?;
-    let which = which(rest)?;
-    Some(Command::Unlink { fd, which })
-}
-
-#[inline(never)]
-pub(super) fn punlink(rest: &[u8]) -> Option<Command>
-    ensures { IsReadAs FitsCommand command_words (line_of (codes "punlink" ∷ rest.now ∷ [])) result }
-{
-    let (fd, rest) = first_number(rest)?;
-    let which = which(rest)?;
-    Some(Command::Punlink { fd, which })
-}
-
-#[inline(never)]
-pub(super) fn bind(rest: &[u8]) -> Option<Command>
-    ensures { IsReadAs FitsCommand command_words (line_of (codes "bind" ∷ rest.now ∷ [])) result }
-{
-    let (fd, rest) = first_number(rest)?;
-    let addr = number(rest)?;
-    Some(Command::Bind { fd, addr })
-}
-
-#[inline(never)]
-pub(super) fn unbind(rest: &[u8]) -> Option<Command>
-    ensures { IsReadAs FitsCommand command_words (line_of (codes "unbind" ∷ rest.now ∷ [])) result }
-{
-    let fd = number(rest)?;
-    Some(Command::Unbind { fd })
-}
-
-#[inline(never)]
-pub(super) fn route(rest: &[u8]) -> Option<Command>
-    ensures { IsReadAs FitsCommand command_words (line_of (codes "route" ∷ rest.now ∷ [])) result }
-{
-    let (fd, rest) = first_number(rest)?;
-    let (addr, rest) = first_number(rest)?;
-    let id = number(rest)?;
-    Some(Command::Route { fd, addr, id })
-}
-
-#[inline(never)]
-pub(super) fn unroute(rest: &[u8]) -> Option<Command>
-    ensures { IsReadAs FitsCommand command_words (line_of (codes "unroute" ∷ rest.now ∷ [])) result }
-{
-    let (fd, rest) = first_number(rest)?;
-    let addr = number(rest)?;
-    Some(Command::Unroute { fd, addr })
-}
-
-#[inline(never)]
-pub(super) fn read(rest: &[u8]) -> Option<Command>
-    ensures { IsReadAs FitsCommand command_words (line_of (codes "read" ∷ rest.now ∷ [])) result }
-{
-    let fd = number(rest)?;
-    Some(Command::Read { fd })
-}
-
-#[inline(never)]
-pub(super) fn flush(rest: &[u8]) -> Option<Command>
-    ensures { IsReadAs FitsCommand command_words (line_of (codes "flush" ∷ rest.now ∷ [])) result }
-{
-    let (fd, rest) = first_number(rest)?;
-    let sides = sides(rest)?;
-    Some(Command::Flush { fd, sides })
-}
-
-#[inline(never)]
-pub(super) fn transmit(rest: &[u8]) -> Option<Command>
-    ensures { IsReadAs FitsCommand command_words (line_of (codes "transmit" ∷ rest.now ∷ [])) result }
-{
-    let Some((driver, rest)) = first_name(rest) else {
-        return None;
+    let Some((driver, minor)) = name_and_number(rest) else {
+        return;
     };
-    let minor = number(rest)?;
-    Some(Command::Transmit { driver, minor })
+    *read = Some(Command::OpenMinor { driver, minor });
 }
 
 #[inline(never)]
-pub(super) fn hangup(rest: &[u8]) -> Option<Command>
-    ensures { IsReadAs FitsCommand command_words (line_of (codes "hangup" ∷ rest.now ∷ [])) result }
+fn dup(read: &mut Option<Command>, rest: &[u8])
+    requires { read.old ≡ None }
+    ensures { IsReadAs FitsCommand command_words (line_of (codes "dup" ∷ rest.now ∷ [])) read.new }
 {
-    let Some((driver, rest)) = first_name(rest) else {
-        return None;
+    let Some(fd) = number(rest) else {
+        return;
     };
-    let minor = number(rest)?;
-    Some(Command::Hangup { driver, minor })
+    *read = Some(Command::Dup { fd });
 }
 
 #[inline(never)]
-pub(super) fn write(
+fn close(read: &mut Option<Command>, rest: &[u8])
+    requires { read.old ≡ None }
+    ensures { IsReadAs FitsCommand command_words (line_of (codes "close" ∷ rest.now ∷ [])) read.new }
+{
+    let Some(fd) = number(rest) else {
+        return;
+    };
+    *read = Some(Command::Close { fd });
+}
+
+#[inline(never)]
+fn link(read: &mut Option<Command>, rest: &[u8])
+    requires { read.old ≡ None }
+    ensures { IsReadAs FitsCommand command_words (line_of (codes "link" ∷ rest.now ∷ [])) read.new }
+{
+    let Some((fd, arg)) = pair(rest) else {
+        return;
+    };
+    *read = Some(Command::Link { fd, arg });
+}
+
+#[inline(never)]
+fn plink(read: &mut Option<Command>, rest: &[u8])
+    requires { read.old ≡ None }
+    ensures { IsReadAs FitsCommand command_words (line_of (codes "plink" ∷ rest.now ∷ [])) read.new }
+{
+    let Some((fd, arg)) = pair(rest) else {
+        return;
+    };
+    *read = Some(Command::Plink { fd, arg });
+}
+
+#[inline(never)]
+fn unlink(read: &mut Option<Command>, rest: &[u8])
+    requires { read.old ≡ None }
+    ensures { IsReadAs FitsCommand command_words (line_of (codes "unlink" ∷ rest.now ∷ [])) read.new }
+{
+    let Some((fd, rest)) = first_number(rest) else {
+        return;
+    };
+    let Some(which) = which(rest) else {
+        return;
+    };
+    *read = Some(Command::Unlink { fd, which });
+}
+
+#[inline(never)]
+fn punlink(read: &mut Option<Command>, rest: &[u8])
+    requires { read.old ≡ None }
+    ensures { IsReadAs FitsCommand command_words (line_of (codes "punlink" ∷ rest.now ∷ [])) read.new }
+{
+    let Some((fd, rest)) = first_number(rest) else {
+        return;
+    };
+    let Some(which) = which(rest) else {
+        return;
+    };
+    *read = Some(Command::Punlink { fd, which });
+}
+
+#[inline(never)]
+fn bind(read: &mut Option<Command>, rest: &[u8])
+    requires { read.old ≡ None }
+    ensures { IsReadAs FitsCommand command_words (line_of (codes "bind" ∷ rest.now ∷ [])) read.new }
+{
+    let Some((fd, addr)) = pair(rest) else {
+        return;
+    };
+    *read = Some(Command::Bind { fd, addr });
+}
+
+#[inline(never)]
+fn unbind(read: &mut Option<Command>, rest: &[u8])
+    requires { read.old ≡ None }
+    ensures { IsReadAs FitsCommand command_words (line_of (codes "unbind" ∷ rest.now ∷ [])) read.new }
+{
+    let Some(fd) = number(rest) else {
+        return;
+    };
+    *read = Some(Command::Unbind { fd });
+}
+
+#[inline(never)]
+fn route(read: &mut Option<Command>, rest: &[u8])
+    requires { read.old ≡ None }
+    ensures { IsReadAs FitsCommand command_words (line_of (codes "route" ∷ rest.now ∷ [])) read.new }
+{
+    let Some((fd, rest)) = first_number(rest) else {
+        return;
+    };
+    let Some((addr, id)) = pair(rest) else {
+        return;
+    };
+    *read = Some(Command::Route { fd, addr, id });
+}
+
+#[inline(never)]
+fn unroute(read: &mut Option<Command>, rest: &[u8])
+    requires { read.old ≡ None }
+    ensures { IsReadAs FitsCommand command_words (line_of (codes "unroute" ∷ rest.now ∷ [])) read.new }
+{
+    let Some((fd, addr)) = pair(rest) else {
+        return;
+    };
+    *read = Some(Command::Unroute { fd, addr });
+}
+
+#[inline(never)]
+fn read_next(read: &mut Option<Command>, rest: &[u8])
+    requires { read.old ≡ None }
+    ensures { IsReadAs FitsCommand command_words (line_of (codes "read" ∷ rest.now ∷ [])) read.new }
+{
+    let Some(fd) = number(rest) else {
+        return;
+    };
+    *read = Some(Command::Read { fd });
+}
+
+#[inline(never)]
+fn flush(read: &mut Option<Command>, rest: &[u8])
+    requires { read.old ≡ None }
+    ensures { IsReadAs FitsCommand command_words (line_of (codes "flush" ∷ rest.now ∷ [])) read.new }
+{
+    let Some((fd, rest)) = first_number(rest) else {
+        return;
+    };
+    let Some(sides) = sides(rest) else {
+        return;
+    };
+    *read = Some(Command::Flush { fd, sides });
+}
+
+#[inline(never)]
+fn transmit(read: &mut Option<Command>, rest: &[u8])
+    requires { read.old ≡ None }
+    ensures { IsReadAs FitsCommand command_words (line_of (codes "transmit" ∷ rest.now ∷ [])) read.new }
+{
+    let Some((driver, minor)) = name_and_number(rest) else {
+        return;
+    };
+    *read = Some(Command::Transmit { driver, minor });
+}
+
+#[inline(never)]
+fn hangup(read: &mut Option<Command>, rest: &[u8])
+    requires { read.old ≡ None }
+    ensures { IsReadAs FitsCommand command_words (line_of (codes "hangup" ∷ rest.now ∷ [])) read.new }
+{
+    let Some((driver, minor)) = name_and_number(rest) else {
+        return;
+    };
+    *read = Some(Command::Hangup { driver, minor });
+}
+
+#[inline(never)]
+fn write(
+    read: &mut Option<Command>,
     room: &mut Vec<u8>,
     alloc: Global,
     rest: &[u8],
-) -> Result<Option<Command>, NoMemory>
-    ensures reading { IfOk result (IsReadAs FitsCommand command_words (line_of (codes "write" ∷ rest.now ∷ []))) }
+) -> Result<(), NoMemory>
+    requires { read.old ≡ None }
+    ensures reading { OnOk result (IsReadAs FitsCommand command_words (line_of (codes "write" ∷ rest.now ∷ [])) read.new) }
     ensures wanted { IfErr result (λ _. IsLineOf (FitsCommandIn V1) command_words (line_of (codes "write" ∷ rest.now ∷ []))) }
 {
     let Some((fd, rest)) = first_number(rest) else {
-        return Ok(None);
+        return Ok(());
     };
     let Some((addr, rest)) = first_number(rest) else {
-        return Ok(None);
+        return Ok(());
     };
     let bytes = match bytes_of(room, alloc, rest) {
         Ok(Some(bytes)) => bytes,
-        Ok(None) => return Ok(None),
+        Ok(None) => return Ok(()),
         Err(error) => return Err(error),
     };
-    Ok(Some(Command::Write { fd, addr, bytes }))
+    *read = Some(Command::Write { fd, addr, bytes });
+    Ok(())
 }
 
 #[inline(never)]
-pub(super) fn inject(
+fn inject(
+    read: &mut Option<Command>,
     room: &mut Vec<u8>,
     alloc: Global,
     rest: &[u8],
-) -> Result<Option<Command>, NoMemory>
-    ensures reading { IfOk result (IsReadAs FitsCommand command_words (line_of (codes "inject" ∷ rest.now ∷ []))) }
+) -> Result<(), NoMemory>
+    requires { read.old ≡ None }
+    ensures reading { OnOk result (IsReadAs FitsCommand command_words (line_of (codes "inject" ∷ rest.now ∷ [])) read.new) }
     ensures wanted { IfErr result (λ _. IsLineOf (FitsCommandIn V1) command_words (line_of (codes "inject" ∷ rest.now ∷ []))) }
 {
     let Some((driver, rest)) = first_name(rest) else {
-        return Ok(None);
+        return Ok(());
     };
     let Some((minor, rest)) = first_number(rest) else {
-        return Ok(None);
+        return Ok(());
     };
     let Some((addr, rest)) = first_number(rest) else {
-        return Ok(None);
+        return Ok(());
     };
     let bytes = match bytes_of(room, alloc, rest) {
         Ok(Some(bytes)) => bytes,
-        Ok(None) => return Ok(None),
+        Ok(None) => return Ok(()),
         Err(error) => return Err(error),
     };
-    Ok(Some(Command::Inject {
+    *read = Some(Command::Inject {
         driver,
         minor,
         addr,
         bytes,
-    }))
+    });
+    Ok(())
 }

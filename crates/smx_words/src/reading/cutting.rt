@@ -1,6 +1,6 @@
 //! Bytes before and after a separator.
 
-ghost use Rattle.std.specs.Prelude.{◌≡◌, ◌≢◌, ◌∷◌, ◌++◌, List, ℕ, MatchOption};
+ghost use Rattle.std.specs.Prelude.{◌≡◌, ◌≢◌, ◌∷◌, ◌++◌, List, ℕ, IsTrue, ◌↔◌, MatchOption};
 ghost use Rattle.smx_words.specs.Words.{IsFree};
 
 use memchr::memchr;
@@ -47,6 +47,14 @@ pub fn after<'a>(bytes: &'a [u8], front: &[u8]) -> Option<&'a [u8]>
         }
     }
     Some(&bytes[front.len()..])
+}
+
+// Whether bytes are these.
+#[inline(always)]
+pub fn is(bytes: &[u8], text: &[u8]) -> bool
+    ensures { IsTrue result ↔ (bytes.now ≡ text.now) }
+{
+    bytes == text
 }
 
 // The bytes before others that they end with.

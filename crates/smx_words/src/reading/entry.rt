@@ -1,6 +1,6 @@
 //! The words of an entry.
 
-ghost use Rattle.std.specs.Prelude.{◌≡◌, ◌≢◌, ◌++◌, ◌∷◌, List, ℕ, codes, MatchOption, IfOk, IfErr};
+ghost use Rattle.std.specs.Prelude.{◌≡◌, ◌≢◌, ◌++◌, ◌∷◌, List, ℕ, codes, None, MatchOption, IfOk, IfErr};
 ghost use Rattle.smx_words.specs.LineReading.{IsReadAs, IsLineOf};
 ghost use Rattle.smx_words.specs.Spellable.{FitsCommandIn, FitsEntryIn, FitsReplyIn};
 ghost use Rattle.smx_words.specs.Spelling.{command_words, entry_words, reply_words};
@@ -55,17 +55,46 @@ fn both(
         × IsLineOf (FitsReplyIn version) reply_words reply.now) }
 {
     match command_of(alloc, version, command) {
-        Ok(Some(command)) => match reply_of(alloc, version, reply) {
-            Ok(Some(reply)) => Ok(Some((command, reply))),
-            Ok(None) => Ok(None),
-            Err(error) => Err(error),
-        },
+        Ok(Some(command)) => with_reply(alloc, version, command, reply),
         Ok(None) => Ok(None),
-        Err(error) => match reply_of(alloc, version, reply) {
-            Ok(None) => Ok(None),
-            Ok(Some(_)) => Err(error),
-            Err(error) => Err(error),
-        },
+        Err(error) => unless_no_reply(error, alloc, version, reply),
+    }
+}
+
+// A command that was read, and a reply.
+fn with_reply(
+    alloc: Global,
+    version: Version,
+    command: Command,
+    reply: &[u8],
+) -> Result<Option<(Command, Reply)>, NoMemory>
+    ensures reading { IfOk result (λ o. MatchOption o
+        ((r : _) → FitsReplyIn version r → reply.now ≢ line_of (reply_words r))
+        (λ p. (p.0 ≡ command) × FitsReplyIn version p.1 × (reply.now ≡ line_of (reply_words p.1)))) }
+    ensures wanted { IfErr result (λ _. IsLineOf (FitsReplyIn version) reply_words reply.now) }
+{
+    match reply_of(alloc, version, reply) {
+        Ok(Some(reply)) => Ok(Some((command, reply))),
+        Ok(None) => Ok(None),
+        Err(error) => Err(error),
+    }
+}
+
+// Want of memory for a command, where there is a reply.
+fn unless_no_reply(
+    error: NoMemory,
+    alloc: Global,
+    version: Version,
+    reply: &[u8],
+) -> Result<Option<(Command, Reply)>, NoMemory>
+    ensures reading { IfOk result (λ o. (o ≡ None) × ((r : _) → FitsReplyIn version r
+        → reply.now ≢ line_of (reply_words r))) }
+    ensures wanted { IfErr result (λ _. IsLineOf (FitsReplyIn version) reply_words reply.now) }
+{
+    match reply_of(alloc, version, reply) {
+        Ok(None) => Ok(None),
+        Ok(Some(_)) => Err(error),
+        Err(error) => Err(error),
     }
 }
 
@@ -78,10 +107,10 @@ fn sides(text: &[u8]) -> Option<(&[u8], &[u8])>
     let Some((front, back)) = cut(text, b'=') else {
         return None;
     };
-    let Some(command) = before(front, b" ".as_slice()) else {
+    let Some(command) = before(front, b" ") else {
         return None;
     };
-    let Some(reply) = after(back, b" ".as_slice()) else {
+    let Some(reply) = after(back, b" ") else {
         return None;
     };
     Some((command, reply))

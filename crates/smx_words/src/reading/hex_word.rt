@@ -1,14 +1,18 @@
 //! Bytes in a word.
 
-ghost use Rattle.std.specs.Prelude.{◌≡◌, ◌≢◌, ◌<◌, ◌≤◌, ◌*◌, ◌%◌, true, List, ℕ, length, slice_index, IfOk, IfErr};
-ghost use Rattle.std.specs.Prelude.{MatchBool};
+ghost use Rattle.std.specs.Prelude.{◌≡◌, ◌≢◌, ◌<◌, ◌≤◌, ◌*◌, ◌%◌, ◌∷◌, ◌++◌, true, List, ℕ, length, slice_index, IfOk, IfErr};
+ghost use Rattle.std.specs.Prelude.{MatchBool, MatchOption};
+ghost use Rattle.std.specs.Fmt.{decimal};
 ghost use Rattle.std.specs.List.{list_all};
 ghost use Rattle.std.specs.Vec.{vec_len};
 ghost use Rattle.hex.specs.Hex.{encode_lower, lower_digits};
 ghost use Rattle.smx_words.specs.HexWords.{hex_word, is_digit};
 ghost use Rattle.smx_words.specs.LineReading.{IsFoundIn, IsSpelled};
-ghost use Rattle.smx_words.specs.Spellable.{FitsBytes};
+ghost use Rattle.smx_words.specs.Spellable.{FitsBytes, FitsNumber};
+ghost use Rattle.smx_words.specs.Words.{SPACE};
 
+use crate::reading::cutting::is;
+use crate::reading::number::first_number;
 use smx_types::{Bytes, NoMemory};
 use std::alloc::{AllocError, Global};
 use std::mem::replace;
@@ -32,12 +36,31 @@ pub fn bytes_of(room: &mut Vec<u8>, alloc: Global, word: &[u8]) -> Result<Option
     }
 }
 
+// The number and the bytes that are all of some text.
+pub fn number_and_bytes(alloc: Global, text: &[u8]) -> Result<Option<(u32, Bytes)>, NoMemory>
+    ensures reading { IfOk result (λ o. MatchOption o
+        ((n : ℕ) (bytes : List ℕ) → FitsNumber n → FitsBytes bytes
+        → text.now ≢ decimal n ++ SPACE ∷ hex_word bytes)
+        (λ m. FitsNumber m.0 × FitsBytes m.1 × (text.now ≡ decimal m.0 ++ SPACE ∷ hex_word m.1))) }
+    ensures wanted { IfErr result (λ _. (n : ℕ) × (bytes : List ℕ) × FitsNumber n × FitsBytes bytes
+        × (text.now ≡ decimal n ++ SPACE ∷ hex_word bytes)) }
+{
+    let Some((number, rest)) = first_number(text) else {
+        return Ok(None);
+    };
+    match bytes_of(&mut Vec::new(alloc), alloc, rest) {
+        Ok(Some(bytes)) => Ok(Some((number, bytes))),
+        Ok(None) => Ok(None),
+        Err(error) => Err(error),
+    }
+}
+
 /// Whether a word spells bytes. Takes no memory.
 pub fn spells_bytes(word: &[u8]) -> bool
     ensures { MatchBool result (IsSpelled FitsBytes hex_word word.now)
         ((bytes : List ℕ) → FitsBytes bytes → word.now ≢ hex_word bytes) }
 {
-    if word == b"-".as_slice() {
+    if is(word, b"-") {
         return true;
     }
     if word.is_empty() || word.len() % 2 == 1 {
@@ -63,7 +86,7 @@ fn dash(alloc: Global, word: &[u8]) -> Option<Bytes>
     requires { 0 < length word.now → length word.now % 2 ≡ 1 }
     ensures { IsFoundIn FitsBytes hex_word word.now result }
 {
-    if word == b"-".as_slice() {
+    if is(word, b"-") {
         return Some(Bytes::new(alloc));
     }
     None

@@ -1,11 +1,12 @@
 //! Numbers in words: decimal, below 2^32, without a sign or a leading zero.
 
-ghost use Rattle.std.specs.Prelude.{◌≡◌, ◌≢◌, ◌++◌, List, ℕ, take, drop, ◌≤◌, ◌==◌, ◌&&◌, ◌||◌, nat_lt};
+ghost use Rattle.std.specs.Prelude.{◌≡◌, ◌≢◌, ◌∷◌, ◌++◌, List, ℕ, take, drop, ◌≤◌, ◌==◌, ◌&&◌, ◌||◌, nat_lt};
 ghost use Rattle.std.specs.Prelude.{length, slice_index, MatchOption};
 ghost use Rattle.std.specs.Fmt.{decimal};
 ghost use Rattle.smx_words.specs.LineReading.{IsFoundIn, BeginsWith};
 ghost use Rattle.smx_words.specs.Numbers.{NoDigitFirst};
 ghost use Rattle.smx_words.specs.Spellable.{FitsNumber, FitsProcess};
+ghost use Rattle.smx_words.specs.Words.{SPACE};
 
 use smx_types::Process;
 
@@ -35,6 +36,22 @@ pub fn first_number(text: &[u8]) -> Option<(u32, &[u8])>
         Some((number, &text[end + 1..]))
     } else {
         None
+    }
+}
+
+// The two numbers that are all of some bytes.
+#[inline(always)]
+pub fn pair(text: &[u8]) -> Option<(u32, u32)>
+    ensures { MatchOption result
+        ((a b : ℕ) → FitsNumber a → FitsNumber b → text.now ≢ decimal a ++ SPACE ∷ decimal b)
+        (λ p. FitsNumber p.0 × FitsNumber p.1 × (text.now ≡ decimal p.0 ++ SPACE ∷ decimal p.1)) }
+{
+    let Some((first, rest)) = first_number(text) else {
+        return None;
+    };
+    match number(rest) {
+        Some(second) => Some((first, second)),
+        None => None,
     }
 }
 

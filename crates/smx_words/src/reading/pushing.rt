@@ -9,7 +9,7 @@ ghost use Rattle.smx_words.specs.Spelling.{command_words};
 ghost use Rattle.smx_words.specs.Verbs.{verb_word};
 ghost use Rattle.smx_words.specs.Words.{line_of};
 
-use crate::reading::command::{inject, lacks, lone_command, short_command, write};
+use crate::reading::command::{command_after, lacks, lone_command};
 use crate::reading::verb::{Verb, first_verb};
 use smx_types::{Command, NoMemory, Version};
 use std::alloc::Global;
@@ -31,7 +31,9 @@ pub fn push_command(
     ensures kept { OnErr result (commands.new.items ≡ commands.old.items) }
 {
     let Some((verb, rest)) = first_verb(line) else {
-        return Ok(push_if(commands, lone_command(line)));
+        let mut read = None;
+        lone_command(&mut read, line);
+        return Ok(push_if(commands, read));
     };
     if lacks(version, verb) {
         return Ok(false);
@@ -55,13 +57,9 @@ fn push_after(
     ensures kept { OnErr result (commands.new.items ≡ commands.old.items) }
 {
     let mut room = Vec::new(alloc);
-    if let Verb::Write = verb {
-        return push_read(commands, write(&mut room, alloc, rest));
-    }
-    if let Verb::Inject = verb {
-        return push_read(commands, inject(&mut room, alloc, rest));
-    }
-    Ok(push_if(commands, short_command(verb, rest)))
+    let mut read = None;
+    command_after(&mut read, &mut room, alloc, verb, rest)?;
+    Ok(push_if(commands, read))
 }
 
 // Puts a command behind the others, if there is one, and says whether there is.
@@ -77,24 +75,5 @@ fn push_if(commands: &mut Vec<Command>, read: Option<Command>) -> bool
             true
         }
         None => false,
-    }
-}
-
-// The same where memory may have been wanting.
-#[inline(always)]
-fn push_read(
-    commands: &mut Vec<Command>,
-    read: Result<Option<Command>, NoMemory>,
-) -> Result<bool, NoMemory>
-    requires room { vec_len commands.old < vec_capacity commands.old }
-    ensures pushed { MatchResult read (λ o. IfOk result (λ pushed. MatchOption o
-        ((pushed ≡ false) × (commands.new.items ≡ commands.old.items))
-        (λ c. (pushed ≡ true) × (commands.new.items ≡ commands.old.items ++ c ∷ [])))) (λ _. IsErr result) }
-    ensures wanted { IfErr result (λ _. IsErr read) }
-    ensures kept { OnErr result (commands.new.items ≡ commands.old.items) }
-{
-    match read {
-        Ok(read) => Ok(push_if(commands, read)),
-        Err(error) => Err(error),
     }
 }

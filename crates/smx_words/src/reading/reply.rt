@@ -11,9 +11,9 @@ ghost use Rattle.smx_words.specs.Spelling.{fault_words, reply_words};
 ghost use Rattle.smx_words.specs.Verbs.{reply_verb_word};
 ghost use Rattle.smx_words.specs.Words.{line_of};
 
-use crate::reading::cutting::after;
-use crate::reading::hex_word::bytes_of;
-use crate::reading::number::{first_number, number};
+use crate::reading::cutting::{after, is};
+use crate::reading::hex_word::number_and_bytes;
+use crate::reading::number::{first_number, number, pair};
 use crate::reading::verb::{ReplyVerb, first_reply_verb};
 use smx_types::{Fault, NoMemory, Reply, Serials, Version};
 use std::alloc::Global;
@@ -61,8 +61,9 @@ fn reply_after(alloc: Global, verb: ReplyVerb, rest: &[u8]) -> Result<Option<Rep
 fn fd(rest: &[u8]) -> Option<Reply>
     ensures { IsReadAs FitsReply reply_words (line_of (codes "fd" ∷ rest.now ∷ [])) result }
 {
-    let (fd, rest) = first_number(rest)?;
-    let minor = number(rest)?;
+    let Some((fd, minor)) = pair(rest) else {
+        return None;
+    };
     Some(Reply::Fd { fd, minor })
 }
 
@@ -87,11 +88,8 @@ fn got(alloc: Global, rest: &[u8]) -> Result<Option<Reply>, NoMemory>
     let Some((serial, rest)) = first_number(rest) else {
         return Ok(None);
     };
-    let Some((addr, rest)) = first_number(rest) else {
-        return Ok(None);
-    };
-    let bytes = match bytes_of(&mut Vec::new(alloc), alloc, rest) {
-        Ok(Some(bytes)) => bytes,
+    let (addr, bytes) = match number_and_bytes(alloc, rest) {
+        Ok(Some(message)) => message,
         Ok(None) => return Ok(None),
         Err(error) => return Err(error),
     };
@@ -177,12 +175,12 @@ fn lone_reply(alloc: Global, line: &[u8]) -> Option<Reply>
         × ((f : _) → line.now ≢ line_of (fault_words f)))
         (λ r. FitsReply r × (line.now ≡ line_of (reply_words r))) }
 {
-    if line == b"done".as_slice() {
+    if is(line, b"done") {
         return Some(Reply::Done {
             dropped: Serials::new(alloc),
         });
     }
-    if line == b"eof".as_slice() {
+    if is(line, b"eof") {
         return Some(Reply::Eof);
     }
     let fault = fault_of(line)?;
@@ -204,25 +202,25 @@ fn invalid(line: &[u8]) -> Option<Fault>
     requires { (cause : List ℕ) × (line.now ≡ codes "EINVAL " ++ cause) }
     ensures { IsReadAs FitsAlways fault_words line.now result }
 {
-    if line == b"EINVAL below".as_slice() {
+    if is(line, b"EINVAL below") {
         return Some(Fault::Below);
     }
-    if line == b"EINVAL notmux".as_slice() {
+    if is(line, b"EINVAL notmux") {
         return Some(Fault::NotMux);
     }
-    if line == b"EINVAL already".as_slice() {
+    if is(line, b"EINVAL already") {
         return Some(Fault::AlreadyBelow);
     }
-    if line == b"EINVAL cycle".as_slice() {
+    if is(line, b"EINVAL cycle") {
         return Some(Fault::Cycle);
     }
-    if line == b"EINVAL id".as_slice() {
+    if is(line, b"EINVAL id") {
         return Some(Fault::NoLink);
     }
-    if line == b"EINVAL unbound".as_slice() {
+    if is(line, b"EINVAL unbound") {
         return Some(Fault::Unbound);
     }
-    if line == b"EINVAL unrouted".as_slice() {
+    if is(line, b"EINVAL unrouted") {
         return Some(Fault::Unrouted);
     }
     None
@@ -233,34 +231,34 @@ fn valid(line: &[u8]) -> Option<Fault>
     requires { (cause : List ℕ) → line.now ≢ codes "EINVAL " ++ cause }
     ensures { IsReadAs FitsAlways fault_words line.now result }
 {
-    if line == b"EBADF fd".as_slice() {
+    if is(line, b"EBADF fd") {
         return Some(Fault::BadDescriptor);
     }
-    if line == b"EAGAIN links".as_slice() {
+    if is(line, b"EAGAIN links") {
         return Some(Fault::TooManyLinks);
     }
-    if line == b"EAGAIN full".as_slice() {
+    if is(line, b"EAGAIN full") {
         return Some(Fault::Full);
     }
-    if line == b"EAGAIN empty".as_slice() {
+    if is(line, b"EAGAIN empty") {
         return Some(Fault::Empty);
     }
-    if line == b"ENXIO driver".as_slice() {
+    if is(line, b"ENXIO driver") {
         return Some(Fault::NoDriver);
     }
-    if line == b"ENXIO minor".as_slice() {
+    if is(line, b"ENXIO minor") {
         return Some(Fault::NoMinor);
     }
-    if line == b"EMFILE".as_slice() {
+    if is(line, b"EMFILE") {
         return Some(Fault::TooManyDescriptors);
     }
-    if line == b"EADDRINUSE".as_slice() {
+    if is(line, b"EADDRINUSE") {
         return Some(Fault::AddressInUse);
     }
-    if line == b"ERANGE".as_slice() {
+    if is(line, b"ERANGE") {
         return Some(Fault::BadSize);
     }
-    if line == b"ENXIO hangup".as_slice() {
+    if is(line, b"ENXIO hangup") {
         return Some(Fault::HungUp);
     }
     None

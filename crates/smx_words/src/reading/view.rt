@@ -1,10 +1,14 @@
 //! The lines of a view.
 
-ghost use Rattle.std.specs.Prelude.{◌≡◌, IfOk, IfErr};
+ghost use Rattle.std.specs.Prelude.{◌≡◌, ◌≢◌, ◌∷◌, ◌++◌, ℕ, List, MatchOption, IfOk, IfErr};
+ghost use Rattle.std.specs.Fmt.{decimal};
+ghost use Rattle.smx_types.specs.declared.link.LinkKind.{LinkKind as AnyKind};
 ghost use Rattle.smx_words.specs.LineReading.{IsReadAs, IsLineOf};
 ghost use Rattle.smx_words.specs.Spellable.{FitsDescriptor, FitsLink, FitsBinding, FitsRoute, FitsMessage, FitsFull, FitsHung};
+ghost use Rattle.smx_words.specs.Spellable.{FitsName, FitsNumber};
 ghost use Rattle.smx_words.specs.Spelling.{
   descriptor_words,
+  link_kind_word,
   link_words,
   bind_words,
   route_words,
@@ -12,14 +16,15 @@ ghost use Rattle.smx_words.specs.Spelling.{
   full_words,
   hung_words,
 };
+ghost use Rattle.smx_words.specs.Words.{SPACE};
 
 use crate::reading::cutting::after;
-use crate::reading::hex_word::bytes_of;
-use crate::reading::number::{first_number, first_process, number};
-use crate::reading::word::{first_name, first_side, link_kind, side};
+use crate::reading::hex_word::number_and_bytes;
+use crate::reading::number::{first_number, first_process, pair};
+use crate::reading::word::{first_name, first_side, link_kind, name_and_number, side};
 use smx_types::{
-    BindingLine, DescriptorLine, FullLine, HungLine, LinkLine, Message, MessageLine, NoMemory,
-    RouteLine,
+    BindingLine, DescriptorLine, FullLine, HungLine, LinkKind, LinkLine, Message, MessageLine,
+    Name, NoMemory, RouteLine,
 };
 use std::alloc::Global;
 
@@ -27,17 +32,18 @@ use std::alloc::Global;
 pub fn descriptor_of(line: &[u8]) -> Option<DescriptorLine>
     ensures { IsReadAs FitsDescriptor descriptor_words line.now result }
 {
-    let Some(rest) = after(line, b"fd ".as_slice()) else {
+    let Some(rest) = after(line, b"fd ") else {
         return None;
     };
     let Some((process, rest)) = first_process(rest) else {
         return None;
     };
-    let (fd, rest) = first_number(rest)?;
-    let Some((driver, rest)) = first_name(rest) else {
+    let Some((fd, rest)) = first_number(rest) else {
         return None;
     };
-    let minor = number(rest)?;
+    let Some((driver, minor)) = name_and_number(rest) else {
+        return None;
+    };
     Some(DescriptorLine {
         process,
         fd,
@@ -50,19 +56,19 @@ pub fn descriptor_of(line: &[u8]) -> Option<DescriptorLine>
 pub fn link_of(line: &[u8]) -> Option<LinkLine>
     ensures { IsReadAs FitsLink link_words line.now result }
 {
-    let Some(rest) = after(line, b"link ".as_slice()) else {
+    let Some(rest) = after(line, b"link ") else {
         return None;
     };
-    let (id, rest) = first_number(rest)?;
+    let Some((id, rest)) = first_number(rest) else {
+        return None;
+    };
     let Some((ctl_driver, rest)) = first_name(rest) else {
         return None;
     };
-    let (ctl_minor, rest) = first_number(rest)?;
-    let Some((lower_driver, rest)) = first_name(rest) else {
+    let Some((ctl_minor, rest)) = first_number(rest) else {
         return None;
     };
-    let (lower_minor, rest) = first_number(rest)?;
-    let Some(kind) = link_kind(rest) else {
+    let Some((lower_driver, lower_minor, kind)) = stream_and_kind(rest) else {
         return None;
     };
     Some(LinkLine {
@@ -75,18 +81,39 @@ pub fn link_of(line: &[u8]) -> Option<LinkLine>
     })
 }
 
+// The driver's name, the minor and the kind of a link that are all of some bytes.
+fn stream_and_kind(text: &[u8]) -> Option<(Name, u32, LinkKind)>
+    ensures { MatchOption result
+        ((name : List ℕ) (n : ℕ) (kind : AnyKind) → FitsName name → FitsNumber n
+        → text.now ≢ name ++ SPACE ∷ decimal n ++ SPACE ∷ link_kind_word kind)
+        (λ l. FitsName l.0 × FitsNumber l.1
+        × (text.now ≡ l.0 ++ SPACE ∷ decimal l.1 ++ SPACE ∷ link_kind_word l.2)) }
+{
+    let Some((driver, rest)) = first_name(text) else {
+        return None;
+    };
+    let Some((minor, rest)) = first_number(rest) else {
+        return None;
+    };
+    match link_kind(rest) {
+        Some(kind) => Some((driver, minor, kind)),
+        None => None,
+    }
+}
+
 /// The binding whose words a line is, if it is one's.
 pub fn bind_of(line: &[u8]) -> Option<BindingLine>
     ensures { IsReadAs FitsBinding bind_words line.now result }
 {
-    let Some(rest) = after(line, b"bind ".as_slice()) else {
+    let Some(rest) = after(line, b"bind ") else {
         return None;
     };
     let Some((driver, rest)) = first_name(rest) else {
         return None;
     };
-    let (addr, rest) = first_number(rest)?;
-    let minor = number(rest)?;
+    let Some((addr, minor)) = pair(rest) else {
+        return None;
+    };
     Some(BindingLine {
         driver,
         addr,
@@ -98,14 +125,15 @@ pub fn bind_of(line: &[u8]) -> Option<BindingLine>
 pub fn route_of(line: &[u8]) -> Option<RouteLine>
     ensures { IsReadAs FitsRoute route_words line.now result }
 {
-    let Some(rest) = after(line, b"route ".as_slice()) else {
+    let Some(rest) = after(line, b"route ") else {
         return None;
     };
     let Some((driver, rest)) = first_name(rest) else {
         return None;
     };
-    let (addr, rest) = first_number(rest)?;
-    let id = number(rest)?;
+    let Some((addr, id)) = pair(rest) else {
+        return None;
+    };
     Some(RouteLine { driver, addr, id })
 }
 
@@ -113,13 +141,15 @@ pub fn route_of(line: &[u8]) -> Option<RouteLine>
 pub fn full_of(line: &[u8]) -> Option<FullLine>
     ensures { IsReadAs FitsFull full_words line.now result }
 {
-    let Some(rest) = after(line, b"full ".as_slice()) else {
+    let Some(rest) = after(line, b"full ") else {
         return None;
     };
     let Some((driver, rest)) = first_name(rest) else {
         return None;
     };
-    let (minor, rest) = first_number(rest)?;
+    let Some((minor, rest)) = first_number(rest) else {
+        return None;
+    };
     let side = side(rest)?;
     Some(FullLine {
         driver,
@@ -132,13 +162,12 @@ pub fn full_of(line: &[u8]) -> Option<FullLine>
 pub fn hung_of(line: &[u8]) -> Option<HungLine>
     ensures { IsReadAs FitsHung hung_words line.now result }
 {
-    let Some(rest) = after(line, b"hung ".as_slice()) else {
+    let Some(rest) = after(line, b"hung ") else {
         return None;
     };
-    let Some((driver, rest)) = first_name(rest) else {
+    let Some((driver, minor)) = name_and_number(rest) else {
         return None;
     };
-    let minor = number(rest)?;
     Some(HungLine { driver, minor })
 }
 
@@ -148,7 +177,7 @@ pub fn message_of(alloc: Global, line: &[u8]) -> Result<Option<MessageLine>, NoM
     ensures reading { IfOk result (IsReadAs FitsMessage message_words line.now) }
     ensures wanted { IfErr result (λ _. IsLineOf FitsMessage message_words line.now) }
 {
-    let Some(rest) = after(line, b"msg ".as_slice()) else {
+    let Some(rest) = after(line, b"msg ") else {
         return Ok(None);
     };
     let Some((driver, rest)) = first_name(rest) else {
@@ -163,11 +192,8 @@ pub fn message_of(alloc: Global, line: &[u8]) -> Result<Option<MessageLine>, NoM
     let Some((serial, rest)) = first_number(rest) else {
         return Ok(None);
     };
-    let Some((addr, rest)) = first_number(rest) else {
-        return Ok(None);
-    };
-    let bytes = match bytes_of(&mut Vec::new(alloc), alloc, rest) {
-        Ok(Some(bytes)) => bytes,
+    let (addr, bytes) = match number_and_bytes(alloc, rest) {
+        Ok(Some(message)) => message,
         Ok(None) => return Ok(None),
         Err(error) => return Err(error),
     };

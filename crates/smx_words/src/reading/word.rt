@@ -1,10 +1,13 @@
 //! Words of few values, and names.
 
+ghost use Rattle.std.specs.Prelude.{◌≡◌, ◌≢◌, ◌∷◌, ◌++◌, ℕ, List, MatchOption};
+ghost use Rattle.std.specs.Fmt.{decimal};
 ghost use Rattle.smx_words.specs.LineReading.{IsFoundIn, BeginsWith};
-ghost use Rattle.smx_words.specs.Spellable.{FitsName, FitsWhich, FitsAlways};
+ghost use Rattle.smx_words.specs.Spellable.{FitsName, FitsNumber, FitsWhich, FitsAlways};
 ghost use Rattle.smx_words.specs.Spelling.{kind_word, which_word, sides_word, side_word, link_kind_word};
+ghost use Rattle.smx_words.specs.Words.{SPACE};
 
-use crate::reading::cutting::{cut, cut_soon};
+use crate::reading::cutting::{cut, cut_soon, is};
 use crate::reading::number::number;
 use smx_types::{DriverKind, LinkKind, Name, Side, Sides, Which};
 
@@ -25,6 +28,22 @@ pub fn first_name(text: &[u8]) -> Option<(Name, &[u8])>
     };
     match name(word) {
         Some(name) => Some((name, rest)),
+        None => None,
+    }
+}
+
+// The name and the number that are all of some bytes.
+#[inline(always)]
+pub fn name_and_number(text: &[u8]) -> Option<(Name, u32)>
+    ensures { MatchOption result
+        ((name : List ℕ) (n : ℕ) → FitsName name → FitsNumber n → text.now ≢ name ++ SPACE ∷ decimal n)
+        (λ p. FitsName p.0 × FitsNumber p.1 × (text.now ≡ p.0 ++ SPACE ∷ decimal p.1)) }
+{
+    let Some((name, rest)) = first_name(text) else {
+        return None;
+    };
+    match number(rest) {
+        Some(number) => Some((name, number)),
         None => None,
     }
 }
@@ -57,7 +76,7 @@ pub fn first_kind(text: &[u8]) -> Option<(DriverKind, &[u8])>
 pub fn which(word: &[u8]) -> Option<Which>
     ensures { IsFoundIn FitsWhich which_word word.now result }
 {
-    if word == b"all".as_slice() {
+    if is(word, b"all") {
         return Some(Which::All);
     }
     let id = number(word)?;

@@ -7,9 +7,10 @@ ghost use Rattle.std.specs.List.{slice_index};
 ghost use Rattle.smx_words.specs.declared.writing.bytes.TheConstants.{MANY};
 ghost use Rattle.smx_words.specs.HexWords.{hex_word};
 ghost use Rattle.smx_words.specs.Spellable.{FitsBytes, FitsNumber};
-ghost use Rattle.smx_words.specs.Words.{LINE_FEED, SPACE};
+ghost use Rattle.smx_words.specs.Words.{LINE_FEED, SPACE, line_of};
 
 use super::number::put_spaced;
+use super::word::{put_byte, put_text};
 use smx_types::NoMemory;
 
 // Quicker than a test where the bytes are few.
@@ -29,15 +30,14 @@ pub(super) fn put_message(
     bytes: &[u8],
 ) -> Result<(), NoMemory>
     ensures written { OnOk result (out.new.items
-        ≡ out.old.items ++ SPACE ∷ decimal serial ++ SPACE ∷ decimal addr ++ SPACE ∷ hex_word bytes.now
+        ≡ out.old.items ++ SPACE ∷ line_of (decimal serial ∷ decimal addr ∷ hex_word bytes.now ∷ [])
         ++ LINE_FEED ∷ []) }
     ensures fits { FitsNumber serial × FitsNumber addr × FitsBytes bytes.now }
 {
     put_spaced(out, serial)?;
     put_spaced(out, addr)?;
     put_bytes(out, bytes)?;
-    out.push(b'\n')?;
-    Ok(())
+    put_byte(out, b'\n')
 }
 
 /// A space and the word of some bytes.
@@ -46,13 +46,13 @@ pub(super) fn put_bytes(out: &mut Vec<u8>, bytes: &[u8]) -> Result<(), NoMemory>
     ensures fits { FitsBytes bytes.now }
 {
     if bytes.is_empty() {
-        out.extend_from_slice(b" -")?;
+        put_text(out, b" -")?;
         return Ok(());
     }
     if bytes.len() < MANY {
         return put_few(out, bytes);
     }
-    out.push(b' ')?;
+    put_byte(out, b' ')?;
     put_pairs(out, bytes)
 }
 

@@ -10,7 +10,7 @@ ghost use Rattle.smx_words.specs.Words.{line_of};
 use super::Spell;
 use super::bytes::put_bytes;
 use super::number::put_spaced;
-use super::word::put_name;
+use super::word::{put_byte, put_name, put_text};
 use smx_types::{Command, Name, NoMemory, Sides, Which};
 
 impl Spell for Command {
@@ -20,8 +20,7 @@ impl Spell for Command {
 
     fn write_line(&self, out: &mut Vec<u8>) -> Result<(), NoMemory> {
         put_command(out, self)?;
-        out.push(b'\n')?;
-        Ok(())
+        put_byte(out, b'\n')
     }
 }
 
@@ -68,8 +67,7 @@ pub(super) fn put_command(out: &mut Vec<u8>, command: &Command) -> Result<(), No
 fn put_exit(out: &mut Vec<u8>) -> Result<(), NoMemory>
     ensures { OnOk result (out.new.items ≡ out.old.items ++ codes "exit") }
 {
-    out.extend_from_slice(b"exit")?;
-    Ok(())
+    put_text(out, b"exit")
 }
 
 #[inline(always)]
@@ -78,7 +76,7 @@ fn put_clone(out: &mut Vec<u8>, driver: &Name) -> Result<(), NoMemory>
         ≡ out.old.items ++ line_of (codes "clone" ∷ driver.now ∷ [])) }
     ensures fits { OnOk result (FitsName driver.now) }
 {
-    out.extend_from_slice(b"clone")?;
+    put_text(out, b"clone")?;
     put_name(out, driver)
 }
 
@@ -88,7 +86,7 @@ fn put_stream(out: &mut Vec<u8>, word: &[u8], driver: &Name, minor: u32) -> Resu
         ≡ out.old.items ++ line_of (word.now ∷ driver.now ∷ decimal minor ∷ [])) }
     ensures fits { OnOk result (FitsName driver.now × FitsNumber minor) }
 {
-    out.extend_from_slice(word)?;
+    put_text(out, word)?;
     put_name(out, driver)?;
     put_spaced(out, minor)
 }
@@ -100,7 +98,7 @@ fn put_one(out: &mut Vec<u8>, word: &[u8], a: u32) -> Result<(), NoMemory>
         ≡ out.old.items ++ line_of (word.now ∷ decimal a ∷ [])) }
     ensures fits { FitsNumber a }
 {
-    out.extend_from_slice(word)?;
+    put_text(out, word)?;
     put_spaced(out, a)
 }
 
@@ -111,7 +109,7 @@ fn put_two(out: &mut Vec<u8>, word: &[u8], a: u32, b: u32) -> Result<(), NoMemor
         ≡ out.old.items ++ line_of (word.now ∷ decimal a ∷ decimal b ∷ [])) }
     ensures fits { FitsNumber a × FitsNumber b }
 {
-    out.extend_from_slice(word)?;
+    put_text(out, word)?;
     put_spaced(out, a)?;
     put_spaced(out, b)
 }
@@ -151,8 +149,7 @@ fn put_which(out: &mut Vec<u8>, word: &[u8], fd: u32, which: Which) -> Result<()
 fn put_all(out: &mut Vec<u8>) -> Result<(), NoMemory>
     ensures { OnOk result (out.new.items ≡ out.old.items ++ codes " all") }
 {
-    out.extend_from_slice(b" all")?;
-    Ok(())
+    put_text(out, b" all")
 }
 
 fn put_flush(out: &mut Vec<u8>, fd: u32, sides: Sides) -> Result<(), NoMemory>
@@ -161,12 +158,14 @@ fn put_flush(out: &mut Vec<u8>, fd: u32, sides: Sides) -> Result<(), NoMemory>
     ensures fits { FitsNumber fd }
 {
     put_one(out, b"flush", fd)?;
-    out.extend_from_slice(match sides {
-        Sides::R => b" r",
-        Sides::W => b" w",
-        Sides::RW => b" rw",
-    })?;
-    Ok(())
+    put_text(
+        out,
+        match sides {
+            Sides::R => b" r",
+            Sides::W => b" w",
+            Sides::RW => b" rw",
+        },
+    )
 }
 
 fn put_inject(

@@ -7,7 +7,7 @@ ghost use Rattle.smx_words.specs.declared.writing.number.TheConstants.{ZERO};
 ghost use Rattle.smx_words.specs.Spelling.{next_words, process_words};
 ghost use Rattle.smx_words.specs.Words.{LINE_FEED, SPACE, line_of};
 
-use super::word::put_text;
+use super::word::{put_byte, put_text};
 use itoa::Buffer;
 use smx_types::NoMemory;
 
@@ -19,7 +19,7 @@ pub fn write_process(out: &mut Vec<u8>, number: u32) -> Result<(), NoMemory>
         ≡ out.old.items ++ line_of (process_words number) ++ LINE_FEED ∷ []) }
     ensures fits { FitsNumber number }
 {
-    out.extend_from_slice(b"process")?;
+    put_text(out, b"process")?;
     put_last(out, number)
 }
 
@@ -29,7 +29,7 @@ pub fn write_next(out: &mut Vec<u8>, id: u32, serial: u32) -> Result<(), NoMemor
         ≡ out.old.items ++ line_of (next_words (id, serial)) ++ LINE_FEED ∷ []) }
     ensures fits { FitsNumber id × FitsNumber serial }
 {
-    out.extend_from_slice(b"next")?;
+    put_text(out, b"next")?;
     put_spaced(out, id)?;
     put_last(out, serial)
 }
@@ -64,8 +64,7 @@ pub(super) fn put_last(out: &mut Vec<u8>, n: u32) -> Result<(), NoMemory>
         return Ok(());
     }
     put_longer(out, n)?;
-    out.push(b'\n')?;
-    Ok(())
+    put_byte(out, b'\n')
 }
 
 /// The digits of a short number, and a space.
@@ -112,7 +111,7 @@ fn put_longest(out: &mut Vec<u8>, n: u32) -> Result<(), NoMemory>
             &[b' ', many, thousands, hundreds, digit(n / 10), digit(n)],
         )
     } else {
-        out.push(b' ')?;
+        put_byte(out, b' ')?;
         put_any(out, n)
     }
 }
@@ -122,8 +121,7 @@ fn put_longest(out: &mut Vec<u8>, n: u32) -> Result<(), NoMemory>
 fn put_any(out: &mut Vec<u8>, n: u32) -> Result<(), NoMemory>
     ensures { OnOk result (out.new.items ≡ out.old.items ++ decimal n) }
 {
-    out.extend_from_slice(Buffer::new().format(n).as_bytes())?;
-    Ok(())
+    put_text(out, Buffer::new().format(n).as_bytes())
 }
 
 // The last digit of a number.

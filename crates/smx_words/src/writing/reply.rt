@@ -10,7 +10,7 @@ ghost use Rattle.smx_words.specs.Words.{LINE_FEED, SPACE, line_of};
 
 use super::bytes::put_message;
 use super::number::{put_last, put_spaced};
-use super::word::put_text;
+use super::word::{put_byte, put_text};
 use smx_types::{Fault, NoMemory, Reply};
 
 /// An equals sign between spaces, the words of a reply, and a line feed.
@@ -41,7 +41,7 @@ fn put_descriptor(out: &mut Vec<u8>, fd: u32, minor: u32) -> Result<(), NoMemory
         ++ LINE_FEED ∷ []) }
     ensures fits { FitsNumber fd × FitsNumber minor }
 {
-    out.extend_from_slice(b" = fd")?;
+    put_text(out, b" = fd")?;
     put_spaced(out, fd)?;
     put_last(out, minor)
 }
@@ -52,7 +52,7 @@ fn put_number(out: &mut Vec<u8>, before: &[u8], n: u32) -> Result<(), NoMemory>
         ≡ out.old.items ++ before.now ++ SPACE ∷ decimal n ++ LINE_FEED ∷ []) }
     ensures fits { FitsNumber n }
 {
-    out.extend_from_slice(before)?;
+    put_text(out, before)?;
     put_last(out, n)
 }
 
@@ -63,7 +63,7 @@ fn put_got(out: &mut Vec<u8>, serial: u32, addr: u32, bytes: &[u8]) -> Result<()
         ++ LINE_FEED ∷ []) }
     ensures fits { FitsNumber serial × FitsNumber addr × FitsBytes bytes.now }
 {
-    out.extend_from_slice(b" = got")?;
+    put_text(out, b" = got")?;
     put_message(out, serial, addr, bytes)
 }
 
@@ -74,13 +74,12 @@ fn put_done(out: &mut Vec<u8>, dropped: &[u32]) -> Result<(), NoMemory>
     ensures fits { OnOk result (AllByRecursion FitsNumber dropped.now) }
 {
     if dropped.is_empty() {
-        out.extend_from_slice(b" = done\n")?;
+        put_text(out, b" = done\n")?;
         return Ok(());
     }
-    out.extend_from_slice(b" = done")?;
+    put_text(out, b" = done")?;
     put_serials(out, dropped)?;
-    out.push(b'\n')?;
-    Ok(())
+    put_byte(out, b'\n')
 }
 
 // A space and the digits of each.

@@ -11,7 +11,7 @@ ghost use Rattle.smx_words.specs.Words.{LINE_FEED, SPACE, line_of};
 use super::Spell;
 use super::bytes::put_message;
 use super::number::{put_last, put_spaced};
-use super::word::{put_name, put_side};
+use super::word::{put_byte, put_name, put_side, put_text};
 use smx_types::{
     BindingLine, DescriptorLine, FullLine, HungLine, LinkKind, LinkLine, MessageLine, Name,
     NoMemory, RouteLine, Side,
@@ -23,7 +23,7 @@ impl Spell for DescriptorLine {
     ghost Fits = { FitsDescriptor };
 
     fn write_line(&self, out: &mut Vec<u8>) -> Result<(), NoMemory> {
-        out.extend_from_slice(b"fd")?;
+        put_text(out, b"fd")?;
         put_spaced(out, self.process.get())?;
         put_spaced(out, self.fd)?;
         put_name(out, &self.driver)?;
@@ -37,14 +37,24 @@ impl Spell for LinkLine {
     ghost Fits = { FitsLink };
 
     fn write_line(&self, out: &mut Vec<u8>) -> Result<(), NoMemory> {
-        out.extend_from_slice(b"link")?;
+        put_text(out, b"link")?;
         put_spaced(out, self.id)?;
         put_name(out, &self.ctl_driver)?;
         put_spaced(out, self.ctl_minor)?;
-        put_name(out, &self.lower_driver)?;
-        put_spaced(out, self.lower_minor)?;
-        put_last_kind(out, self.kind)
+        put_lower(out, self)
     }
+}
+
+// The lower stream of a link and its kind, each word behind a space, and a line feed.
+fn put_lower(out: &mut Vec<u8>, link: &LinkLine) -> Result<(), NoMemory>
+    ensures written { OnOk result (out.new.items ≡ out.old.items
+        ++ SPACE ∷ line_of (link.now.lower_driver ∷ decimal link.now.lower_minor ∷ link_kind_word link.now.kind ∷ [])
+        ++ LINE_FEED ∷ []) }
+    ensures fits { OnOk result (FitsName link.now.lower_driver × FitsNumber link.now.lower_minor) }
+{
+    put_name(out, &link.lower_driver)?;
+    put_spaced(out, link.lower_minor)?;
+    put_last_kind(out, link.kind)
 }
 
 // A space, the kind of a link, and a line feed.
@@ -52,11 +62,13 @@ fn put_last_kind(out: &mut Vec<u8>, kind: LinkKind) -> Result<(), NoMemory>
     ensures { OnOk result (out.new.items
         ≡ out.old.items ++ SPACE ∷ link_kind_word kind ++ LINE_FEED ∷ []) }
 {
-    out.extend_from_slice(match kind {
-        LinkKind::Ordinary => b" link\n",
-        LinkKind::Persistent => b" plink\n",
-    })?;
-    Ok(())
+    put_text(
+        out,
+        match kind {
+            LinkKind::Ordinary => b" link\n",
+            LinkKind::Persistent => b" plink\n",
+        },
+    )
 }
 
 impl Spell for BindingLine {
@@ -65,7 +77,7 @@ impl Spell for BindingLine {
     ghost Fits = { FitsBinding };
 
     fn write_line(&self, out: &mut Vec<u8>) -> Result<(), NoMemory> {
-        out.extend_from_slice(b"bind")?;
+        put_text(out, b"bind")?;
         put_name(out, &self.driver)?;
         put_spaced(out, self.addr)?;
         put_last(out, self.minor)
@@ -78,7 +90,7 @@ impl Spell for RouteLine {
     ghost Fits = { FitsRoute };
 
     fn write_line(&self, out: &mut Vec<u8>) -> Result<(), NoMemory> {
-        out.extend_from_slice(b"route")?;
+        put_text(out, b"route")?;
         put_name(out, &self.driver)?;
         put_spaced(out, self.addr)?;
         put_last(out, self.id)
@@ -91,7 +103,7 @@ impl Spell for MessageLine {
     ghost Fits = { FitsMessage };
 
     fn write_line(&self, out: &mut Vec<u8>) -> Result<(), NoMemory> {
-        out.extend_from_slice(b"msg")?;
+        put_text(out, b"msg")?;
         put_place(out, &self.driver, self.minor, self.side)?;
         let message = &self.message;
         put_message(out, message.serial, message.addr, message.bytes.as_slice())
@@ -104,10 +116,9 @@ impl Spell for FullLine {
     ghost Fits = { FitsFull };
 
     fn write_line(&self, out: &mut Vec<u8>) -> Result<(), NoMemory> {
-        out.extend_from_slice(b"full")?;
+        put_text(out, b"full")?;
         put_place(out, &self.driver, self.minor, self.side)?;
-        out.push(b'\n')?;
-        Ok(())
+        put_byte(out, b'\n')
     }
 }
 
@@ -117,7 +128,7 @@ impl Spell for HungLine {
     ghost Fits = { FitsHung };
 
     fn write_line(&self, out: &mut Vec<u8>) -> Result<(), NoMemory> {
-        out.extend_from_slice(b"hung")?;
+        put_text(out, b"hung")?;
         put_name(out, &self.driver)?;
         put_last(out, self.minor)
     }

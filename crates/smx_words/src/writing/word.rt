@@ -12,20 +12,21 @@ pub(super) fn put_name(out: &mut Vec<u8>, name: &Name) -> Result<(), NoMemory>
     ensures written { OnOk result (out.new.items ≡ out.old.items ++ SPACE ∷ name.now) }
     ensures fits { OnOk result (FitsName name.now) }
 {
-    out.push(b' ')?;
-    out.extend_from_slice(name.as_bytes())?;
-    Ok(())
+    put_byte(out, b' ')?;
+    put_text(out, name.as_bytes())
 }
 
 /// A space and the side of a place.
 pub(super) fn put_side(out: &mut Vec<u8>, side: Side) -> Result<(), NoMemory>
     ensures { OnOk result (out.new.items ≡ out.old.items ++ SPACE ∷ side_word side) }
 {
-    out.extend_from_slice(match side {
-        Side::Write => b" w",
-        Side::Read => b" r",
-    })?;
-    Ok(())
+    put_text(
+        out,
+        match side {
+            Side::Write => b" w",
+            Side::Read => b" r",
+        },
+    )
 }
 
 /// These bytes.
@@ -34,5 +35,14 @@ pub(super) fn put_text(out: &mut Vec<u8>, text: &[u8]) -> Result<(), NoMemory>
     ensures { OnOk result (out.new.items ≡ out.old.items ++ text.now) }
 {
     out.extend_from_slice(text)?;
+    Ok(())
+}
+
+/// This byte.
+#[inline(always)]
+pub(super) fn put_byte(out: &mut Vec<u8>, byte: u8) -> Result<(), NoMemory>
+    ensures { OnOk result (out.new.items ≡ out.old.items ++ byte ∷ []) }
+{
+    out.push(byte)?;
     Ok(())
 }

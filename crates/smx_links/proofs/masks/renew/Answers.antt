@@ -1,4 +1,5 @@
-use Rattle.std.proofs.Common.{sym, subst, ◌∙◌, arith}
+use Rattle.std.proofs.Common.{◌≡◌, ◌+◌, ℕ, ap, sym, subst, ◌∙◌, arith}
+use Rattle.smx_links.specs.Masks.{is_set}
 use Rattle.smx_links.specs.Pairs.{AreMasksBefore}
 use Rattle.smx_links.proofs.PairLemmas.{all_done, is_done, row_end, row_of, row_stays}
 use Rattle.smx_links.proofs.StaleLemmas.{cleared_masks}
@@ -8,6 +9,7 @@ use Rattle.smx_links.proofs.masks.renew.Goals.{then-is_set, else-is_set}
 pub loop-upper-init : goal.loop-upper-init
 loop-upper-init c = record {
   long = c.clear.ensures.length;
+  left = λ b k is. ap (is_set c.stale_drivers-stale.result) (omega (arith, is));
   masks = λ old links m alike within counts.
       cleared_masks c.paths_join.ensures c.args.words.now c.clear.new.words c.args.lost c.stale_drivers-stale.result old
       links c.ranges.lost.fits m alike c.stale_drivers-stale.ensures c.clear.ensures.cleared;
@@ -17,9 +19,13 @@ pub loop-upper-preserved : goal.loop-upper-preserved
 loop-upper-preserved c =
     let u = c.loop-upper.upper in
     let stale = c.stale_drivers-stale.result in
+    let left : (b k : ℕ) → k ≡ u + 1 + b → is_set c.above_lowest-left.result b ≡ is_set stale k = λ b k is.
+    c.above_lowest-left.ensures b ∙ c.loop-upper.invariant.left (b + 1) k (omega (arith, is))
+    in
     elim c.if-is_set.branch [
       | then-is_set w ↦ rw w.words-is (record {
         long = w.join_row.ensures.length ∙ c.loop-upper.invariant.long;
+        left = left;
         masks = λ old links m alike within counts.
             rw (← row_end stale _ u links within)
             (subst (λ n. AreMasksBefore (is_done stale u) links u n w.join_row.new.words) c.loop-upper.invariant.long
@@ -29,8 +35,9 @@ loop-upper-preserved c =
       })
       | else-is_set w ↦ rw w.words-is (record {
         long = c.loop-upper.invariant.long;
+        left = left;
         masks = λ old links m alike within counts.
-            rw (← row_stays stale u links (sym c.is_set.ensures ∙ w.if-is_set.false))
+            rw (← row_stays stale u links (sym (c.is_set.ensures ∙ c.loop-upper.invariant.left 0 u (omega arith)) ∙ w.if-is_set.false))
             (c.loop-upper.invariant.masks old links m alike within counts);
       })
     ]

@@ -1,4 +1,4 @@
-use Rattle.std.proofs.Common.{rules, ◌≡◌, ◌+◌, ◌%◌, [], ℕ, vec_len, arith, refl, ◌∙◌}
+use Rattle.std.proofs.Common.{◌≡◌, ◌+◌, ◌%◌, [], ℕ, vec_len, arith, refl, ◌∙◌}
 use Rattle.std.proofs.Math.Nat.{mod-lt}
 use Rattle.std.proofs.lemmas.List.{drop_more}
 use Rattle.smx_run.specs.Hands.{called, known_at, EndsAt}
@@ -7,9 +7,9 @@ use Rattle.smx_run.proofs.hands.collect.Goals as goal
 
 pub loop-process-init : goal.loop-process-init
 loop-process-init g c = record {
-  room = search rules;
-  counted = search rules;
-  workers = search rules;
+  room = omega (arith, c.in_ok-ended.ensures.capacity);
+  counted = omega (arith, c.in_ok-ended.ensures.len);
+  workers = refl;
   ended = λ name all. (all, all_of_none (EndsAt name) _ c.in_ok-ended.ensures.items);
   dealt = λ k below. rw c.requires.dealt (hand_at _ _ k below);
   called = rw c.in_ok-ended.ensures.items refl;
@@ -27,6 +27,11 @@ take_first-requires-clause-some g c none =
     ∙ next_in_hand workers p _ _ _ programs) in
     cc
 
+pub push_reserved-requires : goal.push_reserved-requires
+push_reserved-requires g c =
+    let before = c.loop-process.invariant in
+    omega (arith, before.room, before.counted, c.loop-process-test.true)
+
 pub loop-process-preserved : goal.loop-process-preserved
 loop-process-preserved g c =
     let before = c.loop-process.invariant in
@@ -39,9 +44,9 @@ loop-process-preserved g c =
     let taken = take_next workers p (p + 1) _ _ _ _ _ one programs refl before.dealt (mod-lt p c.requires.workers)
     (rw len at c.take_first.ensures.first) (rw len at c.take_first.ensures.others) in
     record {
-      room = search rules;
-      counted = search rules;
-      workers = search rules;
+      room = omega (arith, before.room, c.push_reserved.ensures.capacity);
+      counted = omega (arith, before.counted, c.push_reserved.ensures.len);
+      workers = c.take_first.ensures.workers ∙ before.workers;
       ended = λ name all.
           let was = before.ended name all in
           let next = c.take_first.ensures.ended name was.0 in

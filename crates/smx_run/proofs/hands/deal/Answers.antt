@@ -1,4 +1,4 @@
-use Rattle.std.proofs.Common.{rules, ◌≡◌, ◌+◌, ◌++◌, ◌∷◌, [], ℕ, arith, length, map, ◌∙◌}
+use Rattle.std.proofs.Common.{rules, ◌≡◌, ◌+◌, ◌++◌, ◌∷◌, [], ℕ, arith, length, map, ap, ◌∙◌}
 use Rattle.std.specs.Vec.Iter.{into_iter_items}
 use Rattle.std.proofs.lemmas.List.{length-append, length-map}
 use Rattle.smx_run.specs.Hands.{given_hand, hand_of, IsFresh}
@@ -12,7 +12,7 @@ loop-seat-init g c =
     ∙ c.into_vec.ensures in
     let seats = c.into_iter-seat-iterator.ensures.into_iter_gives.0 in
     record {
-      workers = search rules;
+      workers = c.in_ok-hands.ensures.workers;
       counted = search rules;
       left = search rules;
       seats = rw (seats, programs) c.requires.seats;
@@ -32,8 +32,8 @@ loop-seat-preserved g c =
     let more : length (c.loop-seat.yielded ++ c.in-Some.seat ∷ [])
     ≡ n + 1 = omega (arith, length-append c.loop-seat.yielded (c.in-Some.seat ∷ [])) in
     record {
-      workers = search rules;
-      counted = search rules;
+      workers = c.give.ensures.workers ∙ before.workers;
+      counted = omega (arith, before.counted, c.in-Some.ensures.steps.1, ap length c.in-Some.ensures.steps.0);
       left = search rules;
       seats = rw more next.1;
       fresh = λ name all.
@@ -45,6 +45,9 @@ loop-seat-preserved g c =
           (rw before.workers at (c.in_ok-give.ensures.given k (omega (arith, below, before.workers)))) next.0 more
           items;
     }
+
+pub loop-seat-smaller : goal.loop-seat-smaller
+loop-seat-smaller g c = omega (arith, c.in-Some.ensures.steps.1)
 
 pub returns : goal.returns
 returns g c =

@@ -1,5 +1,5 @@
-use Rattle.std.proofs.Common.{rules, ◌≡◌, ◌∷◌, [], All, refl, subst, sym, arith, ◌∙◌}
-use Rattle.std.proofs.lemmas.List.{length-append}
+use Rattle.std.proofs.Common.{rules, ◌≡◌, ◌∷◌, [], All, length, refl, subst, sym, ap, arith, ◌∙◌}
+use Rattle.std.proofs.lemmas.List.{append-nil, length-append}
 use Rattle.smx_shared.specs.Seats.{Seated}
 use Rattle.smx_run.specs.Meeting.{IsBorneOutBy}
 use Rattle.smx_run.specs.declared.worker.EndedProgram.{EndedProgram}
@@ -18,9 +18,15 @@ loop-done-preserved g c =
       others = λ s all.
           let next = bears_out_next s _ _ _ _ met.meets.met all in
           all_more (IsBorneOutBy s) _ _ _ (before.others s next.1) next.0 refl;
-      left = search rules;
+      left = omega (arith, before.left, c.in-Some.ensures.steps.1, ap length c.in-Some.ensures.steps.0);
       rest = next_taken _ _ _ _ _ before.rest c.in-Some.ensures.steps.0;
-      room = search rules;
+      room = omega (arith, before.room, c.push_reserved-in-loop-done.ensures.capacity);
+      still = omega (
+        arith,
+        before.still,
+        c.in-Some.ensures.steps.1,
+        length-append c.loop-done.yielded (c.in-Some.done ∷ []),
+      );
       counted = omega (
         arith,
         before.counted,
@@ -41,3 +47,26 @@ returns-clause-met g c s ends =
     subst (All (IsBorneOutBy s)) (sym whole)
     (all_first (IsBorneOutBy s) _ _ (bears_out_first _ _ _ s end.known ends)
     (subst (All (IsBorneOutBy s)) rest (end.others s ends.others)))
+
+pub push_reserved-requires-in-loop-done : goal.push_reserved-requires-in-loop-done
+push_reserved-requires-in-loop-done g c =
+    let before = c.loop-done.invariant in
+    omega (arith, before.room, before.counted, before.still, c.in-Some.ensures.steps.1)
+
+pub loop-done-smaller : goal.loop-done-smaller
+loop-done-smaller g c = omega (arith, c.in-Some.ensures.steps.1)
+
+pub loop-done-init : goal.loop-done-init
+loop-done-init g c =
+    let gives = c.into_iter-done-iterator.ensures.into_iter_gives in
+    record {
+      shared = search rules;
+      known = search rules;
+      others = λ s met k d lt. absurd (omega arith);
+      left = search rules;
+      rest = gives.0 ∙ c.remove-first.ensures.items;
+      room = omega (arith, c.in_ok-fronts.ensures.capacity, c.len.ensures, c.push_reserved.ensures.capacity);
+      still = omega (arith, gives.1, c.remove-first.ensures.len);
+      counted = omega (arith, c.push_reserved.ensures.len, c.in_ok-fronts.ensures.len);
+      fronts = sym (append-nil _);
+    }

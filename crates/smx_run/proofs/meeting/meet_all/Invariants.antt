@@ -16,6 +16,7 @@ invariant-loop-done g l = record {
   left : into_iter_len l.done-iterator ≡ length (into_iter_items l.done-iterator);
   rest : l.yielded ++ into_iter_items l.done-iterator ≡ drop 1 l.fn.ended.items;
   room : vec_len l.fn.ended ≤ vec_capacity l.fronts;
+  still : length l.yielded + into_iter_len l.done-iterator + 1 ≡ vec_len l.fn.ended;
   counted : vec_len l.fronts ≡ length l.yielded + 1;
   fronts : l.fronts.items ≡ l.initial.fronts.items ++ map (λ (d : EndedProgram Seated). d.front) l.yielded;
 }

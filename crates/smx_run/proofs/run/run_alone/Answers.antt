@@ -1,4 +1,4 @@
-use Rattle.std.proofs.Common.{rules, ◌≡◌, ◌≢◌, ◌+◌, ◌++◌, ◌∷◌, [], List, ℕ, length, map, ap, sym, subst, arith, ◌∙◌}
+use Rattle.std.proofs.Common.{rules, ◌≡◌, ◌≢◌, ◌+◌, ◌++◌, ◌∷◌, [], List, ℕ, length, map, refl, ap, sym, subst, arith, ◌∙◌}
 use Rattle.std.proofs.Common.{Err}
 use Rattle.std.specs.Vec.Iter.{into_iter_items}
 use Rattle.std.proofs.lemmas.List.{length-append}
@@ -29,10 +29,10 @@ loop-commands-preserved g c =
       drivers = did.drivers ∙ before.drivers;
       limit = did.limit ∙ before.limit;
       all = next_taken _ _ _ _ commands before.all c.in-Some.ensures.steps.0;
-      counted = search rules;
-      within = search rules;
+      counted = omega (arith, before.counted, c.in-Some.ensures.steps.1, ap length c.in-Some.ensures.steps.0);
+      within = omega (arith, before.within, ap length c.in-Some.ensures.steps.0);
       number = omega (arith, before.number, length-append c.loop-commands.yielded (commands ∷ []));
-      room = search rules;
+      room = omega (arith, before.room, c.push_reserved.ensures.capacity);
       seen = omega (
         arith,
         before.seen,
@@ -88,3 +88,35 @@ returns-in_err-run_program-clause-refused g c =
     omega (arith, fewer, room, c.requires.room, c.in_err-run_program.ensures.full (ap Err is)) in
     let fault = memory_left c.in_err-run_program.field-0.0 other in
     search rules
+
+pub push_reserved-requires : goal.push_reserved-requires
+push_reserved-requires g c =
+    let before = c.loop-commands.invariant in
+    omega (
+      arith,
+      before.room,
+      before.seen,
+      ap length before.all,
+      length-append c.loop-commands.yielded (into_iter_items c.loop-commands.commands-iterator),
+      ap length c.in-Some.ensures.steps.0,
+    )
+
+pub overflow_add-number : goal.overflow_add-number
+overflow_add-number g c = omega (arith, c.loop-commands.invariant.within, ap length c.in-Some.ensures.steps.0)
+
+pub loop-commands-smaller : goal.loop-commands-smaller
+loop-commands-smaller g c = omega (arith, c.in-Some.ensures.steps.1)
+
+pub loop-commands-init : goal.loop-commands-init
+loop-commands-init g c = record {
+  drivers = refl;
+  limit = refl;
+  all = search rules;
+  counted = search rules;
+  within = search rules;
+  number = refl;
+  room = search rules;
+  seen = search rules;
+  calls = search rules;
+  fronts = search rules;
+}

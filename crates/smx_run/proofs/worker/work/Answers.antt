@@ -1,4 +1,4 @@
-use Rattle.std.proofs.Common.{rules, arith, ◌∷◌, []}
+use Rattle.std.proofs.Common.{arith, ◌∷◌, [], refl}
 use Rattle.std.proofs.lemmas.List.{length-append}
 use Rattle.smx_run.specs.Hands.{given, called, HasEnded}
 use Rattle.smx_run.specs.declared.worker.EndedProgram.{EndedProgram}
@@ -13,11 +13,17 @@ loop-job-preserved g c =
     let has_ended : EndedProgram g.row.D-Seat.Denot
     → Type 0 = λ d. g.D.Door.is_seat c.args.door.now d.seat × HasEnded (g.D.Door.known d.seat) d.front in
     record {
-      room = search rules;
+      room = omega (arith, before.room, c.push_reserved.ensures.capacity);
       counted = omega (
         arith,
         before.counted,
         c.push_reserved.ensures.len,
+        length-append c.loop-job.yielded (c.in-Some.job ∷ []),
+      );
+      left = omega (
+        arith,
+        before.left,
+        c.in-Some.ensures.steps.1,
         length-append c.loop-job.yielded (c.in-Some.job ∷ []),
       );
       called = one_more (called g.D.Door.known)
@@ -31,3 +37,22 @@ returns-in_err-done-clause-full g c = memory_is_not_full _ c.from_residual.ensur
 pub returns-in_err-run_job-clause-full : goal.returns-in_err-run_job-clause-full
 returns-in_err-run_job-clause-full g c =
     handed_on _ _ _ c.in_err-run_job.was c.from_residual-in_err-run_job.ensures.1 c.run_job.ensures.full
+
+pub push_reserved-requires : goal.push_reserved-requires
+push_reserved-requires g c =
+    let before = c.loop-job.invariant in
+    omega (arith, before.room, before.counted, before.left, c.in-Some.ensures.steps.1)
+
+pub loop-job-smaller : goal.loop-job-smaller
+loop-job-smaller g c = omega (arith, c.in-Some.ensures.steps.1)
+
+pub loop-job-init : goal.loop-job-init
+loop-job-init g c =
+    let made = c.in_ok-done.ensures in
+    record {
+      room = omega (arith, made.capacity, c.len.ensures);
+      left = omega (arith, c.into_iter-job-iterator.ensures.into_iter_gives.1);
+      counted = omega (arith, made.len);
+      called = rw made.items refl;
+      ended = rw made.items (λ k d lt. absurd (omega arith));
+    }

@@ -32,20 +32,20 @@ invariant_of-self-2 c =
     ∙ c.in_default.is) in
     let up = subst (λ (t : LinkList). c.args.ctl.driver < t.drivers) (sym c.self.view_is) c.requires.ctl in
     let low = subst (λ (t : LinkList). c.args.lower.driver < t.drivers) (sym c.self.view_is) c.requires.lower in
-    let long : length c.join.new.words ≡ length c.self.inside.masks.items = c.join.ensures.length
+    let long : length c.join_link.new.words ≡ length c.self.inside.masks.items = c.join_link.ensures.length
     ∙ ap length c.deref_mut-2.ensures.value in
     let more = rw (c.deref_mut.ensures.value, c.len.ensures, c.self.inside.masks.ok.0) at c.count.ensures in
     let counts = counts_more (length c.self.inside.masks.items) c.self.inside.links.items c.self.inside.pairs.items link
     c.self.invariant.pairs (up, low) in
     rw (
-      lent c.self.inside.masks.len c.join.new.words c.self.inside.masks.items long
+      lent c.self.inside.masks.len c.join_link.new.words c.self.inside.masks.items long
           c.self.inside.masks.ok.0,
       lent c.self.inside.pairs.len c.count.new.pairs c.self.inside.pairs.items
           (ap length more ∙ counts.long ∙ sym c.self.invariant.pairs.long) c.self.inside.pairs.ok.0,
       more,
       c.in_ok-put.ensures.ok,
     )
-    (parts_push c.one_link_more_joins.ensures c.self.inside.masks.items c.join.new.words c.self.inside.links.items
+    (parts_push c.self.inside.masks.items c.join_link.new.words c.self.inside.links.items
     c.self.inside.ordinary.items c.put.new.ordinary.items c.self.inside.ids.items c.put.new.ids.items
     c.self.inside.pairs.items c.self.inside.next_id c.args.ctl
     c.args.lower c.args.kind c.self.invariant free up low
@@ -53,7 +53,8 @@ invariant_of-self-2 c =
     (c.linking_takes_the_next_id.ensures c.self.inside.links.items link c.self.invariant.list.ids)
     (rw c.in_ok-put.ensures.ok at c.in_ok-put.ensures.ids) c.in_ok-put.ensures.rows
     (rw c.in_ok-put.ensures.ok at c.in_ok-put.ensures.ordinary) long
-    (rw c.deref_mut-2.ensures.value at c.join.ensures.joined))
+    (c.join_link.ensures.masks c.self.inside.links.items
+    (rw (c.deref_mut-2.ensures.value) c.self.invariant.masks)))
 
 pub put-requires-clause-driver : goal.put-requires-clause-driver
 put-requires-clause-driver c =

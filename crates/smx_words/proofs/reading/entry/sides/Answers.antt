@@ -1,4 +1,5 @@
-use Rattle.std.proofs.Common.{ℕ, List, [], ◌∷◌, ◌++◌, sym, ap, ◌∙◌}
+use Rattle.std.proofs.Common.{[], ◌∷◌, ◌++◌, ◌∙◌, refl}
+use Rattle.std.specs.Prelude.{codes}
 use Rattle.smx_words.proofs.EntryLemmas.{regrouped, same_sides, sides_are}
 use Rattle.smx_words.proofs.reading.entry.sides.Goals as goal
 
@@ -11,19 +12,17 @@ returns-in_default-before c = λ command reply free e.
     let same =
     same_sides c.args.text.now c.in-Some.front.now c.in-Some.back.now command reply c.in-Some.ensures.0
     c.in-Some.ensures.1 free e in
-    c.in_default-before.ensures command (same.0 ∙ ap (λ (x : List ℕ). command ++ x) (sym c.as_slice.ensures))
+    c.in_default-before.ensures command same.0
 
 pub returns-in_default-after : goal.returns-in_default-after
 returns-in_default-after c = λ command reply free e.
     let same =
     same_sides c.args.text.now c.in-Some.front.now c.in-Some.back.now command reply c.in-Some.ensures.0
     c.in-Some.ensures.1 free e in
-    c.in_default-after.ensures reply (same.1 ∙ ap (λ (x : List ℕ). x ++ reply) (sym c.as_slice-2.ensures))
+    c.in_default-after.ensures reply same.1
 
 pub returns : goal.returns
 returns c =
     sides_are c.args.text.now c.in-Some.front.now c.in-Some.back.now c.in-Some-before.command.now
-    c.in-Some-after.reply.now c.as_slice.result.now
-    c.as_slice.ensures c.in-Some.ensures.0 c.in-Some.ensures.1 c.in-Some-before.ensures
-    (c.in-Some-after.ensures ∙ ap (λ (x : List ℕ). x ++ c.in-Some-after.reply.now) (c.as_slice-2.ensures
-    ∙ sym c.as_slice.ensures))
+    c.in-Some-after.reply.now (codes " ") refl c.in-Some.ensures.0 c.in-Some.ensures.1 c.in-Some-before.ensures
+    c.in-Some-after.ensures

@@ -5,5 +5,5 @@ use Rattle.smx_words.proofs.reading.hex_word.dash.Goals as goal
 
 pub returns : goal.returns
 returns c =
-    odd_is_none c.args.word.now c.requires (differs c.args.word.now c.as_slice.result.now (codes "-")
-    c.eq.result c.as_slice.ensures c.eq.ensures c.if-eq.false)
+    odd_is_none c.args.word.now c.requires (differs c.args.word.now (codes "-") c.is.result
+    c.is.ensures c.if-is.false)

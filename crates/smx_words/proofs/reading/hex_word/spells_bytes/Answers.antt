@@ -14,8 +14,7 @@ returns-then-is_empty c =
           absurd (when_empty c.args.word.now _ c.is_empty.ensures w.if-is_empty.true some)
       | then-is_empty-via-else-is_empty+then-word-eq1 w ↦ w.if-word-eq1.true
     ])
-    (differs c.args.word.now c.as_slice.result.now (codes "-") c.eq.result c.as_slice.ensures c.eq.ensures
-    c.if-eq.false)
+    (differs c.args.word.now (codes "-") c.is.result c.is.ensures c.if-is.false)
 
 pub returns-then-are_digits : goal.returns-then-are_digits
 returns-then-are_digits c =

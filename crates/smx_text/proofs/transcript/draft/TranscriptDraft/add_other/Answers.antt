@@ -21,3 +21,12 @@ returns-in-Err-clause-refused c =
     refused_line c.args.self.now.transcript.version (lines c.args.self.now) (line.Msg some.0) c.args.text.now
     some.1 some.2
     c.message_unread.result (c.message_unread.ensures some.0 some.1)
+
+pub add_message-requires-clause-fits : goal.add_message-requires-clause-fits
+add_message-requires-clause-fits c =
+    (subst (IsReadAs FitsMessage message_words c.args.text.now) c.in-Ok-Some.field-0-is
+    c.in-Ok-Some.ensures.reading).0
+
+pub add_plain-requires-clause-no_message : goal.add_plain-requires-clause-no_message
+add_plain-requires-clause-no_message c =
+    subst (IsReadAs FitsMessage message_words c.args.text.now) c.in-Ok-None.field-0-is c.in-Ok-None.ensures.reading

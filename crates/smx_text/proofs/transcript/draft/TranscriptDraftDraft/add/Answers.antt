@@ -22,3 +22,15 @@ returns-in-Err-clause-refused c =
     refused_line c.args.self.now.transcript.version (lines c.args.self.now) (line.Entry some.0) c.args.text.now
     some.1 some.2
     c.entry_unread.result (c.entry_unread.ensures some.0 some.1)
+
+pub add_entry-requires-clause-fits : goal.add_entry-requires-clause-fits
+add_entry-requires-clause-fits c =
+    (subst (IsReadAs (FitsEntryIn c.args.self.now.transcript.version) entry_words c.args.text.now)
+    c.in-Ok-Some.field-0-is
+    c.in-Ok-Some.ensures.reading).0
+
+pub add_other-requires-clause-no_entry : goal.add_other-requires-clause-no_entry
+add_other-requires-clause-no_entry c =
+    subst (IsReadAs (FitsEntryIn c.args.self.now.transcript.version) entry_words c.args.text.now)
+    c.in-Ok-None.field-0-is
+    c.in-Ok-None.ensures.reading

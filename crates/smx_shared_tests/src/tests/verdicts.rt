@@ -1,0 +1,46 @@
+//! Verdicts on short transcripts, and on the most entries.
+
+use super::worked::is_judged;
+use smx_config::Verdict;
+use smx_samples::Part::{Each, Once};
+use smx_samples::{Part, text_of};
+
+// What is said of a transcript. The 100,000th entry of the last two is the one that may be wrong.
+const JUDGED: [(&[Part], Verdict); 5] = [
+    (
+        &[Once("transcript 1\nconfig\nnext 1 1\nend\n")],
+        Verdict::Legal,
+    ),
+    (
+        &[Once("transcript 1\n0 close 0 = id 5\n0 exit = done\nconfig\nnext 7 7\nend\n")],
+        Verdict::Illegal { entry: 1 },
+    ),
+    (
+        &[Once("transcript 2\n0 exit = done\nconfig\nnext 1 1\nhung eth 0\nend\n")],
+        Verdict::ConfigDiffers,
+    ),
+    (
+        &[
+            Once("transcript 1\ndriver ip mux 4 8 3 16\n"),
+            Each(0, 100_000, "0 close 0 = EBADF fd\n"),
+            Once("config\nnext 1 1\nend\n"),
+        ],
+        Verdict::Legal,
+    ),
+    (
+        &[
+            Once("transcript 1\ndriver ip mux 4 8 3 16\n"),
+            Each(0, 99_999, "0 close 0 = EBADF fd\n"),
+            Once("0 clone ip = fd 1 0\nconfig\nnext 1 1\nend\n"),
+        ],
+        Verdict::Illegal { entry: 100_000 },
+    ),
+];
+
+#[test]
+fn on_short_transcripts_and_on_the_most_entries(rt: HostRuntime) {
+    for (text, want) in &JUDGED {
+        let text = text_of(rt.alloc(), *text).expect(&rt, "there is memory");
+        is_judged(&rt, text.as_bytes(), *want);
+    }
+}
