@@ -60,9 +60,9 @@ fn bytes(rt: &(impl AllocGlobal + Abort), size: usize) -> Bytes {
     Bytes::from_vec(vec![in alloc; 0xaa; size].expect(rt, "memory"))
 }
 
-/// A message of this serial and so many bytes arrives.
-pub fn put(
-    rt: &(impl AllocGlobal + Abort + Print),
+// A message of this serial and so many bytes arrives, for which there is room.
+fn put_in_room(
+    rt: &(impl AllocGlobal + Abort),
     queues: &mut Queues,
     p: usize,
     serial: u32,
@@ -73,10 +73,21 @@ pub fn put(
         addr: 5,
         bytes: bytes(rt, size),
     };
-    reserves(rt, queues);
     assert!(rt; queues.has_place(p) && queues.has_spare() && !queues.is_full(p));
     assert!(rt; !message.bytes.as_slice().is_empty());
     queues.put(p, message);
+}
+
+/// A message of this serial and so many bytes arrives.
+pub fn put(
+    rt: &(impl AllocGlobal + Abort + Print),
+    queues: &mut Queues,
+    p: usize,
+    serial: u32,
+    size: usize,
+) {
+    reserves(rt, queues);
+    put_in_room(rt, queues, p, serial, size);
 }
 
 fn takes(rt: &impl Abort, queues: &mut Queues, p: usize, wanted: Option<u32>) {
@@ -211,6 +222,37 @@ fn fill(rt: &(impl AllocGlobal + Abort + Print), queues: &mut Queues) {
     for before in 0..4096u32 {
         put(rt, queues, 2, before + 1, 1);
     }
+}
+
+// Messages arrive for as long as there is room, and none is reserved.
+fn fill_the_room(rt: &(impl AllocGlobal + Abort), queues: &mut Queues) {
+    for serial in 2..4096u32 {
+        if !queues.has_spare() {
+            return;
+        }
+        put_in_room(rt, queues, 0, serial, 1);
+    }
+    panic!(rt; "room for more than can be");
+}
+
+// The first message moves on and leaves, and one more arrives in its room.
+fn goes_round(rt: &(impl AllocGlobal + Abort), queues: &mut Queues, serial: u32) {
+    move_front(rt, queues, 0, 1);
+    assert!(rt; queues.has_place(1) && queues.take(1).is_some());
+    put_in_room(rt, queues, 0, serial, 1);
+    assert!(rt; !queues.has_spare());
+}
+
+#[test]
+fn ten_thousand_rounds_take_no_room(rt: HostRuntime) {
+    let mut queues = Queues::new(rt.alloc());
+    assert!(rt; queues.add_places(2, 4096, 3).is_ok());
+    put(&rt, &mut queues, 0, 1, 1);
+    fill_the_room(&rt, &mut queues);
+    for round in 0..10_000u32 {
+        goes_round(&rt, &mut queues, round + 1);
+    }
+    forget(queues);
 }
 
 #[test]
