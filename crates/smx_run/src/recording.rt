@@ -119,6 +119,7 @@ impl<K: Recorder> Recording<K> {
     {
         one_entry_more();
         let process = self.process;
+        // Not by `?`, which moves the reply.
         match &self.config.step(process, command) {
             Ok(reply) => match line {
                 Some(line) => self.recorder.add_line(process, command, line, reply),

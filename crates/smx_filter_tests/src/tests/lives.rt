@@ -54,8 +54,8 @@ fn is_left<R: AllocGlobal + Abort + Threads + Wait + Sync>(
     forget(ran);
 }
 
-// Within the table, behind it, and behind the first line and the second.
-const BEFORE: [(usize, &[u8]); 5] = [
+// Within the table, behind it, behind the first line and the second, and behind the last but one.
+const BEFORE: [(usize, &[u8]); 6] = [
     (59, b""),
     (63, b""),
     (
@@ -69,6 +69,10 @@ const BEFORE: [(usize, &[u8]); 5] = [
     (
         75,
         b"transcript 1\ndriver ip mux 4 8 3 16\ndriver eth leaf 2 8 3 16\nconfig\nnext 1 1\nshown\n0 clone ip = fd 0 0\n",
+    ),
+    (
+        162,
+        b"transcript 1\ndriver ip mux 4 8 3 16\ndriver eth leaf 2 8 3 16\nconfig\nnext 1 1\nshown\n0 clone ip = fd 0 0\n? no command\n0 clone eth = fd 1 0\nconfig\nnext 1 1\nfd 0 0 ip 0\nfd 0 1 eth 0\nshown\n0 close 7 = EBADF fd\n? no command\n? no command\n0 link 0 1 = id 1\n? no command\n",
     ),
 ];
 

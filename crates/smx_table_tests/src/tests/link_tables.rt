@@ -151,7 +151,7 @@ fn finds_two(rt: &impl Abort, table: &LinkTable) {
     assert!(rt; table.is_upper(1));
 }
 
-// The second goes, and a link that is not there.
+// The second goes; an id that no link has changes nothing.
 fn removes_one(rt: &impl Abort, table: &mut LinkTable) {
     table.remove_each(&[2, 9]);
     assert!(rt; table.links() == [FIRST].as_slice());

@@ -207,6 +207,8 @@ pub fn marks_across_a_move(rt: &(impl AllocGlobal + Abort + Print)) {
 fn is_full(rt: &(impl Abort + Print), queues: &Queues) {
     let listed = listed(rt, queues, 2);
     assert!(rt; listed.len() == 4096);
+    assert!(rt; listed.first() == Some(&1));
+    assert!(rt; listed.last() == Some(&4096));
     forget(listed);
 }
 

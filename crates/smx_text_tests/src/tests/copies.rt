@@ -33,7 +33,14 @@ pub fn is_copied(rt: &(impl AllocGlobal + Abort), value: &Transcript) {
     let again = value.view.copy(rt.alloc()).expect(rt, "memory");
     assert!(rt; again.is_same(&value.view));
     forget(again);
+    list_is_copied(rt, &value.drivers);
+    list_is_copied(rt, &value.view.fds);
+    list_is_copied(rt, &value.view.links);
+    list_is_copied(rt, &value.view.binds);
+    list_is_copied(rt, &value.view.routes);
     list_is_copied(rt, &value.view.msgs);
+    list_is_copied(rt, &value.view.fulls);
+    list_is_copied(rt, &value.view.hungs);
     list_is_copied(rt, &value.entries);
     for entry in value.entries.as_slice() {
         lists_are_copied(rt, &entry.reply);

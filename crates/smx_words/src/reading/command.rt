@@ -31,8 +31,8 @@ pub fn command_of(alloc: Global, version: Version, line: &[u8]) -> Result<Option
     Ok(read)
 }
 
-/// The same, which is written where none is yet, so that it is not moved. A message takes the room that is given, and
-/// leaves none there.
+/// What `command_of` answers, written into a place where no command is yet, so that it is not moved. A message takes the
+/// room that is given, and leaves none there.
 #[inline(always)]
 pub fn command_in(
     read: &mut Option<Command>,
@@ -65,7 +65,7 @@ pub(super) fn lacks(version: Version, verb: Verb) -> bool
     }
 }
 
-// The command of a line that begins with no verb: one has one word alone.
+// The command of a line that begins with no verb and a space: `exit`, which is one word.
 pub(super) fn lone_command(read: &mut Option<Command>, line: &[u8])
     requires none { read.old ≡ None }
     requires no_verb { (v : AnyVerb) (after : List ℕ) → FitsAlways v → line.now ≢ verb_word v ++ SPACE ∷ after }

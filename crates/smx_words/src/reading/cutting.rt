@@ -49,7 +49,7 @@ pub fn after<'a>(bytes: &'a [u8], front: &[u8]) -> Option<&'a [u8]>
     Some(&bytes[front.len()..])
 }
 
-// Whether bytes are these.
+// Whether bytes are these. A function of its own, so that each comparison is one fact in its caller's proof.
 #[inline(always)]
 pub fn is(bytes: &[u8], text: &[u8]) -> bool
     ensures { IsTrue result ↔ (bytes.now ≡ text.now) }

@@ -81,7 +81,7 @@ pub fn link_of(line: &[u8]) -> Option<LinkLine>
     })
 }
 
-// The driver's name, the minor and the kind of a link that are all of some bytes.
+// The lower stream of a link, by driver and minor, and the link's kind, that are all of some bytes.
 fn stream_and_kind(text: &[u8]) -> Option<(Name, u32, LinkKind)>
     ensures { MatchOption result
         ((name : List ℕ) (n : ℕ) (kind : AnyKind) → FitsName name → FitsNumber n

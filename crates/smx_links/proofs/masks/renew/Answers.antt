@@ -1,4 +1,4 @@
-use Rattle.std.proofs.Common.{◌≡◌, ◌+◌, ℕ, ap, sym, subst, ◌∙◌, arith}
+use Rattle.std.proofs.Common.{◌≡◌, ◌+◌, ℕ, false, ap, sym, subst, ◌∙◌, arith}
 use Rattle.smx_links.specs.Masks.{is_set}
 use Rattle.smx_links.specs.Pairs.{AreMasksBefore}
 use Rattle.smx_links.proofs.PairLemmas.{all_done, is_done, row_end, row_of, row_stays}
@@ -37,8 +37,9 @@ loop-upper-preserved c =
         long = c.loop-upper.invariant.long;
         left = left;
         masks = λ old links m alike within counts.
-            rw (← row_stays stale u links (sym (c.is_set.ensures ∙ c.loop-upper.invariant.left 0 u (omega arith)) ∙ w.if-is_set.false))
-            (c.loop-upper.invariant.masks old links m alike within counts);
+            let fresh : is_set stale u ≡ false =
+            sym (c.is_set.ensures ∙ c.loop-upper.invariant.left 0 u (omega arith)) ∙ w.if-is_set.false in
+            rw (← row_stays stale u links fresh) (c.loop-upper.invariant.masks old links m alike within counts);
       })
     ]
 
