@@ -4,7 +4,8 @@ ghost use Rattle.std.specs.Prelude.{◌≡◌, ℕ, ◌+◌, ◌<◌, ◌≤◌,
 ghost use Rattle.std.specs.List.{All};
 ghost use Rattle.smx_types.specs.declared.link.Link.{Link as LinkValue};
 ghost use Rattle.smx_links.specs.declared.masks.TheConstants.{WORD_BITS};
-ghost use Rattle.smx_links.specs.Masks.{is_set, has_bit, is_stale, with_bit, AreJoined, AreMasks, HasAnyBit, IsWithin, LeadAlikeBut};
+ghost use Rattle.smx_links.specs.Masks.{is_set, has_bit, is_stale, with_bit, AreJoined, AreMasks, HasAnyBit, IsWithin};
+ghost use Rattle.smx_links.specs.Masks.{LeadAlikeBut};
 ghost use Rattle.smx_links.specs.Pairs.{AreCounts, AreMasksBefore, IsRow};
 
 use crate::pairs::Count;

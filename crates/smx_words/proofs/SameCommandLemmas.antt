@@ -102,7 +102,8 @@ number_of verb.Hangup = 18
 -- verbs of which a test on their numbers tells that they differ
 apart : (v w : Verb) → eqb (number_of v) (number_of w) ≡ false → v ≡ w → ⊥
 apart v w other same =
-    let told : eqb (number_of v) (number_of v) ≡ false = ap (λ (x : Verb). eqb (number_of v) (number_of x)) same ∙ other in
+    let told : eqb (number_of v) (number_of v) ≡ false =
+    ap (λ (x : Verb). eqb (number_of v) (number_of x)) same ∙ other in
     grind (arith, nat_tests)
 
 by_verb : (c d : Command) → FitsCommand c → FitsCommand d → verb_of c ≡ verb_of d

@@ -30,7 +30,8 @@ pub lines_more : {X : Type 0} (words : X → List (List ℕ)) (xs : List X) (i :
 lines_more {X} words xs i x new old start one line before =
     let whole : map words (take (i + 1) xs) ≡ map words (take i xs) ++ words x ∷ [] =
     ap (λ (l : List X). map words l) one ∙ map-append words (take i xs) (x ∷ []) in
-    let text : text_of (map words (take (i + 1) xs)) ≡ text_of (map words (take i xs)) ++ line_of (words x) ++ LINE_FEED ∷ [] =
+    let text : text_of (map words (take (i + 1) xs))
+    ≡ text_of (map words (take i xs)) ++ line_of (words x) ++ LINE_FEED ∷ [] =
     ap text_of whole ∙ pieces (λ ws. line_of ws ++ LINE_FEED ∷ []) (map words (take i xs)) (words x)
     ∙ sym (append_assoc (text_of (map words (take i xs))) (line_of (words x)) (LINE_FEED ∷ [])) in
     line ∙ ap (λ (l : List ℕ). l ++ line_of (words x) ++ LINE_FEED ∷ []) before ∙ simp (text, append_assoc)

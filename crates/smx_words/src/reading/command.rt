@@ -1,6 +1,6 @@
 //! The words of a command.
 
-ghost use Rattle.std.specs.Prelude.{◌≡◌, ◌≢◌, ◌∷◌, ◌++◌, [], ℕ, List, None, codes, IsTrue, ◌↔◌, IfOk, IfErr, OnOk};
+ghost use Rattle.std.specs.Prelude.{◌≡◌, ◌≢◌, ◌∷◌, ◌++◌, [], ℕ, List, None, codes, IsTrue, ◌↔◌, IfOk, IfErr, OnErr, OnOk};
 ghost use Rattle.smx_types.specs.declared.version.Version.{Version as AnyVersion};
 ghost use Rattle.smx_types.specs.declared.version.Version.TheVariants.{V1};
 ghost use Rattle.smx_words.specs.LineReading.{IsReadAs, IsLineOf};
@@ -9,7 +9,8 @@ ghost use Rattle.smx_words.specs.Spelling.{command_words};
 ghost use Rattle.smx_words.specs.Verbs.{verb_word};
 ghost use Rattle.smx_words.specs.Words.{SPACE, line_of};
 ghost use Rattle.smx_words.specs.declared.reading.verb.Verb.{Verb as AnyVerb};
-ghost use Rattle.smx_words.specs.declared.reading.verb.Verb.TheVariants.{Hangup as HangupVerb, Inject as InjectVerb, Write as WriteVerb};
+ghost use Rattle.smx_words.specs.declared.reading.verb.Verb.TheVariants.{Hangup as HangupVerb, Inject as InjectVerb};
+ghost use Rattle.smx_words.specs.declared.reading.verb.Verb.TheVariants.{Write as WriteVerb};
 
 use crate::reading::cutting::is;
 use crate::reading::hex_word::bytes_of;
@@ -31,8 +32,8 @@ pub fn command_of(alloc: Global, version: Version, line: &[u8]) -> Result<Option
     Ok(read)
 }
 
-/// What `command_of` answers, written into a place where no command is yet, so that it is not moved. A message takes the
-/// room that is given, and leaves none there.
+/// What `command_of` answers, written into a place where no command is yet, so that it is not moved. A message takes
+/// the room that is given, and leaves none there. Where it fails there is still none in the place.
 #[inline(always)]
 pub fn command_in(
     read: &mut Option<Command>,
@@ -44,6 +45,7 @@ pub fn command_in(
     requires { read.old ≡ None }
     ensures reading { OnOk result (IsReadAs (FitsCommandIn version) command_words line.now read.new) }
     ensures wanted { IfErr result (λ _. IsLineOf (FitsCommandIn version) command_words line.now) }
+    ensures kept { OnErr result (read.new ≡ None) }
 {
     let Some((verb, rest)) = first_verb(line) else {
         lone_command(read, line);
@@ -86,8 +88,11 @@ pub(super) fn command_after(
     rest: &[u8],
 ) -> Result<(), NoMemory>
     requires { read.old ≡ None }
-    ensures reading { OnOk result (IsReadAs FitsCommand command_words (line_of (verb_word verb ∷ rest.now ∷ [])) read.new) }
-    ensures wanted { IfErr result (λ _. IsLineOf (FitsCommandIn V1) command_words (line_of (verb_word verb ∷ rest.now ∷ []))) }
+    ensures reading { OnOk result
+        (IsReadAs FitsCommand command_words (line_of (verb_word verb ∷ rest.now ∷ [])) read.new) }
+    ensures wanted { IfErr result
+        (λ _. IsLineOf (FitsCommandIn V1) command_words (line_of (verb_word verb ∷ rest.now ∷ []))) }
+    ensures kept { OnErr result (read.new ≡ None) }
 {
     if let Verb::Write = verb {
         return write(read, room, alloc, rest);
@@ -324,8 +329,11 @@ fn write(
     rest: &[u8],
 ) -> Result<(), NoMemory>
     requires { read.old ≡ None }
-    ensures reading { OnOk result (IsReadAs FitsCommand command_words (line_of (codes "write" ∷ rest.now ∷ [])) read.new) }
-    ensures wanted { IfErr result (λ _. IsLineOf (FitsCommandIn V1) command_words (line_of (codes "write" ∷ rest.now ∷ []))) }
+    ensures reading { OnOk result
+        (IsReadAs FitsCommand command_words (line_of (codes "write" ∷ rest.now ∷ [])) read.new) }
+    ensures wanted { IfErr result
+        (λ _. IsLineOf (FitsCommandIn V1) command_words (line_of (codes "write" ∷ rest.now ∷ []))) }
+    ensures kept { OnErr result (read.new ≡ None) }
 {
     let Some((fd, rest)) = first_number(rest) else {
         return Ok(());
@@ -350,8 +358,11 @@ fn inject(
     rest: &[u8],
 ) -> Result<(), NoMemory>
     requires { read.old ≡ None }
-    ensures reading { OnOk result (IsReadAs FitsCommand command_words (line_of (codes "inject" ∷ rest.now ∷ [])) read.new) }
-    ensures wanted { IfErr result (λ _. IsLineOf (FitsCommandIn V1) command_words (line_of (codes "inject" ∷ rest.now ∷ []))) }
+    ensures reading { OnOk result
+        (IsReadAs FitsCommand command_words (line_of (codes "inject" ∷ rest.now ∷ [])) read.new) }
+    ensures wanted { IfErr result
+        (λ _. IsLineOf (FitsCommandIn V1) command_words (line_of (codes "inject" ∷ rest.now ∷ []))) }
+    ensures kept { OnErr result (read.new ≡ None) }
 {
     let Some((driver, rest)) = first_name(rest) else {
         return Ok(());
