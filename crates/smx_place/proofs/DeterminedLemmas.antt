@@ -80,27 +80,8 @@ in_one (k ∷ ks) ls h word values next others then (inr more) is_too =
 -- the words of each table differ
 all_differ : (version : Version) (choice : Choice) → differ (told_rows version choice) ≡ true
 all_differ V1 ProgramsLine = refl
-all_differ V1 TranscriptLine = refl
-all_differ V1 Command = refl
-all_differ V1 Equals = refl
-all_differ V1 Reply = refl
-all_differ V1 BadDescriptor = refl
-all_differ V1 Invalid = refl
-all_differ V1 Again = refl
-all_differ V1 NoDevice = refl
-all_differ V1 Serials = refl
-all_differ V1 End = refl
 all_differ V2 ProgramsLine = refl
-all_differ V2 TranscriptLine = refl
-all_differ V2 Command = refl
-all_differ V2 Equals = refl
-all_differ V2 Reply = refl
-all_differ V2 BadDescriptor = refl
-all_differ V2 Invalid = refl
-all_differ V2 Again = refl
-all_differ V2 NoDevice = refl
-all_differ V2 Serials = refl
-all_differ V2 End = refl
+all_differ version choice = refl
 
 -- and so do those of the lines of programs and of the commands
 lines_differ : (version : Version) → differ (told_rows version ProgramsLine ++ told_rows version Command) ≡ true
@@ -144,18 +125,11 @@ module _ (version : Version) (word : List ℕ) where
   fixed_alone TranscriptLine values next others then is ((process, small, number), none, chosen) =
       no_number (told_rows version TranscriptLine) (no_line_digits version) process (omega (arith, small)) word values
       next number is
-  fixed_alone Command values next others then is other = other
-  fixed_alone Equals values next others then is other = other
-  fixed_alone Reply values next others then is other = other
-  fixed_alone BadDescriptor values next others then is other = other
-  fixed_alone Invalid values next others then is other = other
-  fixed_alone Again values next others then is other = other
-  fixed_alone NoDevice values next others then is other = other
   fixed_alone Serials values next others then is other = no_serials version is where
     no_serials : (v : Version) → IsFixed v Serials word values next → ⊥
     no_serials V1 h = h
     no_serials V2 h = h
-  fixed_alone End values next others then is other = other
+  fixed_alone choice values next others then is other = other
 
   -- what is of another kind goes on in one way
   one_other : (choice : Choice) (values : List Value) (next : Choice) (others : List Value) (then : Choice)
@@ -166,15 +140,8 @@ module _ (version : Version) (word : List ℕ) where
     is.1 ∙ sym is_too.1,
   )
   one_other TranscriptLine values next others then is is_too = (is.1 ∙ sym is_too.1, is.2 ∙ sym is_too.2)
-  one_other Command values next others then is is_too = absurd is
-  one_other Equals values next others then is is_too = absurd is
-  one_other Reply values next others then is is_too = absurd is
-  one_other BadDescriptor values next others then is is_too = absurd is
-  one_other Invalid values next others then is is_too = absurd is
-  one_other Again values next others then is is_too = absurd is
-  one_other NoDevice values next others then is is_too = absurd is
   one_other Serials values next others then is is_too = (is.1 ∙ sym is_too.1, is.2 ∙ sym is_too.2)
-  one_other End values next others then is is_too = absurd is
+  one_other choice values next others then is is_too = absurd is
 
   one_choice : (choice : Choice) (values : List Value) (next : Choice) (others : List Value) (then : Choice)
       → IsChosen version choice word values next → IsChosen version choice word others then

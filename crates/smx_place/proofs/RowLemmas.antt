@@ -50,30 +50,11 @@ passed (row ∷ rows) word first d o test some is says other h =
 
 -- ---- two tables
 
--- a row of the first
-pub in_first : (ks ls : List TableRow) (word : List ℕ) (values : List Value) (next : Choice)
-    → IsRow ks word values next → IsRow (ks ++ ls) word values next
-in_first [] ls word values next is = absurd is
-in_first (k ∷ ks) ls word values next (inl is) = inl is
-in_first (k ∷ ks) ls word values next (inr more) = inr (in_first ks ls word values next more)
-
 -- a row of the second
 pub in_second : (ks ls : List TableRow) (word : List ℕ) (values : List Value) (next : Choice)
     → IsRow ls word values next → IsRow (ks ++ ls) word values next
 in_second [] ls word values next is = is
 in_second (k ∷ ks) ls word values next is = inr (in_second ks ls word values next is)
-
--- of neither
-pub in_none : (ks ls : List TableRow) (word : List ℕ) → IsNoRow ks word → IsNoRow ls word → IsNoRow (ks ++ ls) word
-in_none [] ls word none nor = nor
-in_none (k ∷ ks) ls word none nor = (none.0, in_none ks ls word none.1 nor)
-
--- what is the word of none is that of no row
-pub no_row : (ks : List TableRow) (word : List ℕ) (values : List Value) (next : Choice) → IsNoRow ks word
-    → IsRow ks word values next → ⊥
-no_row [] word values next none is = is
-no_row (k ∷ ks) word values next none (inl is) = none.0 is.0
-no_row (k ∷ ks) word values next none (inr more) = no_row ks word values next none.1 more
 
 -- ---- values
 

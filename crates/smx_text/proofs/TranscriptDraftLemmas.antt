@@ -34,33 +34,13 @@ draft s t = record { stage = s; transcript = t }
 
 -- the line is not the end
 abbrev pub is_line : TranscriptLine → Bool
-is_line (line.Driver x) = true
-is_line (line.Entry x) = true
-is_line line.Config = true
-is_line (line.Next id serial) = true
-is_line (line.Fd x) = true
-is_line (line.Link x) = true
-is_line (line.Bind x) = true
-is_line (line.Route x) = true
-is_line (line.Msg x) = true
-is_line (line.Full x) = true
-is_line (line.Hung x) = true
 is_line line.End = false
+is_line k = true
 
 -- a line other than the end is one that can be added
 pub not_end : (k : TranscriptLine) → k ≢ line.End → is_line k ≡ true
-not_end (line.Driver x) h = refl
-not_end (line.Entry x) h = refl
-not_end line.Config h = refl
-not_end (line.Next id serial) h = refl
-not_end (line.Fd x) h = refl
-not_end (line.Link x) h = refl
-not_end (line.Bind x) h = refl
-not_end (line.Route x) h = refl
-not_end (line.Msg x) h = refl
-not_end (line.Full x) h = refl
-not_end (line.Hung x) h = refl
 not_end line.End h = absurd (h refl)
+not_end k h = refl
 
 -- one more behind the history
 behind : (xs bs vs ws : List TranscriptLine) (k : TranscriptLine) → ws ≡ vs ++ k ∷ []
@@ -81,10 +61,6 @@ through xs ys zs k e = ap (λ (ls : List TranscriptLine). xs ++ ls) e ∙ sym (a
 -- the groups of a view behind the descriptors and so on
 view_more : (t : Transcript) (k : TranscriptLine) → takes (draft stage.View t) k ≡ true → is_line k ≡ true
     → shown stage.View (with_line (draft stage.View t) k).transcript.view ≡ shown stage.View t.view ++ k ∷ []
-view_more t (line.Driver x) h l = absurd cc
-view_more t (line.Entry x) h l = absurd cc
-view_more t line.Config h l = absurd cc
-view_more t (line.Next id serial) h l = absurd cc
 view_more t (line.Fd x) h l =
     let p = and_parts (takes_links (draft stage.View t)) (eqb (length t.view.links) 0) h in
     let q = and_parts (takes_binds (draft stage.View t)) (eqb (length t.view.binds) 0) p.0 in
@@ -161,7 +137,7 @@ view_more t (line.Hung x) h l =
     (through (map line.Route t.view.routes) _ _ (line.Hung x)
     (through (map line.Msg t.view.msgs) _ _ (line.Hung x)
     (through (map line.Full t.view.fulls) _ _ (line.Hung x) (map_push line.Hung t.view.hungs x)))))))
-view_more t line.End h l = absurd cc
+view_more t k h l = absurd cc
 
 -- a line that is taken is the last
 pub more_by : (s : Stage) (t : Transcript) (k : TranscriptLine) → takes (draft s t) k ≡ true
@@ -172,55 +148,17 @@ more_by stage.History t (line.Driver x) h l =
 more_by stage.History t (line.Entry x) h l = rw map_push (simp (append-nil, append_assoc))
 more_by stage.History t line.Config h l =
     behind (map line.Driver t.drivers) (map line.Entry t.entries) [] (line.Config ∷ []) line.Config refl
-more_by stage.History t (line.Next id serial) h l = absurd cc
-more_by stage.History t (line.Fd x) h l = absurd cc
-more_by stage.History t (line.Link x) h l = absurd cc
-more_by stage.History t (line.Bind x) h l = absurd cc
-more_by stage.History t (line.Route x) h l = absurd cc
-more_by stage.History t (line.Msg x) h l = absurd cc
-more_by stage.History t (line.Full x) h l = absurd cc
-more_by stage.History t (line.Hung x) h l = absurd cc
-more_by stage.History t line.End h l = absurd cc
-more_by stage.Config t (line.Driver x) h l = absurd cc
-more_by stage.Config t (line.Entry x) h l = absurd cc
-more_by stage.Config t line.Config h l = absurd cc
 more_by stage.Config t (line.Next id serial) h l =
     behind (map line.Driver t.drivers) (map line.Entry t.entries) (line.Config ∷ [])
     (line.Config ∷ line.Next id serial ∷ []) (line.Next id serial) refl
-more_by stage.Config t (line.Fd x) h l = absurd cc
-more_by stage.Config t (line.Link x) h l = absurd cc
-more_by stage.Config t (line.Bind x) h l = absurd cc
-more_by stage.Config t (line.Route x) h l = absurd cc
-more_by stage.Config t (line.Msg x) h l = absurd cc
-more_by stage.Config t (line.Full x) h l = absurd cc
-more_by stage.Config t (line.Hung x) h l = absurd cc
-more_by stage.Config t line.End h l = absurd cc
 more_by stage.View t (line.Driver x) h l = absurd cc
 more_by stage.View t (line.Entry x) h l = absurd cc
 more_by stage.View t line.Config h l = absurd cc
 more_by stage.View t (line.Next id serial) h l = absurd cc
-more_by stage.View t (line.Fd x) h l =
-    behind (map line.Driver t.drivers) (map line.Entry t.entries) (shown stage.View t.view) _ (line.Fd x)
-    (view_more t (line.Fd x) h l)
-more_by stage.View t (line.Link x) h l =
-    behind (map line.Driver t.drivers) (map line.Entry t.entries) (shown stage.View t.view) _ (line.Link x)
-    (view_more t (line.Link x) h l)
-more_by stage.View t (line.Bind x) h l =
-    behind (map line.Driver t.drivers) (map line.Entry t.entries) (shown stage.View t.view) _ (line.Bind x)
-    (view_more t (line.Bind x) h l)
-more_by stage.View t (line.Route x) h l =
-    behind (map line.Driver t.drivers) (map line.Entry t.entries) (shown stage.View t.view) _ (line.Route x)
-    (view_more t (line.Route x) h l)
-more_by stage.View t (line.Msg x) h l =
-    behind (map line.Driver t.drivers) (map line.Entry t.entries) (shown stage.View t.view) _ (line.Msg x)
-    (view_more t (line.Msg x) h l)
-more_by stage.View t (line.Full x) h l =
-    behind (map line.Driver t.drivers) (map line.Entry t.entries) (shown stage.View t.view) _ (line.Full x)
-    (view_more t (line.Full x) h l)
-more_by stage.View t (line.Hung x) h l =
-    behind (map line.Driver t.drivers) (map line.Entry t.entries) (shown stage.View t.view) _ (line.Hung x)
-    (view_more t (line.Hung x) h l)
 more_by stage.View t line.End h l = absurd cc
+more_by stage.View t k h l =
+    behind (map line.Driver t.drivers) (map line.Entry t.entries) (shown stage.View t.view) _ k (view_more t k h l)
+more_by s t k h l = absurd cc
 
 -- a draft with one more line, which it takes and which is not the end, has that line behind its own
 pub lines_more : (d : TranscriptDraft) (k : TranscriptLine) → takes d k ≡ true → is_line k ≡ true

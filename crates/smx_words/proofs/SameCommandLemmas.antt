@@ -37,25 +37,8 @@ verb_of (command.Transmit d n) = verb.Transmit
 verb_of (command.Hangup d n) = verb.Hangup
 
 first_word : (c : Command) → (ws : List (List ℕ)) × (command_words c ≡ verb_word (verb_of c) ∷ ws)
-first_word (command.OpenClone d) = (_, refl)
-first_word (command.OpenMinor d n) = (_, refl)
-first_word (command.Dup n) = (_, refl)
-first_word (command.Close n) = (_, refl)
 first_word command.CloseAll = (_, refl)
-first_word (command.Link n m) = (_, refl)
-first_word (command.Plink n m) = (_, refl)
-first_word (command.Unlink n x) = (_, refl)
-first_word (command.Punlink n x) = (_, refl)
-first_word (command.Bind n m) = (_, refl)
-first_word (command.Unbind n) = (_, refl)
-first_word (command.Route n m j) = (_, refl)
-first_word (command.Unroute n m) = (_, refl)
-first_word (command.Write n m bs) = (_, refl)
-first_word (command.Read n) = (_, refl)
-first_word (command.Flush n s) = (_, refl)
-first_word (command.Inject d n m bs) = (_, refl)
-first_word (command.Transmit d n) = (_, refl)
-first_word (command.Hangup d n) = (_, refl)
+first_word c = (_, refl)
 
 one_verb : (c d : Command) → command_words c ≡ command_words d → verb_of c ≡ verb_of d
 one_verb c d e =

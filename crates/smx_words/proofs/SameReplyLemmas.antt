@@ -35,32 +35,12 @@ verb_at (w ∷ ws) =
 
 fault_verb : (f : Fault) → verb_at (fault_words f) ≡ None
 fault_verb fault.BadDescriptor = refl
-fault_verb fault.Below = refl
-fault_verb fault.NotMux = refl
-fault_verb fault.AlreadyBelow = refl
-fault_verb fault.Cycle = refl
-fault_verb fault.TooManyLinks = refl
-fault_verb fault.NoLink = refl
-fault_verb fault.NoDriver = refl
-fault_verb fault.NoMinor = refl
-fault_verb fault.TooManyDescriptors = refl
-fault_verb fault.AddressInUse = refl
-fault_verb fault.Unbound = refl
-fault_verb fault.Unrouted = refl
-fault_verb fault.Full = refl
-fault_verb fault.Empty = refl
-fault_verb fault.BadSize = refl
-fault_verb fault.HungUp = refl
+fault_verb f = refl
 
 -- the verb that is found in the words of a reply is its own, and none is found where it has none
 pub verb_again : (r : Reply) → verb_at (reply_words r) ≡ reply_verb_of r
-verb_again (reply.Fd n m) = refl
-verb_again (reply.Id n) = refl
-verb_again (reply.Took n) = refl
-verb_again (reply.Got n m bs) = refl
-verb_again (reply.Done ns) = refl
-verb_again reply.Eof = refl
 verb_again (reply.Fault f) = fault_verb f
+verb_again r = refl
 
 same_numbers : (ns ms : List ℕ) → AllByRecursion FitsNumber ns → AllByRecursion FitsNumber ms
     → map decimal ns ≡ map decimal ms → ns ≡ ms

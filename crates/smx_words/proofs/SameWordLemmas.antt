@@ -94,24 +94,7 @@ all_verb =
 
 found_verb : (v : Verb) → first_of_these verb_word all_verb (verb_word v) ≡ Some v
 found_verb verb.Clone = refl
-found_verb verb.Open = refl
-found_verb verb.Dup = refl
-found_verb verb.Close = refl
-found_verb verb.Exit = refl
-found_verb verb.Link = refl
-found_verb verb.Plink = refl
-found_verb verb.Unlink = refl
-found_verb verb.Punlink = refl
-found_verb verb.Bind = refl
-found_verb verb.Unbind = refl
-found_verb verb.Route = refl
-found_verb verb.Unroute = refl
-found_verb verb.Write = refl
-found_verb verb.Read = refl
-found_verb verb.Flush = refl
-found_verb verb.Inject = refl
-found_verb verb.Transmit = refl
-found_verb verb.Hangup = refl
+found_verb v = refl
 
 -- no two commands begin with one word
 pub same_verb : (x y : Verb) → verb_word x ≡ verb_word y → x ≡ y
@@ -132,22 +115,7 @@ all_fault =
 -- of all faults, the first with the line of this one is this one
 pub found_fault : (f : Fault) → first_of_these fault_line all_fault (fault_line f) ≡ Some f
 found_fault fault.BadDescriptor = refl
-found_fault fault.Below = refl
-found_fault fault.NotMux = refl
-found_fault fault.AlreadyBelow = refl
-found_fault fault.Cycle = refl
-found_fault fault.TooManyLinks = refl
-found_fault fault.NoLink = refl
-found_fault fault.NoDriver = refl
-found_fault fault.NoMinor = refl
-found_fault fault.TooManyDescriptors = refl
-found_fault fault.AddressInUse = refl
-found_fault fault.Unbound = refl
-found_fault fault.Unrouted = refl
-found_fault fault.Full = refl
-found_fault fault.Empty = refl
-found_fault fault.BadSize = refl
-found_fault fault.HungUp = refl
+found_fault f = refl
 
 -- no two faults have one line
 pub same_fault : (x y : Fault) → fault_line x ≡ fault_line y → x ≡ y
