@@ -130,7 +130,8 @@ pub some_command : (c : Command) → 0 < length (command_words c)
 some_command command.CloseAll = omega arith
 some_command c = omega arith
 
-fault_plain : (f : Fault) → (0 < length (fault_words f)) × AllByRecursion IsPlain (fault_words f)
+-- a fault has words, and each of them is bytes that can be seen, none an equals sign
+pub fault_plain : (f : Fault) → (0 < length (fault_words f)) × AllByRecursion IsPlain (fault_words f)
 fault_plain fault.BadDescriptor = search rules
 fault_plain f = search rules
 
