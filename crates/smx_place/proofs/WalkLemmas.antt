@@ -4,7 +4,7 @@ use Rattle.smx_types.specs.declared.version.Version.{Version}
 use Rattle.smx_types.specs.declared.version.Version.TheVariants.{V1, V2}
 use Rattle.smx_words.specs.Spellable.{CanTell, FitsNumber}
 use Rattle.std.specs.Fmt.{decimal}
-use Rattle.smx_place.specs.Rows.{IsFixed, IsRow, IsValue, Row, later_rows, rows, told_rows}
+use Rattle.smx_place.specs.Rows.{IsFixed, IsRow, IsValue, WordRow, later_rows, rows, told_rows}
 use Rattle.smx_place.specs.declared.kinds.Choice.{Choice}
 use Rattle.smx_place.specs.declared.kinds.Choice.TheVariants.{End}
 use Rattle.smx_place.specs.declared.kinds.Value.{Value}
@@ -86,4 +86,4 @@ pub plain : (version : Version) (choice : Choice) → later_rows choice ≡ [] �
     (next : Choice) → IsFixed version choice word values next → IsRow (rows choice) word values next
 plain V1 choice none word values next is = is
 plain V2 choice none word values next is =
-    subst (λ (ks : List Row). IsRow (ks ++ rows choice) word values next) none is
+    subst (λ (ks : List WordRow). IsRow (ks ++ rows choice) word values next) none is
