@@ -9,7 +9,7 @@ use Rattle.smx_words.specs.Words.{IsFree, SPACE}
 use Rattle.smx_words.proofs.CutLemmas.{apart}
 use Rattle.smx_place.specs.Places.{AreParts, Begins, EndsThere, IsLine, IsPlace, IsWanted, IsWhole, Stops, spaced}
 use Rattle.smx_place.specs.declared.kinds.TextKind.{TextKind}
-use Rattle.smx_place.specs.declared.place.Place.{Place}
+use Rattle.smx_place.specs.declared.place.LinePlace.{LinePlace}
 
 -- one part, and then the others
 first_part : (part : List ℕ) (parts : List (List ℕ)) → spaced (part ∷ parts) ≡ part ++ SPACE ∷ spaced parts
@@ -89,13 +89,13 @@ module _ (kind : TextKind) (version : Version) where
       stops (behind, subst (IsLine kind version) (sym (append_assoc front (word ∷ []) behind)) is)
 
   module _ (line : List ℕ) where
-    pub not_both : (place : Place) → IsPlace kind version line place → IsWhole kind version line → ⊥
+    pub not_both : (place : LinePlace) → IsPlace kind version line place → IsWhole kind version line → ⊥
     not_both place h (parts, are, is) =
         stops_whole h.front h.behind h.stops
         (subst (IsLine kind version) (one_line line parts (h.front ++ h.behind) are h.parts) is)
 
     -- the parts before both places are the same
-    module _ (one other : Place) (h : IsPlace kind version line one) (k : IsPlace kind version line other) where
+    module _ (one other : LinePlace) (h : IsPlace kind version line one) (k : IsPlace kind version line other) where
       same_front : h.front ≡ k.front
       same_front =
           elim (two_fronts h.front h.behind k.front k.behind
