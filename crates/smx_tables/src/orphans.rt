@@ -50,7 +50,8 @@ fn release_below(
     touched: &mut Vec<StreamId>,
     gone: &mut Vec<u32>,
 )
-    requires cascade { IsCascade links.now.links streams.old (touched.old.items ++ ctl ∷ []) (vec_capacity touched.old) }
+    requires cascade { IsCascade links.now.links streams.old (touched.old.items ++ ctl ∷ [])
+        (vec_capacity touched.old) }
     requires gone { AreReleased links.now.links streams.old gone.old.items (vec_capacity gone.old) }
     ensures fds { streams.new.fds ≡ streams.old.fds }
     ensures minors { streams.new.minors ≡ streams.old.minors }
@@ -86,8 +87,8 @@ pub fn release_orphans(
     gone: &mut Vec<u32>,
 )
     requires cascade { IsCascade links.now.links streams.old touched.items (vec_capacity touched) }
-    requires room { length seen.old.items + (length touched.items + holds_below (ordinary_of links.now.links) streams.old)
-        ≤ vec_capacity seen.old }
+    requires room { length seen.old.items
+        + (length touched.items + holds_below (ordinary_of links.now.links) streams.old) ≤ vec_capacity seen.old }
     requires gone { AreReleased links.now.links streams.old gone.old.items (vec_capacity gone.old) }
     ensures fds { streams.new.fds ≡ streams.old.fds }
     ensures minors { streams.new.minors ≡ streams.old.minors }
