@@ -1,7 +1,7 @@
 //! The places of all streams that some drivers have.
 
-ghost use Rattle.std.specs.Prelude.{◌≡◌, ◌≤◌, ◌++◌, ◌<◌, ◌+◌, ◌^◌, false, Some, IfOk, OnOk, IfSome, IsSome, IfNone, length};
-ghost use Rattle.std.specs.Prelude.{slice_get, slice_index_or};
+ghost use Rattle.std.specs.Prelude.{◌≡◌, ◌≤◌, ◌++◌, ◌<◌, ◌+◌, ◌^◌, false, Some, IfOk, OnOk, IfSome, IsSome, IfNone};
+ghost use Rattle.std.specs.Prelude.{length, slice_get, slice_index_or};
 ghost use Rattle.std.specs.List.{list_any};
 ghost use Rattle.smx_model.specs.Configuration.{place_before, same_place, side_number};
 ghost use Rattle.smx_model.specs.DriverList.{high_of, low_of, minors_of, IsDriverList};

@@ -8,7 +8,8 @@ ghost use Rattle.std.specs.Option.{option_map};
 ghost use Rattle.smx_streams.specs.DescriptorRows.{IsListed};
 ghost use Rattle.smx_streams.specs.HungRows.{MakeTheList};
 ghost use Rattle.smx_streams.specs.StreamTables.{number_at, is_in_range, exists, stream_at, is_last, least_fd};
-ghost use Rattle.smx_streams.specs.StreamTables.{least_minor, numbered, clone_answer, minor_answer, dup_answer, IsNext, IsRefused};
+ghost use Rattle.smx_streams.specs.StreamTables.{least_minor, numbered, clone_answer, minor_answer, dup_answer};
+ghost use Rattle.smx_streams.specs.StreamTables.{IsNext, IsRefused};
 ghost use Rattle.smx_model.specs.Hangups.{is_hung};
 ghost use Rattle.smx_streams.specs.StreamTables.{HasOneMore, HasOneLess, HasNoneOf, HasHolds, HasHungUp, AreHungsSound};
 

@@ -9,7 +9,8 @@ returns-in_err-p c =
 
 pub returns-in_err-message : goal.returns-in_err-message
 returns-in_err-message c =
-    absurd (front_some _ _ _ _ c.in_ok-p.ensures (rw c.queues.ensures at c.front.ensures) (ap option_copied c.in_err-message.was))
+    absurd (front_some _ _ _ _ c.in_ok-p.ensures (rw c.queues.ensures at c.front.ensures)
+    (ap option_copied c.in_err-message.was))
 
 pub at-place-requires : goal.at-place-requires
 at-place-requires c = below _ _ _ c.self.invariant c.in_ok-p.ensures.1

@@ -5,7 +5,8 @@ use Rattle.smx_queues.specs.QueueTable.{Queue}
 use Rattle.smx_queues.specs.Chains.{slot_of, emptied_chain}
 use Rattle.smx_queues.proofs.SlotLemmas.{slot}
 use Rattle.smx_queues.proofs.StoreLemmas.{bare_queue}
-use Rattle.smx_queues.proofs.SoundLemmas.{IsSeen, as_many, emptied_is_bare, original, place_is, seen_push, seen_marked, queues_of}
+use Rattle.smx_queues.proofs.SoundLemmas.{IsSeen, as_many, emptied_is_bare, original, place_is, seen_push}
+use Rattle.smx_queues.proofs.SoundLemmas.{seen_marked, queues_of}
 use Rattle.smx_queues.proofs.CopyLemmas.{copied_is, there_is}
 use Rattle.smx_queues.proofs.queues.Queues.add_copy.Goals as goal
 use Rattle.smx_queues.proofs.queues.Queues.add_copy.Goals.{In_ok-push, After-index_mut}
@@ -17,8 +18,8 @@ pushed : (c : In_ok-push) → IsSeen c.self.inside.nodes c.push.new.self.items
 pushed c =
     rw (c.in_ok-push.ensures.items, c.emptied.ensures)
     (seen_push _ _ c.self.invariant _ (ap queues_of c.self.view_is) _
-    (emptied_is_bare _ _ c.others.invariant _ _ (omega (arith, as_many c.others.inside.nodes _ _ _ c.others.view_is, c.requires))
-    c.index-chain.ensures))
+    (emptied_is_bare _ _ c.others.invariant _ _
+    (omega (arith, as_many c.others.inside.nodes _ _ _ c.others.view_is, c.requires)) c.index-chain.ensures))
 
 -- with the messages and the mark that the others have there
 copied : (c : After-index_mut) → IsSeen c.self-then-chain.inside.nodes
@@ -26,8 +27,8 @@ copied : (c : After-index_mut) → IsSeen c.self-then-chain.inside.nodes
     (record c.index_mut.result.now { full = c.index-chain.result.now.full }))
     (c.args.self.now.queues ++ get_or c.args.others.now.queues c.args.p None ∷ [])
 copied c =
-    let there = place_is _ _ c.others.invariant _
-    (ap queues_of c.others.view_is) _ _ (omega (arith, as_many c.others.inside.nodes _ _ _ c.others.view_is, c.requires))
+    let there = place_is _ _ c.others.invariant _ (ap queues_of c.others.view_is) _ _
+    (omega (arith, as_many c.others.inside.nodes _ _ _ c.others.view_is, c.requires))
     c.index-chain.ensures c.if-chain.true in
     let o = original _ _ c.others.invariant _ (ap queues_of c.others.view_is) _ there _ c.index-chain.ensures in
     let last : c.len-to.result ≡ length c.args.self.now.queues =

@@ -3,7 +3,8 @@ use Rattle.smx_queues.specs.declared.chain.Chain.{Chain}
 use Rattle.smx_queues.specs.Chains.{chain_with_last}
 use Rattle.smx_queues.specs.QueueTable.{queue_at, with_arrival}
 use Rattle.smx_queues.proofs.FollowLemmas.{node_from}
-use Rattle.smx_queues.proofs.SoundLemmas.{IsAt, IsSeen, place_at, last_there, read_twice, seen_put, queues_of, kept_there}
+use Rattle.smx_queues.proofs.SoundLemmas.{IsAt, IsSeen, place_at, last_there, read_twice, seen_put}
+use Rattle.smx_queues.proofs.SoundLemmas.{queues_of, kept_there}
 use Rattle.smx_queues.proofs.queues.Queues.append.Goals as goal
 use Rattle.smx_queues.proofs.queues.Queues.append.Goals.{After-index-chain, After-add_last}
 
@@ -15,7 +16,8 @@ at c = place_at _ _ c.self.invariant _ (ap queues_of c.self.view_is) _ c.require
 -- the message has come behind the others of its place
 put : (c : After-add_last) → IsSeen c.follow.new.nodes
     (set c.self.inside.chains.items c.args.p c.add_last.new.self)
-    (set c.args.self.now.queues c.args.p (Some (with_arrival (queue_at c.args.self.now.queues c.args.p) c.args.message)))
+    (set c.args.self.now.queues c.args.p
+    (Some (with_arrival (queue_at c.args.self.now.queues c.args.p) c.args.message)))
 put c =
     let there = place_at _ _ c.self.invariant _ (ap queues_of c.self.view_is) _ c.requires.place _
     c.index-chain.ensures in

@@ -79,7 +79,8 @@ add_last-requires-clause-count c =
     let g = goal.at.add_last-requires-clause-count c in
     let both = counts_fit _ _ c.self.invariant _ _ _ _ _ (from g.After-index-source) (to g.After-index-target)
     c.requires.differ in
-    omega (arith, some g.After-index-source, both, c.len-count.ensures, ap (λ (x : Chain). x.count) (same_target g.After-index_mut-2))
+    let same = ap (λ (x : Chain). x.count) (same_target g.After-index_mut-2) in
+    omega (arith, some g.After-index-source, both, c.len-count.ensures, same)
 
 pub add_last-requires-clause-bytes : goal.add_last-requires-clause-bytes
 add_last-requires-clause-bytes c =

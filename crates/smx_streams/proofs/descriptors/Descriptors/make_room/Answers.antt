@@ -8,7 +8,8 @@ use Rattle.smx_streams.proofs.descriptors.Descriptors.make_room.Goals as goal
 
 pub invariant_of-self-2 : goal.invariant_of-self-2
 invariant_of-self-2 c =
-    rw (c.in_ok-make_room.ensures.ok, c.get.ensures.value) (rows_with_room c.self.inside.processes.items c.args.process c.self.invariant)
+    rw (c.in_ok-make_room.ensures.ok, c.get.ensures.value)
+    (rows_with_room c.self.inside.processes.items c.args.process c.self.invariant)
 
 pub returns-clause-fds : goal.returns-clause-fds
 returns-clause-fds c = rw (c.in_ok-make_room.ensures.ok, c.get.ensures.value)

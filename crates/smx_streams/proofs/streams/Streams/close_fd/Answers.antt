@@ -55,5 +55,6 @@ returns-clause-rest c = less (goal.at.returns-clause-rest c).After-close
 
 pub returns-clause-went : goal.returns-clause-went
 returns-clause-went c = λ s was gone.
-    went_is_named _ _ s _ _ (subst (λ (t : StreamTable). IsRising fd_before t.fds) c.self.view_is c.is_sound.ensures.rise)
+    went_is_named _ _ s _ _
+    (subst (λ (t : StreamTable). IsRising fd_before t.fds) c.self.view_is c.is_sound.ensures.rise)
     (less (goal.at.returns-clause-went c).After-close) was gone
