@@ -72,47 +72,6 @@ fn drop_dead(lists: &mut Lists, seen: &[StreamId], dropped: &mut Vec<u32>)
     }
 }
 
-// Removes the ordinary links whose controlling stream doesn't exist, which is one of those that were touched. What may
-// have gone is put to those that were seen. The last list but one has room for the ids of all ordinary links.
-fn drop_orphans(
-    drivers: &[DriverSpec],
-    lists: &mut Lists,
-    touched: Vec<StreamId>,
-    seen: &mut Vec<StreamId>,
-    room: Vec<u32>,
-    dropped: &mut Vec<u32>,
-)
-    requires kept { KeepsHolds lists.old }
-    requires known { AreControllingKnown drivers.now lists.old.links.links }
-    requires cascade { IsCascade lists.old.links.links lists.old.streams touched.items (vec_capacity touched) }
-    requires seen { length seen.old.items
-        + (length touched.items + holds_below (ordinary_of lists.old.links.links) lists.old.streams)
-        ≤ vec_capacity seen.old }
-    requires empty { room.items ≡ [] }
-    requires room { length (ordinary_of lists.old.links.links) ≤ vec_capacity room }
-    requires dropped { HasRoom dropped.old lists.old.queues.flow }
-    ensures value { configuration_of lists.new ≡ record (without_links (configuration_of lists.old)
-        (is_orphaned lists.old.streams.fds lists.old.links.links (length drivers.now)))
-        { hungs = lists.new.streams.hungs } }
-    ensures hungs { LeavesHungs lists.old.streams lists.new.streams }
-    ensures seen { (s : StreamId) → is_there_or_touched lists.old.streams touched.items s ≡ true
-        → is_there_or_touched lists.new.streams seen.new.items s ≡ true }
-    ensures dropped { DropsMore lists.old.queues.flow dropped.old.items lists.new.queues.flow dropped.new.items }
-    ensures room { HasRoom dropped.new lists.new.queues.flow }
-    ensures kept { KeepsHolds lists.new }
-    ensures existing { TellsExisting drivers.now (configuration_of lists.new) lists.new.streams }
-    ensures drivers { sizes_of lists.new ≡ sizes_of lists.old }
-{
-    lists.links.is_sound();
-    climbs_suffice();
-    reaches_is_path();
-    paths_join();
-    let mut gone = room;
-    release_orphans(&mut lists.streams, &lists.links, touched, seen, &mut gone);
-    drop_links(lists, &gone, dropped);
-    tells_existing(drivers, lists);
-}
-
 // Whether each of the streams is there.
 fn are_there(streams: &Streams, touched: &[StreamId]) -> bool
     ensures { result ≡ list_all (is_there streams.now) touched.now }
@@ -131,6 +90,41 @@ pub struct SweepReserve {
     pub dropped: Vec<u32>,
 }
 
+// Removes the ordinary links whose controlling stream doesn't exist, which is one of those that were touched. What may
+// have gone is seen then.
+fn drop_orphans(drivers: &[DriverSpec], lists: &mut Lists, room: &mut SweepReserve)
+    requires kept { KeepsHolds lists.old }
+    requires known { AreControllingKnown drivers.now lists.old.links.links }
+    requires touched { IsTouched lists.old.streams room.old.touched.items (configuration_of lists.old) }
+    requires room { IsReserveFor 0 lists.old.links.links lists.old.queues.flow room.old }
+    ensures value { configuration_of lists.new ≡ record (without_links (configuration_of lists.old)
+        (is_orphaned lists.old.streams.fds lists.old.links.links (length drivers.now)))
+        { hungs = lists.new.streams.hungs } }
+    ensures hungs { LeavesHungs lists.old.streams lists.new.streams }
+    ensures seen { (s : StreamId) → is_there_or_touched lists.old.streams room.old.touched.items s ≡ true
+        → is_there_or_touched lists.new.streams room.new.seen.items s ≡ true }
+    ensures dropped { DropsMore lists.old.queues.flow room.old.dropped.items
+        lists.new.queues.flow room.new.dropped.items }
+    ensures room { HasRoom room.new.dropped lists.new.queues.flow }
+    ensures kept { KeepsHolds lists.new }
+    ensures existing { TellsExisting drivers.now (configuration_of lists.new) lists.new.streams }
+    ensures drivers { sizes_of lists.new ≡ sizes_of lists.old }
+{
+    lists.links.is_sound();
+    climbs_suffice();
+    reaches_is_path();
+    paths_join();
+    release_orphans(
+        &mut lists.streams,
+        &lists.links,
+        &mut room.touched,
+        &mut room.seen,
+        &mut room.orphaned,
+    );
+    drop_links(lists, &room.orphaned, &mut room.dropped);
+    tells_existing(drivers, lists);
+}
+
 // Removes the ordinary links whose controlling stream doesn't exist, and then what dead streams hold. Only streams that
 // were touched may have gone. The serials of what was dropped since room was made.
 fn sweep(drivers: &[DriverSpec], lists: &mut Lists, room: SweepReserve) -> Vec<u32>
@@ -144,23 +138,15 @@ fn sweep(drivers: &[DriverSpec], lists: &mut Lists, room: SweepReserve) -> Vec<u
     ensures drivers { sizes_of lists.new ≡ sizes_of lists.old }
 {
     lists.streams.is_sound();
-    let mut dropped = room.dropped;
+    let mut room = room;
     if are_there(&lists.streams, &room.touched) {
         sweeping_again_changes_nothing();
         tells_existing(drivers, lists);
-        return dropped;
+        return room.dropped;
     }
-    let mut seen = room.seen;
-    drop_orphans(
-        drivers,
-        lists,
-        room.touched,
-        &mut seen,
-        room.orphaned,
-        &mut dropped,
-    );
-    drop_dead(lists, &seen, &mut dropped);
-    dropped
+    drop_orphans(drivers, lists, &mut room);
+    drop_dead(lists, &room.seen, &mut room.dropped);
+    room.dropped
 }
 
 /// Room for the sweep after a change that touches so many streams. Fails only for want of memory.
