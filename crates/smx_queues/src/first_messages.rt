@@ -2,6 +2,7 @@
 
 ghost use Rattle.std.specs.Prelude.{◌≡◌};
 ghost use Rattle.std.specs.Iterator.{YieldsFirstBy};
+ghost use Rattle.smx_queues.specs.QueuedMessages.{queued_message};
 ghost use Rattle.smx_queues.specs.FlowTables.{flow_of, fronts, IsFlow};
 
 use crate::busy_queues::BusyQueues;
@@ -12,14 +13,14 @@ use std::marker::Model;
 /// The first message of each place that has any, in order of place, seen as the list of those that are left. Takes no
 /// memory.
 #[derive(Drop)]
-pub struct Fronts<'a> {
+pub struct FirstMessages<'a> {
     places: &'a Places,
     queues: &'a BusyQueues,
     // The number of the next place to look at.
     next: usize,
 }
 
-impl<'a> Model for Fronts<'a> {
+impl<'a> Model for FirstMessages<'a> {
     ghost use Rattle.std.specs.Prelude.{List, drop};
     ghost use Rattle.smx_model.specs.Configuration.{QueuedMessage};
     ghost use Rattle.smx_queues.specs.FlowTables.{fronts_of, IsFlow};
@@ -31,12 +32,12 @@ impl<'a> Model for Fronts<'a> {
     ghost invariant = { λ it. IsFlow it.places.now it.queues.now.queues };
 }
 
-impl<'a> Fronts<'a> {
-    pub(crate) fn new(places: &'a Places, queues: &'a BusyQueues) -> Fronts<'a>
+impl<'a> FirstMessages<'a> {
+    pub(crate) fn new(places: &'a Places, queues: &'a BusyQueues) -> FirstMessages<'a>
         requires { IsFlow places.now queues.now.queues }
         ensures { result ≡ fronts (flow_of places.now.places queues.now.queues) }
     {
-        Fronts {
+        FirstMessages {
             places,
             queues,
             next: 0,
@@ -44,14 +45,13 @@ impl<'a> Fronts<'a> {
     }
 }
 
-impl<'a> Fronts<'a> {
+impl<'a> FirstMessages<'a> {
     /// The next one, if any is left. Takes no memory.
     pub fn next(&mut self) -> Option<Queued<'a>>
-        ensures { YieldsFirstBy (λ item. record { place = item.place; message = item.message.now }) (λ rest. rest) self.old result self.new }
+        ensures { YieldsFirstBy queued_message (λ rest. rest) self.old result self.new }
     {
-        let _count = self.places.len();
         let p = self.queues.filled_from(self.next)?;
-        let message = self.queues.front(p)?;
+        let message = self.queues.queues().front(p)?;
         let place = self.places.at(p);
         self.next = p + 1;
         Some(Queued { place, message })

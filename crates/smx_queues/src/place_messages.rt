@@ -10,14 +10,14 @@ use std::marker::Model;
 
 /// The messages of a place from the front on, seen as the list of those that are left. Takes no memory.
 #[derive(Drop)]
-pub struct Messages<'a> {
+pub struct PlaceMessages<'a> {
     pub(crate) nodes: &'a Slab<Node>,
     // The key of the first of those that are left.
     pub(crate) key: usize,
     pub(crate) left: usize,
 }
 
-impl<'a> Model for Messages<'a> {
+impl<'a> Model for PlaceMessages<'a> {
     ghost use Rattle.std.specs.Prelude.{◌≡◌, List, length};
     ghost use Rattle.smx_types.specs.declared.message.Message.{Message};
 
@@ -30,7 +30,7 @@ impl<'a> Model for Messages<'a> {
     ghost invariant = { λ it. length (walk it.nodes.now it.left it.key) ≡ it.left };
 }
 
-impl<'a> Iterator for Messages<'a> {
+impl<'a> Iterator for PlaceMessages<'a> {
     type Item = &'a Message;
 
     ghost next_gives = { YieldsFirstBy (λ item. item.now) (λ rest. rest) };

@@ -8,11 +8,11 @@ use std::marker::Model;
 
 /// An id or none at each minor. It grows with the highest minor that was below a link.
 #[derive(Debug, Drop)]
-pub struct Row {
+pub struct IdRow {
     cells: Vec<Option<u32>>,
 }
 
-impl Model for Row {
+impl Model for IdRow {
     ghost use Rattle.std.specs.Prelude.{ℕ, List, Option};
 
     ghost Value = { List (Option ℕ) };
@@ -20,11 +20,11 @@ impl Model for Row {
     ghost view = { λ r. r.cells.items };
 }
 
-impl Row {
-    pub fn new(alloc: Global) -> Row
+impl IdRow {
+    pub fn new(alloc: Global) -> IdRow
         ensures { result ≡ [] }
     {
-        Row {
+        IdRow {
             cells: Vec::new(alloc),
         }
     }
@@ -57,10 +57,10 @@ impl Row {
         self.cells[minor as usize] = cell;
     }
 
-    pub fn copy(&self) -> Result<Row, NoMemory>
+    pub fn copy(&self) -> Result<IdRow, NoMemory>
         ensures { IfOk result (λ r. r ≡ self.now) }
     {
-        Ok(Row {
+        Ok(IdRow {
             cells: self.cells.clone()?,
         })
     }
