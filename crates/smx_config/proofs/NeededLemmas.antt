@@ -20,27 +20,6 @@ use Rattle.smx_config.specs.Marking.{AreMarks, HasNeeded, IsOneMore}
 use Rattle.smx_config.proofs.RunMarkLemmas.{with_one}
 use Rattle.smx_queues.proofs.PlaceLemmas.{place_is, place_self, same_turned}
 
--- ---- places from which no message goes on
-
--- a message that has nowhere to go makes the place one from which none goes on
-from_nowhere : (drivers : List DriverSpec) (c : Configuration) (p : Place) (o : Option Message)
-    → ((m : Message) → next_place drivers c p m.addr ≡ None) → next_of drivers c p o ≡ None
-from_nowhere drivers c p None none = refl
-from_nowhere drivers c p (Some m) none = none m
-
-none_above : (links : List Link) (s : StreamId) → is_below links s ≡ false
-    → find (λ l. same_stream l.lower s) links ≡ None
-none_above [] s none = refl
-none_above (l ∷ ls) s none = elim (cases_Bool (same_stream l.lower s)) [
-  | inl t ↦ absurd (false≢true (sym none ∙ or_left _ _ t))
-  | inr f ↦ rw f (none_above ls s (rw f at none))
-]
-
--- the read side of a stream that is below no link
-pub not_up : (drivers : List DriverSpec) (c : Configuration) (p : Place) → p.side ≡ side.Read
-    → is_below c.links p.stream ≡ false → next_of_first drivers c p ≡ None
-not_up drivers c p at none = from_nowhere drivers c p _ (λ m. rw (at, none_above c.links p.stream none) refl)
-
 -- ---- marks that need not be there
 
 -- all that matter are among all

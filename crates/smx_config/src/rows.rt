@@ -70,18 +70,18 @@ impl Tables {
         }
     }
 
-    // Whether the least move is the same again, for messages of this address.
-    fn goes_on(&self, marks: &Marks, last: Move, addr: u32) -> bool
+    // Whether the least move is the same again.
+    fn goes_on(&self, marks: &Marks, last: Move) -> bool
         requires sound { IsSound self.now.drivers self.now.configuration }
         requires marks { AreMarks self.now.drivers self.now.configuration marks.now }
-        requires next { next_place self.now.drivers self.now.configuration last.from addr ≡ Some last.to }
+        requires next { next_place self.now.drivers self.now.configuration last.from last.addr ≡ Some last.to }
         ensures { IsTrue result → IsLeastMove self.now.drivers self.now.configuration (Some last) }
     {
         the_least_marked_is_the_least();
         match marks.run.first() {
             Some(least) => {
                 same_place(least, last.from)
-                    && self.asks_for(last.from, addr)
+                    && self.asks_for(last.from, last.addr)
                     && !self.is_full(last.to)
             }
             None => false,
@@ -100,11 +100,10 @@ impl Tables {
         ensures fewer { result < moves }
     {
         moves_keep_soundness();
-        let addr = self.first_addr(next.from);
         let filled = self.has_messages(next.to);
         self.move_marked(marks, next, filled);
         let mut left = moves - 1;
-        while left > 0 && self.goes_on(marks, next, addr) {
+        while left > 0 && self.goes_on(marks, next) {
             self.move_marked(marks, next, true);
             left -= 1;
         }

@@ -19,7 +19,7 @@ use smx_types::{
 use std::alloc::{AllocError, Global};
 
 /// Two empty lists, with room for the bytes and the serials that a reply carries.
-#[derive(Debug, Drop)]
+#[derive(Drop)]
 pub struct ReplyRoom {
     bytes: Vec<u8>,
     serials: Vec<u32>,

@@ -26,11 +26,12 @@ use smx_model::laws_of_steps::settling_suffices;
 use smx_queues::{PlaceMarks, Waiters};
 use smx_types::Place;
 
-// A message goes from one place to another.
-#[derive(Clone, Copy, Debug)]
+// A message of this address goes from one place to another.
+#[derive(Clone, Copy)]
 pub struct Move {
     pub from: Place,
     pub to: Place,
+    pub addr: u32,
 }
 
 // Marks the place that is waited for, if there is one.
@@ -102,9 +103,9 @@ impl Tables {
         the_least_marked_is_the_least();
         without_marks_it_is_settled();
         while let Some(from) = marks.run.first() {
-            let next = self.next_of_first(ways, from);
+            let (next, addr) = self.next_of_first(ways, from);
             if let Some(to) = self.if_open(next) {
-                return Some(Move { from, to });
+                return Some(Move { from, to, addr });
             }
             self.clear_mark(marks, from, next);
         }
@@ -146,7 +147,7 @@ impl Tables {
                 return;
             };
             if self.moves_alone(marks, next.from) {
-                let rest = self.rest_of(marks, ways, next.from, next.to, left);
+                let rest = self.rest_of(marks, ways, next, left);
                 self.come_to_rest(marks, next.from, rest);
                 return;
             }

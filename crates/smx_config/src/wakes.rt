@@ -12,7 +12,7 @@ use crate::tables::Tables;
 use smx_types::{Command, Fault, Place, Process, Side, StreamId};
 
 /// What a command may wake, if it is accepted.
-#[derive(Clone, Copy, Debug)]
+#[derive(Clone, Copy)]
 pub enum Wakes {
     // No message can move on that could not before.
     Nothing,
