@@ -52,7 +52,8 @@ free_says c process fd s e =
     let found = bound (stream_of c process fd) (λ x. refuse Below (is_below c.links x) >>= (λ a. Ok x)) s e in
     let above = bound (refuse Below (is_below c.links found.0)) (λ a. Ok found.0) s found.2 in (
       found.1 ∙ above.2,
-      subst (λ (x : StreamId). is_below c.links x ≡ false) (accepted found.0 s above.2) (passed Below _ above.0 above.1),
+      subst (λ (x : StreamId). is_below c.links x ≡ false) (accepted found.0 s above.2)
+          (passed Below _ above.0 above.1),
     )
 
 -- the stream of a device exists, and its driver is no multiplexing one

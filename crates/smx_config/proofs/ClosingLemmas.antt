@@ -6,7 +6,6 @@ use Rattle.std.specs.List.{list_any}
 use Rattle.std.proofs.lemmas.Bool.{cases_Bool, cases_lt, or_left, or_right, false≢true}
 use Rattle.smx_types.specs.declared.driver.DriverSpec.{DriverSpec}
 use Rattle.smx_types.specs.declared.limits.TheConstants.{MAX_DESCRIPTORS}
-use Rattle.smx_types.specs.declared.reply.Fault.TheVariants.{BadDescriptor}
 use Rattle.smx_types.specs.declared.reply.Reply.{Reply}
 use Rattle.smx_types.specs.declared.reply.Reply.TheVariants.{Done}
 use Rattle.smx_types.specs.declared.stream.Descriptor.{Descriptor}
@@ -14,7 +13,6 @@ use Rattle.smx_types.specs.declared.stream.StreamId.{StreamId}
 use Rattle.smx_model.specs.Commands.{done_outcome}
 use Rattle.smx_model.specs.Configuration.{Configuration, is_fd, same_stream}
 use Rattle.smx_model.specs.Hangups.{is_hung}
-use Rattle.smx_model.specs.Outcomes.{or_fault}
 use Rattle.smx_model.specs.Removal.{after_sweep, serials_that_left}
 use Rattle.smx_model.specs.Standing.{is_named}
 use Rattle.smx_model.specs.Swept.{IsSwept}

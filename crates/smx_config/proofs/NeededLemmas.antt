@@ -1,18 +1,13 @@
 -- Marks that matter, and those that need not be there.
-use Rattle.std.proofs.Common.{◌≡◌, true, false, ◌∷◌, Option, Some, None, refl, sym, ap, ◌∙◌, subst, inl, inr}
+use Rattle.std.proofs.Common.{◌≡◌, true, false, Option, Some, None, refl, sym, ap, ◌∙◌, subst, inl, inr}
 use Rattle.std.specs.Option.{is_some}
 use Rattle.std.proofs.lemmas.Bool.{cases_Bool, false≢true, or_left, or_right}
-use Rattle.std.proofs.Common.{List, find, []}
+use Rattle.std.proofs.Common.{List}
 use Rattle.smx_types.specs.declared.driver.DriverSpec.{DriverSpec}
-use Rattle.smx_types.specs.declared.link.Link.{Link}
 use Rattle.smx_types.specs.declared.message.Message.{Message}
 use Rattle.smx_types.specs.declared.stream.Place.{Place}
-use Rattle.smx_types.specs.declared.stream.Side.TheVariants as side
-use Rattle.smx_types.specs.declared.stream.StreamId.{StreamId}
-use Rattle.smx_model.specs.Configuration.{Configuration, same_place, same_stream}
-use Rattle.smx_model.specs.RunMarks.{is_held_up, next_of, next_of_first}
-use Rattle.smx_model.specs.Settling.{next_place}
-use Rattle.smx_model.specs.Standing.{is_below}
+use Rattle.smx_model.specs.Configuration.{Configuration, same_place}
+use Rattle.smx_model.specs.RunMarks.{is_held_up, next_of_first}
 use Rattle.smx_queues.specs.PlaceMarks.{MarkList, has_mark}
 use Rattle.smx_queues.specs.Waiters.{WaitList, target_of}
 use Rattle.smx_config.specs.declared.marks.Marks.{Marks}

@@ -4,7 +4,7 @@ use Rattle.std.proofs.Common.{Some, None, refl, sym, ap, ◌∙◌, subst, inl, 
 use Rattle.std.specs.Prelude.{◌≢◌, ◌⊎◌}
 use Rattle.std.specs.List.{list_any}
 use Rattle.std.specs.Option.{option_map_or}
-use Rattle.std.proofs.lemmas.Bool.{cases_Bool, false≢true, or_left, or_right}
+use Rattle.std.proofs.lemmas.Bool.{cases_Bool, false≢true}
 use Rattle.smx_types.specs.declared.driver.DriverSpec.{DriverSpec}
 use Rattle.smx_types.specs.declared.link.Link.{Link}
 use Rattle.smx_types.specs.declared.stream.Place.{Place}
@@ -14,11 +14,10 @@ use Rattle.smx_model.specs.Configuration.{Configuration, QueuedMessage, same_pla
 use Rattle.smx_model.specs.KnownStreams.{IsKnown}
 use Rattle.smx_model.specs.Paths.{AreLowersApart}
 use Rattle.smx_model.specs.Queues.{first_message}
-use Rattle.smx_model.specs.RunMarks.{all_but, both}
 use Rattle.smx_queues.specs.PlaceMarks.{MarkList, has_mark}
 use Rattle.smx_config.specs.Marking.{IsMarkedUnless, IsMarkedWhere, is_read_below_driver}
 use Rattle.smx_tables.proofs.AboveLemmas.{any_once, once_below}
-use Rattle.smx_queues.proofs.PlaceLemmas.{place_is, place_self, same_turned}
+use Rattle.smx_queues.proofs.PlaceLemmas.{place_is}
 
 -- nothing is marked where no place with a message passes the test
 pub none_marked : (flow : List QueuedMessage) (test : Place → Bool) (m : MarkList)

@@ -1,18 +1,16 @@
 -- A message that may be sent: where it goes, and what it has.
-use Rattle.std.proofs.Common.{◌≡◌, ℕ, Bool, true, false, not, List, Result, Ok, Err}
-use Rattle.std.proofs.Common.{refl, ◌∙◌, subst}
+use Rattle.std.proofs.Common.{◌≡◌, ℕ, List, Result, Ok, Err}
+use Rattle.std.proofs.Common.{refl, ◌∙◌}
 use Rattle.std.specs.Prelude.{IfOk}
 use Rattle.smx_types.specs.declared.driver.DriverSpec.{DriverSpec}
 use Rattle.smx_types.specs.declared.reply.Fault.{Fault}
-use Rattle.smx_types.specs.declared.reply.Fault.TheVariants.{Below, HungUp, NoDriver, NoMinor}
+use Rattle.smx_types.specs.declared.reply.Fault.TheVariants.{HungUp}
 use Rattle.smx_types.specs.declared.stream.StreamId.{StreamId}
 use Rattle.smx_model.specs.Configuration.{Configuration}
-use Rattle.smx_model.specs.DriverList.{is_mux}
 use Rattle.smx_model.specs.Hangups.{is_hung}
 use Rattle.smx_model.specs.KnownStreams.{AreStreamsKnown, IsKnown}
-use Rattle.smx_model.specs.Lookups.{driver_of, free_stream, leaf_stream, live_leaf, live_stream, stream_of}
+use Rattle.smx_model.specs.Lookups.{free_stream, leaf_stream, live_leaf, live_stream}
 use Rattle.smx_model.specs.Outcomes.{◌>>=◌, refuse}
-use Rattle.smx_model.specs.Standing.{exists, is_below}
 use Rattle.smx_config.proofs.AcceptedLemmas.{bound, free_says, leaf_says}
 use Rattle.smx_config.proofs.KnownLemmas.{exists_known, stream_known}
 

@@ -1,29 +1,27 @@
 -- Places from which no message goes on: the read side of a stream that is not linked below, and the write side of a
 -- leaf driver's stream. So what is left where a message was read or transmitted turns nothing.
-use Rattle.std.proofs.Common.{◌≡◌, ℕ, Bool, true, false, ◌&&◌, not, List, [], ◌∷◌, find, Option, None, Some}
-use Rattle.std.proofs.Common.{Result, Ok, Err, refl, sym, ap, ◌∙◌, subst, inl, inr}
+use Rattle.std.proofs.Common.{◌≡◌, ℕ, Bool, true, false, List, [], ◌∷◌, find, Option, None, Some}
+use Rattle.std.proofs.Common.{Ok, refl, sym, ◌∙◌, subst, inl, inr}
 use Rattle.std.specs.List.{list_any}
-use Rattle.std.specs.Option.{is_some}
 use Rattle.std.proofs.lemmas.Bool.{cases_Bool, false≢true}
 use Rattle.smx_types.specs.declared.command.Command.TheVariants as command
 use Rattle.smx_types.specs.declared.driver.DriverSpec.{DriverSpec}
 use Rattle.smx_types.specs.declared.link.Link.{Link}
 use Rattle.smx_types.specs.declared.message.Message.{Message}
-use Rattle.smx_types.specs.declared.reply.Fault.{Fault}
-use Rattle.smx_types.specs.declared.reply.Fault.TheVariants.{Below, Empty, HungUp, NoDriver, NoMinor}
+use Rattle.smx_types.specs.declared.reply.Fault.TheVariants.{HungUp}
 use Rattle.smx_types.specs.declared.reply.Reply.{Reply}
 use Rattle.smx_types.specs.declared.stream.Place.{Place}
 use Rattle.smx_types.specs.declared.stream.Side.TheVariants as side
 use Rattle.smx_types.specs.declared.stream.StreamId.{StreamId}
-use Rattle.smx_model.specs.Commands.{outcome, read_outcome, receive_outcome}
+use Rattle.smx_model.specs.Commands.{outcome}
 use Rattle.smx_model.specs.Configuration.{Configuration, same_place, same_stream}
 use Rattle.smx_model.specs.DriverList.{is_mux}
 use Rattle.smx_model.specs.Hangups.{is_hung}
-use Rattle.smx_model.specs.Lookups.{driver_of, free_stream, leaf_stream, live_leaf, stream_of}
-use Rattle.smx_model.specs.Outcomes.{Outcome, ◌>>=◌, or_fault, refuse}
+use Rattle.smx_model.specs.Lookups.{free_stream, leaf_stream, live_leaf}
+use Rattle.smx_model.specs.Outcomes.{◌>>=◌, refuse}
 use Rattle.smx_model.specs.Queues.{first_message}
 use Rattle.smx_model.specs.RunMarks.{next_of, next_of_first}
-use Rattle.smx_model.specs.Standing.{exists, is_below}
+use Rattle.smx_model.specs.Standing.{is_below}
 use Rattle.smx_model.specs.TurnedPlaces.{of_stream, read_side, write_side}
 use Rattle.smx_config.proofs.AcceptedLemmas.{bound, free_says, leaf_says, read_alike}
 use Rattle.smx_queues.proofs.PlaceLemmas.{place_is}

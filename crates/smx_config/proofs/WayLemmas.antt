@@ -1,33 +1,26 @@
 -- Ways that are noted, and what leaves them right.
-use Rattle.std.proofs.Common.{◌≡◌, ℕ, zero, suc, Bool, true, false, ◌+◌, ◌&&◌, ◌||◌, eqb, not, List, [], ◌∷◌}
-use Rattle.std.proofs.Common.{length, Option, None, Some, Result, Ok, Err, refl, sym, ap, ◌∙◌, subst, inl, inr}
+use Rattle.std.proofs.Common.{◌≡◌, ℕ, zero, suc, true, List, [], ◌∷◌}
+use Rattle.std.proofs.Common.{Option, None, Some, Result, Ok, Err, refl, sym, ap, ◌∙◌, subst, inl, inr}
 use Rattle.std.proofs.Math.ListN.{set}
-use Rattle.std.specs.Prelude.{◌⊎◌, nat_le, nat_lt, slice_get}
-use Rattle.std.specs.Option.{is_some}
+use Rattle.std.specs.Prelude.{◌⊎◌, slice_get}
 use Rattle.std.specs.Result.{is_ok}
 use Rattle.std.proofs.lemmas.Bool.{false≢true}
 use Rattle.smx_types.specs.declared.command.Command.{Command}
 use Rattle.smx_types.specs.declared.command.Command.TheVariants as command
 use Rattle.smx_types.specs.declared.driver.DriverSpec.{DriverSpec}
-use Rattle.smx_types.specs.declared.limits.TheConstants.{NUMBER_END}
 use Rattle.smx_types.specs.declared.link.Binding.{Binding}
 use Rattle.smx_types.specs.declared.link.Link.{Link}
 use Rattle.smx_types.specs.declared.link.Route.{Route}
 use Rattle.smx_types.specs.declared.message.Message.{Message}
-use Rattle.smx_types.specs.declared.reply.Fault.TheVariants.{BadSize, Empty, Full}
 use Rattle.smx_types.specs.declared.reply.Reply.{Reply}
-use Rattle.smx_types.specs.declared.reply.Reply.TheVariants as reply
 use Rattle.smx_types.specs.declared.stream.Place.{Place}
 use Rattle.smx_types.specs.declared.stream.StreamId.{StreamId}
-use Rattle.smx_model.specs.Commands.{outcome, read_outcome, receive_outcome, send_outcome}
+use Rattle.smx_model.specs.Commands.{outcome}
 use Rattle.smx_model.specs.Configuration.{Configuration}
-use Rattle.smx_model.specs.DriverList.{max_of}
-use Rattle.smx_model.specs.Hangups.{is_hung}
 use Rattle.smx_model.specs.Lookups.{free_stream, live_leaf, live_stream}
 use Rattle.smx_model.specs.LoneMessages.{moved}
-use Rattle.smx_model.specs.Outcomes.{Outcome, ◌>>=◌, or_fault, refuse}
-use Rattle.smx_model.specs.Queues.{after_arrival, first_message, is_full}
-use Rattle.smx_model.specs.Settling.{after_move, after_move_to, next_open_place, next_place}
+use Rattle.smx_model.specs.Queues.{first_message}
+use Rattle.smx_model.specs.Settling.{after_move_to, next_place}
 use Rattle.smx_model.specs.TurnedPlaces.{read_side, write_side}
 use Rattle.smx_config.specs.Machine.{Machine}
 use Rattle.smx_config.specs.Refinement.{Refines}
@@ -78,6 +71,7 @@ one_more_way drivers c old new from addr to h is few p q a w = elim (few p q a w
 
 -- ---- what leaves them right
 
+-- where all leads alike, a message goes to the same place next
 pub next_alike : (drivers : List DriverSpec) (c d : Configuration) (p : Place) (addr : ℕ) → LeadAlike c d
     → next_place drivers d p addr ≡ next_place drivers c p addr
 next_alike drivers c d p addr h =

@@ -24,7 +24,7 @@ use Rattle.smx_model.specs.Configuration.{Configuration, bind_before, same_place
 use Rattle.smx_model.specs.FreedPlaces.{freed_by}
 use Rattle.smx_model.specs.Lookups.{free_stream, live_leaf, live_stream, mux_stream, stream_of}
 use Rattle.smx_model.specs.Ordered.{with_inserted}
-use Rattle.smx_model.specs.Outcomes.{Outcome, ◌>>=◌, refuse}
+use Rattle.smx_model.specs.Outcomes.{refuse}
 use Rattle.smx_model.specs.Queues.{after_leaving, first_message}
 use Rattle.smx_model.specs.Removal.{after_sweep}
 use Rattle.smx_model.specs.RunMarks.{TurnsOnly, both, is_below_driver, is_first_at, next_of_first}
@@ -39,7 +39,7 @@ use Rattle.smx_config.specs.declared.step_error.StepError.TheVariants as step_er
 use Rattle.smx_config.specs.Marking.{AreMarks, IsWoken}
 use Rattle.smx_config.specs.Machine.{Machine}
 use Rattle.smx_config.specs.Refinement.{Refines}
-use Rattle.smx_config.specs.Wakes.{arrives, freed_under, on_stream, turned_under, wakes_of}
+use Rattle.smx_config.specs.Wakes.{IsEnough, arrives, freed_under, on_stream, turned_under, wakes_of}
 use Rattle.smx_config.specs.declared.wakes.Wakes.{Wakes}
 use Rattle.smx_config.specs.declared.wakes.Wakes.TheVariants as wakes
 use Rattle.smx_config.proofs.AcceptedLemmas.{accepted, bound}
@@ -74,7 +74,8 @@ bind_keeps_links drivers c process fd addr x h e =
     swept_out binds free.2 where
       swept_out : (binds : List Binding) → done_outcome drivers c (record c { binds = binds }) ≡ Ok x
           → x.0.links ≡ c.links
-      swept_out binds k = ap (λ (y : Configuration × Reply). y.0.links) (sym (accepted _ x k)) ∙ swept_links drivers c binds h
+      swept_out binds k = ap (λ (y : Configuration × Reply). y.0.links) (sym (accepted _ x k))
+          ∙ swept_links drivers c binds h
 
 -- ---- the turned places
 
@@ -223,12 +224,6 @@ of_accepted P (Ok y) x e h = subst P (accepted y x e) h
 of_accepted P (Err g) x e h = absurd cc
 
 -- ---- after a command that was performed
-
--- if a command is accepted, and all that it may turn and free was woken, the marks are right after it
-abbrev pub IsEnough : List DriverSpec → Configuration → ℕ → Command → Marks → Marks → Type 0
-IsEnough drivers c process k m n = IfOk (outcome drivers c process k)
-    (λ x. IsWoken x.0 (turned_under x.0 (wakes_of drivers c process k)) (freed_under (wakes_of drivers c process k)) m n
-    → AreMarks drivers x.0 n)
 
 enough_at : (drivers : List DriverSpec) (c : Configuration) (process : ℕ) (k : Command) (m n : Marks)
     (x : Configuration × Reply) → IsEnough drivers c process k m n → outcome drivers c process k ≡ Ok x

@@ -2,7 +2,8 @@
 
 ghost use Rattle.std.specs.Prelude.{◌≡◌, ◌≢◌, ℕ, ◌+◌, ◌<◌, ◌≤◌, true, false, length, vec_capacity, Some, Err};
 ghost use Rattle.std.specs.List.{list_any};
-ghost use Rattle.smx_types.specs.declared.command.Command.TheVariants.{OpenClone, OpenMinor, Dup, Close, CloseAll, Hangup};
+ghost use Rattle.smx_types.specs.declared.command.Command.TheVariants.{OpenClone, OpenMinor, Dup};
+ghost use Rattle.smx_types.specs.declared.command.Command.TheVariants.{Close, CloseAll, Hangup};
 ghost use Rattle.smx_types.specs.declared.limits.TheConstants.{MAX_DESCRIPTORS};
 ghost use Rattle.smx_types.specs.declared.reply.Reply.TheVariants.{Fd};
 ghost use Rattle.smx_types.specs.declared.stream.StreamId.{StreamId};

@@ -106,7 +106,8 @@ impl Tables {
     pub fn next_of_first(&self, ways: &mut Ways, place: Place) -> (Option<Place>, u32)
         requires { AreWays self.now.drivers self.now.configuration ways.old }
         ensures value { result.0 ≡ next_of_first self.now.drivers self.now.configuration place }
-        ensures addr { IfSome result.0 (λ _. has_addr result.1 (first_message self.now.configuration.flow place) ≡ true) }
+        ensures addr { IfSome result.0 (λ _.
+            has_addr result.1 (first_message self.now.configuration.flow place) ≡ true) }
         ensures ways { AreWays self.now.drivers self.now.configuration ways.new }
     {
         match self.lists.queues.front(place) {

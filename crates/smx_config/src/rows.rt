@@ -22,29 +22,22 @@ use smx_tables::comparisons::same_place;
 use smx_types::Place;
 
 impl Tables {
-    // The first message of a place moves on to its next place.
-    fn move_on(&mut self, next: Move)
-        requires sound { IsSound self.old.drivers self.old.configuration }
-        requires open { next_open_place self.old.drivers self.old.configuration next.from ≡ Some next.to }
-        ensures { self.new ≡ record self.old { configuration = after_move self.old.drivers self.old.configuration next.from } }
-    {
-        self.carry(next.from, next.to);
-    }
-
-    // The same, and what that wakes is marked. It is told whether there was a message where it goes.
+    // The first message of a place moves on to its next place, and what that wakes is marked. It is told whether there
+    // was a message where it goes.
     fn move_marked(&mut self, marks: &mut Marks, next: Move, filled: bool)
         requires sound { IsSound self.old.drivers self.old.configuration }
         requires marks { AreMarks self.old.drivers self.old.configuration marks.old }
         requires open { next_open_place self.old.drivers self.old.configuration next.from ≡ Some next.to }
         requires filled { filled ≡ is_some (first_message self.old.configuration.flow next.to) }
-        ensures value { self.new ≡ record self.old { configuration = after_move self.old.drivers self.old.configuration next.from } }
+        ensures value { self.new
+            ≡ record self.old { configuration = after_move self.old.drivers self.old.configuration next.from } }
         ensures marks { AreMarks self.new.drivers self.new.configuration marks.new }
     {
         movable_places_are_marked();
         moved_marks_are_enough();
         places_are_known();
         the_first_leaves();
-        self.move_on(next);
+        self.carry(next.from, next.to);
         self.release_if_open(marks, next.from);
         self.mark_arrived(&mut marks.run, next.to, filled);
     }

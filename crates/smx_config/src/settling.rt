@@ -36,7 +36,8 @@ pub struct Move {
 
 // Marks the place that is waited for, if there is one.
 pub fn mark_wanted(wanted: &mut PlaceMarks, next: Option<Place>)
-    ensures there { (q : PlaceValue) → next ≡ Some q → IsKnown wanted.old.drivers q.stream → has_mark wanted.new q ≡ true }
+    ensures there { (q : PlaceValue) → next ≡ Some q → IsKnown wanted.old.drivers q.stream
+        → has_mark wanted.new q ≡ true }
     ensures kept { (q : PlaceValue) → has_mark wanted.old q ≡ true → has_mark wanted.new q ≡ true }
     ensures few { (q : PlaceValue) → has_mark wanted.new q ≡ true → (has_mark wanted.old q ≡ true) ⊎ (next ≡ Some q) }
     ensures drivers { wanted.new.drivers ≡ wanted.old.drivers }
@@ -48,7 +49,8 @@ pub fn mark_wanted(wanted: &mut PlaceMarks, next: Option<Place>)
 
 // Notes for which place it waits, if its first message has a next place, and else that it doesn't wait.
 fn note_waiting(waits: &mut Waiters, from: Place, next: Option<Place>)
-    ensures there { (q : PlaceValue) → next ≡ Some q → IsKnown waits.old.drivers from.stream → target_of waits.new from ≡ Some q }
+    ensures there { (q : PlaceValue) → next ≡ Some q → IsKnown waits.old.drivers from.stream
+        → target_of waits.new from ≡ Some q }
     ensures others { (r : PlaceValue) → same_place from r ≡ false → target_of waits.new r ≡ target_of waits.old r }
     ensures drivers { waits.new.drivers ≡ waits.old.drivers }
 {
@@ -134,7 +136,8 @@ impl Tables {
         requires sound { IsSound self.old.drivers self.old.configuration }
         requires marks { AreMarks self.old.drivers self.old.configuration marks.old }
         requires ways { AreWays self.old.drivers self.old.configuration ways.old }
-        ensures value { self.new ≡ record self.old { configuration = after_settling self.old.drivers self.old.configuration } }
+        ensures value { self.new
+            ≡ record self.old { configuration = after_settling self.old.drivers self.old.configuration } }
         ensures marks { AreMarks self.new.drivers self.new.configuration marks.new }
         ensures ways { AreWays self.new.drivers self.new.configuration ways.new }
         ensures none { HasNoRunMark (has_mark marks.new.run) }

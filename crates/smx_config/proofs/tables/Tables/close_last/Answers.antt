@@ -21,8 +21,8 @@ pub returns-then-not-is_upper : goal.returns-then-not-is_upper
 returns-then-not-is_upper c =
     let old = configuration_of c.self.inside.lists in
     let sound = sound_inside c.self.inside c.args.self.now c.self.view_is c.requires.sound in
-    closes_last c.self.inside c.args.self.now c.args.process c.args.fd c.close_fd-gone.new.self c.deref-then-not-is_upper.result.now _
-    c.sweep_alone_and_reply.result c.self.view_is c.self.invariant c.close_fd-gone.ensures.rest
+    closes_last c.self.inside c.args.self.now c.args.process c.args.fd c.close_fd-gone.new.self
+    c.deref-then-not-is_upper.result.now _ c.sweep_alone_and_reply.result c.self.view_is c.self.invariant c.close_fd-gone.ensures.rest
     c.deref-then-not-is_upper.ensures.value c.sweep_alone_and_reply.ensures.value
     (c.sweep_alone_and_reply.ensures.reply old.flow sound.serials.apart
     (none_dropped old.flow c.in_ok-room.room.items c.in_ok-room.ensures.items))
@@ -41,7 +41,7 @@ pub returns : goal.returns
 returns c =
     let old = configuration_of c.self.inside.lists in
     let sound = sound_inside c.self.inside c.args.self.now c.self.view_is c.requires.sound in
-    closes_last c.self.inside c.args.self.now c.args.process c.args.fd c.close_fd-closed.new.self c.deref-2.result.now _
-    c.sweep_and_reply.result c.self.view_is c.self.invariant c.close_fd-closed.ensures.rest
+    closes_last c.self.inside c.args.self.now c.args.process c.args.fd c.close_fd-closed.new.self
+    c.deref-2.result.now _ c.sweep_and_reply.result c.self.view_is c.self.invariant c.close_fd-closed.ensures.rest
     c.deref-2.ensures.value c.sweep_and_reply.ensures.value
     (c.sweep_and_reply.ensures.reply old.flow sound.serials.apart c.in_ok-room-2.ensures.none)

@@ -27,7 +27,8 @@ on c =
     c.args.first.from c.loop-filled.at c.in-Some.open m.0 c.args.moves c.loop-filled.left c.requires.sound
     c.requires.alone m.1 c.requires.settled c.loop-filled.invariant.way
     (sym (told_none _ (sym c.loop-filled-test.true ∙ c.loop-filled.invariant.filled)))
-    (ap (next_place drivers now c.loop-filled.at) (addr_is now c.args.first.from c.args.first.addr m.0 m.1 c.requires.least.2)
+    (ap (next_place drivers now c.loop-filled.at)
+    (addr_is now c.args.first.from c.args.first.addr m.0 m.1 c.requires.least.2)
     ∙ (sym c.next_by_ways-next.ensures.value ∙ o.0)) o.1
 
 pub loop-filled-preserved : goal.loop-filled-preserved

@@ -1,6 +1,5 @@
-use Rattle.std.proofs.Common.{◌≡◌, Some}
+use Rattle.std.proofs.Common.{◌≡◌}
 use Rattle.std.specs.Option.{is_some}
-use Rattle.smx_types.specs.declared.message.Message.{Message}
 use Rattle.smx_model.specs.LoneMessages.{IsUnderWay}
 use Rattle.smx_model.specs.Queues.{first_message}
 use Rattle.smx_config.specs.Ways.{AreWays}
