@@ -1,16 +1,16 @@
 -- A message that moves alone: where it goes on, where it stays, and what is left of the marks.
-use Rattle.std.proofs.Common.{◌≡◌, Bool, true, false, ◌&&◌, not, cond, IsSome, List, Option, Some, None, refl, sym, ap}
+use Rattle.std.proofs.Common.{◌≡◌, ℕ, Bool, true, false, cond, IsSome, List, Option, Some, None, refl, sym, ap}
 use Rattle.std.proofs.Common.{◌∙◌, subst, inl, inr}
 use Rattle.std.specs.Prelude.{◌≢◌, ◌⊎◌}
 use Rattle.std.specs.Option.{is_some}
-use Rattle.std.proofs.lemmas.Bool.{cases_Bool, false_from_ne_true, false≢true, or_cases}
+use Rattle.std.proofs.lemmas.Bool.{cases_Bool, eqb-true, false_from_ne_true, false≢true, or_cases}
 use Rattle.smx_types.specs.declared.driver.DriverSpec.{DriverSpec}
 use Rattle.smx_types.specs.declared.message.Message.{Message}
 use Rattle.smx_types.specs.declared.stream.Place.{Place}
 use Rattle.smx_model.specs.Configuration.{Configuration, same_place}
 use Rattle.smx_model.specs.LoneMessages.{IsClosed, StaysAt}
 use Rattle.smx_model.specs.Queues.{first_message, is_full}
-use Rattle.smx_model.specs.RunMarks.{AreMarked, all_but, both, is_one_of, next_of_first}
+use Rattle.smx_model.specs.RunMarks.{AreMarked, all_but, both, has_addr, is_one_of, next_of_first}
 use Rattle.smx_model.specs.Settling.{◌>>=◌, next_open_place, next_place}
 use Rattle.smx_queues.specs.PlaceMarks.{has_mark}
 use Rattle.smx_queues.specs.Waiters.{target_of}
@@ -27,10 +27,10 @@ the_message drivers c p q e =
     let m = bound (first_message c.flow p)
     (λ m. next_place drivers c p m.addr >>= (λ r. cond (is_full c r) None (Some r))) q e in (m.0, m.1)
 
--- so that there is a message
-pub some_message : (drivers : List DriverSpec) (c : Configuration) (p q : Place) → next_open_place drivers c p ≡ Some q
-    → IsSome (first_message c.flow p)
-some_message drivers c p q e = rw (the_message drivers c p q e).1 refl
+-- the address that it is told to have is its own
+pub addr_is : (c : Configuration) (p : Place) (addr : ℕ) (m : Message) → first_message c.flow p ≡ Some m
+    → has_addr addr (first_message c.flow p) ≡ true → m.addr ≡ addr
+addr_is c p addr m e has = let here : has_addr addr (Some m) ≡ true = rw e at has in eqb-true m.addr addr here
 
 -- a place that is told to be open is not full
 pub opened : (c : Configuration) (next : Option Place) (r : Place) → Some r ≡ if_open c next
@@ -40,14 +40,6 @@ opened c (Some q) r e = by (is_full c q) refl e where
   by : (b : Bool) → is_full c q ≡ b → Some r ≡ cond b None (Some q) → (Some q ≡ Some r) × (is_full c r ≡ false)
   by true f h = absurd cc
   by false f h = let same : q ≡ r = cc in (sym h, subst (λ (x : Place). is_full c x ≡ false) same f)
-
--- one that is not is nowhere, or full
-pub closed : (c : Configuration) (next : Option Place) → None ≡ if_open c next → IsClosed c next
-closed c None e = tt
-closed c (Some q) e = by (is_full c q) e where
-  by : (b : Bool) → None ≡ cond b None (Some q) → b ≡ true
-  by true h = refl
-  by false h = absurd cc
 
 -- a place that is told to have a message has one
 pub told_some : (o : Option Message) → true ≡ is_some o → o ≢ None
@@ -87,15 +79,6 @@ pub record AreRested (p q : Place) (waits : Option Place) (old new : Marks) : Ty
   pub behind : waits ≡ None → (r : Place) → same_place p r ≡ false → target_of new.waits r ≡ target_of old.waits r
   pub others : (r : Place) → same_place p r ≡ false → same_place q r ≡ false
       → target_of new.waits r ≡ target_of old.waits r
-
--- no place is left with a run mark
-none_marked : (c : Configuration) (p q : Place) (waits : Option Place) (old new : Marks)
-    → ((r : Place) → has_mark old.run r ≡ true → same_place p r ≡ true) → AreRested p q waits old new
-    → (r : Place) → has_mark new.run r ≡ false
-none_marked c p q waits old new only h r = h.gone r ∙ by (has_mark old.run r) refl where
-  by : (b : Bool) → has_mark old.run r ≡ b → (b && not (same_place p r)) ≡ false
-  by true e = rw (only r e) refl
-  by false e = refl
 
 -- what was noted before is still noted, but for the message that came
 still_noted : (drivers : List DriverSpec) (c d : Configuration) (p q : Place) (m : Message) (waits : Option Place)

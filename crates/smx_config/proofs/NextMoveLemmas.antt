@@ -74,14 +74,6 @@ next_has_message drivers c p q e none = nowhere (sym (ap (next_of drivers c p) n
   nowhere : ◌≡◌ {A = Option Place} None (Some q) → ⊥
   nowhere k = cc
 
--- a place whose first message may go on to another has one
-pub open_has_message : (drivers : List DriverSpec) (c : Configuration) (p q : Place)
-    → next_open_place drivers c p ≡ Some q → first_message c.flow p ≢ None
-open_has_message drivers c p q e none = nowhere
-    (sym (open_of_next drivers c p ∙ ap (λ (o : Option Message). if_open c (next_of drivers c p o)) none) ∙ e) where
-      nowhere : ◌≡◌ {A = Option Place} None (Some q) → ⊥
-      nowhere k = cc
-
 -- ---- a run mark is cleared
 
 next_is : (o : Option Place) (q : Place) → is_one_of (λ x. same_place x q) o ≡ true → o ≡ Some q

@@ -16,13 +16,14 @@ returns-then-asks_for c = λ not_full. elim c.if-same_place.branch [
       let from = c.args.last.from in
       let least = subst (IsLeastMarked (has_mark c.args.marks.now.run))
       (place_is c.in-Some.least from (sym c.same_place.ensures ∙ w.if-same_place.true)) c.in-Some.ensures in
-      let moves = same_again drivers now from c.args.last.to c.args.addr c.requires.next
-      (sym w.asks_for.ensures ∙ (sym w.value-is ∙ c.if-asks_for.true))
+      let asks = sym w.asks_for.ensures ∙ (sym w.value-is ∙ c.if-asks_for.true) in
+      let moves = same_again drivers now from c.args.last.to c.args.last.addr c.requires.next asks
       (sym c.is_full.ensures ∙ told_not _ not_full) in (
         c.the_least_marked_is_the_least.ensures drivers now (has_mark c.args.marks.now.run)
             (has_mark c.args.marks.now.wanted) from c.requires.sound.ordered.flow c.requires.marks.waiting
             least.none_before (movable_to drivers now from c.args.last.to moves),
         moves,
+        asks,
       )
   | else-same_place w ↦ absurd (false≢true (sym w.if-same_place.false ∙ (sym w.value-is ∙ c.if-asks_for.true)))
 ]

@@ -1,4 +1,6 @@
 use Rattle.std.proofs.Common.{◌≡◌, ◌∙◌, arith, ap, refl, subst, sym}
+use Rattle.std.proofs.lemmas.Nat.{mul-lt}
+use Rattle.std.specs.Prelude.{◌^◌}
 use Rattle.smx_model.specs.Settling.{IsSettled, after_settling}
 use Rattle.smx_model.specs.SettlingByMarks.{HasNoRunMark}
 use Rattle.smx_queues.specs.PlaceMarks.{has_mark}
@@ -8,6 +10,9 @@ use Rattle.smx_config.proofs.SettleLemmas.{settled_to, within_zero}
 use Rattle.smx_config.proofs.NextMoveLemmas.{none_left}
 use Rattle.smx_config.proofs.WayLemmas.{after_rest, alike}
 use Rattle.smx_config.proofs.tables.Tables.settle.Goals as goal
+
+pub overflow_mul-left : goal.overflow_mul-left
+overflow_mul-left c = omega (arith, mul-lt _ _ (2 ^ 64) (2 ^ 64) c.len.type_inv c.len-2.type_inv)
 
 pub loop-left-preserved : goal.loop-left-preserved
 loop-left-preserved c =
