@@ -18,6 +18,7 @@ use crate::output::write_all;
 use crate::refusal::Refusal;
 use crate::running_programs::RunningPrograms;
 use crate::text_recorder::TextRecorder;
+use memchr::memmem;
 use smx_model::laws_of_hangups::reports_need_no_later_version;
 use smx_run::laws_of_runs::refusals_have_few_causes;
 use smx_run::{Gate, Report, RunFault, run_programs, run_recorded, run_recorded_together};
@@ -57,8 +58,9 @@ pub fn run_text<R: Threads + Wait + Sync, F: Feed, S: Sink, G: Gate + Sync>(
     }
 }
 
-// The text of a run of the programs that the input spells, which is kept where it is at fault. One worker has each
-// command performed as its line is read; else the text of the run is written in the room that the input had.
+// The text of a run of the programs that the input spells, which is kept where it is at fault. One worker, or whatever
+// number of them runs one process, has each command performed as its line is read; else the text of the run is written in
+// the room that the input had.
 pub(crate) fn text_for<R: Threads + Wait + Sync, G: Gate + Sync>(
     rt: &R,
     alloc: Global,
@@ -72,7 +74,7 @@ pub(crate) fn text_for<R: Threads + Wait + Sync, G: Gate + Sync>(
     ensures kept { IfErr result (λ r. (fault : TextFault) → r.fault ≡ Text fault → IsKept r.text input.items) }
     ensures given_up { IfErr result (λ r. (f : AnyFault) → r.fault ≡ Refused f → r.text ≡ None) }
 {
-    if workers == 1 && !fronts {
+    if !fronts && (workers == 1 || !has_second_process(input.as_slice())) {
         return match transcript_as_read(alloc, input.as_slice(), gate) {
             Ok(output) => Ok(output),
             Err(fault) => Err(kept_for(fault, input)),
@@ -102,6 +104,15 @@ fn kept_for(fault: MainFault, input: Vec<u8>) -> Refusal
         | MainFault::WriteFailed => None,
     };
     Refusal { fault, text }
+}
+
+// Whether the programs that the text spells may be of more than one process, each of which has a line that begins so.
+fn has_second_process(text: &[u8]) -> bool {
+    let begins = b"\nprocess ";
+    match memmem::find(text, begins) {
+        Some(at) => memmem::find(&text[at + begins.len()..], begins).is_some(),
+        None => false,
+    }
 }
 
 // The transcript of a run, on this thread alone, of the programs that the input spells. Each command is performed as
