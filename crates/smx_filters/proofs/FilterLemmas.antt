@@ -116,9 +116,9 @@ written_by_any (suc (suc more)) programs output t =
 -- and what it answers, they may answer
 pub answered_by_any : (workers : ℕ) (input : List ℕ) (answer : Result (Vec ℕ Global) MainFault)
     → Answers (running false 1) input (items_of answer) → Answers (running false workers) input (items_of answer)
-answered_by_any workers input (Ok v) a = (a.0, a.1, a.2.0, written_by_any workers a.1 v.items a.2.1)
+answered_by_any workers input (Ok v) a = (a.0, a.1, a.2, written_by_any workers a.1 v.items a.3)
 answered_by_any workers input (Err (Text f)) a = a
-answered_by_any workers input (Err (Refused f)) a = (a.0, a.1, a.2.0, (a.2.1.0, λ _. a.2.1.1 (inl arith)))
+answered_by_any workers input (Err (Refused f)) a = (a.0, a.1, a.2, (a.3.0, λ _. a.3.1 (inl (omega arith))))
 answered_by_any workers input (Err TooLong) a = a
 answered_by_any workers input (Err ReadFailed) a = a
 answered_by_any workers input (Err WriteFailed) a = a
