@@ -15,6 +15,7 @@ mod stage;
 mod sweeps;
 mod systems;
 mod told;
+mod three_seats;
 mod tried_again;
 mod verdicts;
 mod worked;
