@@ -1,6 +1,6 @@
 use Rattle.std.proofs.Common.{◌≡◌, ◌++◌, drop}
 use Rattle.smx_draw.specs.DotQueues.{queues_from}
-use Rattle.smx_draw.proofs.dot.queues.queues_from.Given as goal
+use Rattle.smx_draw.proofs.dot.dot_queues.queues_from.Given as goal
 
 abbrev pub invariant-loop-message : goal.invariant-loop-message
 invariant-loop-message l =
