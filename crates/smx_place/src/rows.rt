@@ -329,7 +329,8 @@ fn other(version: Version, choice: Choice, word: &[u8]) -> Option<FoundRow>
 fn command(version: Version, word: &[u8]) -> Option<FoundRow>
     ensures { MatchOption result
         ((values : List AnyValue) → IsFixed version AnyChoice.Command word.now values AnyChoice.Equals → ⊥)
-        (λ row. IsFixed version AnyChoice.Command word.now row.values.now AnyChoice.Equals × (row.next ≡ AnyChoice.End)) }
+        (λ row. IsFixed version AnyChoice.Command word.now row.values.now AnyChoice.Equals
+        × (row.next ≡ AnyChoice.End)) }
 {
     match fixed(version, Choice::Command, word) {
         Some(FoundRow { values, .. }) => Some(FoundRow {
