@@ -354,7 +354,12 @@ fn chosen(version: Version, choice: Choice, word: &[u8]) -> Option<FoundRow>
 }
 
 /// How a line goes on behind a word, where these values are wanted and then something is chosen.
-pub fn go_on(version: Version, values: &'static [Value], next: Choice, word: &[u8]) -> Option<FoundRow>
+pub fn go_on(
+    version: Version,
+    values: &'static [Value],
+    next: Choice,
+    word: &[u8],
+) -> Option<FoundRow>
     ensures { MatchOption result
         ((more : List AnyValue) (then : AnyChoice) → GoesOn version values.now next word.now more then → ⊥)
         (λ row. GoesOn version values.now next word.now row.values.now row.next) }

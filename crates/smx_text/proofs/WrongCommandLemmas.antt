@@ -220,17 +220,19 @@ sides_turned = wrong_verb verb.Flush (codes "0" ∷ codes "wr" ∷ []) (search r
 
 -- the digits of bytes are small letters
 pub capital_digits : AreWrongPrograms (with_line_4 (codes "write 0 5 AA")) 4 cause.Form
-capital_digits = wrong_verb verb.Write (codes "0" ∷ codes "5" ∷ codes "AA" ∷ []) (search rules) (search rules) refl none where
-  none : IsNone verb.Write (codes "0" ∷ codes "5" ∷ codes "AA" ∷ [])
-  none (command.Write n m bs) fits v e = no_capital_digits bs fits.2 (cc e)
-  none c fits v e = absurd (cc v)
+capital_digits =
+    wrong_verb verb.Write (codes "0" ∷ codes "5" ∷ codes "AA" ∷ []) (search rules) (search rules) refl none where
+      none : IsNone verb.Write (codes "0" ∷ codes "5" ∷ codes "AA" ∷ [])
+      none (command.Write n m bs) fits v e = no_capital_digits bs fits.2 (cc e)
+      none c fits v e = absurd (cc v)
 
 -- each byte has two digits
 pub odd_digits : AreWrongPrograms (with_line_4 (codes "write 0 5 aab")) 4 cause.Form
-odd_digits = wrong_verb verb.Write (codes "0" ∷ codes "5" ∷ codes "aab" ∷ []) (search rules) (search rules) refl none where
-  none : IsNone verb.Write (codes "0" ∷ codes "5" ∷ codes "aab" ∷ [])
-  none (command.Write n m bs) fits v e = no_odd_digits bs fits.2 (cc e)
-  none c fits v e = absurd (cc v)
+odd_digits =
+    wrong_verb verb.Write (codes "0" ∷ codes "5" ∷ codes "aab" ∷ []) (search rules) (search rules) refl none where
+      none : IsNone verb.Write (codes "0" ∷ codes "5" ∷ codes "aab" ∷ [])
+      none (command.Write n m bs) fits v e = no_odd_digits bs fits.2 (cc e)
+      none c fits v e = absurd (cc v)
 
 -- `write` has a word for its bytes even where there are none
 pub bytes_wanting : AreWrongPrograms (with_line_4 (codes "write 0 5")) 4 cause.Form
