@@ -113,11 +113,12 @@ one_difference one other n m told has told_too has_too h k =
     (sym h.begin.other_is ∙ k.begin.other_is) in
     (omega (arith, h.counted, k.counted, t.0), t.1, t.2)
 
--- a text does not differ from itself
+-- behind the same front the same rest stands
 same_rest : (xs ys zs : List ℕ) → xs ++ ys ≡ xs ++ zs → ys ≡ zs
 same_rest [] ys zs e = e
 same_rest (x ∷ xs) ys zs e = let more : xs ++ ys ≡ xs ++ zs = cc in same_rest xs ys zs more
 
+-- a text does not differ from itself
 pub no_difference : (one other : List ℕ) (n : ℕ) (told has : List ℕ) → IsFirstDifference one other n told has
     → one ≡ other → ⊥
 no_difference one other n told has h same =

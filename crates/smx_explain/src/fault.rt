@@ -64,7 +64,10 @@ impl fmt::Display for FaultExplanation<'_> {
         write_cut(f, line)?;
         f.write_str("\n")?;
         match self.place(line) {
-            Some(LinePlace { column, wanted }) => writeln!(f, "column {column}: {wanted} is wanted"),
+            Some(LinePlace { column, wanted }) => writeln!(
+                f,
+                "column {column}: {wanted} is wanted"
+            ),
             None => writeln!(f, "{}", self.reason(line)),
         }
     }

@@ -168,7 +168,8 @@ module _ (version : Version) where
       (command.Flush is_a.0 is_b.0, (is_a.1, tells version), cc (is.0, are, is_a.2, is_b.2))
   of_row word values next args
       (inr (inr (inr (inr (inr (inr (inr (inr (inr (inr (inr (inr (inr (inr (inr (inr (inl is))))))))))))))))) takes =
-      let (((a, is_a), ((b, is_b), ((c, is_c), ((d, is_d), end)))), are) = given (Name ∷ Number ∷ Number ∷ Bytes ∷ []) args is.1 takes in (
+      let (((a, is_a), ((b, is_b), ((c, is_c), ((d, is_d), end)))), are) =
+      given (Name ∷ Number ∷ Number ∷ Bytes ∷ []) args is.1 takes in (
         command.Inject a is_b.0 is_c.0 is_d.0,
         ((is_a, is_b.1, is_c.1, is_d.1), tells version),
         cc (is.0, are, is_b.2, is_c.2, is_d.2),

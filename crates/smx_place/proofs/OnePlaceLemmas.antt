@@ -89,6 +89,7 @@ module _ (kind : TextKind) (version : Version) where
       stops (behind, subst (IsLine kind version) (sym (append_assoc front (word ∷ []) behind)) is)
 
   module _ (line : List ℕ) where
+    -- a line that stops somewhere is not whole
     pub not_both : (place : LinePlace) → IsPlace kind version line place → IsWhole kind version line → ⊥
     not_both place h (parts, are, is) =
         stops_whole h.front h.behind h.stops
@@ -105,9 +106,11 @@ module _ (kind : TextKind) (version : Version) where
             | inr (inr goes) ↦ absurd (stops_all k.front k.behind h.front k.stops h.begun goes)
           ]
 
+      -- they are in one column
       pub same_column : one.column ≡ other.column
       same_column = h.column ∙ ap (λ (front : List (List ℕ)). length (spaced front) + 1) same_front ∙ sym k.column
 
+      -- the same words are wanted there
       pub same_words : (word : List ℕ) → IsWanted version one.wanted word ↔ IsWanted version other.wanted word
       same_words word = (
         λ is. (k.wanted word).0
@@ -118,6 +121,7 @@ module _ (kind : TextKind) (version : Version) where
             ((k.wanted word).1 is)),
       )
 
+      -- and a line may end at both or at neither
       pub same_ends : EndsThere one.wanted ↔ EndsThere other.wanted
       same_ends = (
         λ is. k.ends.0 (subst (IsLine kind version) same_front (h.ends.1 is)),

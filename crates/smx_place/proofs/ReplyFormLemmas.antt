@@ -65,6 +65,7 @@ module _ (version : Version) where
   serials_spelled (n ∷ ns) all =
       ([], Serials, inr (number n all.0, refl, refl), serials_spelled ns all.1)
 
+  -- each reply that a version can tell is spelled so
   pub reply_spelled : (r : AnyReply) → FitsReplyIn version r → Spells version [] Reply (reply_words r)
   reply_spelled (reply.Fd fd minor) (fits, told) =
       from_row version Reply (codes "fd") (Number ∷ Number ∷ []) End (decimal fd ∷ decimal minor ∷ []) [] (search rules)
@@ -235,6 +236,7 @@ module _ (version : Version) where
   reply_row word values next words (inr (inr (inr (inr (inr (inr (inr (inr (inr (inr (inr (inr is)))))))))))) h =
       absurd is
 
+-- and what is spelled so is a reply of that version
 pub of_reply : (version : Version) (words : List (List ℕ)) → Spells version [] Reply words → IsReply version words
 of_reply version [] h = absurd h
 of_reply V1 (word ∷ words) (values, next, inl is, h) = reply_row V1 word values next words is h

@@ -15,7 +15,8 @@ words_of [] ws = []
 words_of (value ∷ values) ws = ws.0.0 ∷ words_of values ws.1
 
 -- words for the values are a word for each
-each : (values : List Value) (args : List (List ℕ)) → Takes values args → (ws : Words values) × (args ≡ words_of values ws)
+each : (values : List Value) (args : List (List ℕ)) → Takes values args
+    → (ws : Words values) × (args ≡ words_of values ws)
 each [] [] takes = (tt, refl)
 each [] (arg ∷ args) takes = absurd takes
 each (value ∷ values) [] takes = absurd takes

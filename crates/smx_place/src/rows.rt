@@ -329,7 +329,8 @@ fn other(version: Version, choice: Choice, word: &[u8]) -> Option<FoundRow>
 fn command(version: Version, word: &[u8]) -> Option<FoundRow>
     ensures { MatchOption result
         ((values : List AnyValue) → IsFixed version AnyChoice.Command word.now values AnyChoice.Equals → ⊥)
-        (λ row. IsFixed version AnyChoice.Command word.now row.values.now AnyChoice.Equals × (row.next ≡ AnyChoice.End)) }
+        (λ row. IsFixed version AnyChoice.Command word.now row.values.now AnyChoice.Equals
+        × (row.next ≡ AnyChoice.End)) }
 {
     match fixed(version, Choice::Command, word) {
         Some(FoundRow { values, .. }) => Some(FoundRow {
@@ -353,7 +354,12 @@ fn chosen(version: Version, choice: Choice, word: &[u8]) -> Option<FoundRow>
 }
 
 /// How a line goes on behind a word, where these values are wanted and then something is chosen.
-pub fn go_on(version: Version, values: &'static [Value], next: Choice, word: &[u8]) -> Option<FoundRow>
+pub fn go_on(
+    version: Version,
+    values: &'static [Value],
+    next: Choice,
+    word: &[u8],
+) -> Option<FoundRow>
     ensures { MatchOption result
         ((more : List AnyValue) (then : AnyChoice) → GoesOn version values.now next word.now more then → ⊥)
         (λ row. GoesOn version values.now next word.now row.values.now row.next) }

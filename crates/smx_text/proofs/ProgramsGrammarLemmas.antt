@@ -79,7 +79,8 @@ tells_apart version k l fits also same =
 -- what is answered to a line that was read is answered to its text
 pub answers_line : {A : Type 0} (version : Version) (lines longer : List Line) (k : Line) (text : List ℕ)
     → FitsLine version k × (text ≡ line_text (programs_grammar version) k) → (r : Result A Cause)
-    → AnswersLine (programs_grammar version) lines k longer r → AnswersText (programs_grammar version) lines text longer r
+    → AnswersLine (programs_grammar version) lines k longer r
+    → AnswersText (programs_grammar version) lines text longer r
 answers_line version = answers (programs_grammar version) (tells_apart version)
 
 -- the cause for which a line may not follow is one for which its text is refused

@@ -209,8 +209,8 @@ versions = record { made = well_made; differ = differ (codes "transcript 1") (co
 -- ---- what is done with a line that was read is done with its text
 
 -- what is answered to a line that was read is answered to its text
-pub answers_line : {A : Type 0} (version : Version) (ls longer : List TranscriptLine) (k : TranscriptLine) (text : List ℕ)
-    → FitsLine version k × (text ≡ line_text (transcript_grammar version) k) → (r : Result A Cause)
+pub answers_line : {A : Type 0} (version : Version) (ls longer : List TranscriptLine) (k : TranscriptLine)
+    (text : List ℕ) → FitsLine version k × (text ≡ line_text (transcript_grammar version) k) → (r : Result A Cause)
     → AnswersLine (transcript_grammar version) ls k longer r → AnswersText (transcript_grammar version) ls text longer r
 answers_line version = answers (transcript_grammar version) (tells_apart version)
 

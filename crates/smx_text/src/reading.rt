@@ -51,8 +51,8 @@ pub trait Draft: Drop {
     fn add(&mut self, alloc: Global, text: &[u8]) -> Result<(), Cause>
         requires begun { IsBegun (grammar (version_of self.old)) (lines self.old) }
         requires other { text.now ≢ codes "end" }
-        ensures answers {
-            AnswersText (grammar (version_of self.old)) (lines self.old) text.now (lines self.new) result }
+        ensures answers { AnswersText (grammar (version_of self.old)) (lines self.old) text.now
+            (lines self.new) result }
         ensures version { OnOk result (version_of self.new ≡ version_of self.old) };
 
     // What is made of what the lines say, if a text may end behind them.

@@ -58,7 +58,8 @@ apart : (a b : Command) → eqb (number_of a) (number_of b) ≡ false → of_com
 apart a b other says = (λ h. absurd (cc (h, says)), λ e. absurd (differs e)) where
   differs : a ≡ b → ⊥
   differs e =
-      let same : eqb (number_of a) (number_of a) ≡ false = ap (λ (x : Command). eqb (number_of a) (number_of x)) e ∙ other in
+      let same : eqb (number_of a) (number_of a) ≡ false =
+      ap (λ (x : Command). eqb (number_of a) (number_of x)) e ∙ other in
       grind (arith, nat_tests)
 
 -- a search for each kind of command, since all of them at once are too many for one

@@ -85,7 +85,8 @@ command_has_words = record {
 
 reply_answer : (ws : List (List ℕ)) → Answer FitsReply reply_words ws
 reply_answer ws =
-    or_else (after (codes "fd") refl (first number (last number))) (λ p. reply.Fd p.0 p.1) (λ p h. h) (λ p. refl) (λ no_fd.
+    or_else (after (codes "fd") refl (first number (last number))) (λ p. reply.Fd p.0 p.1) (λ p h. h)
+    (λ p. refl) (λ no_fd.
     or_else (after (codes "id") refl (last number)) reply.Id (λ p h. h) (λ p. refl) (λ no_id.
     or_else (after (codes "took") refl (last number)) reply.Took (λ p h. h) (λ p. refl) (λ no_took.
     or_else (after (codes "got") refl (first number (first number (last bytes)))) (λ p. reply.Got p.0 p.1.0 p.1.1)
@@ -119,13 +120,13 @@ entry_has_words = via (first process (joined (codes "=") refl command_has_words 
     (λ p h. record { process = h.0; command = h.1.0; reply = h.1.1 })
     (λ e h. (h.process, (h.command, h.reply)))
     (λ p. refl) (λ e. refl) where
-  other : (ws : List (List ℕ)) → AllByRecursion (IsFree EQUALS) ws → AllByRecursion (λ w. w ≢ codes "=") ws
-  other [] h = tt
-  other (w ∷ ws) h = (λ e. (subst (IsFree EQUALS) e h.0).0 refl, other ws h.1)
+      other : (ws : List (List ℕ)) → AllByRecursion (IsFree EQUALS) ws → AllByRecursion (λ w. w ≢ codes "=") ws
+      other [] h = tt
+      other (w ∷ ws) h = (λ e. (subst (IsFree EQUALS) e h.0).0 refl, other ws h.1)
 
-  -- no word of a command is the sign
-  no_sign : (c : Command) → FitsCommand c → AllByRecursion (λ w. w ≢ codes "=") (command_words c)
-  no_sign c h = other (command_words c) (plain_words_free (command_words c) (command_plain c h))
+      -- no word of a command is the sign
+      no_sign : (c : Command) → FitsCommand c → AllByRecursion (λ w. w ≢ codes "=") (command_words c)
+      no_sign c h = other (command_words c) (plain_words_free (command_words c) (command_plain c h))
 
 -- ---- so each line has a reading
 

@@ -1,7 +1,7 @@
 -- Words of some values: none is of two of them, and whether words are of one is told for words, for words in order, and
 -- for the line of words.
-use Rattle.std.proofs.Common.{◌≡◌, ◌≢◌, ℕ, ◌<◌, ◌≤◌, Bool, true, false, ◌&&◌, List, [], ◌∷◌, ◌++◌, length, map, Option, Some}
-use Rattle.std.proofs.Common.{None, refl, sym, ap, subst, ◌∙◌, arith, inl, inr, eqb, ltb}
+use Rattle.std.proofs.Common.{◌≡◌, ◌≢◌, ℕ, ◌<◌, ◌≤◌, Bool, true, false, ◌&&◌, List, [], ◌∷◌, ◌++◌, length, map}
+use Rattle.std.proofs.Common.{Option, Some, None, refl, sym, ap, subst, ◌∙◌, arith, inl, inr}
 use Rattle.std.specs.Prelude.{◌⊎◌, nat_le}
 use Rattle.std.specs.List.{AllByRecursion, list_all}
 use Rattle.std.specs.Str.{bytes_eq}
@@ -212,10 +212,10 @@ joined {X} {Y} {Fits} {words} {FitsMore} {more} sign is d free m = record {
         | inl x ↦ elim (m.answer b) [
           | inl y ↦ let one = x.2 in let two = y.2 in inl ((x.0, y.0), (x.1, y.1), cc (whole, one, two))
           | inr none ↦ inr (λ p fits e.
-          none p.1 fits.1 (alone a (words p.0) b (more p.1) clear (free p.0 fits.0) (sym whole ∙ e)).1)
+              none p.1 fits.1 (alone a (words p.0) b (more p.1) clear (free p.0 fits.0) (sym whole ∙ e)).1)
         ]
         | inr none ↦ inr (λ p fits e.
-        none p.0 fits.0 (alone a (words p.0) b (more p.1) clear (free p.0 fits.0) (sym whole ∙ e)).0)
+            none p.0 fits.0 (alone a (words p.0) b (more p.1) clear (free p.0 fits.0) (sym whole ∙ e)).0)
       ]
 
   and_more : (ws vs : List (List ℕ)) → AllByRecursion IsWord ws → AllByRecursion IsWord vs

@@ -75,15 +75,18 @@ full_spelled x fits = (full_has_words.are_words x fits, omega arith)
 -- ---- lines tell values apart
 
 -- no two commands have one line
-pub one_command : (x y : Command) → FitsCommand x → FitsCommand y → line_of (command_words x) ≡ line_of (command_words y) → x ≡ y
+pub one_command : (x y : Command) → FitsCommand x → FitsCommand y
+    → line_of (command_words x) ≡ line_of (command_words y) → x ≡ y
 one_command = one_line command_has_words
 
 -- no two drivers have one line
-pub one_driver : (x y : DriverSpec) → FitsDriver x → FitsDriver y → line_of (driver_words x) ≡ line_of (driver_words y) → x ≡ y
+pub one_driver : (x y : DriverSpec) → FitsDriver x → FitsDriver y
+    → line_of (driver_words x) ≡ line_of (driver_words y) → x ≡ y
 one_driver = one_line driver_has_words
 
 -- no two processes begin with one line
-pub one_process : (x y : ℕ) → FitsNumber x → FitsNumber y → line_of (process_words x) ≡ line_of (process_words y) → x ≡ y
+pub one_process : (x y : ℕ) → FitsNumber x → FitsNumber y
+    → line_of (process_words x) ≡ line_of (process_words y) → x ≡ y
 one_process = one_line process_has_words
 
 -- no two next ids and serials have one line
@@ -95,7 +98,8 @@ pub one_entry : (x y : Entry) → FitsEntry x → FitsEntry y → line_of (entry
 one_entry = one_line entry_has_words
 
 -- no two open descriptors have one line
-pub one_descriptor : (x y : DescriptorLine) → FitsDescriptor x → FitsDescriptor y → line_of (descriptor_words x) ≡ line_of (descriptor_words y) → x ≡ y
+pub one_descriptor : (x y : DescriptorLine) → FitsDescriptor x → FitsDescriptor y
+    → line_of (descriptor_words x) ≡ line_of (descriptor_words y) → x ≡ y
 one_descriptor = one_line descriptor_has_words
 
 -- no two links have one line
@@ -103,15 +107,18 @@ pub one_link : (x y : LinkLine) → FitsLink x → FitsLink y → line_of (link_
 one_link = one_line link_has_words
 
 -- no two bindings have one line
-pub one_bind : (x y : BindingLine) → FitsBinding x → FitsBinding y → line_of (bind_words x) ≡ line_of (bind_words y) → x ≡ y
+pub one_bind : (x y : BindingLine) → FitsBinding x → FitsBinding y
+    → line_of (bind_words x) ≡ line_of (bind_words y) → x ≡ y
 one_bind = one_line bind_has_words
 
 -- no two routes have one line
-pub one_route : (x y : RouteLine) → FitsRoute x → FitsRoute y → line_of (route_words x) ≡ line_of (route_words y) → x ≡ y
+pub one_route : (x y : RouteLine) → FitsRoute x → FitsRoute y
+    → line_of (route_words x) ≡ line_of (route_words y) → x ≡ y
 one_route = one_line route_has_words
 
 -- no two queued messages have one line
-pub one_message : (x y : MessageLine) → FitsMessage x → FitsMessage y → line_of (message_words x) ≡ line_of (message_words y) → x ≡ y
+pub one_message : (x y : MessageLine) → FitsMessage x → FitsMessage y
+    → line_of (message_words x) ≡ line_of (message_words y) → x ≡ y
 one_message = one_line message_has_words
 
 -- no two hung-up streams have one line

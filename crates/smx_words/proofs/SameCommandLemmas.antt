@@ -111,19 +111,22 @@ by_verb (command.Bind n m) (command.Bind n' m') h k v e =
 by_verb (command.Unbind n) (command.Unbind n') h k v e = ap command.Unbind (number.one n n' h k (cc e))
 by_verb (command.Route n m j) (command.Route n' m' j') h k v e =
     ap (λ (p : ℕ × (ℕ × ℕ)). command.Route p.0 p.1.0 p.1.1)
-    ((first number (first number (last number))).one (n, (m, j)) (n', (m', j')) (h.0, (h.1, h.2)) (k.0, (k.1, k.2)) (cc e))
+    ((first number (first number (last number))).one (n, (m, j)) (n', (m', j'))
+    (h.0, (h.1, h.2)) (k.0, (k.1, k.2)) (cc e))
 by_verb (command.Unroute n m) (command.Unroute n' m') h k v e =
     ap (λ (p : ℕ × ℕ). command.Unroute p.0 p.1) ((first number (last number)).one (n, m) (n', m') h k (cc e))
 by_verb (command.Write n m bs) (command.Write n' m' bs') h k v e =
     ap (λ (p : ℕ × (ℕ × List ℕ)). command.Write p.0 p.1.0 p.1.1)
-    ((first number (first number (last bytes))).one (n, (m, bs)) (n', (m', bs')) (h.0, (h.1, h.2)) (k.0, (k.1, k.2)) (cc e))
+    ((first number (first number (last bytes))).one (n, (m, bs)) (n', (m', bs'))
+    (h.0, (h.1, h.2)) (k.0, (k.1, k.2)) (cc e))
 by_verb (command.Read n) (command.Read n') h k v e = ap command.Read (number.one n n' h k (cc e))
 by_verb (command.Flush n s) (command.Flush n' s') h k v e =
     ap (λ (p : ℕ × Sides). command.Flush p.0 p.1)
     ((first number (last flush_sides)).one (n, s) (n', s') (h, tt) (k, tt) (cc e))
 by_verb (command.Inject d n m bs) (command.Inject d' n' m' bs') h k v e =
     ap (λ (p : List ℕ × (ℕ × (ℕ × List ℕ))). command.Inject p.0 p.1.0 p.1.1.0 p.1.1.1)
-    ((first name (first number (first number (last bytes)))).one (d, (n, (m, bs))) (d', (n', (m', bs'))) (h.0, (h.1, (h.2, h.3)))
+    ((first name (first number (first number (last bytes)))).one (d, (n, (m, bs))) (d', (n', (m', bs')))
+    (h.0, (h.1, (h.2, h.3)))
     (k.0, (k.1, (k.2, k.3))) (cc e))
 by_verb (command.Transmit d n) (command.Transmit d' n') h k v e =
     ap (λ (p : List ℕ × ℕ). command.Transmit p.0 p.1) ((first name (last number)).one (d, n) (d', n') h k (cc e))

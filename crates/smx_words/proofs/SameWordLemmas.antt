@@ -68,8 +68,8 @@ few {X} same tells spelling all found s = by_first (first_of_these same spelling
   by_first (Some x) e = inl (x, tt, spelled all x e)
   by_first None e = inr (λ x fits is.
       absurd (none_some x (sym e ∙ ap (first_of_these same spelling all) is ∙ found x))) where
-    none_some : (x : X) → None ≡ Some x → ⊥
-    none_some x bad = absurd (cc bad)
+        none_some : (x : X) → None ≡ Some x → ⊥
+        none_some x bad = absurd (cc bad)
 
 -- values of few that have a word each
 word_of_few : {X : Type 0} (word : X → List ℕ) (all : List X)
@@ -119,10 +119,11 @@ stream_side = word_of_few side_word (side.Write ∷ side.Read ∷ []) found is_w
 pub flush_sides : HasWord FitsAlways sides_word
 flush_sides = word_of_few sides_word (sides.R ∷ sides.W ∷ sides.RW ∷ []) found
     (λ s. plain_word (sides_word s) (sides_plain s)) where
-  found : (s : Sides) → first_of_these bytes_eq sides_word (sides.R ∷ sides.W ∷ sides.RW ∷ []) (sides_word s) ≡ Some s
-  found sides.R = refl
-  found sides.W = refl
-  found sides.RW = refl
+      found : (s : Sides)
+          → first_of_these bytes_eq sides_word (sides.R ∷ sides.W ∷ sides.RW ∷ []) (sides_word s) ≡ Some s
+      found sides.R = refl
+      found sides.W = refl
+      found sides.RW = refl
 
 abbrev all_verb : List Verb
 all_verb =

@@ -103,8 +103,8 @@ impl<P: ProgramTaker> ProgramsDraft<P> {
         requires no_command { (c : AnyCommand) → FitsCommandIn self.old.version c
             → text.now ≢ line_of (command_words c) }
         requires no_end { text.now ≢ codes "end" }
-        ensures answers {
-            AnswersText (programs_grammar self.old.version) (body self.old) text.now (body self.new) result }
+        ensures answers { AnswersText (programs_grammar self.old.version) (body self.old) text.now
+            (body self.new) result }
         ensures version { OnOk result (self.new.version ≡ self.old.version) }
     {
         if let Some(driver) = driver_of(text) {
@@ -120,8 +120,8 @@ impl<P: ProgramTaker> ProgramsDraft<P> {
     fn add_driver(&mut self, driver: DriverSpec) -> Result<(), Cause>
         requires begun { IsBegun (programs_grammar self.old.version) (body self.old) }
         requires fits { FitsDriver driver }
-        ensures answers {
-            AnswersLine (programs_grammar self.old.version) (body self.old) (DriverLine driver) (body self.new) result }
+        ensures answers { AnswersLine (programs_grammar self.old.version) (body self.old) (DriverLine driver)
+            (body self.new) result }
         ensures version { OnOk result (self.new.version ≡ self.old.version) }
     {
         if self.programs > 0 {
@@ -138,8 +138,8 @@ impl<P: ProgramTaker> ProgramsDraft<P> {
     // Processes are numbered from 0 on, in order.
     fn add_process(&mut self, alloc: Global, number: u32) -> Result<(), Cause>
         requires begun { IsBegun (programs_grammar self.old.version) (body self.old) }
-        ensures answers {
-            AnswersLine (programs_grammar self.old.version) (body self.old) (ProcessLine number) (body self.new) result }
+        ensures answers { AnswersLine (programs_grammar self.old.version) (body self.old) (ProcessLine number)
+            (body self.new) result }
         ensures version { OnOk result (self.new.version ≡ self.old.version) }
     {
         if number as usize != self.programs {
@@ -159,8 +159,8 @@ impl<P: ProgramTaker> ProgramsDraft<P> {
         requires some { 0 < length self.old.programs }
         requires few { sum_by length self.old.programs < MAX_COMMANDS }
         requires no_end { text.now ≢ codes "end" }
-        ensures answers {
-            AnswersText (programs_grammar self.old.version) (body self.old) text.now (body self.new) result }
+        ensures answers { AnswersText (programs_grammar self.old.version) (body self.old) text.now
+            (body self.new) result }
         ensures version { OnOk result (self.new.version ≡ self.old.version) }
     {
         match self.taker.add_command(alloc, text) {
@@ -179,8 +179,8 @@ impl<P: ProgramTaker> ProgramsDraft<P> {
         requires none { (c : AnyCommand)
             → RefusesLine (programs_grammar self.old.version) (body self.old) (CommandLine c) cause }
         requires no_end { text.now ≢ codes "end" }
-        ensures answers {
-            AnswersText (programs_grammar self.old.version) (body self.old) text.now (body self.new) result }
+        ensures answers { AnswersText (programs_grammar self.old.version) (body self.old) text.now
+            (body self.new) result }
         ensures version { OnOk result (self.new.version ≡ self.old.version) }
     {
         match command_of(alloc, self.version, text) {

@@ -128,8 +128,8 @@ impl TranscriptDraft {
         requires no_entry { (e : AnyEntry) → FitsEntryIn self.old.transcript.version e
             → text.now ≢ line_of (entry_words e) }
         requires no_end { text.now ≢ line_text (grammar_of self.old) End }
-        ensures answers {
-            AnswersText (grammar_of self.old) (lines self.old) text.now (lines self.new) result }
+        ensures answers { AnswersText (grammar_of self.old) (lines self.old) text.now
+            (lines self.new) result }
         ensures version { OnOk result (self.new.transcript.version ≡ self.old.transcript.version) }
     {
         match message_of(alloc, text) {
@@ -146,8 +146,8 @@ impl TranscriptDraft {
             → text.now ≢ line_of (entry_words e) }
         requires no_message { (m : AnyMessage) → FitsMessage m → text.now ≢ line_of (message_words m) }
         requires no_end { text.now ≢ line_text (grammar_of self.old) End }
-        ensures answers {
-            AnswersText (grammar_of self.old) (lines self.old) text.now (lines self.new) result }
+        ensures answers { AnswersText (grammar_of self.old) (lines self.old) text.now
+            (lines self.new) result }
         ensures version { OnOk result (self.new.transcript.version ≡ self.old.transcript.version) }
     {
         if let Some(driver) = driver_of(text) {
@@ -166,8 +166,8 @@ impl TranscriptDraft {
     fn add_driver(&mut self, driver: DriverSpec) -> Result<(), Cause>
         requires begun { IsBegun (grammar_of self.old) (lines self.old) }
         requires fits { FitsDriver driver }
-        ensures answers {
-            AnswersLine (grammar_of self.old) (lines self.old) (DriverLine driver) (lines self.new) result }
+        ensures answers { AnswersLine (grammar_of self.old) (lines self.old) (DriverLine driver)
+            (lines self.new) result }
         ensures version { OnOk result (self.new.transcript.version ≡ self.old.transcript.version) }
     {
         if self.stage != Stage::History || !self.transcript.entries.as_slice().is_empty() {
@@ -183,8 +183,8 @@ impl TranscriptDraft {
     // The configuration comes behind the entries.
     fn add_config(&mut self) -> Result<(), Cause>
         requires begun { IsBegun (grammar_of self.old) (lines self.old) }
-        ensures answers {
-            AnswersLine (grammar_of self.old) (lines self.old) ConfigLine (lines self.new) result }
+        ensures answers { AnswersLine (grammar_of self.old) (lines self.old) ConfigLine
+            (lines self.new) result }
         ensures version { OnOk result (self.new.transcript.version ≡ self.old.transcript.version) }
     {
         if self.stage != Stage::History {
@@ -197,8 +197,8 @@ impl TranscriptDraft {
     // The view begins with what comes next.
     fn add_next(&mut self, alloc: Global, next_id: u32, next_serial: u32) -> Result<(), Cause>
         requires begun { IsBegun (grammar_of self.old) (lines self.old) }
-        ensures answers {
-            AnswersLine (grammar_of self.old) (lines self.old) (NextLine next_id next_serial) (lines self.new) result }
+        ensures answers { AnswersLine (grammar_of self.old) (lines self.old) (NextLine next_id next_serial)
+            (lines self.new) result }
         ensures version { OnOk result (self.new.transcript.version ≡ self.old.transcript.version) }
     {
         if self.stage != Stage::Config {

@@ -18,8 +18,8 @@ impl TranscriptDraft {
     pub fn add_entry(&mut self, entry: Entry) -> Result<(), Cause>
         requires begun { IsBegun (grammar_of self.old) (lines self.old) }
         requires fits { FitsEntryIn self.old.transcript.version entry }
-        ensures answers {
-            AnswersLine (grammar_of self.old) (lines self.old) (EntryLine entry) (lines self.new) result }
+        ensures answers { AnswersLine (grammar_of self.old) (lines self.old) (EntryLine entry)
+            (lines self.new) result }
         ensures version { OnOk result (self.new.transcript.version ≡ self.old.transcript.version) }
     {
         self.room_for_entry()?;

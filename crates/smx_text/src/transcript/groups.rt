@@ -42,8 +42,8 @@ impl TranscriptDraft {
         requires no_config { text.now ≢ line_text (grammar_of self.old) ConfigLine }
         requires no_next { (n : ℕ × ℕ) → FitsNext n → text.now ≢ line_of (next_words n) }
         requires no_end { text.now ≢ line_text (grammar_of self.old) End }
-        ensures answers {
-            AnswersText (grammar_of self.old) (lines self.old) text.now (lines self.new) result }
+        ensures answers { AnswersText (grammar_of self.old) (lines self.old) text.now
+            (lines self.new) result }
         ensures version { OnOk result (self.new.transcript.version ≡ self.old.transcript.version) }
     {
         if let Some(fd) = descriptor_of(text) {
@@ -70,8 +70,8 @@ impl TranscriptDraft {
     pub fn add_message(&mut self, message: MessageLine) -> Result<(), Cause>
         requires begun { IsBegun (grammar_of self.old) (lines self.old) }
         requires fits { FitsMessage message }
-        ensures answers {
-            AnswersLine (grammar_of self.old) (lines self.old) (MsgLine message) (lines self.new) result }
+        ensures answers { AnswersLine (grammar_of self.old) (lines self.old) (MsgLine message)
+            (lines self.new) result }
         ensures version { OnOk result (self.new.transcript.version ≡ self.old.transcript.version) }
     {
         push_if(self.takes_msgs(), &mut self.transcript.view.msgs, message)

@@ -1,6 +1,7 @@
 //! The words of a command.
 
-ghost use Rattle.std.specs.Prelude.{◌≡◌, ◌≢◌, ◌∷◌, ◌++◌, [], ℕ, List, None, codes, IsTrue, ◌↔◌, IfOk, IfErr, OnErr, OnOk};
+ghost use Rattle.std.specs.Prelude.{◌≡◌, ◌≢◌, ◌∷◌, ◌++◌, [], ℕ, List, None, codes};
+ghost use Rattle.std.specs.Prelude.{IsTrue, ◌↔◌, IfOk, IfErr, OnErr, OnOk};
 ghost use Rattle.smx_types.specs.declared.version.Version.{Version as AnyVersion};
 ghost use Rattle.smx_types.specs.declared.version.Version.TheVariants.{V1};
 ghost use Rattle.smx_words.specs.LineReading.{IsReadAs, IsCommandLine};
