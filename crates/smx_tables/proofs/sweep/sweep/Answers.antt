@@ -1,6 +1,6 @@
-use Rattle.std.proofs.Common.{ap, sym, subst, ◌∙◌, arith}
+use Rattle.std.proofs.Common.{ap, sym, subst, ◌∙◌}
 use Rattle.std.specs.List.{list_all}
-use Rattle.std.specs.Prelude.{vec_capacity, length}
+use Rattle.std.specs.Prelude.{length}
 use Rattle.smx_model.specs.Configuration.{Configuration}
 use Rattle.smx_model.specs.Removal.{without_dead_streams, without_links}
 use Rattle.smx_streams.specs.StreamTables.{exists as is_there}
@@ -9,7 +9,7 @@ use Rattle.smx_tables.specs.ListedLinks.{is_orphaned}
 use Rattle.smx_tables.specs.ModelOfLists.{configuration_of}
 use Rattle.smx_tables.specs.TouchedStreams.{IsTouched}
 use Rattle.smx_tables.proofs.HungSweepLemmas.{dead_of_left}
-use Rattle.smx_tables.proofs.TouchLemmas.{cascade_at_first, linked_still, swept_still, touched_hungs, touched_on}
+use Rattle.smx_tables.proofs.TouchLemmas.{linked_still, swept_still, touched_hungs, touched_on}
 use Rattle.smx_tables.proofs.TouchLemmas.{touched_without}
 use Rattle.smx_tables.proofs.sweep.sweep.Goals as goal
 
