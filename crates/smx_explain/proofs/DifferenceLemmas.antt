@@ -1,11 +1,10 @@
 -- Two texts that are read line by line, as long as their lines are the same.
 use Rattle.std.proofs.Common.{◌≡◌, ◌≢◌, ℕ, ◌+◌, List, [], ◌∷◌, ◌++◌, length, refl, sym, ap, ◌∙◌, append_assoc, arith}
-use Rattle.std.proofs.Common.{inl, inr}
 use Rattle.std.specs.List.{AllByRecursion}
 use Rattle.std.proofs.lemmas.List.{length-append}
 use Rattle.smx_words.specs.Words.{LINE_FEED}
 use Rattle.smx_text.specs.Grammar.{IsOneLine}
-use Rattle.smx_explain.specs.Differences.{AreAlike, Begin, IsFirstDifference, whole_lines}
+use Rattle.smx_explain.specs.Differences.{Begin, whole_lines}
 
 -- ---- lines
 

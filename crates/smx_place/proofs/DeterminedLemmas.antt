@@ -12,8 +12,8 @@ use Rattle.smx_types.specs.declared.version.Version.{Version}
 use Rattle.smx_types.specs.declared.version.Version.TheVariants.{V1, V2}
 use Rattle.smx_place.specs.Rows.{GoesOn, IsChosen, IsFixed, IsOther, IsRow, WordRow, told_rows}
 use Rattle.smx_place.specs.declared.kinds.Choice.{Choice}
-use Rattle.smx_place.specs.declared.kinds.Choice.TheVariants.{ProgramsLine, TranscriptLine, Command, Equals, Reply}
-use Rattle.smx_place.specs.declared.kinds.Choice.TheVariants.{BadDescriptor, Invalid, Again, NoDevice, Serials, End}
+use Rattle.smx_place.specs.declared.kinds.Choice.TheVariants.{ProgramsLine, TranscriptLine, Command, Equals}
+use Rattle.smx_place.specs.declared.kinds.Choice.TheVariants.{Serials}
 use Rattle.smx_place.specs.declared.kinds.Value.{Value}
 use Rattle.smx_place.proofs.RowLemmas.{in_second}
 

@@ -1,6 +1,6 @@
 -- The lines of a programs text can be told apart.
 use Rattle.std.proofs.Common.{◌≡◌, ◌≢◌, ℕ, Result, Bool, true, false, ◌||◌, List, refl, sym, ap, ◌∙◌, rules}
-use Rattle.std.specs.Prelude.{codes, OnOk, IfErr}
+use Rattle.std.specs.Prelude.{codes}
 use Rattle.std.specs.Str.{bytes_eq}
 use Rattle.smx_types.specs.declared.command.Command.{Command}
 use Rattle.smx_types.specs.declared.command.Command.TheVariants as command
@@ -11,7 +11,7 @@ use Rattle.smx_words.specs.Spellable.{FitsNumber, FitsDriver, FitsCommandIn}
 use Rattle.smx_text.specs.declared.text_fault.Cause.{Cause}
 use Rattle.smx_text.specs.Reading.{Refuses, RefusesLine, AnswersLine, AnswersText}
 use Rattle.smx_text.proofs.ReadingLemmas.{refuses, answers}
-use Rattle.smx_text.specs.Grammar.{Continues, IsNoLine, IsOneLine, header, line_text}
+use Rattle.smx_text.specs.Grammar.{IsNoLine, IsOneLine, header, line_text}
 use Rattle.smx_text.specs.ProgramLines.{Line}
 use Rattle.smx_text.specs.ProgramLines as line
 use Rattle.smx_text.specs.ProgramsText.{line_words, FitsLine, programs_grammar}

@@ -4,7 +4,7 @@ use Rattle.std.proofs.Common.{rules}
 use Rattle.std.specs.List.{sum_by, AllByRecursion}
 use Rattle.std.proofs.lemmas.List.{append-nil}
 use Rattle.std.proofs.lemmas.List.Sums.{sum_by-append, sum_by-cons}
-use Rattle.smx_types.specs.ProgramLists.{ProgramLists, program_lists, raised, AreWithinLimits}
+use Rattle.smx_types.specs.ProgramLists.{ProgramLists, AreWithinLimits}
 use Rattle.smx_types.specs.declared.limits.TheConstants.{MAX_DRIVERS, MAX_PROCESSES, MAX_COMMANDS}
 use Rattle.smx_text.specs.Drafts.{IsCounted}
 use Rattle.smx_text.specs.Grammar.{IsBegun}
