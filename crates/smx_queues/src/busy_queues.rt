@@ -1,13 +1,11 @@
 //! The queues of places, and which of them have messages.
 
-ghost use Rattle.std.specs.Prelude.{◌≡◌, ◌≢◌, ◌+◌, ◌<◌, ◌≤◌, [], ◌∷◌, ◌++◌, false, length, map, nat_lt, vec_capacity};
-ghost use Rattle.std.specs.Prelude.{◌==◌, ◌&&◌, not};
-ghost use Rattle.std.specs.Prelude.{Some, None, IfOk, IfNone, OnOk, OnSome, option_copied, slice_get};
-ghost use Rattle.std.specs.Prelude.{slice_index_or, slice_set};
+ghost use Rattle.std.specs.Prelude.{◌≡◌, ◌≢◌, ◌<◌, ◌≤◌, ◌==◌, ◌&&◌, [], ◌∷◌, ◌++◌, false, not, length, nat_lt};
+ghost use Rattle.std.specs.Prelude.{Some, None, IfOk, IfNone, OnOk, OnSome, slice_get, slice_index_or, slice_set};
 ghost use Rattle.smx_types.specs.declared.message.Message.{Message};
 ghost use Rattle.smx_queues.specs.QueueTable.{emptied, empty_queue, queue_at, with_arrival, with_queue};
 ghost use Rattle.smx_queues.specs.QueueTable.{without_front, IsPlace};
-ghost use Rattle.smx_queues.specs.Slots.{busy_byte, has_messages, is_marked, message_total, IsLeastFrom};
+ghost use Rattle.smx_queues.specs.Slots.{busy_byte, has_messages, IsLeastFrom};
 
 use crate::queues::{PlaceId, Queues};
 use memchr::memchr;

@@ -1,7 +1,6 @@
 //! The sweep: what goes with streams that don't exist any longer, and the reply that names it.
 
-ghost use Rattle.std.specs.Prelude.{◌≡◌, ◌+◌, ◌≤◌, true, false, not, filter, length, vec_capacity, IfOk, [], ◌∷◌};
-ghost use Rattle.std.specs.Prelude.{List};
+ghost use Rattle.std.specs.Prelude.{◌≡◌, ◌≤◌, true, false, not, filter, length, IfOk, List, [], ◌∷◌};
 ghost use Rattle.std.specs.List.{list_all};
 ghost use Rattle.smx_types.specs.declared.driver.DriverSpec.{DriverSpec as DriverValue};
 ghost use Rattle.smx_types.specs.declared.stream.StreamId.{StreamId};
@@ -9,14 +8,14 @@ ghost use Rattle.smx_model.specs.KnownStreams.{AreControllingKnown};
 ghost use Rattle.smx_model.specs.Removal.{without_dead_streams, without_links, after_sweep};
 ghost use Rattle.smx_addresses.specs.BindingLists.{is_binding_of};
 ghost use Rattle.smx_streams.specs.StreamTables.{LeavesHungs, exists as is_there};
-ghost use Rattle.smx_links.specs.LinkLists.{is_upper, ordinary_of};
+ghost use Rattle.smx_links.specs.LinkLists.{is_upper};
 ghost use Rattle.smx_tables.specs.DroppedMessages.{AreDropped, DropsMore, HasRoom, NamesDropped};
-ghost use Rattle.smx_tables.specs.ExistingStreams.{holds_below, TellsExisting};
+ghost use Rattle.smx_tables.specs.ExistingStreams.{TellsExisting};
 ghost use Rattle.smx_tables.specs.ListedLinks.{is_orphaned};
 ghost use Rattle.smx_tables.specs.ModelOfLists.{configuration_of, sizes_of};
 ghost use Rattle.smx_tables.specs.KeptHolds.{KeepsHolds};
 ghost use Rattle.smx_tables.specs.SweepReserves.{IsReserveFor};
-ghost use Rattle.smx_tables.specs.TouchedStreams.{is_dead, is_there_or_touched, without_streams, IsCascade, IsTouched};
+ghost use Rattle.smx_tables.specs.TouchedStreams.{is_dead, is_there_or_touched, without_streams, IsTouched};
 
 use crate::dropped_messages::{drop_sides, rising};
 use crate::lists::Lists;
