@@ -1,6 +1,7 @@
 -- What an accepted result says: of what came before it, and of a command that sends or takes a message.
 use Rattle.std.proofs.Common.{◌≡◌, ℕ, Bool, true, false, ◌+◌, ◌&&◌, ◌||◌, eqb, not, List, length, Option, Some, None}
 use Rattle.std.proofs.Common.{Result, Ok, Err, refl, ap, ◌∙◌, subst}
+use Rattle.std.proofs.lemmas.Bool.{not-false}
 use Rattle.std.specs.Prelude.{nat_le, nat_lt}
 use Rattle.std.specs.Option.{is_some}
 use Rattle.smx_types.specs.declared.driver.DriverSpec.{DriverSpec}
@@ -29,10 +30,10 @@ pub bound : {A B : Type 0} (r : Result A Fault) (f : A → Result B Fault) (y : 
 bound (Err e) f y h = absurd cc
 bound (Ok x) f y h = (x, refl, h)
 
--- a test that refuses nothing fails
-pub passed : (f : Fault) (t : Bool) (u : Unit {0}) → refuse f t ≡ Ok u → t ≡ false
-passed f true u h = absurd cc
-passed f false u h = refl
+-- what is not refused has failed the test
+pub not_refused : (f : Fault) (t : Bool) {u : Unit {0}} → refuse f t ≡ Ok u → t ≡ false
+not_refused f true h = absurd cc
+not_refused f false h = refl
 
 -- what is accepted is one thing
 pub accepted : {A : Type 0} (x y : A) → ◌≡◌ {A = Result A Fault} (Ok x) (Ok y) → x ≡ y
@@ -53,7 +54,7 @@ free_says c process fd s e =
     let above = bound (refuse Below (is_below c.links found.0)) (λ a. Ok found.0) s found.2 in (
       found.1 ∙ above.2,
       subst (λ (x : StreamId). is_below c.links x ≡ false) (accepted found.0 s above.2)
-          (passed Below _ above.0 above.1),
+          (not_refused Below _ above.1),
     )
 
 -- the stream of a device exists, and its driver is no multiplexing one
@@ -65,12 +66,9 @@ leaf_says drivers c name minor s e =
     let here : StreamId = record { driver = found.0; minor = minor } in
     let there = bound (refuse NoMinor (not (exists drivers c here))) _ s leaf.2 in
     let same = accepted here s there.2 in (
-      subst (λ (x : StreamId). exists drivers c x ≡ true) same (is_true _ (passed NoMinor _ there.0 there.1)),
-      subst (λ (x : StreamId). is_mux drivers x.driver ≡ false) same (passed NoDriver _ leaf.0 leaf.1),
-    ) where
-      is_true : (b : Bool) → not b ≡ false → b ≡ true
-      is_true true h = refl
-      is_true false h = absurd cc
+      subst (λ (x : StreamId). exists drivers c x ≡ true) same (not-false _ (not_refused NoMinor _ there.1)),
+      subst (λ (x : StreamId). is_mux drivers x.driver ≡ false) same (not_refused NoDriver _ leaf.1),
+    )
 
 -- ---- messages that are sent and taken
 

@@ -4,6 +4,7 @@ use Rattle.std.proofs.Common.{◌∙◌, subst, inl, inr}
 use Rattle.std.specs.Prelude.{◌≢◌, ◌⊎◌}
 use Rattle.std.specs.Option.{is_some}
 use Rattle.std.proofs.lemmas.Bool.{cases_Bool, eqb-true, false_from_ne_true, false≢true, or_cases}
+use Rattle.std.proofs.lemmas.Option.{none-some}
 use Rattle.smx_types.specs.declared.driver.DriverSpec.{DriverSpec}
 use Rattle.smx_types.specs.declared.message.Message.{Message}
 use Rattle.smx_types.specs.declared.stream.Place.{Place}
@@ -44,9 +45,7 @@ opened c (Some q) r e = by (is_full c q) refl e where
 -- a place that is told to have a message has one
 pub told_some : (o : Option Message) → true ≡ is_some o → o ≢ None
 told_some None h = absurd (false≢true (sym h))
-told_some (Some m) h = some_none where
-  some_none : ◌≡◌ {A = Option Message} (Some m) None → ⊥
-  some_none e = cc
+told_some (Some m) h = λ e. none-some m (sym e)
 
 -- a message that is told to be there
 pub some_is : (o : Option Message) → IsSome o → (m : Message) × (o ≡ Some m)
@@ -87,15 +86,12 @@ still_noted : (drivers : List DriverSpec) (c d : Configuration) (p q : Place) (m
     → next_of_first drivers d r ≡ Some s → IsNotedFor new r s
 still_noted drivers c d p q m waits old new marks only h k r s e =
     by (cases_Bool (same_place p r)) (cases_Bool (same_place q r)) h.stays where
-      no_place : ◌≡◌ {A = Option Place} None (Some s) → ⊥
-      no_place x = cc
-
       before : same_place p r ≡ false → next_of_first drivers c r ≡ Some s → target_of old.waits r ≡ Some s
       before f x = marks.held_up r s (false_from_ne_true _ (λ t. false≢true (sym f ∙ only r t))) x
 
       by : (same_place p r ≡ true) ⊎ (same_place p r ≡ false) → (same_place q r ≡ true) ⊎ (same_place q r ≡ false)
           → StaysAt drivers c q m waits → IsNotedFor new r s
-      by (inl t) x y = absurd (no_place (sym h.left ∙ subst (λ (z : Place). next_of_first drivers d z ≡ Some s)
+      by (inl t) x y = absurd (none-some s (sym h.left ∙ subst (λ (z : Place). next_of_first drivers d z ≡ Some s)
           (sym (place_is p r t)) e))
       by (inr f) (inr g) y =
           k.others r f g ∙ before f (sym (h.others r f (λ t. absurd (false≢true (sym g ∙ t)))) ∙ e)
@@ -108,9 +104,7 @@ still_noted drivers c d p q m waits old new marks only h k r s e =
 -- a place that is waited for is full
 full_there : (drivers : List DriverSpec) (c : Configuration) (q r : Place) (m : Message) (waits : Option Place)
     → StaysAt drivers c q m waits → waits ≡ Some r → is_full c r ≡ true
-full_there drivers c q r m waits (inl behind) e = absurd (none_some (sym behind.1 ∙ e)) where
-  none_some : ◌≡◌ {A = Option Place} None (Some r) → ⊥
-  none_some x = cc
+full_there drivers c q r m waits (inl behind) e = absurd (none-some r (sym behind.1 ∙ e))
 full_there drivers c q r m waits (inr first) e = subst (IsClosed c) e first.2
 
 -- so the marks are enough
@@ -145,9 +139,6 @@ enough_wanted p q r waits old new k h = elim (or_cases (has_mark old.wanted r) _
 pub next_there : (drivers : List DriverSpec) (c d : Configuration) (p q r : Place) (m : Message) (waits : Option Place)
     → HasCome drivers c d p q m waits → waits ≡ Some r → next_of_first drivers d q ≡ Some r
 next_there drivers c d p q r m waits h e = by h.stays where
-  none_some : ◌≡◌ {A = Option Place} None (Some r) → ⊥
-  none_some x = cc
-
   by : StaysAt drivers c q m waits → next_of_first drivers d q ≡ Some r
-  by (inl behind) = absurd (none_some (sym behind.1 ∙ e))
+  by (inl behind) = absurd (none-some r (sym behind.1 ∙ e))
   by (inr first) = h.first first.0 ∙ (sym first.1 ∙ e)

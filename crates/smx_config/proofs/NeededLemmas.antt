@@ -2,6 +2,7 @@
 use Rattle.std.proofs.Common.{◌≡◌, true, false, Option, Some, None, refl, sym, ap, ◌∙◌, subst, inl, inr}
 use Rattle.std.specs.Option.{is_some}
 use Rattle.std.proofs.lemmas.Bool.{cases_Bool, false≢true, or_left, or_right}
+use Rattle.std.proofs.lemmas.Option.{none-some}
 use Rattle.std.proofs.Common.{List}
 use Rattle.smx_types.specs.declared.driver.DriverSpec.{DriverSpec}
 use Rattle.smx_types.specs.declared.message.Message.{Message}
@@ -53,12 +54,9 @@ needed_do drivers c m n h less wanted waits = record {
   held_up = λ p q clear e. subst (λ (t : WaitList). target_of t p ≡ Some q) (sym waits)
       (h.held_up p q (unmarked p q clear e) e);
 } where
-  nowhere : (q : Place) → ◌≡◌ {A = Option Place} None (Some q) → ⊥
-  nowhere q k = cc
-
   unmarked : (p q : Place) → has_mark n.run p ≡ false → next_of_first drivers c p ≡ Some q → has_mark m.run p ≡ false
   unmarked p q clear e = elim (cases_Bool (has_mark m.run p)) [
-    | inl t ↦ absurd (false≢true (sym clear ∙ less.needed p t (λ none. nowhere q (sym none ∙ e))))
+    | inl t ↦ absurd (false≢true (sym clear ∙ less.needed p t (λ none. none-some q (sym none ∙ e))))
     | inr f ↦ f
   ]
 

@@ -2,7 +2,7 @@
 use Rattle.std.proofs.Common.{◌≡◌, ℕ, Bool, true, false, not, List, [], ◌∷◌, Result, Ok, Err}
 use Rattle.std.proofs.Common.{refl, rules, sym, ◌∙◌}
 use Rattle.std.specs.Prelude.{◌≢◌, IsTrue}
-use Rattle.std.proofs.lemmas.Bool.{false≢true}
+use Rattle.std.proofs.lemmas.Bool.{false≢true, not-true}
 use Rattle.smx_types.specs.declared.command.Command.{Command}
 use Rattle.smx_types.specs.declared.command.Command.TheVariants as command
 use Rattle.smx_types.specs.declared.driver.DriverSpec.{DriverSpec}
@@ -61,10 +61,7 @@ no_bytes drivers c process (command.Hangup name minor) h = search (behind, nothi
 drops_none : (k : Command) → carries_nothing k ≡ true → may_drop k ≡ false
 drops_none (command.Read fd) h = refl
 drops_none (command.Transmit name minor) h = refl
-drops_none k h = is_false _ h where
-  is_false : (b : Bool) → not b ≡ true → b ≡ false
-  is_false true x = sym x
-  is_false false x = refl
+drops_none k h = not-true _ h
 
 not_some : (ns : List ℕ) → ((ns ≡ [] → ⊥) → ⊥) → ns ≡ []
 not_some [] h = refl

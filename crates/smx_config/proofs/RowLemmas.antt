@@ -1,6 +1,6 @@
 -- Moves in a row, from one place to the same other.
 use Rattle.std.proofs.Common.{◌≡◌, ℕ, ◌-◌, ◌<◌, Bool, true, false, List, [], ◌∷◌, find, Option, None, Some, refl, sym}
-use Rattle.std.proofs.Common.{ap, ◌∙◌, subst, inl, inr, cond, not}
+use Rattle.std.proofs.Common.{ap, ◌∙◌, subst, inl, inr, cond}
 use Rattle.std.specs.Option.{is_some, option_map}
 use Rattle.std.proofs.lemmas.Bool.{cases_Bool, eqb-true, false≢true}
 use Rattle.smx_types.specs.declared.driver.DriverSpec.{DriverSpec}
@@ -49,11 +49,6 @@ same_again drivers c p q addr is asks free =
       by : (o : Option Message) → has_addr addr o ≡ true → next_of drivers c p o ≡ Some q
       by None h = absurd (false≢true h)
       by (Some m) h = ap (next_place drivers c p) (eqb-true m.addr addr h) ∙ is
-
--- what is told not to be so is not
-pub told_not : (b : Bool) → not b ≡ true → b ≡ false
-told_not true h = sym h
-told_not false h = refl
 
 -- ---- where they arrive
 

@@ -5,7 +5,7 @@ use Rattle.std.specs.Prelude.{◌⊎◌, IfOk, if◌then◌else◌}
 use Rattle.std.specs.List.{list_all, list_any}
 use Rattle.std.specs.Option.{is_some}
 use Rattle.std.specs.Result.{is_ok}
-use Rattle.std.proofs.lemmas.Bool.{and_parts, cases_Bool, false≢true}
+use Rattle.std.proofs.lemmas.Bool.{and_parts, cases_Bool, false≢true, not-true}
 use Rattle.smx_types.specs.declared.command.Command.{Command}
 use Rattle.smx_types.specs.declared.command.Command.TheVariants as command
 use Rattle.smx_types.specs.declared.driver.DriverSpec.{DriverSpec}
@@ -192,15 +192,11 @@ pub turned_ends : (drivers : List DriverSpec) (c : Configuration) (from to p : P
     → (same_place from p ≡ true) ⊎ ((same_place to p ≡ true) × (is_some (first_message c.flow to) ≡ false))
 turned_ends drivers c from to p e stays t = by (same_place from p) refl
     (subst (λ (o : Option Place). (same_place from p || is_first_there drivers c from o p) ≡ true) e t) where
-      empty : (b : Bool) → not b ≡ true → b ≡ false
-      empty true h = sym h
-      empty false h = refl
-
       by : (b : Bool) → same_place from p ≡ b → (b || is_first_there drivers c from (Some to) p) ≡ true
           → (b ≡ true) ⊎ ((same_place to p ≡ true) × (is_some (first_message c.flow to) ≡ false))
       by true k h = inl refl
       by false k h = let parts = and_parts (same_place to p) _ h in
-          inr (parts.0, empty _ (subst (λ (o : Option Message). not (is_some o) ≡ true) stays parts.1))
+          inr (parts.0, not-true _ (subst (λ (o : Option Message). not (is_some o) ≡ true) stays parts.1))
 
 -- what a move turns, by where it goes
 pub turned_is : (drivers : List DriverSpec) (c new : Configuration) (from to : Place)
