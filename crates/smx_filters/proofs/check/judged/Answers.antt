@@ -8,4 +8,4 @@ returns-in_err-verdict c input read =
     let fault = c.in_err-verdict.field-0.0 in
     let refused = subst (λ drivers. RefusesDrivers drivers fault) c.as_slice-drivers.ensures
     c.in_err-verdict.ensures.refused in
-    judged_refused input c.args.transcript.now read fault _ c.from_residual-in_err-verdict.ensures.1 refused
+    judged_refused input c.args.transcript.now read fault _ c.from_residual.ensures.1 refused
