@@ -6,11 +6,9 @@ use Rattle.smx_types.specs.declared.stream.Side.{Side}
 use Rattle.smx_types.specs.declared.stream.Side.TheVariants as side
 use Rattle.smx_words.specs.declared.reading.verb.ReplyVerb.{ReplyVerb}
 use Rattle.smx_words.specs.declared.reading.verb.ReplyVerb.TheVariants as reply_verb
-use Rattle.smx_words.specs.declared.reading.verb.Verb.{Verb}
-use Rattle.smx_words.specs.declared.reading.verb.Verb.TheVariants as verb
 use Rattle.smx_words.specs.Spellable.{FitsAlways, FitsName}
 use Rattle.smx_words.specs.Spelling.{kind_word, side_word}
-use Rattle.smx_words.specs.Verbs.{verb_word, reply_verb_word}
+use Rattle.smx_words.specs.Verbs.{reply_verb_word}
 use Rattle.smx_words.specs.Words.{SPACE, IsFree}
 use Rattle.smx_words.proofs.CutLemmas.{apart}
 use Rattle.smx_words.proofs.LineLemmas.{seen_free}
