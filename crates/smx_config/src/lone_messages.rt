@@ -66,7 +66,7 @@ impl Tables {
         self.lists.queues.has_messages(place)
     }
 
-    // Where it comes to rest, within so many moves, of which the first one is the least.
+    // Where the message of the least move comes to rest, within so many moves, of which that is the first.
     pub fn rest_of(&self, marks: &Marks, ways: &mut Ways, first: Move, moves: u128) -> Rest
         requires sound { IsSound self.now.drivers self.now.configuration }
         requires alone { MovesAlone self.now.drivers self.now.configuration marks.now first.from }

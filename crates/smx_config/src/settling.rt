@@ -19,7 +19,8 @@ use crate::tables::Tables;
 use crate::ways::Ways;
 use smx_model::laws_of_lone_messages::lone_messages_come_to_rest;
 use smx_model::laws_of_run_marks::{
-    places_are_known, the_least_marked_is_the_least, without_marks_it_is_settled,
+    movable_places_are_marked, places_are_known, the_least_marked_is_the_least,
+    without_marks_it_is_settled,
 };
 use smx_model::laws_of_settling_by_marks::clearing_keeps_marks;
 use smx_model::laws_of_steps::settling_suffices;
@@ -143,6 +144,7 @@ impl Tables {
         ensures none { HasNoRunMark (has_mark marks.new.run) }
     {
         lone_messages_come_to_rest();
+        movable_places_are_marked();
         settling_suffices();
         let mut left = self.lists.queues.len() as u128 * self.drivers.len() as u128;
         while left > 0 {
