@@ -1,6 +1,6 @@
 -- What a filter says where nothing comes of the bytes that it read.
-use Rattle.std.proofs.Common.{◌≡◌, ◌≢◌, ℕ, zero, suc, false, List, Option, Some, None, Bool, Result, Ok, Err, String, Vec, sym, subst}
-use Rattle.std.proofs.Common.{rules, arith, inl}
+use Rattle.std.proofs.Common.{◌≡◌, ◌≢◌, ℕ, zero, suc, false, List, Option, Some, None, Bool, Result, Ok, Err, String}
+use Rattle.std.proofs.Common.{Vec, sym, subst, rules, arith, inl}
 use Rattle.std.specs.Prelude.{IsErrAnd, IsErrOf}
 use Rattle.std.specs.Global.{Global}
 use Rattle.std.specs.Io.KnownBytes.{Keeps}

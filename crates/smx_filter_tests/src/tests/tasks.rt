@@ -16,7 +16,7 @@ use std::thread::Threads;
 
 /// A filter, or a live session. A run is one on one worker.
 #[derive(Clone, Copy)]
-pub enum Job {
+pub enum Task {
     Run,
     Check,
     Replay,
@@ -48,10 +48,10 @@ fn ending(outcome: Result<Done, MainFault>) -> (InlineText<64>, u8) {
     }
 }
 
-// Does this job from a feed to a sink: the line on standard error, behind the program's name, and the status.
+// Does this task from a feed to a sink: the line on standard error, behind the program's name, and the status.
 fn perform<R: AllocGlobal + Threads + Wait + Sync, F: Feed, S: Sink>(
     rt: &R,
-    job: Job,
+    task: Task,
     feed: &mut F,
     sink: &mut S,
 ) -> (InlineText<64>, u8)
@@ -60,15 +60,15 @@ fn perform<R: AllocGlobal + Threads + Wait + Sync, F: Feed, S: Sink>(
     requires sunk { S.failures sink.old ≡ 0 }
 {
     let alloc = rt.alloc();
-    ending(match job {
-        Job::Run => finished(run_text(rt, alloc, feed, sink, 1, false, &NoGate)),
-        Job::Check => judged(check_text(alloc, feed, sink)),
-        Job::Replay => finished(replay_text(alloc, feed, sink)),
-        Job::Live => finished(live_text(alloc, feed, sink)),
+    ending(match task {
+        Task::Run => finished(run_text(rt, alloc, feed, sink, 1, false, &NoGate)),
+        Task::Check => judged(check_text(alloc, feed, sink)),
+        Task::Replay => finished(replay_text(alloc, feed, sink)),
+        Task::Live => finished(live_text(alloc, feed, sink)),
     })
 }
 
-/// What came of a job between devices that move one byte a call.
+/// What came of a task between devices that move one byte a call.
 #[derive(Drop)]
 pub struct Tried {
     line: InlineText<64>,
@@ -87,7 +87,7 @@ pub struct Tried {
 /// Does it from a reader whose read after so many is an error of this kind to a writer that stops after so many calls.
 pub fn outcome<R: AllocGlobal + Threads + Wait + Sync>(
     rt: &R,
-    job: Job,
+    task: Task,
     input: &[u8],
     reads: usize,
     kind: ErrorKind,
@@ -96,7 +96,7 @@ pub fn outcome<R: AllocGlobal + Threads + Wait + Sync>(
 ) -> Tried {
     let mut feed = one_byte_feed(input, reads, kind);
     let mut sink = one_byte_sink(rt.alloc(), calls, stop);
-    let (line, status) = perform(rt, job, &mut feed, &mut sink);
+    let (line, status) = perform(rt, task, &mut feed, &mut sink);
     Tried {
         line,
         status,
