@@ -10,6 +10,7 @@ use clap::{ArgMatches, Command, Error};
 use smx_draw::Form;
 use std::alloc::{AllocError, Global};
 use std::convert::AsStr;
+use std::mem::forget;
 
 // How many threads may run the programs.
 const MOST_WORKERS: usize = 64;
@@ -25,6 +26,16 @@ pub fn job<'a, S: AsStr>(alloc: Global, words: &'a [S]) -> Result<Job, Error>
     ensures { IfOk result CanRun }
 {
     let matches = program(alloc)?.try_get_matches_from(words)?;
+    let job = job_of(alloc, &matches);
+    // (what clap made of the words is small, and stays until the program ends)
+    forget(matches);
+    job
+}
+
+// What these matches of the words ask for.
+fn job_of(alloc: Global, matches: &ArgMatches) -> Result<Job, Error>
+    ensures { IfOk result CanRun }
+{
     if matches.subcommand_matches("commands").is_some() {
         return Err(no_job_of_its_own(alloc)?);
     }

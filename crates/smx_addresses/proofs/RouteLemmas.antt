@@ -1,6 +1,6 @@
 -- What each change of the table of routes makes of its list.
 use Rattle.std.proofs.Common.{◌≡◌, ℕ, ◌<◌, ◌+◌, ◌&&◌, ◌||◌, ◌==◌, not, List, [], ◌∷◌, ◌++◌, length, get_or, take}
-use Rattle.std.proofs.Common.{filter, find, is_some, Option, Some, None, refl, sym, ap, ◌∙◌, inl, inr}
+use Rattle.std.proofs.Common.{filter, find, Option, Some, None, refl, sym, ap, ◌∙◌, inl, inr}
 use Rattle.std.specs.List.{list_any, IsDistinct}
 use Rattle.std.specs.Map.{lookup, keys_of}
 use Rattle.std.specs.Option.{option_map}
@@ -14,7 +14,7 @@ use Rattle.smx_addresses.specs.Keys.{Key, is_key}
 use Rattle.smx_addresses.specs.RouteLists.{target_of}
 use Rattle.smx_addresses.specs.TableFields.{Entries, route_of, routes_of}
 use Rattle.smx_addresses.proofs.ChangeLemmas.{Sets, finds_filter, finds_replaced, rises_replaced, found_kept}
-use Rattle.smx_addresses.proofs.KeyLemmas.{found_any, found_find}
+use Rattle.smx_addresses.proofs.KeyLemmas.{found_find}
 use Rattle.smx_addresses.proofs.OrderLemmas.{rising_filter, apart_rising}
 use Rattle.smx_addresses.proofs.ListedTableLemmas.{Stands, in_order_stands, computed_is}
 
@@ -49,13 +49,6 @@ find_route es rs d a r e u at =
     (d, a)
     ∙ ap (option_map (λ (id : ℕ). record { driver = d; addr = a; id = id }))
     (sym ((has_list es u).finds (d, a)) ∙ sym at)
-
--- the list has a route for a driver's address exactly where the table has one
-pub any_route : (es : Entries) (rs : List Route) (d a : ℕ) → routes_of es ≡ rs → IsDistinct is_key (keys_of es)
-    → list_any (λ r. (r.driver == d) && (r.addr == a)) rs ≡ is_some (lookup (is_key (d, a)) es)
-any_route es rs d a e u =
-    ap (list_any (λ r. (r.driver == d) && (r.addr == a))) (sym e)
-    ∙ sym (found_any target_of (λ r. r.id) (routes_of es) (d, a)) ∙ ap is_some (sym ((has_list es u).finds (d, a)))
 
 -- one more, in place of what was there, and one less
 

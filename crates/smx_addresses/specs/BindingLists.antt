@@ -20,6 +20,10 @@ pub record IsBindingList (binds : List Binding) : Type 0 where
   pub rise : IsRising bind_before binds
   pub streams : AreApart stream_of binds
 
+-- it is the stream's binding
+abbrev pub is_binding_of : StreamId → Binding → Bool
+is_binding_of s b = (b.driver == s.driver) && (b.minor == s.minor)
+
 -- its driver has bound the address, or the stream has one
 abbrev pub is_taken : List Binding → StreamId → ℕ → Bool
 is_taken binds s addr = list_any (λ b. (b.driver == s.driver) && ((b.addr == addr) || (b.minor == s.minor))) binds

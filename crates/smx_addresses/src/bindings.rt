@@ -3,7 +3,7 @@
 ghost use Rattle.std.specs.Prelude.{◌≡◌, false, ◌==◌, ◌&&◌, not, [], filter, find, length, IfOk, OnOk, OnErr};
 ghost use Rattle.smx_model.specs.Configuration.{bind_before};
 ghost use Rattle.smx_model.specs.Ordered.{with_inserted};
-ghost use Rattle.smx_addresses.specs.BindingLists.{is_taken, IsBindingList};
+ghost use Rattle.smx_addresses.specs.BindingLists.{is_binding_of, is_taken, IsBindingList};
 
 use crate::key::{Key, key_of};
 use indexmap::IndexMap;
@@ -58,7 +58,7 @@ impl Bindings {
 
     /// The binding of a stream. One look-up.
     pub fn of(&self, stream: StreamId) -> Option<Binding>
-        ensures { result ≡ find (λ b. (b.driver == stream.driver) && (b.minor == stream.minor)) self.now }
+        ensures { result ≡ find (is_binding_of stream) self.now }
     {
         let addr = *self.addrs.get(&key_of(stream))?;
         Some(Binding {
@@ -94,9 +94,8 @@ impl Bindings {
 
     /// Takes the stream's binding away, and no other; None where it has none. Takes no memory.
     pub fn unbind(&mut self, stream: StreamId) -> Option<Binding>
-        ensures binding { result ≡ find (λ b. (b.driver == stream.driver) && (b.minor == stream.minor)) self.old }
-        ensures rest { self.new
-            ≡ filter (λ b. not ((b.driver == stream.driver) && (b.minor == stream.minor))) self.old }
+        ensures binding { result ≡ find (is_binding_of stream) self.old }
+        ensures rest { self.new ≡ filter (λ b. not (is_binding_of stream b)) self.old }
     {
         let addr = self.addrs.swap_remove(&key_of(stream))?;
         let _minor = self.minors.swap_remove(&(stream.driver, addr));
@@ -142,6 +141,7 @@ impl Bindings {
     pub fn is_sound(&self)
         ensures { IsBindingList self.now }
     {
+        // Opens the invariant.
         let _minors = &self.minors;
     }
 

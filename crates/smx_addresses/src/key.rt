@@ -2,14 +2,10 @@
 
 ghost use Rattle.std.specs.Prelude.{◌≡◌};
 
-use indexmap::IndexMap;
 use smx_types::StreamId;
 
 /// A driver, and an address or a minor of it.
 pub type Key = (u8, u32);
-
-/// A number under each key: a minor, an address or an id.
-pub type Numbers = IndexMap<Key, u32>;
 
 // The stream as a key.
 pub fn key_of(stream: StreamId) -> Key

@@ -8,7 +8,7 @@ ghost use Rattle.smx_model.specs.Ordered.{with_inserted};
 ghost use Rattle.smx_addresses.specs.Keys.{Key as AnyKey, is_key, left_of};
 ghost use Rattle.smx_addresses.specs.RouteLists.{is_route, IsRouteList};
 
-use crate::key::{Key, Numbers};
+use crate::key::Key;
 use crate::targets::{Targets, drop_target, put_target};
 use indexmap::IndexMap;
 use smx_types::{NoMemory, Route};
@@ -19,7 +19,7 @@ use std::marker::Model;
 #[derive(Debug, Drop)]
 pub struct Routes {
     // The link's id at a driver and an address.
-    ids: Numbers,
+    ids: IndexMap<Key, u32>,
     // The routes to each link.
     targets: Targets,
 }
@@ -38,7 +38,7 @@ impl Model for Routes {
 }
 
 // Takes out what is under each of these keys.
-fn take_each(ids: &mut Numbers, keys: &[Key])
+fn take_each(ids: &mut IndexMap<Key, u32>, keys: &[Key])
     requires { IsDistinct is_key (keys_of ids.old.entries) }
     ensures rest { (q : AnyKey) → lookup (is_key q) ids.new.entries
         ≡ left_of keys.now q (lookup (is_key q) ids.old.entries) }
@@ -66,13 +66,6 @@ impl Routes {
     {
         let id = *self.ids.get(&(driver, addr))?;
         Some(Route { driver, addr, id })
-    }
-
-    /// Whether the driver has a route for the address. One look-up.
-    pub fn is_routed(&self, driver: u8, addr: u32) -> bool
-        ensures { result ≡ list_any (is_route driver addr) self.now }
-    {
-        self.ids.contains_key(&(driver, addr))
     }
 
     /// Routes a driver's address to a link, in place of the route that it has. Fails only for want of memory, and
@@ -157,6 +150,7 @@ impl Routes {
     pub fn is_sound(&self)
         ensures { IsRouteList self.now }
     {
+        // Opens the invariant.
         let _ids = &self.ids;
     }
 

@@ -6,7 +6,6 @@ use Rattle.std.specs.List.{list_any}
 use Rattle.std.proofs.lemmas.Bool.{cases_Bool, cases_lt, or_left, or_right, false≢true}
 use Rattle.smx_types.specs.declared.driver.DriverSpec.{DriverSpec}
 use Rattle.smx_types.specs.declared.limits.TheConstants.{MAX_DESCRIPTORS}
-use Rattle.smx_types.specs.declared.reply.Fault.TheVariants.{BadDescriptor}
 use Rattle.smx_types.specs.declared.reply.Reply.{Reply}
 use Rattle.smx_types.specs.declared.reply.Reply.TheVariants.{Done}
 use Rattle.smx_types.specs.declared.stream.Descriptor.{Descriptor}
@@ -14,16 +13,23 @@ use Rattle.smx_types.specs.declared.stream.StreamId.{StreamId}
 use Rattle.smx_model.specs.Commands.{done_outcome}
 use Rattle.smx_model.specs.Configuration.{Configuration, is_fd, same_stream}
 use Rattle.smx_model.specs.Hangups.{is_hung}
-use Rattle.smx_model.specs.Outcomes.{or_fault}
+use Rattle.smx_model.specs.Removal.{after_sweep, serials_that_left}
 use Rattle.smx_model.specs.Standing.{is_named}
 use Rattle.smx_model.specs.Swept.{IsSwept}
 use Rattle.smx_streams.specs.StreamTables.{StreamTable, HasOneLess, is_last, number_at, stream_at, without_fd}
 use Rattle.smx_streams.specs.StreamTables.{exists as is_there}
+use Rattle.smx_tables.specs.ExistingStreams.{TellsExisting}
+use Rattle.smx_tables.specs.ModelOfLists.{configuration_of}
+use Rattle.smx_tables.specs.TouchedStreams.{IsTouched, is_there_or_touched}
+use Rattle.smx_config.specs.declared.tables.Tables.TheInside.{Inside}
 use Rattle.smx_config.specs.Closing.{closing}
-use Rattle.smx_tables.specs.TouchedStreams.{is_there_or_touched}
-use Rattle.smx_config.proofs.DoneLemmas.{IdleDropsNone}
+use Rattle.smx_config.specs.Machine.{Machine}
+use Rattle.smx_config.specs.ModelOfTables.{TablesInvariant, machine_of}
+use Rattle.smx_config.proofs.DoneLemmas.{IdleDropsNone, swept_is}
+use Rattle.smx_config.proofs.TablesLemmas.{accepted}
+use Rattle.smx_tables.proofs.HungSweepLemmas.{sweep_of_left}
+use Rattle.smx_tables.proofs.TouchLemmas.{touched_by, touched_fds, touched_hungs, touched_there}
 use Rattle.smx_tables.proofs.WatchLemmas.{listed_last, still_listed}
-use Rattle.smx_tables.proofs.TouchLemmas.{touched_there}
 
 -- one descriptor is closed, and its stream stays
 pub closed_stays : (t u : StreamTable) (p n : ℕ) → is_last t p n ≡ false → HasOneLess t p n u
@@ -59,6 +65,16 @@ closed_touches t u p n s ss at one went x there = elim (cases_Bool (is_there u x
       or_right _ _ (subst (λ (y : StreamId). list_any (same_stream y) ss ≡ true) same one)
 ]
 
+-- so the sweep after a close finds all that it has to look at
+pub close_touches : (drivers : List DriverSpec) (old : Configuration) (t u : StreamTable) (p n : ℕ) (s : StreamId)
+    (ss : List StreamId) → TellsExisting drivers old t → IsSwept drivers old → stream_at t.fds p n ≡ Some s
+    → list_any (same_stream s) ss ≡ true
+    → ((x : StreamId) → is_there t x ≡ true → is_there u x ≡ false → stream_at t.fds p n ≡ Some x)
+    → IsTouched u ss (record old { fds = u.fds; hungs = u.hungs })
+close_touches drivers old t u p n s ss told swept at one went =
+    touched_hungs u ss (record old { fds = u.fds }) u.hungs
+    (touched_fds u ss old u.fds (touched_by drivers old t u ss told swept (closed_touches t u p n s ss at one went)))
+
 -- all descriptors of a process are closed
 pub all_closed_touch : (t u : StreamTable) (p : ℕ) (ss : List StreamId)
     → ((n : ℕ) (s : StreamId) → n < MAX_DESCRIPTORS → stream_at t.fds p n ≡ Some s → list_any (same_stream s) ss ≡ true)
@@ -69,12 +85,21 @@ all_closed_touch t u p ss named went x there = elim (cases_Bool (is_there u x)) 
   | inr gone ↦ let at = went x there gone in or_right _ _ (named at.0 x at.1 at.2)
 ]
 
--- ---- the outcome of a close that sweeps nothing
+-- ---- the outcome of a close
 
--- a stream that a lookup of a descriptor gives without a refusal is there
-pub fd_at : (o : Option StreamId) (s : StreamId) → or_fault BadDescriptor o ≡ Ok s → o ≡ Some s
-fd_at None s e = absurd cc
-fd_at (Some x) s e = let same : x ≡ s = cc in ap (λ (y : StreamId). Some y) same
+-- what was swept after a close is its outcome
+pub closes_last : (t : Inside) (m : Machine) (p n : ℕ) (u : StreamTable) (given : List DriverSpec) (d : Configuration)
+    (r : Reply) → machine_of t ≡ m → TablesInvariant t → HasOneLess t.lists.streams p n u → given ≡ t.drivers.items
+    → d ≡ after_sweep given (record (configuration_of t.lists) { fds = u.fds; hungs = u.hungs })
+    → r ≡ Done (serials_that_left t.lists.queues.flow d.flow)
+    → (t.drivers.items ≡ m.drivers) × (closing m.drivers m.configuration p n ≡ Ok (d, r))
+closes_last t m p n u given d r e kept less same is left =
+    let old = configuration_of t.lists in
+    let swept : Configuration = record old { fds = u.fds; hungs = u.hungs } in
+    accepted t m d (λ x. closing x.drivers x.configuration p n) r e
+    (swept_is t.drivers.items given old (record old { fds = filter (λ f. not (is_fd p n f)) old.fds }) swept d r same is
+    (sweep_of_left t.drivers.items swept u old.hungs (λ s. less.holds s ∙ kept.kept.held s) refl less.hungs
+    ∙ ap (λ (fs : List Descriptor). after_sweep t.drivers.items (record old { fds = fs })) less.fds) left)
 
 -- a close that leaves nothing to sweep takes its descriptor away, and drops no message
 pub closes_shared : (drivers : List DriverSpec) (c : Configuration) (process fd : ℕ) (fds : List Descriptor)

@@ -1,7 +1,6 @@
 -- What a swept change comes to.
-use Rattle.std.proofs.Common.{◌≡◌, ℕ, Bool, true, false, ◌&&◌, not, eqb, List, [], ◌∷◌, length, filter, find}
-use Rattle.std.proofs.Common.{Option, Some, None, Result, Ok, Err, if◌then◌else◌, refl, sym, ap, ◌∙◌, inl, inr}
-use Rattle.std.specs.Option.{option_map}
+use Rattle.std.proofs.Common.{◌≡◌, ℕ, Bool, true, false, ◌&&◌, not, eqb, List, [], ◌∷◌, length, filter}
+use Rattle.std.proofs.Common.{Ok, Err, if◌then◌else◌, refl, ap, ◌∙◌, inl, inr}
 use Rattle.std.proofs.lemmas.Bool.{cases_Bool, and_parts, and_from}
 use Rattle.std.specs.List.{list_any, list_all}
 use Rattle.smx_types.specs.declared.command.Command.TheVariants as command
@@ -10,28 +9,26 @@ use Rattle.smx_types.specs.declared.command.Which.TheVariants as which
 use Rattle.smx_types.specs.declared.link.Binding.{Binding}
 use Rattle.smx_types.specs.declared.link.LinkKind.TheVariants as kind
 use Rattle.smx_types.specs.declared.link.Route.{Route}
-use Rattle.smx_types.specs.declared.reply.Fault.{Fault}
-use Rattle.smx_types.specs.declared.reply.Fault.TheVariants.{BadDescriptor, Below, NoDriver}
-use Rattle.smx_types.specs.declared.reply.Fault.TheVariants.{NoMinor, NotMux, Unbound, Unrouted}
-use Rattle.smx_types.specs.declared.stream.Descriptor.{Descriptor}
+use Rattle.smx_types.specs.declared.reply.Fault.TheVariants.{NotMux, Unbound, Unrouted}
 use Rattle.smx_types.specs.declared.stream.StreamId.{StreamId}
 use Rattle.smx_types.specs.declared.driver.DriverSpec.{DriverSpec}
 use Rattle.smx_types.specs.declared.reply.Reply.{Reply}
 use Rattle.smx_types.specs.declared.reply.Reply.TheVariants.{Done}
 use Rattle.smx_model.specs.Commands.{done_outcome, outcome}
-use Rattle.smx_model.specs.Configuration.{Configuration, stream_before, is_fd, bind_before, route_before}
+use Rattle.smx_model.specs.Configuration.{Configuration, stream_before, bind_before, route_before}
 use Rattle.smx_model.specs.DriverList.{is_mux}
 use Rattle.smx_model.specs.Hangups.{is_hung, with_hung}
 use Rattle.smx_model.specs.Ordered.{with_inserted}
-use Rattle.smx_model.specs.Lookups.{driver_of, leaf_stream, mux_stream}
-use Rattle.smx_model.specs.Outcomes.{◌>>=◌, or_fault, refuse}
+use Rattle.smx_model.specs.Lookups.{free_stream, leaf_stream, mux_stream}
+use Rattle.smx_model.specs.Outcomes.{refuse}
 use Rattle.smx_model.specs.Removal.{serials_that_left, after_sweep}
-use Rattle.smx_model.specs.Standing.{is_below, exists}
+use Rattle.smx_model.specs.Standing.{exists}
 use Rattle.smx_model.specs.Swept.{IsSwept}
 use Rattle.smx_addresses.specs.BindingLists.{is_taken}
 use Rattle.smx_tables.proofs.ClimbLemmas.{named_stands}
 use Rattle.smx_tables.proofs.ExistingLemmas.{all_fewer, named_stream}
 use Rattle.smx_config.specs.UnlinkTargets.{unlinks}
+use Rattle.smx_config.proofs.AcceptedLemmas.{bound, fd_at, free_says, leaf_says}
 
 -- what a body has swept, by drivers that it was given, with a reply that names the serials that left, is what the
 -- change comes to, where their sweeps come to the same
@@ -78,25 +75,13 @@ route_does drivers c process fd addr id s new r idle clean e there is none =
             (record { driver = s.driver; addr = addr; id = id });
       }
 
-mux_stream_of : (o : Option StreamId) (below leaf : StreamId → Bool) (s : StreamId)
-    → (((or_fault BadDescriptor o >>= (λ x. refuse Below (below x) >>= (λ a. Ok x)))) >>= (λ x.
-    refuse NotMux (leaf x) >>= (λ m. Ok x))) ≡ Ok s → o ≡ Some s
-mux_stream_of None below leaf s h = absurd cc
-mux_stream_of (Some x) below leaf s h = elim (cases_Bool (below x)) [
-  | inl t ↦ let k = rw t at h in absurd cc
-  | inr f ↦ elim (cases_Bool (leaf x)) [
-    | inl t ↦ let k = rw (f, t) at h in
-        absurd cc
-    | inr g ↦ let k : Ok x ≡ Ok s = rw (f, g) at h in let same : x ≡ s = cc in ap (λ (y : StreamId). Some y) same
-  ]
-]
-
 mux_stream_exists : (drivers : List DriverSpec) (c : Configuration) (process fd : ℕ) (s : StreamId)
     → mux_stream drivers c process fd ≡ Ok s → exists drivers c s ≡ true
 mux_stream_exists drivers c process fd s e =
-    let there = mux_stream_of (option_map (λ (d : Descriptor). d.stream) (find (is_fd process fd) c.fds))
-    (λ x. is_below c.links x) (λ x. not (is_mux drivers x.driver)) s e in
-    named_stands c.fds c.links (length drivers) s (named_stream process fd c.fds s there)
+    let free = bound (free_stream c process fd) _ s e in
+    let mux = bound (refuse NotMux (not (is_mux drivers free.0.driver))) _ s free.2 in
+    let there = (free_says c process fd s (free.1 ∙ mux.2)).0 in
+    named_stands c.fds c.links (length drivers) s (named_stream process fd c.fds s (fd_at _ s there))
 
 all_inserted : {X : Type 0} (before : X → X → Bool) (t : X → Bool) (xs : List X) (x : X) → t x ≡ true
     → list_all t xs ≡ true → list_all t (with_inserted before xs x) ≡ true
@@ -180,26 +165,6 @@ unroute_refused drivers c process fd addr s e none = rw (e, none) refl
 
 -- ---- a hangup
 
--- the stream that a device's command names exists
-pub leaf_exists : (drivers : List DriverSpec) (c : Configuration) (name : List ℕ) (minor : ℕ) (s : StreamId)
-    → leaf_stream drivers c name minor ≡ Ok s → exists drivers c s ≡ true
-leaf_exists drivers c name minor s h = named (driver_of drivers name) h where
-  named : (o : Result ℕ Fault)
-      → (o >>= (λ n. refuse NoDriver
-      (is_mux drivers n) >>= (λ leaf. refuse NoMinor
-      (not (exists drivers c (record { driver = n; minor = minor }))) >>= (λ there.
-      Ok (record { driver = n; minor = minor }))))) ≡ Ok s → exists drivers c s ≡ true
-  named (Err f) e = absurd cc
-  named (Ok n) e = elim (cases_Bool (is_mux drivers n)) [
-    | inl t ↦ let k : Err NoDriver ≡ Ok s = rw t at e in absurd cc
-    | inr f ↦ elim (cases_Bool (exists drivers c (record { driver = n; minor = minor }))) [
-      | inl t ↦ let k : Ok (record { driver = n; minor = minor }) ≡ Ok s = rw (f, t) at e in
-          let same : ◌≡◌ {A = StreamId} (record { driver = n; minor = minor }) s =
-          cc in ap (exists drivers c) (sym same) ∙ t
-      | inr g ↦ let k : Err NoMinor ≡ Ok s = rw (f, g) at e in absurd cc
-    ]
-  ]
-
 one_more_hung : (drivers : List DriverSpec) (c : Configuration) (s : StreamId) → exists drivers c s ≡ true
     → IsSwept drivers c → IsSwept drivers (record c { hungs = with_hung s c.hungs })
 one_more_hung drivers c s there h = record {
@@ -222,7 +187,7 @@ pub hangup_does : (drivers : List DriverSpec) (c : Configuration) (process : ℕ
     → outcome drivers c process (command.Hangup name minor) ≡ Ok (new, r)
 hangup_does drivers c process name minor s new r idle clean e is none = rw (e, is, none)
     (idle c (record c { hungs = with_hung s c.hungs })
-    (one_more_hung drivers c s (leaf_exists drivers c name minor s e) clean) refl)
+    (one_more_hung drivers c s (leaf_says drivers c name minor s e).0 clean) refl)
 
 -- ---- both kinds of links at once
 

@@ -6,6 +6,7 @@ pub mod SendLemmas
 pub mod LookupLemmas
 pub mod DriverFaultLemmas
 pub mod VerdictLemmas
+pub mod AcceptedLemmas
 pub mod RunMarkLemmas
 pub mod NeededLemmas
 pub mod WakeLemmas

@@ -1,16 +1,17 @@
 -- A message that moves alone: where it goes on, where it stays, and what is left of the marks.
-use Rattle.std.proofs.Common.{◌≡◌, Bool, true, false, ◌&&◌, not, cond, IsSome, List, Option, Some, None, refl, sym, ap}
+use Rattle.std.proofs.Common.{◌≡◌, ℕ, Bool, true, false, cond, IsSome, List, Option, Some, None, refl, sym, ap}
 use Rattle.std.proofs.Common.{◌∙◌, subst, inl, inr}
 use Rattle.std.specs.Prelude.{◌≢◌, ◌⊎◌}
 use Rattle.std.specs.Option.{is_some}
-use Rattle.std.proofs.lemmas.Bool.{cases_Bool, false_from_ne_true, false≢true, or_cases}
+use Rattle.std.proofs.lemmas.Bool.{cases_Bool, eqb-true, false_from_ne_true, false≢true, or_cases}
+use Rattle.std.proofs.lemmas.Option.{none-some}
 use Rattle.smx_types.specs.declared.driver.DriverSpec.{DriverSpec}
 use Rattle.smx_types.specs.declared.message.Message.{Message}
 use Rattle.smx_types.specs.declared.stream.Place.{Place}
 use Rattle.smx_model.specs.Configuration.{Configuration, same_place}
 use Rattle.smx_model.specs.LoneMessages.{IsClosed, StaysAt}
 use Rattle.smx_model.specs.Queues.{first_message, is_full}
-use Rattle.smx_model.specs.RunMarks.{AreMarked, all_but, both, is_one_of, next_of_first}
+use Rattle.smx_model.specs.RunMarks.{AreMarked, all_but, both, has_addr, is_one_of, next_of_first}
 use Rattle.smx_model.specs.Settling.{◌>>=◌, next_open_place, next_place}
 use Rattle.smx_queues.specs.PlaceMarks.{has_mark}
 use Rattle.smx_queues.specs.Waiters.{target_of}
@@ -27,10 +28,10 @@ the_message drivers c p q e =
     let m = bound (first_message c.flow p)
     (λ m. next_place drivers c p m.addr >>= (λ r. cond (is_full c r) None (Some r))) q e in (m.0, m.1)
 
--- so that there is a message
-pub some_message : (drivers : List DriverSpec) (c : Configuration) (p q : Place) → next_open_place drivers c p ≡ Some q
-    → IsSome (first_message c.flow p)
-some_message drivers c p q e = rw (the_message drivers c p q e).1 refl
+-- the address that it is told to have is its own
+pub addr_is : (c : Configuration) (p : Place) (addr : ℕ) (m : Message) → first_message c.flow p ≡ Some m
+    → has_addr addr (first_message c.flow p) ≡ true → m.addr ≡ addr
+addr_is c p addr m e has = let here : has_addr addr (Some m) ≡ true = rw e at has in eqb-true m.addr addr here
 
 -- a place that is told to be open is not full
 pub opened : (c : Configuration) (next : Option Place) (r : Place) → Some r ≡ if_open c next
@@ -41,20 +42,10 @@ opened c (Some q) r e = by (is_full c q) refl e where
   by true f h = absurd cc
   by false f h = let same : q ≡ r = cc in (sym h, subst (λ (x : Place). is_full c x ≡ false) same f)
 
--- one that is not is nowhere, or full
-pub closed : (c : Configuration) (next : Option Place) → None ≡ if_open c next → IsClosed c next
-closed c None e = tt
-closed c (Some q) e = by (is_full c q) e where
-  by : (b : Bool) → None ≡ cond b None (Some q) → b ≡ true
-  by true h = refl
-  by false h = absurd cc
-
 -- a place that is told to have a message has one
 pub told_some : (o : Option Message) → true ≡ is_some o → o ≢ None
 told_some None h = absurd (false≢true (sym h))
-told_some (Some m) h = some_none where
-  some_none : ◌≡◌ {A = Option Message} (Some m) None → ⊥
-  some_none e = cc
+told_some (Some m) h = λ e. none-some m (sym e)
 
 -- a message that is told to be there
 pub some_is : (o : Option Message) → IsSome o → (m : Message) × (o ≡ Some m)
@@ -88,15 +79,6 @@ pub record AreRested (p q : Place) (waits : Option Place) (old new : Marks) : Ty
   pub others : (r : Place) → same_place p r ≡ false → same_place q r ≡ false
       → target_of new.waits r ≡ target_of old.waits r
 
--- no place is left with a run mark
-none_marked : (c : Configuration) (p q : Place) (waits : Option Place) (old new : Marks)
-    → ((r : Place) → has_mark old.run r ≡ true → same_place p r ≡ true) → AreRested p q waits old new
-    → (r : Place) → has_mark new.run r ≡ false
-none_marked c p q waits old new only h r = h.gone r ∙ by (has_mark old.run r) refl where
-  by : (b : Bool) → has_mark old.run r ≡ b → (b && not (same_place p r)) ≡ false
-  by true e = rw (only r e) refl
-  by false e = refl
-
 -- what was noted before is still noted, but for the message that came
 still_noted : (drivers : List DriverSpec) (c d : Configuration) (p q : Place) (m : Message) (waits : Option Place)
     (old new : Marks) → AreMarks drivers c old → ((r : Place) → has_mark old.run r ≡ true → same_place p r ≡ true)
@@ -104,15 +86,12 @@ still_noted : (drivers : List DriverSpec) (c d : Configuration) (p q : Place) (m
     → next_of_first drivers d r ≡ Some s → IsNotedFor new r s
 still_noted drivers c d p q m waits old new marks only h k r s e =
     by (cases_Bool (same_place p r)) (cases_Bool (same_place q r)) h.stays where
-      no_place : ◌≡◌ {A = Option Place} None (Some s) → ⊥
-      no_place x = cc
-
       before : same_place p r ≡ false → next_of_first drivers c r ≡ Some s → target_of old.waits r ≡ Some s
       before f x = marks.held_up r s (false_from_ne_true _ (λ t. false≢true (sym f ∙ only r t))) x
 
       by : (same_place p r ≡ true) ⊎ (same_place p r ≡ false) → (same_place q r ≡ true) ⊎ (same_place q r ≡ false)
           → StaysAt drivers c q m waits → IsNotedFor new r s
-      by (inl t) x y = absurd (no_place (sym h.left ∙ subst (λ (z : Place). next_of_first drivers d z ≡ Some s)
+      by (inl t) x y = absurd (none-some s (sym h.left ∙ subst (λ (z : Place). next_of_first drivers d z ≡ Some s)
           (sym (place_is p r t)) e))
       by (inr f) (inr g) y =
           k.others r f g ∙ before f (sym (h.others r f (λ t. absurd (false≢true (sym g ∙ t)))) ∙ e)
@@ -125,9 +104,7 @@ still_noted drivers c d p q m waits old new marks only h k r s e =
 -- a place that is waited for is full
 full_there : (drivers : List DriverSpec) (c : Configuration) (q r : Place) (m : Message) (waits : Option Place)
     → StaysAt drivers c q m waits → waits ≡ Some r → is_full c r ≡ true
-full_there drivers c q r m waits (inl behind) e = absurd (none_some (sym behind.1 ∙ e)) where
-  none_some : ◌≡◌ {A = Option Place} None (Some r) → ⊥
-  none_some x = cc
+full_there drivers c q r m waits (inl behind) e = absurd (none-some r (sym behind.1 ∙ e))
 full_there drivers c q r m waits (inr first) e = subst (IsClosed c) e first.2
 
 -- so the marks are enough
@@ -162,9 +139,6 @@ enough_wanted p q r waits old new k h = elim (or_cases (has_mark old.wanted r) _
 pub next_there : (drivers : List DriverSpec) (c d : Configuration) (p q r : Place) (m : Message) (waits : Option Place)
     → HasCome drivers c d p q m waits → waits ≡ Some r → next_of_first drivers d q ≡ Some r
 next_there drivers c d p q r m waits h e = by h.stays where
-  none_some : ◌≡◌ {A = Option Place} None (Some r) → ⊥
-  none_some x = cc
-
   by : StaysAt drivers c q m waits → next_of_first drivers d q ≡ Some r
-  by (inl behind) = absurd (none_some (sym behind.1 ∙ e))
+  by (inl behind) = absurd (none-some r (sym behind.1 ∙ e))
   by (inr first) = h.first first.0 ∙ (sym first.1 ∙ e)

@@ -13,12 +13,7 @@ use Rattle.smx_model.specs.Lookups.{driver_of, leaf_stream}
 use Rattle.smx_model.specs.Outcomes.{refuse}
 use Rattle.smx_model.specs.Standing.{exists}
 
--- what is not refused has failed the test
-pub not_refused : (f : Fault) (test : Bool) → refuse f test ≡ Ok tt → test ≡ false
-not_refused f true h = absurd cc
-not_refused f false h = refl
-
--- and what is not refused unless it holds, holds
+-- what is not refused unless it holds, holds
 pub is_there : (f : Fault) (test : Bool) → refuse f (not test) ≡ Ok tt → test ≡ true
 is_there f true h = refl
 is_there f false h = absurd cc

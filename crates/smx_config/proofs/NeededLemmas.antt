@@ -1,45 +1,20 @@
 -- Marks that matter, and those that need not be there.
-use Rattle.std.proofs.Common.{◌≡◌, true, false, ◌∷◌, Option, Some, None, refl, sym, ap, ◌∙◌, subst, inl, inr}
+use Rattle.std.proofs.Common.{◌≡◌, true, false, Option, Some, None, refl, sym, ap, ◌∙◌, subst, inl, inr}
 use Rattle.std.specs.Option.{is_some}
 use Rattle.std.proofs.lemmas.Bool.{cases_Bool, false≢true, or_left, or_right}
-use Rattle.std.proofs.Common.{List, find, []}
+use Rattle.std.proofs.lemmas.Option.{none-some}
+use Rattle.std.proofs.Common.{List}
 use Rattle.smx_types.specs.declared.driver.DriverSpec.{DriverSpec}
-use Rattle.smx_types.specs.declared.link.Link.{Link}
 use Rattle.smx_types.specs.declared.message.Message.{Message}
 use Rattle.smx_types.specs.declared.stream.Place.{Place}
-use Rattle.smx_types.specs.declared.stream.Side.TheVariants as side
-use Rattle.smx_types.specs.declared.stream.StreamId.{StreamId}
-use Rattle.smx_model.specs.Configuration.{Configuration, same_place, same_stream}
-use Rattle.smx_model.specs.RunMarks.{is_held_up, next_of, next_of_first}
-use Rattle.smx_model.specs.Settling.{next_place}
-use Rattle.smx_model.specs.Standing.{is_below}
+use Rattle.smx_model.specs.Configuration.{Configuration, same_place}
+use Rattle.smx_model.specs.RunMarks.{is_held_up, next_of_first}
 use Rattle.smx_queues.specs.PlaceMarks.{MarkList, has_mark}
 use Rattle.smx_queues.specs.Waiters.{WaitList, target_of}
 use Rattle.smx_config.specs.declared.marks.Marks.{Marks}
 use Rattle.smx_config.specs.Marking.{AreMarks, HasNeeded, IsOneMore}
 use Rattle.smx_config.proofs.RunMarkLemmas.{with_one}
 use Rattle.smx_queues.proofs.PlaceLemmas.{place_is, place_self, same_turned}
-
--- ---- places from which no message goes on
-
--- a message that has nowhere to go makes the place one from which none goes on
-from_nowhere : (drivers : List DriverSpec) (c : Configuration) (p : Place) (o : Option Message)
-    → ((m : Message) → next_place drivers c p m.addr ≡ None) → next_of drivers c p o ≡ None
-from_nowhere drivers c p None none = refl
-from_nowhere drivers c p (Some m) none = none m
-
-none_above : (links : List Link) (s : StreamId) → is_below links s ≡ false
-    → find (λ l. same_stream l.lower s) links ≡ None
-none_above [] s none = refl
-none_above (l ∷ ls) s none = elim (cases_Bool (same_stream l.lower s)) [
-  | inl t ↦ absurd (false≢true (sym none ∙ or_left _ _ t))
-  | inr f ↦ rw f (none_above ls s (rw f at none))
-]
-
--- the read side of a stream that is below no link
-pub not_up : (drivers : List DriverSpec) (c : Configuration) (p : Place) → p.side ≡ side.Read
-    → is_below c.links p.stream ≡ false → next_of_first drivers c p ≡ None
-not_up drivers c p at none = from_nowhere drivers c p _ (λ m. rw (at, none_above c.links p.stream none) refl)
 
 -- ---- marks that need not be there
 
@@ -79,12 +54,9 @@ needed_do drivers c m n h less wanted waits = record {
   held_up = λ p q clear e. subst (λ (t : WaitList). target_of t p ≡ Some q) (sym waits)
       (h.held_up p q (unmarked p q clear e) e);
 } where
-  nowhere : (q : Place) → ◌≡◌ {A = Option Place} None (Some q) → ⊥
-  nowhere q k = cc
-
   unmarked : (p q : Place) → has_mark n.run p ≡ false → next_of_first drivers c p ≡ Some q → has_mark m.run p ≡ false
   unmarked p q clear e = elim (cases_Bool (has_mark m.run p)) [
-    | inl t ↦ absurd (false≢true (sym clear ∙ less.needed p t (λ none. nowhere q (sym none ∙ e))))
+    | inl t ↦ absurd (false≢true (sym clear ∙ less.needed p t (λ none. none-some q (sym none ∙ e))))
     | inr f ↦ f
   ]
 

@@ -5,6 +5,7 @@ use Rattle.std.specs.Prelude.{◌≢◌, ◌⊎◌, IfNone}
 use Rattle.std.specs.List.{list_any}
 use Rattle.std.specs.Option.{is_some, option_map}
 use Rattle.std.proofs.lemmas.Bool.{cases_Bool, false≢true}
+use Rattle.std.proofs.lemmas.Option.{none-some}
 use Rattle.smx_types.specs.declared.driver.DriverSpec.{DriverSpec}
 use Rattle.smx_types.specs.declared.message.Message.{Message}
 use Rattle.smx_types.specs.declared.stream.Place.{Place}
@@ -36,9 +37,8 @@ least_none drivers c s = ap (option_map (λ (h : QueuedMessage). h.place)) (none
 pub none_left : (drivers : List DriverSpec) (c : Configuration) (r : Option Move) (P : Type 0) → IsSettled drivers c
     → IsLeastMove drivers c r → IfNone r P → P
 none_left drivers c None P s least none = none
-none_left drivers c (Some m) P s least none = let e = least_none drivers c s in absurd (apart (sym e ∙ least.0)) where
-  apart : ◌≡◌ {A = Option Place} None (Some m.from) → ⊥
-  apart k = cc
+none_left drivers c (Some m) P s least none = let e = least_none drivers c s in
+    absurd (none-some m.from (sym e ∙ least.0))
 
 -- where a first message goes, unless that is full, is where it may go on to
 pub open_of_next : (drivers : List DriverSpec) (c : Configuration) (p : Place)
@@ -70,17 +70,7 @@ not_open c q next is e = by (is_full c q) (subst (λ (o : Option Place). if_open
 -- a place from which a message goes next has one
 pub next_has_message : (drivers : List DriverSpec) (c : Configuration) (p q : Place)
     → next_of_first drivers c p ≡ Some q → first_message c.flow p ≢ None
-next_has_message drivers c p q e none = nowhere (sym (ap (next_of drivers c p) none) ∙ e) where
-  nowhere : ◌≡◌ {A = Option Place} None (Some q) → ⊥
-  nowhere k = cc
-
--- a place whose first message may go on to another has one
-pub open_has_message : (drivers : List DriverSpec) (c : Configuration) (p q : Place)
-    → next_open_place drivers c p ≡ Some q → first_message c.flow p ≢ None
-open_has_message drivers c p q e none = nowhere
-    (sym (open_of_next drivers c p ∙ ap (λ (o : Option Message). if_open c (next_of drivers c p o)) none) ∙ e) where
-      nowhere : ◌≡◌ {A = Option Place} None (Some q) → ⊥
-      nowhere k = cc
+next_has_message drivers c p q e none = none-some q (sym (ap (next_of drivers c p) none) ∙ e)
 
 -- ---- a run mark is cleared
 
@@ -166,14 +156,11 @@ emptied_marks drivers c p old new none h gone run wanted waits = record {
   full = λ q w. h.full q (subst (λ (m : MarkList). has_mark m q ≡ true) wanted w);
   waits = ap (λ (t : WaitList). t.drivers) waits ∙ h.waits;
   held_up = λ r q clear e. elim (cases_Bool (same_place p r)) [
-    | inl here ↦ absurd (no_place q (sym (nowhere_next r here) ∙ e))
+    | inl here ↦ absurd (none-some q (sym (nowhere_next r here) ∙ e))
     | inr other ↦ subst (λ (t : WaitList). target_of t r ≡ Some q) (sym waits)
         (h.held_up r q (still_run old.run new.run p r gone other clear) e)
   ];
 } where
-  no_place : (q : Place) → ◌≡◌ {A = Option Place} None (Some q) → ⊥
-  no_place q k = cc
-
   nowhere_next : (q : Place) → same_place p q ≡ true → next_of_first drivers c q ≡ None
   nowhere_next q here =
       ap (next_of drivers c q) (subst (λ (x : Place). first_message c.flow x ≡ None) (place_is p q here) none)
@@ -194,14 +181,11 @@ forgotten drivers c p old new h here run wanted others same = record {
     | inr other ↦ others r other ∙ h.held_up r q (subst (λ (m : MarkList). has_mark m r ≡ false) run clear) e
   ];
 } where
-  no_place : (q : Place) → ◌≡◌ {A = Option Place} None (Some q) → ⊥
-  no_place q k = cc
-
   not_it : (r q : Place) → p ≡ r → has_mark old.run r ≡ false → next_of_first drivers c r ≡ Some q → ⊥
   not_it r q k clear e = elim here [
     | inl marked ↦ false≢true (sym clear ∙ subst (λ (x : Place). has_mark old.run x ≡ true) k marked)
     | inr none ↦
-        no_place q (sym (ap (next_of drivers c r) (subst (λ (x : Place). first_message c.flow x ≡ None) k none)) ∙ e)
+        none-some q (sym (ap (next_of drivers c r) (subst (λ (x : Place). first_message c.flow x ≡ None) k none)) ∙ e)
   ]
 
 -- ---- the place that is waited for
@@ -239,7 +223,7 @@ marks_at_first drivers m run wanted waits no_run no_wanted rest = (
     waits = waits;
     waiting = at_rest.marks;
     full = λ p h. absurd (false≢true (sym (ap (list_any (same_place p)) no_wanted) ∙ h));
-    held_up = λ p q clear e. absurd (nothing p q e);
+    held_up = λ p q clear e. absurd (none-some q e);
   },
   at_rest.none,
 ) where
@@ -254,6 +238,3 @@ marks_at_first drivers m run wanted waits no_run no_wanted rest = (
 
   at_rest : IsAtRest drivers (marked_configuration empty m)
   at_rest = rested m.run.marked m.wanted.marked no_run no_wanted
-
-  nothing : (p q : Place) → ◌≡◌ {A = Option Place} None (Some q) → ⊥
-  nothing p q k = cc

@@ -1,6 +1,6 @@
 -- Moves in a row, from one place to the same other.
 use Rattle.std.proofs.Common.{◌≡◌, ℕ, ◌-◌, ◌<◌, Bool, true, false, List, [], ◌∷◌, find, Option, None, Some, refl, sym}
-use Rattle.std.proofs.Common.{ap, ◌∙◌, subst, inl, inr, cond, not}
+use Rattle.std.proofs.Common.{ap, ◌∙◌, subst, inl, inr, cond}
 use Rattle.std.specs.Option.{is_some, option_map}
 use Rattle.std.proofs.lemmas.Bool.{cases_Bool, eqb-true, false≢true}
 use Rattle.smx_types.specs.declared.driver.DriverSpec.{DriverSpec}
@@ -14,6 +14,7 @@ use Rattle.smx_model.specs.RunMarks.{has_addr, next_of}
 use Rattle.smx_model.specs.Settling.{◌>>=◌, after_move, least_movable, next_open_place, next_place}
 use Rattle.smx_config.specs.Moves.{HasMoved}
 use Rattle.smx_config.specs.Ways.{LeadAlike}
+use Rattle.smx_config.proofs.LoneMessageLemmas.{addr_is}
 use Rattle.smx_config.proofs.NextMoveLemmas.{moves_to}
 use Rattle.smx_config.proofs.NextPlaceLemmas.{open_is}
 use Rattle.smx_config.proofs.SettleLemmas.{settled_one}
@@ -24,14 +25,14 @@ use Rattle.smx_tables.proofs.FoundLemmas.{bound}
 
 -- a message of the address of the first one, which may go on, goes to the same place next
 pub goes_there : (drivers : List DriverSpec) (c : Configuration) (p q : Place) (addr : ℕ)
-    → next_open_place drivers c p ≡ Some q → ((m : Message) → first_message c.flow p ≡ Some m → addr ≡ m.addr)
+    → next_open_place drivers c p ≡ Some q → has_addr addr (first_message c.flow p) ≡ true
     → next_place drivers c p addr ≡ Some q
-goes_there drivers c p q addr e is =
+goes_there drivers c p q addr e has =
     let m = bound (first_message c.flow p)
     (λ m. next_place drivers c p m.addr >>= (λ r. cond (is_full c r) None (Some r))) q e in
     let n = bound (next_place drivers c p m.0.addr) (λ r. cond (is_full c r) None (Some r)) q m.2 in
     let o = open_is (is_full c n.0) n.0 q n.2 in
-    ap (next_place drivers c p) (is m.0 m.1) ∙ (n.1 ∙ ap (λ (x : Place). Some x) o.1)
+    ap (next_place drivers c p) (sym (addr_is c p addr m.0 m.1 has)) ∙ (n.1 ∙ ap (λ (x : Place). Some x) o.1)
 
 -- after a move it still does
 pub next_after : (drivers : List DriverSpec) (c : Configuration) (p q : Place) (addr : ℕ)
@@ -48,11 +49,6 @@ same_again drivers c p q addr is asks free =
       by : (o : Option Message) → has_addr addr o ≡ true → next_of drivers c p o ≡ Some q
       by None h = absurd (false≢true h)
       by (Some m) h = ap (next_place drivers c p) (eqb-true m.addr addr h) ∙ is
-
--- what is told not to be so is not
-pub told_not : (b : Bool) → not b ≡ true → b ≡ false
-told_not true h = sym h
-told_not false h = refl
 
 -- ---- where they arrive
 

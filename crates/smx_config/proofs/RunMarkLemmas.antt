@@ -4,7 +4,7 @@ use Rattle.std.proofs.Common.{Some, None, refl, sym, ap, ◌∙◌, subst, inl, 
 use Rattle.std.specs.Prelude.{◌≢◌, ◌⊎◌}
 use Rattle.std.specs.List.{list_any}
 use Rattle.std.specs.Option.{option_map_or}
-use Rattle.std.proofs.lemmas.Bool.{cases_Bool, false≢true, or_left, or_right}
+use Rattle.std.proofs.lemmas.Bool.{cases_Bool, false≢true}
 use Rattle.smx_types.specs.declared.driver.DriverSpec.{DriverSpec}
 use Rattle.smx_types.specs.declared.link.Link.{Link}
 use Rattle.smx_types.specs.declared.stream.Place.{Place}
@@ -14,11 +14,10 @@ use Rattle.smx_model.specs.Configuration.{Configuration, QueuedMessage, same_pla
 use Rattle.smx_model.specs.KnownStreams.{IsKnown}
 use Rattle.smx_model.specs.Paths.{AreLowersApart}
 use Rattle.smx_model.specs.Queues.{first_message}
-use Rattle.smx_model.specs.RunMarks.{all_but, both}
 use Rattle.smx_queues.specs.PlaceMarks.{MarkList, has_mark}
 use Rattle.smx_config.specs.Marking.{IsMarkedUnless, IsMarkedWhere, is_read_below_driver}
 use Rattle.smx_tables.proofs.AboveLemmas.{any_once, once_below}
-use Rattle.smx_queues.proofs.PlaceLemmas.{place_is, place_self, same_turned}
+use Rattle.smx_queues.proofs.PlaceLemmas.{place_is}
 
 -- nothing is marked where no place with a message passes the test
 pub none_marked : (flow : List QueuedMessage) (test : Place → Bool) (m : MarkList)
@@ -44,25 +43,6 @@ one_marked flow place old new here kept same = record {
       (here (subst (λ (x : Place). IsKnown old.drivers x.stream) (sym e) known));
   drivers = same;
 }
-
--- one marking after another
-pub both_marked : (flow : List QueuedMessage) (one other : Place → Bool) (old mid new : MarkList)
-    → IsMarkedWhere flow one old mid → IsMarkedWhere flow other mid new → IsMarkedWhere flow (both one other) old new
-both_marked flow one other old mid new a b = record {
-  kept = λ p h. b.kept p (a.kept p h);
-  marked = λ p known some t. elim (cases_Bool (one p)) [
-    | inl y ↦ b.kept p (a.marked p known some y)
-    | inr n ↦ b.marked p (subst (λ (ds : List DriverSpec). IsKnown ds p.stream) (sym a.drivers) known) some (rw n at t)
-  ];
-  drivers = b.drivers ∙ a.drivers;
-}
-
--- a test that fewer places pass
-pub fewer_marked : (flow : List QueuedMessage) (wide narrow : Place → Bool) (old new : MarkList)
-    → ((p : Place) → narrow p ≡ true → wide p ≡ true) → IsMarkedWhere flow wide old new
-    → IsMarkedWhere flow narrow old new
-fewer_marked flow wide narrow old new less h =
-    record { kept = h.kept; marked = λ p known some t. h.marked p known some (less p t); drivers = h.drivers }
 
 -- ---- the driver above a stream
 
@@ -141,14 +121,6 @@ one_left flow now rest h test old mid is a not_it = record {
       → list_any (λ k. same_place k.place p) rest ≡ true
   behind p n later = rw n at (rw is at later)
 
--- ---- a place that a message has left
-
--- nothing is marked at a place without messages
-pub left_empty : (flow : List QueuedMessage) (one other : Place → Bool) (old new : MarkList)
-    → ((p : Place) → one p ≡ true → first_message flow p ≡ None) → IsMarkedWhere flow other old new
-    → IsMarkedWhere flow (both one other) old new
-left_empty flow one other old new none h = both_marked flow one other old old new (none_marked flow one old none) h
-
 -- ---- a mark that is taken before another one is put
 
 -- where it had messages, no mark is asked for
@@ -160,21 +132,3 @@ no_more_marked filled place m h =
 -- with a mark at this place too
 abbrev pub with_one : MarkList → Place → MarkList
 with_one m p = record m { marked = p ∷ m.marked }
-
--- it has that mark, and those from before
-pub one_more : (flow : List QueuedMessage) (place : Place) (m : MarkList)
-    → IsMarkedWhere flow (same_place place) m (with_one m place)
-one_more flow place m = one_marked flow place m (with_one m place)
-    (λ known. or_left (same_place place place) (has_mark m place) (place_self place))
-    (λ p h. or_right (same_place p place) (has_mark m p) h) refl
-
--- where the mark of one place is taken, and then another place gets one, it is as if that had come first
-pub taken_first : (from to : Place) (old mid new : MarkList) → same_place from to ≡ false
-    → ((q : Place) → has_mark mid q ≡ all_but (has_mark old) from q) → has_mark new to ≡ true
-    → ((q : Place) → same_place to q ≡ false → has_mark new q ≡ has_mark mid q)
-    → (q : Place) → has_mark new q ≡ all_but (has_mark (with_one old to)) from q
-taken_first from to old mid new apart gone here others q = elim (cases_Bool (same_place to q)) [
-  | inl t ↦ subst (λ (x : Place). has_mark new x ≡ all_but (has_mark (with_one old to)) from x) (place_is to q t)
-      (here ∙ sym (rw (place_self to, apart) refl))
-  | inr f ↦ others q f ∙ (gone q ∙ sym (rw (same_turned q to ∙ f) refl))
-]

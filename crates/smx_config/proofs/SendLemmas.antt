@@ -1,62 +1,28 @@
 -- A message that may be sent: where it goes, and what it has.
-use Rattle.std.proofs.Common.{◌≡◌, ℕ, Bool, true, false, not, List, Result, Ok, Err}
-use Rattle.std.proofs.Common.{refl, ◌∙◌, subst}
+use Rattle.std.proofs.Common.{◌≡◌, ℕ, List, Result, Ok, Err}
+use Rattle.std.proofs.Common.{refl, ◌∙◌}
 use Rattle.std.specs.Prelude.{IfOk}
 use Rattle.smx_types.specs.declared.driver.DriverSpec.{DriverSpec}
 use Rattle.smx_types.specs.declared.reply.Fault.{Fault}
-use Rattle.smx_types.specs.declared.reply.Fault.TheVariants.{Below, HungUp, NoDriver, NoMinor}
+use Rattle.smx_types.specs.declared.reply.Fault.TheVariants.{HungUp}
 use Rattle.smx_types.specs.declared.stream.StreamId.{StreamId}
 use Rattle.smx_model.specs.Configuration.{Configuration}
-use Rattle.smx_model.specs.DriverList.{is_mux}
 use Rattle.smx_model.specs.Hangups.{is_hung}
 use Rattle.smx_model.specs.KnownStreams.{AreStreamsKnown, IsKnown}
-use Rattle.smx_model.specs.Lookups.{driver_of, free_stream, leaf_stream, live_leaf, live_stream, stream_of}
+use Rattle.smx_model.specs.Lookups.{free_stream, leaf_stream, live_leaf, live_stream}
 use Rattle.smx_model.specs.Outcomes.{◌>>=◌, refuse}
-use Rattle.smx_model.specs.Standing.{exists, is_below}
+use Rattle.smx_config.proofs.AcceptedLemmas.{bound, free_says, leaf_says}
 use Rattle.smx_config.proofs.KnownLemmas.{exists_known, stream_known}
-
--- what came before an accepted result
-bound : {A B : Type 0} (a : Result A Fault) (f : A → Result B Fault) (y : B) → (a >>= f) ≡ Ok y
-    → (x : A) × (a ≡ Ok x) × (f x ≡ Ok y)
-bound (Ok x) f y e = (x, refl, e)
-bound (Err g) f y e = absurd cc
-
-passed : (f : Fault) (test : Bool) (x : Unit {0}) → refuse f test ≡ Ok x → test ≡ false
-passed f true x e = absurd cc
-passed f false x e = refl
-
-ok_is : (s t : StreamId) → ◌≡◌ {A = Result StreamId Fault} (Ok s) (Ok t) → s ≡ t
-ok_is s t e = cc
 
 -- the stream of a descriptor is known
 pub free_known : (drivers : List DriverSpec) (c : Configuration) (process fd : ℕ) (s : StreamId)
     → AreStreamsKnown drivers c → free_stream c process fd ≡ Ok s → IsKnown drivers s
-free_known drivers c process fd s k e =
-    let there = bound (stream_of c process fd) (λ x. refuse Below (is_below c.links x) >>= (λ a. Ok x)) s e in
-    let free = bound (refuse Below (is_below c.links there.0)) (λ a. Ok there.0) s there.2 in
-    stream_known drivers c process fd s k (there.1 ∙ free.2)
+free_known drivers c process fd s k e = stream_known drivers c process fd s k (free_says c process fd s e).0
 
 -- and so is that of a device
 pub leaf_known : (drivers : List DriverSpec) (c : Configuration) (name : List ℕ) (minor : ℕ) (s : StreamId)
     → AreStreamsKnown drivers c → leaf_stream drivers c name minor ≡ Ok s → IsKnown drivers s
-leaf_known drivers c name minor s k e =
-    let n = bound (driver_of drivers name)
-    (λ n. refuse NoDriver
-    (is_mux drivers n) >>= (λ l. refuse NoMinor
-    (not (exists drivers c (record { driver = n; minor = minor }))) >>= (λ t.
-    Ok (record { driver = n; minor = minor })))) s e in
-    let leaf = bound (refuse NoDriver (is_mux drivers n.0))
-    (λ l. refuse NoMinor (not (exists drivers c (record { driver = n.0; minor = minor }))) >>= (λ t.
-    Ok (record { driver = n.0; minor = minor }))) s n.2 in
-    let there = bound (refuse NoMinor (not (exists drivers c (record { driver = n.0; minor = minor }))))
-    (λ t. Ok (record { driver = n.0; minor = minor })) s leaf.2 in
-    let here = passed NoMinor (not (exists drivers c (record { driver = n.0; minor = minor }))) there.0 there.1 in
-    let same : record { driver = n.0; minor = minor } ≡ s = ok_is (record { driver = n.0; minor = minor }) s there.2 in
-    subst (IsKnown drivers) same
-    (exists_known drivers c (record { driver = n.0; minor = minor }) k (is_true _ here)) where
-      is_true : (b : Bool) → not b ≡ false → b ≡ true
-      is_true true h = refl
-      is_true false h = absurd cc
+leaf_known drivers c name minor s k e = exists_known drivers c s k (leaf_says drivers c name minor s e).0
 
 -- and so are those whose device has not hung up
 pub live_known : (drivers : List DriverSpec) (c : Configuration) (process fd : ℕ) (s : StreamId)

@@ -1,89 +1,40 @@
 -- Places from which no message goes on: the read side of a stream that is not linked below, and the write side of a
 -- leaf driver's stream. So what is left where a message was read or transmitted turns nothing.
-use Rattle.std.proofs.Common.{◌≡◌, ℕ, Bool, true, false, ◌&&◌, not, List, [], ◌∷◌, find, Option, None, Some}
-use Rattle.std.proofs.Common.{Result, Ok, Err, refl, sym, ap, ◌∙◌, subst, inl, inr}
+use Rattle.std.proofs.Common.{◌≡◌, ℕ, Bool, true, false, List, [], ◌∷◌, find, Option, None, Some}
+use Rattle.std.proofs.Common.{Ok, refl, sym, ◌∙◌, subst, inl, inr}
 use Rattle.std.specs.List.{list_any}
-use Rattle.std.specs.Option.{is_some}
 use Rattle.std.proofs.lemmas.Bool.{cases_Bool, false≢true}
 use Rattle.smx_types.specs.declared.command.Command.TheVariants as command
 use Rattle.smx_types.specs.declared.driver.DriverSpec.{DriverSpec}
 use Rattle.smx_types.specs.declared.link.Link.{Link}
 use Rattle.smx_types.specs.declared.message.Message.{Message}
-use Rattle.smx_types.specs.declared.reply.Fault.{Fault}
-use Rattle.smx_types.specs.declared.reply.Fault.TheVariants.{Below, Empty, HungUp, NoDriver, NoMinor}
+use Rattle.smx_types.specs.declared.reply.Fault.TheVariants.{HungUp}
 use Rattle.smx_types.specs.declared.reply.Reply.{Reply}
 use Rattle.smx_types.specs.declared.stream.Place.{Place}
+use Rattle.smx_types.specs.declared.stream.Side.TheVariants as side
 use Rattle.smx_types.specs.declared.stream.StreamId.{StreamId}
-use Rattle.smx_model.specs.Commands.{outcome, read_outcome, receive_outcome}
+use Rattle.smx_model.specs.Commands.{outcome}
 use Rattle.smx_model.specs.Configuration.{Configuration, same_place, same_stream}
 use Rattle.smx_model.specs.DriverList.{is_mux}
 use Rattle.smx_model.specs.Hangups.{is_hung}
-use Rattle.smx_model.specs.Lookups.{driver_of, free_stream, leaf_stream, live_leaf, stream_of}
-use Rattle.smx_model.specs.Outcomes.{Outcome, ◌>>=◌, or_fault, refuse}
+use Rattle.smx_model.specs.Lookups.{free_stream, leaf_stream, live_leaf}
+use Rattle.smx_model.specs.Outcomes.{◌>>=◌, refuse}
 use Rattle.smx_model.specs.Queues.{first_message}
 use Rattle.smx_model.specs.RunMarks.{next_of, next_of_first}
-use Rattle.smx_model.specs.Standing.{exists, is_below}
+use Rattle.smx_model.specs.Standing.{is_below}
 use Rattle.smx_model.specs.TurnedPlaces.{of_stream, read_side, write_side}
+use Rattle.smx_config.proofs.AcceptedLemmas.{bound, free_says, leaf_says, read_alike}
 use Rattle.smx_queues.proofs.PlaceLemmas.{place_is}
 
 -- ---- what an accepted lookup says
 
-pub bound : {A B : Type 0} (r : Result A Fault) (f : A → Result B Fault) (y : B) → (r >>= f) ≡ Ok y
-    → (x : A) × (r ≡ Ok x) × (f x ≡ Ok y)
-bound (Err e) f y h = absurd cc
-bound (Ok x) f y h = (x, refl, h)
-
-passed : (f : Fault) (t : Bool) (u : Unit {0}) → refuse f t ≡ Ok u → t ≡ false
-passed f true u h = absurd cc
-passed f false u h = refl
-
-named : (s t : StreamId) → ◌≡◌ {A = Result StreamId Fault} (Ok s) (Ok t) → s ≡ t
-named s t h = cc
-
--- the stream of a free descriptor is not below a link
-free_is : (c : Configuration) (process fd : ℕ) (s : StreamId) → free_stream c process fd ≡ Ok s
-    → is_below c.links s ≡ false
-free_is c process fd s e =
-    let found = bound (stream_of c process fd) (λ x. refuse Below (is_below c.links x) >>= (λ a. Ok x)) s e in
-    let above = bound (refuse Below (is_below c.links found.0)) (λ a. Ok found.0) s found.2 in
-    subst (λ (x : StreamId). is_below c.links x ≡ false) (named found.0 s above.2) (passed Below _ above.0 above.1)
-
--- the driver of a device's stream is no multiplexing one
-leaf_is : (drivers : List DriverSpec) (c : Configuration) (name : List ℕ) (minor : ℕ) (s : StreamId)
-    → leaf_stream drivers c name minor ≡ Ok s → is_mux drivers s.driver ≡ false
-leaf_is drivers c name minor s e =
-    let found = bound (driver_of drivers name) _ s e in
-    let leaf = bound (refuse NoDriver (is_mux drivers found.0)) _ s found.2 in
-    let here : StreamId = record { driver = found.0; minor = minor } in
-    let there = bound (refuse NoMinor (not (exists drivers c here))) _ s leaf.2 in
-    subst (λ (x : StreamId). is_mux drivers x.driver ≡ false) (named here s there.2) (passed NoDriver _ leaf.0 leaf.1)
-
+-- the driver of a live device's stream is no multiplexing one
 live_is : (drivers : List DriverSpec) (c : Configuration) (name : List ℕ) (minor : ℕ) (s : StreamId)
     → live_leaf drivers c name minor ≡ Ok s → is_mux drivers s.driver ≡ false
 live_is drivers c name minor s e =
     let found = bound (leaf_stream drivers c name minor) (λ x. refuse HungUp (is_hung c.hungs x) >>= (λ h. Ok x)) s e in
     let live = bound (refuse HungUp (is_hung c.hungs found.0)) (λ h. Ok found.0) s found.2 in
-    leaf_is drivers c name minor s (found.1 ∙ live.2)
-
--- ---- the links stay as they are
-
-pub accepted : (x y : Configuration × Reply) → ◌≡◌ {A = Outcome} (Ok x) (Ok y) → x ≡ y
-accepted x y h = cc
-
-received_links : (drivers : List DriverSpec) (c : Configuration) (p : Place) (x : Configuration × Reply)
-    → receive_outcome drivers c p ≡ Ok x → x.0.links ≡ c.links
-received_links drivers c p x e =
-    let found = bound (or_fault Empty (first_message c.flow p)) _ x e in
-    ap (λ (y : Configuration × Reply). y.0.links) (sym (accepted _ x found.2))
-
-read_links : (drivers : List DriverSpec) (c : Configuration) (s : StreamId) (x : Configuration × Reply)
-    → read_outcome drivers c s ≡ Ok x → x.0.links ≡ c.links
-read_links drivers c s x e = by (is_hung c.hungs s && not (is_some (first_message c.flow (read_side s)))) refl where
-  by : (b : Bool) → (is_hung c.hungs s && not (is_some (first_message c.flow (read_side s)))) ≡ b → x.0.links ≡ c.links
-  by true t = let k : ◌≡◌ {A = Outcome} (Ok (c, _)) (Ok x) = rw t at e in
-      ap (λ (y : Configuration × Reply). y.0.links) (sym (accepted _ x k))
-  by false f = let k : receive_outcome drivers c (read_side s) ≡ Ok x = rw f at e in
-      received_links drivers c (read_side s) x k
+    (leaf_says drivers c name minor s (found.1 ∙ live.2)).1
 
 -- ---- where no message goes on
 
@@ -103,10 +54,10 @@ nowhere_next drivers c p none = by (first_message c.flow p) where
   by (Some m) = none m
 
 -- nothing goes up from a stream that is not below a link
-read_side_stays : (drivers : List DriverSpec) (c : Configuration) (s : StreamId) → is_below c.links s ≡ false
-    → next_of_first drivers c (read_side s) ≡ None
-read_side_stays drivers c s free = nowhere_next drivers c (read_side s)
-    (λ m. rw (none_found (λ l. same_stream l.lower s) c.links free) refl)
+pub read_side_stays : (drivers : List DriverSpec) (c : Configuration) (p : Place) → p.side ≡ side.Read
+    → is_below c.links p.stream ≡ false → next_of_first drivers c p ≡ None
+read_side_stays drivers c p at free = nowhere_next drivers c p
+    (λ m. rw (at, none_found (λ l. same_stream l.lower p.stream) c.links free) refl)
 
 -- nothing goes down from a leaf driver's stream
 write_side_stays : (drivers : List DriverSpec) (c : Configuration) (s : StreamId) → is_mux drivers s.driver ≡ false
@@ -125,10 +76,10 @@ pub read_stays : (drivers : List DriverSpec) (c : Configuration) (process fd : �
     → next_of_first drivers x.0 p ≡ None
 read_stays drivers c process fd x p e t =
     let found = bound (free_stream c process fd) _ x e in
-    let links = read_links drivers c found.0 x found.2 in
+    let links = (read_alike drivers c found.0 x found.2).links in
     stays_at drivers x.0 (read_side found.0) p (rw found.1 at t)
-    (read_side_stays drivers x.0 found.0
-    (subst (λ (ls : List Link). is_below ls found.0 ≡ false) (sym links) (free_is c process fd found.0 found.1)))
+    (read_side_stays drivers x.0 (read_side found.0) refl
+    (subst (λ (ls : List Link). is_below ls found.0 ≡ false) (sym links) (free_says c process fd found.0 found.1).1))
 
 -- after a transmit none goes on from the place that it took from
 pub transmit_stays : (drivers : List DriverSpec) (c : Configuration) (process : ℕ) (name : List ℕ) (minor : ℕ)

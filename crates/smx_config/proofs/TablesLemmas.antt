@@ -31,7 +31,3 @@ pub streams_over : (t : Inside) (m : Machine) → machine_of t ≡ m → TablesI
     → t.lists.streams.minors ≡ map (λ d. d.minors) m.drivers
 streams_over t m e h = ap (λ (x : ℕ × List ℕ × List DriverSpec). x.1) h.sizes
     ∙ ap (λ (x : Machine). map (λ (d : DriverSpec). d.minors) x.drivers) e
-
--- the table of queues is over them
-pub queues_over : (t : Inside) (m : Machine) → machine_of t ≡ m → TablesInvariant t → t.lists.queues.drivers ≡ m.drivers
-queues_over t m e h = ap (λ (x : ℕ × List ℕ × List DriverSpec). x.2) h.sizes ∙ ap (λ (x : Machine). x.drivers) e

@@ -4,7 +4,8 @@ use Rattle.std.proofs.Common.{sym, ap, ◌∙◌, subst, inl, inr}
 use Rattle.std.specs.Prelude.{◌≢◌, ◌⊎◌}
 use Rattle.std.specs.List.{list_any}
 use Rattle.std.specs.Option.{option_map}
-use Rattle.std.proofs.lemmas.Bool.{and_from, and_parts, cases_Bool, false≢true}
+use Rattle.std.proofs.lemmas.Bool.{and_from, and_parts, cases_Bool, false≢true, not-true}
+use Rattle.std.proofs.lemmas.Option.{none-some}
 use Rattle.smx_types.specs.declared.driver.DriverSpec.{DriverSpec}
 use Rattle.smx_types.specs.declared.stream.Place.{Place}
 use Rattle.smx_model.specs.Configuration.{Configuration, same_place}
@@ -91,10 +92,8 @@ went_there : (drivers : List DriverSpec) (old new : Configuration) (turned : Pla
     → next_of_first drivers old p ≡ Some q
 went_there drivers old new turned p q only f e = elim (only p f) [
   | inl same ↦ sym same ∙ e
-  | inr none ↦ absurd (nowhere (sym none ∙ e))
-] where
-  nowhere : ◌≡◌ {A = Option Place} None (Some q) → ⊥
-  nowhere k = cc
+  | inr none ↦ absurd (none-some q (sym none ∙ e))
+]
 
 -- what a change turned and freed is among what was woken
 pub record IsAmong (drivers : List DriverSpec) (old new : Configuration)
@@ -125,10 +124,6 @@ marked_after drivers old new turned freed turned_too freed_too m n marks among w
   here : (p : Place) → first_message new.flow p ≢ None → IsKnown m.run.drivers p.stream
   here p some = subst (λ (ds : List DriverSpec). IsKnown ds p.stream) (sym marks.run) (among.known p some)
 
-  not_true : (b : Bool) → not b ≡ true → b ≡ false
-  not_true true h = sym h
-  not_true false h = refl
-
   stays : (a b : Bool) → a ≡ true → not (a && not b) ≡ true → b ≡ true
   stays true true h k = refl
   stays true false h k = k
@@ -140,7 +135,7 @@ marked_after drivers old new turned freed turned_too freed_too m n marks among w
   waiter p some none f None e fed = absurd (false≢true fed)
   waiter p some none f (Some q) e fed =
       let gone = and_parts (is_freed old new q) (has_mark m.wanted q) fed in
-      let vacant = not_true (is_full new q) (and_parts (is_full old q) _ gone.0).1 in
+      let vacant = not-true (is_full new q) (and_parts (is_full old q) _ gone.0).1 in
       w.released.waiters q p (among.frees q (among.frees_only q gone.0)) vacant gone.1 (here p some)
       (marks.held_up p q none (went_there drivers old new turned p q among.turns_only f e))
 

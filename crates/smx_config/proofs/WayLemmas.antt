@@ -1,40 +1,33 @@
 -- Ways that are noted, and what leaves them right.
-use Rattle.std.proofs.Common.{◌≡◌, ℕ, zero, suc, Bool, true, false, ◌+◌, ◌&&◌, ◌||◌, eqb, not, List, [], ◌∷◌}
-use Rattle.std.proofs.Common.{length, Option, None, Some, Result, Ok, Err, refl, sym, ap, ◌∙◌, subst, inl, inr}
+use Rattle.std.proofs.Common.{◌≡◌, ℕ, zero, suc, true, List, [], ◌∷◌}
+use Rattle.std.proofs.Common.{Option, None, Some, Result, Ok, Err, refl, sym, ap, ◌∙◌, subst, inl, inr}
 use Rattle.std.proofs.Math.ListN.{set}
-use Rattle.std.specs.Prelude.{◌⊎◌, nat_le, nat_lt, slice_get}
-use Rattle.std.specs.Option.{is_some}
+use Rattle.std.specs.Prelude.{◌⊎◌, slice_get}
 use Rattle.std.specs.Result.{is_ok}
 use Rattle.std.proofs.lemmas.Bool.{false≢true}
 use Rattle.smx_types.specs.declared.command.Command.{Command}
 use Rattle.smx_types.specs.declared.command.Command.TheVariants as command
 use Rattle.smx_types.specs.declared.driver.DriverSpec.{DriverSpec}
-use Rattle.smx_types.specs.declared.limits.TheConstants.{NUMBER_END}
 use Rattle.smx_types.specs.declared.link.Binding.{Binding}
 use Rattle.smx_types.specs.declared.link.Link.{Link}
 use Rattle.smx_types.specs.declared.link.Route.{Route}
 use Rattle.smx_types.specs.declared.message.Message.{Message}
-use Rattle.smx_types.specs.declared.reply.Fault.TheVariants.{BadSize, Empty, Full}
 use Rattle.smx_types.specs.declared.reply.Reply.{Reply}
-use Rattle.smx_types.specs.declared.reply.Reply.TheVariants as reply
 use Rattle.smx_types.specs.declared.stream.Place.{Place}
 use Rattle.smx_types.specs.declared.stream.StreamId.{StreamId}
-use Rattle.smx_model.specs.Commands.{outcome, read_outcome, receive_outcome, send_outcome}
+use Rattle.smx_model.specs.Commands.{outcome}
 use Rattle.smx_model.specs.Configuration.{Configuration}
-use Rattle.smx_model.specs.DriverList.{max_of}
-use Rattle.smx_model.specs.Hangups.{is_hung}
 use Rattle.smx_model.specs.Lookups.{free_stream, live_leaf, live_stream}
 use Rattle.smx_model.specs.LoneMessages.{moved}
-use Rattle.smx_model.specs.Outcomes.{Outcome, ◌>>=◌, or_fault, refuse}
-use Rattle.smx_model.specs.Queues.{after_arrival, first_message, is_full}
-use Rattle.smx_model.specs.Settling.{after_move, after_move_to, next_open_place, next_place}
+use Rattle.smx_model.specs.Queues.{first_message}
+use Rattle.smx_model.specs.Settling.{after_move_to, next_place}
 use Rattle.smx_model.specs.TurnedPlaces.{read_side, write_side}
 use Rattle.smx_config.specs.Machine.{Machine}
 use Rattle.smx_config.specs.Refinement.{Refines}
 use Rattle.smx_config.specs.declared.step_error.StepError.{StepError}
 use Rattle.smx_config.specs.Ways.{AreWays, IsSameWay, IsWay, LeadAlike, WayList, keeps_ways}
 use Rattle.smx_config.specs.declared.ways.Way.{Way}
-use Rattle.smx_config.proofs.StayingLemmas.{accepted, bound}
+use Rattle.smx_config.proofs.AcceptedLemmas.{bound, read_alike, received_alike, sent_alike}
 
 -- ---- one more is noted
 
@@ -78,6 +71,7 @@ one_more_way drivers c old new from addr to h is few p q a w = elim (few p q a w
 
 -- ---- what leaves them right
 
+-- where all leads alike, a message goes to the same place next
 pub next_alike : (drivers : List DriverSpec) (c d : Configuration) (p : Place) (addr : ℕ) → LeadAlike c d
     → next_place drivers d p addr ≡ next_place drivers c p addr
 next_alike drivers c d p addr h =
@@ -102,49 +96,11 @@ moved_alike drivers c p None m = record { links = refl; routes = refl; binds = r
 moved_alike drivers c p (Some q) None = record { links = refl; routes = refl; binds = refl; hungs = refl }
 moved_alike drivers c p (Some q) (Some m) = record { links = refl; routes = refl; binds = refl; hungs = refl }
 
--- a move leaves them right
-pub after_moving : (drivers : List DriverSpec) (c : Configuration) (p : Place) (t : WayList) → AreWays drivers c t
-    → AreWays drivers (after_move drivers c p) t
-after_moving drivers c p t h = alike drivers c (after_move drivers c p) t t
-    (moved_alike drivers c p (next_open_place drivers c p) (first_message c.flow p)) h (λ q r addr w. w)
-
 -- so does a message that comes to rest
 pub after_rest : (drivers : List DriverSpec) (c : Configuration) (p q : Place) (t : WayList) → AreWays drivers c t
     → AreWays drivers (moved drivers c p q) t
 after_rest drivers c p q t h = alike drivers c (moved drivers c p q) t t
     (moved_alike drivers c p (Some q) (first_message c.flow p)) h (λ r s addr w. w)
-
-sent_alike : (drivers : List DriverSpec) (c : Configuration) (p : Place) (addr : ℕ) (bytes : List ℕ)
-    (x : Configuration × Reply) → send_outcome drivers c p addr bytes ≡ Ok x → LeadAlike c x.0
-sent_alike drivers c p addr bytes x e =
-    let sent : Outcome = Ok (
-      record (after_arrival drivers c p (record { serial = c.next_serial; addr = addr; bytes = bytes })) {
-        next_serial = c.next_serial + 1;
-      },
-      reply.Took c.next_serial,
-    ) in
-    let size = bound (refuse BadSize (eqb (length bytes) 0 || nat_lt (max_of drivers p.stream.driver) (length bytes)))
-    (λ s. refuse Full (is_full c p || nat_le NUMBER_END c.next_serial) >>= (λ r. sent)) x e in
-    let room = bound (refuse Full (is_full c p || nat_le NUMBER_END c.next_serial)) (λ r. sent) x size.2 in
-    subst (λ (y : Configuration × Reply). LeadAlike c y.0) (accepted _ x room.2)
-    (record { links = refl; routes = refl; binds = refl; hungs = refl })
-
-received_alike : (drivers : List DriverSpec) (c : Configuration) (p : Place) (x : Configuration × Reply)
-    → receive_outcome drivers c p ≡ Ok x → LeadAlike c x.0
-received_alike drivers c p x e =
-    let found = bound (or_fault Empty (first_message c.flow p)) _ x e in
-    subst (λ (y : Configuration × Reply). LeadAlike c y.0) (accepted _ x found.2)
-    (record { links = refl; routes = refl; binds = refl; hungs = refl })
-
-read_alike : (drivers : List DriverSpec) (c : Configuration) (s : StreamId) (x : Configuration × Reply)
-    → read_outcome drivers c s ≡ Ok x → LeadAlike c x.0
-read_alike drivers c s x e = by (is_hung c.hungs s && not (is_some (first_message c.flow (read_side s)))) refl where
-  by : (b : Bool) → (is_hung c.hungs s && not (is_some (first_message c.flow (read_side s)))) ≡ b → LeadAlike c x.0
-  by true t = let k : ◌≡◌ {A = Outcome} (Ok (c, _)) (Ok x) = rw t at e in
-      subst (λ (y : Configuration × Reply). LeadAlike c y.0) (accepted _ x k)
-      (record { links = refl; routes = refl; binds = refl; hungs = refl })
-  by false f = let k : receive_outcome drivers c (read_side s) ≡ Ok x = rw f at e in
-      received_alike drivers c (read_side s) x k
 
 -- a command that sends or takes a message leaves all as it leads
 pub messages_alike : (drivers : List DriverSpec) (c : Configuration) (process : ℕ) (k : Command)

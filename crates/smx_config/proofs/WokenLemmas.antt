@@ -5,7 +5,7 @@ use Rattle.std.specs.Prelude.{◌⊎◌, IfOk, if◌then◌else◌}
 use Rattle.std.specs.List.{list_all, list_any}
 use Rattle.std.specs.Option.{is_some}
 use Rattle.std.specs.Result.{is_ok}
-use Rattle.std.proofs.lemmas.Bool.{and_parts, cases_Bool, false≢true}
+use Rattle.std.proofs.lemmas.Bool.{and_parts, cases_Bool, false≢true, not-true}
 use Rattle.smx_types.specs.declared.command.Command.{Command}
 use Rattle.smx_types.specs.declared.command.Command.TheVariants as command
 use Rattle.smx_types.specs.declared.driver.DriverSpec.{DriverSpec}
@@ -24,7 +24,7 @@ use Rattle.smx_model.specs.Configuration.{Configuration, bind_before, same_place
 use Rattle.smx_model.specs.FreedPlaces.{freed_by}
 use Rattle.smx_model.specs.Lookups.{free_stream, live_leaf, live_stream, mux_stream, stream_of}
 use Rattle.smx_model.specs.Ordered.{with_inserted}
-use Rattle.smx_model.specs.Outcomes.{Outcome, ◌>>=◌, refuse}
+use Rattle.smx_model.specs.Outcomes.{refuse}
 use Rattle.smx_model.specs.Queues.{after_leaving, first_message}
 use Rattle.smx_model.specs.Removal.{after_sweep}
 use Rattle.smx_model.specs.RunMarks.{TurnsOnly, both, is_below_driver, is_first_at, next_of_first}
@@ -39,17 +39,13 @@ use Rattle.smx_config.specs.declared.step_error.StepError.TheVariants as step_er
 use Rattle.smx_config.specs.Marking.{AreMarks, IsWoken}
 use Rattle.smx_config.specs.Machine.{Machine}
 use Rattle.smx_config.specs.Refinement.{Refines}
-use Rattle.smx_config.specs.Wakes.{arrives, freed_under, on_stream, turned_under, wakes_of}
+use Rattle.smx_config.specs.Wakes.{IsEnough, arrives, freed_under, on_stream, turned_under, wakes_of}
 use Rattle.smx_config.specs.declared.wakes.Wakes.{Wakes}
 use Rattle.smx_config.specs.declared.wakes.Wakes.TheVariants as wakes
+use Rattle.smx_config.proofs.AcceptedLemmas.{accepted, bound}
 use Rattle.smx_config.proofs.StayingLemmas.{read_stays, transmit_stays}
 
 -- ---- a binding changes no link
-
-ok_bound : {A B : Type 0} (r : Result A Fault) (f : A → Result B Fault) (y : B) → (r >>= f) ≡ Ok y
-    → (x : A) × (r ≡ Ok x) × (f x ≡ Ok y)
-ok_bound (Err e) f y h = absurd cc
-ok_bound (Ok x) f y h = (x, refl, h)
 
 kept_links : (stays is : Link → Bool) (links : List Link) → list_all (λ l. stays l || is l) links ≡ true
     → filter (λ l. not (not (stays l) && not (is l))) links ≡ links
@@ -70,18 +66,16 @@ swept_links drivers c binds h = kept_links is_persistent (λ l. exists drivers c
 pub bind_keeps_links : (drivers : List DriverSpec) (c : Configuration) (process fd addr : ℕ) (x : Configuration × Reply)
     → IsSwept drivers c → outcome drivers c process (command.Bind fd addr) ≡ Ok x → x.0.links ≡ c.links
 bind_keeps_links drivers c process fd addr x h e =
-    let s = ok_bound (mux_stream drivers c process fd) _ x e in
-    let free = ok_bound
+    let s = bound (mux_stream drivers c process fd) _ x e in
+    let free = bound
     (refuse AddressInUse
     (list_any (λ b. eqb b.driver s.0.driver && (eqb b.addr addr || eqb b.minor s.0.minor)) c.binds)) _ x s.2 in
     let binds = with_inserted bind_before c.binds (record { driver = s.0.driver; addr = addr; minor = s.0.minor }) in
     swept_out binds free.2 where
-      same : (y : Configuration × Reply) → ◌≡◌ {A = Outcome} (Ok y) (Ok x) → y ≡ x
-      same y k = cc
-
       swept_out : (binds : List Binding) → done_outcome drivers c (record c { binds = binds }) ≡ Ok x
           → x.0.links ≡ c.links
-      swept_out binds k = ap (λ (y : Configuration × Reply). y.0.links) (sym (same _ k)) ∙ swept_links drivers c binds h
+      swept_out binds k = ap (λ (y : Configuration × Reply). y.0.links) (sym (accepted _ x k))
+          ∙ swept_links drivers c binds h
 
 -- ---- the turned places
 
@@ -198,15 +192,11 @@ pub turned_ends : (drivers : List DriverSpec) (c : Configuration) (from to p : P
     → (same_place from p ≡ true) ⊎ ((same_place to p ≡ true) × (is_some (first_message c.flow to) ≡ false))
 turned_ends drivers c from to p e stays t = by (same_place from p) refl
     (subst (λ (o : Option Place). (same_place from p || is_first_there drivers c from o p) ≡ true) e t) where
-      empty : (b : Bool) → not b ≡ true → b ≡ false
-      empty true h = sym h
-      empty false h = refl
-
       by : (b : Bool) → same_place from p ≡ b → (b || is_first_there drivers c from (Some to) p) ≡ true
           → (b ≡ true) ⊎ ((same_place to p ≡ true) × (is_some (first_message c.flow to) ≡ false))
       by true k h = inl refl
       by false k h = let parts = and_parts (same_place to p) _ h in
-          inr (parts.0, empty _ (subst (λ (o : Option Message). not (is_some o) ≡ true) stays parts.1))
+          inr (parts.0, not-true _ (subst (λ (o : Option Message). not (is_some o) ≡ true) stays parts.1))
 
 -- what a move turns, by where it goes
 pub turned_is : (drivers : List DriverSpec) (c new : Configuration) (from to : Place)
@@ -226,18 +216,10 @@ of_three (Err e) p q s f = tt
 
 -- what holds of a result if it is accepted holds of an accepted one
 pub of_accepted : {X : Type 0} (P : X → Type 0) (r : Result X Fault) (x : X) → r ≡ Ok x → IfOk r P → P x
-of_accepted {X = X} P (Ok y) x e h = subst P (same e) h where
-  same : ◌≡◌ {A = Result X Fault} (Ok y) (Ok x) → y ≡ x
-  same k = cc
+of_accepted P (Ok y) x e h = subst P (accepted y x e) h
 of_accepted P (Err g) x e h = absurd cc
 
 -- ---- after a command that was performed
-
--- if a command is accepted, and all that it may turn and free was woken, the marks are right after it
-abbrev pub IsEnough : List DriverSpec → Configuration → ℕ → Command → Marks → Marks → Type 0
-IsEnough drivers c process k m n = IfOk (outcome drivers c process k)
-    (λ x. IsWoken x.0 (turned_under x.0 (wakes_of drivers c process k)) (freed_under (wakes_of drivers c process k)) m n
-    → AreMarks drivers x.0 n)
 
 enough_at : (drivers : List DriverSpec) (c : Configuration) (process : ℕ) (k : Command) (m n : Marks)
     (x : Configuration × Reply) → IsEnough drivers c process k m n → outcome drivers c process k ≡ Ok x

@@ -1,5 +1,5 @@
 -- What a command may wake, as it is told before the command is done. No public clause needs this.
-use Rattle.std.specs.Prelude.{ℕ, Bool, true, if◌then◌else◌, List, Result, Ok, Err}
+use Rattle.std.specs.Prelude.{ℕ, Bool, true, if◌then◌else◌, IfOk, List, Result, Ok, Err}
 use Rattle.std.specs.Option.{is_some}
 use Rattle.smx_types.specs.declared.command.Command.{Command}
 use Rattle.smx_types.specs.declared.command.Command.TheVariants as command
@@ -7,12 +7,14 @@ use Rattle.smx_types.specs.declared.driver.DriverSpec.{DriverSpec}
 use Rattle.smx_types.specs.declared.reply.Fault.{Fault}
 use Rattle.smx_types.specs.declared.stream.Place.{Place}
 use Rattle.smx_types.specs.declared.stream.StreamId.{StreamId}
+use Rattle.smx_model.specs.Commands.{outcome}
 use Rattle.smx_model.specs.Configuration.{Configuration, same_place}
 use Rattle.smx_model.specs.Lookups.{free_stream, live_leaf, live_stream, mux_stream, stream_of}
 use Rattle.smx_model.specs.Queues.{first_message}
 use Rattle.smx_model.specs.RunMarks.{nowhere}
 use Rattle.smx_model.specs.TurnedPlaces.{read_side, write_side}
-use Rattle.smx_config.specs.Marking.{is_read_below_driver, is_write_of}
+use Rattle.smx_config.specs.Marking.{AreMarks, IsWoken, is_read_below_driver, is_write_of}
+use Rattle.smx_config.specs.declared.marks.Marks.{Marks}
 use Rattle.smx_config.specs.declared.wakes.Wakes.{Wakes}
 use Rattle.smx_config.specs.declared.wakes.Wakes.TheVariants as wakes
 
@@ -47,6 +49,10 @@ on_stream (Err fault) f = wakes.Nothing
 abbrev pub arrives : Configuration → Place → Wakes
 arrives c p = if is_some (first_message c.flow p) then wakes.Nothing else wakes.Turns p
 
+-- a link gives the read side below it a place to go on to
+abbrev pub turns_below : Configuration → ℕ → ℕ → Wakes
+turns_below c process arg = on_stream (stream_of c process arg) (λ s. wakes.Turns (read_side s))
+
 -- what a command may wake, if it is accepted
 abbrev pub wakes_of : List DriverSpec → Configuration → ℕ → Command → Wakes
 wakes_of drivers c process (command.OpenClone name) = wakes.Nothing
@@ -54,8 +60,8 @@ wakes_of drivers c process (command.OpenMinor name minor) = wakes.Nothing
 wakes_of drivers c process (command.Dup fd) = wakes.Nothing
 wakes_of drivers c process (command.Close fd) = wakes.Frees
 wakes_of drivers c process command.CloseAll = wakes.Frees
-wakes_of drivers c process (command.Link fd arg) = on_stream (stream_of c process arg) (λ s. wakes.Turns (read_side s))
-wakes_of drivers c process (command.Plink fd arg) = on_stream (stream_of c process arg) (λ s. wakes.Turns (read_side s))
+wakes_of drivers c process (command.Link fd arg) = turns_below c process arg
+wakes_of drivers c process (command.Plink fd arg) = turns_below c process arg
 wakes_of drivers c process (command.Unlink fd w) = wakes.Frees
 wakes_of drivers c process (command.Punlink fd w) = wakes.Frees
 wakes_of drivers c process (command.Bind fd addr) =
@@ -73,3 +79,9 @@ wakes_of drivers c process (command.Inject name minor addr bytes) =
 wakes_of drivers c process (command.Transmit name minor) =
     on_stream (live_leaf drivers c name minor) (λ s. wakes.Leaves (write_side s))
 wakes_of drivers c process (command.Hangup name minor) = wakes.Nothing
+
+-- if a command is accepted, and all that it may turn and free was woken, the marks are right after it
+abbrev pub IsEnough : List DriverSpec → Configuration → ℕ → Command → Marks → Marks → Type 0
+IsEnough drivers c process k m n = IfOk (outcome drivers c process k)
+    (λ x. IsWoken x.0 (turned_under x.0 (wakes_of drivers c process k)) (freed_under (wakes_of drivers c process k)) m n
+    → AreMarks drivers x.0 n)

@@ -2,13 +2,12 @@
 
 ghost use Rattle.std.specs.Prelude.{◌≡◌, map, filter, IfOk, Ok};
 ghost use Rattle.std.specs.List.{list_any};
-ghost use Rattle.smx_types.specs.declared.command.Command.TheVariants as command;
 ghost use Rattle.smx_types.specs.declared.command.Which.TheVariants as which;
 ghost use Rattle.smx_types.specs.declared.stream.StreamId.{StreamId as StreamValue};
 ghost use Rattle.smx_model.specs.Commands.{link_outcome};
 ghost use Rattle.smx_model.specs.KeptConfigurations.{IsSound};
 ghost use Rattle.smx_config.specs.UnlinkTargets.{may_have_links, may_unlink, is_target, are_there, unlinks};
-ghost use Rattle.smx_config.specs.Refinement.{HasOutcome, Refines};
+ghost use Rattle.smx_config.specs.Refinement.{HasOutcome};
 
 use crate::answers::refuse;
 use crate::step_error::StepError;
@@ -99,7 +98,8 @@ impl Tables {
         refuse(Fault::NotMux, !is_mux(&self.drivers, upper.driver as usize))
     }
 
-    fn link_as(
+    // Links a stream below another one, by a link of this kind.
+    pub fn link_as(
         &mut self,
         process: Process,
         fd: u32,
@@ -118,20 +118,6 @@ impl Tables {
         Ok(Reply::Id(id))
     }
 
-    pub fn link(&mut self, process: Process, fd: u32, arg: u32) -> Result<Reply, StepError>
-        requires { IsSound self.old.drivers self.old.configuration }
-        ensures { Refines self.old self.new process (command.Link fd arg) result }
-    {
-        self.link_as(process, fd, arg, LinkKind::Ordinary)
-    }
-
-    pub fn plink(&mut self, process: Process, fd: u32, arg: u32) -> Result<Reply, StepError>
-        requires { IsSound self.old.drivers self.old.configuration }
-        ensures { Refines self.old self.new process (command.Plink fd arg) result }
-    {
-        self.link_as(process, fd, arg, LinkKind::Persistent)
-    }
-
     // Whether links are there that are named; links of no id need not be.
     pub fn check_targets(&self, which: Which, kind: LinkKind, stream: StreamId) -> Result<(), Fault>
         ensures { result ≡ are_there which kind stream self.now.configuration.links }
@@ -146,7 +132,7 @@ impl Tables {
     }
 
     // Removes links of this kind.
-    fn unlink_as(
+    pub fn unlink_as(
         &mut self,
         process: Process,
         fd: u32,
@@ -165,19 +151,5 @@ impl Tables {
         let mut room = reserve_for_sweep(self.alloc, &self.lists, gone.len())?;
         remove_links(&mut self.lists, &gone, &mut room.touched, &mut room.dropped);
         Ok(sweep_and_reply(&self.drivers, &mut self.lists, room))
-    }
-
-    pub fn unlink(&mut self, process: Process, fd: u32, which: Which) -> Result<Reply, StepError>
-        requires { IsSound self.old.drivers self.old.configuration }
-        ensures { Refines self.old self.new process (command.Unlink fd which) result }
-    {
-        self.unlink_as(process, fd, which, LinkKind::Ordinary)
-    }
-
-    pub fn punlink(&mut self, process: Process, fd: u32, which: Which) -> Result<Reply, StepError>
-        requires { IsSound self.old.drivers self.old.configuration }
-        ensures { Refines self.old self.new process (command.Punlink fd which) result }
-    {
-        self.unlink_as(process, fd, which, LinkKind::Persistent)
     }
 }

@@ -34,7 +34,8 @@ fn has_bad_size(drivers: &[DriverSpec], place: Place, bytes: &Bytes) -> bool
 impl Tables {
     // Whether the place is full, or there is no next serial.
     fn has_no_room(&self, place: Place) -> bool
-        ensures { result ≡ (is_full self.now.configuration place || nat_le NUMBER_END self.now.configuration.next_serial) }
+        ensures { result
+            ≡ (is_full self.now.configuration place || nat_le NUMBER_END self.now.configuration.next_serial) }
     {
         self.is_full(place) || self.lists.next_serial >= NUMBER_END
     }

@@ -2,13 +2,13 @@
 
 ghost use Rattle.std.specs.Prelude.{◌≡◌, ◌≢◌, ℕ, ◌+◌, ◌<◌, ◌≤◌, true, false, length, vec_capacity, Some, Err};
 ghost use Rattle.std.specs.List.{list_any};
-ghost use Rattle.smx_types.specs.declared.command.Command.TheVariants.{OpenClone, OpenMinor, Dup, Close, CloseAll, Hangup};
+ghost use Rattle.smx_types.specs.declared.command.Command.TheVariants.{OpenClone, OpenMinor, Dup};
+ghost use Rattle.smx_types.specs.declared.command.Command.TheVariants.{Close, CloseAll, Hangup};
 ghost use Rattle.smx_types.specs.declared.limits.TheConstants.{MAX_DESCRIPTORS};
 ghost use Rattle.smx_types.specs.declared.reply.Reply.TheVariants.{Fd};
 ghost use Rattle.smx_types.specs.declared.stream.StreamId.{StreamId};
 ghost use Rattle.smx_model.specs.Configuration.{same_stream};
 ghost use Rattle.smx_model.specs.KeptConfigurations.{IsSound};
-ghost use Rattle.smx_links.specs.LinkLists.{is_upper};
 ghost use Rattle.smx_streams.specs.StreamTables.{stream_at};
 ghost use Rattle.smx_config.specs.Closing.{closing};
 ghost use Rattle.smx_config.specs.declared.step_error.StepError.TheVariants as step_error;
@@ -86,45 +86,8 @@ impl Tables {
         Ok(fd_reply(opened))
     }
 
-    // Closes the last descriptor of a stream that isn't held, and sweeps what goes with it.
-    fn close_upper(
-        &mut self,
-        process: Process,
-        fd: u32,
-        stream: StreamId,
-    ) -> Result<Reply, StepError>
-        requires sound { IsSound self.old.drivers self.old.configuration }
-        requires there { stream_at self.old.configuration.fds process fd ≡ Some stream }
-        ensures { HasOutcome self.old self.new
-            (closing self.old.drivers self.old.configuration process fd) result }
-    {
-        tells_existing(&self.drivers, &self.lists);
-        let mut room = reserve_for_sweep(self.alloc, &self.lists, 1)?;
-        let _closed = self.lists.streams.close_fd(process, fd);
-        room.touched.push_reserved(stream);
-        Ok(sweep_and_reply(&self.drivers, &mut self.lists, room))
-    }
-
-    // The same, where no link is below the stream's driver: then the stream goes alone.
-    fn close_alone(
-        &mut self,
-        process: Process,
-        fd: u32,
-        stream: StreamId,
-    ) -> Result<Reply, StepError>
-        requires sound { IsSound self.old.drivers self.old.configuration }
-        requires there { stream_at self.old.configuration.fds process fd ≡ Some stream }
-        requires lower { is_upper self.old.configuration.links stream.driver ≡ false }
-        ensures { HasOutcome self.old self.new
-            (closing self.old.drivers self.old.configuration process fd) result }
-    {
-        tells_existing(&self.drivers, &self.lists);
-        let room = Vec::with_capacity(self.alloc, self.lists.queues.len())?;
-        let _gone = self.lists.streams.close_fd(process, fd);
-        Ok(sweep_alone_and_reply(&self.drivers, &mut self.lists, stream, room))
-    }
-
-    // The same, wherever the stream is.
+    // Closes the last descriptor of a stream that isn't held, and sweeps what goes with it: the stream alone, where no
+    // link is below its driver.
     fn close_last(
         &mut self,
         process: Process,
@@ -136,11 +99,16 @@ impl Tables {
         ensures { HasOutcome self.old self.new
             (closing self.old.drivers self.old.configuration process fd) result }
     {
-        if self.lists.links.is_upper(stream.driver) {
-            self.close_upper(process, fd, stream)
-        } else {
-            self.close_alone(process, fd, stream)
+        tells_existing(&self.drivers, &self.lists);
+        if !self.lists.links.is_upper(stream.driver) {
+            let room = Vec::with_capacity(self.alloc, self.lists.queues.len())?;
+            let _gone = self.lists.streams.close_fd(process, fd);
+            return Ok(sweep_alone_and_reply(&self.drivers, &mut self.lists, stream, room));
         }
+        let mut room = reserve_for_sweep(self.alloc, &self.lists, 1)?;
+        let _closed = self.lists.streams.close_fd(process, fd);
+        room.touched.push_reserved(stream);
+        Ok(sweep_and_reply(&self.drivers, &mut self.lists, room))
     }
 
     // Where a stream stays, nothing goes with its descriptor, so that no memory is taken.

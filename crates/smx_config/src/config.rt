@@ -86,7 +86,8 @@ impl Config {
     pub fn step(&mut self, process: Process, command: &Command) -> Result<Reply, NoMemory>
         // What it does.
         ensures drivers { self.new.drivers ≡ self.old.drivers }
-        ensures ok { IfOk result (λ r. step self.old.drivers self.old.configuration process command.now ≡ (self.new.configuration, r)) }
+        ensures ok { IfOk result (λ r.
+            step self.old.drivers self.old.configuration process command.now ≡ (self.new.configuration, r)) }
         // What changes nothing.
         ensures fault { IfOk result (λ r. (f : Fault) → r ≡ reply.Fault f → self.new ≡ self.old) }
         ensures err { IfErr result (λ _. self.new ≡ self.old) }
@@ -159,11 +160,12 @@ impl Config {
         self.tables.shows(shown)
     }
 
-    /// How many links stand. Takes no memory.
+    /// How many links stand, which are no more than 1,024. Takes no memory.
     pub fn link_count(&self) -> u32
         ensures { result ≡ length self.now.configuration.links }
     {
-        self.tables.link_count()
+        self.tables.lists.links.is_sound();
+        self.tables.lists.links.len() as u32
     }
 
     /// The drivers that it was made with, which no command changes. Takes no memory.
@@ -171,7 +173,7 @@ impl Config {
         ensures value { result.now ≡ self.now.drivers }
         ensures list { IsDriverList self.now.drivers }
     {
-        self.tables.drivers()
+        self.tables.drivers.as_slice()
     }
 
     /// What every configuration is, whichever commands came before: its links form no cycle and no stream is below two
@@ -181,7 +183,8 @@ impl Config {
         ensures drivers { IsDriverList self.now.drivers }
         ensures kept { IsKept self.now.drivers self.now.configuration }
     {
-        let _drivers = self.tables.drivers();
+        // What the tables and the configuration keep is known where their fields are read.
+        let _drivers = self.tables.drivers.as_slice();
     }
 
     /// The same configuration again, by the allocator that this one has. Fails only for want of memory.

@@ -1,16 +1,15 @@
 //! Marks that are enough after a command and after a move, each the contract of a function that does nothing.
 
-ghost use Rattle.std.specs.Prelude.{◌≡◌, ℕ, List, Some, IfOk};
+ghost use Rattle.std.specs.Prelude.{◌≡◌, ℕ, List, Some};
 ghost use Rattle.smx_types.specs.declared.command.Command.{Command};
 ghost use Rattle.smx_types.specs.declared.driver.DriverSpec.{DriverSpec};
 ghost use Rattle.smx_types.specs.declared.stream.Place.{Place};
-ghost use Rattle.smx_model.specs.Commands.{outcome};
 ghost use Rattle.smx_model.specs.Configuration.{Configuration, same_place};
 ghost use Rattle.smx_model.specs.KeptConfigurations.{IsSound};
 ghost use Rattle.smx_model.specs.Settling.{after_move, next_open_place};
 ghost use Rattle.smx_model.specs.SettlingByMarks.{turned_by_move};
 ghost use Rattle.smx_config.specs.Marking.{AreMarks, IsWoken};
-ghost use Rattle.smx_config.specs.Wakes.{freed_under, turned_under, wakes_of};
+ghost use Rattle.smx_config.specs.Wakes.{IsEnough};
 ghost use Rattle.smx_config.specs.declared.marks.Marks.{Marks};
 
 use smx_model::laws_of_marked_commands::commands_free_few;
@@ -24,9 +23,7 @@ use smx_model::laws_of_steps::{moves_keep_soundness, outcomes_are_sound};
 // What a command may wake is enough to be marked.
 pub fn woken_marks_are_enough()
     ensures { (drivers : List DriverSpec) (c : Configuration) (process : ℕ) (command : Command) (old new : Marks)
-        → IsSound drivers c → AreMarks drivers c old → IfOk (outcome drivers c process command) (λ x.
-        IsWoken x.0 (turned_under x.0 (wakes_of drivers c process command)) (freed_under (wakes_of drivers c process command)) old new
-        → AreMarks drivers x.0 new) }
+        → IsSound drivers c → AreMarks drivers c old → IsEnough drivers c process command old new }
 {
     a_change_wakes_few();
     commands_free_few();

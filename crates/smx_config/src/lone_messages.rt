@@ -9,15 +9,16 @@ ghost use Rattle.smx_model.specs.KeptConfigurations.{IsSound};
 ghost use Rattle.smx_model.specs.KnownStreams.{IsKnown};
 ghost use Rattle.smx_model.specs.LoneMessages.{IsUnderWay, StaysAt, moved};
 ghost use Rattle.smx_model.specs.Queues.{first_message, is_full};
-ghost use Rattle.smx_model.specs.Settling.{IsSettled, after_settling_within, least_movable, next_open_place};
+ghost use Rattle.smx_model.specs.Settling.{IsSettled, after_settling_within};
 ghost use Rattle.smx_model.specs.SettlingByMarks.{HasNoRunMark};
 ghost use Rattle.smx_queues.specs.PlaceMarks.{has_mark};
 ghost use Rattle.smx_queues.specs.Waiters.{target_of};
 ghost use Rattle.smx_config.specs.Marking.{AreMarks, MovesAlone};
+ghost use Rattle.smx_config.specs.Moves.{IsLeastMove};
 ghost use Rattle.smx_config.specs.Ways.{AreWays};
 
 use crate::marks::Marks;
-use crate::settling::mark_wanted;
+use crate::settling::{Move, mark_wanted};
 use crate::tables::Tables;
 use crate::ways::Ways;
 use smx_model::laws_of_lone_messages::{
@@ -29,7 +30,7 @@ use smx_queues::Waiters;
 use smx_types::Place;
 
 // Where a message comes to rest, and the full place that it waits for there, if it is the first and has a next place.
-#[derive(Clone, Copy, Debug)]
+#[derive(Clone, Copy)]
 pub struct Rest {
     pub at: Place,
     pub waits: Option<Place>,
@@ -65,47 +66,27 @@ impl Tables {
         self.lists.queues.has_messages(place)
     }
 
-    // The address of the first message at the place.
-    pub fn first_addr(&self, place: Place) -> u32
-        requires { IsSome (first_message self.now.configuration.flow place) }
-        ensures { (m : MessageValue) → first_message self.now.configuration.flow place ≡ Some m → result ≡ m.addr }
-    {
-        match self.lists.queues.front(place) {
-            Some(message) => message.addr,
-            None => unreachable!(),
-        }
-    }
-
-    // Where it comes to rest, within so many moves, of which it has made the first one.
-    pub fn rest_of(
-        &self,
-        marks: &Marks,
-        ways: &mut Ways,
-        from: Place,
-        first: Place,
-        moves: u128,
-    ) -> Rest
+    // Where the message of the least move comes to rest, within so many moves, of which that is the first.
+    pub fn rest_of(&self, marks: &Marks, ways: &mut Ways, first: Move, moves: u128) -> Rest
         requires sound { IsSound self.now.drivers self.now.configuration }
-        requires alone { MovesAlone self.now.drivers self.now.configuration marks.now from }
-        requires least { least_movable self.now.drivers self.now.configuration ≡ Some from }
-        requires next { next_open_place self.now.drivers self.now.configuration from ≡ Some first }
+        requires alone { MovesAlone self.now.drivers self.now.configuration marks.now first.from }
+        requires least { IsLeastMove self.now.drivers self.now.configuration (Some first) }
         requires some { 0 < moves }
         requires settled { IsSettled self.now.drivers
             (after_settling_within self.now.drivers moves self.now.configuration) }
         requires ways { AreWays self.now.drivers self.now.configuration ways.old }
         ensures ways { AreWays self.now.drivers self.now.configuration ways.new }
-        ensures way { (left : ℕ) × IsUnderWay self.now.drivers self.now.configuration moves from result.at left }
-        ensures stays { (m : MessageValue) → first_message self.now.configuration.flow from ≡ Some m
+        ensures way { (left : ℕ) × IsUnderWay self.now.drivers self.now.configuration moves first.from result.at left }
+        ensures stays { (m : MessageValue) → first_message self.now.configuration.flow first.from ≡ Some m
             → StaysAt self.now.drivers self.now.configuration result.at m result.waits }
     {
         empty_places_are_passed();
         lone_messages_set_out();
-        let addr = self.first_addr(from);
-        let mut at = first;
+        let mut at = first.to;
         let mut left = moves - 1;
-        let mut filled = self.has_messages(first);
+        let mut filled = self.has_messages(at);
         while !filled {
-            let next = self.next_by_ways(ways, at, addr);
+            let next = self.next_by_ways(ways, at, first.addr);
             let Some(open) = self.if_open(next) else {
                 return Rest { at, waits: next };
             };

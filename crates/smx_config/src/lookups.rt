@@ -3,7 +3,8 @@
 ghost use Rattle.std.specs.Prelude.{◌≡◌, ◌<◌, length, IfOk};
 ghost use Rattle.smx_model.specs.KeptConfigurations.{IsSound};
 ghost use Rattle.smx_model.specs.DriverList.{minors_of};
-ghost use Rattle.smx_model.specs.Lookups.{driver_of, stream_of, free_stream, live_stream, mux_stream, leaf_stream, live_leaf};
+ghost use Rattle.smx_model.specs.Lookups.{driver_of, leaf_stream, live_leaf};
+ghost use Rattle.smx_model.specs.Lookups.{free_stream, live_stream, mux_stream, stream_of};
 ghost use Rattle.smx_model.specs.Queues.{is_full};
 ghost use Rattle.smx_model.specs.Standing.{exists};
 

@@ -1,7 +1,8 @@
 //! Where messages go next.
 
-ghost use Rattle.std.specs.Prelude.{◌≡◌, false, None};
-ghost use Rattle.smx_model.specs.RunMarks.{next_of_first};
+ghost use Rattle.std.specs.Prelude.{◌≡◌, false, true, IfSome, None};
+ghost use Rattle.smx_model.specs.Queues.{first_message};
+ghost use Rattle.smx_model.specs.RunMarks.{has_addr, next_of_first};
 ghost use Rattle.smx_model.specs.Settling.{live_write_side, place_below, place_above, next_place};
 ghost use Rattle.smx_config.specs.Ways.{AreWays};
 
@@ -100,13 +101,18 @@ impl Tables {
         }
     }
 
-    // Where the first message of the place goes next, if there is one, whether that is full or not.
-    pub fn next_of_first(&self, ways: &mut Ways, place: Place) -> Option<Place>
+    // Where the first message of the place goes next, whether that is full or not, and its address; nowhere, and 0, if
+    // there is none.
+    pub fn next_of_first(&self, ways: &mut Ways, place: Place) -> (Option<Place>, u32)
         requires { AreWays self.now.drivers self.now.configuration ways.old }
-        ensures value { result ≡ next_of_first self.now.drivers self.now.configuration place }
+        ensures value { result.0 ≡ next_of_first self.now.drivers self.now.configuration place }
+        ensures addr { IfSome result.0 (λ _.
+            has_addr result.1 (first_message self.now.configuration.flow place) ≡ true) }
         ensures ways { AreWays self.now.drivers self.now.configuration ways.new }
     {
-        let message = self.lists.queues.front(place)?;
-        self.next_by_ways(ways, place, message.addr)
+        match self.lists.queues.front(place) {
+            Some(message) => (self.next_by_ways(ways, place, message.addr), message.addr),
+            None => (None, 0),
+        }
     }
 }

@@ -10,7 +10,7 @@ ghost use Rattle.smx_config.specs.MessageStreams.{message_stream};
 
 use crate::step_error::StepError;
 use crate::tables::Tables;
-use smx_types::{Command, Fault, Process, Reply, Side, StreamId};
+use smx_types::{Command, Fault, LinkKind, Process, Reply, Side, StreamId};
 
 fn as_step_error(answer: Result<Reply, Fault>) -> Result<Reply, StepError>
     ensures { result ≡ as_step_error answer }
@@ -41,10 +41,14 @@ impl Tables {
             Command::Dup { fd } => self.dup(process, *fd),
             Command::Close { fd } => self.close(process, *fd),
             Command::CloseAll => self.close_all(process),
-            Command::Link { fd, arg } => self.link(process, *fd, *arg),
-            Command::Plink { fd, arg } => self.plink(process, *fd, *arg),
-            Command::Unlink { fd, which } => self.unlink(process, *fd, *which),
-            Command::Punlink { fd, which } => self.punlink(process, *fd, *which),
+            Command::Link { fd, arg } => self.link_as(process, *fd, *arg, LinkKind::Ordinary),
+            Command::Plink { fd, arg } => self.link_as(process, *fd, *arg, LinkKind::Persistent),
+            Command::Unlink { fd, which } => {
+                self.unlink_as(process, *fd, *which, LinkKind::Ordinary)
+            }
+            Command::Punlink { fd, which } => {
+                self.unlink_as(process, *fd, *which, LinkKind::Persistent)
+            }
             Command::Bind { fd, addr } => self.bind(process, *fd, *addr),
             Command::Unbind { fd } => as_step_error(self.unbind(process, *fd)),
             Command::Route { fd, addr, id } => self.route(process, *fd, *addr, *id),

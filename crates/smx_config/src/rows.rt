@@ -22,29 +22,22 @@ use smx_tables::comparisons::same_place;
 use smx_types::Place;
 
 impl Tables {
-    // The first message of a place moves on to its next place.
-    fn move_on(&mut self, next: Move)
-        requires sound { IsSound self.old.drivers self.old.configuration }
-        requires open { next_open_place self.old.drivers self.old.configuration next.from ≡ Some next.to }
-        ensures { self.new ≡ record self.old { configuration = after_move self.old.drivers self.old.configuration next.from } }
-    {
-        self.carry(next.from, next.to);
-    }
-
-    // The same, and what that wakes is marked. It is told whether there was a message where it goes.
+    // The first message of a place moves on to its next place, and what that wakes is marked. It is told whether there
+    // was a message where it goes.
     fn move_marked(&mut self, marks: &mut Marks, next: Move, filled: bool)
         requires sound { IsSound self.old.drivers self.old.configuration }
         requires marks { AreMarks self.old.drivers self.old.configuration marks.old }
         requires open { next_open_place self.old.drivers self.old.configuration next.from ≡ Some next.to }
         requires filled { filled ≡ is_some (first_message self.old.configuration.flow next.to) }
-        ensures value { self.new ≡ record self.old { configuration = after_move self.old.drivers self.old.configuration next.from } }
+        ensures value { self.new
+            ≡ record self.old { configuration = after_move self.old.drivers self.old.configuration next.from } }
         ensures marks { AreMarks self.new.drivers self.new.configuration marks.new }
     {
         movable_places_are_marked();
         moved_marks_are_enough();
         places_are_known();
         the_first_leaves();
-        self.move_on(next);
+        self.carry(next.from, next.to);
         self.release_if_open(marks, next.from);
         self.mark_arrived(&mut marks.run, next.to, filled);
     }
@@ -70,18 +63,18 @@ impl Tables {
         }
     }
 
-    // Whether the least move is the same again, for messages of this address.
-    fn goes_on(&self, marks: &Marks, last: Move, addr: u32) -> bool
+    // Whether the least move is the same again.
+    fn goes_on(&self, marks: &Marks, last: Move) -> bool
         requires sound { IsSound self.now.drivers self.now.configuration }
         requires marks { AreMarks self.now.drivers self.now.configuration marks.now }
-        requires next { next_place self.now.drivers self.now.configuration last.from addr ≡ Some last.to }
+        requires next { next_place self.now.drivers self.now.configuration last.from last.addr ≡ Some last.to }
         ensures { IsTrue result → IsLeastMove self.now.drivers self.now.configuration (Some last) }
     {
         the_least_marked_is_the_least();
         match marks.run.first() {
             Some(least) => {
                 same_place(least, last.from)
-                    && self.asks_for(last.from, addr)
+                    && self.asks_for(last.from, last.addr)
                     && !self.is_full(last.to)
             }
             None => false,
@@ -100,11 +93,10 @@ impl Tables {
         ensures fewer { result < moves }
     {
         moves_keep_soundness();
-        let addr = self.first_addr(next.from);
         let filled = self.has_messages(next.to);
         self.move_marked(marks, next, filled);
         let mut left = moves - 1;
-        while left > 0 && self.goes_on(marks, next, addr) {
+        while left > 0 && self.goes_on(marks, next) {
             self.move_marked(marks, next, true);
             left -= 1;
         }

@@ -4,7 +4,8 @@ ghost use Rattle.std.specs.Prelude.{◌≡◌, ◌≢◌, None};
 ghost use Rattle.smx_model.specs.Configuration.{same_place};
 ghost use Rattle.smx_model.specs.Queues.{first_message};
 ghost use Rattle.smx_queues.specs.PlaceMarks.{MarkList};
-ghost use Rattle.smx_config.specs.Marking.{is_read_below_driver, is_write_of, HasNeeded, IsMarkedUnless, IsMarkedWhere, IsOneMore};
+ghost use Rattle.smx_config.specs.Marking.{is_read_below_driver, is_write_of};
+ghost use Rattle.smx_config.specs.Marking.{HasNeeded, IsMarkedUnless, IsMarkedWhere, IsOneMore};
 
 use crate::tables::Tables;
 use smx_queues::PlaceMarks;
@@ -46,7 +47,7 @@ impl Tables {
         ensures { (all : MarkList) × IsMarkedWhere self.now.configuration.flow (same_place place) run.old all
             × HasNeeded self.now.drivers self.now.configuration all run.new }
     {
-        if self.lists.queues.has_messages(place) {
+        if self.has_messages(place) {
             self.mark_leading(run, place);
         }
     }
@@ -83,7 +84,8 @@ impl Tables {
     // Marks the read sides of the streams below the driver that have a message. It looks at no link but those above
     // streams that have one.
     pub fn mark_reads(&self, run: &mut PlaceMarks, driver: u8)
-        ensures { IsMarkedWhere self.now.configuration.flow (is_read_below_driver self.now.configuration driver) run.old run.new }
+        ensures { IsMarkedWhere self.now.configuration.flow
+            (is_read_below_driver self.now.configuration driver) run.old run.new }
     {
         if self.lists.queues.len() == 0 {
             return;

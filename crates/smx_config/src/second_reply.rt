@@ -1,7 +1,7 @@
 //! A reply a second time, in room that is made before the step.
 
 ghost use Rattle.std.specs.Prelude.{◌≡◌, ◌≢◌, ◌≤◌, [], length, vec_capacity};
-ghost use Rattle.std.specs.Prelude.{IfOk, IfErr, IsOk, IsTrue, Err};
+ghost use Rattle.std.specs.Prelude.{IfOk, IfErr, IsTrue, Err};
 ghost use Rattle.smx_model.specs.Commands.{after_outcome, outcome, read_outcome, receive_outcome, step};
 ghost use Rattle.smx_model.specs.KeptConfigurations.{IsSound};
 ghost use Rattle.smx_model.specs.LawfulHistories.{delivered_by};
@@ -19,7 +19,7 @@ use smx_types::{
 use std::alloc::{AllocError, Global};
 
 /// Two empty lists, with room for the bytes and the serials that a reply carries.
-#[derive(Debug, Drop)]
+#[derive(Drop)]
 pub struct ReplyRoom {
     bytes: Vec<u8>,
     serials: Vec<u32>,
@@ -78,20 +78,21 @@ impl Tables {
         Ok(room_for(self.alloc, 0, self.lists.queues.len())?)
     }
 
-    // Whether links may be removed; the first refusal that applies.
-    fn check_unlink(
+    // The same, unless the removal of links is refused.
+    #[tactic(auto, using(crate::proofs::DroppedLemmas::few_left))]
+    fn room_for_unlink(
         &self,
         process: Process,
         fd: u32,
         which: Which,
         kind: LinkKind,
-    ) -> Result<(), Fault>
-        ensures ok { IsOk result → IsOk (unlinks self.now.drivers self.now.configuration process fd which kind) }
-        ensures refused { IfErr result (λ f.
-            unlinks self.now.drivers self.now.configuration process fd which kind ≡ Err f) }
+    ) -> Result<ReplyRoom, StepError>
+        ensures { MakesRoom self.now
+            (unlinks self.now.drivers self.now.configuration process fd which kind) result }
     {
         let stream = self.mux_stream(process, fd)?;
-        self.check_targets(which, kind, stream)
+        self.check_targets(which, kind, stream)?;
+        self.room_for_all()
     }
 
     /// Room for the reply to a command, unless that is refused. Takes memory only for what the reply may carry.
@@ -102,7 +103,8 @@ impl Tables {
         command: &Command,
     ) -> Result<ReplyRoom, StepError>
         requires { IsSound self.now.drivers self.now.configuration }
-        ensures makes { MakesRoom self.now (outcome self.now.drivers self.now.configuration process command.now) result }
+        ensures makes { MakesRoom self.now
+            (outcome self.now.drivers self.now.configuration process command.now) result }
         ensures in_place { IsTrue (takes_no_memory command.now)
             → delivered_by (step self.now.drivers self.now.configuration process command.now).1 ≡ []
             → result ≢ Err step_error.NoMemory }
@@ -124,12 +126,10 @@ impl Tables {
             }
             Command::CloseAll => self.room_for_all(),
             Command::Unlink { fd, which } => {
-                self.check_unlink(process, *fd, *which, LinkKind::Ordinary)?;
-                self.room_for_all()
+                self.room_for_unlink(process, *fd, *which, LinkKind::Ordinary)
             }
             Command::Punlink { fd, which } => {
-                self.check_unlink(process, *fd, *which, LinkKind::Persistent)?;
-                self.room_for_all()
+                self.room_for_unlink(process, *fd, *which, LinkKind::Persistent)
             }
             Command::Flush { fd, .. } => {
                 let _stream = self.live_stream(process, *fd)?;

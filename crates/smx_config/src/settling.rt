@@ -19,23 +19,26 @@ use crate::tables::Tables;
 use crate::ways::Ways;
 use smx_model::laws_of_lone_messages::lone_messages_come_to_rest;
 use smx_model::laws_of_run_marks::{
-    places_are_known, the_least_marked_is_the_least, without_marks_it_is_settled,
+    movable_places_are_marked, places_are_known, the_least_marked_is_the_least,
+    without_marks_it_is_settled,
 };
 use smx_model::laws_of_settling_by_marks::clearing_keeps_marks;
 use smx_model::laws_of_steps::settling_suffices;
 use smx_queues::{PlaceMarks, Waiters};
 use smx_types::Place;
 
-// A message goes from one place to another.
-#[derive(Clone, Copy, Debug)]
+// A message of this address goes from one place to another.
+#[derive(Clone, Copy)]
 pub struct Move {
     pub from: Place,
     pub to: Place,
+    pub addr: u32,
 }
 
 // Marks the place that is waited for, if there is one.
 pub fn mark_wanted(wanted: &mut PlaceMarks, next: Option<Place>)
-    ensures there { (q : PlaceValue) → next ≡ Some q → IsKnown wanted.old.drivers q.stream → has_mark wanted.new q ≡ true }
+    ensures there { (q : PlaceValue) → next ≡ Some q → IsKnown wanted.old.drivers q.stream
+        → has_mark wanted.new q ≡ true }
     ensures kept { (q : PlaceValue) → has_mark wanted.old q ≡ true → has_mark wanted.new q ≡ true }
     ensures few { (q : PlaceValue) → has_mark wanted.new q ≡ true → (has_mark wanted.old q ≡ true) ⊎ (next ≡ Some q) }
     ensures drivers { wanted.new.drivers ≡ wanted.old.drivers }
@@ -47,7 +50,8 @@ pub fn mark_wanted(wanted: &mut PlaceMarks, next: Option<Place>)
 
 // Notes for which place it waits, if its first message has a next place, and else that it doesn't wait.
 fn note_waiting(waits: &mut Waiters, from: Place, next: Option<Place>)
-    ensures there { (q : PlaceValue) → next ≡ Some q → IsKnown waits.old.drivers from.stream → target_of waits.new from ≡ Some q }
+    ensures there { (q : PlaceValue) → next ≡ Some q → IsKnown waits.old.drivers from.stream
+        → target_of waits.new from ≡ Some q }
     ensures others { (r : PlaceValue) → same_place from r ≡ false → target_of waits.new r ≡ target_of waits.old r }
     ensures drivers { waits.new.drivers ≡ waits.old.drivers }
 {
@@ -102,9 +106,9 @@ impl Tables {
         the_least_marked_is_the_least();
         without_marks_it_is_settled();
         while let Some(from) = marks.run.first() {
-            let next = self.next_of_first(ways, from);
+            let (next, addr) = self.next_of_first(ways, from);
             if let Some(to) = self.if_open(next) {
-                return Some(Move { from, to });
+                return Some(Move { from, to, addr });
             }
             self.clear_mark(marks, from, next);
         }
@@ -133,12 +137,14 @@ impl Tables {
         requires sound { IsSound self.old.drivers self.old.configuration }
         requires marks { AreMarks self.old.drivers self.old.configuration marks.old }
         requires ways { AreWays self.old.drivers self.old.configuration ways.old }
-        ensures value { self.new ≡ record self.old { configuration = after_settling self.old.drivers self.old.configuration } }
+        ensures value { self.new
+            ≡ record self.old { configuration = after_settling self.old.drivers self.old.configuration } }
         ensures marks { AreMarks self.new.drivers self.new.configuration marks.new }
         ensures ways { AreWays self.new.drivers self.new.configuration ways.new }
         ensures none { HasNoRunMark (has_mark marks.new.run) }
     {
         lone_messages_come_to_rest();
+        movable_places_are_marked();
         settling_suffices();
         let mut left = self.lists.queues.len() as u128 * self.drivers.len() as u128;
         while left > 0 {
@@ -146,7 +152,7 @@ impl Tables {
                 return;
             };
             if self.moves_alone(marks, next.from) {
-                let rest = self.rest_of(marks, ways, next.from, next.to, left);
+                let rest = self.rest_of(marks, ways, next, left);
                 self.come_to_rest(marks, next.from, rest);
                 return;
             }

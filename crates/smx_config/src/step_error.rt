@@ -6,7 +6,7 @@ use smx_types::{Fault, NoMemory};
 use std::alloc::{AllocError, AllocFailed};
 
 /// The command was refused, or a growth was.
-#[derive(Clone, Copy, Debug, PartialEq, Eq)]
+#[derive(Clone, Copy)]
 pub enum StepError {
     Refused(Fault),
     NoMemory,

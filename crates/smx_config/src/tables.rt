@@ -1,6 +1,6 @@
 //! The tables of a configuration, over its drivers.
 
-ghost use Rattle.std.specs.Prelude.{◌≡◌, length, IfOk};
+ghost use Rattle.std.specs.Prelude.{◌≡◌, IfOk};
 ghost use Rattle.smx_model.specs.Configuration.{empty};
 ghost use Rattle.smx_model.specs.DriverList.{IsDriverList};
 ghost use Rattle.smx_model.specs.KeptConfigurations.{IsSound};
@@ -59,22 +59,6 @@ impl Tables {
             drivers,
             lists,
         })
-    }
-
-    /// The drivers, which no command changes.
-    pub fn drivers(&self) -> &[DriverSpec]
-        ensures value { result.now ≡ self.now.drivers }
-        ensures list { IsDriverList self.now.drivers }
-    {
-        self.drivers.as_slice()
-    }
-
-    /// How many links stand, which are no more than 1,024.
-    pub fn link_count(&self) -> u32
-        ensures { result ≡ length self.now.configuration.links }
-    {
-        self.lists.links.is_sound();
-        self.lists.links.len() as u32
     }
 
     /// The same tables again, by the allocator that these have. Fails only for want of memory.

@@ -12,7 +12,7 @@ use crate::tables::Tables;
 use smx_types::{Command, Fault, Place, Process, Side, StreamId};
 
 /// What a command may wake, if it is accepted.
-#[derive(Clone, Copy, Debug)]
+#[derive(Clone, Copy)]
 pub enum Wakes {
     // No message can move on that could not before.
     Nothing,
@@ -65,21 +65,16 @@ fn turns_reads(stream: Result<StreamId, Fault>) -> Wakes
 }
 
 impl Tables {
-    // What a message wakes that arrives at a side of the stream.
+    // What a message wakes that arrives at a side of the stream. The first message of a place that has one stays the
+    // first.
     fn arrives(&self, stream: Result<StreamId, Fault>, side: Side) -> Wakes
         ensures { result ≡ on_stream stream (λ s. arrives self.now.configuration (record { stream = s; side = side })) }
     {
-        match stream {
-            Ok(stream) => self.arrives_at(Place { stream, side }),
-            Err(_) => Wakes::Nothing,
-        }
-    }
-
-    // The first message of a place that has one stays the first.
-    fn arrives_at(&self, place: Place) -> Wakes
-        ensures { result ≡ arrives self.now.configuration place }
-    {
-        if self.lists.queues.has_messages(place) {
+        let Ok(stream) = stream else {
+            return Wakes::Nothing;
+        };
+        let place = Place { stream, side };
+        if self.has_messages(place) {
             Wakes::Nothing
         } else {
             Wakes::Turns(place)
@@ -138,8 +133,9 @@ impl Tables {
             | Command::Unlink { .. }
             | Command::Punlink { .. }
             | Command::Flush { .. } => Wakes::Frees,
-            Command::Link { arg, .. } => turns(self.stream_of(process, *arg), Side::Read),
-            Command::Plink { arg, .. } => turns(self.stream_of(process, *arg), Side::Read),
+            Command::Link { arg, .. } | Command::Plink { arg, .. } => {
+                turns(self.stream_of(process, *arg), Side::Read)
+            }
             Command::Bind { fd, .. } => turns_reads(self.mux_stream(process, *fd)),
             Command::Route { fd, .. } => turns_writes(self.mux_stream(process, *fd)),
             Command::Write { .. } => self.arrives(named, Side::Write),

@@ -28,8 +28,10 @@ fn mark_waiters(waits: &Waiters, run: &mut PlaceMarks, place: Place)
 
 // A place that is not full is wanted no more, and what waits for it has a run mark.
 fn release(marks: &mut Marks, place: Place)
-    ensures released { (c : Configuration) → is_full c place ≡ false → IsReleased c (same_place place) marks.old marks.new }
-    ensures fewer { has_mark marks.old.wanted place ≡ true → length marks.new.wanted.marked < length marks.old.wanted.marked }
+    ensures released { (c : Configuration) → is_full c place ≡ false
+        → IsReleased c (same_place place) marks.old marks.new }
+    ensures fewer { has_mark marks.old.wanted place ≡ true
+        → length marks.new.wanted.marked < length marks.old.wanted.marked }
 {
     marks.wanted.clear(place);
     mark_waiters(&marks.waits, &mut marks.run, place);
@@ -48,8 +50,10 @@ impl Tables {
 
     // A wanted place that is not full, if there is one.
     fn first_open(&self, wanted: &PlaceMarks) -> Option<Place>
-        ensures some { IfSome result (λ p. (has_mark wanted.now p ≡ true) × (is_full self.now.configuration p ≡ false)) }
-        ensures none { IfNone result ((p : PlaceValue) → has_mark wanted.now p ≡ true → is_full self.now.configuration p ≡ true) }
+        ensures some { IfSome result (λ p.
+            (has_mark wanted.now p ≡ true) × (is_full self.now.configuration p ≡ false)) }
+        ensures none { IfNone result ((p : PlaceValue)
+            → has_mark wanted.now p ≡ true → is_full self.now.configuration p ≡ true) }
     {
         let mut rest = wanted.marked();
         while let Some(place) = rest.next() {

@@ -124,13 +124,6 @@ impl Ways {
         }
     }
 
-    /// No way counts any more. Takes no memory.
-    fn forget(&mut self)
-        ensures { (p q : PlaceValue) (a : ℕ) → IsWay self.new p a q → ⊥ }
-    {
-        self.round = self.round.saturating_add(1);
-    }
-
     /// The same ways again. Fails only for want of memory.
     pub fn copy(&self, alloc: Global) -> Result<Ways, NoMemory>
         ensures { IfOk result (λ w. w ≡ self.now) }
@@ -147,7 +140,7 @@ impl Ways {
             → (keeps_ways command.now ≡ true) × IsWay self.old p a q }
     {
         if !keeps_ways(command) {
-            self.forget();
+            self.round = self.round.saturating_add(1);
         }
     }
 }

@@ -10,7 +10,7 @@ use Rattle.smx_types.specs.declared.view.LinkLine.{LinkLine}
 use Rattle.smx_types.specs.declared.view.MessageLine.{MessageLine}
 use Rattle.smx_types.specs.declared.view.RouteLine.{RouteLine}
 use Rattle.smx_draw.specs.Pieces.{driver_word, joined, link_word, shown_length, side_word, stroke}
-use Rattle.smx_draw.specs.declared.dot.queues.DotQueue.{DotQueue}
+use Rattle.smx_draw.specs.declared.dot.dot_queues.DotQueue.{DotQueue}
 
 -- a driver: its name and kind, its minors, its longest message, and its marks
 abbrev pub driver_line : DriverSpec → List ℕ

@@ -8,7 +8,7 @@ use Rattle.smx_types.specs.declared.stream.Side.{Side}
 use Rattle.smx_types.specs.declared.stream.Side.TheVariants as side
 use Rattle.smx_types.specs.declared.view.MessageLine.{MessageLine}
 use Rattle.smx_draw.specs.Pieces.{shown_length, shown_number}
-use Rattle.smx_draw.specs.declared.dot.queues.DotQueue.{DotQueue}
+use Rattle.smx_draw.specs.declared.dot.dot_queues.DotQueue.{DotQueue}
 
 -- both are the same side of a stream
 abbrev pub same_side : Side → Side → Bool

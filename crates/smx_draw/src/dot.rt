@@ -4,10 +4,10 @@ ghost use Rattle.std.specs.Prelude.{◌≡◌, ℕ, ◌++◌, List, IfOk, OnOk};
 ghost use Rattle.std.specs.List.{flat_map};
 ghost use Rattle.smx_draw.specs.DotText.{dot_foot, dot_head, dot_text, dot_view};
 
+mod dot_queues;
 mod lines;
-mod queues;
 
-use crate::dot::queues::{DotQueue, queues_of};
+use crate::dot::dot_queues::{DotQueue, queues_of};
 use crate::pieces::{Piece, put};
 use smx_types::{ConfigView, DriverSpec, NoMemory};
 use std::alloc::Global;

@@ -1,11 +1,10 @@
 -- Two texts that are read line by line, as long as their lines are the same.
-use Rattle.std.proofs.Common.{◌≡◌, ◌≢◌, ℕ, ◌+◌, List, [], ◌∷◌, ◌++◌, length, refl, sym, ap, ◌∙◌, append_assoc, arith}
-use Rattle.std.proofs.Common.{inl, inr}
+use Rattle.std.proofs.Common.{◌≡◌, ℕ, ◌+◌, List, [], ◌∷◌, ◌++◌, length, refl, sym, ap, ◌∙◌, append_assoc, arith}
 use Rattle.std.specs.List.{AllByRecursion}
 use Rattle.std.proofs.lemmas.List.{length-append}
 use Rattle.smx_words.specs.Words.{LINE_FEED}
 use Rattle.smx_text.specs.Grammar.{IsOneLine}
-use Rattle.smx_explain.specs.Differences.{AreAlike, Begin, IsFirstDifference, whole_lines}
+use Rattle.smx_explain.specs.Differences.{Begin, whole_lines}
 
 -- ---- lines
 
@@ -42,11 +41,6 @@ pub record HasCome (one other rest behind : List ℕ) (number : ℕ) : Type 0 wh
   pub begin : Begin one other lines rest behind
   pub counted : number ≡ length lines + 1
 
--- none yet
-pub none_yet : (one other : List ℕ) → HasCome one other one other 1
-none_yet one other =
-    record { lines = []; begin = record { are_lines = tt; one_is = refl; other_is = refl }; counted = refl }
-
 module _ (one other rest behind : List ℕ) (number : ℕ) (h : HasCome one other rest behind number) where
   -- one more
   pub one_more : (told has more after : List ℕ) → IsOneLine told → rest ≡ told ++ LINE_FEED ∷ more
@@ -61,30 +55,3 @@ module _ (one other rest behind : List ℕ) (number : ℕ) (h : HasCome one othe
     };
     counted = omega (arith, h.counted, length-append h.lines (told ∷ []));
   }
-
-  -- the next ones differ
-  pub found : (told has more after : List ℕ) → IsOneLine told → IsOneLine has → rest ≡ told ++ LINE_FEED ∷ more
-      → behind ≡ has ++ LINE_FEED ∷ after
-      → told ≢ has → IsFirstDifference one other number told has
-  found told has more after is_one also_one is also differ = record {
-    before = h.lines;
-    counted = h.counted;
-    told_is_one = is_one;
-    has_is_one = also_one;
-    more = more;
-    rest = after;
-    begin = record {
-      are_lines = h.begin.are_lines;
-      one_is = rw (← is) h.begin.one_is;
-      other_is = rw (← also) h.begin.other_is;
-    };
-    differ = differ;
-  }
-
-  -- there is no line more of the one
-  pub one_ends : IsOneLine rest → AreAlike one other
-  one_ends end = record { lines = h.lines; rest = rest; behind = behind; begin = h.begin; ends = inl end }
-
-  -- or of the other
-  pub other_ends : IsOneLine behind → AreAlike one other
-  other_ends end = record { lines = h.lines; rest = rest; behind = behind; begin = h.begin; ends = inr end }

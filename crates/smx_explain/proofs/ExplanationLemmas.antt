@@ -120,25 +120,7 @@ alike_same reading t r allowed also h =
 
 module _ (t : Transcript) (text replayed : List ℕ) (spells : SpellsTranscript text t)
     (h : IsReplayText t replayed) where
-  -- the first line that differs is told
-  pub told_difference : (output : List ℕ) (number : ℕ) (told has : List ℕ)
-      → IsFirstDifference text replayed number told has
-      → output ≡ difference_text number told has → IsExplanation t output
-  told_difference output number told has first is = record {
-    replay = h.replay;
-    replays = h.replays;
-    spellable = h.spellable;
-    told = inr (
-      number,
-      told,
-      has,
-      subst (λ (one : List ℕ). IsFirstDifference one (transcript_text h.replay) number told has) spells.text
-          (subst (λ (other : List ℕ). IsFirstDifference text other number told has) h.written first),
-      is,
-    );
-  }
-
-  -- and where none does, nothing is
+  -- where no line differs, nothing is told
   pub told_nothing : HasOneReading → CanBeTold → (output : List ℕ) → AreAlike text replayed → output ≡ []
       → IsExplanation t output
   told_nothing reading can output alike none =

@@ -113,11 +113,12 @@ one_difference one other n m told has told_too has_too h k =
     (sym h.begin.other_is ∙ k.begin.other_is) in
     (omega (arith, h.counted, k.counted, t.0), t.1, t.2)
 
--- a text does not differ from itself
+-- behind the same front the same rest stands
 same_rest : (xs ys zs : List ℕ) → xs ++ ys ≡ xs ++ zs → ys ≡ zs
 same_rest [] ys zs e = e
 same_rest (x ∷ xs) ys zs e = let more : xs ++ ys ≡ xs ++ zs = cc in same_rest xs ys zs more
 
+-- a text does not differ from itself
 pub no_difference : (one other : List ℕ) (n : ℕ) (told has : List ℕ) → IsFirstDifference one other n told has
     → one ≡ other → ⊥
 no_difference one other n told has h same =
@@ -173,10 +174,6 @@ IsFrom text number at bytes =
     → (behind : List (List ℕ)) × AllByRecursion IsOneLine behind × (length behind + at ≡ number)
     × (bytes ≡ whole_lines behind ++ rest)
 
--- all lines, from the first on
-pub from_first : (text : List ℕ) (number : ℕ) → IsFrom text number 1 text
-from_first text number = λ before rest all count is. (before, all, omega (arith, count), is)
-
 -- one further
 pub one_further : (text : List ℕ) (number at : ℕ) (bytes line after : List ℕ) → IsFrom text number at bytes
     → at < number → IsOneLine line
@@ -207,13 +204,3 @@ none_further text number at bytes h less one before rest all count e = no_lines 
   no_lines ([], all, long, e) = omega (arith, long, less)
   no_lines (b ∷ behind, all, long, e) =
       not_one b (whole_lines behind ++ rest) (subst IsOneLine (e ∙ cons b behind rest) one)
-
--- where as many were passed as come before, the bytes are what follows them
-pub all_passed : (text : List ℕ) (number at : ℕ) (bytes : List ℕ) → IsFrom text number at bytes → number ≤ at
-    → (before : List (List ℕ)) (rest : List ℕ) → AllByRecursion IsOneLine before → number ≡ length before + 1
-    → text ≡ whole_lines before ++ rest → bytes ≡ rest
-all_passed text number at bytes h past before rest all count e = no_lines (h before rest all count e) where
-  no_lines : ((behind : List (List ℕ)) × AllByRecursion IsOneLine behind × (length behind + at ≡ number)
-      × (bytes ≡ whole_lines behind ++ rest)) → bytes ≡ rest
-  no_lines ([], all, long, e) = e
-  no_lines (b ∷ behind, all, long, e) = absurd (omega (arith, long, past))

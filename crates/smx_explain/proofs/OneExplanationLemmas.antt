@@ -18,6 +18,7 @@ told_once one other a b (n, told, has, first, is) (m, said, had, first_too, is_t
 none_told : (one other a : List ℕ) → TellsDifference one other a → one ≡ other → ⊥
 none_told one other a (n, told, has, first, is) same = no_difference one other n told has first same
 
+-- where a transcript has one replay, it has one explanation
 pub one_explanation : ((t r s : Transcript) → IsReplayOf t r → IsReplayOf t s → r ≡ s) → (t : Transcript)
     (one other : List ℕ) → IsExplanation t one → IsExplanation t other → one ≡ other
 one_explanation determined t one other h k = by_cases h.told k.told where

@@ -29,6 +29,7 @@ both_lines : (xs ys : List ℕ) → IsOneLine xs → IsOneLine ys → IsOneLine 
 both_lines [] ys h k = k
 both_lines (x ∷ xs) ys h k = (h.0, both_lines xs ys h.1 k)
 
+-- words make one line: no line feed stands in them
 pub words_line : (ws : List (List ℕ)) → AllByRecursion IsWord ws → IsOneLine (line_of ws)
 words_line [] h = tt
 words_line (w ∷ []) h = word_line w h.0.1

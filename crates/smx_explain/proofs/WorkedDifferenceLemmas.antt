@@ -3,6 +3,7 @@ use Rattle.std.proofs.Common.{◌≡◌, ℕ, List, [], ◌∷◌, get_or, ap, r
 use Rattle.std.specs.Prelude.{codes}
 use Rattle.smx_explain.specs.Differences.{AreAlike, IsFirstDifference, IsFirstLine}
 
+-- the second line is the first that differs
 pub second : IsFirstDifference (codes "a\nb\nc\n") (codes "a\nx\nd\n") 2 (codes "b") (codes "x")
 second = record {
   before = codes "a" ∷ [];
@@ -15,6 +16,7 @@ second = record {
   differ = λ e. let heads : 98 ≡ 120 = ap (λ (bs : List ℕ). get_or bs 0 0) e in omega (arith, heads);
 }
 
+-- an empty line differs from the end
 pub ends_early : IsFirstDifference (codes "a\nend\n") (codes "a\n\nend\n") 2 (codes "end") []
 ends_early = record {
   before = codes "a" ∷ [];
@@ -27,6 +29,7 @@ ends_early = record {
   differ = λ e. absurd (cc e);
 }
 
+-- what is no whole line differs in none
 pub not_whole : AreAlike (codes "a\nb") (codes "a\nc")
 not_whole = record {
   lines = codes "a" ∷ [];
@@ -36,8 +39,10 @@ not_whole = record {
   ends = inl (search (rules, arith));
 }
 
+-- a line ends at its line feed
 pub whole_line : IsFirstLine (codes "b") (codes "b\nc\n")
 whole_line = (search (rules, arith), inr (codes "c\n", refl))
 
+-- or where the text does
 pub last_line : IsFirstLine (codes "b c") (codes "b c")
 last_line = (search (rules, arith), inl refl)

@@ -1,7 +1,7 @@
 //! What is shown of a text that is at fault.
 
 use crate::lines::line_at;
-use smx_place::{Place, TextKind, place_of};
+use smx_place::{LinePlace, TextKind, place_of};
 use smx_text::{Cause, TextFault};
 use smx_types::Version;
 use std::fmt;
@@ -21,7 +21,7 @@ pub struct FaultExplanation<'a> {
 
 impl FaultExplanation<'_> {
     // Where a line of no form stops being one.
-    fn place(&self, line: &[u8]) -> Option<Place> {
+    fn place(&self, line: &[u8]) -> Option<LinePlace> {
         match self.fault.cause {
             Cause::Form => place_of(self.kind, version_of(self.text), line),
             Cause::Header | Cause::Many | Cause::Cut | Cause::Trailing | Cause::NoMemory => None,
@@ -64,7 +64,10 @@ impl fmt::Display for FaultExplanation<'_> {
         write_cut(f, line)?;
         f.write_str("\n")?;
         match self.place(line) {
-            Some(Place { column, wanted }) => writeln!(f, "column {column}: {wanted} is wanted"),
+            Some(LinePlace { column, wanted }) => writeln!(
+                f,
+                "column {column}: {wanted} is wanted"
+            ),
             None => writeln!(f, "{}", self.reason(line)),
         }
     }

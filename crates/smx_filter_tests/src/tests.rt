@@ -3,10 +3,10 @@
 mod broken;
 mod devices;
 mod faults;
-mod jobs;
 mod lives;
 mod reading;
 mod sessions;
+mod tasks;
 mod texts;
 mod tried_again;
 mod workers;

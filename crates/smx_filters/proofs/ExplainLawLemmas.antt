@@ -41,6 +41,7 @@ is_there : (kept : Option (Vec ℕ Global)) (read input : List ℕ) → IsKept k
 is_there None read input kept same = absurd kept
 is_there (Some text) read input kept same = (text, refl, kept ∙ sym same)
 
+-- where the text of an input in memory is at fault, all of it is there to be shown
 pub keeps_all : {V K T : Type 0} (f : Filter V K T) (input : List ℕ) (left before after : Option (List ℕ))
     (ended flushed : Bool)
     (reads writes : ℕ) (refusal : Refusal) (fault : TextFault)

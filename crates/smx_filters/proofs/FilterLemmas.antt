@@ -1,9 +1,10 @@
 -- What a filter says where nothing comes of the bytes that it read.
-use Rattle.std.proofs.Common.{◌≡◌, ◌≢◌, ℕ, List, Option, Some, None, Bool, Result, Ok, Err, String, Vec, sym, subst}
-use Rattle.std.proofs.Common.{rules, arith, inl}
+use Rattle.std.proofs.Common.{◌≡◌, ◌≢◌, ℕ, zero, suc, false, List, Option, Some, None, Bool, Result, Ok, Err, String}
+use Rattle.std.proofs.Common.{Vec, sym, subst, rules, arith, inl}
 use Rattle.std.specs.Prelude.{IsErrAnd, IsErrOf}
 use Rattle.std.specs.Global.{Global}
 use Rattle.std.specs.Io.KnownBytes.{Keeps}
+use Rattle.smx_types.specs.ProgramLists.{ProgramLists}
 use Rattle.smx_types.specs.declared.driver.DriverSpec.{DriverSpec}
 use Rattle.smx_types.specs.declared.transcript.Transcript.{Transcript}
 use Rattle.smx_text.specs.Grammar.{ReadsAny}
@@ -20,7 +21,7 @@ use Rattle.smx_filters.specs.declared.main_fault.MainFault.TheVariants.{Refused,
 use Rattle.smx_filters.specs.Filters.{Filter, Answers, FiltersText, IsFaultOf, RefusesFor}
 use Rattle.smx_filters.specs.Input.{IsInput, IsWhole}
 use Rattle.smx_filters.specs.CheckText.{checking, judged_of}
-use Rattle.smx_filters.specs.RunText.{items_of, running}
+use Rattle.smx_filters.specs.RunText.{IsTranscriptInTurn, IsWrittenFor, items_of, running}
 
 -- known bytes that stay are kept
 kept : (known : Option (List ℕ)) → Keeps known known
@@ -102,6 +103,25 @@ text_refused fronts workers bytes input same f (Ok v) is a = absurd is
 text_refused fronts workers bytes input same f (Err e) is a =
     subst (λ (x : MainFault). Answers (running fronts workers) input (Err x)) (sym is)
     (subst (λ (given : List ℕ). IsFaultOf (running fronts workers) given f) same a)
+
+-- what one worker writes, any number may write
+pub written_by_any : (workers : ℕ) (programs : ProgramLists) (output : List ℕ) → IsTranscriptInTurn programs output
+    → IsWrittenFor false workers programs output
+written_by_any zero programs output t =
+    record { report = t.report; promised = t.promised; version = t.version; written = t.written }
+written_by_any (suc zero) programs output t = t
+written_by_any (suc (suc more)) programs output t =
+    record { report = t.report; promised = t.promised; version = t.version; written = t.written }
+
+-- and what it answers, they may answer
+pub answered_by_any : (workers : ℕ) (input : List ℕ) (answer : Result (Vec ℕ Global) MainFault)
+    → Answers (running false 1) input (items_of answer) → Answers (running false workers) input (items_of answer)
+answered_by_any workers input (Ok v) a = (a.0, a.1, a.2, written_by_any workers a.1 v.items a.3)
+answered_by_any workers input (Err (Text f)) a = a
+answered_by_any workers input (Err (Refused f)) a = (a.0, a.1, a.2, (a.3.0, λ _. a.3.1 (inl (omega arith))))
+answered_by_any workers input (Err TooLong) a = a
+answered_by_any workers input (Err ReadFailed) a = a
+answered_by_any workers input (Err WriteFailed) a = a
 
 -- drivers that a configuration can't have are refused so, and else memory was wanting
 pub alone_of : (drivers : List DriverSpec) (f : ConfigFault) → RefusesDrivers drivers f

@@ -18,7 +18,8 @@ use smx_explain::laws_of_explanations::a_legal_transcript_needs_none;
 
 /// A check that explains itself has the verdict of a check, and writes its line first; below `legal` it tells nothing.
 pub fn an_explained_check_is_a_check()
-    ensures { (explain : Bool) (input output : List ℕ) (verdict : Verdict) → GivesFor (judging explain) input verdict output
+    ensures { (explain : Bool) (input output : List ℕ) (verdict : Verdict)
+        → GivesFor (judging explain) input verdict output
         → (line told : List ℕ) × GivesFor checking input verdict line × (output ≡ line ++ told)
         × (verdict ≡ Legal → told ≡ []) }
 {

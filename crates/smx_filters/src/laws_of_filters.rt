@@ -17,13 +17,16 @@ use smx_model::laws_of_reports::reports_are_determined;
 /// What a run says of an input in memory, by devices that don't fail; where the reader fails it says so and writes
 /// nothing, and where the writer fails a beginning of what it writes is out.
 pub fn runs_end_in_memory()
-    ensures ends { (input left output : List ℕ) (workers : ℕ) (fronts ended flushed : Bool) (answer : Result (Unit {0}) MainFault)
+    ensures ends { (input left output : List ℕ) (workers : ℕ) (fronts ended flushed : Bool)
+        (answer : Result (Unit {0}) MainFault)
         → RunsText fronts workers (Some input) (Some left) ended 0 (Some []) (Some output) flushed 0 answer
         → EndsInMemory (running fronts workers) input left ended output flushed answer }
-    ensures unread { (input left output : List ℕ) (workers : ℕ) (fronts ended flushed : Bool) (answer : Result (Unit {0}) MainFault)
+    ensures unread { (input left output : List ℕ) (workers : ℕ) (fronts ended flushed : Bool)
+        (answer : Result (Unit {0}) MainFault)
         → RunsText fronts workers (Some input) (Some left) ended 1 (Some []) (Some output) flushed 0 answer
         → (answer ≡ Err ReadFailed) × (output ≡ []) }
-    ensures cut_short { (input left output : List ℕ) (workers : ℕ) (fronts ended flushed : Bool) (answer : Result (Unit {0}) MainFault)
+    ensures cut_short { (input left output : List ℕ) (workers : ℕ) (fronts ended flushed : Bool)
+        (answer : Result (Unit {0}) MainFault)
         → RunsText fronts workers (Some input) (Some left) ended 0 (Some []) (Some output) flushed 1 answer
         → IsCutShort (running fronts workers) input output answer }
 {}
@@ -64,13 +67,16 @@ pub fn replays_end_in_memory()
 
 /// The same of a drawing, which answers that it is done.
 pub fn drawings_end_in_memory()
-    ensures ends { (input left output : List ℕ) (form : Form) (ended flushed : Bool) (answer : Result (Unit {0}) MainFault)
+    ensures ends { (input left output : List ℕ) (form : Form) (ended flushed : Bool)
+        (answer : Result (Unit {0}) MainFault)
         → DrawsText form (Some input) (Some left) ended 0 (Some []) (Some output) flushed 0 answer
         → EndsInMemory (drawing form) input left ended output flushed answer }
-    ensures unread { (input left output : List ℕ) (form : Form) (ended flushed : Bool) (answer : Result (Unit {0}) MainFault)
+    ensures unread { (input left output : List ℕ) (form : Form) (ended flushed : Bool)
+        (answer : Result (Unit {0}) MainFault)
         → DrawsText form (Some input) (Some left) ended 1 (Some []) (Some output) flushed 0 answer
         → (answer ≡ Err ReadFailed) × (output ≡ []) }
-    ensures cut_short { (input left output : List ℕ) (form : Form) (ended flushed : Bool) (answer : Result (Unit {0}) MainFault)
+    ensures cut_short { (input left output : List ℕ) (form : Form) (ended flushed : Bool)
+        (answer : Result (Unit {0}) MainFault)
         → DrawsText form (Some input) (Some left) ended 0 (Some []) (Some output) flushed 1 answer
         → IsCutShort (drawing form) input output answer }
 {}

@@ -1,6 +1,7 @@
 //! A fault that is to be explained.
 
 use crate::main_fault::MainFault;
+use smx_run::RunFault;
 
 /// Why nothing came of a filter, and the text in which a fault is to be shown.
 #[derive(Drop)]
@@ -17,5 +18,16 @@ impl From<MainFault> for Refusal {
 
     fn from(fault: MainFault) -> Refusal {
         Refusal { fault, text: None }
+    }
+}
+
+impl From<RunFault> for Refusal {
+    ghost use Rattle.std.specs.Prelude.{◌≡◌, None};
+    ghost use Rattle.smx_filters.specs.declared.main_fault.MainFault.TheVariants.{Refused};
+
+    ghost from_gives = { λ f refusal. refusal ≡ record { fault = Refused f; text = None } };
+
+    fn from(fault: RunFault) -> Refusal {
+        Refusal::from(MainFault::Refused(fault))
     }
 }

@@ -1,14 +1,14 @@
 //! A run from bytes to bytes.
 
-ghost use Rattle.std.specs.Prelude.{◌≡◌, ◌≤◌, false, length, IfOk, IfErr, None, Result};
+ghost use Rattle.std.specs.Prelude.{◌≡◌, ◌≤◌, ℕ, false, length, IfOk, IfErr, None, Result};
 ghost use Rattle.smx_text.specs.declared.text_fault.TextFault.{TextFault};
 ghost use Rattle.smx_filters.specs.ExplainText.{IsKept, answer_of};
 ghost use Rattle.smx_filters.specs.Filters.{Answers};
 ghost use Rattle.smx_filters.specs.FrontsText.{fronts_text};
-ghost use Rattle.smx_filters.specs.RunText.{IsFrontsTextFor, IsRefusedFor, IsTranscriptFor, IsTranscriptInTurn, IsWrittenFor, RunsText, items_of, running};
+ghost use Rattle.smx_filters.specs.RunText.{IsFrontsTextFor, IsRefusedFor, IsTranscriptFor, RunsText, items_of, running};
 ghost use Rattle.smx_filters.specs.declared.main_fault.MainFault.TheVariants.{Refused, Text};
 ghost use Rattle.smx_run.specs.declared.run_fault.RunFault.{RunFault as AnyFault};
-ghost use Rattle.smx_run.specs.RunFaults.{RefusesAlone, RefusesRun};
+ghost use Rattle.smx_run.specs.RunFaults.{RefusesRun};
 
 use crate::device::{Feed, Sink};
 use crate::fronts_text::fronts_text;
@@ -18,9 +18,9 @@ use crate::output::write_all;
 use crate::refusal::Refusal;
 use crate::running_programs::RunningPrograms;
 use crate::text_recorder::TextRecorder;
+use memchr::memmem;
 use smx_model::laws_of_hangups::reports_need_no_later_version;
-use smx_run::laws_of_runs::refusals_have_few_causes;
-use smx_run::{Gate, Report, RunFault, run_programs, run_recorded, run_recorded_together};
+use smx_run::{Gate, Report, RunFault, run_programs, run_recorded_together};
 use smx_text::{read_programs, take_programs};
 use smx_types::{NoMemory, Programs};
 use std::alloc::Global;
@@ -57,8 +57,8 @@ pub fn run_text<R: Threads + Wait + Sync, F: Feed, S: Sink, G: Gate + Sync>(
     }
 }
 
-// The text of a run of the programs that the input spells, which is kept where it is at fault. One worker has each
-// command performed as its line is read; else the text of the run is written in the room that the input had.
+// The text of a run of the programs that the input spells, which is kept where it is at fault. The transcript of one
+// worker, or of one process, is written while the text is read, and that of several in the room that the input had.
 pub(crate) fn text_for<R: Threads + Wait + Sync, G: Gate + Sync>(
     rt: &R,
     alloc: Global,
@@ -72,20 +72,20 @@ pub(crate) fn text_for<R: Threads + Wait + Sync, G: Gate + Sync>(
     ensures kept { IfErr result (λ r. (fault : TextFault) → r.fault ≡ Text fault → IsKept r.text input.items) }
     ensures given_up { IfErr result (λ r. (f : AnyFault) → r.fault ≡ Refused f → r.text ≡ None) }
 {
-    if workers == 1 && !fronts {
-        return match transcript_as_read(alloc, input.as_slice(), gate) {
-            Ok(output) => Ok(output),
-            Err(fault) => Err(kept_for(fault, input)),
-        };
+    if !fronts && (workers == 1 || !has_second_process(input.as_slice())) {
+        return text_as_read(alloc, input, gate);
     }
     let programs = match read_programs(alloc, input.as_slice()) {
         Ok(programs) => programs,
         Err(fault) => return Err(kept_for(MainFault::Text(fault), input)),
     };
-    match text_of_run(rt, alloc, input, programs, workers, fronts, gate) {
-        Ok(output) => Ok(output),
-        Err(fault) => Err(Refusal::from(MainFault::Refused(fault))),
+    if fronts {
+        return Ok(fronts_of_run(rt, alloc, programs, workers, gate)?);
     }
+    if workers.min(programs.programs().len()) < 2 {
+        return text_as_read(alloc, input, gate);
+    }
+    Ok(transcript_of_several(rt, alloc, input, programs, workers, gate)?)
 }
 
 // What is told of this fault, with the input where that is at fault.
@@ -102,6 +102,28 @@ fn kept_for(fault: MainFault, input: Vec<u8>) -> Refusal
         | MainFault::WriteFailed => None,
     };
     Refusal { fault, text }
+}
+
+// Whether the programs that the text spells may be of more than one process, each of which has a line that begins so.
+fn has_second_process(text: &[u8]) -> bool {
+    let begins = b"\nprocess ";
+    match memmem::find(text, begins) {
+        Some(at) => memmem::find(&text[at + begins.len()..], begins).is_some(),
+        None => false,
+    }
+}
+
+// The text of a run on this thread alone, for its transcript, of the programs that the input spells. Any number of
+// workers may answer it.
+fn text_as_read<G: Gate>(alloc: Global, input: Vec<u8>, gate: &G) -> Result<Vec<u8>, Refusal>
+    ensures answers { (workers : ℕ) → Answers (running false workers) input.items (items_of (answer_of result)) }
+    ensures kept { IfErr result (λ r. (fault : TextFault) → r.fault ≡ Text fault → IsKept r.text input.items) }
+    ensures given_up { IfErr result (λ r. (f : AnyFault) → r.fault ≡ Refused f → r.text ≡ None) }
+{
+    match transcript_as_read(alloc, input.as_slice(), gate) {
+        Ok(output) => Ok(output),
+        Err(fault) => Err(kept_for(fault, input)),
+    }
 }
 
 // The transcript of a run, on this thread alone, of the programs that the input spells. Each command is performed as
@@ -121,32 +143,6 @@ fn room_for_transcript(alloc: Global, bytes: usize) -> Vec<u8> {
         Ok(room) => room,
         Err(_) => Vec::new(alloc),
     }
-}
-
-// The fronts of a run by so many workers, or its transcript in the room that is given. Where a second worker would have
-// no process, a transcript is made on this thread alone.
-fn text_of_run<R: Threads + Wait + Sync, G: Gate + Sync>(
-    rt: &R,
-    alloc: Global,
-    room: Vec<u8>,
-    programs: Programs,
-    workers: usize,
-    fronts: bool,
-    gate: &G,
-) -> Result<Vec<u8>, RunFault>
-    requires { (1 ≤ workers) × (workers ≤ 64) }
-    ensures written { IfOk result (λ text. IsWrittenFor fronts workers programs text.items) }
-    ensures refused { IfErr result (IsRefusedFor workers programs) }
-{
-    refusals_have_few_causes();
-    if fronts {
-        return fronts_of_run(rt, alloc, programs, workers, gate);
-    }
-    let hands = workers.min(programs.programs().len());
-    if hands < 2 {
-        return transcript_of_one(alloc, room, programs, gate);
-    }
-    transcript_of_several(rt, alloc, room, programs, workers, gate)
 }
 
 // The fronts of a run by so many workers, as a text.
@@ -172,24 +168,8 @@ fn fronts_of(alloc: Global, report: &Report) -> Result<Vec<u8>, NoMemory>
     Ok(fronts_text(alloc, report.fronts.as_slice())?)
 }
 
-// The transcript of a run on this thread alone, in the room that is given and in the version of the programs. The line
-// of each entry is written once its command was answered.
-fn transcript_of_one<G: Gate>(
-    alloc: Global,
-    room: Vec<u8>,
-    programs: Programs,
-    gate: &G,
-) -> Result<Vec<u8>, RunFault>
-    ensures written { IfOk result (λ text. IsTranscriptInTurn programs text.items) }
-    ensures refused { IfErr result (RefusesAlone programs.drivers) }
-{
-    reports_need_no_later_version();
-    let _version = programs.version();
-    let (TextRecorder { writer }, view) = run_recorded(alloc, programs, room, gate)?;
-    Ok(writer.finish(&view)?)
-}
-
-// The same of a run by so many workers. The line of each entry is written before the next command is performed.
+// The transcript of a run by so many workers, in the room that is given and in the version of the programs. The line of
+// each entry is written before the next command is performed.
 fn transcript_of_several<R: Threads + Wait + Sync, G: Gate + Sync>(
     rt: &R,
     alloc: Global,

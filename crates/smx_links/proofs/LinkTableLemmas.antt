@@ -1,8 +1,8 @@
 -- A table of links, made and changed.
-use Rattle.std.proofs.Common.{◌≡◌, ℕ, ◌<◌, ◌+◌, Bool, true, false, ◌||◌, eqb, leb, List, [], ◌∷◌, ◌++◌, length}
-use Rattle.std.proofs.Common.{filter, take, drop, Option, Some, None, refl, sym, ◌∙◌, arith, if◌then◌else◌}
-use Rattle.std.proofs.Common.{length-append}
-use Rattle.std.proofs.lemmas.Bool.{leb-false, or_parts}
+use Rattle.std.proofs.Common.{◌≡◌, ℕ, ◌<◌, ◌+◌, Bool, true, false, ◌||◌, ◌==◌, eqb, leb, not, List, [], ◌∷◌, ◌++◌}
+use Rattle.std.proofs.Common.{length, filter, take, drop, Option, Some, None, refl, sym, ap, ◌∙◌, arith}
+use Rattle.std.proofs.Common.{length-append, if◌then◌else◌, inl, inr}
+use Rattle.std.proofs.lemmas.Bool.{cases_Bool, leb-false, or_parts}
 use Rattle.std.proofs.lemmas.List.{take_at}
 use Rattle.std.specs.List.{All}
 use Rattle.std.proofs.lemmas.List.Elements.{All-push, All-filter}
@@ -15,7 +15,7 @@ use Rattle.smx_model.specs.SoundLinks.{AreLinksSound, AreIdsRising}
 use Rattle.smx_model.specs.Standing.{is_below}
 use Rattle.smx_links.specs.declared.link_fault.LinkFault.{LinkFault}
 use Rattle.smx_links.specs.Ids.{Rows, HasIds}
-use Rattle.smx_links.specs.LinkLists.{LinkList, ordinary_of, refusal}
+use Rattle.smx_links.specs.LinkLists.{LinkList, ordinary_of, others_of, refusal, without_id, without_ids}
 use Rattle.smx_links.specs.Masks.{AreMasks, IsWithin, LeadAlikeBut}
 use Rattle.smx_links.specs.Pairs.{AreCounts, with_one_more}
 use Rattle.smx_links.specs.TableFields.{AreParts, list_of_parts}
@@ -111,6 +111,16 @@ parts_less ws vs ls ks os js es fs ps qs n stays lost h is same kept rows sound 
       rows = rows ∙ h.rows ∙ sym long;
       pairs = rw long counts;
     }
+
+-- without the links of one id
+pub without_one : (t : LinkList) (id : ℕ) → without_ids t (id ∷ []) ≡ without_id t id
+without_one t id = ap (λ (ls : List Link). record t { links = ls }) (by t.links) where
+  by : (ls : List Link) → others_of (id ∷ []) ls ≡ filter (λ l. not (l.id == id)) ls
+  by [] = refl
+  by (l ∷ ls) = elim (cases_Bool (l.id == id)) [
+    | inl t ↦ rw t (by ls)
+    | inr f ↦ rw f (ap (λ (ks : List Link). l ∷ ks) (by ls))
+  ]
 
 -- a vector, after a slice of all of it was lent
 pub lent : (n : ℕ) (new old : List ℕ) → length new ≡ length old → n ≡ length old

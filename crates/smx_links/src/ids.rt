@@ -5,12 +5,12 @@ ghost use Rattle.smx_types.specs.declared.limits.TheConstants.{MAX_DRIVERS};
 ghost use Rattle.smx_types.specs.declared.stream.StreamId.{StreamId as StreamValue};
 ghost use Rattle.smx_links.specs.Ids.{id_at, with_id};
 
-use crate::row::Row;
+use crate::id_row::IdRow;
 use smx_types::{NoMemory, StreamId};
 use std::alloc::Global;
 
 /// A row of ids for each driver.
-pub type Ids = Vec<Row>;
+pub type Ids = Vec<IdRow>;
 
 // No ids, of so many drivers.
 pub fn no_ids(alloc: Global, drivers: usize) -> Result<Ids, NoMemory>
@@ -19,13 +19,13 @@ pub fn no_ids(alloc: Global, drivers: usize) -> Result<Ids, NoMemory>
 {
     let mut ids = Vec::with_capacity(alloc, drivers)?;
     for driver in 0..drivers {
-        ids.push(Row::new(alloc))?;
+        ids.push(IdRow::new(alloc))?;
     }
     Ok(ids)
 }
 
 // The id at the stream.
-pub fn id_at(ids: &[Row], stream: StreamId) -> Option<u32>
+pub fn id_at(ids: &[IdRow], stream: StreamId) -> Option<u32>
     ensures { result ≡ id_at ids.now stream }
 {
     match ids.get(stream.driver as usize) {
@@ -54,7 +54,7 @@ pub fn set_id(ids: &mut Ids, stream: StreamId, id: Option<u32>)
     ids[stream.driver as usize].set(stream.minor, id);
 }
 
-pub fn copy_ids(alloc: Global, ids: &[Row]) -> Result<Ids, NoMemory>
+pub fn copy_ids(alloc: Global, ids: &[IdRow]) -> Result<Ids, NoMemory>
     ensures { IfOk result (λ v. v.items ≡ ids.now) }
 {
     let mut made = Vec::with_capacity(alloc, ids.len())?;

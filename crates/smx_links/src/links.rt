@@ -1,7 +1,7 @@
 //! Links by rising id, and the id of the link that a stream is below.
 
-ghost use Rattle.std.specs.Prelude.{◌≡◌, ◌<◌, ◌≤◌, ◌*◌, ◌==◌, ◌++◌, [], ◌∷◌, false, find, filter, length, not, nat_lt, is_some, if◌then◌else◌};
-ghost use Rattle.std.specs.Prelude.{IfNone, OnOk, OnErr, option_copied, vec_capacity};
+ghost use Rattle.std.specs.Prelude.{◌≡◌, ◌<◌, ◌≤◌, ◌*◌, ◌==◌, ◌++◌, [], ◌∷◌, false, find, filter, length, not};
+ghost use Rattle.std.specs.Prelude.{nat_lt, is_some, if◌then◌else◌, IfNone, OnOk, OnErr, option_copied, vec_capacity};
 ghost use Rattle.std.specs.List.{All};
 ghost use Rattle.smx_types.specs.declared.limits.TheConstants.{MAX_DRIVERS};
 ghost use Rattle.smx_model.specs.Configuration.{same_stream};
@@ -13,22 +13,22 @@ ghost use Rattle.smx_links.specs.LinkLists.{ordinary_of, others_of};
 ghost use Rattle.smx_links.specs.Masks.{with_bit, IsWithin, LeadAlikeBut};
 ghost use Rattle.smx_links.specs.Pairs.{entry_of, with_one_less, AreCounts};
 
+use crate::id_row::IdRow;
 use crate::ids::{Ids, id_at, make_room, set_id};
 use crate::masks::{Word, with_bit};
 use crate::pairs::{Count, uncount};
-use crate::row::Row;
 use smx_model::laws_of_links::{fewer_links_stay_sound, one_link_more_joins, paths_join};
 use smx_types::{Link, LinkKind, NoMemory, StreamId};
 
 // Whether the stream is below.
-pub fn is_below(ids: &[Row], lower: StreamId) -> bool
+pub fn is_below(ids: &[IdRow], lower: StreamId) -> bool
     ensures { result ≡ is_some (id_at ids.now lower) }
 {
     id_at(ids, lower).is_some()
 }
 
 // The link that the stream is below.
-pub fn above<'a>(links: &'a [Link], ids: &[Row], lower: StreamId) -> Option<&'a Link>
+pub fn above<'a>(links: &'a [Link], ids: &[IdRow], lower: StreamId) -> Option<&'a Link>
     requires rise { IsRising (λ l k. nat_lt l.id k.id) links.now }
     requires ids { HasIds ids.now links.now }
     ensures { option_copied result ≡ find (λ l. same_stream l.lower lower) links.now }
@@ -115,7 +115,7 @@ fn take_one(links: &mut Vec<Link>, id: u32) -> Option<Link>
 }
 
 // Takes out the link with the id.
-pub fn take(links: &mut Vec<Link>, ordinary: &mut Vec<Link>, ids: &mut Ids, id: u32) -> Option<Link>
+fn take(links: &mut Vec<Link>, ordinary: &mut Vec<Link>, ids: &mut Ids, id: u32) -> Option<Link>
     requires sound { AreLinksSound links.old.items }
     requires rise { IsRising (λ l k. nat_lt l.id k.id) links.old.items }
     requires ordinary { ordinary.old.items ≡ ordinary_of links.old.items }
@@ -135,7 +135,7 @@ pub fn take(links: &mut Vec<Link>, ordinary: &mut Vec<Link>, ids: &mut Ids, id: 
 }
 
 // One link less between its two drivers. The drivers that have lost links, with its upper one where none is left.
-pub fn lose(pairs: &mut [Count], drivers: usize, link: Link, lost: Word) -> Word
+fn lose(pairs: &mut [Count], drivers: usize, link: Link, lost: Word) -> Word
     requires within { IsWithin drivers link }
     requires few { drivers ≤ MAX_DRIVERS }
     requires long { length pairs.old ≡ drivers * drivers }

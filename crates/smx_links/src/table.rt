@@ -11,12 +11,11 @@ ghost use Rattle.smx_links.specs.LinkLists.{with_link, without_id, without_ids};
 
 use crate::ids::{Ids, copy_ids, no_ids};
 use crate::link_fault::LinkFault;
-use crate::links::{above, get, is_below, lose, put, take, take_each};
+use crate::links::{above, get, is_below, put, take_each};
 use crate::masks::{Word, has_any_bit, has_bit, join_link, renew};
 use crate::pairs::{Count, count};
 use smx_model::laws_of_links::{
     fewer_links_stay_sound, linking_keeps_soundness, linking_takes_the_next_id, no_links_are_sound,
-    one_link_more_joins, paths_join,
 };
 use smx_types::{Link, LinkKind, MAX_LINKS, NUMBER_END, NoMemory, StreamId};
 use std::alloc::Global;
@@ -151,13 +150,9 @@ impl LinkTable {
         ensures rest { self.new ≡ without_id self.old id }
         ensures drivers { self.new.drivers ≡ self.old.drivers }
     {
-        fewer_links_stay_sound();
-        one_link_more_joins();
-        paths_join();
-        let link = take(&mut self.links, &mut self.ordinary, &mut self.ids, id)?;
-        let lost = lose(&mut self.pairs, self.masks.len(), link, 0);
-        renew(&mut self.masks, &self.pairs, lost);
-        Some(link)
+        let removed = self.get(id).copied();
+        self.remove_each(&[id]);
+        removed
     }
 
     /// Takes out each link with one of these ids, and no other. The next id stays. What drivers reach is found anew
@@ -262,6 +257,7 @@ impl LinkTable {
     pub fn is_sound(&self)
         ensures { IsLinkList self.now }
     {
+        // Opens the invariant.
         let _next_id = self.next_id;
     }
 

@@ -147,6 +147,7 @@ module _ (stays : StaysLegal) (tells : TellsOfNone) (leaves : LeavesNone)
     told = told;
   }
 
+  -- so a check finds it legal
   pub is_legal : IsLegalTranscript o
   is_legal = record {
     spelled = record { allowed = allowed; text = text };

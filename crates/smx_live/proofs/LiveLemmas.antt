@@ -27,6 +27,7 @@ use Rattle.smx_live.specs.Turns.{IsEntryOf, IsTaken, IsWrong, answer_text, asked
 use Rattle.smx_live.specs.Turns.{entry_line, said_text}
 use Rattle.smx_live.proofs.TableLemmas.{flat_more, still_a_table}
 
+-- what the law of one entry more says
 abbrev pub OneFurther : Type 0
 OneFurther = (drivers : List DriverSpec) (history : List Entry) (e : Entry)
     → after drivers (history ++ e ∷ []) ≡ (step drivers (after drivers history) e.process e.command).0

@@ -76,6 +76,7 @@ module _ (further : OneFurther) (read : List ℕ) (ended : Bool) (output : List 
   )
   either text (inr is) = inr (ended_by_line further read ended output s count n held l line small text is)
 
+  -- what was so of a turn by the bytes that were held is so by all that was read
   pub turned_on : (r : Result Bool MainFault)
       → TakesTurn s count (take n held) next more before after flushed failures r
       → TurnsOn read output ended next more (drop (n + 1) held) before after flushed failures r

@@ -37,10 +37,10 @@ use Rattle.smx_model.specs.DriverList.{IsDriverList}
 use Rattle.smx_run.specs.RunFaults.{RefusesAlone}
 use Rattle.smx_run.specs.declared.run_fault.RunFault.{RunFault}
 use Rattle.smx_run.specs.declared.run_fault.RunFault.TheVariants as run
-use Rattle.smx_session.specs.Sessions.{HasDrivers, State}
+use Rattle.smx_session.specs.Sessions.{State}
 use Rattle.smx_filters.specs.declared.input.TheConstants.{MAX_INPUT}
 use Rattle.smx_live.specs.Inboxes.{HasLine, IsShort}
-use Rattle.smx_live.specs.LiveText.{HasComeSoFar, IsAtEnd, IsLive, IsOver}
+use Rattle.smx_live.specs.LiveText.{HasComeSoFar, IsAtEnd, IsLive, IsOver, RefusesDriversOf}
 use Rattle.smx_live.specs.Tables.{AreOfTable, HasTableOf, IsOverAt, IsTable, begins_driver, lines_text, table_text}
 use Rattle.smx_live.specs.Turns.{Answer, AreAnswered, AsksToShow, Entered, HadMemory, IsAnswer, IsEntryOf, NotDone}
 use Rattle.smx_live.specs.Turns.{Shown, Turn, asked_text, entries_in, entries_of, said_text, view_lines}
@@ -321,6 +321,7 @@ value_once reading text v w x y h k =
     let other : Result ProgramLists TextFault = Ok y in
     let same : one ≡ other = reading text one other (v, h, tt) (w, k, tt) tt tt in cc
 
+-- so two sessions that came to their end have written the same
 pub one_output : HasOneReading → AreToldApart → (read : List ℕ) (ended : Bool) (one other : List ℕ)
     (o : IsOver read ended one) (p : IsOver read ended other) → HadMemory o.live.turns → HadMemory p.live.turns
     → one ≡ other
@@ -384,7 +385,7 @@ no_fault reading read output ended fault (s, count, held, l) (table, rest, parts
 -- and its drivers are not refused
 pub no_refusal : HasOneReading → HaveOneFault → (read output : List ℕ) (ended : Bool) (fault : RunFault)
     → HasComeSoFar read ended output
-    → HasTableOf read ended (λ text. HasDrivers text (λ drivers. RefusesAlone drivers fault)) → fault ≡ run.NoMemory
+    → HasTableOf read ended (RefusesDriversOf fault) → fault ≡ run.NoMemory
 no_refusal reading determined read output ended fault (s, count, held, l)
     (table, rest, parts, over, (version, p, spelled, refused)) =
     let same = table_once ended table l.table rest _ over l.over (sym parts ∙ l.read_is) in
@@ -402,6 +403,7 @@ all_short version drivers history [] was = tt
 all_short version drivers history (t ∷ ts) was =
     (was.0.1, all_short version drivers (history ++ entries_in t.answer) ts was.2)
 
+-- so is the table, and each line of a session
 pub are_short : (read output held : List ℕ) (ended : Bool) (s : State) (count : ℕ)
     (l : IsLive read ended output s count held)
     → (length l.table ≤ MAX_INPUT) × AllByRecursion (λ t. length t.line ≤ MAX_INPUT) l.turns

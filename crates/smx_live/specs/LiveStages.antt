@@ -3,15 +3,14 @@ use Rattle.std.specs.Prelude.{◌≡◌, ℕ, ◌≤◌, ◌⊎◌, Bool, true, 
 use Rattle.std.specs.Prelude.{IfOk, IfErr, OnOk}
 use Rattle.std.specs.Global.{Global}
 use Rattle.std.specs.Io.KnownBytes.{Consumes, Appends, Keeps}
-use Rattle.smx_run.specs.RunFaults.{RefusesAlone}
 use Rattle.smx_run.specs.declared.run_fault.RunFault.TheVariants.{NoMemory}
 use Rattle.smx_text.specs.Grammar.{ReadsAny}
 use Rattle.smx_text.specs.GrowingTranscripts.{BeginsTranscript}
 use Rattle.smx_text.specs.ProgramsText.{programs_grammar}
-use Rattle.smx_session.specs.Sessions.{HasDrivers, IsStartOf, State}
+use Rattle.smx_session.specs.Sessions.{IsStartOf, State}
 use Rattle.smx_filters.specs.declared.input.TheConstants.{MAX_INPUT}
 use Rattle.smx_live.specs.Inboxes.{FailsToRead}
-use Rattle.smx_live.specs.LiveText.{HasComeSoFar, IsLive, IsOutcome, IsOver}
+use Rattle.smx_live.specs.LiveText.{HasComeSoFar, IsLive, IsOutcome, IsOver, RefusesDriversOf}
 use Rattle.smx_live.specs.Tables.{IsEndlessTable, IsTable, IsUnfinished, table_text}
 use Rattle.smx_filters.specs.Output.{AppendsBeginning}
 use Rattle.smx_filters.specs.declared.main_fault.MainFault.{MainFault}
@@ -37,7 +36,7 @@ abbrev pub Begins : List ℕ → Result Talk MainFault → Type 0
 Begins table (Ok talk) = IsStartOf (table_text table) talk.session × (talk.count ≡ 0)
 Begins table (Err (Text fault)) = ReadsAny programs_grammar (table_text table) (Err fault)
 Begins table (Err (Refused fault)) = (fault ≡ NoMemory)
-    ⊎ HasDrivers (table_text table) (λ drivers. RefusesAlone drivers fault)
+    ⊎ RefusesDriversOf fault (table_text table)
 Begins table (Err TooLong) = ⊥
 Begins table (Err ReadFailed) = ⊥
 Begins table (Err WriteFailed) = ⊥

@@ -9,6 +9,7 @@ use Rattle.smx_model.specs.DriverList.{IsDriverList}
 use Rattle.smx_model.specs.Histories.{after}
 use Rattle.smx_model.specs.Views.{view}
 use Rattle.smx_run.specs.RunFaults.{RefusesAlone}
+use Rattle.smx_run.specs.declared.run_fault.RunFault.{RunFault}
 use Rattle.smx_run.specs.declared.run_fault.RunFault.TheVariants.{NoMemory}
 use Rattle.smx_words.specs.Spelling.{entry_words}
 use Rattle.smx_words.specs.Words.{text_of}
@@ -127,6 +128,10 @@ IsEndless read ended output = ((output ≡ []) × IsEndlessTable read)
 abbrev pub AreFine : ℕ → ℕ → Type 0
 AreFine read_failures write_failures = (read_failures ≡ 0) × (write_failures ≡ 0)
 
+-- the text spells programs whose drivers are refused so
+abbrev pub RefusesDriversOf : RunFault → List ℕ → Type 0
+RefusesDriversOf fault text = HasDrivers text (λ drivers. RefusesAlone drivers fault)
+
 module _ (read output : List ℕ) (ended flushed : Bool) (read_failures write_failures : ℕ) where
   -- What was read and written where a session answers this.
   abbrev pub IsOutcome : Result (Unit {0}) MainFault → Type 0
@@ -138,7 +143,7 @@ module _ (read output : List ℕ) (ended flushed : Bool) (read_failures write_fa
   -- Its drivers are refused, or memory was wanting for what is no command's.
   IsOutcome (Err (Refused fault)) = AreFine read_failures write_failures
       × (((fault ≡ NoMemory) × IsBroken read ended output)
-      ⊎ ((output ≡ []) × HasTableOf read ended (λ text. HasDrivers text (λ drivers. RefusesAlone drivers fault))))
+      ⊎ ((output ≡ []) × HasTableOf read ended (RefusesDriversOf fault)))
   -- A line is longer than 16,777,216 bytes, or the table is.
   IsOutcome (Err TooLong) = AreFine read_failures write_failures × IsEndless read ended output
   -- The reader failed, where there was nothing more to answer.

@@ -31,7 +31,8 @@ pub fn answer<S: Sink>(
 // Writes a text, and flushes; whether the session is over then is handed on.
 fn say<S: Sink>(sink: &mut S, text: &[u8], over: bool) -> Result<bool, MainFault>
     requires { S.failures sink.old ≡ 0 }
-    ensures { Says text.now over (S.contents sink.old) (S.contents sink.new) (S.flushed sink.new) (S.failures sink.new) result }
+    ensures { Says text.now over (S.contents sink.old) (S.contents sink.new) (S.flushed sink.new) (S.failures sink.new)
+        result }
 {
     match write_all(sink, text) {
         Ok(()) => Ok(over),

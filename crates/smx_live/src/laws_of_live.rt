@@ -4,17 +4,16 @@ ghost use Rattle.std.specs.List.{AllByRecursion};
 ghost use Rattle.std.specs.Prelude.{◌≡◌, ◌≢◌, ℕ, ◌≤◌, Bool, false, List, [], length, Err, codes};
 ghost use Rattle.smx_types.specs.declared.command.Entry.{Entry};
 ghost use Rattle.smx_types.specs.declared.version.Version.TheVariants.{V2};
-ghost use Rattle.smx_run.specs.RunFaults.{RefusesAlone};
 ghost use Rattle.smx_run.specs.declared.run_fault.RunFault.{RunFault as AnyFault};
 ghost use Rattle.smx_run.specs.declared.run_fault.RunFault.TheVariants as run;
 ghost use Rattle.smx_text.specs.Grammar.{ReadsAny};
 ghost use Rattle.smx_text.specs.ProgramsText.{programs_grammar};
 ghost use Rattle.smx_text.specs.declared.text_fault.Cause.TheVariants as cause;
 ghost use Rattle.smx_text.specs.declared.text_fault.TextFault.{TextFault};
-ghost use Rattle.smx_session.specs.Sessions.{HasDrivers, State};
+ghost use Rattle.smx_session.specs.Sessions.{State};
 ghost use Rattle.smx_session.specs.WorkedSessions.{drivers};
 ghost use Rattle.smx_filters.specs.declared.input.TheConstants.{MAX_INPUT};
-ghost use Rattle.smx_live.specs.LiveText.{HasComeSoFar, IsLegalTranscript, IsLive, IsOver};
+ghost use Rattle.smx_live.specs.LiveText.{HasComeSoFar, IsLegalTranscript, IsLive, IsOver, RefusesDriversOf};
 ghost use Rattle.smx_live.specs.Tables.{HasTableOf, IsTable};
 ghost use Rattle.smx_live.specs.Turns.{Entered, HadMemory, IsAnswer, NotDone};
 ghost use Rattle.smx_live.specs.WorkedLives.{worked_input, worked_output, worked_table};
@@ -49,9 +48,10 @@ pub fn a_session_has_one_output()
 /// taken is longer than an input may be.
 pub fn a_session_has_its_drivers()
     ensures text { (read output : List ℕ) (ended : Bool) (fault : TextFault) → HasComeSoFar read ended output
-        → HasTableOf read ended (λ text. ReadsAny programs_grammar text (Err fault)) → fault.cause ≢ cause.NoMemory → ⊥ }
+        → HasTableOf read ended (λ text. ReadsAny programs_grammar text (Err fault))
+        → fault.cause ≢ cause.NoMemory → ⊥ }
     ensures drivers { (read output : List ℕ) (ended : Bool) (fault : AnyFault) → HasComeSoFar read ended output
-        → HasTableOf read ended (λ text. HasDrivers text (λ drivers. RefusesAlone drivers fault)) → fault ≡ run.NoMemory }
+        → HasTableOf read ended (RefusesDriversOf fault) → fault ≡ run.NoMemory }
     ensures short { (read output held : List ℕ) (ended : Bool) (s : State) (count : ℕ)
         (l : IsLive read ended output s count held)
         → (length l.table ≤ MAX_INPUT) × AllByRecursion (λ t. length t.line ≤ MAX_INPUT) l.turns }

@@ -1,6 +1,7 @@
 //! A live session from bytes to bytes: each line is answered at once.
 
-ghost use Rattle.std.specs.Prelude.{◌≡◌, ◌≢◌, ◌+◌, ◌≤◌, ◌⊎◌, ◌++◌, List, ℕ, Bool, true, false, drop, IfOk, MatchBool, OnOk};
+ghost use Rattle.std.specs.Prelude.{◌≡◌, ◌≢◌, ◌+◌, ◌≤◌, ◌⊎◌, ◌++◌, List, ℕ, Bool, true, false, drop, IfOk};
+ghost use Rattle.std.specs.Prelude.{MatchBool, OnOk};
 ghost use Rattle.smx_live.specs.Inboxes.{HasLine, IsShort};
 ghost use Rattle.smx_live.specs.LiveStages.{Begins, Converses, Finishes, HasTable, Opens, TurnsOn, Writes};
 ghost use Rattle.smx_live.specs.LiveText.{IsLive, LivesText, closing_text, cut_words};
@@ -116,7 +117,8 @@ fn begin(alloc: Global, table: Vec<u8>) -> Result<Talk, MainFault>
 // Writes the beginning of the transcript.
 fn open<S: Sink>(alloc: Global, sink: &mut S, session: &Session) -> Result<(), MainFault>
     requires { S.failures sink.old ≡ 0 }
-    ensures { Opens session.now (S.contents sink.old) (S.contents sink.new) (S.flushed sink.new) (S.failures sink.new) result }
+    ensures { Opens session.now (S.contents sink.old) (S.contents sink.new) (S.flushed sink.new)
+        (S.failures sink.new) result }
 {
     match session.opening(alloc) {
         Ok(text) => write_last(sink, text.as_slice()),
@@ -208,7 +210,8 @@ fn closing(alloc: Global, session: &Session, held: &[u8]) -> Result<Vec<u8>, NoM
 // Writes a text, and flushes.
 fn write_last<S: Sink>(sink: &mut S, text: &[u8]) -> Result<(), MainFault>
     requires { S.failures sink.old ≡ 0 }
-    ensures { Writes text.now (S.contents sink.old) (S.contents sink.new) (S.flushed sink.new) (S.failures sink.new) result }
+    ensures { Writes text.now (S.contents sink.old) (S.contents sink.new) (S.flushed sink.new) (S.failures sink.new)
+        result }
 {
     match write_all(sink, text) {
         Ok(()) => Ok(()),

@@ -122,6 +122,7 @@ full_stays drivers c p q r m e room full = rw (moved_is drivers c p q m e)
 
 -- where first messages go next
 
+-- the next place stays, of a place that the message does not leave, and that it does not become the first of
 pub other_next : (drivers : List DriverSpec) (c : Configuration) (p q r : Place) (m : Message) → IsInOrder c.flow
     → first_message c.flow p ≡ Some m → same_place p r ≡ false
     → (same_place q r ≡ true → first_message c.flow q ≢ None)
@@ -129,6 +130,7 @@ pub other_next : (drivers : List DriverSpec) (c : Configuration) (p q r : Place)
 other_next drivers c p q r m o e apart some = next_of_same drivers c (moved drivers c p q) r (rw e refl) (rw e refl)
     (rw e refl) (rw e refl) (other_first drivers c p q r m o e apart some)
 
+-- the place that its only message leaves has no next place any more
 pub left_next : (drivers : List DriverSpec) (c : Configuration) (p q : Place) (m : Message) → IsInOrder c.flow
     → first_message c.flow p ≡ Some m → same_place p q ≡ false → length (queue c.flow p) ≡ 1
     → next_of_first drivers (moved drivers c p q) p ≡ None
@@ -145,6 +147,7 @@ same_next drivers c p q r m addr e = rw (moved_is drivers c p q m e) (by r.side 
   by side.Write h = rw h refl
   by side.Read h = rw h refl
 
+-- where the message is the first, the next place is its own
 pub first_next : (drivers : List DriverSpec) (c : Configuration) (p q : Place) (m : Message) → IsInOrder c.flow
     → first_message c.flow p ≡ Some m → same_place p q ≡ false → first_message c.flow q ≡ None
     → next_of_first drivers (moved drivers c p q) q ≡ next_place drivers c q m.addr

@@ -16,7 +16,8 @@ ghost use Rattle.smx_model.specs.Removal.{serials};
 /// A message arrives whole: what is delivered has the serial, the address and the bytes of an earlier entry, which
 /// wrote or injected just these bytes to that address and was told that serial. So it is with what is still queued.
 pub fn messages_arrive_whole()
-    ensures delivered { (drivers : List DriverSpec) (early late : List Entry) (e : Entry) (serial addr : ℕ) (bytes : List ℕ)
+    ensures delivered { (drivers : List DriverSpec) (early late : List Entry) (e : Entry) (serial addr : ℕ)
+        (bytes : List ℕ)
         → IsLegal drivers (early ++ e ∷ late) → e.reply ≡ reply.Got serial addr bytes
         → (took : Entry) × Contains early took × (took.reply ≡ reply.Took serial)
         × (((fd : ℕ) × (took.command ≡ command.Write fd addr bytes))

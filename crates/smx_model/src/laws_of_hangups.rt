@@ -25,12 +25,12 @@ ghost use Rattle.smx_model.specs.Standing.{exists};
 /// A hangup drops nothing and moves nothing: its stream has hung up then, and all else is as it was. A second one
 /// changes nothing at all.
 pub fn hangups_change_nothing_else()
-    ensures first { (drivers : List DriverSpec) (c : Configuration) (process : ℕ) (name : List ℕ) (minor : ℕ) (s : StreamId)
-        → IsKept drivers c → leaf_stream drivers c name minor ≡ Ok s
+    ensures first { (drivers : List DriverSpec) (c : Configuration) (process : ℕ) (name : List ℕ) (minor : ℕ)
+        (s : StreamId) → IsKept drivers c → leaf_stream drivers c name minor ≡ Ok s
         → step drivers c process (command.Hangup name minor)
         ≡ (record c { hungs = with_hung s c.hungs }, reply.Done []) }
-    ensures second { (drivers : List DriverSpec) (c : Configuration) (process : ℕ) (name : List ℕ) (minor : ℕ) (s : StreamId)
-        → IsKept drivers c → leaf_stream drivers c name minor ≡ Ok s → is_hung c.hungs s ≡ true
+    ensures second { (drivers : List DriverSpec) (c : Configuration) (process : ℕ) (name : List ℕ) (minor : ℕ)
+        (s : StreamId) → IsKept drivers c → leaf_stream drivers c name minor ≡ Ok s → is_hung c.hungs s ≡ true
         → step drivers c process (command.Hangup name minor) ≡ (c, reply.Done []) }
 {}
 

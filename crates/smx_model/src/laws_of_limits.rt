@@ -10,11 +10,13 @@ ghost use Rattle.smx_model.specs.Histories.{after};
 /// After any commands at most 1,024 links stand, each process has at most 16 descriptors with numbers below 16, and
 /// the next link's id and the next message's serial are at most 4,294,967,295.
 pub fn limits_hold()
-    ensures links { (drivers : List DriverSpec) (history : List Entry) → length (after drivers history).links ≤ MAX_LINKS }
+    ensures links { (drivers : List DriverSpec) (history : List Entry)
+        → length (after drivers history).links ≤ MAX_LINKS }
     ensures descriptors { (drivers : List DriverSpec) (history : List Entry) (process : ℕ)
         → count_by (λ d. d.process == process) (after drivers history).fds ≤ MAX_DESCRIPTORS }
     ensures numbers { (drivers : List DriverSpec) (history : List Entry)
         → All (λ d. d.fd < MAX_DESCRIPTORS) (after drivers history).fds }
     ensures ids { (drivers : List DriverSpec) (history : List Entry) → (after drivers history).next_id ≤ NUMBER_END }
-    ensures serials { (drivers : List DriverSpec) (history : List Entry) → (after drivers history).next_serial ≤ NUMBER_END }
+    ensures serials { (drivers : List DriverSpec) (history : List Entry)
+        → (after drivers history).next_serial ≤ NUMBER_END }
 {}

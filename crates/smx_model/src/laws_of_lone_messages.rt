@@ -47,7 +47,8 @@ pub fn lone_messages_change_two()
     ensures apart { (drivers : List DriverSpec) (c : Configuration) (p q : Place) (moves left : ℕ) → IsSound drivers c
         → IsUnderWay drivers c moves p q left → same_place p q ≡ false }
     ensures left { (drivers : List DriverSpec) (c : Configuration) (run wanted : Place → Bool) (p q : Place)
-        (m : Message) → IsSound drivers c → IsAlone drivers c run wanted p → first_message c.flow p ≡ Some m → same_place p q ≡ false
+        (m : Message) → IsSound drivers c → IsAlone drivers c run wanted p → first_message c.flow p ≡ Some m
+        → same_place p q ≡ false
         → next_of_first drivers (moved drivers c p q) p ≡ None }
     ensures first { (drivers : List DriverSpec) (c : Configuration) (p q : Place) (m : Message)
         → IsSound drivers c → first_message c.flow p ≡ Some m → same_place p q ≡ false → first_message c.flow q ≡ None

@@ -50,7 +50,8 @@ pub fn few_marks_are_asked_for()
     ensures { (turned freed : Place → Bool) (awaited : Place → Option Place) (old : MarkedConfiguration)
         (c : Configuration) → IsMarkedNear turned freed (awaits awaited) old (record {
           configuration = c;
-          run = both old.run (both turned (λ p. is_one_of (λ q. freed q && (is_freed old.configuration c q && old.wanted q)) (awaited p)));
+          run = both old.run (both turned (λ p.
+              is_one_of (λ q. freed q && (is_freed old.configuration c q && old.wanted q)) (awaited p)));
           wanted = wanted_after old.configuration c old.wanted;
         }) }
 {}

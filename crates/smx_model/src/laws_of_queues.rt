@@ -16,7 +16,8 @@ ghost use Rattle.smx_model.specs.Settling.{least_movable};
 
 /// Flows in order with the same queues are the same.
 pub fn queues_make_the_flow()
-    ensures { (xs ys : List QueuedMessage) → IsInOrder xs → IsInOrder ys → ((p : Place) → queue xs p ≡ queue ys p) → xs ≡ ys }
+    ensures { (xs ys : List QueuedMessage) → IsInOrder xs → IsInOrder ys
+        → ((p : Place) → queue xs p ≡ queue ys p) → xs ≡ ys }
 {}
 
 /// What arrives goes to the end of its queue, and no other queue changes.

@@ -53,15 +53,18 @@ pub fn links_stay_otherwise()
         → ((fd : ℕ) (w : Which) → k ≢ command.Punlink fd w)
         → All (λ l. IsTrue (is_persistent l) → Contains (step drivers c process k).0.links l) c.links }
     ensures same { (drivers : List DriverSpec) (c : Configuration) (process : ℕ) (k : Command)
-        → All (λ l. Contains c.links l ⊎ ((step drivers c process k).1 ≡ reply.Id l.id)) (step drivers c process k).0.links }
+        → All (λ l. Contains c.links l ⊎ ((step drivers c process k).1 ≡ reply.Id l.id))
+        (step drivers c process k).0.links }
 {}
 
 /// A descriptor goes by close of it alone, or by exit of its process.
 pub fn descriptors_go_by_close_or_exit()
     ensures close { (drivers : List DriverSpec) (c : Configuration) (process fd : ℕ)
-        → All (λ d. Contains (step drivers c process (command.Close fd)).0.fds d ↔ IsTrue (not (is_fd process fd d))) c.fds }
+        → All (λ d. Contains (step drivers c process (command.Close fd)).0.fds d
+        ↔ IsTrue (not (is_fd process fd d))) c.fds }
     ensures exit { (drivers : List DriverSpec) (c : Configuration) (process : ℕ)
-        → All (λ d. Contains (step drivers c process command.CloseAll).0.fds d ↔ IsTrue (not (d.process == process))) c.fds }
+        → All (λ d. Contains (step drivers c process command.CloseAll).0.fds d
+        ↔ IsTrue (not (d.process == process))) c.fds }
     ensures others { (drivers : List DriverSpec) (c : Configuration) (process : ℕ) (k : Command)
         → ((fd : ℕ) → k ≢ command.Close fd) → k ≢ command.CloseAll
         → All (Contains (step drivers c process k).0.fds) c.fds }
@@ -76,7 +79,8 @@ pub fn bindings_go_by_unbind_or_with_their_stream()
     ensures others { (drivers : List DriverSpec) (c : Configuration) (process : ℕ) (k : Command) → IsSwept drivers c
         → ((fd : ℕ) → k ≢ command.Unbind fd)
         → All (λ b. Contains (step drivers c process k).0.binds b
-        ↔ IsTrue (exists drivers (step drivers c process k).0 (record { driver = b.driver; minor = b.minor }))) c.binds }
+        ↔ IsTrue (exists drivers (step drivers c process k).0
+        (record { driver = b.driver; minor = b.minor }))) c.binds }
 {}
 
 /// A route goes by unroute of its driver and address, by a new route of these, or with its link.

@@ -7,7 +7,8 @@ ghost use Rattle.smx_model.specs.DriverList.{IsDriverList};
 ghost use Rattle.smx_model.specs.Headline.{IsReportOf};
 ghost use Rattle.smx_model.specs.Histories.{after, call_of, HoldsPrograms, IsLegal};
 ghost use Rattle.smx_model.specs.Views.{view};
-ghost use Rattle.smx_model.specs.Worked.Reports.{another_exited, copied, exited, once_more, one, opened, programs, report_with, three, too_early, two};
+ghost use Rattle.smx_model.specs.Worked.Reports.{another_exited, copied, exited, once_more, one, opened};
+ghost use Rattle.smx_model.specs.Worked.Reports.{programs, report_with, three, too_early, two};
 
 /// What makes a report: drivers that can be had, a legal history that holds the programs, and the view that it
 /// leaves. All else follows.

@@ -8,7 +8,8 @@ ghost use Rattle.smx_model.specs.Configuration.{Configuration, same_place};
 ghost use Rattle.smx_model.specs.FlowOrder.{IsInOrder};
 ghost use Rattle.smx_model.specs.KeptConfigurations.{IsSound};
 ghost use Rattle.smx_model.specs.RunMarks.{AreMarked, all_but, both, is_next_of_first, wanted_after, woken_by};
-ghost use Rattle.smx_model.specs.Settling.{after_move, after_settling, after_settling_within, is_movable, least_movable};
+ghost use Rattle.smx_model.specs.Settling.{after_move, after_settling, after_settling_within};
+ghost use Rattle.smx_model.specs.Settling.{is_movable, least_movable};
 ghost use Rattle.smx_model.specs.SettlingByMarks.{moves_of_settling, turned_by_move};
 ghost use Rattle.smx_model.specs.SettlingByMarks.{AreHoldingWanted, AreMovableMarked, CanSettleByMarks, HasItsMarks};
 ghost use Rattle.smx_model.specs.SettlingByMarks.{HoldsUp, IsAtRest, IsCleared, IsLeastMarked, IsMarkedAfter};
@@ -79,7 +80,8 @@ pub fn the_least_marks_do()
     ensures moved { (drivers : List DriverSpec) (p : Place) (m : MarkedConfiguration) → IsLeastMarked m.run p
         → is_movable drivers m.configuration p ≡ true → IsMovedOn drivers p m (record {
           configuration = after_move drivers m.configuration p;
-          run = both m.run (woken_by drivers m.configuration (after_move drivers m.configuration p) m.wanted (turned_by_move drivers m.configuration p));
+          run = both m.run (woken_by drivers m.configuration (after_move drivers m.configuration p) m.wanted
+              (turned_by_move drivers m.configuration p));
           wanted = wanted_after m.configuration (after_move drivers m.configuration p) m.wanted;
         }) }
     ensures cleared { (drivers : List DriverSpec) (p : Place) (m : MarkedConfiguration) → IsLeastMarked m.run p
@@ -101,5 +103,6 @@ pub fn a_look_takes_one_mark()
 pub fn it_comes_to_the_settled_one()
     ensures { (drivers : List DriverSpec) (m : MarkedConfiguration) (c : CanSettleByMarks drivers m)
         → IsSound drivers m.configuration → HasItsMarks drivers m
-        → (c.end.configuration ≡ after_settling drivers m.configuration) × (c.moves ≡ moves_of_settling drivers m.configuration) }
+        → (c.end.configuration ≡ after_settling drivers m.configuration)
+        × (c.moves ≡ moves_of_settling drivers m.configuration) }
 {}

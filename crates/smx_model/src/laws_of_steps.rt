@@ -58,7 +58,8 @@ pub fn other_commands_drop_none()
 
 /// What leaves nothing to sweep, and the flow as it was, is done with no message dropped.
 pub fn idle_changes_drop_none()
-    ensures { (drivers : List DriverSpec) (c new : Configuration) → IsSwept drivers new → new.flow ≡ c.flow → done_outcome drivers c new ≡ Ok (new, reply.Done []) }
+    ensures { (drivers : List DriverSpec) (c new : Configuration) → IsSwept drivers new → new.flow ≡ c.flow
+        → done_outcome drivers c new ≡ Ok (new, reply.Done []) }
 {}
 
 /// A move keeps a configuration sound.
@@ -69,7 +70,8 @@ pub fn moves_keep_soundness()
 
 /// Settling ends: after as many moves as there are messages times drivers no message can move on.
 pub fn settling_suffices()
-    ensures { (drivers : List DriverSpec) (c : Configuration) → IsSound drivers c → IsKept drivers (after_settling drivers c) }
+    ensures { (drivers : List DriverSpec) (c : Configuration) → IsSound drivers c
+        → IsKept drivers (after_settling drivers c) }
 {}
 
 /// What every configuration is, each command keeps.

@@ -10,22 +10,22 @@ use Rattle.std.proofs.lemmas.Slice.Eq.{bytes_eq-Decides}
 use Rattle.std.proofs.lemmas.Str.Parse.{IsNumeralModel, numerals_by_value, tells_all_ascii_digits}
 use Rattle.smx_types.specs.declared.version.Version.{Version}
 use Rattle.smx_types.specs.declared.version.Version.TheVariants.{V1, V2}
-use Rattle.smx_place.specs.Rows.{GoesOn, IsChosen, IsFixed, IsOther, IsRow, Row, told_rows}
+use Rattle.smx_place.specs.Rows.{GoesOn, IsChosen, IsFixed, IsOther, IsRow, WordRow, told_rows}
 use Rattle.smx_place.specs.declared.kinds.Choice.{Choice}
-use Rattle.smx_place.specs.declared.kinds.Choice.TheVariants.{ProgramsLine, TranscriptLine, Command, Equals, Reply}
-use Rattle.smx_place.specs.declared.kinds.Choice.TheVariants.{BadDescriptor, Invalid, Again, NoDevice, Serials, End}
+use Rattle.smx_place.specs.declared.kinds.Choice.TheVariants.{ProgramsLine, TranscriptLine, Command, Equals}
+use Rattle.smx_place.specs.declared.kinds.Choice.TheVariants.{Serials}
 use Rattle.smx_place.specs.declared.kinds.Value.{Value}
 use Rattle.smx_place.proofs.RowLemmas.{in_second}
 
 -- ---- tables whose words differ
 
 -- no row has the word
-abbrev pub is_new : List ℕ → List Row → Bool
+abbrev pub is_new : List ℕ → List WordRow → Bool
 is_new word [] = true
 is_new word (row ∷ rows) = not (bytes_eq word row.0) && is_new word rows
 
 -- no two rows have one word
-abbrev differ : List Row → Bool
+abbrev differ : List WordRow → Bool
 differ [] = true
 differ (row ∷ rows) = is_new row.0 rows && differ rows
 
@@ -38,7 +38,7 @@ not_true true h k = absurd (cc h)
 not_true false h k = absurd (cc k)
 
 -- a word of some row is not new
-pub not_new : (ks : List Row) (word : List ℕ) (values : List Value) (next : Choice) → is_new word ks ≡ true
+pub not_new : (ks : List WordRow) (word : List ℕ) (values : List Value) (next : Choice) → is_new word ks ≡ true
     → IsRow ks word values next → ⊥
 not_new [] word values next h is = is
 not_new (k ∷ ks) word values next h (inl is) =
@@ -52,7 +52,7 @@ abbrev pub Same : List Value → Choice → List Value → Choice → Type 0
 Same values next others then = (values ≡ others) × (next ≡ then)
 
 -- the word of a row is that of no other
-one_row : (ks : List Row) → differ ks ≡ true → (word : List ℕ) (values : List Value) (next : Choice)
+one_row : (ks : List WordRow) → differ ks ≡ true → (word : List ℕ) (values : List Value) (next : Choice)
     (others : List Value) (then : Choice) → IsRow ks word values next → IsRow ks word others then
     → Same values next others then
 one_row [] h word values next others then is is_too = absurd is
@@ -68,7 +68,7 @@ one_row (k ∷ ks) h word values next others then (inr more) (inr more_too) =
     one_row ks (both (is_new k.0 ks) (differ ks) h).1 word values next others then more more_too
 
 -- of two tables whose words differ a word is in one
-in_one : (ks ls : List Row) → differ (ks ++ ls) ≡ true → (word : List ℕ) (values : List Value) (next : Choice)
+in_one : (ks ls : List WordRow) → differ (ks ++ ls) ≡ true → (word : List ℕ) (values : List Value) (next : Choice)
     (others : List Value) (then : Choice) → IsRow ks word values next → IsRow ls word others then → ⊥
 in_one [] ls h word values next others then is is_too = is
 in_one (k ∷ ks) ls h word values next others then (inl is) is_too =
@@ -80,27 +80,8 @@ in_one (k ∷ ks) ls h word values next others then (inr more) is_too =
 -- the words of each table differ
 all_differ : (version : Version) (choice : Choice) → differ (told_rows version choice) ≡ true
 all_differ V1 ProgramsLine = refl
-all_differ V1 TranscriptLine = refl
-all_differ V1 Command = refl
-all_differ V1 Equals = refl
-all_differ V1 Reply = refl
-all_differ V1 BadDescriptor = refl
-all_differ V1 Invalid = refl
-all_differ V1 Again = refl
-all_differ V1 NoDevice = refl
-all_differ V1 Serials = refl
-all_differ V1 End = refl
 all_differ V2 ProgramsLine = refl
-all_differ V2 TranscriptLine = refl
-all_differ V2 Command = refl
-all_differ V2 Equals = refl
-all_differ V2 Reply = refl
-all_differ V2 BadDescriptor = refl
-all_differ V2 Invalid = refl
-all_differ V2 Again = refl
-all_differ V2 NoDevice = refl
-all_differ V2 Serials = refl
-all_differ V2 End = refl
+all_differ version choice = refl
 
 -- and so do those of the lines of programs and of the commands
 lines_differ : (version : Version) → differ (told_rows version ProgramsLine ++ told_rows version Command) ≡ true
@@ -110,7 +91,7 @@ lines_differ V2 = refl
 -- ---- words that are no numbers
 
 -- no word is digits alone
-abbrev no_digits : List Row → Bool
+abbrev no_digits : List WordRow → Bool
 no_digits [] = true
 no_digits (row ∷ rows) = not (all_ascii_digits row.0) && no_digits rows
 
@@ -118,7 +99,7 @@ own : IsNumeralModel (λ ds. all_ascii_digits ds ≡ true) (digits_value 10)
 own = numerals_by_value _ tells_all_ascii_digits
 
 -- so a number is the word of none
-no_number : (ks : List Row) → no_digits ks ≡ true → (n : ℕ) → n < 2 ^ 32 → (word : List ℕ) (values : List Value)
+no_number : (ks : List WordRow) → no_digits ks ≡ true → (n : ℕ) → n < 2 ^ 32 → (word : List ℕ) (values : List Value)
     (next : Choice) → word ≡ decimal n → IsRow ks word values next → ⊥
 no_number [] h n small word values next number is = is
 no_number (k ∷ ks) h n small word values next number (inl is) =
@@ -144,18 +125,11 @@ module _ (version : Version) (word : List ℕ) where
   fixed_alone TranscriptLine values next others then is ((process, small, number), none, chosen) =
       no_number (told_rows version TranscriptLine) (no_line_digits version) process (omega (arith, small)) word values
       next number is
-  fixed_alone Command values next others then is other = other
-  fixed_alone Equals values next others then is other = other
-  fixed_alone Reply values next others then is other = other
-  fixed_alone BadDescriptor values next others then is other = other
-  fixed_alone Invalid values next others then is other = other
-  fixed_alone Again values next others then is other = other
-  fixed_alone NoDevice values next others then is other = other
   fixed_alone Serials values next others then is other = no_serials version is where
     no_serials : (v : Version) → IsFixed v Serials word values next → ⊥
     no_serials V1 h = h
     no_serials V2 h = h
-  fixed_alone End values next others then is other = other
+  fixed_alone choice values next others then is other = other
 
   -- what is of another kind goes on in one way
   one_other : (choice : Choice) (values : List Value) (next : Choice) (others : List Value) (then : Choice)
@@ -166,15 +140,8 @@ module _ (version : Version) (word : List ℕ) where
     is.1 ∙ sym is_too.1,
   )
   one_other TranscriptLine values next others then is is_too = (is.1 ∙ sym is_too.1, is.2 ∙ sym is_too.2)
-  one_other Command values next others then is is_too = absurd is
-  one_other Equals values next others then is is_too = absurd is
-  one_other Reply values next others then is is_too = absurd is
-  one_other BadDescriptor values next others then is is_too = absurd is
-  one_other Invalid values next others then is is_too = absurd is
-  one_other Again values next others then is is_too = absurd is
-  one_other NoDevice values next others then is is_too = absurd is
   one_other Serials values next others then is is_too = (is.1 ∙ sym is_too.1, is.2 ∙ sym is_too.2)
-  one_other End values next others then is is_too = absurd is
+  one_other choice values next others then is is_too = absurd is
 
   one_choice : (choice : Choice) (values : List Value) (next : Choice) (others : List Value) (then : Choice)
       → IsChosen version choice word values next → IsChosen version choice word others then

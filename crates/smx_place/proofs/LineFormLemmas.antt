@@ -1,5 +1,5 @@
 -- The words of a line of each text, by the tables.
-use Rattle.std.proofs.Common.{◌≡◌, ◌<◌, ℕ, Bool, true, false, ◌||◌, List, [], ◌∷◌, ◌++◌, refl, sym, ap, subst, ◌∙◌}
+use Rattle.std.proofs.Common.{◌≡◌, ◌<◌, ℕ, true, List, [], ◌∷◌, ◌++◌, refl, sym, ap, subst, ◌∙◌}
 use Rattle.std.proofs.Common.{inl, inr}
 use Rattle.std.proofs.Common.{append-nil, rules}
 use Rattle.std.specs.Prelude.{◌↔◌, codes}
@@ -7,14 +7,16 @@ use Rattle.std.specs.Fmt.{decimal}
 use Rattle.smx_types.specs.Versions.{is_hangup, tells_of_hangup}
 use Rattle.smx_types.specs.declared.command.Command.{Command as AnyCommand}
 use Rattle.smx_types.specs.declared.command.Entry.{Entry}
+use Rattle.smx_types.specs.declared.driver.DriverSpec.{DriverSpec}
 use Rattle.smx_types.specs.declared.reply.Reply.{Reply as AnyReply}
 use Rattle.smx_types.specs.declared.version.Version.{Version}
 use Rattle.smx_types.specs.declared.version.Version.TheVariants.{V1, V2}
 use Rattle.smx_types.specs.declared.view.HungLine.{HungLine}
 use Rattle.smx_words.specs.HexWords.{hex_word}
-use Rattle.smx_words.specs.Spellable.{CanTell, FitsCommandIn, FitsEntryIn, FitsHung, FitsReplyIn}
+use Rattle.smx_words.specs.Spellable.{CanTell, FitsCommandIn, FitsDriver, FitsEntryIn, FitsHung, FitsReplyIn}
 use Rattle.smx_words.specs.Spelling.{command_words, entry_words, hung_words, kind_word, link_kind_word, reply_words}
 use Rattle.smx_words.specs.Spelling.{side_word}
+use Rattle.smx_words.proofs.ToldLemmas.{can_tell_both, can_tell_each}
 use Rattle.smx_text.specs.ProgramLines.{Line}
 use Rattle.smx_text.specs.ProgramLines as line
 use Rattle.smx_text.specs.ProgramsText as programs
@@ -32,9 +34,32 @@ use Rattle.smx_place.specs.declared.kinds.Value.TheVariants.{Name, DriverKind, N
 use Rattle.smx_place.proofs.CommandFormLemmas.{form, of_form}
 use Rattle.smx_place.proofs.ReplyFormLemmas.{IsReply, of_reply, reply_spelled}
 use Rattle.smx_place.proofs.RowLemmas.{equals_behind}
-use Rattle.smx_place.proofs.ShapeLemmas.{four, none, one, six, three, two}
-use Rattle.smx_place.proofs.Spelling.{Spells}
-use Rattle.smx_place.proofs.WalkLemmas.{cut, ended, from_row, number, plain, with_args}
+use Rattle.smx_place.proofs.ShapeLemmas.{Words, words_of}
+use Rattle.smx_place.proofs.Spelling.{Spells, Takes}
+use Rattle.smx_place.proofs.WalkLemmas.{cut, ended, ended_as, from_row, number, plain, with_args}
+
+-- ---- drivers
+
+abbrev driver_values : List Value
+driver_values = Name ∷ DriverKind ∷ Number ∷ Number ∷ Number ∷ Number ∷ []
+
+abbrev driver_args : DriverSpec → List (List ℕ)
+driver_args d = d.name ∷ kind_word d.kind ∷ decimal d.minors ∷ decimal d.high ∷ decimal d.low ∷ decimal d.max ∷ []
+
+driver_takes : (d : DriverSpec) → FitsDriver d → Takes driver_values (driver_args d)
+driver_takes d f = (f.name, ((d.kind, tt, refl), numbers)) where
+  numbers : Takes (Number ∷ Number ∷ Number ∷ Number ∷ [])
+      (decimal d.minors ∷ decimal d.high ∷ decimal d.low ∷ decimal d.max ∷ [])
+  numbers = (number d.minors f.minors, (number d.high f.high, (number d.low f.low, (number d.max f.max, tt))))
+
+-- words for the values of a driver are those of one
+driver_of : (words : List (List ℕ)) → ((ws : Words driver_values) × (words ≡ words_of driver_values ws))
+    → (d : DriverSpec) × FitsDriver d × (words ≡ driver_args d)
+driver_of words (((a, is_a), ((b, is_b), ((c, is_c), ((d, is_d), ((e, is_e), ((f, is_f), end)))))), are) = (
+  record { name = a; kind = is_b.0; minors = is_c.0; high = is_d.0; low = is_e.0; max = is_f.0 },
+  record { name = is_a; minors = is_c.1; high = is_d.1; low = is_e.1; max = is_f.1 },
+  cc (are, is_b.2, is_c.2, is_d.2, is_e.2, is_f.2),
+)
 
 -- ---- lines of programs
 
@@ -52,25 +77,8 @@ module _ (version : Version) where
 
   programs_line : (k : Line) → programs.FitsLine version k → Spells version [] ProgramsLine (programs.line_words k)
   programs_line (line.Driver d) f =
-      from_row version ProgramsLine (codes "driver") (Name ∷ DriverKind ∷ Number ∷ Number ∷ Number ∷ Number ∷ []) End
-      (d.name ∷ kind_word d.kind ∷ decimal d.minors ∷ decimal d.high ∷ decimal d.low ∷ decimal d.max ∷ []) []
-      (search rules) (
-        f.name,
-        (
-          (d.kind, tt, refl),
-          (
-            number d.minors f.minors,
-            (
-              number d.high f.high,
-              (
-                number d.low
-                    f.low,
-                (number d.max f.max, tt),
-              ),
-            ),
-          ),
-        ),
-      ) tt
+      from_row version ProgramsLine (codes "driver") driver_values End (driver_args d) []
+      (search rules) (driver_takes d f) tt
   programs_line (line.Process n) f =
       from_row version ProgramsLine (codes "process") (Number ∷ []) End
       (decimal n ∷ []) []
@@ -85,32 +93,14 @@ module _ (version : Version) where
       → IsRow programs_lines word values next → Spells version values next words
       → IsLine Programs version (word ∷ words)
   programs_row word values next words (inl is) h =
-      let t = six Name DriverKind Number Number Number Number words (ended version values next words (Name ∷
-      DriverKind ∷ Number ∷ Number ∷ Number ∷ Number ∷ []) is.1 is.2 h) in (
-        line.Driver (record {
-          name = t.a;
-          kind = t.is_b.0;
-          minors = t.is_c.0;
-          high = t.is_d.0;
-          low = t.is_e.0;
-          max
-              = t.is_f.0;
-        }),
-        record { name = t.is_a; minors = t.is_c.1; high = t.is_d.1; low = t.is_e.1; max = t.is_f.1 },
-        cc (is.0, t.are, t.is_b.2, t.is_c.2, t.is_d.2, t.is_e.2, t.is_f.2),
-      )
+      let (d, fits, are) = driver_of words (ended_as version values next words driver_values is.1 is.2 h) in
+      (line.Driver d, fits, cc (is.0, are))
   programs_row word values next words (inr (inl is)) h =
-      let t = one Number words (ended version values next words (Number ∷ []) is.1 is.2 h) in (
-        line.Process t.is_a.0,
-        t.is_a.1,
-        cc (is.0, t.are, t.is_a.2),
-      )
+      let (((a, is_a), end), are) = ended_as version values next words (Number ∷ []) is.1 is.2 h in
+      (line.Process is_a.0, is_a.1, cc (is.0, are, is_a.2))
   programs_row word values next words (inr (inr (inl is))) h =
-      let t = none words (ended version values next words ([]) is.1 is.2 h) in (
-        line.End,
-        tt,
-        cc (is.0, t.are),
-      )
+      let (end, are) = ended_as version values next words [] is.1 is.2 h in
+      (line.End, tt, cc (is.0, are))
   programs_row word values next words (inr (inr (inr is))) h = absurd is
 
   of_programs_line : (words : List (List ℕ)) → Spells version [] ProgramsLine words → IsLine Programs version words
@@ -122,18 +112,6 @@ module _ (version : Version) where
       (line.Command t.0, t.1, sym t.2)
 
 -- ---- lines of a transcript
-
--- what tells of no hangup does so in no part
-both_told : (version : Version) (a b : Bool) → CanTell version (a || b) → CanTell version a × CanTell version b
-both_told V1 true b told = absurd (cc told)
-both_told V1 false b told = (refl, told)
-both_told V2 a b told = (tt, tt)
-
--- and what does so in no part, in none
-told_both : (version : Version) (a b : Bool) → CanTell version a → CanTell version b → CanTell version (a || b)
-told_both V1 true b told told_too = absurd (cc told)
-told_both V1 false b told told_too = told_too
-told_both V2 a b told told_too = tt
 
 module _ (version : Version) where
   -- an entry behind its process
@@ -149,7 +127,7 @@ module _ (version : Version) where
 
   entry_spelled : (e : Entry) → FitsEntryIn version e → Spells version [] TranscriptLine (entry_words e)
   entry_spelled e (fits, told) =
-      let parts = both_told version (is_hangup e.command) (tells_of_hangup e.reply) told in (
+      let parts = can_tell_each version (is_hangup e.command) (tells_of_hangup e.reply) told in (
         [],
         Command,
         inr ((e.process, fits.process, refl), refl, refl),
@@ -175,23 +153,7 @@ module _ (version : Version) where
       from_row version TranscriptLine (codes "driver") (Name ∷ DriverKind ∷ Number ∷ Number ∷ Number ∷ Number ∷ [])
       End
       (d.name ∷ kind_word d.kind ∷ decimal d.minors ∷ decimal d.high ∷ decimal d.low ∷ decimal d.max ∷ []) []
-      (search rules) (
-        f.name,
-        (
-          (d.kind, tt, refl),
-          (
-            number d.minors f.minors,
-            (
-              number d.high f.high,
-              (
-                number d.low
-                    f.low,
-                (number d.max f.max, tt),
-              ),
-            ),
-          ),
-        ),
-      ) tt
+      (search rules) (driver_takes d f) tt
   transcript_line told.Config f =
       from_row version TranscriptLine (codes "config") ([]) End
       ([]) []
@@ -265,104 +227,84 @@ module _ (version : Version) where
       → IsRow transcript_lines word values next → Spells version values next words
       → IsLine Transcript version (word ∷ words)
   transcript_row word values next words (inl is) h =
-      let t = six Name DriverKind Number Number Number Number words (ended version values next words (Name ∷
-      DriverKind ∷ Number ∷ Number ∷ Number ∷ Number ∷ []) is.1 is.2 h) in (
-        told.Driver (record {
-          name = t.a;
-          kind = t.is_b.0;
-          minors = t.is_c.0;
-          high = t.is_d.0;
-          low = t.is_e.0;
-          max
-              = t.is_f.0;
-        }),
-        record { name = t.is_a; minors = t.is_c.1; high = t.is_d.1; low = t.is_e.1; max = t.is_f.1 },
-        cc (is.0, t.are, t.is_b.2, t.is_c.2, t.is_d.2, t.is_e.2, t.is_f.2),
-      )
+      let (d, fits, are) = driver_of words (ended_as version values next words driver_values is.1 is.2 h) in
+      (told.Driver d, fits, cc (is.0, are))
   transcript_row word values next words (inr (inl is)) h =
-      let t = none words (ended version values next words ([]) is.1 is.2 h) in (
-        told.Config,
-        tt,
-        cc (is.0, t.are),
-      )
+      let (end, are) = ended_as version values next words [] is.1 is.2 h in
+      (told.Config, tt, cc (is.0, are))
   transcript_row word values next words (inr (inr (inl is))) h =
-      let t = two Number Number words (ended version values next words (Number ∷ Number ∷ []) is.1 is.2 h) in (
-        told.Next t.is_a.0 t.is_b.0,
-        (t.is_a.1, t.is_b.1),
-        cc (is.0, t.are, t.is_a.2, t.is_b.2),
-      )
+      let (((a, is_a), ((b, is_b), end)), are) =
+      ended_as version values next words (Number ∷ Number ∷ []) is.1 is.2 h in
+      (told.Next is_a.0 is_b.0, (is_a.1, is_b.1), cc (is.0, are, is_a.2, is_b.2))
   transcript_row word values next words (inr (inr (inr (inl is)))) h =
-      let t = four Process Number Name Number words (ended version values next words (Process ∷ Number ∷ Name ∷
-      Number ∷ []) is.1 is.2 h) in (
-        told.Fd (record { process = t.is_a.0; fd = t.is_b.0; driver = t.c; minor = t.is_d.0 }),
-        record { process = t.is_a.1; fd = t.is_b.1; driver = t.is_c; minor = t.is_d.1 },
-        cc (is.0, t.are, t.is_a.2, t.is_b.2, t.is_d.2),
+      let (((a, is_a), ((b, is_b), ((c, is_c), ((d, is_d), end)))), are) =
+      ended_as version values next words (Process ∷ Number ∷ Name ∷ Number ∷ []) is.1 is.2 h in (
+        told.Fd (record { process = is_a.0; fd = is_b.0; driver = c; minor = is_d.0 }),
+        record { process = is_a.1; fd = is_b.1; driver = is_c; minor = is_d.1 },
+        cc (is.0, are, is_a.2, is_b.2, is_d.2),
       )
   transcript_row word values next words (inr (inr (inr (inr (inl is))))) h =
-      let t = six Number Name Number Name Number LinkKind words (ended version values next words (Number ∷ Name ∷
-      Number ∷ Name ∷ Number ∷ LinkKind ∷ []) is.1 is.2 h) in (
+      let (((a, is_a), ((b, is_b), ((c, is_c), ((d, is_d), ((e, is_e), ((f, is_f), end)))))), are) =
+      ended_as version values next words (Number ∷ Name ∷ Number ∷ Name ∷ Number ∷ LinkKind ∷ []) is.1 is.2 h in (
         told.Link (record {
-          id = t.is_a.0;
-          ctl_driver = t.b;
-          ctl_minor = t.is_c.0;
-          lower_driver = t.d;
+          id = is_a.0;
+          ctl_driver = b;
+          ctl_minor = is_c.0;
+          lower_driver = d;
           lower_minor
-              = t.is_e.0;
-          kind = t.is_f.0;
+              = is_e.0;
+          kind = is_f.0;
         }),
         record {
-          id = t.is_a.1;
-          ctl_driver = t.is_b;
-          ctl_minor = t.is_c.1;
-          lower_driver = t.is_d;
+          id = is_a.1;
+          ctl_driver = is_b;
+          ctl_minor = is_c.1;
+          lower_driver = is_d;
           lower_minor =
-              t.is_e.1;
+              is_e.1;
         },
-        cc (is.0, t.are, t.is_a.2, t.is_c.2, t.is_e.2, t.is_f.2),
+        cc (is.0, are, is_a.2, is_c.2, is_e.2, is_f.2),
       )
   transcript_row word values next words (inr (inr (inr (inr (inr (inl is)))))) h =
-      let t = three Name Number Number words (ended version values next words (Name ∷ Number ∷ Number ∷ []) is.1
-      is.2 h) in (
-        told.Bind (record { driver = t.a; addr = t.is_b.0; minor = t.is_c.0 }),
-        record { driver = t.is_a; addr = t.is_b.1; minor = t.is_c.1 },
-        cc (is.0, t.are, t.is_b.2, t.is_c.2),
+      let (((a, is_a), ((b, is_b), ((c, is_c), end))), are) =
+      ended_as version values next words (Name ∷ Number ∷ Number ∷ []) is.1 is.2 h in (
+        told.Bind (record { driver = a; addr = is_b.0; minor = is_c.0 }),
+        record { driver = is_a; addr = is_b.1; minor = is_c.1 },
+        cc (is.0, are, is_b.2, is_c.2),
       )
   transcript_row word values next words (inr (inr (inr (inr (inr (inr (inl is))))))) h =
-      let t = three Name Number Number words (ended version values next words (Name ∷ Number ∷ Number ∷ []) is.1
-      is.2 h) in (
-        told.Route (record { driver = t.a; addr = t.is_b.0; id = t.is_c.0 }),
-        record { driver = t.is_a; addr = t.is_b.1; id = t.is_c.1 },
-        cc (is.0, t.are, t.is_b.2, t.is_c.2),
+      let (((a, is_a), ((b, is_b), ((c, is_c), end))), are) =
+      ended_as version values next words (Name ∷ Number ∷ Number ∷ []) is.1 is.2 h in (
+        told.Route (record { driver = a; addr = is_b.0; id = is_c.0 }),
+        record { driver = is_a; addr = is_b.1; id = is_c.1 },
+        cc (is.0, are, is_b.2, is_c.2),
       )
   transcript_row word values next words (inr (inr (inr (inr (inr (inr (inr (inl is)))))))) h =
-      let t = six Name Number Side Number Number Bytes words (ended version values next words (Name ∷ Number ∷ Side
-      ∷ Number ∷ Number ∷ Bytes ∷ []) is.1 is.2 h) in (
+      let (((a, is_a), ((b, is_b), ((c, is_c), ((d, is_d), ((e, is_e), ((f, is_f), end)))))), are) =
+      ended_as version values next words (Name ∷ Number ∷ Side ∷ Number ∷ Number ∷ Bytes ∷ []) is.1 is.2 h in (
         told.Msg (record {
-          driver = t.a;
-          minor = t.is_b.0;
-          side = t.is_c.0;
+          driver = a;
+          minor = is_b.0;
+          side = is_c.0;
           message = record {
-            serial = t.is_d.0;
-            addr = t.is_e.0;
-            bytes = t.is_f.0;
+            serial = is_d.0;
+            addr = is_e.0;
+            bytes = is_f.0;
           };
         }),
-        record { driver = t.is_a; minor = t.is_b.1; serial = t.is_d.1; addr = t.is_e.1; bytes = t.is_f.1 },
-        cc (is.0, t.are, t.is_b.2, t.is_c.2, t.is_d.2, t.is_e.2, t.is_f.2),
+        record { driver = is_a; minor = is_b.1; serial = is_d.1; addr = is_e.1; bytes = is_f.1 },
+        cc (is.0, are, is_b.2, is_c.2, is_d.2, is_e.2, is_f.2),
       )
   transcript_row word values next words (inr (inr (inr (inr (inr (inr (inr (inr (inl is))))))))) h =
-      let t = three Name Number Side words (ended version values next words (Name ∷ Number ∷ Side ∷ []) is.1 is.2
-      h) in (
-        told.Full (record { driver = t.a; minor = t.is_b.0; side = t.is_c.0 }),
-        record { driver = t.is_a; minor = t.is_b.1 },
-        cc (is.0, t.are, t.is_b.2, t.is_c.2),
+      let (((a, is_a), ((b, is_b), ((c, is_c), end))), are) =
+      ended_as version values next words (Name ∷ Number ∷ Side ∷ []) is.1 is.2 h in (
+        told.Full (record { driver = a; minor = is_b.0; side = is_c.0 }),
+        record { driver = is_a; minor = is_b.1 },
+        cc (is.0, are, is_b.2, is_c.2),
       )
   transcript_row word values next words (inr (inr (inr (inr (inr (inr (inr (inr (inr (inl is)))))))))) h =
-      let t = none words (ended version values next words ([]) is.1 is.2 h) in (
-        told.End,
-        tt,
-        cc (is.0, t.are),
-      )
+      let (end, are) = ended_as version values next words [] is.1 is.2 h in
+      (told.End, tt, cc (is.0, are))
   transcript_row word values next words (inr (inr (inr (inr (inr (inr (inr (inr (inr (inr is)))))))))) h = absurd is
 
   -- the words behind a process are those of a command and a reply
@@ -409,7 +351,7 @@ module _ (version : Version) where
         told.Entry (record { process = process; command = t.command; reply = t.reply }),
         (
           record { process = small; command = t.fits.0; reply = t.fits_too.0 },
-          told_both version (is_hangup t.command) (tells_of_hangup t.reply) t.fits.1 t.fits_too.1,
+          can_tell_both version (is_hangup t.command) (tells_of_hangup t.reply) t.fits.1 t.fits_too.1,
         ),
         cc (is, t.are),
       )
@@ -419,10 +361,10 @@ of_transcript_line : (version : Version) (words : List (List ℕ)) → Spells ve
 of_transcript_line version [] h = absurd h
 of_transcript_line V1 (word ∷ words) (values, next, inl is, h) = transcript_row V1 word values next words is h
 of_transcript_line V2 (word ∷ words) (values, next, inl (inl is), h) =
-    let t = two Name Number words (ended V2 values next words (Name ∷ Number ∷ []) is.1 is.2 h) in (
-      told.Hung (record { driver = t.a; minor = t.is_b.0 }),
-      (record { driver = t.is_a; minor = t.is_b.1 }, tt),
-      cc (is.0, t.are, t.is_b.2),
+    let (((a, is_a), ((b, is_b), end)), are) = ended_as V2 values next words (Name ∷ Number ∷ []) is.1 is.2 h in (
+      told.Hung (record { driver = a; minor = is_b.0 }),
+      (record { driver = is_a; minor = is_b.1 }, tt),
+      cc (is.0, are, is_b.2),
     )
 of_transcript_line V2 (word ∷ words) (values, next, inl (inr is), h) = transcript_row V2 word values next words is h
 of_transcript_line version (word ∷ words) (values, next, inr ((process, small, is), none, then), h) =

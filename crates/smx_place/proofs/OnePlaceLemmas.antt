@@ -9,7 +9,7 @@ use Rattle.smx_words.specs.Words.{IsFree, SPACE}
 use Rattle.smx_words.proofs.CutLemmas.{apart}
 use Rattle.smx_place.specs.Places.{AreParts, Begins, EndsThere, IsLine, IsPlace, IsWanted, IsWhole, Stops, spaced}
 use Rattle.smx_place.specs.declared.kinds.TextKind.{TextKind}
-use Rattle.smx_place.specs.declared.place.Place.{Place}
+use Rattle.smx_place.specs.declared.place.LinePlace.{LinePlace}
 
 -- one part, and then the others
 first_part : (part : List ℕ) (parts : List (List ℕ)) → spaced (part ∷ parts) ≡ part ++ SPACE ∷ spaced parts
@@ -89,13 +89,14 @@ module _ (kind : TextKind) (version : Version) where
       stops (behind, subst (IsLine kind version) (sym (append_assoc front (word ∷ []) behind)) is)
 
   module _ (line : List ℕ) where
-    pub not_both : (place : Place) → IsPlace kind version line place → IsWhole kind version line → ⊥
+    -- a line that stops somewhere is not whole
+    pub not_both : (place : LinePlace) → IsPlace kind version line place → IsWhole kind version line → ⊥
     not_both place h (parts, are, is) =
         stops_whole h.front h.behind h.stops
         (subst (IsLine kind version) (one_line line parts (h.front ++ h.behind) are h.parts) is)
 
     -- the parts before both places are the same
-    module _ (one other : Place) (h : IsPlace kind version line one) (k : IsPlace kind version line other) where
+    module _ (one other : LinePlace) (h : IsPlace kind version line one) (k : IsPlace kind version line other) where
       same_front : h.front ≡ k.front
       same_front =
           elim (two_fronts h.front h.behind k.front k.behind
@@ -105,9 +106,11 @@ module _ (kind : TextKind) (version : Version) where
             | inr (inr goes) ↦ absurd (stops_all k.front k.behind h.front k.stops h.begun goes)
           ]
 
+      -- they are in one column
       pub same_column : one.column ≡ other.column
       same_column = h.column ∙ ap (λ (front : List (List ℕ)). length (spaced front) + 1) same_front ∙ sym k.column
 
+      -- the same words are wanted there
       pub same_words : (word : List ℕ) → IsWanted version one.wanted word ↔ IsWanted version other.wanted word
       same_words word = (
         λ is. (k.wanted word).0
@@ -118,6 +121,7 @@ module _ (kind : TextKind) (version : Version) where
             ((k.wanted word).1 is)),
       )
 
+      -- and a line may end at both or at neither
       pub same_ends : EndsThere one.wanted ↔ EndsThere other.wanted
       same_ends = (
         λ is. k.ends.0 (subst (IsLine kind version) same_front (h.ends.1 is)),

@@ -13,7 +13,7 @@ use Rattle.smx_place.specs.Rows.{GoesOn}
 use Rattle.smx_place.specs.declared.kinds.Choice.{Choice}
 use Rattle.smx_place.specs.declared.kinds.TextKind.{TextKind}
 use Rattle.smx_place.specs.declared.kinds.Value.{Value}
-use Rattle.smx_place.specs.declared.place.Place.{Place}
+use Rattle.smx_place.specs.declared.place.LinePlace.{LinePlace}
 use Rattle.smx_place.proofs.CompleteLemmas.{can_end}
 use Rattle.smx_place.proofs.DeterminedLemmas.{one_way}
 use Rattle.smx_place.proofs.LineFormLemmas.{line_is}
@@ -219,10 +219,10 @@ module _ (kind : TextKind) (version : Version) (line : List ℕ) (column : ℕ) 
   ends_here is stops = place_here [] tt (ap left_of is) (λ whole. stops (ends_there.0 whole))
 
   -- one of both, as the code tells at the end
-  pub at_end : rest ≡ None → (o : Option Place)
+  pub at_end : rest ≡ None → (o : Option LinePlace)
       → MatchOption o (EndsThere (wanted_of values next)) (λ place. (EndsThere (wanted_of values next) → ⊥)
       × (place ≡ record { column = column; wanted = wanted_of values next }))
       → MatchOption o (IsWhole kind version line) (λ place. IsPlace kind version line place)
   at_end is None ends = whole_here is ends
   at_end is (Some place) (stops, same) =
-      subst (λ (p : Place). IsPlace kind version line p) (sym same) (ends_here is stops)
+      subst (λ (p : LinePlace). IsPlace kind version line p) (sym same) (ends_here is stops)

@@ -19,9 +19,8 @@ use Rattle.smx_place.specs.declared.kinds.Choice.TheVariants.{Reply, BadDescript
 use Rattle.smx_place.specs.declared.kinds.Choice.TheVariants.{Serials, End}
 use Rattle.smx_place.specs.declared.kinds.Value.{Value}
 use Rattle.smx_place.specs.declared.kinds.Value.TheVariants.{Number, Bytes}
-use Rattle.smx_place.proofs.ShapeLemmas.{one, three, two}
 use Rattle.smx_place.proofs.Spelling.{Spells}
-use Rattle.smx_place.proofs.WalkLemmas.{ended, from_row, no_more, number, plain, tells}
+use Rattle.smx_place.proofs.WalkLemmas.{ended_as, from_row, no_more, number, plain, tells}
 
 -- ---- each reply is spelled so
 
@@ -66,6 +65,7 @@ module _ (version : Version) where
   serials_spelled (n ∷ ns) all =
       ([], Serials, inr (number n all.0, refl, refl), serials_spelled ns all.1)
 
+  -- each reply that a version can tell is spelled so
   pub reply_spelled : (r : AnyReply) → FitsReplyIn version r → Spells version [] Reply (reply_words r)
   reply_spelled (reply.Fd fd minor) (fits, told) =
       from_row version Reply (codes "fd") (Number ∷ Number ∷ []) End (decimal fd ∷ decimal minor ∷ []) [] (search rules)
@@ -195,20 +195,21 @@ module _ (version : Version) where
   reply_row : (word : List ℕ) (values : List Value) (next : Choice) (words : List (List ℕ))
       → IsRow replies word values next → Spells version values next words → IsReply version (word ∷ words)
   reply_row word values next words (inl is) h =
-      let t = two Number Number words (ended version values next words (Number ∷ Number ∷ []) is.1 is.2 h) in
-      (reply.Fd t.is_a.0 t.is_b.0, ((t.is_a.1, t.is_b.1), tells version), cc (is.0, t.are, t.is_a.2, t.is_b.2))
+      let (((a, is_a), ((b, is_b), end)), are) =
+      ended_as version values next words (Number ∷ Number ∷ []) is.1 is.2 h in
+      (reply.Fd is_a.0 is_b.0, ((is_a.1, is_b.1), tells version), cc (is.0, are, is_a.2, is_b.2))
   reply_row word values next words (inr (inl is)) h =
-      let t = one Number words (ended version values next words (Number ∷ []) is.1 is.2 h) in
-      (reply.Id t.is_a.0, (t.is_a.1, tells version), cc (is.0, t.are, t.is_a.2))
+      let (((a, is_a), end), are) = ended_as version values next words (Number ∷ []) is.1 is.2 h in
+      (reply.Id is_a.0, (is_a.1, tells version), cc (is.0, are, is_a.2))
   reply_row word values next words (inr (inr (inl is))) h =
-      let t = one Number words (ended version values next words (Number ∷ []) is.1 is.2 h) in
-      (reply.Took t.is_a.0, (t.is_a.1, tells version), cc (is.0, t.are, t.is_a.2))
+      let (((a, is_a), end), are) = ended_as version values next words (Number ∷ []) is.1 is.2 h in
+      (reply.Took is_a.0, (is_a.1, tells version), cc (is.0, are, is_a.2))
   reply_row word values next words (inr (inr (inr (inl is)))) h =
-      let t = three Number Number Bytes words
-      (ended version values next words (Number ∷ Number ∷ Bytes ∷ []) is.1 is.2 h) in (
-        reply.Got t.is_a.0 t.is_b.0 t.is_c.0,
-        ((t.is_a.1, t.is_b.1, t.is_c.1), tells version),
-        cc (is.0, t.are, t.is_a.2, t.is_b.2, t.is_c.2),
+      let (((a, is_a), ((b, is_b), ((c, is_c), end))), are) =
+      ended_as version values next words (Number ∷ Number ∷ Bytes ∷ []) is.1 is.2 h in (
+        reply.Got is_a.0 is_b.0 is_c.0,
+        ((is_a.1, is_b.1, is_c.1), tells version),
+        cc (is.0, are, is_a.2, is_b.2, is_c.2),
       )
   reply_row word values next words (inr (inr (inr (inr (inl is))))) h =
       let t = of_serials version words (rw (← is.1, ← is.2) h) in
@@ -235,6 +236,7 @@ module _ (version : Version) where
   reply_row word values next words (inr (inr (inr (inr (inr (inr (inr (inr (inr (inr (inr (inr is)))))))))))) h =
       absurd is
 
+-- and what is spelled so is a reply of that version
 pub of_reply : (version : Version) (words : List (List ℕ)) → Spells version [] Reply words → IsReply version words
 of_reply version [] h = absurd h
 of_reply V1 (word ∷ words) (values, next, inl is, h) = reply_row V1 word values next words is h

@@ -13,18 +13,18 @@ use Rattle.smx_words.specs.Spellable.{FitsNumber, FitsProcess}
 use Rattle.smx_types.specs.declared.version.Version.{Version}
 use Rattle.smx_types.specs.declared.version.Version.TheVariants.{V1, V2}
 use Rattle.smx_place.specs.Rows.{IsFixed, IsNoRow, IsRow, rows_of, told_rows}
-use Rattle.smx_place.specs.Rows.{Row as TableRow}
+use Rattle.smx_place.specs.Rows.{WordRow}
 use Rattle.smx_place.specs.declared.kinds.Choice.{Choice}
 use Rattle.smx_place.specs.declared.kinds.Choice.TheVariants.{Command, Equals}
 use Rattle.smx_place.specs.declared.kinds.Value.{Value}
-use Rattle.smx_place.specs.declared.rows.Row.{Row}
+use Rattle.smx_place.specs.declared.rows.FoundRow.{FoundRow}
 
 -- a row as the code has it
 abbrev StoredRow : Type 0
 StoredRow = Bor (List ℕ) × Bor (List Value) × Choice
 
 -- what is said of a word in some rows
-abbrev Tells : List StoredRow → List ℕ → Option Row → Type 0
+abbrev Tells : List StoredRow → List ℕ → Option FoundRow → Type 0
 Tells rows word o =
     MatchOption o (IsNoRow (rows_of rows) word) (λ row. IsRow (rows_of rows) word row.values.now row.next)
 
@@ -34,13 +34,13 @@ differ xs ys other e =
     let same : bytes_eq xs ys ≡ true = (bytes_eq-Decides xs ys).1 (sym e) in absurd (cc (other, same))
 
 -- one row more, which has another word
-one_more : (row : StoredRow) (rows : List StoredRow) (word : List ℕ) (o : Option Row) → word ≢ row.0.now
+one_more : (row : StoredRow) (rows : List StoredRow) (word : List ℕ) (o : Option FoundRow) → word ≢ row.0.now
     → Tells rows word o → Tells (row ∷ rows) word o
 one_more row rows word None other h = (other, h)
 one_more row rows word (Some found) other h = inr h
 
 -- where the first row has another word, what is said of the others is said of all
-pub passed : (rows : List StoredRow) (word first : List ℕ) (d : StoredRow) (o : Option Row) (test : Bool)
+pub passed : (rows : List StoredRow) (word first : List ℕ) (d : StoredRow) (o : Option FoundRow) (test : Bool)
     → 1 ≤ length rows → first ≡ (get_or rows 0 d).0.now → test ≡ bytes_eq first word → test ≡ false
     → Tells (take (length rows - 1) (drop 1 rows)) word o → Tells rows word o
 passed [] word first d o test some is says other h = absurd (omega (arith, some))
@@ -50,30 +50,11 @@ passed (row ∷ rows) word first d o test some is says other h =
 
 -- ---- two tables
 
--- a row of the first
-pub in_first : (ks ls : List TableRow) (word : List ℕ) (values : List Value) (next : Choice)
-    → IsRow ks word values next → IsRow (ks ++ ls) word values next
-in_first [] ls word values next is = absurd is
-in_first (k ∷ ks) ls word values next (inl is) = inl is
-in_first (k ∷ ks) ls word values next (inr more) = inr (in_first ks ls word values next more)
-
 -- a row of the second
-pub in_second : (ks ls : List TableRow) (word : List ℕ) (values : List Value) (next : Choice)
+pub in_second : (ks ls : List WordRow) (word : List ℕ) (values : List Value) (next : Choice)
     → IsRow ls word values next → IsRow (ks ++ ls) word values next
 in_second [] ls word values next is = is
 in_second (k ∷ ks) ls word values next is = inr (in_second ks ls word values next is)
-
--- of neither
-pub in_none : (ks ls : List TableRow) (word : List ℕ) → IsNoRow ks word → IsNoRow ls word → IsNoRow (ks ++ ls) word
-in_none [] ls word none nor = nor
-in_none (k ∷ ks) ls word none nor = (none.0, in_none ks ls word none.1 nor)
-
--- what is the word of none is that of no row
-pub no_row : (ks : List TableRow) (word : List ℕ) (values : List Value) (next : Choice) → IsNoRow ks word
-    → IsRow ks word values next → ⊥
-no_row [] word values next none is = is
-no_row (k ∷ ks) word values next none (inl is) = none.0 is.0
-no_row (k ∷ ks) word values next none (inr more) = no_row ks word values next none.1 more
 
 -- ---- values
 
@@ -87,10 +68,10 @@ no_process word n fits is large (p, small, same) =
 -- ---- commands
 
 -- each of these rows chooses this
-abbrev AllChoose : Choice → List TableRow → Type 0
+abbrev AllChoose : Choice → List WordRow → Type 0
 AllChoose next rows = AllByRecursion (λ row. row.2 ≡ next) rows
 
-chosen_by_all : (ks : List TableRow) (next : Choice) → AllChoose next ks → (word : List ℕ) (values : List Value)
+chosen_by_all : (ks : List WordRow) (next : Choice) → AllChoose next ks → (word : List ℕ) (values : List Value)
     (found : Choice) → IsRow ks word values found → found ≡ next
 chosen_by_all [] next all word values found is = absurd is
 chosen_by_all (k ∷ ks) next all word values found (inl is) = is.2 ∙ all.0

@@ -4,12 +4,13 @@ use Rattle.smx_types.specs.declared.version.Version.{Version}
 use Rattle.smx_types.specs.declared.version.Version.TheVariants.{V1, V2}
 use Rattle.smx_words.specs.Spellable.{CanTell, FitsNumber}
 use Rattle.std.specs.Fmt.{decimal}
-use Rattle.smx_place.specs.Rows.{IsFixed, IsRow, IsValue, Row, later_rows, rows, told_rows}
+use Rattle.smx_place.specs.Rows.{IsFixed, IsRow, IsValue, WordRow, later_rows, rows, told_rows}
 use Rattle.smx_place.specs.declared.kinds.Choice.{Choice}
 use Rattle.smx_place.specs.declared.kinds.Choice.TheVariants.{End}
 use Rattle.smx_place.specs.declared.kinds.Value.{Value}
 use Rattle.smx_place.specs.declared.kinds.Value.TheVariants.{Number}
 use Rattle.smx_place.proofs.CompleteLemmas.{fixed_in}
+use Rattle.smx_place.proofs.ShapeLemmas.{Words, given, words_of}
 use Rattle.smx_place.proofs.Spelling.{Spells, Takes}
 
 -- what tells of no hangup each version can tell
@@ -46,6 +47,7 @@ module _ (version : Version) where
     pub takes : Takes values args
     pub more : Spells version [] next rest
 
+  -- words that go on so begin with those of the values
   pub cut : (values : List Value) (next : Choice) (words : List (List ℕ)) → Spells version values next words
       → Cut values next words
   cut [] next words h = record { args = []; rest = words; are = refl; takes = tt; more = h }
@@ -81,9 +83,15 @@ module _ (version : Version) where
       ∙ append-nil t.args in
       rw whole t.takes
 
+  -- a word for each of them
+  pub ended_as : (values : List Value) (next : Choice) (words : List (List ℕ)) (wanted : List Value)
+      → values ≡ wanted → next ≡ End → Spells version values next words
+      → (ws : Words wanted) × (words ≡ words_of wanted ws)
+  ended_as values next words wanted same then h = given wanted words refl (ended values next words wanted same then h)
+
 -- of a choice that version 2 adds nothing to
 pub plain : (version : Version) (choice : Choice) → later_rows choice ≡ [] → (word : List ℕ) (values : List Value)
     (next : Choice) → IsFixed version choice word values next → IsRow (rows choice) word values next
 plain V1 choice none word values next is = is
 plain V2 choice none word values next is =
-    subst (λ (ks : List Row). IsRow (ks ++ rows choice) word values next) none is
+    subst (λ (ks : List WordRow). IsRow (ks ++ rows choice) word values next) none is

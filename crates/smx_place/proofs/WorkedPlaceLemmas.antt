@@ -37,6 +37,7 @@ no_line word fixed command =
 
 -- ---- programs
 
+-- an empty line wants its first word
 pub empty : IsPlace Programs V1 (codes "") (choice_at 1 choice.ProgramsLine)
 empty =
     stops_here Programs V1 (codes "") 1 (Some (seen (codes ""))) [] choice.ProgramsLine
@@ -44,6 +45,7 @@ empty =
     (no_line (codes "") (λ values then. not_new (told_rows V1 choice.ProgramsLine) (codes "") values then refl)
     (λ values then. not_new (told_rows V1 choice.Command) (codes "") values then refl))
 
+-- version 1 has no hangup
 pub of_version_2 : IsPlace Programs V1 (codes "hangup eth 0") (choice_at 1 choice.ProgramsLine)
 of_version_2 =
     stops_here Programs V1 (codes "hangup eth 0") 1 (Some (seen (codes "hangup eth 0"))) [] choice.ProgramsLine
@@ -53,6 +55,7 @@ of_version_2 =
     (λ values then. not_new (told_rows V1 choice.ProgramsLine) (codes "hangup") values then refl)
     (λ values then. not_new (told_rows V1 choice.Command) (codes "hangup") values then refl))
 
+-- `dup` wants a number
 pub word_wanting : IsPlace Programs V1 (codes "dup") (value_at 5 value.Number)
 word_wanting =
     ends_here Programs V1 (codes "dup") 5 None (value.Number ∷ []) choice.End
@@ -61,6 +64,7 @@ word_wanting =
     refl
     (value.Number ∷ []) choice.End (inr (search rules, refl)) 5 refl) refl (λ ends. ends)
 
+-- nothing stands behind `exit`
 pub word_too_many : IsPlace Programs V1 (codes "exit 0") (choice_at 6 choice.End)
 word_too_many =
     stops_here Programs V1 (codes "exit 0") 6 (Some (seen (codes "0"))) [] choice.End
@@ -70,6 +74,7 @@ word_too_many =
     (seen (codes "0")) refl (codes "0") None (search (rules, arith)) refl
     (neither V1 choice.End (codes "0") (λ values then is. is) (λ values then is. is))
 
+-- between two spaces an empty word stands
 pub two_spaces : IsPlace Programs V1 (codes "clone  ip") (value_at 7 value.Name)
 two_spaces =
     stops_here Programs V1 (codes "clone  ip") 7 (Some (seen (codes " ip"))) (value.Name ∷ []) choice.End
@@ -80,6 +85,7 @@ two_spaces =
     (seen (codes " ip")) refl (codes "") (Some (seen (codes "ip"))) tt refl
     (λ values then goes. absurd (cc goes.0))
 
+-- version 2 has a hangup, which wants a minor
 pub in_version_2 : IsPlace Programs V2 (codes "hangup eth") (value_at 12 value.Number)
 in_version_2 =
     ends_here Programs V2 (codes "hangup eth") 12 None (value.Number ∷ []) choice.End
@@ -109,6 +115,7 @@ behind_exit version line rest is fixed =
     (seen (codes "exit " ++ rest)) refl (codes "exit") (Some (seen rest)) (search (rules, arith)) refl [] choice.Equals
     (inl fixed) 8 refl)
 
+-- behind an entry's command the sign is wanted
 pub no_equals : IsPlace Transcript V2 (codes "0 exit done") (choice_at 8 choice.Equals)
 no_equals =
     stops_here Transcript V2 (codes "0 exit done") 8 (Some (seen (codes "done"))) [] choice.Equals
@@ -128,6 +135,7 @@ behind_equals line rest is =
     (Some (seen rest))
     (search (rules, arith)) refl [] choice.Reply (inl (search rules)) 10 refl
 
+-- behind `EBADF` its own cause is wanted
 pub other_cause : IsPlace Transcript V1 (codes "0 exit = EBADF full") (choice_at 16 choice.BadDescriptor)
 other_cause =
     stops_here Transcript V1 (codes "0 exit = EBADF full") 16 (Some (seen (codes "full"))) [] choice.BadDescriptor
@@ -149,6 +157,7 @@ five : GoesOn V1 [] choice.Serials (codes "5") [] choice.Serials
 unfolding digits
 five = inr ((5, omega arith, refl), refl, refl)
 
+-- `done` takes any number of serials
 pub serials : IsWhole Transcript V1 (codes "0 exit = done 7 5")
 serials =
     whole_here Transcript V1 (codes "0 exit = done 7 5") 19 None [] choice.Serials

@@ -16,7 +16,7 @@ use Rattle.smx_place.specs.declared.kinds.TextKind.TheVariants.{Programs, Transc
 use Rattle.smx_place.specs.declared.kinds.Value.{Value}
 use Rattle.smx_place.specs.declared.kinds.Wanted.{Wanted}
 use Rattle.smx_place.specs.declared.kinds.Wanted.TheVariants as wanted
-use Rattle.smx_place.specs.declared.place.Place.{Place}
+use Rattle.smx_place.specs.declared.place.LinePlace.{LinePlace}
 
 -- these are the words of a line that a text of this version may have, behind its header
 abbrev pub IsLine : TextKind → Version → List (List ℕ) → Type 0
@@ -72,7 +72,7 @@ abbrev pub IsWhole : TextKind → Version → List ℕ → Type 0
 IsWhole kind version line = (parts : List (List ℕ)) × AreParts line parts × IsLine kind version parts
 
 -- The place at which a line stops being one of a text.
-pub record IsPlace (kind : TextKind) (version : Version) (line : List ℕ) (place : Place) : Type 0 where
+pub record IsPlace (kind : TextKind) (version : Version) (line : List ℕ) (place : LinePlace) : Type 0 where
   -- The line is cut at its spaces; the place is behind some of the parts.
   pub front : List (List ℕ)
   pub behind : List (List ℕ)

@@ -30,13 +30,13 @@ IsValue LinkKind word = IsSpelled FitsAlways link_kind_word word
 IsValue Bytes word = IsSpelled FitsBytes hex_word word
 
 -- a fixed word, the values that are wanted behind it, and what is chosen behind those
-abbrev pub Row : Type 0
-Row = List ℕ × List Value × Choice
+abbrev pub WordRow : Type 0
+WordRow = List ℕ × List Value × Choice
 
 -- ---- tables
 
 -- the first words of the lines of programs that are no commands
-abbrev pub programs_lines : List Row
+abbrev pub programs_lines : List WordRow
 programs_lines =
     (codes "driver", Name ∷ DriverKind ∷ Number ∷ Number ∷ Number ∷ Number ∷ [], End)
     ∷ (codes "process", Number ∷ [], End)
@@ -44,7 +44,7 @@ programs_lines =
     ∷ []
 
 -- those of the lines of a transcript that are no entries
-abbrev pub transcript_lines : List Row
+abbrev pub transcript_lines : List WordRow
 transcript_lines =
     (codes "driver", Name ∷ DriverKind ∷ Number ∷ Number ∷ Number ∷ Number ∷ [], End)
     ∷ (codes "config", [], End)
@@ -59,7 +59,7 @@ transcript_lines =
     ∷ []
 
 -- the commands of an entry
-abbrev pub commands : List Row
+abbrev pub commands : List WordRow
 commands =
     (codes "clone", Name ∷ [], Equals)
     ∷ (codes "open", Name ∷ Number ∷ [], Equals)
@@ -82,7 +82,7 @@ commands =
     ∷ []
 
 -- the replies
-abbrev pub replies : List Row
+abbrev pub replies : List WordRow
 replies =
     (codes "fd", Number ∷ Number ∷ [], End)
     ∷ (codes "id", Number ∷ [], End)
@@ -99,7 +99,7 @@ replies =
     ∷ []
 
 -- what is wrong with an argument
-abbrev pub invalid : List Row
+abbrev pub invalid : List WordRow
 invalid =
     (codes "below", [], End)
     ∷ (codes "notmux", [], End)
@@ -111,7 +111,7 @@ invalid =
     ∷ []
 
 -- the fixed words among which is chosen
-abbrev pub rows : Choice → List Row
+abbrev pub rows : Choice → List WordRow
 rows ProgramsLine = programs_lines
 rows TranscriptLine = transcript_lines
 rows Command = commands
@@ -125,7 +125,7 @@ rows Serials = []
 rows End = []
 
 -- those of version 2 alone
-abbrev pub later_rows : Choice → List Row
+abbrev pub later_rows : Choice → List WordRow
 later_rows ProgramsLine = []
 later_rows TranscriptLine = (codes "hung", Name ∷ Number ∷ [], End) ∷ []
 later_rows Command = (codes "hangup", Name ∷ Number ∷ [], Equals) ∷ []
@@ -139,23 +139,23 @@ later_rows Serials = []
 later_rows End = []
 
 -- those of a version
-abbrev pub told_rows : Version → Choice → List Row
+abbrev pub told_rows : Version → Choice → List WordRow
 told_rows V1 choice = rows choice
 told_rows V2 choice = later_rows choice ++ rows choice
 
 -- this is the word of a row, and the rest of it
-abbrev pub IsRow : List Row → List ℕ → List Value → Choice → Type 0
+abbrev pub IsRow : List WordRow → List ℕ → List Value → Choice → Type 0
 IsRow [] word values next = ⊥
 IsRow (row ∷ rows) word values next =
     ((word ≡ row.0) × (values ≡ row.1) × (next ≡ row.2)) ⊎ IsRow rows word values next
 
 -- this is the word of none
-abbrev pub IsNoRow : List Row → List ℕ → Type 0
+abbrev pub IsNoRow : List WordRow → List ℕ → Type 0
 IsNoRow [] word = Unit {0}
 IsNoRow (row ∷ rows) word = (word ≢ row.0) × IsNoRow rows word
 
 -- rows as the code has them
-abbrev pub rows_of : List (Bor (List ℕ) × Bor (List Value) × Choice) → List Row
+abbrev pub rows_of : List (Bor (List ℕ) × Bor (List Value) × Choice) → List WordRow
 rows_of [] = []
 rows_of (row ∷ rows) = (row.0.now, row.1.now, row.2) ∷ rows_of rows
 

@@ -9,7 +9,7 @@ ghost use Rattle.smx_place.specs.declared.kinds.Choice.TheVariants as choice;
 ghost use Rattle.smx_place.specs.declared.kinds.TextKind.{TextKind as AnyKind};
 ghost use Rattle.smx_place.specs.declared.kinds.TextKind.TheVariants.{Programs, Transcript};
 ghost use Rattle.smx_place.specs.declared.kinds.Value.TheVariants as value;
-ghost use Rattle.smx_place.specs.declared.place.Place.{Place as AnyPlace};
+ghost use Rattle.smx_place.specs.declared.place.LinePlace.{LinePlace as AnyPlace};
 
 /// A line is one of a text, or it has a place, and never both. It has one place: one column, the same words that may
 /// stand there, and the end, if it may end there.

@@ -7,4 +7,4 @@ mod place;
 mod rows;
 
 pub use kinds::{Choice, TextKind, Value, Wanted};
-pub use place::{Place, place_of};
+pub use place::{LinePlace, place_of};

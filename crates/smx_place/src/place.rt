@@ -5,13 +5,13 @@ ghost use Rattle.smx_words.specs.Words.{IsFree, SPACE};
 ghost use Rattle.smx_place.specs.Places.{EndsThere, IsPlace, IsWhole, first_choice, left_of, wanted_of};
 
 use crate::kinds::{Choice, TextKind, Wanted};
-use crate::rows::{Row, go_on, may_end};
+use crate::rows::{FoundRow, go_on, may_end};
 use memchr::memchr;
 use smx_types::Version;
 
 /// Where a line stops being one of a text, and what may stand there.
 #[derive(Clone, Copy, Debug, PartialEq, Eq)]
-pub struct Place {
+pub struct LinePlace {
     /// Where the word at fault begins, or where one would that is wanting, in bytes from 1.
     pub column: usize,
     pub wanted: Wanted,
@@ -19,10 +19,10 @@ pub struct Place {
 
 /// The place at which no line that a text of this version may have goes on; `None` where the line is one. Takes no
 /// memory.
-pub fn place_of(kind: TextKind, version: Version, line: &[u8]) -> Option<Place>
+pub fn place_of(kind: TextKind, version: Version, line: &[u8]) -> Option<LinePlace>
     ensures { MatchOption result (IsWhole kind version line.now) (λ place. IsPlace kind version line.now place) }
 {
-    let mut row = Row {
+    let mut row = FoundRow {
         values: &[],
         next: first_choice(kind),
     };
@@ -62,18 +62,18 @@ fn first_word(text: &[u8]) -> (&[u8], Option<&[u8]>)
 }
 
 // The place in this column, where the line goes on so.
-fn stopped(column: usize, row: Row) -> Place
+fn stopped(column: usize, row: FoundRow) -> LinePlace
     ensures { result ≡ record { column = column; wanted = wanted_of row.values.now row.next } }
 {
     let wanted = match row.values {
         [] => Wanted::Choice(row.next),
         [value, ..] => Wanted::Value(*value),
     };
-    Place { column, wanted }
+    LinePlace { column, wanted }
 }
 
 // The place where the line ends, unless it may end there.
-fn ended(column: usize, row: Row) -> Option<Place>
+fn ended(column: usize, row: FoundRow) -> Option<LinePlace>
     ensures { MatchOption result (EndsThere (wanted_of row.values.now row.next))
         (λ place. (EndsThere (wanted_of row.values.now row.next) → ⊥)
         × (place ≡ record { column = column; wanted = wanted_of row.values.now row.next })) }

@@ -12,7 +12,7 @@ use smx_words::{driver_kind, link_kind, name, number, side, sides, spells_bytes,
 
 // How a line goes on: by these values, and then by what is chosen.
 #[derive(Clone, Copy)]
-pub struct Row {
+pub struct FoundRow {
     pub values: &'static [Value],
     pub next: Choice,
 }
@@ -199,13 +199,13 @@ const EOF: [(&str, &[Value], Choice); 1] = [("eof", &[], Choice::End)];
 const HUNG_UP: [(&str, &[Value], Choice); 1] = [("hangup", &[], Choice::End)];
 
 // The row of a word.
-fn find(rows: &'static [(&'static str, &'static [Value], Choice)], word: &[u8]) -> Option<Row>
+fn find(rows: &'static [(&'static str, &'static [Value], Choice)], word: &[u8]) -> Option<FoundRow>
     ensures { MatchOption result (IsNoRow (rows_of rows.now) word.now)
         (λ row. IsRow (rows_of rows.now) word.now row.values.now row.next) }
 {
     if let [(first, values, next), more @ ..] = rows {
         if first.as_bytes() == word {
-            return Some(Row {
+            return Some(FoundRow {
                 values: *values,
                 next: *next,
             });
@@ -253,7 +253,7 @@ fn later_rows(choice: Choice) -> &'static [(&'static str, &'static [Value], Choi
 }
 
 // How a line goes on behind a fixed word.
-fn fixed(version: Version, choice: Choice, word: &[u8]) -> Option<Row>
+fn fixed(version: Version, choice: Choice, word: &[u8]) -> Option<FoundRow>
     ensures { MatchOption result (IsNoRow (told_rows version choice) word.now)
         (λ row. IsFixed version choice word.now row.values.now row.next) }
 {
@@ -294,18 +294,18 @@ fn is_process(word: &[u8]) -> bool
 }
 
 // What is chosen behind a value, where the word says one.
-fn then(value: Value, word: &[u8], next: Choice) -> Option<Row>
+fn then(value: Value, word: &[u8], next: Choice) -> Option<FoundRow>
     ensures { MatchOption result (IsValue value word.now → ⊥)
         (λ row. IsValue value word.now × (row.values.now ≡ []) × (row.next ≡ next)) }
 {
     if is_value(value, word) {
-        return Some(Row { values: &[], next });
+        return Some(FoundRow { values: &[], next });
     }
     None
 }
 
 // How a line goes on behind a word that is none of the fixed ones.
-fn other(version: Version, choice: Choice, word: &[u8]) -> Option<Row>
+fn other(version: Version, choice: Choice, word: &[u8]) -> Option<FoundRow>
     ensures { MatchOption result
         ((values : List AnyValue) (next : AnyChoice) → IsOther version choice word.now values next → ⊥)
         (λ row. IsOther version choice word.now row.values.now row.next) }
@@ -326,13 +326,14 @@ fn other(version: Version, choice: Choice, word: &[u8]) -> Option<Row>
 }
 
 // How a line of programs goes on behind the first word of a command.
-fn command(version: Version, word: &[u8]) -> Option<Row>
+fn command(version: Version, word: &[u8]) -> Option<FoundRow>
     ensures { MatchOption result
         ((values : List AnyValue) → IsFixed version AnyChoice.Command word.now values AnyChoice.Equals → ⊥)
-        (λ row. IsFixed version AnyChoice.Command word.now row.values.now AnyChoice.Equals × (row.next ≡ AnyChoice.End)) }
+        (λ row. IsFixed version AnyChoice.Command word.now row.values.now AnyChoice.Equals
+        × (row.next ≡ AnyChoice.End)) }
 {
     match fixed(version, Choice::Command, word) {
-        Some(Row { values, .. }) => Some(Row {
+        Some(FoundRow { values, .. }) => Some(FoundRow {
             values,
             next: Choice::End,
         }),
@@ -341,7 +342,7 @@ fn command(version: Version, word: &[u8]) -> Option<Row>
 }
 
 // How a line goes on behind a word where something is chosen.
-fn chosen(version: Version, choice: Choice, word: &[u8]) -> Option<Row>
+fn chosen(version: Version, choice: Choice, word: &[u8]) -> Option<FoundRow>
     ensures { MatchOption result
         ((values : List AnyValue) (next : AnyChoice) → IsChosen version choice word.now values next → ⊥)
         (λ row. IsChosen version choice word.now row.values.now row.next) }
@@ -353,7 +354,12 @@ fn chosen(version: Version, choice: Choice, word: &[u8]) -> Option<Row>
 }
 
 /// How a line goes on behind a word, where these values are wanted and then something is chosen.
-pub fn go_on(version: Version, values: &'static [Value], next: Choice, word: &[u8]) -> Option<Row>
+pub fn go_on(
+    version: Version,
+    values: &'static [Value],
+    next: Choice,
+    word: &[u8],
+) -> Option<FoundRow>
     ensures { MatchOption result
         ((more : List AnyValue) (then : AnyChoice) → GoesOn version values.now next word.now more then → ⊥)
         (λ row. GoesOn version values.now next word.now row.values.now row.next) }
@@ -362,7 +368,7 @@ pub fn go_on(version: Version, values: &'static [Value], next: Choice, word: &[u
         [] => chosen(version, next, word),
         [value, more @ ..] => {
             if is_value(*value, word) {
-                return Some(Row { values: more, next });
+                return Some(FoundRow { values: more, next });
             }
             None
         }

@@ -22,7 +22,7 @@ use Rattle.smx_queues.specs.Slots.{IsLeastFrom, has_messages, is_marked, message
 use Rattle.smx_queues.proofs.PlaceLemmas.{apart, none_behind, place_is, place_self}
 
 -- a part that shows nothing of what fails the test
-abbrev Skips : {X : Type 0} → (List Place → List (Option Queue) → List X) → (Option Queue → Bool) → Type 0
+abbrev pub Skips : {X : Type 0} → (List Place → List (Option Queue) → List X) → (Option Queue → Bool) → Type 0
 Skips shown passes = (p : Place) (places : List Place) (q : Option Queue) (queues : List (Option Queue))
     → passes q ≡ false → shown (p ∷ places) (q ∷ queues) ≡ shown places queues
 
@@ -36,7 +36,7 @@ skip_all shown passes (p ∷ places) (q ∷ queues) skips none many all =
     skips p places q queues (all 0) ∙ skip_all shown passes places queues skips none (omega arith) (λ k. all (suc k))
 
 -- from one number on nothing passes
-skip_rest : {X : Type 0} (shown : List Place → List (Option Queue) → List X) (passes : Option Queue → Bool)
+pub skip_rest : {X : Type 0} (shown : List Place → List (Option Queue) → List X) (passes : Option Queue → Bool)
     (places : List Place) (queues : List (Option Queue)) (n : ℕ) → Skips shown passes → shown [] [] ≡ []
     → length queues ≡ length places → ((k : ℕ) → n ≤ k → passes (get_or queues k None) ≡ false)
     → shown (drop n places) (drop n queues) ≡ []
@@ -96,45 +96,23 @@ many_queues drivers (p ∷ places) [] h = absurd h
 many_queues drivers (p ∷ places) (None ∷ queues) h = absurd h
 many_queues drivers (p ∷ places) (Some q ∷ queues) h = omega (arith, many_queues drivers places queues h.2)
 
--- ---- the flow
+-- from a number on, what is shown begins with what stands at the least number there that passes
+pub next_shown : {X : Type 0} (shown : List Place → List (Option Queue) → List X) (passes : Option Queue → Bool)
+    (places : List Place) (queues : List (Option Queue)) (n i : ℕ) (p : Place) → Skips shown passes
+    → length queues ≡ length places → IsLeastFrom passes queues n (Some i) → slice_get places i ≡ Some p
+    → shown (drop n places) (drop n queues)
+    ≡ shown (p ∷ drop (i + 1) places) (get_or queues i None ∷ drop (i + 1) queues)
+next_shown shown passes places queues n i p skips many least at =
+    skip_to shown passes places queues n i skips least.0 (omega (arith, least.1)) many least.3
+    ∙ first_left shown places queues i p least.1 at
 
-flow_skips : Skips flow_of has_messages
+-- the flow shows nothing of a place without messages
+pub flow_skips : Skips flow_of has_messages
 flow_skips p places q queues h = rw (no_messages q h) refl
 
--- where no place from a number on has messages, nothing of the flow is left there
-pub flow_ends : (places : List Place) (queues : List (Option Queue)) (n : ℕ) → length queues ≡ length places
-    → IsLeastFrom has_messages queues n None → flow_of (drop n places) (drop n queues) ≡ []
-flow_ends places queues n many none = skip_rest flow_of has_messages places queues n flow_skips refl many none
-
--- from a number on, the flow begins with the messages of the least place there that has any
-pub flow_next : (places : List Place) (queues : List (Option Queue)) (n i : ℕ) (p : Place)
-    → length queues ≡ length places → IsLeastFrom has_messages queues n (Some i) → slice_get places i ≡ Some p
-    → flow_of (drop n places) (drop n queues)
-    ≡ messages_at p (messages_in (get_or queues i None)) ++ flow_of (drop (i + 1) places) (drop (i + 1) queues)
-flow_next places queues n i p many least at =
-    skip_to flow_of has_messages places queues n i flow_skips least.0 (omega (arith, least.1)) many least.3
-    ∙ first_left flow_of places queues i p least.1 at
-
--- ---- the first messages
-
-fronts_skip : Skips fronts_of has_messages
+-- and so do the first messages
+pub fronts_skip : Skips fronts_of has_messages
 fronts_skip p places q queues h = rw (no_messages q h) refl
-
--- where no place from a number on has messages, no first message is left there
-pub fronts_end : (places : List Place) (queues : List (Option Queue)) (n : ℕ) → length queues ≡ length places
-    → IsLeastFrom has_messages queues n None → fronts_of (drop n places) (drop n queues) ≡ []
-fronts_end places queues n many none = skip_rest fronts_of has_messages places queues n fronts_skip refl many none
-
--- from a number on, the first messages begin with that of the least place there that has any
-pub fronts_next : (places : List Place) (queues : List (Option Queue)) (n i : ℕ) (p : Place)
-    → length queues ≡ length places → IsLeastFrom has_messages queues n (Some i) → slice_get places i ≡ Some p
-    → fronts_of (drop n places) (drop n queues)
-    ≡ first_at p (messages_in (get_or queues i None)) ++ fronts_of (drop (i + 1) places) (drop (i + 1) queues)
-fronts_next places queues n i p many least at =
-    skip_to fronts_of has_messages places queues n i fronts_skip least.0 (omega (arith, least.1)) many least.3
-    ∙ first_left fronts_of places queues i p least.1 at
-
--- ---- the full places
 
 fulls_skip : Skips fulls_of is_marked
 fulls_skip p places q queues h = rw h refl
@@ -149,8 +127,7 @@ pub fulls_next : (places : List Place) (queues : List (Option Queue)) (n i : ℕ
     → length queues ≡ length places → IsLeastFrom is_marked queues n (Some i) → slice_get places i ≡ Some p
     → fulls_of (drop n places) (drop n queues) ≡ p ∷ fulls_of (drop (i + 1) places) (drop (i + 1) queues)
 fulls_next places queues n i p many least at =
-    skip_to fulls_of is_marked places queues n i fulls_skip least.0 (omega (arith, least.1)) many least.3
-    ∙ (first_left fulls_of places queues i p least.1 at ∙ rw least.2 refl)
+    next_shown fulls_of is_marked places queues n i p fulls_skip many least at ∙ rw least.2 refl
 
 -- ---- the first message of each place is that of the flow
 

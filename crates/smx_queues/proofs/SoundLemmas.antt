@@ -3,7 +3,7 @@ use Rattle.std.proofs.Common.{◌≡◌, ◌≢◌, ℕ, zero, suc, ◌+◌, ◌
 use Rattle.std.proofs.Common.{length, map, drop, get_or, set, Option, Some, None, refl, sym, ap, subst, ◌∙◌, arith}
 use Rattle.std.proofs.Common.{append_assoc, append-nil}
 use Rattle.std.specs.List.{sum_by, slice_get, repeat}
-use Rattle.std.proofs.lemmas.List.{get_or-set_other, get_or_default, length-set}
+use Rattle.std.proofs.lemmas.List.{get_or-set_other, get_or_default, length-map, length-set}
 use Rattle.std.proofs.lemmas.List.Sums.{sum_by-set, sum_by-cons}
 use Rattle.slab.specs.Slab.{Slab, get, ContainsKey, slab_len, Updates}
 use Rattle.smx_types.specs.declared.message.Message.{Message}
@@ -28,6 +28,12 @@ queues_of t = t.queues
 -- how many messages can arrive at a table without memory
 abbrev pub spare_of : QueueTable → ℕ
 spare_of t = t.spare
+
+-- a table is seen with as many queues as it has chains
+pub as_many : (s : Slab Node) (chains : List Chain) (spare : ℕ) (t : QueueTable)
+    → ◌≡◌ {A = QueueTable} (record { queues = map (slot_of s) chains; spare = spare }) t
+    → length chains ≡ length t.queues
+as_many s chains spare t is = sym (length-map chains (slot_of s)) ∙ ap (λ (x : QueueTable). length x.queues) is
 
 -- the slots of a store, by key
 abbrev pub slots_of : Slab Node → List (Option Node)

@@ -13,8 +13,8 @@ use Rattle.smx_queues.specs.PlaceLists.{HaveDriversBelow, PlaceList}
 use Rattle.smx_queues.specs.QueueTable.{Queue, queue_at}
 use Rattle.smx_queues.specs.Slots.{IsLeastFrom, has_messages, is_marked, messages_in}
 use Rattle.smx_queues.proofs.FlowTableLemmas.{found, found_at}
-use Rattle.smx_queues.proofs.LeftLemmas.{AreFirst, flow_ends, flow_next, fronts_end, fronts_first, fronts_found}
-use Rattle.smx_queues.proofs.LeftLemmas.{fronts_next, fulls_end, fulls_next, head_front, many_queues}
+use Rattle.smx_queues.proofs.LeftLemmas.{AreFirst, flow_skips, fronts_first, fronts_found, fronts_skip, fulls_end}
+use Rattle.smx_queues.proofs.LeftLemmas.{fulls_next, head_front, many_queues, next_shown, skip_rest}
 
 many : (p : PlaceList) (all : List (Option Queue)) → IsFlow p all → length all ≡ length p.places
 many p all h = many_queues p.drivers p.places all h.queues
@@ -28,7 +28,8 @@ below p all i h lt = omega (arith, many p all h)
 -- where no place from a number on has messages, the walk meets no first message any more
 pub front_ends : (p : PlaceList) (all : List (Option Queue)) (n : ℕ) (now : List QueuedMessage) → IsFlow p all
     → fronts_of (drop n p.places) (drop n all) ≡ now → IsLeastFrom has_messages all n None → now ≡ []
-front_ends p all n now h seen none = sym seen ∙ fronts_end p.places all n (many p all h) none
+front_ends p all n now h seen none =
+    sym seen ∙ skip_rest fronts_of has_messages p.places all n fronts_skip refl (many p all h) none
 
 -- the walk meets next the first message of the least place from its number on that has any
 pub front_steps : (p : PlaceList) (all : List (Option Queue)) (n i : ℕ) (place : Place) (m : Message)
@@ -41,7 +42,7 @@ front_steps p all n i place m now h seen least at first =
     let here : slice_get (messages_in (get_or all i None)) 0
     ≡ Some m = ap (λ (q : Option Queue). slice_get (messages_in q) 0) f.slot
     ∙ (sym (ap (λ (q : Queue). slice_get q.messages 0) (found_at p.drivers all place i f)) ∙ sym first) in
-    sym seen ∙ (fronts_next p.places all n i place (many p all h) least at
+    sym seen ∙ (next_shown fronts_of has_messages p.places all n i place fronts_skip (many p all h) least at
     ∙ head_front place (get_or all i None) m (fronts_of (drop (i + 1) p.places) (drop (i + 1) all)) here)
 
 -- ---- the full places
@@ -115,7 +116,7 @@ pub messages_end : (p : PlaceList) (all : List (Option Queue)) (n : ℕ) (place 
     → IsLeastFrom has_messages all n None → now ≡ []
 messages_end p all n place left now h seen none least =
     sym seen ∙ (ap (λ (ms : List Message). messages_at place ms ++ flow_of (drop n p.places) (drop n all)) none
-    ∙ flow_ends p.places all n (many p all h) least)
+    ∙ skip_rest flow_of has_messages p.places all n flow_skips refl (many p all h) least)
 
 -- where a place has none left, the walk meets next the first message of the least later one that has any
 pub messages_step : (p : PlaceList) (all : List (Option Queue)) (n i : ℕ) (was place : Place) (left : List Message)
@@ -126,6 +127,6 @@ pub messages_step : (p : PlaceList) (all : List (Option Queue)) (n i : ℕ) (was
     ∷ (messages_at place rest ++ flow_of (drop (i + 1) p.places) (drop (i + 1) all))
 messages_step p all n i was place left now m rest h seen none least at here =
     sym seen ∙ (ap (λ (ms : List Message). messages_at was ms ++ flow_of (drop n p.places) (drop n all)) none
-    ∙ (flow_next p.places all n i place (many p all h) least at
+    ∙ (next_shown flow_of has_messages p.places all n i place flow_skips (many p all h) least at
     ∙ ap (λ (ms : List Message). messages_at place ms ++ flow_of (drop (i + 1) p.places) (drop (i + 1) all))
     (slot_messages all i ∙ here)))

@@ -372,15 +372,14 @@ mended : (places : List Place) (slots now : List ℕ) (waits waits_now : List Wa
 mended places slots now waits waits_now p i k h there e out told end = elim (cases_lt (k + 1) (length waits)) [
   | inr past ↦
       let last : k + 1 ≡ length waits = omega (arith, index_below places slots waits i k h e) in
-      subst (λ (ss : List ℕ). AreMended slots i k (length waits) ss)
-      (sym (end (slice_get_past waits_now k (omega (arith, out.fewer)))))
+      rw (end (slice_get_past waits_now k (omega (arith, out.fewer))))
       (mended_last places slots waits i k h e last below)
   | inl more ↦
       let w = some_at waits (length waits - 1) (omega arith) in
       let by = told_back places slots waits (length waits - 1) w.0 h w.1 in
       let new = told w.0 (out.last more ∙ w.1) (stands w.0.waiter places by.0 by.2) in
       let one : new.0 ≡ by.0 = one_number w.0.waiter places new.0 by.0 h.rising new.1 by.2 in
-      subst (λ (ss : List ℕ). AreMended slots i k (length waits) ss) (sym new.2)
+      rw new.2
       (mended_moved places slots waits i k new.0 h e more below
       (omega (arith, slice_get_within places new.0 w.0.waiter new.1, h.one_each))
       (ap (λ (m : ℕ). get_or slots m 0) one ∙ (by.1 ∙ omega arith)))

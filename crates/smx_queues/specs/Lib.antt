@@ -3,5 +3,6 @@ pub mod Chains
 pub mod Slots
 pub mod PlaceLists
 pub mod FlowTables
+pub mod QueuedMessages
 pub mod PlaceMarks
 pub mod Waiters

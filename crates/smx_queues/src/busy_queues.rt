@@ -1,15 +1,12 @@
 //! The queues of places, and which of them have messages.
 
-ghost use Rattle.std.specs.Prelude.{◌≡◌, ◌≢◌, ◌+◌, ◌<◌, ◌≤◌, [], ◌∷◌, ◌++◌, false, length, map, nat_lt, vec_capacity};
-ghost use Rattle.std.specs.Prelude.{◌==◌, ◌&&◌, not};
-ghost use Rattle.std.specs.Prelude.{Some, None, IfOk, IfNone, OnOk, OnSome, option_copied, slice_get};
-ghost use Rattle.std.specs.Prelude.{slice_index_or, slice_set};
+ghost use Rattle.std.specs.Prelude.{◌≡◌, ◌≢◌, ◌<◌, ◌≤◌, ◌==◌, ◌&&◌, [], ◌∷◌, ◌++◌, false, not, length, nat_lt};
+ghost use Rattle.std.specs.Prelude.{Some, None, IfOk, IfNone, OnOk, OnSome, slice_get, slice_index_or, slice_set};
 ghost use Rattle.smx_types.specs.declared.message.Message.{Message};
 ghost use Rattle.smx_queues.specs.QueueTable.{emptied, empty_queue, queue_at, with_arrival, with_queue};
 ghost use Rattle.smx_queues.specs.QueueTable.{without_front, IsPlace};
-ghost use Rattle.smx_queues.specs.Slots.{busy_byte, has_messages, is_marked, message_total, IsLeastFrom};
+ghost use Rattle.smx_queues.specs.Slots.{busy_byte, has_messages, IsLeastFrom};
 
-use crate::messages::Messages;
 use crate::queues::{PlaceId, Queues};
 use memchr::memchr;
 use smx_types::{Message, NoMemory};
@@ -69,24 +66,11 @@ impl BusyQueues {
         Ok(())
     }
 
-    pub fn len(&self) -> usize
-        ensures { result ≡ message_total self.now.queues }
+    // The queues, to be read.
+    pub fn queues(&self) -> &Queues
+        ensures { result.now ≡ self.now }
     {
-        self.queues.len()
-    }
-
-    pub fn is_full(&self, p: PlaceId) -> bool
-        requires { IsPlace self.now.queues p }
-        ensures { result ≡ (queue_at self.now.queues p).full }
-    {
-        self.queues.is_full(p)
-    }
-
-    pub fn front(&self, p: PlaceId) -> Option<&Message>
-        requires { IsPlace self.now.queues p }
-        ensures { option_copied result ≡ slice_get (queue_at self.now.queues p).messages 0 }
-    {
-        self.queues.front(p)
+        &self.queues
     }
 
     pub fn has_messages(&self, p: PlaceId) -> bool
@@ -103,20 +87,6 @@ impl BusyQueues {
             ≡ ((length (queue_at self.now.queues p).messages == 1) && not (queue_at self.now.queues p).full) }
     {
         self.queues.message_count(p) == 1 && !self.queues.is_full(p)
-    }
-
-    pub fn messages(&self, p: PlaceId) -> Messages<'_>
-        requires { IsPlace self.now.queues p }
-        ensures { result ≡ (queue_at self.now.queues p).messages }
-    {
-        self.queues.messages(p)
-    }
-
-    // No messages, of any place.
-    pub fn no_messages(&self) -> Messages<'_>
-        ensures { result ≡ [] }
-    {
-        self.queues.no_messages()
     }
 
     pub fn reserve_one(&mut self) -> Result<(), NoMemory>
@@ -167,18 +137,6 @@ impl BusyQueues {
         set_busy(&self.queues, &mut self.busy, to);
     }
 
-    // The serials of the messages at the place come behind those of a list that has room for them.
-    pub fn add_serials(&self, p: PlaceId, serials: &mut Vec<u32>)
-        requires place { IsPlace self.now.queues p }
-        requires room { length serials.old.items + length (queue_at self.now.queues p).messages
-            ≤ vec_capacity serials.old }
-        ensures added { serials.new.items
-            ≡ serials.old.items ++ map (λ m. m.serial) (queue_at self.now.queues p).messages }
-        ensures capacity { vec_capacity serials.new ≡ vec_capacity serials.old }
-    {
-        self.queues.add_serials(p, serials);
-    }
-
     pub fn clear(&mut self, p: PlaceId)
         requires { IsPlace self.old.queues p }
         ensures cleared { self.new.queues
@@ -200,13 +158,6 @@ impl BusyQueues {
             Some(i) => Some(start + i),
             None => None,
         }
-    }
-
-    /// The least number from this one on of a place that is full, if there is one.
-    pub fn full_from(&self, start: PlaceId) -> Option<PlaceId>
-        ensures { IsLeastFrom is_marked self.now.queues start result }
-    {
-        self.queues.full_from(start)
     }
 
     pub fn copy(&self, alloc: Global) -> Result<BusyQueues, NoMemory>

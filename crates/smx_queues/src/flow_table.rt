@@ -1,7 +1,7 @@
 //! The queued messages and full marks of all places, by place.
 
-ghost use Rattle.std.specs.Prelude.{◌≡◌, ◌≢◌, ◌+◌, ◌<◌, ◌≤◌, ◌++◌, [], false, true, length, map, vec_capacity, None, Some};
-ghost use Rattle.std.specs.Prelude.{◌==◌, ◌&&◌, not, option_copied, IfOk, IfNone, IsSome, OnOk, OnSome};
+ghost use Rattle.std.specs.Prelude.{◌≡◌, ◌≢◌, ◌+◌, ◌<◌, ◌≤◌, ◌++◌, [], false, true, length, map, vec_capacity};
+ghost use Rattle.std.specs.Prelude.{None, Some, ◌==◌, ◌&&◌, not, option_copied, IfOk, IfNone, IsSome, OnOk, OnSome};
 ghost use Rattle.std.specs.List.{All, list_any};
 ghost use Rattle.std.specs.Option.{is_some};
 ghost use Rattle.smx_types.specs.declared.message.Message.{Message};
@@ -13,7 +13,7 @@ ghost use Rattle.smx_model.specs.Queues.{first_message, queue};
 ghost use Rattle.smx_queues.specs.FlowTables.{after_arrival, after_leaving, fronts, without_place};
 
 use crate::busy_queues::BusyQueues;
-use crate::fronts::Fronts;
+use crate::first_messages::FirstMessages;
 use crate::full_places::FullPlaces;
 use crate::places::Places;
 use crate::queued_messages::QueuedMessages;
@@ -72,7 +72,7 @@ impl FlowTable {
     pub fn len(&self) -> usize
         ensures { result ≡ length self.now.flow }
     {
-        self.queues.len()
+        self.queues.queues().len()
     }
 
     /// Whether the place is marked as full. Takes no memory.
@@ -80,7 +80,7 @@ impl FlowTable {
         ensures { result ≡ list_any (same_place place) self.now.fulls }
     {
         match self.places.number(place) {
-            Some(p) => self.queues.is_full(p),
+            Some(p) => self.queues.queues().is_full(p),
             None => false,
         }
     }
@@ -113,7 +113,7 @@ impl FlowTable {
     {
         the_first_leaves();
         match self.places.number(place) {
-            Some(p) => self.queues.front(p),
+            Some(p) => self.queues.queues().front(p),
             None => None,
         }
     }
@@ -175,19 +175,19 @@ impl FlowTable {
         ensures capacity { vec_capacity dropped.new ≡ vec_capacity dropped.old }
     {
         if let Some(p) = self.places.number(place) {
-            self.queues.add_serials(p, dropped);
+            self.queues.queues().add_serials(p, dropped);
             self.queues.clear(p);
         }
     }
 
     /// The first message of each place that has any, in order of place. Takes no memory.
-    pub fn fronts(&self) -> Fronts<'_>
+    pub fn fronts(&self) -> FirstMessages<'_>
         ensures fronts { result ≡ fronts self.now.flow }
         ensures first { All (λ h. first_message self.now.flow h.place ≡ Some h.message) (fronts self.now.flow) }
         ensures all { (p : PlaceValue) → first_message self.now.flow p ≢ None
             → list_any (λ h. same_place h.place p) (fronts self.now.flow) ≡ true }
     {
-        Fronts::new(&self.places, &self.queues)
+        FirstMessages::new(&self.places, &self.queues)
     }
 
     /// All messages, in order of place. Takes no memory.

@@ -48,9 +48,9 @@ impl<'a> FullPlaces<'a> {
     pub fn next(&mut self) -> Option<Place>
         ensures { YieldsFirstBy (λ item. item) (λ rest. rest) self.old result self.new }
     {
-        let _count = self.places.len();
-        let p = self.queues.full_from(self.next)?;
+        let p = self.queues.queues().full_from(self.next)?;
+        let place = self.places.at(p);
         self.next = p + 1;
-        Some(self.places.at(p))
+        Some(place)
     }
 }

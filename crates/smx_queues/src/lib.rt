@@ -3,13 +3,13 @@
 
 mod busy_queues;
 mod chain;
+mod first_messages;
 mod flow_table;
-mod fronts;
 mod full_places;
 mod marked_places;
-mod messages;
 mod node;
 mod place_marks;
+mod place_messages;
 mod places;
 mod queued;
 mod queued_messages;
@@ -17,12 +17,12 @@ mod queues;
 mod span;
 mod waiters;
 
+pub use first_messages::FirstMessages;
 pub use flow_table::FlowTable;
-pub use fronts::Fronts;
 pub use full_places::FullPlaces;
 pub use marked_places::MarkedPlaces;
-pub use messages::Messages;
 pub use place_marks::PlaceMarks;
+pub use place_messages::PlaceMessages;
 pub use queued::Queued;
 pub use queued_messages::QueuedMessages;
 pub use queues::{PlaceId, Queues};

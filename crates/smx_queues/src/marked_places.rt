@@ -69,9 +69,9 @@ impl<'a> MarkedPlaces<'a> {
     pub fn next(&mut self) -> Option<Place>
         ensures { YieldsFirstBy (λ item. item) (λ rest. rest) self.old result self.new }
     {
-        let _count = self.places.len();
         let p = first_one(self.bytes, self.next, self.end)?;
+        let place = self.places.at(p);
         self.next = p + 1;
-        Some(self.places.at(p))
+        Some(place)
     }
 }

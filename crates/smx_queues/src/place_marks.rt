@@ -138,7 +138,7 @@ impl PlaceMarks {
     pub fn first(&self) -> Option<Place>
         ensures { IsFirstMark self.now result }
     {
-        let _places = &self.places;
+        self.places.rise();
         self.marked().next()
     }
 

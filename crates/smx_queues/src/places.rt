@@ -1,7 +1,7 @@
 //! The places of all streams that some drivers have.
 
-ghost use Rattle.std.specs.Prelude.{◌≡◌, ◌≤◌, ◌++◌, ◌<◌, false, Some, IfOk, OnOk, IfSome, IsSome, IfNone, length};
-ghost use Rattle.std.specs.Prelude.{slice_get, slice_index_or};
+ghost use Rattle.std.specs.Prelude.{◌≡◌, ◌≤◌, ◌++◌, ◌<◌, ◌+◌, ◌^◌, false, Some, IfOk, OnOk, IfSome, IsSome, IfNone};
+ghost use Rattle.std.specs.Prelude.{length, slice_get, slice_index_or};
 ghost use Rattle.std.specs.List.{list_any};
 ghost use Rattle.smx_model.specs.Configuration.{place_before, same_place, side_number};
 ghost use Rattle.smx_model.specs.DriverList.{high_of, low_of, minors_of, IsDriverList};
@@ -129,14 +129,16 @@ impl Places {
         }
         let firsts: &[usize] = &self.firsts;
         let places: &[Place] = &self.places;
+        // Its bound is one of the sum below.
         let _count = places.len();
         Some(first_of(firsts, driver) + 2 * minor as usize + side_number(place.side))
     }
 
-    /// The place of a number.
+    /// The place of a number. There is a next number.
     pub fn at(&self, number: usize) -> Place
         requires { number < length self.now.places }
-        ensures { slice_get self.now.places number ≡ Some result }
+        ensures place { slice_get self.now.places number ≡ Some result }
+        ensures few { number + 1 < 2 ^ 64 }
     {
         self.places[number]
     }
@@ -158,6 +160,7 @@ impl Places {
     pub fn rise(&self)
         ensures { IsRising place_before self.now.places }
     {
+        // Opens the invariant.
         let _places = &self.places;
     }
 

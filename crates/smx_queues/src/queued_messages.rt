@@ -2,10 +2,11 @@
 
 ghost use Rattle.std.specs.Prelude.{◌≡◌};
 ghost use Rattle.std.specs.Iterator.{YieldsFirstBy};
+ghost use Rattle.smx_queues.specs.QueuedMessages.{queued_message};
 ghost use Rattle.smx_queues.specs.FlowTables.{flow_of, IsFlow};
 
 use crate::busy_queues::BusyQueues;
-use crate::messages::Messages;
+use crate::place_messages::PlaceMessages;
 use crate::places::Places;
 use crate::queued::Queued;
 use smx_types::{Place, Side, StreamId};
@@ -18,7 +19,7 @@ pub struct QueuedMessages<'a> {
     queues: &'a BusyQueues,
     // The place that is looked at, and what is left there.
     place: Place,
-    left: Messages<'a>,
+    left: PlaceMessages<'a>,
     // The number of the next place to look at.
     next: usize,
 }
@@ -52,7 +53,7 @@ impl<'a> QueuedMessages<'a> {
                 stream,
                 side: Side::Write,
             },
-            left: queues.no_messages(),
+            left: queues.queues().no_messages(),
             next: 0,
         }
     }
@@ -61,7 +62,7 @@ impl<'a> QueuedMessages<'a> {
 impl<'a> QueuedMessages<'a> {
     /// The next one, if any is left. Takes no memory.
     pub fn next(&mut self) -> Option<Queued<'a>>
-        ensures { YieldsFirstBy (λ item. record { place = item.place; message = item.message.now }) (λ rest. rest) self.old result self.new }
+        ensures { YieldsFirstBy queued_message (λ rest. rest) self.old result self.new }
     {
         if let Some(message) = self.left.next() {
             return Some(Queued {
@@ -69,10 +70,9 @@ impl<'a> QueuedMessages<'a> {
                 message,
             });
         }
-        let _count = self.places.len();
         let p = self.queues.filled_from(self.next)?;
         self.place = self.places.at(p);
-        self.left = self.queues.messages(p);
+        self.left = self.queues.queues().messages(p);
         self.next = p + 1;
         let message = self.left.next()?;
         Some(Queued {

@@ -150,6 +150,7 @@ impl Queues {
             ≡ with_queue self.old.queues p (with_arrival (queue_at self.old.queues p) message) }
         ensures spare { self.old.spare ≡ self.new.spare + 1 }
     {
+        // Opens the invariant: a place that is open has few bytes.
         let _chains = &self.chains;
         let (message, size) = sized(message);
         self.append(p, message, size);
@@ -169,6 +170,7 @@ impl Queues {
     {
         let chain = self.chains[p];
         let key = self.nodes.insert_reserved(Node { message, next: 0 });
+        // No place has more messages.
         let _count = self.nodes.len();
         follow(&mut self.nodes, chain, key);
         self.chains[p].add_last(key, size);
@@ -211,6 +213,7 @@ impl Queues {
         let node = &self.nodes[source.first];
         let size = node.message.bytes.as_slice().len();
         let next = node.next;
+        // No place has more messages.
         let _count = self.nodes.len();
         self.chains[from].drop_first(next, size);
         let target = self.chains[to];

@@ -57,7 +57,8 @@ fn with_room(alloc: Global, waits: &[Wait], room: usize) -> Result<Vec<Wait>, No
 // The slot of the place that waits at this index, if there is one, tells the index.
 fn tell_index(places: &Places, waits: &[Wait], slots: &mut [usize], index: usize)
     requires many { length slots.old ≡ length places.now.places }
-    ensures told { (w : WaitValue) → slice_get waits.now index ≡ Some w → list_any (same_place w.waiter) places.now.places ≡ true
+    ensures told { (w : WaitValue) → slice_get waits.now index ≡ Some w
+        → list_any (same_place w.waiter) places.now.places ≡ true
         → IsTold places.now.places w.waiter index slots.old slots.new }
     ensures end { slice_get waits.now index ≡ None → slots.new ≡ slots.old }
 {

@@ -55,23 +55,6 @@ was_done (Ok x) is done = done
 was_done (Err e) is done = absurd cc
 
 module _ {K : Type 0} (told : Version → List DriverSpec → List Entry → K → Type 0) where
-  -- where drivers came alone, nothing was asked
-  pub begun : (lists : ProgramLists) (version : Version) (drivers : List DriverSpec)
-      (result : Result (Recording K) RunFault) → lists.version ≡ version → drivers ≡ lists.drivers → lists.programs ≡ []
-      → IfOk result (λ a. (a.config.drivers ≡ drivers) × IsDriverList drivers)
-      → IfOk result (λ a. HasRecorded (told version) a.recorder a.config []) → IfErr result (RefusesAlone drivers)
-      → IfOk result (IsRecordingOf told lists) × IfErr result (RefusesAlone lists.drivers)
-  begun lists version drivers (Ok a) of same none had recorded refused = (
-    record {
-      can_be_had = subst IsDriverList same had.1;
-      drivers = had.0 ∙ same;
-      recorded = rw (of, none) recorded;
-    },
-    tt,
-  )
-  begun lists version drivers (Err e) of same none had recorded refused =
-      (tt, subst (λ (ds : List DriverSpec). RefusesAlone ds e) same refused)
-
   -- with one program more, which has no command yet
   pub of_next : (lists : ProgramLists) (a b : Recording K) → IsRecordingOf told lists a → b.config ≡ a.config
       → b.recorder ≡ a.recorder → IsRecordingOf told (with_program lists) b

@@ -7,4 +7,3 @@ pub mod ProgramOrderLemmas
 pub mod RecordingLemmas
 pub mod RunLemmas
 pub mod StopLemmas
-pub mod Walks

@@ -21,7 +21,7 @@ use Rattle.smx_config.specs.Machine.{Machine}
 use Rattle.smx_shared.specs.Recorded.{Recorded, IsSoundSystem}
 use Rattle.smx_run.specs.Desks.{HasRecorded}
 use Rattle.smx_run.specs.ProgramOrder.{calls_of, calls_from}
-use Rattle.smx_run.specs.RecordedRuns.{IsRecordOf, IsRecordOfRun, run_of}
+use Rattle.smx_run.specs.RecordedRuns.{IsRecordOf, IsRecordOfRun, KeepsAll, run_of}
 use Rattle.smx_run.specs.RunFaults.{RefusesAlone, RefusesRun}
 use Rattle.smx_run.specs.declared.run_fault.RunFault.{RunFault}
 use Rattle.smx_run.specs.declared.run_fault.RunFault.TheVariants as run
@@ -56,12 +56,6 @@ within programs es few calls =
     let same : length (map call_of es) ≡ length
     (calls_from 0 programs.programs) = ap (λ (cs : List (ℕ × Command)). length cs) calls in
     omega (arith, same, length-map es call_of, counted 0 programs.programs, few.commands)
-
--- want of memory is answered only for drivers that can be had
-pub memory_refused : {T : Type 0} (drivers : List DriverSpec) (result : Result T RunFault)
-    → IsErrAnd result (λ e. e ≡ run.NoMemory) → IsDriverList drivers → IfErr result (RefusesAlone drivers)
-memory_refused drivers (Ok x) is can = tt
-memory_refused drivers (Err e) is can = subst (RefusesAlone drivers) (sym is) can
 
 -- a run of several workers is refused for whatever a run on one thread is
 pub alone_refuses : (drivers : List DriverSpec) (fault : RunFault) → RefusesAlone drivers fault
@@ -101,9 +95,7 @@ record_of told lawful drops programs recorder m shown few can same h is =
 -- a recorder that keeps all that it is told has the report
 pub kept_all : (programs : ProgramLists) (version : Version) (drivers : List DriverSpec) (entries : List Entry)
     (shown : ConfigView)
-    → IsRecordOf programs
-    (λ (v : Version) (ds : List DriverSpec) (es : List Entry) (k : Version × List DriverSpec × List Entry). k
-    ≡ (v, ds, es)) (version, drivers, entries) shown
+    → IsRecordOf programs KeepsAll (version, drivers, entries) shown
     → (version ≡ programs.version) × IsReportOf programs
     (record { version = version; drivers = drivers; entries = entries; view = shown })
     × (map call_of entries ≡ calls_from 0 programs.programs) × (length entries ≤ MAX_COMMANDS)

@@ -1,16 +1,13 @@
 -- Commands that are performed after one another.
-use Rattle.std.proofs.Common.{◌≡◌, ℕ, List, [], ◌++◌, map, sym, ap, subst, ◌∙◌, refl, append_assoc}
+use Rattle.std.proofs.Common.{◌≡◌, ℕ, List, [], ◌++◌, map, sym, ap, ◌∙◌, refl, append_assoc}
 use Rattle.std.proofs.lemmas.List.{append-nil, map-append}
 use Rattle.smx_types.specs.declared.command.Command.{Command}
 use Rattle.smx_types.specs.declared.command.Entry.{Entry}
-use Rattle.smx_types.specs.declared.driver.DriverSpec.{DriverSpec}
-use Rattle.smx_types.specs.declared.version.Version.{Version}
 use Rattle.smx_model.specs.Histories.{call_of}
 use Rattle.smx_shared.specs.Seats.{Known}
 use Rattle.smx_run.specs.ProgramOrder.{calls_of}
-use Rattle.smx_run.specs.Desks.{HasRecorded, PerformedAlone, PerformedRecording, PerformedSeated}
+use Rattle.smx_run.specs.Desks.{PerformedAlone, PerformedSeated}
 use Rattle.smx_run.specs.declared.desk.Alone.{Alone}
-use Rattle.smx_run.specs.declared.recording.Recording.{Recording}
 use Rattle.smx_run.specs.declared.desk.SeatDesk.{SeatDesk}
 
 -- the calls of two lists of commands, one after the other
@@ -61,25 +58,4 @@ seated_more known a b c xs ys p q = record {
   process = q.process ∙ p.process;
   calls = calls_then (map call_of (known a.seat).own) (map call_of (known b.seat).own) (map call_of (known c.seat).own)
       (known a.seat).process (known b.seat).process xs ys p.process p.calls q.calls;
-}
-
--- the same with a recorder
-pub recording_none : {K : Type 0} (told : Version → List DriverSpec → List Entry → K → Type 0) → (a : Recording K)
-    → PerformedRecording told a [] a
-recording_none told a = record {
-  process = refl;
-  drivers = refl;
-  more = λ version asked h. subst (HasRecorded (told version) a.recorder a.config) (sym (append-nil asked)) h;
-}
-
--- the same with a recorder
-pub recording_more : {K : Type 0} (told : Version → List DriverSpec → List Entry → K → Type 0)
-    → (a b c : Recording K) (xs ys : List Command) → PerformedRecording told a xs b → PerformedRecording told b ys c
-    → PerformedRecording told a (xs ++ ys) c
-recording_more told a b c xs ys p q = record {
-  process = q.process ∙ p.process;
-  drivers = q.drivers ∙ p.drivers;
-  more = λ version asked h. subst (HasRecorded (told version) c.recorder c.config)
-      (calls_then asked _ _ a.process b.process xs ys p.process refl refl)
-      (q.more version (asked ++ calls_of a.process xs) (p.more version asked h));
 }

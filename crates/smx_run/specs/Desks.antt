@@ -21,6 +21,10 @@ pub record StopsAmong {S : Type 0} (performed : S → List Command → S → Typ
   pub all : done ++ next ∷ left ≡ commands
   pub came : performed a done b
 
+-- the commands are kept, and stand behind those that were kept before
+abbrev pub KeepsBehind : List Command → List Command → List Command → Type 0
+KeepsBehind before commands after = after ≡ before ++ commands
+
 -- as far as the history was seen, it has as many entries as it may
 abbrev pub KnowsItFull : Known → Type 0
 KnowsItFull k = length k.seen ≡ k.limit

@@ -30,6 +30,18 @@ pub record HasEnded (k : Known) (front : Front) : Type 0 where
   pub exact : k.own ≡ entries_of k.process k.seen
   pub numbers : IsFrontOf front k.drivers k.seen
 
+-- a process is to be run, with a seat of some door, with which nothing was called yet
+abbrev pub BeginsWith : {S : Type 0} → (S → Type 0) → (S → Known) → SeatedProgram S → Type 0
+BeginsWith is_seat known job = is_seat job.seat × ((known job.seat).own ≡ [])
+
+-- a process has ended, with a seat of some door
+abbrev pub EndsWith : {S : Type 0} → (S → Type 0) → (S → Known) → EndedProgram S → Type 0
+EndsWith is_seat known done = is_seat done.seat × HasEnded (known done.seat) done.front
+
+-- some seat of a door has seen the history full
+abbrev pub SomeKnowsItFull : {S : Type 0} → (S → Type 0) → (S → Known) → Type 0
+SomeKnowsItFull {S = S} is_seat known = (seat : S) × is_seat seat × KnowsItFull (known seat)
+
 -- what a seat of a shared system knows
 abbrev pub known_at : Seated → Known
 known_at seat = seat.known
@@ -61,6 +73,15 @@ EndsAt name done = (done.seat.shared ≡ name) × HasEnded done.seat.known done.
 -- all processes of a hand have
 abbrev pub HaveEnded : {A : Type 0} → SharedId → Vec (EndedProgram Seated) A → Type 0
 HaveEnded name hand = All (EndsAt name) hand.items
+
+-- all processes of all hands have
+abbrev pub AllHaveEnded : {A B : Type 0} → SharedId → Vec (Vec (EndedProgram Seated) A) B → Type 0
+AllHaveEnded name hands = All (HaveEnded name) hands.items
+
+-- and each hand has called what it was to call
+abbrev pub AreCalled : {A B : Type 0} → Vec (Vec (SeatedProgram Seated) A) B → Vec (Vec (EndedProgram Seated) A) B
+    → Type 0
+AreCalled given ended = map called_hand ended.items ≡ map given_hand given.items
 
 -- the processes of one worker of so many: those whose number modulo that many is its own, in their order
 abbrev pub hand_of : ℕ → List Calls → ℕ → List Calls

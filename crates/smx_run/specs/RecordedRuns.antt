@@ -31,6 +31,10 @@ pub record IsRecordOfRun (programs : ProgramLists) {K : Type 0}
       (record { version = programs.version; drivers = programs.drivers; entries = entries; view = view })
   pub few : length entries ≤ MAX_COMMANDS
 
+-- a recorder that keeps all that it is told, and nothing else
+abbrev pub KeepsAll : Version → List DriverSpec → List Entry → Version × List DriverSpec × List Entry → Type 0
+KeepsAll version drivers entries recorder = recorder ≡ (version, drivers, entries)
+
 -- what a run is of
 abbrev pub run_of : Version → List DriverSpec → List (List Command) → ProgramLists
 run_of version drivers programs = record { version = version; drivers = drivers; programs = programs }

@@ -41,7 +41,8 @@ pub trait Desk {
 
     ghost performed_none: { (a : Self) → performed a [] a };
 
-    ghost performed_more: { (a b c : Self) (xs ys : List Asked) → performed a xs b → performed b ys c → performed a (xs ++ ys) c };
+    ghost performed_more: { (a b c : Self) (xs ys : List Asked)
+        → performed a xs b → performed b ys c → performed a (xs ++ ys) c };
 }
 
 /// At a system that nobody shares. Its history keeps the commands.

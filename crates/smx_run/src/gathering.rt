@@ -1,6 +1,7 @@
 //! A report of a system, once its history bears out what its callers were answered.
 
-ghost use Rattle.std.specs.Prelude.{◌≡◌, ◌≤◌, ◌<◌, ◌↔◌, ℕ, List, [], ◌∷◌, ◌++◌, All, length, IsTrue, IfOk, IfSome, IfNone, Err, None, Some, replicate, slice_index_or};
+ghost use Rattle.std.specs.Prelude.{◌≡◌, ◌≤◌, ◌<◌, ◌↔◌, ℕ, List, [], ◌∷◌, ◌++◌, All, length, replicate};
+ghost use Rattle.std.specs.Prelude.{slice_index_or, IsTrue, IfOk, IfSome, IfNone, Err, None, Some};
 ghost use Rattle.smx_types.specs.declared.limits.TheConstants.{MAX_PROCESSES};
 ghost use Rattle.smx_types.specs.declared.command.Entry.{Entry as Made};
 ghost use Rattle.smx_shared.specs.Seats.{entries_of};
@@ -68,7 +69,8 @@ pub fn find_strange(history: &[Entry], transcripts: &[Entries]) -> Option<Proces
 
 // Of the transcript of each process, how many entries the history has, or None where it has others.
 fn meet_all(history: &[Entry], transcripts: &[Entries]) -> [Option<usize>; PROCESSES]
-    ensures met { (p : ℕ) → p < MAX_PROCESSES → IsMet (slice_index_or transcripts.now p []) (entries_of p history.now) (slice_index_or result p None) }
+    ensures met { (p : ℕ) → p < MAX_PROCESSES
+        → IsMet (slice_index_or transcripts.now p []) (entries_of p history.now) (slice_index_or result p None) }
     ensures counted { length result ≡ MAX_PROCESSES }
     ensures processes { All (λ e. e.process < MAX_PROCESSES) history.now }
 {

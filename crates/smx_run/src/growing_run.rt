@@ -10,14 +10,14 @@ ghost use Rattle.smx_run.specs.RunFaults.{RefusesAlone};
 ghost use Rattle.smx_run.specs.declared.growing_run.Stage.TheVariants as stage;
 ghost use Rattle.smx_run.specs.declared.run_fault.RunFault.TheVariants as run;
 
-use crate::came::Came;
 use crate::gate::Gate;
+use crate::past::Past;
 use crate::recorder::NewRecorder;
 use crate::recording::Recording;
 use crate::run_fault::RunFault;
 use smx_model::laws::lawful_after_each_entry;
 use smx_model::laws_of_messages::few_commands_drop;
-use smx_types::{Command, ConfigView, DriverSpec, Drivers, NoMemory, Process, Version};
+use smx_types::{Command, ConfigView, DriverSpec, Drivers, NoMemory, Process, Programs, Version};
 use std::alloc::Global;
 use std::marker::Model;
 use std::mem::replace;
@@ -44,7 +44,7 @@ pub struct GrowingRun<K: NewRecorder> {
     processes: u32,
     // How many commands of the last process came.
     commands: usize,
-    came: Came,
+    came: Past<Programs>,
 }
 
 impl<K: NewRecorder> Model for GrowingRun<K> {
@@ -53,9 +53,9 @@ impl<K: NewRecorder> Model for GrowingRun<K> {
 
     ghost Value = { ProgramLists };
 
-    ghost view = { λ g. g.came.lists };
+    ghost view = { λ g. g.came.value };
 
-    ghost invariant = { λ g. IsRunOf K.told g.came.lists g.version g.processes g.stage };
+    ghost invariant = { λ g. IsRunOf K.told g.came.value g.version g.processes g.stage };
 }
 
 impl<K: NewRecorder> GrowingRun<K> {
@@ -69,7 +69,7 @@ impl<K: NewRecorder> GrowingRun<K> {
             stage: Stage::Gathering(Drivers::new(alloc), room),
             processes: 0,
             commands: 0,
-            came: Came::new(&version),
+            came: Past::new(&version),
         }
     }
 
@@ -87,7 +87,7 @@ impl<K: NewRecorder> GrowingRun<K> {
         ensures came { OnOk result (self.new ≡ with_driver self.old driver) }
         ensures kept { OnErr result (self.new ≡ self.old) }
     {
-        let came = self.came.then(&driver);
+        let came = Past::new(&(&self.came, &driver));
         match &mut self.stage {
             Stage::Gathering(drivers, _) => drivers.push(driver)?,
             Stage::Running(_) | Stage::Failed(_) => unreachable!(),
@@ -107,7 +107,7 @@ impl<K: NewRecorder> GrowingRun<K> {
         self.stage = at_process(self.alloc, self.version, stage, process);
         self.processes += 1;
         self.commands = 0;
-        self.came = self.came.then(&process);
+        self.came = Past::new(&self.came);
     }
 
     /// The next command of the last process, which is performed, and the gate is told of it, unless something failed
@@ -136,7 +136,7 @@ impl<K: NewRecorder> GrowingRun<K> {
     {
         self.stage.perform(gate, self.commands, command, line);
         self.commands = self.commands.saturating_add(1);
-        self.came = self.came.then(command);
+        self.came = Past::new(&(&self.came, command));
     }
 
     /// The recorder, which was told of each entry once its command was answered, and the view of the configuration at

@@ -1,8 +1,10 @@
 //! Which worker runs which process: process p is run by worker p modulo the number of workers.
 
-ghost use Rattle.std.specs.Prelude.{◌≡◌, ◌≢◌, ◌≤◌, ◌<◌, ℕ, [], ◌∷◌, ◌++◌, All, length, map, slice_index_or, vec_len, IfOk, OnOk};
+ghost use Rattle.std.specs.Prelude.{◌≡◌, ◌≢◌, ◌≤◌, ◌<◌, ℕ, [], ◌∷◌, ◌++◌, All, length, map, slice_index_or};
+ghost use Rattle.std.specs.Prelude.{vec_len, IfOk, OnOk};
 ghost use Rattle.std.specs.List.{range_with_len};
-ghost use Rattle.smx_run.specs.Hands.{called, known_at, given_hand, called_hand, hand_of, hands_of, AreFresh, EndsAt, HaveEnded, IsFresh};
+ghost use Rattle.smx_run.specs.Hands.{called, known_at, given_hand, called_hand, hand_of, hands_of};
+ghost use Rattle.smx_run.specs.Hands.{AreFresh, EndsAt, HaveEnded, IsFresh};
 ghost use Rattle.smx_shared.specs.Seats.{SharedId};
 ghost use Rattle.smx_run.specs.ProgramOrder.{calls_of, numbered};
 
@@ -21,7 +23,8 @@ pub fn deal<K: Keeper>(
 ) -> Result<Vec<Vec<SeatedProgram<Seat<K>>>>, NoMemory>
     requires workers { 1 ≤ workers }
     requires seats { map (λ s. s.known.process) seats.items ≡ range_with_len 0 (length programs) }
-    ensures fresh { IfOk result (λ v. (name : SharedId) → All (IsFresh name) seats.items → All (AreFresh name) v.items) }
+    ensures fresh { IfOk result (λ v. (name : SharedId)
+        → All (IsFresh name) seats.items → All (AreFresh name) v.items) }
     ensures dealt { IfOk result (λ v. map given_hand v.items ≡ hands_of workers (numbered 0 programs)) }
 {
     let mut hands = empty_hands(alloc, workers)?;
@@ -59,9 +62,11 @@ fn give<K: Keeper>(
 ) -> Result<(), NoMemory>
     requires workers { 1 ≤ vec_len hands.old }
     ensures workers { vec_len hands.new ≡ vec_len hands.old }
-    ensures fresh { OnOk result ((name : SharedId) → All (AreFresh name) hands.old.items → IsFresh name seat → All (AreFresh name) hands.new.items) }
+    ensures fresh { OnOk result ((name : SharedId)
+        → All (AreFresh name) hands.old.items → IsFresh name seat → All (AreFresh name) hands.new.items) }
     ensures given { OnOk result ((k : ℕ) → k < vec_len hands.old → slice_index_or (map given_hand hands.new.items) k []
-        ≡ slice_index_or (map given_hand hands.old.items) k [] ++ hand_of (vec_len hands.old) ((seat.known.process, calls_of seat.known.process commands) ∷ []) k) }
+        ≡ slice_index_or (map given_hand hands.old.items) k []
+        ++ hand_of (vec_len hands.old) ((seat.known.process, calls_of seat.known.process commands) ∷ []) k) }
 {
     let worker = Shared::<K>::process(&seat).get() as usize % hands.len();
     hands[worker].push(SeatedProgram { seat, commands })?;
@@ -97,9 +102,12 @@ fn take_first<K: Keeper>(
     requires worker { worker < vec_len hands.old }
     requires some { slice_index_or (map called_hand hands.old.items) worker [] ≢ [] }
     ensures workers { vec_len hands.new ≡ vec_len hands.old }
-    ensures first { slice_index_or (map called_hand hands.old.items) worker [] ≡ called known_at result ∷ slice_index_or (map called_hand hands.new.items) worker [] }
-    ensures ended { (name : SharedId) → All (HaveEnded name) hands.old.items → EndsAt name result × All (HaveEnded name) hands.new.items }
-    ensures others { (k : ℕ) → k ≢ worker → slice_index_or (map called_hand hands.new.items) k [] ≡ slice_index_or (map called_hand hands.old.items) k [] }
+    ensures first { slice_index_or (map called_hand hands.old.items) worker []
+        ≡ called known_at result ∷ slice_index_or (map called_hand hands.new.items) worker [] }
+    ensures ended { (name : SharedId)
+        → All (HaveEnded name) hands.old.items → EndsAt name result × All (HaveEnded name) hands.new.items }
+    ensures others { (k : ℕ) → k ≢ worker → slice_index_or (map called_hand hands.new.items) k []
+        ≡ slice_index_or (map called_hand hands.old.items) k [] }
 {
     hands[worker].remove(0)
 }

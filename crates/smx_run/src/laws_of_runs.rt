@@ -1,8 +1,7 @@
 //! Laws of what runs tell, each the contract of a function that does nothing: an example of each, and what is none.
 
-ghost use Rattle.std.specs.Prelude.{◌≡◌, ◌≤◌, ℕ, List, [], ◌∷◌, ◌++◌, length, map, true, false};
+ghost use Rattle.std.specs.Prelude.{◌≡◌, ◌≤◌, ℕ, List, [], ◌∷◌, length, map, true, false};
 ghost use Rattle.smx_types.specs.ProgramLists.{ProgramLists};
-ghost use Rattle.smx_types.specs.declared.command.Command.{Command};
 ghost use Rattle.smx_types.specs.declared.command.Entry.{Entry};
 ghost use Rattle.smx_types.specs.declared.driver.DriverSpec.{DriverSpec};
 ghost use Rattle.smx_types.specs.declared.limits.TheConstants.{MAX_COMMANDS};
@@ -14,11 +13,11 @@ ghost use Rattle.smx_model.specs.Worked.Common.{mux, ip, OpenClone, Dup, CloseAl
 ghost use Rattle.smx_model.specs.Worked.Reports.{copied, drivers, exited, opened, programs};
 ghost use Rattle.smx_config.specs.declared.config_fault.ConfigFault.TheVariants as config;
 ghost use Rattle.smx_shared.specs.WorkedCalls.{front, knows};
-ghost use Rattle.smx_run.specs.Desks.{KnowsItFull, StopsAmong};
+ghost use Rattle.smx_run.specs.Desks.{KeepsBehind, KnowsItFull, StopsAmong};
 ghost use Rattle.smx_run.specs.Fronts.{AreFrontsFrom};
 ghost use Rattle.smx_run.specs.Gathering.{IsLeastStrange};
 ghost use Rattle.smx_run.specs.ProgramOrder.{calls_from, BeginsCalls};
-ghost use Rattle.smx_run.specs.RecordedRuns.{IsRecordOf};
+ghost use Rattle.smx_run.specs.RecordedRuns.{IsRecordOf, KeepsAll};
 ghost use Rattle.smx_run.specs.RunFaults.{RefusesAlone, RefusesRun};
 ghost use Rattle.smx_run.specs.declared.run_fault.RunFault.{RunFault};
 ghost use Rattle.smx_run.specs.declared.run_fault.RunFault.TheVariants as run;
@@ -26,12 +25,18 @@ ghost use Rattle.smx_run.specs.declared.run_fault.RunFault.TheVariants as run;
 /// Two programs have two fronts, each of a beginning of the history that holds all commands of the program: none is
 /// left out or added, and none is earlier, past the end, or of another number of links.
 pub fn fronts_of_an_example()
-    ensures fronts { AreFrontsFrom drivers (opened ∷ exited ∷ copied ∷ []) 0 programs.programs (front 3 0 false ∷ front 2 0 true ∷ []) }
-    ensures not_one_less { AreFrontsFrom drivers (opened ∷ exited ∷ copied ∷ []) 0 programs.programs (front 3 0 false ∷ []) → ⊥ }
-    ensures not_one_more { AreFrontsFrom drivers (opened ∷ exited ∷ copied ∷ []) 0 programs.programs (front 3 0 false ∷ front 2 0 true ∷ front 3 0 false ∷ []) → ⊥ }
-    ensures not_earlier { AreFrontsFrom drivers (opened ∷ exited ∷ copied ∷ []) 0 programs.programs (front 2 0 false ∷ front 2 0 true ∷ []) → ⊥ }
-    ensures not_past_the_end { AreFrontsFrom drivers (opened ∷ exited ∷ copied ∷ []) 0 programs.programs (front 3 0 false ∷ front 4 0 true ∷ []) → ⊥ }
-    ensures not_with_a_link { AreFrontsFrom drivers (opened ∷ exited ∷ copied ∷ []) 0 programs.programs (front 3 1 false ∷ front 2 0 true ∷ []) → ⊥ }
+    ensures fronts { AreFrontsFrom drivers (opened ∷ exited ∷ copied ∷ []) 0 programs.programs
+        (front 3 0 false ∷ front 2 0 true ∷ []) }
+    ensures not_one_less { AreFrontsFrom drivers (opened ∷ exited ∷ copied ∷ []) 0 programs.programs
+        (front 3 0 false ∷ []) → ⊥ }
+    ensures not_one_more { AreFrontsFrom drivers (opened ∷ exited ∷ copied ∷ []) 0 programs.programs
+        (front 3 0 false ∷ front 2 0 true ∷ front 3 0 false ∷ []) → ⊥ }
+    ensures not_earlier { AreFrontsFrom drivers (opened ∷ exited ∷ copied ∷ []) 0 programs.programs
+        (front 2 0 false ∷ front 2 0 true ∷ []) → ⊥ }
+    ensures not_past_the_end { AreFrontsFrom drivers (opened ∷ exited ∷ copied ∷ []) 0 programs.programs
+        (front 3 0 false ∷ front 4 0 true ∷ []) → ⊥ }
+    ensures not_with_a_link { AreFrontsFrom drivers (opened ∷ exited ∷ copied ∷ []) 0 programs.programs
+        (front 3 1 false ∷ front 2 0 true ∷ []) → ⊥ }
 {}
 
 /// Drivers of which the second has the name of the first are refused for nothing else.
@@ -51,7 +56,8 @@ pub fn refusals_have_few_causes()
     ensures not_full { (drivers : List DriverSpec) → RefusesAlone drivers run.HistoryFull → ⊥ }
     ensures not_held { (drivers : List DriverSpec) → RefusesAlone drivers run.Held → ⊥ }
     ensures not_strange_alone { (drivers : List DriverSpec) (p : ℕ) → RefusesAlone drivers (run.Strange p) → ⊥ }
-    ensures no_more { (drivers : List DriverSpec) (fault : RunFault) → RefusesAlone drivers fault → RefusesRun drivers fault }
+    ensures no_more { (drivers : List DriverSpec) (fault : RunFault)
+        → RefusesAlone drivers fault → RefusesRun drivers fault }
 {}
 
 /// Two programs come one after the other, by rising number, each in its order. What was called of them begins with the
@@ -61,14 +67,15 @@ pub fn calls_of_an_example()
     ensures none_yet { BeginsCalls [] 0 programs.programs }
     ensures the_first { BeginsCalls ((0, OpenClone ip) ∷ []) 0 programs.programs }
     ensures not_the_last { BeginsCalls ((1, CloseAll) ∷ []) 0 programs.programs → ⊥ }
-    ensures no_more { BeginsCalls ((0, OpenClone ip) ∷ (0, Dup 0) ∷ (1, CloseAll) ∷ (1, CloseAll) ∷ []) 0 programs.programs → ⊥ }
+    ensures no_more { BeginsCalls ((0, OpenClone ip) ∷ (0, Dup 0) ∷ (1, CloseAll) ∷ (1, CloseAll) ∷ [])
+        0 programs.programs → ⊥ }
 {}
 
 /// Who performs commands in order has stopped before the last one, and not behind it, nor behind another one.
 pub fn stops_of_an_example()
-    ensures before_the_last { StopsAmong (λ (a : List Command) (done : List Command) (b : List Command). b ≡ a ++ done) [] (OpenClone ip ∷ Dup 0 ∷ []) (OpenClone ip ∷ []) }
-    ensures not_at_the_end { StopsAmong (λ (a : List Command) (done : List Command) (b : List Command). b ≡ a ++ done) [] (Dup 0 ∷ []) (Dup 0 ∷ []) → ⊥ }
-    ensures not_behind_another { StopsAmong (λ (a : List Command) (done : List Command) (b : List Command). b ≡ a ++ done) [] (OpenClone ip ∷ Dup 0 ∷ []) (Dup 0 ∷ []) → ⊥ }
+    ensures before_the_last { StopsAmong KeepsBehind [] (OpenClone ip ∷ Dup 0 ∷ []) (OpenClone ip ∷ []) }
+    ensures not_at_the_end { StopsAmong KeepsBehind [] (Dup 0 ∷ []) (Dup 0 ∷ []) → ⊥ }
+    ensures not_behind_another { StopsAmong KeepsBehind [] (OpenClone ip ∷ Dup 0 ∷ []) (Dup 0 ∷ []) → ⊥ }
 {}
 
 /// A history of one entry is known to be full where it may have one, and not where it may have two.
@@ -80,15 +87,16 @@ pub fn a_full_history_of_an_example()
 /// A process is strange whose entries are not its transcript, also one past the list; and no later one is answered.
 pub fn strange_processes_of_an_example()
     ensures strange { IsLeastStrange (opened ∷ exited ∷ copied ∷ []) ((opened ∷ copied ∷ []) ∷ []) 1 }
-    ensures not_borne_out { IsLeastStrange (opened ∷ exited ∷ copied ∷ []) ((opened ∷ copied ∷ []) ∷ (exited ∷ []) ∷ []) 1 → ⊥ }
+    ensures not_borne_out { IsLeastStrange (opened ∷ exited ∷ copied ∷ [])
+        ((opened ∷ copied ∷ []) ∷ (exited ∷ []) ∷ []) 1 → ⊥ }
     ensures not_later { IsLeastStrange (opened ∷ exited ∷ copied ∷ []) ((opened ∷ []) ∷ []) 1 → ⊥ }
 {}
 
 /// A recorder that keeps all that it is told has the version of the programs, and the drivers and the entries of a
 /// report, process by process; and what comes back with it is the view of that report.
 pub fn what_is_recorded()
-    ensures { (programs : ProgramLists) (version : Version) (drivers : List DriverSpec) (entries : List Entry) (view : ConfigView)
-        → IsRecordOf programs (λ (v : Version) (ds : List DriverSpec) (es : List Entry) (k : Version × List DriverSpec × List Entry). k ≡ (v, ds, es)) (version, drivers, entries) view
+    ensures { (programs : ProgramLists) (version : Version) (drivers : List DriverSpec) (entries : List Entry)
+        (view : ConfigView) → IsRecordOf programs KeepsAll (version, drivers, entries) view
         → (version ≡ programs.version)
         × IsReportOf programs (record { version = version; drivers = drivers; entries = entries; view = view })
         × (map call_of entries ≡ calls_from 0 programs.programs) × (length entries ≤ MAX_COMMANDS) }

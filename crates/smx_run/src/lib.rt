@@ -1,7 +1,6 @@
 //! A run of programs by many threads, and what comes of all of them: the report of one history.
 #![tactic(auto)]
 
-mod came;
 mod desk;
 mod gate;
 mod gathering;
@@ -10,7 +9,6 @@ mod hands;
 pub mod laws_of_runs;
 mod meeting;
 mod past;
-mod recorded_run;
 mod recorded_together;
 mod recorder;
 mod recording;
@@ -24,7 +22,6 @@ mod worker;
 pub use gate::{Gate, NoGate};
 pub use gathering::gather;
 pub use growing_run::GrowingRun;
-pub use recorded_run::run_recorded;
 pub use recorded_together::run_recorded_together;
 pub use recorder::{NewRecorder, Recorder};
 pub use report::Report;

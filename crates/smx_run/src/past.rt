@@ -1,38 +1,35 @@
-//! Entries that nobody keeps. It takes no memory, and its methods do nothing at run time.
+//! What is past, of which nobody keeps more than a proof does. It takes no memory, and does nothing at run time.
 
-ghost use Rattle.std.specs.Prelude.{◌≡◌, List};
+ghost use Rattle.std.specs.Prelude.{◌≡◌};
 ghost use Rattle.std.specs.Borrow.{ftrue};
-ghost use Rattle.smx_types.specs.declared.command.Entry.{Entry as Made};
 
-use std::marker::Model;
+use std::marker::{Model, PhantomData};
 
-/// Entries in order. A contract reads them as `entries`, and they exist in the proofs alone.
-#[derive(Debug, Drop)]
-pub struct Past {
-    pub ghost entries: { List Made },
+/// What a `T` would show, were it kept. A contract reads it as `value`, and it exists in the proofs alone.
+pub struct Past<T> {
+    of: PhantomData<T>,
+    pub ghost value: { T },
 }
 
-impl Model for Past {
+impl<T> Model for Past<T> {
     ghost also_owns = { λ _. ftrue };
 }
 
 // It owns nothing.
-unsafe impl Send for Past {}
+unsafe impl<T> Send for Past<T> {}
 
-impl Past {
-    /// The entries that the caller picks.
-    pub fn new<A>(_by: &A) -> Past
-        ghost entries: { List Made }
-        ensures { result.entries ≡ entries }
-    {
-        Past {}
+impl<T> Drop for Past<T> {
+    fn drop(self) {
+        let Self { of: _ } = self;
     }
+}
 
-    /// The entries that the caller picks, from what it passes.
-    pub fn then<A>(&self, _by: &A) -> Past
-        ghost entries: { List Made }
-        ensures { result.entries ≡ entries }
+impl<T> Past<T> {
+    /// The value that the caller picks. It may speak of what the caller passes.
+    pub fn new<A>(_by: &A) -> Past<T>
+        ghost value: { T }
+        ensures { result.value ≡ value }
     {
-        Past {}
+        Past { of: PhantomData }
     }
 }

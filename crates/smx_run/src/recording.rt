@@ -1,12 +1,9 @@
 //! A configuration that nobody shares, and the recorder that is told what becomes of it.
 
-ghost use Rattle.std.specs.Prelude.{◌≡◌, ◌≤◌, [], ◌∷◌, length, IfErr, IfOk, IfSome, OnOk};
-ghost use Rattle.smx_types.specs.declared.limits.TheConstants.{MAX_PROCESSES};
-ghost use Rattle.smx_types.specs.declared.version.Version.{Version as AnyVersion};
+ghost use Rattle.std.specs.Prelude.{◌≡◌, [], ◌∷◌, IfErr, IfOk, IfSome, OnOk};
 ghost use Rattle.smx_model.specs.DriverList.{IsDriverList};
 ghost use Rattle.smx_model.specs.Views.{view};
 ghost use Rattle.smx_run.specs.Desks.{HasRecorded, PerformedRecording};
-ghost use Rattle.smx_run.specs.ProgramOrder.{calls_from};
 ghost use Rattle.smx_run.specs.RunFaults.{RefusesAlone};
 
 use crate::gate::Gate;
@@ -14,9 +11,7 @@ use crate::recorder::{NewRecorder, Recorder};
 use crate::run_fault::RunFault;
 use smx_config::Config;
 use smx_model::laws::one_entry_more;
-use smx_types::{
-    Command, Commands, ConfigView, DriverSpec, NoMemory, Process, ProgramList, Version,
-};
+use smx_types::{Command, ConfigView, DriverSpec, NoMemory, Process, Version};
 use std::alloc::Global;
 
 /// Where the commands of one process after the other are performed. The recorder is told of each, with its process and
@@ -62,34 +57,6 @@ impl<K: Recorder> Recording<K> {
         let mut recording = self;
         recording.process = process;
         recording
-    }
-
-    /// Has each program performed to its end, in turn, from process 0 on. Fails only for want of memory.
-    pub fn run_all<G: Gate>(&mut self, programs: ProgramList, gate: &G) -> Result<(), NoMemory>
-        requires processes { length programs ≤ MAX_PROCESSES }
-        ensures drivers { OnOk result (self.new.config.drivers ≡ self.old.config.drivers) }
-        ensures calls { OnOk result ((version : AnyVersion) → HasRecorded (K.told version) self.old.recorder self.old.config []
-            → HasRecorded (K.told version) self.new.recorder self.new.config (calls_from 0 programs)) }
-    {
-        let mut number = 0;
-        for commands in programs.into_vec() {
-            self.process = Process::new(number).unwrap();
-            self.run(commands, gate)?;
-            number += 1;
-        }
-        Ok(())
-    }
-
-    // Has the commands of a program performed, in order, and tells the gate of each. Fails only for want of memory.
-    fn run<G: Gate>(&mut self, commands: Commands, gate: &G) -> Result<(), NoMemory>
-        ensures { OnOk result (PerformedRecording K.told self.old commands self.new) }
-    {
-        let mut number = 0;
-        for command in commands.into_vec() {
-            self.perform_at(gate, number, &command, None)?;
-            number += 1;
-        }
-        Ok(())
     }
 
     /// Performs the next command, which was read from this line, if it was read from one, and tells the gate before and

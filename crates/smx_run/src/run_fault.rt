@@ -10,8 +10,8 @@ use std::fmt;
 pub enum RunFault {
     /// A growth was refused, or a worker could not be started.
     NoMemory,
-    /// The entries of the process of this number in the history are not those that it was answered, or what came back
-    /// of the system has other drivers.
+    /// The entries of the process of this number in the history are not those that it was answered. No run is refused
+    /// for it, by the law `refusals_have_few_causes`.
     Strange(u32),
     /// There is no configuration of these drivers.
     ConfigFault(ConfigFault),

@@ -6,7 +6,7 @@ ghost use Rattle.smx_types.specs.declared.limits.TheConstants.{MAX_COMMANDS};
 use crate::past::Past;
 use crate::recorder::Recorder;
 use smx_shared::Keeper;
-use smx_types::{Entry, NoMemory};
+use smx_types::{Entries, Entry, NoMemory};
 use std::marker::{Brand, Model, PhantomData};
 
 /// Which version and which drivers a recorder was told of first. No value of it is made.
@@ -29,15 +29,15 @@ impl About for Brand {
     ghost drivers = { [] };
 }
 
-/// A recorder that is told of each entry as it is added; then the entry is given up. Where the recorder wants memory, that
-/// is given up too, and memory is wanting before the next command and at the end. Contracts see the entries so far, and
-/// whether the recorder is still there.
+/// A recorder that is told of each entry as it is added; then the entry is given up. Where the recorder wants memory,
+/// that is given up too, and memory is wanting before the next command and at the end. Contracts see the entries so far,
+/// and whether the recorder is still there.
 #[derive(Drop)]
 pub struct Scribe<A: About, K: Recorder> {
     // None once it wanted memory.
     recorder: Option<K>,
     count: usize,
-    told: Past,
+    told: Past<Entries>,
     of: PhantomData<A>,
 }
 
@@ -46,9 +46,9 @@ impl<A: About, K: Recorder> Model for Scribe<A, K> {
 
     ghost Value = { Scribed };
 
-    ghost view = { λ s. scribed_of s.told.entries s.recorder };
+    ghost view = { λ s. scribed_of s.told.value s.recorder };
 
-    ghost invariant = { λ s. IsScribe (K.told A.version A.drivers) s.recorder s.told.entries s.count };
+    ghost invariant = { λ s. IsScribe (K.told A.version A.drivers) s.recorder s.told.value s.count };
 }
 
 impl<A: About, K: Recorder> Scribe<A, K> {
@@ -77,7 +77,7 @@ impl<A: About, K: Recorder> Scribe<A, K> {
         requires few { length self.old.entries < MAX_COMMANDS }
         ensures { self.new.entries ≡ self.old.entries ++ entry.now ∷ [] }
     {
-        self.told = self.told.then(entry);
+        self.told = Past::new(&(&self.told, entry));
         self.count += 1;
         if let Some(recorder) = &mut self.recorder {
             let outcome = recorder.add(entry.process, &entry.command, &entry.reply);

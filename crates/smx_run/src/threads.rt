@@ -1,6 +1,7 @@
 //! Many workers, each on a thread of its own.
 
-ghost use Rattle.std.specs.Prelude.{◌≡◌, ◌≢◌, ◌≤◌, ◌⊎◌, List, [], ◌∷◌, ◌++◌, All, length, map, Err, IfOk, IfErr, IsErrOf};
+ghost use Rattle.std.specs.Prelude.{◌≡◌, ◌≢◌, ◌≤◌, ◌⊎◌, List, [], ◌∷◌, ◌++◌, All, length, map, Err};
+ghost use Rattle.std.specs.Prelude.{IfOk, IfErr, IsErrOf};
 ghost use Rattle.std.specs.List.{range_with_len};
 ghost use Rattle.smx_types.specs.declared.limits.TheConstants.{MAX_PROCESSES};
 ghost use Rattle.smx_model.specs.DriverList.{IsDriverList};
@@ -8,7 +9,8 @@ ghost use Rattle.smx_model.specs.Histories.{HoldsPrograms};
 ghost use Rattle.smx_shared.specs.Seats.{SharedId};
 ghost use Rattle.smx_shared.specs.declared.shared_fault.ApplyFault.TheVariants as apply;
 ghost use Rattle.smx_run.specs.Fronts.{AreFrontsFrom};
-ghost use Rattle.smx_run.specs.Hands.{called_hand, given_hand, AreFresh, HaveEnded, IsFresh, IsSeenFull};
+ghost use Rattle.smx_run.specs.Hands.{called_hand, given_hand, AllHaveEnded, AreCalled, AreFresh, HaveEnded, IsFresh};
+ghost use Rattle.smx_run.specs.Hands.{IsSeenFull};
 ghost use Rattle.smx_run.specs.ProgramOrder.{Calls, numbered};
 ghost use Rattle.smx_run.specs.RunFaults.{RefusesRun};
 
@@ -83,7 +85,8 @@ impl<K: Keeper> Promise<Result<Vec<EndedProgram<Seat<K>>>, ApplyFault>> for Runs
     ghost use Rattle.smx_shared.specs.declared.shared_fault.ApplyFault.TheVariants as apply;
     ghost use Rattle.smx_run.specs.Hands.{given_hand, called_hand, HaveEnded, IsSeenFull};
 
-    ghost kept_by = { λ runs result. IfOk result (λ v. (called_hand v ≡ given_hand runs.0.value) × HaveEnded runs.1.value.name v)
+    ghost kept_by = { λ runs result.
+        IfOk result (λ v. (called_hand v ≡ given_hand runs.0.value) × HaveEnded runs.1.value.name v)
         × (IsErrOf result apply.HistoryFull → IsSeenFull runs.1.value.name) };
 }
 
@@ -96,8 +99,8 @@ fn run_hands<R: Threads + Wait + Sync, K: Keeper + Send, G: Gate + Sync>(
     gate: &G,
 ) -> Result<Vec<Vec<EndedProgram<Seat<K>>>>, ApplyFault>
     requires { All (AreFresh shared.now.name) hands.items }
-    ensures called { IfOk result (λ v. map called_hand v.items ≡ map given_hand hands.items) }
-    ensures ended { IfOk result (λ v. All (HaveEnded shared.now.name) v.items) }
+    ensures called { IfOk result (AreCalled hands) }
+    ensures ended { IfOk result (AllHaveEnded shared.now.name) }
     ensures full { IsErrOf result apply.HistoryFull → IsSeenFull shared.now.name }
 {
     thread::scope(
@@ -105,8 +108,8 @@ fn run_hands<R: Threads + Wait + Sync, K: Keeper + Send, G: Gate + Sync>(
         rt,
         |scope| -> Result<Vec<Vec<EndedProgram<Seat<K>>>>, ApplyFault>
             requires { All (AreFresh shared.now.name) hands.items }
-            ensures called { IfOk result (λ v. map called_hand v.items ≡ map given_hand hands.items) }
-            ensures ended { IfOk result (λ v. All (HaveEnded shared.entry.now.name) v.items) }
+            ensures called { IfOk result (AreCalled hands) }
+            ensures ended { IfOk result (AllHaveEnded shared.entry.now.name) }
             ensures full { IsErrOf result apply.HistoryFull → IsSeenFull shared.entry.now.name }
         { run_from(scope, rt, alloc, shared, hands, gate) },
     )
@@ -123,8 +126,8 @@ fn run_from<'s, E, R: Threads + Wait + Sync, K: Keeper + Send, G: Gate + Sync>(
     gate: &'s G,
 ) -> Result<Vec<Vec<EndedProgram<Seat<K>>>>, ApplyFault>
     requires { All (AreFresh shared.now.name) hands.items }
-    ensures called { IfOk result (λ v. map called_hand v.items ≡ map given_hand hands.items) }
-    ensures ended { IfOk result (λ v. All (HaveEnded shared.now.name) v.items) }
+    ensures called { IfOk result (AreCalled hands) }
+    ensures ended { IfOk result (AllHaveEnded shared.now.name) }
     ensures full { IsErrOf result apply.HistoryFull → IsSeenFull shared.now.name }
 {
     let Some(hand) = hands.pop() else {
@@ -163,9 +166,10 @@ fn and_then<K: Keeper>(
     last: Result<Vec<EndedProgram<Seat<K>>>, ApplyFault>,
 ) -> Result<Vec<Vec<EndedProgram<Seat<K>>>>, ApplyFault>
     ensures called { IfOk result (λ v. (all : List (List Calls)) (one : List Calls)
-        → IfOk before (λ b. map called_hand b.items ≡ all) → IfOk last (λ d. called_hand d ≡ one) → map called_hand v.items ≡ all ++ one ∷ []) }
+        → IfOk before (λ b. map called_hand b.items ≡ all) → IfOk last (λ d. called_hand d ≡ one)
+        → map called_hand v.items ≡ all ++ one ∷ []) }
     ensures ended { IfOk result (λ v. (name : SharedId)
-        → IfOk before (λ b. All (HaveEnded name) b.items) → IfOk last (HaveEnded name) → All (HaveEnded name) v.items) }
+        → IfOk before (AllHaveEnded name) → IfOk last (HaveEnded name) → AllHaveEnded name v) }
     ensures memory_first { (before ≡ Err apply.NoMemory) ⊎ (last ≡ Err apply.NoMemory) → result ≡ Err apply.NoMemory }
     ensures full { result ≡ Err apply.HistoryFull → (before ≡ Err apply.HistoryFull) ⊎ (last ≡ Err apply.HistoryFull) }
     ensures full_next { (before ≡ Err apply.HistoryFull) ⊎ (last ≡ Err apply.HistoryFull)

@@ -1,9 +1,9 @@
 //! A worker: the processes that one thread runs.
 
-ghost use Rattle.std.specs.Prelude.{◌≡◌, [], All, map, IfOk, OnOk, OnErr, IsErrOf};
+ghost use Rattle.std.specs.Prelude.{◌≡◌, All, map, IfOk, OnOk, OnErr, IsErrOf};
 ghost use Rattle.smx_shared.specs.declared.shared_fault.ApplyFault.TheVariants as apply;
-ghost use Rattle.smx_run.specs.Desks.{KnowsItFull, StopsAmong};
-ghost use Rattle.smx_run.specs.Hands.{given, called, HasEnded};
+ghost use Rattle.smx_run.specs.Desks.{StopsAmong};
+ghost use Rattle.smx_run.specs.Hands.{given, called, BeginsWith, EndsWith, SomeKnowsItFull};
 
 use crate::desk::{Desk, SeatDesk};
 use crate::gate::Gate;
@@ -37,10 +37,10 @@ pub fn work<D: Door, G: Gate, R: Wait>(
 ) -> Result<Vec<EndedProgram<D::Seat>>, ApplyFault>
 where
     D::Seat: Drop,
-    requires { All (λ j. D.is_seat door.now j.seat × ((D.known j.seat).own ≡ [])) hand.items }
+    requires { All (BeginsWith (D.is_seat door.now) D.known) hand.items }
     ensures called { IfOk result (λ v. map (called D.known) v.items ≡ map (given D.known) hand.items) }
-    ensures ended { IfOk result (λ v. All (λ d. D.is_seat door.now d.seat × HasEnded (D.known d.seat) d.front) v.items) }
-    ensures full { IsErrOf result apply.HistoryFull → (s : D.Seat) × D.is_seat door.now s × KnowsItFull (D.known s) }
+    ensures ended { IfOk result (λ v. All (EndsWith (D.is_seat door.now) D.known) v.items) }
+    ensures full { IsErrOf result apply.HistoryFull → SomeKnowsItFull (D.is_seat door.now) D.known }
 {
     let mut done = Vec::with_capacity(alloc, hand.len())?;
     for job in hand {
@@ -59,10 +59,10 @@ fn run_job<D: Door, G: Gate, R: Wait>(
 ) -> Result<EndedProgram<D::Seat>, ApplyFault>
 where
     D::Seat: Drop,
-    requires { D.is_seat door.now job.seat × ((D.known job.seat).own ≡ []) }
+    requires { BeginsWith (D.is_seat door.now) D.known job }
     ensures called { IfOk result (λ d. called D.known d ≡ given D.known job) }
-    ensures ended { IfOk result (λ d. D.is_seat door.now d.seat × HasEnded (D.known d.seat) d.front) }
-    ensures full { IsErrOf result apply.HistoryFull → (s : D.Seat) × D.is_seat door.now s × KnowsItFull (D.known s) }
+    ensures ended { IfOk result (EndsWith (D.is_seat door.now) D.known) }
+    ensures full { IsErrOf result apply.HistoryFull → SomeKnowsItFull (D.is_seat door.now) D.known }
 {
     let SeatedProgram { seat, commands } = job;
     let mut desk = SeatDesk { alloc, door, seat };

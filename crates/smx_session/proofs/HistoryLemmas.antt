@@ -22,6 +22,7 @@ abbrev pub IsOneFurther : Type 0
 IsOneFurther = (drivers : List DriverSpec) (history : List Entry) (e : Entry)
     → after drivers (history ++ e ∷ []) ≡ (step drivers (after drivers history) e.process e.command).0
 
+-- what it says of legal histories
 abbrev pub StaysLegal : Type 0
 StaysLegal = (drivers : List DriverSpec) (history : List Entry) (e : Entry) → IsLegal drivers history
     → (step drivers (after drivers history) e.process e.command).1 ≡ e.reply → IsLegal drivers (history ++ e ∷ [])

@@ -27,19 +27,23 @@ use Rattle.smx_session.specs.declared.trouble.Trouble.TheVariants.{NoMemory, Tex
 
 -- ---- what other crates' laws say
 
+-- a programs text has one reading, but for want of memory
 abbrev pub HasOneReading : Type 0
 HasOneReading = (bytes : List ℕ) (r s : Result ProgramLists TextFault) → ReadsAny programs_grammar bytes r
     → ReadsAny programs_grammar bytes s → IfErr r (λ f. f.cause ≢ cause.NoMemory)
     → IfErr s (λ f. f.cause ≢ cause.NoMemory) → r ≡ s
 
+-- drivers are refused for one fault
 abbrev pub HaveOneFault : Type 0
 HaveOneFault =
     (drivers : List DriverSpec) (f g : ConfigFault) → RefusesDrivers drivers f → RefusesDrivers drivers g → f ≡ g
 
+-- entries are told apart by their lines
 abbrev pub AreToldApart : Type 0
 AreToldApart =
     (x y : Entry) → FitsEntry x → FitsEntry y → line_of (entry_words x) ≡ line_of (entry_words y) → x ≡ y
 
+-- each line has a reading as an entry
 abbrev pub HaveReadings : Type 0
 HaveReadings = (v : Version) (line : List ℕ) → (o : Option Entry) × IsReadAs (FitsEntryIn v) entry_words line o
 

@@ -25,6 +25,7 @@ is_table = refl
 spelled : Spells (programs_grammar V2) table programs
 spelled = record { allowed = search (rules, arith); text = is_table }
 
+-- the table starts a session
 pub starts : IsStartOf table begun
 starts =
     record {
@@ -48,6 +49,7 @@ two : codes "2 clone eth" ++ done_behind ≡ line_of (entry_words (clone_of 2))
 unfolding digits
 two = refl
 
+-- a clone opens
 pub opens : Performs begun (codes "3 clone eth") opened
 opens =
     record {
@@ -65,6 +67,7 @@ hangup_is_read : codes "5 hangup eth 0" ++ done_behind ≡ line_of (entry_words 
 unfolding digits
 hangup_is_read = refl
 
+-- a hangup hangs up
 pub hangs_up : Performs opened (codes "5 hangup eth 0") hung
 hangs_up =
     record {
@@ -82,9 +85,11 @@ told : codes "3 clone eth = fd 0 0\n" ≡ line_of (entry_words (3 does OpenClone
 unfolding digits
 told = refl
 
+-- the last line tells the reply
 pub tells : IsLastLine opened (codes "3 clone eth = fd 0 0\n")
 tells = (3 does OpenClone eth gets Fd 0 0, refl, told)
 
+-- before the first command there is none
 pub tells_none : IsLastLine begun (codes "3 clone eth = fd 0 0\n") → ⊥
 tells_none (e, none, line) = absurd cc
 
@@ -116,12 +121,14 @@ abbrev process_of : Option Entry → ℕ
 process_of (Some e) = e.process
 process_of None = 64
 
+-- no other process is performed for
 pub no_other_process : AreToldApart → Performs begun (codes "2 clone eth") opened → ⊥
 no_other_process apart h =
     let same : opened_by_2 ≡ opened = one_step apart begun opened_by_2 opened (codes "2 clone eth") opens_by_2 h in
     let numbers : 2 ≡ 3 = ap (λ (s : State). process_of s.last) same in
     omega (arith, numbers)
 
+-- what was performed has changed the state
 pub not_undone : AreToldApart → Performs begun (codes "3 clone eth") begun → ⊥
 not_undone apart h =
     let same : opened ≡ begun = one_step apart begun opened begun (codes "3 clone eth") opens h in

@@ -3,11 +3,13 @@
 ghost use Rattle.std.specs.Prelude.{◌≡◌, [], ◌∷◌, true, false, take};
 ghost use Rattle.smx_model.specs.Worked.Common.{OpenClone, CloseAll, ip, a_b_and_eth};
 ghost use Rattle.smx_model.specs.Worked.CycleOfTwoDrivers.{history as linked};
-ghost use Rattle.smx_shared.specs.Calls.{AnswersEntry, EndsAs, GoesOnFrom, HasSeenMore, LooksOnce, Meets, Refuses, RefusesTry, Rests};
+ghost use Rattle.smx_shared.specs.Calls.{AnswersEntry, EndsAs, GoesOnFrom, HasSeenMore, LooksOnce, Meets, Refuses};
+ghost use Rattle.smx_shared.specs.Calls.{RefusesTry, Rests};
 ghost use Rattle.smx_shared.specs.CloseFaults.{IsHeld};
 ghost use Rattle.smx_shared.specs.Fronts.{front_of, word_of, IsFrontOf};
 ghost use Rattle.smx_shared.specs.Seats.{SharedId, met_seat, shared_as};
-ghost use Rattle.smx_shared.specs.WorkedCalls.{astray, blind, front, idle, keeps, knows, meets, opened, passed, sits, strayed};
+ghost use Rattle.smx_shared.specs.WorkedCalls.{astray, blind, front, idle, keeps, knows, meets, opened, passed, sits};
+ghost use Rattle.smx_shared.specs.WorkedCalls.{strayed};
 ghost use Rattle.smx_shared.specs.WorkedSystems.{with_first};
 ghost use Rattle.smx_shared.specs.declared.close_fault.CloseFault.TheVariants.{Held};
 ghost use Rattle.smx_shared.specs.declared.shared_fault.ApplyFault.TheVariants as apply;
@@ -63,55 +65,90 @@ pub fn what_a_front_tells()
 /// A seat is at rest after each call: the same shared system's, without the turn.
 pub fn what_rests()
     ensures rests { (id : SharedId) → Rests (sits id (knows 1 0 9) 0 0) (sits id (knows 1 1 9) 4096 1) }
-    ensures not_with_the_turn { (id : SharedId) → Rests (sits id (knows 1 0 9) 0 0) (keeps (sits id (knows 1 1 9) 4096 1)) → ⊥ }
-    ensures not_at_another { (id other : SharedId) → (id ≡ other → ⊥) → Rests (sits id (knows 1 0 9) 0 0) (sits other (knows 1 1 9) 4096 1) → ⊥ }
+    ensures not_with_the_turn { (id : SharedId) → Rests (sits id (knows 1 0 9) 0 0)
+        (keeps (sits id (knows 1 1 9) 4096 1)) → ⊥ }
+    ensures not_at_another { (id other : SharedId) → (id ≡ other → ⊥) → Rests (sits id (knows 1 0 9) 0 0)
+        (sits other (knows 1 1 9) 4096 1) → ⊥ }
 {}
 
 /// A look is one step, whose word is the front that is answered, and that of what was seen; and a try is busy only
 /// where that front shows the turn held.
 pub fn what_a_look_tells()
-    ensures looks { (id : SharedId) → LooksOnce (sits id (knows 1 0 9) 0 0) (sits id (knows 1 1 9) 4096 1) (front 1 0 false) }
-    ensures not_without_a_step { (id : SharedId) → LooksOnce (sits id (knows 1 0 9) 0 0) (sits id (knows 1 1 9) 4096 0) (front 1 0 false) → ⊥ }
-    ensures not_by_two { (id : SharedId) → LooksOnce (sits id (knows 1 0 9) 0 0) (sits id (knows 1 1 9) 4096 2) (front 1 0 false) → ⊥ }
-    ensures not_another_word { (id : SharedId) → LooksOnce (sits id (knows 1 0 9) 0 0) (sits id (knows 1 1 9) 4097 1) (front 1 0 false) → ⊥ }
-    ensures not_of_the_past { (id : SharedId) → LooksOnce (sits id (knows 1 0 9) 0 0) (sits id (knows 1 1 9) 0 1) (front 0 0 false) → ⊥ }
-    ensures not_added { (id : SharedId) → LooksOnce (sits id (knows 0 0 9) 0 0) (sits id (knows 0 1 9) 4096 1) (front 1 0 false) → ⊥ }
-    ensures busy { (id : SharedId) → RefusesTry (sits id (knows 1 0 9) 0 0) (sits id (knows 1 1 9) 4097 1) (try.Busy (front 1 0 true)) }
-    ensures not_busy { (id : SharedId) → RefusesTry (sits id (knows 1 0 9) 0 0) (sits id (knows 1 1 9) 4096 1) (try.Busy (front 1 0 false)) → ⊥ }
-    ensures not_busy_by_two { (id : SharedId) → RefusesTry (sits id (knows 1 0 9) 0 0) (sits id (knows 1 1 9) 4097 2) (try.Busy (front 1 0 true)) → ⊥ }
+    ensures looks { (id : SharedId) → LooksOnce (sits id (knows 1 0 9) 0 0) (sits id (knows 1 1 9) 4096 1)
+        (front 1 0 false) }
+    ensures not_without_a_step { (id : SharedId) → LooksOnce (sits id (knows 1 0 9) 0 0)
+        (sits id (knows 1 1 9) 4096 0) (front 1 0 false) → ⊥ }
+    ensures not_by_two { (id : SharedId) → LooksOnce (sits id (knows 1 0 9) 0 0)
+        (sits id (knows 1 1 9) 4096 2) (front 1 0 false) → ⊥ }
+    ensures not_another_word { (id : SharedId) → LooksOnce (sits id (knows 1 0 9) 0 0)
+        (sits id (knows 1 1 9) 4097 1) (front 1 0 false) → ⊥ }
+    ensures not_of_the_past { (id : SharedId) → LooksOnce (sits id (knows 1 0 9) 0 0)
+        (sits id (knows 1 1 9) 0 1) (front 0 0 false) → ⊥ }
+    ensures not_added { (id : SharedId) → LooksOnce (sits id (knows 0 0 9) 0 0) (sits id (knows 0 1 9) 4096 1)
+        (front 1 0 false) → ⊥ }
+    ensures busy { (id : SharedId) → RefusesTry (sits id (knows 1 0 9) 0 0) (sits id (knows 1 1 9) 4097 1)
+        (try.Busy (front 1 0 true)) }
+    ensures not_busy { (id : SharedId) → RefusesTry (sits id (knows 1 0 9) 0 0) (sits id (knows 1 1 9) 4096 1)
+        (try.Busy (front 1 0 false)) → ⊥ }
+    ensures not_busy_by_two { (id : SharedId) → RefusesTry (sits id (knows 1 0 9) 0 0)
+        (sits id (knows 1 1 9) 4097 2) (try.Busy (front 1 0 true)) → ⊥ }
 {}
 
 /// A try that isn't busy is refused as a call is.
 pub fn what_a_refused_try_tells()
-    ensures full { (id : SharedId) → RefusesTry (sits id (knows 1 0 1) 0 0) (sits id (knows 1 1 1) 4096 2) try.HistoryFull }
-    ensures not_full { (id : SharedId) → RefusesTry (sits id (knows 1 0 9) 0 0) (sits id (knows 1 1 9) 4096 2) try.HistoryFull → ⊥ }
-    ensures not_added_and_full { (id : SharedId) → RefusesTry (sits id (knows 0 0 1) 0 0) (sits id (knows 0 1 1) 4096 2) try.HistoryFull → ⊥ }
-    ensures no_memory { (id : SharedId) → RefusesTry (sits id (knows 1 0 9) 0 0) (sits id (knows 1 1 9) 4096 2) try.NoMemory }
-    ensures not_for_a_full_history { (id : SharedId) → RefusesTry (sits id (knows 1 0 1) 0 0) (sits id (knows 1 1 1) 4096 2) try.NoMemory → ⊥ }
-    ensures not_added { (id : SharedId) → RefusesTry (sits id (knows 0 0 9) 0 0) (sits id (knows 0 1 9) 4096 2) try.NoMemory → ⊥ }
+    ensures full { (id : SharedId) → RefusesTry (sits id (knows 1 0 1) 0 0) (sits id (knows 1 1 1) 4096 2)
+        try.HistoryFull }
+    ensures not_full { (id : SharedId) → RefusesTry (sits id (knows 1 0 9) 0 0) (sits id (knows 1 1 9) 4096 2)
+        try.HistoryFull → ⊥ }
+    ensures not_added_and_full { (id : SharedId) → RefusesTry (sits id (knows 0 0 1) 0 0)
+        (sits id (knows 0 1 1) 4096 2) try.HistoryFull → ⊥ }
+    ensures no_memory { (id : SharedId) → RefusesTry (sits id (knows 1 0 9) 0 0)
+        (sits id (knows 1 1 9) 4096 2) try.NoMemory }
+    ensures not_for_a_full_history { (id : SharedId) → RefusesTry (sits id (knows 1 0 1) 0 0)
+        (sits id (knows 1 1 1) 4096 2) try.NoMemory → ⊥ }
+    ensures not_added { (id : SharedId) → RefusesTry (sits id (knows 0 0 9) 0 0)
+        (sits id (knows 0 1 9) 4096 2) try.NoMemory → ⊥ }
 {}
 
 /// In a meeting nothing is made. The other is noted, and what it had seen has been seen, at the same limit, with just
 /// those entries of its process that were made there.
 pub fn what_a_meeting_tells()
-    ensures meets { (id : SharedId) → Meets (sits id (knows 1 0 9) 0 0) (sits id (knows 0 1 9) 4096 1) (meets (sits id (knows 1 1 9) 4096 1) (knows 0 1 9)) }
-    ensures not_unnoted { (id : SharedId) → Meets (sits id (knows 1 0 9) 0 0) (sits id (knows 0 1 9) 4096 1) (sits id (knows 1 1 9) 4096 1) → ⊥ }
-    ensures notes_all { (id : SharedId) → Meets (meets (sits id (knows 1 0 9) 0 0) (knows 3 0 9)) (meets (sits id (knows 0 1 9) 4096 1) (knows 2 0 9)) (record (sits id (knows 1 1 9) 4096 1) { met = met_seat (knows 0 1 9) ∷ met_seat (knows 2 0 9) ∷ met_seat (knows 3 0 9) ∷ [] }) }
-    ensures not_without_theirs { (id : SharedId) → Meets (sits id (knows 1 0 9) 0 0) (meets (sits id (knows 0 1 9) 4096 1) (knows 2 0 9)) (meets (sits id (knows 1 1 9) 4096 1) (knows 0 1 9)) → ⊥ }
-    ensures not_without_those_before { (id : SharedId) → Meets (meets (sits id (knows 1 0 9) 0 0) (knows 2 0 9)) (sits id (knows 0 1 9) 4096 1) (meets (sits id (knows 1 1 9) 4096 1) (knows 0 1 9)) → ⊥ }
-    ensures not_where_those_before_are_wrong { (id : SharedId) → Meets (meets (sits id (knows 1 0 9) 0 0) (knows 2 0 8)) (sits id (knows 0 1 9) 4096 1) (record (sits id (knows 1 1 9) 4096 1) { met = met_seat (knows 0 1 9) ∷ met_seat (knows 2 0 8) ∷ [] }) → ⊥ }
-    ensures not_unseen_of_another { (id : SharedId) → Meets (sits id (knows 1 0 9) 0 0) (sits id (knows 2 1 9) 4096 1) (meets (sits id (knows 1 0 9) 4096 1) (knows 2 1 9)) → ⊥ }
-    ensures not_unseen { (id : SharedId) → Meets (sits id (knows 1 0 9) 0 0) (sits id (knows 0 1 9) 4096 1) (meets (sits id (knows 1 0 9) 4096 1) (knows 0 1 9)) → ⊥ }
-    ensures not_of_another_limit { (id : SharedId) → Meets (sits id (knows 1 0 9) 0 0) (sits id (knows 0 1 8) 4096 1) (meets (sits id (knows 1 1 9) 4096 1) (knows 0 1 8)) → ⊥ }
-    ensures not_unmade { (id : SharedId) → Meets (sits id (knows 1 0 9) 0 0) (sits id idle 4096 1) (meets (sits id (knows 1 1 9) 4096 1) idle) → ⊥ }
-    ensures not_added { (id : SharedId) → Meets (sits id (knows 0 0 9) 0 0) (sits id (knows 1 1 9) 4096 1) (meets (sits id (knows 0 1 9) 4096 1) (knows 1 1 9)) → ⊥ }
+    ensures meets { (id : SharedId) → Meets (sits id (knows 1 0 9) 0 0) (sits id (knows 0 1 9) 4096 1)
+        (meets (sits id (knows 1 1 9) 4096 1) (knows 0 1 9)) }
+    ensures not_unnoted { (id : SharedId) → Meets (sits id (knows 1 0 9) 0 0) (sits id (knows 0 1 9) 4096 1)
+        (sits id (knows 1 1 9) 4096 1) → ⊥ }
+    ensures notes_all { (id : SharedId) → Meets (meets (sits id (knows 1 0 9) 0 0) (knows 3 0 9))
+        (meets (sits id (knows 0 1 9) 4096 1) (knows 2 0 9))
+        (record (sits id (knows 1 1 9) 4096 1)
+        { met = met_seat (knows 0 1 9) ∷ met_seat (knows 2 0 9) ∷ met_seat (knows 3 0 9) ∷ [] }) }
+    ensures not_without_theirs { (id : SharedId) → Meets (sits id (knows 1 0 9) 0 0)
+        (meets (sits id (knows 0 1 9) 4096 1) (knows 2 0 9))
+        (meets (sits id (knows 1 1 9) 4096 1) (knows 0 1 9)) → ⊥ }
+    ensures not_without_those_before { (id : SharedId) → Meets
+        (meets (sits id (knows 1 0 9) 0 0) (knows 2 0 9)) (sits id (knows 0 1 9) 4096 1)
+        (meets (sits id (knows 1 1 9) 4096 1) (knows 0 1 9)) → ⊥ }
+    ensures not_where_those_before_are_wrong { (id : SharedId) → Meets
+        (meets (sits id (knows 1 0 9) 0 0) (knows 2 0 8)) (sits id (knows 0 1 9) 4096 1)
+        (record (sits id (knows 1 1 9) 4096 1) { met = met_seat (knows 0 1 9) ∷ met_seat (knows 2 0 8) ∷ [] })
+        → ⊥ }
+    ensures not_unseen_of_another { (id : SharedId) → Meets (sits id (knows 1 0 9) 0 0)
+        (sits id (knows 2 1 9) 4096 1) (meets (sits id (knows 1 0 9) 4096 1) (knows 2 1 9)) → ⊥ }
+    ensures not_unseen { (id : SharedId) → Meets (sits id (knows 1 0 9) 0 0) (sits id (knows 0 1 9) 4096 1)
+        (meets (sits id (knows 1 0 9) 4096 1) (knows 0 1 9)) → ⊥ }
+    ensures not_of_another_limit { (id : SharedId) → Meets (sits id (knows 1 0 9) 0 0)
+        (sits id (knows 0 1 8) 4096 1) (meets (sits id (knows 1 1 9) 4096 1) (knows 0 1 8)) → ⊥ }
+    ensures not_unmade { (id : SharedId) → Meets (sits id (knows 1 0 9) 0 0) (sits id idle 4096 1)
+        (meets (sits id (knows 1 1 9) 4096 1) idle) → ⊥ }
+    ensures not_added { (id : SharedId) → Meets (sits id (knows 0 0 9) 0 0) (sits id (knows 1 1 9) 4096 1)
+        (meets (sits id (knows 0 1 9) 4096 1) (knows 1 1 9)) → ⊥ }
 {}
 
 /// What comes back goes on from what was shared, by entries of its processes; and it bears out what was known.
 pub fn what_comes_back()
     ensures goes_on { (id : SharedId) → GoesOnFrom (shared_as id (with_first 0 9) 1) (with_first 1 9) }
     ensures not_to_another_limit { (id : SharedId) → GoesOnFrom (shared_as id (with_first 0 9) 1) (with_first 1 8) → ⊥ }
-    ensures not_by_another_process { (id : SharedId) → GoesOnFrom (shared_as id (with_first 0 9) 0) (with_first 1 9) → ⊥ }
+    ensures not_by_another_process { (id : SharedId) → GoesOnFrom (shared_as id (with_first 0 9) 0)
+        (with_first 1 9) → ⊥ }
     ensures not_from_another_history { (id : SharedId) → GoesOnFrom (shared_as id strayed 1) (with_first 1 9) → ⊥ }
     ensures not_back { (id : SharedId) → GoesOnFrom (shared_as id (with_first 1 9) 1) (with_first 0 9) → ⊥ }
     ensures ends { EndsAs (knows 1 0 9) [] (with_first 1 9) }

@@ -16,10 +16,13 @@ pub fn the_turn_is_one_seats()
     ensures held { (drivers : List Driver) (limit : ℕ) (start : List Made) (processes word : ℕ) (s : State Slot View)
         → TurnRule drivers limit start processes s → get_elem? s.words 0 ≡ some word → word % 2 ≡ 1
         → (j : ℕ) × (v : View) × (get_elem? s.views j ≡ some v) × (v.turn ≡ true) }
-    ensures only_then { (drivers : List Driver) (limit : ℕ) (start : List Made) (processes word j : ℕ) (v : View) (s : State Slot View)
-        → TurnRule drivers limit start processes s → get_elem? s.words 0 ≡ some word → get_elem? s.views j ≡ some v → v.turn ≡ true
+    ensures only_then { (drivers : List Driver) (limit : ℕ) (start : List Made) (processes word j : ℕ)
+        (v : View) (s : State Slot View)
+        → TurnRule drivers limit start processes s → get_elem? s.words 0 ≡ some word → get_elem? s.views j ≡ some v
+        → v.turn ≡ true
         → word % 2 ≡ 1 }
-    ensures one { (drivers : List Driver) (limit : ℕ) (start : List Made) (processes i j : ℕ) (v w : View) (s : State Slot View)
+    ensures one { (drivers : List Driver) (limit : ℕ) (start : List Made) (processes i j : ℕ) (v w : View)
+        (s : State Slot View)
         → TurnRule drivers limit start processes s → get_elem? s.views i ≡ some v → get_elem? s.views j ≡ some w
         → v.turn ≡ true → w.turn ≡ true → i ≡ j }
 {}
@@ -31,5 +34,6 @@ pub fn the_slot_is_home_or_out()
         → TurnRule drivers limit start processes s → get_elem? s.words 0 ≡ some word → word % 2 ≡ 0
         → (x : Recorded) × (s.homes ≡ some (Some x) ∷ []) × (word ≡ front_of x.drivers x.history) × IsSoundSystem x }
     ensures out { (drivers : List Driver) (limit : ℕ) (start : List Made) (processes word : ℕ) (s : State Slot View)
-        → TurnRule drivers limit start processes s → get_elem? s.words 0 ≡ some word → word % 2 ≡ 1 → s.homes ≡ none ∷ [] }
+        → TurnRule drivers limit start processes s → get_elem? s.words 0 ≡ some word → word % 2 ≡ 1
+        → s.homes ≡ none ∷ [] }
 {}

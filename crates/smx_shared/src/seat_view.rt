@@ -62,7 +62,8 @@ impl<K: Keeper> TableRule<Option<Parked<K>>, SeatView, Start<K>> for OneTurn {
     ghost use Rattle.smx_shared.specs.TurnRule.{TurnRule};
     ghost use Rattle.smx_shared.specs.SeatViews.{opened};
 
-    ghost holds = { λ start. TurnRule start.system.value.drivers start.system.value.limit start.system.value.history start.processes };
+    ghost holds = { λ start. TurnRule start.system.value.drivers start.system.value.limit start.system.value.history
+        start.processes };
 
     ghost first = { λ start. opened start.system.value };
 }

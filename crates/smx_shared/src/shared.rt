@@ -3,7 +3,8 @@
 ghost use Rattle.std.specs.Prelude.{◌≡◌, ◌≤◌, ◌+◌, [], map, vec_capacity, IfOk, IfErr, OnOk};
 ghost use Rattle.std.specs.List.{range_with_len};
 ghost use Rattle.smx_types.specs.declared.limits.TheConstants.{MAX_PROCESSES};
-ghost use Rattle.smx_shared.specs.Calls.{AddsEntry, AnswersEntry, EndsAs, GoesOnFrom, HasSeenMore, LooksOnce, Meets, Refuses, RefusesTry, Rests};
+ghost use Rattle.smx_shared.specs.Calls.{AddsEntry, AnswersEntry, EndsAs, GoesOnFrom, HasSeenMore, LooksOnce, Meets};
+ghost use Rattle.smx_shared.specs.Calls.{Refuses, RefusesTry, Rests};
 ghost use Rattle.smx_shared.specs.CloseFaults.{IsHeld};
 ghost use Rattle.smx_shared.specs.Recorded.{IsSoundSystem};
 ghost use Rattle.smx_shared.specs.SeatViews.{opened};
@@ -37,10 +38,11 @@ impl<K: Keeper> Model for Shared<K> {
 
     ghost Value = { SharedAs };
 
-    ghost view = { λ s. shared_as s.turns.table.shared.table_id s.turns.table.shared.key.system.value s.turns.table.shared.key.processes };
+    ghost view = { λ s. shared_as s.turns.table.shared.table_id s.turns.table.shared.key.system.value
+        s.turns.table.shared.key.processes };
 }
 
-// Puts the seats of so many processes, from process 0 on, into the room for them. The first one may take the first name,
+// Puts the seats of so many processes, from process 0 on, into the room for them. The first may take the first name,
 // and deals the next one, which may take the next name.
 fn deal_seats<K: Keeper>(
     turns: &TurnTable<K>,
@@ -53,7 +55,8 @@ fn deal_seats<K: Keeper>(
     requires processes { (turns.now.table.shared.key.processes ≡ processes) × (processes ≤ MAX_PROCESSES) }
     requires room { (seats.old.items ≡ []) × (processes ≤ vec_capacity seats.old) }
     ensures { seats.new.items
-        ≡ map (first_seat turns.now.table.shared.table_id turns.now.table.shared.key.system.value) (range_with_len 0 processes) }
+        ≡ map (first_seat turns.now.table.shared.table_id turns.now.table.shared.key.system.value)
+        (range_with_len 0 processes) }
 {
     let mut token = first;
     for number in 0..processes {

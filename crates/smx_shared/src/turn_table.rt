@@ -6,7 +6,8 @@ ghost use Rattle.smx_shared.specs.Fronts.{front_of};
 ghost use Rattle.smx_shared.specs.Recorded.{IsSoundSystem};
 ghost use Rattle.smx_shared.specs.declared.turn_table.TheConstants.{MOST_TRIES};
 ghost use Rattle.smx_shared.specs.Seats.{shared_as};
-ghost use Rattle.smx_shared.specs.SeatViews.{opened, dealt, left, called, known_of, system_of, IsAtRest, IsInformed, RestsAfter, HasTurn, HasGrown, HasMet, FoundWord, IsWordFrom, AddsFor};
+ghost use Rattle.smx_shared.specs.SeatViews.{opened, dealt, left, called, known_of, system_of, IsAtRest, IsInformed};
+ghost use Rattle.smx_shared.specs.SeatViews.{RestsAfter, HasTurn, HasGrown, HasMet, FoundWord, IsWordFrom, AddsFor};
 
 use crate::keeper::Keeper;
 use crate::parked::Parked;
@@ -87,7 +88,8 @@ impl<K: Keeper> TurnTable<K> {
     ) -> Result<(TurnTable<K>, Token<K>), NoMemory>
         ensures table { IfOk result (λ r. r.1.table_id ≡ r.0.table.shared.table_id) }
         ensures first { IfOk result (λ r. r.1.me ≡ (opened system, [])) }
-        ensures start { IfOk result (λ r. (r.0.table.shared.key.system.value ≡ system) × (r.0.table.shared.key.processes ≡ processes)) }
+        ensures start { IfOk result (λ r. (r.0.table.shared.key.system.value ≡ system)
+            × (r.0.table.shared.key.processes ≡ processes)) }
         ensures sound { IsSoundSystem system }
     {
         let about = Start {
@@ -107,7 +109,8 @@ impl<K: Keeper> TurnTable<K> {
     /// Another seat, which has seen as much, and has the right to the next name from this one.
     pub fn deal(&self, token: &mut Token<K>) -> Token<K>
         requires { token.old.table_id ≡ self.now.table.shared.table_id }
-        ensures same { (token.new.table_id ≡ token.old.table_id) × (token.new.me ≡ (left token.old.me.0, token.old.me.1)) }
+        ensures same { (token.new.table_id ≡ token.old.table_id)
+            × (token.new.me ≡ (left token.old.me.0, token.old.me.1)) }
         ensures other { (result.table_id ≡ token.old.table_id) × (result.me ≡ (dealt token.old.me.0, [])) }
     {
         self.table.shared.split_seat::<Deal>(token)
@@ -119,7 +122,8 @@ impl<K: Keeper> TurnTable<K> {
         requires right { (token.old.me.0.may_name ≡ true) × (token.old.me.0.next < 64) }
         requires one_of { token.old.me.0.next < self.now.table.shared.key.processes }
         requires idle { (token.old.me.0.spent ≡ false) × (token.old.me.0.turn ≡ false) }
-        ensures same { (token.new.table_id ≡ token.old.table_id) × (token.new.me ≡ (called token.old.me.0, token.old.me.1)) }
+        ensures same { (token.new.table_id ≡ token.old.table_id)
+            × (token.new.me ≡ (called token.old.me.0, token.old.me.1)) }
     {
         self.table.shared.fetch_add::<Call>(token, NAMES, 1);
     }
@@ -143,7 +147,8 @@ impl<K: Keeper> TurnTable<K> {
         ensures grown { HasGrown token.old.me.0 token.new.me.0 × (token.new.me.0.own ≡ token.old.me.0.own) }
         ensures taken { OnOk result (HasTurn token.new.me (Some (system_of token.new.me.0))) }
         ensures counted { token.new.me.0.looks ≡ token.old.me.0.looks + 1 }
-        ensures held { IfErr result (λ word. RestsAfter token.old.me.0 token.new.me × FoundWord token.old.me.0 token.new.me.0 word × (word % 2 ≡ 1)) }
+        ensures held { IfErr result (λ word. RestsAfter token.old.me.0 token.new.me
+            × FoundWord token.old.me.0 token.new.me.0 word × (word % 2 ≡ 1)) }
     {
         let word = self.table.shared.fetch_or::<Take>(token, FRONT, 1);
         if word % 2 == 0 { Ok(()) } else { Err(word) }
@@ -242,7 +247,8 @@ impl<K: Keeper> TurnTable<K> {
 
     /// The seat has then seen what either had, and the other is spent.
     pub fn meet(&self, token: &mut Token<K>, other: Token<K>)
-        requires table { (token.old.table_id ≡ self.now.table.shared.table_id) × (other.table_id ≡ self.now.table.shared.table_id) }
+        requires table { (token.old.table_id ≡ self.now.table.shared.table_id)
+            × (other.table_id ≡ self.now.table.shared.table_id) }
         requires rest { IsAtRest token.old.me × IsAtRest other.me × (other.me.0.named ≡ true) }
         ensures table { token.new.table_id ≡ token.old.table_id }
         ensures rest { IsAtRest token.new.me × IsInformed token.new.me.0 }
@@ -257,7 +263,8 @@ impl<K: Keeper> TurnTable<K> {
         requires table { token.table_id ≡ self.table.shared.table_id }
         requires rest { IsAtRest token.me × (token.me.0.named ≡ true) }
         ensures ends { IfOk result (EndsAs (known_of token.me.0) token.me.0.met) }
-        ensures begun { IfOk result (GoesOnFrom (shared_as self.table.shared.table_id self.table.shared.key.system.value self.table.shared.key.processes)) }
+        ensures begun { IfOk result (GoesOnFrom (shared_as self.table.shared.table_id self.table.shared.key.system.value
+            self.table.shared.key.processes)) }
         ensures held { IfErr result (λ word. (word % 2 ≡ 1) × IsWordFrom token.me.0 word) }
     {
         let TurnTable { table } = self;

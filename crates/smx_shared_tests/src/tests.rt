@@ -14,6 +14,7 @@ mod shared_use;
 mod stage;
 mod sweeps;
 mod systems;
+mod three_seats;
 mod told;
 mod tried_again;
 mod verdicts;

@@ -10,26 +10,15 @@ use Rattle.smx_model.specs.Configuration.{same_stream, is_fd, stream_before}
 use Rattle.smx_model.specs.Hangups.{is_hung, with_hung}
 use Rattle.smx_model.specs.Ordered.{IsRising}
 use Rattle.smx_model.specs.Standing.{is_named}
-use Rattle.smx_streams.specs.HungRows.{flag_at, hungs_from}
+use Rattle.smx_streams.specs.HungRows.{MakeTheList, flag_at, hungs_from}
 use Rattle.smx_streams.specs.RecordGrids.{Uses, AreSet}
-use Rattle.smx_streams.specs.StreamTables.{StreamTable, AreHungsSound, HasOneLess, LeavesHungs, exists, number_at}
-use Rattle.smx_streams.specs.TableFields.{names_of}
+use Rattle.smx_streams.specs.StreamTables.{StreamTable, AreHungsSound, HasHolds, HasOneLess, LeavesHungs}
+use Rattle.smx_streams.specs.StreamTables.{exists, number_at}
+use Rattle.smx_streams.specs.TableFields.{IsWhole, names_of, table_of}
+use Rattle.smx_streams.specs.declared.streams.Streams.TheInside.{Inside}
 use Rattle.smx_streams.proofs.GridLemmas.{same_is, same_self}
 use Rattle.smx_streams.proofs.HungRowLemmas.{flag_tells, hungs_rise}
 use Rattle.smx_streams.proofs.NameLemmas.{used_exists}
-
--- what the law of the model says of hung-up streams in their order
-pub record MakeTheList : Type 0 where
-  pub same : (xs ys : List StreamId) → IsRising stream_before xs → IsRising stream_before ys
-      → ((s : StreamId) → is_hung xs s ≡ is_hung ys s) → xs ≡ ys
-  pub more : (s : StreamId) (hungs : List StreamId) → IsRising stream_before hungs
-      → IsRising stream_before (with_hung s hungs)
-  pub fewer : (keep : StreamId → Bool) (hungs : List StreamId) → IsRising stream_before hungs
-      → IsRising stream_before (filter keep hungs)
-  pub each_of_more : (s t : StreamId) (hungs : List StreamId)
-      → is_hung (with_hung s hungs) t ≡ (same_stream s t || is_hung hungs t)
-  pub each_of_fewer : (keep : StreamId → Bool) (s : StreamId) (hungs : List StreamId)
-      → is_hung (filter keep hungs) s ≡ (keep s && is_hung hungs s)
 
 -- a stream that has hung up counts some descriptor or hold
 abbrev AreUsed : Uses → Type 0
@@ -99,6 +88,19 @@ pub left : MakeTheList → (u v : Uses) (old new : StreamTable) (s : StreamId) (
     → new.hungs ≡ hungs_from 0 v.hungs → old.hungs ≡ hungs_from 0 u.hungs → LeavesHungs old new
 left law u v old new s o h set used names holds now was = made law old new (rw now (hungs_rise 0 v.hungs))
     (rw was (hungs_rise 0 u.hungs)) (each_left u v old new s o h set used names holds now was)
+
+-- where the holds of one stream change, and no descriptors
+pub holds_changed : MakeTheList → (t : Inside) (v : Uses) (s : StreamId) (h : ℕ)
+    → AreSet t.records s (number_at t.records.opens s) h
+    (nat_lt 0 (number_at t.records.opens s + h) && flag_at t.records.hungs s) v
+    → AreUsed t.records → IsWhole t → HasHolds (table_of t) s h (table_of (record t { records = v }))
+holds_changed law t v s h set used whole = record {
+  minors = set.minors;
+  fds = refl;
+  holds = set.holds_now;
+  hungs = left law t.records v (table_of t) (table_of (record t { records = v })) s _ _ set used
+      (λ x. set.opens_now x ∙ same_number t.records.opens x s _ refl ∙ whole x) refl refl refl;
+}
 
 -- and where none change
 each_kept : (u : Uses) (old new : StreamTable) → AreUsed u → AreNames u new → new.holds ≡ u.holds

@@ -1,7 +1,7 @@
 //! The descriptors of all processes.
 
-ghost use Rattle.std.specs.Prelude.{◌≡◌, ◌<◌, false, true, not, [], length, filter, replicate, slice_index, slice_index_or};
-ghost use Rattle.std.specs.Prelude.{ℕ, None, IfNone, IfOk, IsOk, OnOk, OnErr};
+ghost use Rattle.std.specs.Prelude.{◌≡◌, ◌<◌, false, true, not, [], length, filter, replicate, slice_index};
+ghost use Rattle.std.specs.Prelude.{slice_index_or, ℕ, None, IfNone, IfOk, IsOk, OnOk, OnErr};
 ghost use Rattle.std.specs.List.{list_any};
 ghost use Rattle.smx_types.specs.declared.limits.TheConstants.{MAX_DESCRIPTORS, MAX_PROCESSES};
 ghost use Rattle.smx_model.specs.Configuration.{is_fd, fd_before};
@@ -42,28 +42,26 @@ fn cell_at(processes: &[DescriptorRow], process: Process, fd: u32) -> Option<Str
 }
 
 // The rows, with this at a number of a process that has room for it.
-fn set_cell(processes: &mut Vec<DescriptorRow>, process: Process, fd: u32, cell: Option<StreamId>)
+fn set_cell(processes: &mut Vec<DescriptorRow>, process: u32, fd: u32, cell: Option<StreamId>)
     requires process { process < length processes.old.items }
     requires room { fd < length (slice_index_or processes.old.items process []) }
     ensures { processes.new.items ≡ with_cell processes.old.items process fd cell }
 {
-    let number = process.get();
-    processes[number as usize].set(fd, cell);
+    processes[process as usize].set(fd, cell);
 }
 
 // The rows, with room for all numbers of a process.
 fn make_room(
     processes: &mut Vec<DescriptorRow>,
     alloc: Global,
-    process: Process,
+    process: u32,
 ) -> Result<(), NoMemory>
     requires { process < length processes.old.items }
     ensures ok { OnOk result (processes.new.items ≡ with_room_at processes.old.items process) }
     ensures err { OnErr result (processes.new.items ≡ processes.old.items) }
     ensures in_place { 0 < length (slice_index_or processes.old.items process []) → IsOk result }
 {
-    let number = process.get();
-    processes[number as usize].make_room(alloc)
+    processes[process as usize].make_room(alloc)
 }
 
 // No descriptors of any process.
@@ -123,8 +121,7 @@ impl Descriptors {
         ensures room { OnOk result (slice_index self.new.rooms process ≡ MAX_DESCRIPTORS) }
         ensures in_place { (fd : ℕ) → list_any (is_fd process fd) self.old.fds ≡ true → IsOk result }
     {
-        let _number = process.get();
-        make_room(&mut self.processes, alloc, process)?;
+        make_room(&mut self.processes, alloc, process.get())?;
         Ok(())
     }
 
@@ -135,8 +132,7 @@ impl Descriptors {
         ensures { self.new.fds
             ≡ with_inserted fd_before self.old.fds (record { process = process; fd = fd; stream = stream }) }
     {
-        let _number = process.get();
-        set_cell(&mut self.processes, process, fd, Some(stream));
+        set_cell(&mut self.processes, process.get(), fd, Some(stream));
     }
 
     /// Takes out the descriptor of this number, and answers its stream.
@@ -146,8 +142,7 @@ impl Descriptors {
         ensures unchanged { IfNone result (self.new ≡ self.old) }
     {
         let stream = cell_at(&self.processes, process, fd)?;
-        let _number = process.get();
-        set_cell(&mut self.processes, process, fd, None);
+        set_cell(&mut self.processes, process.get(), fd, None);
         Some(stream)
     }
 
@@ -178,6 +173,7 @@ impl Descriptors {
     pub fn is_sound(&self)
         ensures { IsListed self.now.fds }
     {
+        // Opens the invariant.
         let _processes = &self.processes;
     }
 

@@ -1,11 +1,12 @@
 //! The records of streams, found by driver and minor.
 
-ghost use Rattle.std.specs.Prelude.{◌≡◌, ◌≢◌, ◌+◌, ◌-◌, ◌<◌, ◌≤◌, ◌==◌, nat_lt, ◌&&◌, true, false, [], None, Some, map, length, replicate};
-ghost use Rattle.std.specs.Prelude.{slice_get, slice_index_or, IfOk, IsOk, OnOk, OnErr};
+ghost use Rattle.std.specs.Prelude.{◌≡◌, ◌≢◌, ◌+◌, ◌-◌, ◌<◌, ◌≤◌, ◌==◌, nat_lt, ◌&&◌, true, false, [], None, Some};
+ghost use Rattle.std.specs.Prelude.{map, length, replicate, slice_get, slice_index_or, IfOk, IsOk, OnOk, OnErr};
 ghost use Rattle.slab.specs.Slab.{get, Updates};
 ghost use Rattle.smx_types.specs.declared.limits.TheConstants.{MAX_DRIVERS};
 ghost use Rattle.smx_types.specs.declared.stream.StreamId.{StreamId};
-ghost use Rattle.smx_streams.specs.RecordGrids.{key_at, with_key, is_used_and_hung, AreRecords, AreSet, IsRecordOf, IsSet};
+ghost use Rattle.smx_streams.specs.RecordGrids.{key_at, with_key, is_used_and_hung, AreRecords, AreSet};
+ghost use Rattle.smx_streams.specs.RecordGrids.{IsRecordOf, IsSet};
 ghost use Rattle.smx_streams.specs.HungRows.{flag_at};
 ghost use Rattle.smx_streams.specs.StreamTables.{is_in_range, number_at};
 
@@ -335,6 +336,7 @@ impl Records {
         ensures hung { (s : StreamId) → flag_at self.now.hungs s ≡ true
             → 0 < number_at self.now.opens s + number_at self.now.holds s }
     {
+        // Opens the invariant.
         let _records = &self.records;
     }
 

@@ -6,8 +6,10 @@ ghost use Rattle.smx_types.specs.declared.limits.TheConstants.{MAX_DESCRIPTORS, 
 ghost use Rattle.smx_types.specs.declared.stream.StreamId.{StreamId};
 ghost use Rattle.std.specs.Option.{option_map};
 ghost use Rattle.smx_streams.specs.DescriptorRows.{IsListed};
-ghost use Rattle.smx_streams.specs.StreamTables.{number_at, is_in_range, exists, stream_at, is_last, least_fd, least_minor, numbered};
-ghost use Rattle.smx_streams.specs.StreamTables.{clone_answer, minor_answer, dup_answer, IsNext, IsRefused};
+ghost use Rattle.smx_streams.specs.HungRows.{MakeTheList};
+ghost use Rattle.smx_streams.specs.StreamTables.{number_at, is_in_range, exists, stream_at, is_last, least_fd};
+ghost use Rattle.smx_streams.specs.StreamTables.{least_minor, numbered, clone_answer, minor_answer, dup_answer};
+ghost use Rattle.smx_streams.specs.StreamTables.{IsNext, IsRefused};
 ghost use Rattle.smx_model.specs.Hangups.{is_hung};
 ghost use Rattle.smx_streams.specs.StreamTables.{HasOneMore, HasOneLess, HasNoneOf, HasHolds, HasHungUp, AreHungsSound};
 
@@ -51,6 +53,13 @@ impl Model for Streams {
     ghost view = { table_of };
 
     ghost invariant = { IsWhole };
+}
+
+// What the law says of all lists, as one fact.
+fn make_the_list()
+    ensures { MakeTheList }
+{
+    hung_up_streams_make_the_list();
 }
 
 impl Streams {
@@ -137,7 +146,7 @@ impl Streams {
         ensures err { OnErr result (self.new ≡ self.old) }
         ensures in_place { (n : ℕ) → stream_at self.old.fds process n ≡ Some stream → IsOk result }
     {
-        hung_up_streams_make_the_list();
+        make_the_list();
         self.descriptors.is_sound();
         self.descriptors.make_room(self.alloc, process)?;
         self.records.open(stream)?;
@@ -234,24 +243,6 @@ impl Streams {
         }
     }
 
-    // Closes the process's descriptor, and no other.
-    fn take_fd(&mut self, process: Process, fd: u32) -> Option<Closed>
-        ensures stream { option_map (λ c. c.stream) result ≡ stream_at self.old.fds process fd }
-        ensures rest { HasOneLess self.old process fd self.new }
-        ensures last { IfSome result (λ c. c.last ≡ not (exists self.new c.stream)) }
-        ensures unchanged { IfNone result (self.new ≡ self.old) }
-    {
-        hung_up_streams_make_the_list();
-        self.descriptors.is_sound();
-        self.records.is_sound();
-        let stream = self.descriptors.take(process, fd)?;
-        self.records.close(stream);
-        Some(Closed {
-            stream,
-            last: !self.exists(stream),
-        })
-    }
-
     /// Closes the process's descriptor, and no other; None where there is none. No other stream goes than the one that
     /// it names. Takes no memory.
     pub fn close_fd(&mut self, process: Process, fd: u32) -> Option<Closed>
@@ -262,8 +253,15 @@ impl Streams {
             → stream_at self.old.fds process fd ≡ Some s }
         ensures unchanged { IfNone result (self.new ≡ self.old) }
     {
-        self.is_listed();
-        self.take_fd(process, fd)
+        make_the_list();
+        self.descriptors.is_sound();
+        self.records.is_sound();
+        let stream = self.descriptors.take(process, fd)?;
+        self.records.close(stream);
+        Some(Closed {
+            stream,
+            last: !self.exists(stream),
+        })
     }
 
     /// Closes all descriptors of a process, and no other. No other streams go than those that they name. Takes no
@@ -308,7 +306,7 @@ impl Streams {
         ensures rest { HasHolds self.old stream (number_at self.old.holds stream + 1) self.new }
         ensures hungs { self.new.hungs ≡ self.old.hungs }
     {
-        hung_up_streams_make_the_list();
+        make_the_list();
         self.records.is_sound();
         self.records.hold(stream);
     }
@@ -320,7 +318,7 @@ impl Streams {
         ensures answer { result ≡ not (exists self.new stream) }
         ensures rest { HasHolds self.old stream (number_at self.old.holds stream - 1) self.new }
     {
-        hung_up_streams_make_the_list();
+        make_the_list();
         self.records.is_sound();
         self.records.release(stream);
         !self.exists(stream)
@@ -331,7 +329,7 @@ impl Streams {
         requires { exists self.old stream ≡ true }
         ensures { HasHungUp self.old stream self.new }
     {
-        hung_up_streams_make_the_list();
+        make_the_list();
         self.records.hang(stream);
     }
 

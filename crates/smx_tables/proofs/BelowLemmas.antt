@@ -1,6 +1,7 @@
 -- What the read sides below listed links hold goes, link by link.
 use Rattle.std.proofs.Common.{◌≡◌, ℕ, Bool, true, false, ◌&&◌, ◌||◌, not, eqb, List, [], ◌∷◌, ◌++◌, filter, find}
 use Rattle.std.proofs.Common.{Option, Some, None, refl, sym, ap, ◌∙◌, inl, inr}
+use Rattle.std.specs.Prelude.{Vec}
 use Rattle.std.specs.List.{AllByRecursion}
 use Rattle.std.specs.Option.{option_map_or}
 use Rattle.std.proofs.lemmas.Bool.{cases_Bool}
@@ -9,11 +10,14 @@ use Rattle.smx_types.specs.declared.link.Link.{Link}
 use Rattle.smx_types.specs.declared.stream.Place.{Place}
 use Rattle.smx_types.specs.declared.stream.Side.TheVariants as side
 use Rattle.smx_types.specs.declared.stream.StreamId.{StreamId}
-use Rattle.smx_model.specs.Configuration.{same_place, same_side, same_stream}
+use Rattle.smx_model.specs.Configuration.{QueuedMessage, same_place, same_side, same_stream}
 use Rattle.smx_model.specs.Paths.{AreLowersApart}
 use Rattle.smx_model.specs.Standing.{is_below}
+use Rattle.smx_queues.specs.FlowTables.{FlowLists}
+use Rattle.smx_tables.specs.DroppedMessages.{EmptiesPlaces, HasRoom}
 use Rattle.smx_tables.specs.ListedLinks.{is_listed, is_read_below_listed}
 use Rattle.smx_tables.proofs.AboveLemmas.{stream_is, stream_self}
+use Rattle.smx_tables.proofs.DropLemmas.{filter_twice}
 use Rattle.smx_tables.proofs.ReleasedIdLemmas.{IsFoundBy, found_by}
 use Rattle.smx_tables.proofs.RemovalLemmas.{IsIdsRising}
 
@@ -118,17 +122,6 @@ not_either : (a b : Bool) → (not a && not b) ≡ not (a || b)
 not_either true b = refl
 not_either false b = refl
 
-filter_twice : {X : Type 0} (t u : X → Bool) (xs : List X) → filter u (filter t xs) ≡ filter (λ x. t x && u x) xs
-filter_twice t u [] = refl
-filter_twice t u (x ∷ xs) = elim (cases_Bool (t x)) [
-  | inl a ↦ elim (cases_Bool (u x)) [
-    | inl b ↦ rw (a, b) (ap (λ (ys : List _). x ∷ ys) (filter_twice t u xs))
-    | inr b ↦
-        rw (a, b) (filter_twice t u xs)
-  ]
-  | inr a ↦ rw a (filter_twice t u xs)
-]
-
 -- without what passes one test more
 pub tests_less : {X : Type 0} (goes one more : X → Bool) (xs ys zs : List X) → ((x : X) → more x ≡ (goes x || one x))
     → ys ≡ filter (λ x. not (goes x)) xs → zs ≡ filter (λ x. not (one x)) ys → zs ≡ filter (λ x. not (more x)) xs
@@ -138,17 +131,34 @@ tests_less goes one more xs ys zs h e f =
     ∙ filter_agree (λ x. not (goes x) && not (one x)) (λ x. not (more x))
     (λ x. not_either (goes x) (one x) ∙ ap not (sym (h x))) xs))
 
--- without a place more
-pub one_less : {X : Type 0} (place : X → Place) (goes more : Place → Bool) (p : Place) (xs ys zs : List X)
-    → ((q : Place) → more q ≡ (goes q || same_place q p))
-    → ys ≡ filter (λ x. not (goes (place x))) xs → zs ≡ filter (λ x. not (same_place (place x) p)) ys
-    → zs ≡ filter (λ x. not (more (place x))) xs
-one_less place goes more p xs ys zs h e f =
-    tests_less (λ x. goes (place x)) (λ x. same_place (place x) p) (λ x. more (place x)) xs ys zs (λ x. h (place x)) e f
+-- first the places of one test are emptied, and then those of another: they are those of one that both make
+pub empties_more : {A : Type 0} (goes one more : Place → Bool) (old mid new : FlowLists) (first then last : Vec ℕ A)
+    → ((p : Place) → more p ≡ (goes p || one p)) → EmptiesPlaces goes old first mid then
+    → EmptiesPlaces one mid then new last → EmptiesPlaces more old first new last
+empties_more goes one more old mid new first then last h a b = record {
+  flow = tests_less (λ (x : QueuedMessage). goes x.place) (λ x. one x.place) (λ x. more x.place) old.flow mid.flow
+      new.flow (λ x. h x.place) a.flow b.flow;
+  fulls = tests_less goes one more old.fulls mid.fulls new.fulls h a.fulls b.fulls;
+  drivers = b.drivers ∙ a.drivers;
+  dropped = λ was d. b.dropped was (a.dropped was d);
+  room = b.room;
+}
 
--- two tests that take the same places leave the same
-pub none_less : {X : Type 0} (place : X → Place) (goes more : Place → Bool) (xs ys : List X)
-    → ((q : Place) → more q ≡ goes q) → ys ≡ filter (λ x. not (goes (place x))) xs
-    → ys ≡ filter (λ x. not (more (place x))) xs
-none_less place goes more xs ys h e =
-    e ∙ filter_agree (λ x. not (goes (place x))) (λ x. not (more (place x))) (λ x. ap not (sym (h (place x)))) xs
+-- two tests that take the same places empty the same
+pub empties_alike : {A : Type 0} (goes more : Place → Bool) (old new : FlowLists) (first last : Vec ℕ A)
+    → ((p : Place) → more p ≡ goes p) → EmptiesPlaces goes old first new last → EmptiesPlaces more old first new last
+empties_alike goes more old new first last h a = record {
+  flow = a.flow ∙ filter_agree (λ (x : QueuedMessage). not (goes x.place)) (λ x. not (more x.place))
+      (λ x. ap not (sym (h x.place))) old.flow;
+  fulls = a.fulls ∙ filter_agree (λ p. not (goes p)) (λ p. not (more p)) (λ p. ap not (sym (h p))) old.fulls;
+  drivers = a.drivers;
+  dropped = a.dropped;
+  room = a.room;
+}
+
+-- a test that takes no place of a message and none that is full empties none
+pub empties_none : {A : Type 0} (goes : Place → Bool) (t : FlowLists) (dropped : Vec ℕ A)
+    → t.flow ≡ filter (λ h. not (goes h.place)) t.flow → t.fulls ≡ filter (λ p. not (goes p)) t.fulls
+    → HasRoom dropped t.flow → EmptiesPlaces goes t dropped t dropped
+empties_none goes t dropped flow fulls room =
+    record { flow = flow; fulls = fulls; drivers = refl; dropped = λ was d. d; room = room }

@@ -29,7 +29,9 @@ at s x = record { stream = s; side = x }
 
 -- ---- one place more is emptied
 
-filter_twice : {X : Type 0} (t u : X → Bool) (xs : List X) → filter u (filter t xs) ≡ filter (λ x. t x && u x) xs
+-- two tests in turn are both at once
+pub filter_twice : {X : Type 0} (t u : X → Bool) (xs : List X)
+    → filter u (filter t xs) ≡ filter (λ x. t x && u x) xs
 filter_twice t u [] = refl
 filter_twice t u (x ∷ xs) = elim (cases_Bool (t x)) [
   | inl a ↦ elim (cases_Bool (u x)) [

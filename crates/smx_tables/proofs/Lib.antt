@@ -22,8 +22,7 @@ pub mod LinesLemmas
 pub mod QueueLemmas
 pub mod ShownItemLemmas
 pub mod LineOrderLemmas
-pub mod BindingLineLemmas
-pub mod RouteLineLemmas
+pub mod AddressLineLemmas
 pub mod DriverListLemmas
 pub mod WalkLemmas
 pub mod KeptLemmas

@@ -66,11 +66,11 @@ module _ {X : Type 0} (driver addr value : X → ℕ) where
   with_value v x = cond (eqb (value x) v) (Some x) None
 
   -- the item that a line with these words shows
-  abbrev shown_by : List DriverSpec → List X → List ℕ → ℕ → ℕ → Option X
+  abbrev pub shown_by : List DriverSpec → List X → List ℕ → ℕ → ℕ → Option X
   shown_by drivers xs name a v = number_of drivers name >>= (λ n. item_at xs n a >>= with_value v)
 
   -- it is found under its own address
-  abbrev IsUnder : List X → X → Type 0
+  abbrev pub IsUnder : List X → X → Type 0
   IsUnder xs x = item_at xs (driver x) (addr x) ≡ Some x
 
   -- it has the words of the line, and is found under its own address
@@ -112,7 +112,7 @@ module _ {X : Type 0} (driver addr value : X → ℕ) where
       ∙ ap (λ b. cond b (Some x) None) (eq-eqb (value x) (value x) refl))
 
   -- by driver and address
-  abbrev address_before : X → X → Bool
+  abbrev pub address_before : X → X → Bool
   address_before x y = pair_before (driver x) (addr x) (driver y) (addr y)
 
   -- what comes before another has another address

@@ -62,6 +62,9 @@ pub fewer_left : (fds : List Descriptor) (d : Descriptor) (next : Option Descrip
     → IsNext fds d.process (d.fd + 1) next → length (left_of fds next) < length (left_of fds (Some d))
 fewer_left fds d next h = let e = ap length (left_is fds d.process (d.fd + 1) next h) in omega (arith, e)
 
+-- what a walk says
+pub ruleset walk_of_fds = (all_left, left_all, numbered, lines_more, fewer_left)
+
 -- all of them
 pub taken_all : {Y : Type 0} (lines : List Y) (i : ℕ) → length lines ≤ i → take i lines ≡ lines
 taken_all {Y = Y} [] zero le = refl

@@ -3,6 +3,7 @@ use Rattle.std.specs.Prelude.{◌≡◌, ℕ, ◌+◌, ◌≤◌, List, [], leng
 use Rattle.smx_types.specs.declared.link.Link.{Link}
 use Rattle.smx_model.specs.Configuration.{QueuedMessage}
 use Rattle.smx_links.specs.LinkLists.{ordinary_of}
+use Rattle.smx_tables.specs.DroppedMessages.{HasRoom}
 use Rattle.smx_tables.specs.declared.sweep.SweepReserve.{SweepReserve}
 
 -- room for so many streams more and what may go with them, twice, for the ids of the ordinary links, and for the
@@ -13,4 +14,4 @@ pub record IsReserveFor (streams : ℕ) (links : List Link) (flow : List QueuedM
   pub seen_room : length r.touched.items + (streams + length (ordinary_of links)) ≤ vec_capacity r.seen
   pub orphaned_empty : r.orphaned.items ≡ []
   pub orphaned_room : length (ordinary_of links) ≤ vec_capacity r.orphaned
-  pub dropped_room : length r.dropped.items + length flow ≤ vec_capacity r.dropped
+  pub dropped_room : HasRoom r.dropped flow

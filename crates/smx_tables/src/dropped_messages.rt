@@ -1,11 +1,11 @@
 //! Messages that a change drops, and their serials.
 
-ghost use Rattle.std.specs.Prelude.{◌≡◌, ◌≢◌, ◌+◌, ◌≤◌, ◌&&◌, not, filter, length, vec_capacity, List};
+ghost use Rattle.std.specs.Prelude.{◌≡◌, ◌≢◌, ◌&&◌, List};
 ghost use Rattle.std.specs.List.{AllPairs};
 ghost use Rattle.smx_model.specs.Commands.{is_side};
 ghost use Rattle.smx_model.specs.Configuration.{QueuedMessage, same_place, same_stream};
 ghost use Rattle.smx_model.specs.Removal.{serials, serials_that_left};
-ghost use Rattle.smx_tables.specs.DroppedMessages.{AreDropped, is_flushed_at};
+ghost use Rattle.smx_tables.specs.DroppedMessages.{is_flushed_at, AreDropped, EmptiesPlaces, HasRoom};
 
 use crate::comparisons::same_side;
 use smx_model::laws_of_queues::dropped_are_not_kept;
@@ -15,13 +15,8 @@ use smx_types::{Place, Side, Sides, StreamId};
 // What `drop_at` does where there is something to drop. Apart, so that the test before it is inlined.
 #[inline(never)]
 fn drop_all_at(queues: &mut FlowTable, place: Place, dropped: &mut Vec<u32>)
-    requires { length dropped.old.items + length queues.old.flow ≤ vec_capacity dropped.old }
-    ensures flow { queues.new.flow ≡ filter (λ h. not (same_place h.place place)) queues.old.flow }
-    ensures fulls { queues.new.fulls ≡ filter (λ p. not (same_place p place)) queues.old.fulls }
-    ensures drivers { queues.new.drivers ≡ queues.old.drivers }
-    ensures dropped { (old : List QueuedMessage) → AreDropped old queues.old.flow dropped.old.items
-        → AreDropped old queues.new.flow dropped.new.items }
-    ensures room { length dropped.new.items + length queues.new.flow ≤ vec_capacity dropped.new }
+    requires { HasRoom dropped.old queues.old.flow }
+    ensures { EmptiesPlaces (λ p. same_place p place) queues.old dropped.old queues.new dropped.new }
 {
     queues.drop_at(place, dropped);
 }
@@ -30,13 +25,8 @@ fn drop_all_at(queues: &mut FlowTable, place: Place, dropped: &mut Vec<u32>)
 /// where there are none.
 #[inline(always)]
 pub fn drop_at(queues: &mut FlowTable, place: Place, dropped: &mut Vec<u32>)
-    requires { length dropped.old.items + length queues.old.flow ≤ vec_capacity dropped.old }
-    ensures flow { queues.new.flow ≡ filter (λ h. not (same_place h.place place)) queues.old.flow }
-    ensures fulls { queues.new.fulls ≡ filter (λ p. not (same_place p place)) queues.old.fulls }
-    ensures drivers { queues.new.drivers ≡ queues.old.drivers }
-    ensures dropped { (old : List QueuedMessage) → AreDropped old queues.old.flow dropped.old.items
-        → AreDropped old queues.new.flow dropped.new.items }
-    ensures room { length dropped.new.items + length queues.new.flow ≤ vec_capacity dropped.new }
+    requires { HasRoom dropped.old queues.old.flow }
+    ensures { EmptiesPlaces (λ p. same_place p place) queues.old dropped.old queues.new dropped.new }
 {
     if queues.has_messages(place) || queues.is_full(place) {
         drop_all_at(queues, place, dropped);
@@ -61,13 +51,8 @@ fn drop_side(
     side: Side,
     dropped: &mut Vec<u32>,
 )
-    requires { length dropped.old.items + length queues.old.flow ≤ vec_capacity dropped.old }
-    ensures flow { queues.new.flow ≡ filter (λ h. not (is_flushed_at stream sides side h.place)) queues.old.flow }
-    ensures fulls { queues.new.fulls ≡ filter (λ p. not (is_flushed_at stream sides side p)) queues.old.fulls }
-    ensures drivers { queues.new.drivers ≡ queues.old.drivers }
-    ensures dropped { (old : List QueuedMessage) → AreDropped old queues.old.flow dropped.old.items
-        → AreDropped old queues.new.flow dropped.new.items }
-    ensures room { length dropped.new.items + length queues.new.flow ≤ vec_capacity dropped.new }
+    requires { HasRoom dropped.old queues.old.flow }
+    ensures { EmptiesPlaces (is_flushed_at stream sides side) queues.old dropped.old queues.new dropped.new }
 {
     if is_side(sides, side) {
         drop_at(queues, Place { stream, side }, dropped);
@@ -76,13 +61,9 @@ fn drop_side(
 
 /// Drops the messages on the sides of a stream that are named.
 pub fn drop_sides(queues: &mut FlowTable, stream: StreamId, sides: Sides, dropped: &mut Vec<u32>)
-    requires { length dropped.old.items + length queues.old.flow ≤ vec_capacity dropped.old }
-    ensures flow { queues.new.flow ≡ filter (λ h. not (same_stream h.place.stream stream && is_side sides h.place.side)) queues.old.flow }
-    ensures fulls { queues.new.fulls ≡ filter (λ p. not (same_stream p.stream stream && is_side sides p.side)) queues.old.fulls }
-    ensures drivers { queues.new.drivers ≡ queues.old.drivers }
-    ensures dropped { (old : List QueuedMessage) → AreDropped old queues.old.flow dropped.old.items
-        → AreDropped old queues.new.flow dropped.new.items }
-    ensures room { length dropped.new.items + length queues.new.flow ≤ vec_capacity dropped.new }
+    requires { HasRoom dropped.old queues.old.flow }
+    ensures { EmptiesPlaces (λ p. same_stream p.stream stream && is_side sides p.side)
+        queues.old dropped.old queues.new dropped.new }
 {
     drop_side(queues, stream, sides, Side::Write, dropped);
     drop_side(queues, stream, sides, Side::Read, dropped);

@@ -50,7 +50,8 @@ fn release_below(
     touched: &mut Vec<StreamId>,
     gone: &mut Vec<u32>,
 )
-    requires cascade { IsCascade links.now.links streams.old (touched.old.items ++ ctl ∷ []) (vec_capacity touched.old) }
+    requires cascade { IsCascade links.now.links streams.old (touched.old.items ++ ctl ∷ [])
+        (vec_capacity touched.old) }
     requires gone { AreReleased links.now.links streams.old gone.old.items (vec_capacity gone.old) }
     ensures fds { streams.new.fds ≡ streams.old.fds }
     ensures minors { streams.new.minors ≡ streams.old.minors }
@@ -81,12 +82,13 @@ fn release_below(
 pub fn release_orphans(
     streams: &mut Streams,
     links: &LinkTable,
-    touched: Vec<StreamId>,
+    touched: &mut Vec<StreamId>,
     seen: &mut Vec<StreamId>,
     gone: &mut Vec<u32>,
 )
-    requires cascade { IsCascade links.now.links streams.old touched.items (vec_capacity touched) }
-    requires room { length seen.old.items + (length touched.items + holds_below (ordinary_of links.now.links) streams.old)
+    requires cascade { IsCascade links.now.links streams.old touched.old.items (vec_capacity touched.old) }
+    requires room { length seen.old.items
+        + (length touched.old.items + holds_below (ordinary_of links.now.links) streams.old)
         ≤ vec_capacity seen.old }
     requires gone { AreReleased links.now.links streams.old gone.old.items (vec_capacity gone.old) }
     ensures fds { streams.new.fds ≡ streams.old.fds }
@@ -94,14 +96,13 @@ pub fn release_orphans(
     ensures hungs { LeavesHungs streams.old streams.new }
     ensures releasing { (climbs : ℕ) → IsReleasing links.now.links climbs streams.new }
     ensures none { list_any (is_loose streams.new) links.now.links ≡ false }
-    ensures seen { (s : StreamId) → is_there_or_touched streams.old touched.items s ≡ true
+    ensures seen { (s : StreamId) → is_there_or_touched streams.old touched.old.items s ≡ true
         → is_there_or_touched streams.new seen.new.items s ≡ true }
     ensures gone { AreReleased links.now.links streams.new gone.new.items (vec_capacity gone.new) }
 {
     streams.is_sound();
-    let mut left = touched;
-    while let Some(stream) = left.pop() {
+    while let Some(stream) = touched.pop() {
         seen.push_reserved(stream);
-        release_below(streams, links, stream, &mut left, gone);
+        release_below(streams, links, stream, touched, gone);
     }
 }

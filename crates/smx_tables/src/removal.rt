@@ -1,13 +1,12 @@
 //! Links that are removed, and what goes with them.
 
-ghost use Rattle.std.specs.Prelude.{◌≡◌, ◌+◌, ◌≤◌, Bool, true, not, map, filter, length, vec_capacity, List};
+ghost use Rattle.std.specs.Prelude.{◌≡◌, ◌+◌, ◌≤◌, Bool, true, map, filter, length, vec_capacity};
 ghost use Rattle.smx_types.specs.declared.link.Link.{Link};
 ghost use Rattle.smx_types.specs.declared.stream.StreamId.{StreamId};
-ghost use Rattle.smx_model.specs.Configuration.{QueuedMessage};
 ghost use Rattle.smx_model.specs.Removal.{without_links};
 ghost use Rattle.smx_links.specs.LinkLists.{ordinary_of, others_of};
 ghost use Rattle.smx_streams.specs.StreamTables.{HasHolds, LeavesHungs, exists as is_there, number_at};
-ghost use Rattle.smx_tables.specs.DroppedMessages.{AreDropped};
+ghost use Rattle.smx_tables.specs.DroppedMessages.{DropsMore, EmptiesPlaces, HasRoom};
 ghost use Rattle.smx_tables.specs.ExistingStreams.{AreHeld};
 ghost use Rattle.smx_tables.specs.KeptHolds.{KeepsHolds};
 ghost use Rattle.smx_tables.specs.ModelOfLists.{configuration_of, sizes_of};
@@ -23,13 +22,9 @@ use smx_types::{Place, Side, StreamId};
 
 // Drops what the read sides of the streams below the links with these ids hold.
 fn drop_below(queues: &mut FlowTable, links: &LinkTable, gone: &[u32], dropped: &mut Vec<u32>)
-    requires { length dropped.old.items + length queues.old.flow ≤ vec_capacity dropped.old }
-    ensures flow { queues.new.flow ≡ filter (λ h. not (is_read_below_listed links.now.links gone.now h.place)) queues.old.flow }
-    ensures fulls { queues.new.fulls ≡ filter (λ p. not (is_read_below_listed links.now.links gone.now p)) queues.old.fulls }
-    ensures drivers { queues.new.drivers ≡ queues.old.drivers }
-    ensures dropped { (old : List QueuedMessage) → AreDropped old queues.old.flow dropped.old.items
-        → AreDropped old queues.new.flow dropped.new.items }
-    ensures room { length dropped.new.items + length queues.new.flow ≤ vec_capacity dropped.new }
+    requires { HasRoom dropped.old queues.old.flow }
+    ensures { EmptiesPlaces (is_read_below_listed links.now.links gone.now)
+        queues.old dropped.old queues.new dropped.new }
 {
     links.is_sound();
     for id in gone {
@@ -80,14 +75,13 @@ fn release_each(streams: &mut Streams, links: &LinkTable, gone: &[u32], touched:
 /// Removes the links with these ids, the routes to them, and what their lower streams' read sides hold, once those are
 /// released.
 pub fn drop_links(lists: &mut Lists, gone: &[u32], dropped: &mut Vec<u32>)
-    requires { length dropped.old.items + length lists.old.queues.flow ≤ vec_capacity dropped.old }
+    requires { HasRoom dropped.old lists.old.queues.flow }
     ensures value { (goes : Link → Bool) → AreIdsOf goes lists.old.links.links gone.now
         → configuration_of lists.new ≡ without_links (configuration_of lists.old) goes }
     ensures links { lists.new.links.links ≡ others_of gone.now lists.old.links.links }
     ensures streams { lists.new.streams ≡ lists.old.streams }
-    ensures dropped { (old : List QueuedMessage) → AreDropped old lists.old.queues.flow dropped.old.items
-        → AreDropped old lists.new.queues.flow dropped.new.items }
-    ensures room { length dropped.new.items + length lists.new.queues.flow ≤ vec_capacity dropped.new }
+    ensures dropped { DropsMore lists.old.queues.flow dropped.old.items lists.new.queues.flow dropped.new.items }
+    ensures room { HasRoom dropped.new lists.new.queues.flow }
     ensures drivers { sizes_of lists.new ≡ sizes_of lists.old }
 {
     if gone.is_empty() {
@@ -108,14 +102,13 @@ pub fn remove_links(
 )
     requires kept { KeepsHolds lists.old }
     requires room { length touched.old.items + length gone.now ≤ vec_capacity touched.old }
-    requires dropped { length dropped.old.items + length lists.old.queues.flow ≤ vec_capacity dropped.old }
+    requires dropped { HasRoom dropped.old lists.old.queues.flow }
     ensures value { (goes : Link → Bool) → gone.now ≡ map (λ l. l.id) (filter goes lists.old.links.links)
         → configuration_of lists.new
         ≡ record (without_links (configuration_of lists.old) goes) { hungs = lists.new.streams.hungs } }
     ensures hungs { LeavesHungs lists.old.streams lists.new.streams }
-    ensures dropped { (old : List QueuedMessage) → AreDropped old lists.old.queues.flow dropped.old.items
-        → AreDropped old lists.new.queues.flow dropped.new.items }
-    ensures room { length dropped.new.items + length lists.new.queues.flow ≤ vec_capacity dropped.new }
+    ensures dropped { DropsMore lists.old.queues.flow dropped.old.items lists.new.queues.flow dropped.new.items }
+    ensures room { HasRoom dropped.new lists.new.queues.flow }
     ensures kept { KeepsHolds lists.new }
     ensures drivers { sizes_of lists.new ≡ sizes_of lists.old }
     ensures fewer { length (ordinary_of lists.new.links.links) ≤ length (ordinary_of lists.old.links.links) }

@@ -120,7 +120,7 @@ pub fn hung_line(drivers: &[DriverSpec], stream: StreamId) -> HungLine
 }
 
 /// The lines of all descriptors, by rising process and number. Fails only for want of memory.
-#[tactic(auto, using(crate::proofs::WalkLemmas::all_left, crate::proofs::WalkLemmas::left_all, crate::proofs::WalkLemmas::numbered, crate::proofs::WalkLemmas::lines_more, crate::proofs::WalkLemmas::fewer_left))]
+#[tactic(auto, using(crate::proofs::WalkLemmas::walk_of_fds))]
 pub fn descriptor_lines(
     alloc: Global,
     drivers: &[DriverSpec],

@@ -1,22 +1,21 @@
 //! The sweep: what goes with streams that don't exist any longer, and the reply that names it.
 
-ghost use Rattle.std.specs.Prelude.{◌≡◌, ◌≢◌, ◌+◌, ◌≤◌, ◌==◌, ◌&&◌, true, false, not, filter, length, vec_capacity, IfOk, [], ◌∷◌, List};
-ghost use Rattle.std.specs.List.{AllPairs, list_all};
+ghost use Rattle.std.specs.Prelude.{◌≡◌, ◌≤◌, true, false, not, filter, length, IfOk, List, [], ◌∷◌};
+ghost use Rattle.std.specs.List.{list_all};
 ghost use Rattle.smx_types.specs.declared.driver.DriverSpec.{DriverSpec as DriverValue};
-ghost use Rattle.smx_types.specs.declared.reply.Reply.TheVariants.{Done};
 ghost use Rattle.smx_types.specs.declared.stream.StreamId.{StreamId};
-ghost use Rattle.smx_model.specs.Configuration.{QueuedMessage};
 ghost use Rattle.smx_model.specs.KnownStreams.{AreControllingKnown};
-ghost use Rattle.smx_model.specs.Removal.{serials, serials_that_left, without_dead_streams, without_links, after_sweep};
+ghost use Rattle.smx_model.specs.Removal.{without_dead_streams, without_links, after_sweep};
+ghost use Rattle.smx_addresses.specs.BindingLists.{is_binding_of};
 ghost use Rattle.smx_streams.specs.StreamTables.{LeavesHungs, exists as is_there};
-ghost use Rattle.smx_links.specs.LinkLists.{is_upper, ordinary_of};
-ghost use Rattle.smx_tables.specs.DroppedMessages.{AreDropped};
-ghost use Rattle.smx_tables.specs.ExistingStreams.{holds_below, TellsExisting};
+ghost use Rattle.smx_links.specs.LinkLists.{is_upper};
+ghost use Rattle.smx_tables.specs.DroppedMessages.{AreDropped, DropsMore, HasRoom, NamesDropped};
+ghost use Rattle.smx_tables.specs.ExistingStreams.{TellsExisting};
 ghost use Rattle.smx_tables.specs.ListedLinks.{is_orphaned};
 ghost use Rattle.smx_tables.specs.ModelOfLists.{configuration_of, sizes_of};
 ghost use Rattle.smx_tables.specs.KeptHolds.{KeepsHolds};
 ghost use Rattle.smx_tables.specs.SweepReserves.{IsReserveFor};
-ghost use Rattle.smx_tables.specs.TouchedStreams.{is_dead, is_there_or_touched, without_streams, IsCascade, IsTouched};
+ghost use Rattle.smx_tables.specs.TouchedStreams.{is_dead, is_there_or_touched, without_streams, IsTouched};
 
 use crate::dropped_messages::{drop_sides, rising};
 use crate::lists::Lists;
@@ -32,8 +31,7 @@ use std::alloc::{AllocError, Global};
 
 // Takes away the binding of the stream, if it has one. Where nothing is bound, none is looked for.
 fn unbind(binds: &mut Bindings, stream: StreamId)
-    ensures { binds.new
-        ≡ filter (λ b. not ((b.driver == stream.driver) && (b.minor == stream.minor))) binds.old }
+    ensures { binds.new ≡ filter (λ b. not (is_binding_of stream b)) binds.old }
 {
     if !binds.is_empty() {
         let _binding = binds.unbind(stream);
@@ -42,14 +40,13 @@ fn unbind(binds: &mut Bindings, stream: StreamId)
 
 // Takes away the binding, the messages and the full marks of the stream, unless it exists.
 fn drop_if_dead(lists: &mut Lists, stream: StreamId, dropped: &mut Vec<u32>)
-    requires { length dropped.old.items + length lists.old.queues.flow ≤ vec_capacity dropped.old }
+    requires { HasRoom dropped.old lists.old.queues.flow }
     ensures value { configuration_of lists.new
         ≡ without_streams (configuration_of lists.old) (is_dead lists.old.streams (stream ∷ [])) }
     ensures streams { lists.new.streams ≡ lists.old.streams }
     ensures drivers { sizes_of lists.new ≡ sizes_of lists.old }
-    ensures dropped { (old : List QueuedMessage) → AreDropped old lists.old.queues.flow dropped.old.items
-        → AreDropped old lists.new.queues.flow dropped.new.items }
-    ensures room { length dropped.new.items + length lists.new.queues.flow ≤ vec_capacity dropped.new }
+    ensures dropped { DropsMore lists.old.queues.flow dropped.old.items lists.new.queues.flow dropped.new.items }
+    ensures room { HasRoom dropped.new lists.new.queues.flow }
 {
     if !lists.streams.exists(stream) {
         unbind(&mut lists.binds, stream);
@@ -61,11 +58,10 @@ fn drop_if_dead(lists: &mut Lists, stream: StreamId, dropped: &mut Vec<u32>)
 fn drop_dead(lists: &mut Lists, seen: &[StreamId], dropped: &mut Vec<u32>)
     requires kept { KeepsHolds lists.old }
     requires seen { IsTouched lists.old.streams seen.now (configuration_of lists.old) }
-    requires room { length dropped.old.items + length lists.old.queues.flow ≤ vec_capacity dropped.old }
+    requires room { HasRoom dropped.old lists.old.queues.flow }
     ensures value { (drivers : List DriverValue) → TellsExisting drivers (configuration_of lists.old) lists.old.streams
         → configuration_of lists.new ≡ without_dead_streams drivers (configuration_of lists.old) }
-    ensures dropped { (old : List QueuedMessage) → AreDropped old lists.old.queues.flow dropped.old.items
-        → AreDropped old lists.new.queues.flow dropped.new.items }
+    ensures dropped { DropsMore lists.old.queues.flow dropped.old.items lists.new.queues.flow dropped.new.items }
     ensures kept { KeepsHolds lists.new }
     ensures drivers { sizes_of lists.new ≡ sizes_of lists.old }
 {
@@ -73,46 +69,6 @@ fn drop_dead(lists: &mut Lists, seen: &[StreamId], dropped: &mut Vec<u32>)
     for stream in seen {
         drop_if_dead(lists, *stream, dropped);
     }
-}
-
-// Removes the ordinary links whose controlling stream doesn't exist, which is one of those that were touched. What may
-// have gone is put to those that were seen. The last list but one has room for the ids of all ordinary links.
-fn drop_orphans(
-    drivers: &[DriverSpec],
-    lists: &mut Lists,
-    touched: Vec<StreamId>,
-    seen: &mut Vec<StreamId>,
-    room: Vec<u32>,
-    dropped: &mut Vec<u32>,
-)
-    requires kept { KeepsHolds lists.old }
-    requires known { AreControllingKnown drivers.now lists.old.links.links }
-    requires cascade { IsCascade lists.old.links.links lists.old.streams touched.items (vec_capacity touched) }
-    requires seen { length seen.old.items + (length touched.items + holds_below (ordinary_of lists.old.links.links) lists.old.streams)
-        ≤ vec_capacity seen.old }
-    requires empty { room.items ≡ [] }
-    requires room { length (ordinary_of lists.old.links.links) ≤ vec_capacity room }
-    requires dropped { length dropped.old.items + length lists.old.queues.flow ≤ vec_capacity dropped.old }
-    ensures value { configuration_of lists.new ≡ record (without_links (configuration_of lists.old)
-        (is_orphaned lists.old.streams.fds lists.old.links.links (length drivers.now))) { hungs = lists.new.streams.hungs } }
-    ensures hungs { LeavesHungs lists.old.streams lists.new.streams }
-    ensures seen { (s : StreamId) → is_there_or_touched lists.old.streams touched.items s ≡ true
-        → is_there_or_touched lists.new.streams seen.new.items s ≡ true }
-    ensures dropped { (old : List QueuedMessage) → AreDropped old lists.old.queues.flow dropped.old.items
-        → AreDropped old lists.new.queues.flow dropped.new.items }
-    ensures room { length dropped.new.items + length lists.new.queues.flow ≤ vec_capacity dropped.new }
-    ensures kept { KeepsHolds lists.new }
-    ensures existing { TellsExisting drivers.now (configuration_of lists.new) lists.new.streams }
-    ensures drivers { sizes_of lists.new ≡ sizes_of lists.old }
-{
-    lists.links.is_sound();
-    climbs_suffice();
-    reaches_is_path();
-    paths_join();
-    let mut gone = room;
-    release_orphans(&mut lists.streams, &lists.links, touched, seen, &mut gone);
-    drop_links(lists, &gone, dropped);
-    tells_existing(drivers, lists);
 }
 
 // Whether each of the streams is there.
@@ -133,6 +89,41 @@ pub struct SweepReserve {
     pub dropped: Vec<u32>,
 }
 
+// Removes the ordinary links whose controlling stream doesn't exist, which is one of those that were touched. What may
+// have gone is seen then.
+fn drop_orphans(drivers: &[DriverSpec], lists: &mut Lists, room: &mut SweepReserve)
+    requires kept { KeepsHolds lists.old }
+    requires known { AreControllingKnown drivers.now lists.old.links.links }
+    requires touched { IsTouched lists.old.streams room.old.touched.items (configuration_of lists.old) }
+    requires room { IsReserveFor 0 lists.old.links.links lists.old.queues.flow room.old }
+    ensures value { configuration_of lists.new ≡ record (without_links (configuration_of lists.old)
+        (is_orphaned lists.old.streams.fds lists.old.links.links (length drivers.now)))
+        { hungs = lists.new.streams.hungs } }
+    ensures hungs { LeavesHungs lists.old.streams lists.new.streams }
+    ensures seen { (s : StreamId) → is_there_or_touched lists.old.streams room.old.touched.items s ≡ true
+        → is_there_or_touched lists.new.streams room.new.seen.items s ≡ true }
+    ensures dropped { DropsMore lists.old.queues.flow room.old.dropped.items
+        lists.new.queues.flow room.new.dropped.items }
+    ensures room { HasRoom room.new.dropped lists.new.queues.flow }
+    ensures kept { KeepsHolds lists.new }
+    ensures existing { TellsExisting drivers.now (configuration_of lists.new) lists.new.streams }
+    ensures drivers { sizes_of lists.new ≡ sizes_of lists.old }
+{
+    lists.links.is_sound();
+    climbs_suffice();
+    reaches_is_path();
+    paths_join();
+    release_orphans(
+        &mut lists.streams,
+        &lists.links,
+        &mut room.touched,
+        &mut room.seen,
+        &mut room.orphaned,
+    );
+    drop_links(lists, &room.orphaned, &mut room.dropped);
+    tells_existing(drivers, lists);
+}
+
 // Removes the ordinary links whose controlling stream doesn't exist, and then what dead streams hold. Only streams that
 // were touched may have gone. The serials of what was dropped since room was made.
 fn sweep(drivers: &[DriverSpec], lists: &mut Lists, room: SweepReserve) -> Vec<u32>
@@ -141,29 +132,20 @@ fn sweep(drivers: &[DriverSpec], lists: &mut Lists, room: SweepReserve) -> Vec<u
     requires touched { IsTouched lists.old.streams room.touched.items (configuration_of lists.old) }
     requires room { IsReserveFor 0 lists.old.links.links lists.old.queues.flow room }
     ensures value { configuration_of lists.new ≡ after_sweep drivers.now (configuration_of lists.old) }
-    ensures dropped { (old : List QueuedMessage) → AreDropped old lists.old.queues.flow room.dropped.items
-        → AreDropped old lists.new.queues.flow result.items }
+    ensures dropped { DropsMore lists.old.queues.flow room.dropped.items lists.new.queues.flow result.items }
     ensures kept { KeepsHolds lists.new }
     ensures drivers { sizes_of lists.new ≡ sizes_of lists.old }
 {
     lists.streams.is_sound();
-    let mut dropped = room.dropped;
+    let mut room = room;
     if are_there(&lists.streams, &room.touched) {
         sweeping_again_changes_nothing();
         tells_existing(drivers, lists);
-        return dropped;
+        return room.dropped;
     }
-    let mut seen = room.seen;
-    drop_orphans(
-        drivers,
-        lists,
-        room.touched,
-        &mut seen,
-        room.orphaned,
-        &mut dropped,
-    );
-    drop_dead(lists, &seen, &mut dropped);
-    dropped
+    drop_orphans(drivers, lists, &mut room);
+    drop_dead(lists, &room.seen, &mut room.dropped);
+    room.dropped
 }
 
 /// Room for the sweep after a change that touches so many streams. Fails only for want of memory.
@@ -194,9 +176,7 @@ pub fn sweep_and_reply(drivers: &[DriverSpec], lists: &mut Lists, room: SweepRes
     requires touched { IsTouched lists.old.streams room.touched.items (configuration_of lists.old) }
     requires room { IsReserveFor 0 lists.old.links.links lists.old.queues.flow room }
     ensures value { configuration_of lists.new ≡ after_sweep drivers.now (configuration_of lists.old) }
-    ensures reply { (old : List QueuedMessage) → AllPairs (λ m n. m ≢ n) (serials old)
-        → AreDropped old lists.old.queues.flow room.dropped.items
-        → result ≡ Done (serials_that_left old lists.new.queues.flow) }
+    ensures reply { NamesDropped lists.old.queues.flow room.dropped.items lists.new.queues.flow result }
     ensures kept { KeepsHolds lists.new }
     ensures drivers { sizes_of lists.new ≡ sizes_of lists.old }
 {
@@ -218,11 +198,9 @@ pub fn sweep_alone_and_reply(
     requires known { AreControllingKnown drivers.now lists.old.links.links }
     requires touched { IsTouched lists.old.streams (stream ∷ []) (configuration_of lists.old) }
     requires lower { is_upper lists.old.links.links stream.driver ≡ false }
-    requires room { length room.items + length lists.old.queues.flow ≤ vec_capacity room }
+    requires room { HasRoom room lists.old.queues.flow }
     ensures value { configuration_of lists.new ≡ after_sweep drivers.now (configuration_of lists.old) }
-    ensures reply { (old : List QueuedMessage) → AllPairs (λ m n. m ≢ n) (serials old)
-        → AreDropped old lists.old.queues.flow room.items
-        → result ≡ Done (serials_that_left old lists.new.queues.flow) }
+    ensures reply { NamesDropped lists.old.queues.flow room.items lists.new.queues.flow result }
     ensures kept { KeepsHolds lists.new }
     ensures drivers { sizes_of lists.new ≡ sizes_of lists.old }
 {

@@ -5,7 +5,6 @@ use Rattle.std.proofs.Math.ListN.{set}
 use Rattle.std.proofs.lemmas.List.{append-nil, map_push}
 use Rattle.smx_types.specs.declared.command.Command.{Command}
 use Rattle.smx_types.specs.declared.driver.DriverSpec.{DriverSpec}
-use Rattle.smx_types.specs.GrowingPrograms.{last_of, with_last}
 use Rattle.smx_text.specs.ProgramLines.{Line}
 use Rattle.smx_text.specs.ProgramLines as line
 use Rattle.smx_text.specs.ProgramsText.{program_lines}
@@ -40,11 +39,3 @@ lines_more n (p ∷ q ∷ ps) d c h =
     rw k (ap (λ (ls : List Line). line.Process n ∷ (map line.Command p ++ ls)) more
     ∙ ap (λ (ls : List Line). line.Process n ∷ ls)
     (sym (append_assoc (map line.Command p) (program_lines (n + 1) (q ∷ ps)) (line.Command c ∷ []))))
-
--- with one more command in the last program, the lines of drivers and programs are one more at their end
-pub added_command : (ds : List DriverSpec) (ps more : List (List Command)) (c : Command) → 0 < length ps
-    → more ≡ with_last ps (last_of ps ++ c ∷ [])
-    → map line.Driver ds ++ program_lines 0 more ≡ (map line.Driver ds ++ program_lines 0 ps) ++ line.Command c ∷ []
-added_command ds ps more c some is =
-    rw (is, lines_more 0 ps [] c some)
-    (sym (append_assoc (map line.Driver ds) (program_lines 0 ps) (line.Command c ∷ [])))

@@ -103,10 +103,8 @@ with_line v line.End = v
 
 -- the version stays
 pub version_stays : (v : ProgramLists) (k : Line) → (with_line v k).version ≡ v.version
-version_stays v (line.Driver d) = refl
-version_stays v (line.Process n) = refl
-version_stays v (line.Command c) = refl
 version_stays v line.End = refl
+version_stays v k = refl
 
 -- where there is no program yet, one more driver is one more line at the end
 pub with_driver : (ds : List DriverSpec) (ps : List (List Command)) (d : DriverSpec) → length ps ≡ 0

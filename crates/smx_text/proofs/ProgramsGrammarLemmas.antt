@@ -1,6 +1,6 @@
 -- The lines of a programs text can be told apart.
 use Rattle.std.proofs.Common.{◌≡◌, ◌≢◌, ℕ, Result, Bool, true, false, ◌||◌, List, refl, sym, ap, ◌∙◌, rules}
-use Rattle.std.specs.Prelude.{codes, OnOk, IfErr}
+use Rattle.std.specs.Prelude.{codes}
 use Rattle.std.specs.Str.{bytes_eq}
 use Rattle.smx_types.specs.declared.command.Command.{Command}
 use Rattle.smx_types.specs.declared.command.Command.TheVariants as command
@@ -9,9 +9,9 @@ use Rattle.smx_words.specs.Words.{line_of}
 use Rattle.smx_words.specs.Spelling.{command_words, driver_words, process_words}
 use Rattle.smx_words.specs.Spellable.{FitsNumber, FitsDriver, FitsCommandIn}
 use Rattle.smx_text.specs.declared.text_fault.Cause.{Cause}
-use Rattle.smx_text.specs.Reading.{Refuses, AddsLine, RefusesLine}
-use Rattle.smx_text.proofs.ReadingLemmas.{refuses, on_added, on_refused}
-use Rattle.smx_text.specs.Grammar.{Continues, IsNoLine, IsOneLine, header, line_text}
+use Rattle.smx_text.specs.Reading.{Refuses, RefusesLine, AnswersLine, AnswersText}
+use Rattle.smx_text.proofs.ReadingLemmas.{refuses, answers}
+use Rattle.smx_text.specs.Grammar.{IsNoLine, IsOneLine, header, line_text}
 use Rattle.smx_text.specs.ProgramLines.{Line}
 use Rattle.smx_text.specs.ProgramLines as line
 use Rattle.smx_text.specs.ProgramsText.{line_words, FitsLine, programs_grammar}
@@ -40,25 +40,8 @@ is_verb w =
     || bytes_eq w (codes "hangup")
 
 verb_first : (c : Command) → is_verb (first_word (command_words c)) ≡ true
-verb_first (command.OpenClone driver) = refl
-verb_first (command.OpenMinor driver minor) = refl
-verb_first (command.Dup fd) = refl
-verb_first (command.Close fd) = refl
 verb_first command.CloseAll = refl
-verb_first (command.Link fd arg) = refl
-verb_first (command.Plink fd arg) = refl
-verb_first (command.Unlink fd which) = refl
-verb_first (command.Punlink fd which) = refl
-verb_first (command.Bind fd addr) = refl
-verb_first (command.Unbind fd) = refl
-verb_first (command.Route fd addr id) = refl
-verb_first (command.Unroute fd addr) = refl
-verb_first (command.Write fd addr bytes) = refl
-verb_first (command.Read fd) = refl
-verb_first (command.Flush fd sides) = refl
-verb_first (command.Inject driver minor addr bytes) = refl
-verb_first (command.Transmit driver minor) = refl
-verb_first (command.Hangup driver minor) = refl
+verb_first c = refl
 
 -- words that begin with no verb are no command's
 pub not_verb : (c : Command) (ws : List (List ℕ)) → command_words c ≡ ws → is_verb (first_word ws) ≡ false → ⊥
@@ -82,18 +65,9 @@ words_apart version (line.Process n) (line.Process m) fits also ws same =
 words_apart version (line.Command c) (line.Command d) fits also ws same =
     ap (λ x. line.Command x) (one_command c d fits.0 also.0 same)
 words_apart version line.End line.End fits also ws same = refl
-words_apart version (line.Command c) (line.Driver d) fits also ws same = absurd (not_verb c _ ws refl)
-words_apart version (line.Command c) (line.Process n) fits also ws same = absurd (not_verb c _ ws refl)
-words_apart version (line.Command c) line.End fits also ws same = absurd (not_verb c _ ws refl)
-words_apart version (line.Driver d) (line.Command c) fits also ws same = absurd (not_verb c _ (sym ws) refl)
-words_apart version (line.Process n) (line.Command c) fits also ws same = absurd (not_verb c _ (sym ws) refl)
-words_apart version line.End (line.Command c) fits also ws same = absurd (not_verb c _ (sym ws) refl)
-words_apart version (line.Driver d) (line.Process n) fits also ws same = absurd cc
-words_apart version (line.Driver d) line.End fits also ws same = absurd cc
-words_apart version (line.Process n) (line.Driver d) fits also ws same = absurd cc
-words_apart version (line.Process n) line.End fits also ws same = absurd cc
-words_apart version line.End (line.Driver d) fits also ws same = absurd cc
-words_apart version line.End (line.Process n) fits also ws same = absurd cc
+words_apart version (line.Command c) l fits also ws same = absurd (not_verb c _ ws refl)
+words_apart version k (line.Command c) fits also ws same = absurd (not_verb c _ (sym ws) refl)
+words_apart version k l fits also ws same = absurd cc
 
 -- two lines of programs that can be told in a version and have the same text are the same line
 pub tells_apart : (version : Version) (k l : Line) → FitsLine version k → FitsLine version l
@@ -102,20 +76,12 @@ tells_apart version k l fits also same =
     words_apart version k l fits also (one_spelling (line_words k) (line_words l) (spelling version k fits)
     (spelling version l also) same) same
 
--- what is done with a line that was read is done with its text
-pub on_added_line : {A : Type 0} (version : Version) (lines longer : List Line) (k : Line) (text : List ℕ)
-    → text ≡ line_text (programs_grammar version) k → (r : Result A Cause)
-    → OnOk r (AddsLine (programs_grammar version) lines k longer)
-    → OnOk r (Continues (programs_grammar version) lines text longer)
-on_added_line version lines longer k text is r h = on_added (programs_grammar version) lines longer k text is r h
-
--- if a line that was read is refused, its text is refused for the same cause
-pub on_refused_line : {A : Type 0} (version : Version) (lines : List Line) (k : Line) (text : List ℕ)
-    → FitsLine version k
-    → text ≡ line_text (programs_grammar version) k → (r : Result A Cause)
-    → IfErr r (RefusesLine (programs_grammar version) lines k) → IfErr r (Refuses (programs_grammar version) lines text)
-on_refused_line version lines k text fits is r h =
-    on_refused (programs_grammar version) (tells_apart version) lines k text fits is r h
+-- what is answered to a line that was read is answered to its text
+pub answers_line : {A : Type 0} (version : Version) (lines longer : List Line) (k : Line) (text : List ℕ)
+    → FitsLine version k × (text ≡ line_text (programs_grammar version) k) → (r : Result A Cause)
+    → AnswersLine (programs_grammar version) lines k longer r
+    → AnswersText (programs_grammar version) lines text longer r
+answers_line version = answers (programs_grammar version) (tells_apart version)
 
 -- the cause for which a line may not follow is one for which its text is refused
 pub refused_line : (version : Version) (lines : List Line) (k : Line) (text : List ℕ) → FitsLine version k

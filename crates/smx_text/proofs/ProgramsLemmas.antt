@@ -4,8 +4,9 @@ use Rattle.std.proofs.Common.{rules}
 use Rattle.std.specs.List.{sum_by, AllByRecursion}
 use Rattle.std.proofs.lemmas.List.{append-nil}
 use Rattle.std.proofs.lemmas.List.Sums.{sum_by-append, sum_by-cons}
-use Rattle.smx_types.specs.ProgramLists.{ProgramLists, program_lists, raised, AreWithinLimits}
+use Rattle.smx_types.specs.ProgramLists.{ProgramLists, AreWithinLimits}
 use Rattle.smx_types.specs.declared.limits.TheConstants.{MAX_DRIVERS, MAX_PROCESSES, MAX_COMMANDS}
+use Rattle.smx_text.specs.Drafts.{IsCounted}
 use Rattle.smx_text.specs.Grammar.{IsBegun}
 use Rattle.smx_text.specs.ProgramLines.{Line}
 use Rattle.smx_text.specs.ProgramLines as line
@@ -21,6 +22,12 @@ use Rattle.smx_text.proofs.ProgramsVersionLemmas.{least_is_first}
 use Rattle.smx_types.specs.declared.version.Version.{Version}
 use Rattle.smx_types.specs.declared.version.Version.TheVariants.{V1, V2}
 use Rattle.smx_types.specs.Versions.{most_drivers}
+
+-- what is counted of some programs is counted of the same ones
+pub counted : {v w : ProgramLists} {version : Version} {drivers programs commands : ℕ}
+    → IsCounted v version drivers programs commands → v ≡ w → IsCounted w version drivers programs commands
+counted {version = version} {drivers = drivers} {programs = programs} {commands = commands} h same =
+    subst (λ (p : ProgramLists). IsCounted p version drivers programs commands) same h
 
 -- it is not one too many
 abbrev pub HasRoom : Version → ProgramLists → Line → Type 0
@@ -137,17 +144,3 @@ pub finished : {W : Type 0} (makes : ProgramLists → W → Type 0) (v : Program
     → IsBegun (programs_grammar v.version) (body v) → makes v w
     → EndsAs (programs_grammar v.version) makes (body v) (Some w)
 finished makes v w begun made = (v, allowed_of v.version v refl begun, refl, made)
-
--- ---- what is kept of them
-
--- these programs, in their version, are those that were taken
-pub same_in : (version : Version) (v w : ProgramLists) → v.version ≡ version → AreWithinLimits v
-    → (version ≡ V1 → w ≡ program_lists v.drivers v.programs)
-    → (version ≡ V2 → w ≡ raised (program_lists v.drivers v.programs)) → w ≡ v
-same_in V1 v w is within first second =
-    first refl
-    ∙ ap (λ (n : Version). record { version = n; drivers = v.drivers; programs = v.programs })
-    (within.version is ∙ sym is)
-same_in V2 v w is within first second =
-    second refl
-    ∙ ap (λ (n : Version). record { version = n; drivers = v.drivers; programs = v.programs }) (sym is)

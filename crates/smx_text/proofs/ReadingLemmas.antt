@@ -1,7 +1,7 @@
 -- Where a reader stands between two lines, and what it may answer there. For any kind of text.
 use Rattle.std.proofs.Common.{◌≡◌, ◌≢◌, ℕ, ◌+◌, ◌<◌, List, [], ◌∷◌, ◌++◌, length, map, Result, Ok, Err, refl, sym}
 use Rattle.std.proofs.Common.{ap, subst, ◌∙◌, append_assoc, arith, inl, inr}
-use Rattle.std.specs.Prelude.{OnOk, IfErr}
+use Rattle.std.specs.Prelude.{IfErr}
 use Rattle.std.proofs.lemmas.List.{append-nil, map-append, length-append, nil_from_length}
 use Rattle.std.proofs.lemmas.List.Concat.{flat_map-append}
 use Rattle.smx_types.specs.declared.version.Version.{Version}
@@ -12,7 +12,7 @@ use Rattle.smx_text.specs.declared.text_fault.Cause.TheVariants as cause
 use Rattle.smx_text.specs.declared.text_fault.TextFault.{TextFault}
 use Rattle.smx_text.specs.Grammar.{Grammar, IsOneLine, header, line_text, beginning, full_text, IsBegun}
 use Rattle.smx_text.specs.Grammar.{Continues, IsNoLine, MayFollow, Reaches, IsFault, MakesAny, ReadsAny, Spells}
-use Rattle.smx_text.specs.Reading.{Refuses, AddsLine, RefusesLine, EndsText}
+use Rattle.smx_text.specs.Reading.{Refuses, RefusesLine, EndsText, AnswersLine, AnswersText}
 
 -- a text of some lines and of others
 pub texts_append : (ls ks : List (List (List ℕ))) → text_of (ls ++ ks) ≡ text_of ls ++ text_of ks
@@ -149,11 +149,6 @@ module _ {V K : Type 0} (g : Grammar V K) where
 
   -- ---- what is done with a line that was read is done with its text
 
-  -- where a line that was read is the last of longer lines, its text goes on so
-  pub continues : (lines longer : List K) (k : K) (text : List ℕ) → text ≡ line_text g k
-      → AddsLine g lines k longer → Continues g lines text longer
-  continues lines longer k text is adds = (k, is, adds.0, adds.1)
-
   -- where texts tell lines apart, the cause for which a line is refused is one for which its text is
   pub refuses : ((k l : K) → g.FitsLine k → g.FitsLine l → line_text g k ≡ line_text g l → k ≡ l)
       → (lines : List K) (k : K) (text : List ℕ)
@@ -166,19 +161,12 @@ module _ {V K : Type 0} (g : Grammar V K) where
   refuses tells_apart lines k text fits is cause.Cut h = absurd h
   refuses tells_apart lines k text fits is cause.Trailing h = absurd h
 
-  -- the same of an answer: where it is good, the text of the line goes on
-  pub on_added : {A : Type 0} (lines longer : List K) (k : K) (text : List ℕ) → text ≡ line_text g k
-      → (r : Result A Cause) → OnOk r (AddsLine g lines k longer) → OnOk r (Continues g lines text longer)
-  on_added lines longer k text is (Ok x) adds = continues lines longer k text is adds
-  on_added lines longer k text is (Err e) adds = tt
-
-  -- the same of an answer: where it is a fault, the text of the line is refused for it
-  pub on_refused : {A : Type 0} → ((k l : K) → g.FitsLine k → g.FitsLine l → line_text g k ≡ line_text g l
-      → k ≡ l) → (lines : List K) (k : K) (text : List ℕ)
-      → g.FitsLine k → text ≡ line_text g k → (r : Result A Cause) → IfErr r (RefusesLine g lines k)
-      → IfErr r (Refuses g lines text)
-  on_refused tells_apart lines k text fits is (Ok x) h = tt
-  on_refused tells_apart lines k text fits is (Err e) h = refuses tells_apart lines k text fits is e h
+  -- the same of each answer
+  pub answers : {A : Type 0} → ((k l : K) → g.FitsLine k → g.FitsLine l → line_text g k ≡ line_text g l → k ≡ l)
+      → (lines longer : List K) (k : K) (text : List ℕ) → g.FitsLine k × (text ≡ line_text g k) → (r : Result A Cause)
+      → AnswersLine g lines k longer r → AnswersText g lines text longer r
+  answers tells_apart lines longer k text (fits, is) (Ok x) h = (k, is, h.0, h.1)
+  answers tells_apart lines longer k text (fits, is) (Err why) h = refuses tells_apart lines k text fits is why h
 
   -- behind the header nothing is wrong with it
   pub refused_behind : (lines : List K) (text : List ℕ) (why : Cause) → Refuses g lines text why → why ≢ cause.Header

@@ -1,5 +1,5 @@
 -- The lines of a transcript that is being read.
-use Rattle.std.proofs.Common.{◌≡◌, ◌≢◌, ℕ, Bool, true, false, cond, eqb, ◌&&◌, List, [], ◌∷◌, ◌++◌, length}
+use Rattle.std.proofs.Common.{◌≡◌, ◌≢◌, Bool, true, false, cond, eqb, ◌&&◌, List, [], ◌∷◌, ◌++◌, length}
 use Rattle.std.proofs.Common.{map, Option, Some, None, refl, sym, ap, ◌∙◌, append_assoc, arith}
 use Rattle.std.proofs.lemmas.Bool.{and_parts}
 use Rattle.std.proofs.lemmas.Bool.Decides.{nat_tests}
@@ -8,6 +8,7 @@ use Rattle.smx_types.specs.declared.command.Entry.{Entry}
 use Rattle.smx_types.specs.declared.driver.DriverSpec.{DriverSpec}
 use Rattle.smx_types.specs.declared.transcript.Transcript.{Transcript}
 use Rattle.smx_types.specs.declared.view.BindingLine.{BindingLine}
+use Rattle.smx_types.specs.declared.view.ConfigView.{ConfigView}
 use Rattle.smx_types.specs.declared.view.DescriptorLine.{DescriptorLine}
 use Rattle.smx_types.specs.declared.view.FullLine.{FullLine}
 use Rattle.smx_types.specs.declared.view.LinkLine.{LinkLine}
@@ -22,7 +23,8 @@ use Rattle.smx_text.proofs.TranscriptDrafts.{◌>>=◌}
 use Rattle.smx_text.specs.TranscriptText.{view_body, body}
 use Rattle.smx_text.specs.Drafts.{shown, lines}
 use Rattle.smx_text.proofs.TranscriptDrafts.{new_view, new_draft, takes, with_line}
-use Rattle.smx_text.specs.Drafts.{takes_links, takes_binds, takes_routes, takes_msgs, takes_fulls, takes_hungs}
+use Rattle.smx_text.specs.Drafts.{takes_fds, takes_links, takes_binds, takes_routes, takes_msgs, takes_fulls}
+use Rattle.smx_text.specs.Drafts.{takes_hungs}
 use Rattle.smx_types.specs.declared.version.Version.{Version}
 use Rattle.smx_types.specs.declared.view.HungLine.{HungLine}
 
@@ -34,33 +36,13 @@ draft s t = record { stage = s; transcript = t }
 
 -- the line is not the end
 abbrev pub is_line : TranscriptLine → Bool
-is_line (line.Driver x) = true
-is_line (line.Entry x) = true
-is_line line.Config = true
-is_line (line.Next id serial) = true
-is_line (line.Fd x) = true
-is_line (line.Link x) = true
-is_line (line.Bind x) = true
-is_line (line.Route x) = true
-is_line (line.Msg x) = true
-is_line (line.Full x) = true
-is_line (line.Hung x) = true
 is_line line.End = false
+is_line k = true
 
 -- a line other than the end is one that can be added
 pub not_end : (k : TranscriptLine) → k ≢ line.End → is_line k ≡ true
-not_end (line.Driver x) h = refl
-not_end (line.Entry x) h = refl
-not_end line.Config h = refl
-not_end (line.Next id serial) h = refl
-not_end (line.Fd x) h = refl
-not_end (line.Link x) h = refl
-not_end (line.Bind x) h = refl
-not_end (line.Route x) h = refl
-not_end (line.Msg x) h = refl
-not_end (line.Full x) h = refl
-not_end (line.Hung x) h = refl
 not_end line.End h = absurd (h refl)
+not_end k h = refl
 
 -- one more behind the history
 behind : (xs bs vs ws : List TranscriptLine) (k : TranscriptLine) → ws ≡ vs ++ k ∷ []
@@ -70,6 +52,42 @@ behind xs bs vs ws k e = rw e (simp append_assoc)
 none : {A : Type 0} (xs : List A) → eqb (length xs) 0 ≡ true → xs ≡ []
 none xs e = nil_from_length xs (grind (arith, nat_tests))
 
+-- ---- where a line of a group may come, the groups behind it are empty
+
+no_hungs : (t : Transcript) → takes_fulls (draft stage.View t) ≡ true → t.view.hungs ≡ []
+no_hungs t h = none t.view.hungs (and_parts (takes_hungs (draft stage.View t)) (eqb (length t.view.hungs) 0) h).1
+
+no_fulls : (t : Transcript) → takes_msgs (draft stage.View t) ≡ true
+    → (t.view.fulls ≡ []) × (t.view.hungs ≡ [])
+no_fulls t h =
+    let p = and_parts (takes_fulls (draft stage.View t)) (eqb (length t.view.fulls) 0) h in
+    (none t.view.fulls p.1, no_hungs t p.0)
+
+no_msgs : (t : Transcript) → takes_routes (draft stage.View t) ≡ true
+    → (t.view.msgs ≡ []) × ((t.view.fulls ≡ []) × (t.view.hungs ≡ []))
+no_msgs t h =
+    let p = and_parts (takes_msgs (draft stage.View t)) (eqb (length t.view.msgs) 0) h in
+    (none t.view.msgs p.1, no_fulls t p.0)
+
+no_routes : (t : Transcript) → takes_binds (draft stage.View t) ≡ true
+    → (t.view.routes ≡ []) × ((t.view.msgs ≡ []) × ((t.view.fulls ≡ []) × (t.view.hungs ≡ [])))
+no_routes t h =
+    let p = and_parts (takes_routes (draft stage.View t)) (eqb (length t.view.routes) 0) h in
+    (none t.view.routes p.1, no_msgs t p.0)
+
+no_binds : (t : Transcript) → takes_links (draft stage.View t) ≡ true
+    → (t.view.binds ≡ []) × ((t.view.routes ≡ []) × ((t.view.msgs ≡ []) × ((t.view.fulls ≡ []) × (t.view.hungs ≡ []))))
+no_binds t h =
+    let p = and_parts (takes_binds (draft stage.View t)) (eqb (length t.view.binds) 0) h in
+    (none t.view.binds p.1, no_routes t p.0)
+
+no_links : (t : Transcript) → takes_fds (draft stage.View t) ≡ true
+    → (t.view.links ≡ []) × ((t.view.binds ≡ []) × ((t.view.routes ≡ [])
+    × ((t.view.msgs ≡ []) × ((t.view.fulls ≡ []) × (t.view.hungs ≡ [])))))
+no_links t h =
+    let p = and_parts (takes_links (draft stage.View t)) (eqb (length t.view.links) 0) h in
+    (none t.view.links p.1, no_binds t p.0)
+
 last_more : {A : Type 0} (f : A → TranscriptLine) (xs : List A) (x : A)
     → map f (xs ++ x ∷ []) ++ [] ≡ (map f xs ++ []) ++ f x ∷ []
 last_more f xs x = append-nil (map f (xs ++ x ∷ [])) ∙ map_push f xs x
@@ -78,90 +96,51 @@ last_more f xs x = append-nil (map f (xs ++ x ∷ [])) ∙ map_push f xs x
 through : (xs ys zs : List TranscriptLine) (k : TranscriptLine) → zs ≡ ys ++ k ∷ [] → xs ++ zs ≡ (xs ++ ys) ++ k ∷ []
 through xs ys zs k e = ap (λ (ls : List TranscriptLine). xs ++ ls) e ∙ sym (append_assoc xs ys (k ∷ []))
 
--- the groups of a view behind the descriptors and so on
+-- so it is behind all others of the view
 view_more : (t : Transcript) (k : TranscriptLine) → takes (draft stage.View t) k ≡ true → is_line k ≡ true
     → shown stage.View (with_line (draft stage.View t) k).transcript.view ≡ shown stage.View t.view ++ k ∷ []
-view_more t (line.Driver x) h l = absurd cc
-view_more t (line.Entry x) h l = absurd cc
-view_more t line.Config h l = absurd cc
-view_more t (line.Next id serial) h l = absurd cc
 view_more t (line.Fd x) h l =
-    let p = and_parts (takes_links (draft stage.View t)) (eqb (length t.view.links) 0) h in
-    let q = and_parts (takes_binds (draft stage.View t)) (eqb (length t.view.binds) 0) p.0 in
-    let r = and_parts (takes_routes (draft stage.View t)) (eqb (length t.view.routes) 0) q.0 in
-    let m = and_parts (takes_msgs (draft stage.View t)) (eqb (length t.view.msgs) 0) r.0 in
-    let f = and_parts (takes_fulls (draft stage.View t)) (eqb (length t.view.fulls) 0) m.0 in
-    let g = and_parts (takes_hungs (draft stage.View t)) (eqb (length t.view.hungs) 0) f.0 in
-    rw (
-      none t.view.links p.1,
-      none t.view.binds q.1,
-      none t.view.routes r.1,
-      none t.view.msgs m.1,
-      none t.view.fulls f.1,
-      none t.view.hungs g.1,
-    )
+    let e = no_links t h in
+    rw (e.0, e.1.0, e.1.1.0, e.1.1.1.0, e.1.1.1.1.0, e.1.1.1.1.1)
     (ap (λ (ls : List TranscriptLine). line.Config ∷ line.Next t.view.next_id t.view.next_serial ∷ ls)
     (last_more line.Fd t.view.fds x))
 view_more t (line.Link x) h l =
-    let q = and_parts (takes_binds (draft stage.View t)) (eqb (length t.view.binds) 0) h in
-    let r = and_parts (takes_routes (draft stage.View t)) (eqb (length t.view.routes) 0) q.0 in
-    let m = and_parts (takes_msgs (draft stage.View t)) (eqb (length t.view.msgs) 0) r.0 in
-    let f = and_parts (takes_fulls (draft stage.View t)) (eqb (length t.view.fulls) 0) m.0 in
-    let g = and_parts (takes_hungs (draft stage.View t)) (eqb (length t.view.hungs) 0) f.0 in
-    rw (
-      none t.view.binds q.1,
-      none t.view.routes r.1,
-      none t.view.msgs m.1,
-      none t.view.fulls f.1,
-      none t.view.hungs g.1,
-    )
+    let e = no_binds t h in
+    rw (e.0, e.1.0, e.1.1.0, e.1.1.1.0, e.1.1.1.1)
     (ap (λ (ls : List TranscriptLine). line.Config ∷ line.Next t.view.next_id t.view.next_serial ∷ ls)
-    (through (map line.Fd t.view.fds) _ _ (line.Link x) (last_more line.Link t.view.links x)))
+    (through (map line.Fd t.view.fds) _ _ _ (last_more line.Link t.view.links x)))
 view_more t (line.Bind x) h l =
-    let r = and_parts (takes_routes (draft stage.View t)) (eqb (length t.view.routes) 0) h in
-    let m = and_parts (takes_msgs (draft stage.View t)) (eqb (length t.view.msgs) 0) r.0 in
-    let f = and_parts (takes_fulls (draft stage.View t)) (eqb (length t.view.fulls) 0) m.0 in
-    let g = and_parts (takes_hungs (draft stage.View t)) (eqb (length t.view.hungs) 0) f.0 in
-    rw (none t.view.routes r.1, none t.view.msgs m.1, none t.view.fulls f.1, none t.view.hungs g.1)
+    let e = no_routes t h in
+    rw (e.0, e.1.0, e.1.1.0, e.1.1.1)
     (ap (λ (ls : List TranscriptLine). line.Config ∷ line.Next t.view.next_id t.view.next_serial ∷ ls)
-    (through (map line.Fd t.view.fds) _ _ (line.Bind x)
-    (through (map line.Link t.view.links) _ _ (line.Bind x) (last_more line.Bind t.view.binds x))))
+    (through (map line.Fd t.view.fds) _ _ _ (through (map line.Link t.view.links) _ _ _
+    (last_more line.Bind t.view.binds x))))
 view_more t (line.Route x) h l =
-    let m = and_parts (takes_msgs (draft stage.View t)) (eqb (length t.view.msgs) 0) h in
-    let f = and_parts (takes_fulls (draft stage.View t)) (eqb (length t.view.fulls) 0) m.0 in
-    let g = and_parts (takes_hungs (draft stage.View t)) (eqb (length t.view.hungs) 0) f.0 in
-    rw (none t.view.msgs m.1, none t.view.fulls f.1, none t.view.hungs g.1)
+    let e = no_msgs t h in
+    rw (e.0, e.1.0, e.1.1)
     (ap (λ (ls : List TranscriptLine). line.Config ∷ line.Next t.view.next_id t.view.next_serial ∷ ls)
-    (through (map line.Fd t.view.fds) _ _ (line.Route x)
-    (through (map line.Link t.view.links) _ _ (line.Route x)
-    (through (map line.Bind t.view.binds) _ _ (line.Route x) (last_more line.Route t.view.routes x)))))
+    (through (map line.Fd t.view.fds) _ _ _ (through (map line.Link t.view.links) _ _ _
+    (through (map line.Bind t.view.binds) _ _ _ (last_more line.Route t.view.routes x)))))
 view_more t (line.Msg x) h l =
-    let f = and_parts (takes_fulls (draft stage.View t)) (eqb (length t.view.fulls) 0) h in
-    let g = and_parts (takes_hungs (draft stage.View t)) (eqb (length t.view.hungs) 0) f.0 in
-    rw (none t.view.fulls f.1, none t.view.hungs g.1)
+    let e = no_fulls t h in
+    rw (e.0, e.1)
     (ap (λ (ls : List TranscriptLine). line.Config ∷ line.Next t.view.next_id t.view.next_serial ∷ ls)
-    (through (map line.Fd t.view.fds) _ _ (line.Msg x)
-    (through (map line.Link t.view.links) _ _ (line.Msg x)
-    (through (map line.Bind t.view.binds) _ _ (line.Msg x)
-    (through (map line.Route t.view.routes) _ _ (line.Msg x) (last_more line.Msg t.view.msgs x))))))
+    (through (map line.Fd t.view.fds) _ _ _ (through (map line.Link t.view.links) _ _ _
+    (through (map line.Bind t.view.binds) _ _ _ (through (map line.Route t.view.routes) _ _ _
+    (last_more line.Msg t.view.msgs x))))))
 view_more t (line.Full x) h l =
-    let g = and_parts (takes_hungs (draft stage.View t)) (eqb (length t.view.hungs) 0) h in
-    rw (none t.view.hungs g.1)
+    rw (no_hungs t h)
     (ap (λ (ls : List TranscriptLine). line.Config ∷ line.Next t.view.next_id t.view.next_serial ∷ ls)
-    (through (map line.Fd t.view.fds) _ _ (line.Full x)
-    (through (map line.Link t.view.links) _ _ (line.Full x)
-    (through (map line.Bind t.view.binds) _ _ (line.Full x)
-    (through (map line.Route t.view.routes) _ _ (line.Full x)
-    (through (map line.Msg t.view.msgs) _ _ (line.Full x) (last_more line.Full t.view.fulls x)))))))
+    (through (map line.Fd t.view.fds) _ _ _ (through (map line.Link t.view.links) _ _ _
+    (through (map line.Bind t.view.binds) _ _ _ (through (map line.Route t.view.routes) _ _ _
+    (through (map line.Msg t.view.msgs) _ _ _ (last_more line.Full t.view.fulls x)))))))
 view_more t (line.Hung x) h l =
     ap (λ (ls : List TranscriptLine). line.Config ∷ line.Next t.view.next_id t.view.next_serial ∷ ls)
-    (through (map line.Fd t.view.fds) _ _ (line.Hung x)
-    (through (map line.Link t.view.links) _ _ (line.Hung x)
-    (through (map line.Bind t.view.binds) _ _ (line.Hung x)
-    (through (map line.Route t.view.routes) _ _ (line.Hung x)
-    (through (map line.Msg t.view.msgs) _ _ (line.Hung x)
-    (through (map line.Full t.view.fulls) _ _ (line.Hung x) (map_push line.Hung t.view.hungs x)))))))
-view_more t line.End h l = absurd cc
+    (through (map line.Fd t.view.fds) _ _ _ (through (map line.Link t.view.links) _ _ _
+    (through (map line.Bind t.view.binds) _ _ _ (through (map line.Route t.view.routes) _ _ _
+    (through (map line.Msg t.view.msgs) _ _ _ (through (map line.Full t.view.fulls) _ _ _
+    (map_push line.Hung t.view.hungs x)))))))
+view_more t k h l = absurd cc
 
 -- a line that is taken is the last
 pub more_by : (s : Stage) (t : Transcript) (k : TranscriptLine) → takes (draft s t) k ≡ true
@@ -172,55 +151,17 @@ more_by stage.History t (line.Driver x) h l =
 more_by stage.History t (line.Entry x) h l = rw map_push (simp (append-nil, append_assoc))
 more_by stage.History t line.Config h l =
     behind (map line.Driver t.drivers) (map line.Entry t.entries) [] (line.Config ∷ []) line.Config refl
-more_by stage.History t (line.Next id serial) h l = absurd cc
-more_by stage.History t (line.Fd x) h l = absurd cc
-more_by stage.History t (line.Link x) h l = absurd cc
-more_by stage.History t (line.Bind x) h l = absurd cc
-more_by stage.History t (line.Route x) h l = absurd cc
-more_by stage.History t (line.Msg x) h l = absurd cc
-more_by stage.History t (line.Full x) h l = absurd cc
-more_by stage.History t (line.Hung x) h l = absurd cc
-more_by stage.History t line.End h l = absurd cc
-more_by stage.Config t (line.Driver x) h l = absurd cc
-more_by stage.Config t (line.Entry x) h l = absurd cc
-more_by stage.Config t line.Config h l = absurd cc
 more_by stage.Config t (line.Next id serial) h l =
     behind (map line.Driver t.drivers) (map line.Entry t.entries) (line.Config ∷ [])
     (line.Config ∷ line.Next id serial ∷ []) (line.Next id serial) refl
-more_by stage.Config t (line.Fd x) h l = absurd cc
-more_by stage.Config t (line.Link x) h l = absurd cc
-more_by stage.Config t (line.Bind x) h l = absurd cc
-more_by stage.Config t (line.Route x) h l = absurd cc
-more_by stage.Config t (line.Msg x) h l = absurd cc
-more_by stage.Config t (line.Full x) h l = absurd cc
-more_by stage.Config t (line.Hung x) h l = absurd cc
-more_by stage.Config t line.End h l = absurd cc
 more_by stage.View t (line.Driver x) h l = absurd cc
 more_by stage.View t (line.Entry x) h l = absurd cc
 more_by stage.View t line.Config h l = absurd cc
 more_by stage.View t (line.Next id serial) h l = absurd cc
-more_by stage.View t (line.Fd x) h l =
-    behind (map line.Driver t.drivers) (map line.Entry t.entries) (shown stage.View t.view) _ (line.Fd x)
-    (view_more t (line.Fd x) h l)
-more_by stage.View t (line.Link x) h l =
-    behind (map line.Driver t.drivers) (map line.Entry t.entries) (shown stage.View t.view) _ (line.Link x)
-    (view_more t (line.Link x) h l)
-more_by stage.View t (line.Bind x) h l =
-    behind (map line.Driver t.drivers) (map line.Entry t.entries) (shown stage.View t.view) _ (line.Bind x)
-    (view_more t (line.Bind x) h l)
-more_by stage.View t (line.Route x) h l =
-    behind (map line.Driver t.drivers) (map line.Entry t.entries) (shown stage.View t.view) _ (line.Route x)
-    (view_more t (line.Route x) h l)
-more_by stage.View t (line.Msg x) h l =
-    behind (map line.Driver t.drivers) (map line.Entry t.entries) (shown stage.View t.view) _ (line.Msg x)
-    (view_more t (line.Msg x) h l)
-more_by stage.View t (line.Full x) h l =
-    behind (map line.Driver t.drivers) (map line.Entry t.entries) (shown stage.View t.view) _ (line.Full x)
-    (view_more t (line.Full x) h l)
-more_by stage.View t (line.Hung x) h l =
-    behind (map line.Driver t.drivers) (map line.Entry t.entries) (shown stage.View t.view) _ (line.Hung x)
-    (view_more t (line.Hung x) h l)
 more_by stage.View t line.End h l = absurd cc
+more_by stage.View t k h l =
+    behind (map line.Driver t.drivers) (map line.Entry t.entries) (shown stage.View t.view) _ k (view_more t k h l)
+more_by s t k h l = absurd cc
 
 -- a draft with one more line, which it takes and which is not the end, has that line behind its own
 pub lines_more : (d : TranscriptDraft) (k : TranscriptLine) → takes d k ≡ true → is_line k ≡ true
@@ -268,130 +209,69 @@ run_lines (k ∷ ks) d e h =
 
 -- ---- the lines of a transcript give that transcript
 
+-- lines of one kind, each of which puts what it tells behind the others of its kind, put all of it there
+run_each : {X : Type 0} (line_of : X → TranscriptLine) (put : List X → TranscriptDraft) (rest : List TranscriptLine)
+    → ((xs : List X) (x : X) (ks : List TranscriptLine)
+    → run (put xs) (line_of x ∷ ks) ≡ run (put (xs ++ x ∷ [])) ks)
+    → (xs ys : List X) → run (put xs) (map line_of ys ++ rest) ≡ run (put (xs ++ ys)) rest
+run_each {X} line_of put rest one xs [] = ap (λ (zs : List X). run (put zs) rest) (sym (append-nil xs))
+run_each {X} line_of put rest one xs (y ∷ ys) = one xs y (map line_of ys ++ rest)
+    ∙ run_each line_of put rest one (xs ++ y ∷ []) ys
+    ∙ ap (λ (zs : List X). run (put zs) rest) (append_assoc xs (y ∷ []) ys)
+
 abbrev in_history : Version → List DriverSpec → List Entry → TranscriptDraft
 in_history version ds es =
     draft stage.History (record { version = version; drivers = ds; entries = es; view = new_view 0 0 })
 
-push_assoc : {A : Type 0} (xs : List A) (y : A) (ys : List A) → (xs ++ y ∷ []) ++ ys ≡ xs ++ y ∷ ys
-push_assoc xs y ys = append_assoc xs (y ∷ []) ys
-
 -- the lines of some drivers, taken before any entry, put these drivers behind those that were read
 pub run_drivers : (version : Version) (ds0 ds : List DriverSpec) (rest : List TranscriptLine)
     → run (in_history version ds0 []) (map line.Driver ds ++ rest) ≡ run (in_history version (ds0 ++ ds) []) rest
-run_drivers version ds0 [] rest = ap (λ (ds : List DriverSpec). run (in_history version ds []) rest)
-    (sym (append-nil ds0))
-run_drivers version ds0 (d ∷ ds) rest = run_drivers version (ds0 ++ d ∷ []) ds rest
-    ∙ ap (λ (es : List DriverSpec). run (in_history version es []) rest) (push_assoc ds0 d ds)
+run_drivers version ds0 ds rest =
+    run_each line.Driver (λ ds. in_history version ds []) rest (λ xs x ks. refl) ds0 ds
 
 -- the lines of some entries, taken before `config`, put these entries behind those that were read
 pub run_entries : (version : Version) (ds : List DriverSpec) (es0 es : List Entry) (rest : List TranscriptLine)
     → run (in_history version ds es0) (map line.Entry es ++ rest) ≡ run (in_history version ds (es0 ++ es)) rest
-run_entries version ds es0 [] rest = ap (λ (es : List Entry). run (in_history version ds es) rest)
-    (sym (append-nil es0))
-run_entries version ds es0 (e ∷ es) rest = run_entries version ds (es0 ++ e ∷ []) es rest
-    ∙ ap (λ (xs : List Entry). run (in_history version ds xs) rest) (push_assoc es0 e es)
+run_entries version ds es0 es rest =
+    run_each line.Entry (λ es. in_history version ds es) rest (λ xs x ks. refl) es0 es
 
-module _ (version : Version) (ds : List DriverSpec) (es : List Entry) (id serial : ℕ) where
-  abbrev in_view : List DescriptorLine → List LinkLine → List BindingLine → List RouteLine → List MessageLine
-      → List FullLine → List HungLine → TranscriptDraft
-  in_view fds links binds routes msgs fulls hungs =
-      draft stage.View
-      (record {
-        version = version;
-        drivers = ds;
-        entries = es;
-        view = record {
-          next_id = id;
-          next_serial = serial;
-          fds = fds;
-          links = links;
-          binds = binds;
-          routes = routes;
-          msgs = msgs;
-          fulls = fulls;
-          hungs = hungs;
-        };
-      })
+abbrev in_view : Transcript → List DescriptorLine → List LinkLine → List BindingLine → List RouteLine
+    → List MessageLine → List FullLine → List HungLine → TranscriptDraft
+in_view t fds links binds routes msgs fulls hungs =
+    draft stage.View
+    (record t {
+      view = record {
+        next_id = t.view.next_id;
+        next_serial = t.view.next_serial;
+        fds = fds;
+        links = links;
+        binds = binds;
+        routes = routes;
+        msgs = msgs;
+        fulls = fulls;
+        hungs = hungs;
+      };
+    })
 
-  run_fds : (xs ys : List DescriptorLine) (rest : List TranscriptLine)
-      → run (in_view xs [] [] [] [] [] []) (map line.Fd ys ++ rest)
-      ≡ run (in_view (xs ++ ys) [] [] [] [] [] []) rest
-  run_fds xs [] rest = ap (λ (zs : List DescriptorLine). run (in_view zs [] [] [] [] [] []) rest) (sym (append-nil xs))
-  run_fds xs (y ∷ ys) rest = run_fds (xs ++ y ∷ []) ys rest
-      ∙ ap (λ (zs : List DescriptorLine). run (in_view zs [] [] [] [] [] []) rest) (push_assoc xs y ys)
-
-  run_links : (fds : List DescriptorLine) (xs ys : List LinkLine) (rest : List TranscriptLine)
-      → run (in_view fds xs [] [] [] [] []) (map line.Link ys ++ rest)
-      ≡ run (in_view fds (xs ++ ys) [] [] [] [] []) rest
-  run_links fds xs [] rest = ap (λ (zs : List LinkLine). run (in_view fds zs [] [] [] [] []) rest) (sym (append-nil xs))
-  run_links fds xs (y ∷ ys) rest = run_links fds (xs ++ y ∷ []) ys rest
-      ∙ ap (λ (zs : List LinkLine). run (in_view fds zs [] [] [] [] []) rest) (push_assoc xs y ys)
-
-  run_binds : (fds : List DescriptorLine) (links : List LinkLine) (xs ys : List BindingLine)
-      (rest : List TranscriptLine) → run (in_view fds links xs [] [] [] []) (map line.Bind ys ++ rest)
-      ≡ run (in_view fds links (xs ++ ys) [] [] [] []) rest
-  run_binds fds links xs [] rest =
-      ap (λ (zs : List BindingLine). run (in_view fds links zs [] [] [] []) rest) (sym (append-nil xs))
-  run_binds fds links xs (y ∷ ys) rest = run_binds fds links (xs ++ y ∷ []) ys rest
-      ∙ ap (λ (zs : List BindingLine). run (in_view fds links zs [] [] [] []) rest) (push_assoc xs y ys)
-
-  run_routes : (fds : List DescriptorLine) (links : List LinkLine) (binds : List BindingLine)
-      (xs ys : List RouteLine) (rest : List TranscriptLine)
-      → run (in_view fds links binds xs [] [] []) (map line.Route ys ++ rest)
-      ≡ run (in_view fds links binds (xs ++ ys) [] [] []) rest
-  run_routes fds links binds xs [] rest =
-      ap (λ (zs : List RouteLine). run (in_view fds links binds zs [] [] []) rest) (sym (append-nil xs))
-  run_routes fds links binds xs (y ∷ ys) rest = run_routes fds links binds (xs ++ y ∷ []) ys rest
-      ∙ ap (λ (zs : List RouteLine). run (in_view fds links binds zs [] [] []) rest) (push_assoc xs y ys)
-
-  run_msgs : (fds : List DescriptorLine) (links : List LinkLine) (binds : List BindingLine)
-      (routes : List RouteLine) (xs ys : List MessageLine) (rest : List TranscriptLine)
-      → run (in_view fds links binds routes xs [] []) (map line.Msg ys ++ rest)
-      ≡ run (in_view fds links binds routes (xs ++ ys) [] []) rest
-  run_msgs fds links binds routes xs [] rest =
-      ap (λ (zs : List MessageLine). run (in_view fds links binds routes zs [] []) rest) (sym (append-nil xs))
-  run_msgs fds links binds routes xs (y ∷ ys) rest = run_msgs fds links binds routes (xs ++ y ∷ []) ys rest
-      ∙ ap (λ (zs : List MessageLine). run (in_view fds links binds routes zs [] []) rest) (push_assoc xs y ys)
-
-  run_fulls : (fds : List DescriptorLine) (links : List LinkLine) (binds : List BindingLine)
-      (routes : List RouteLine) (msgs : List MessageLine) (xs ys : List FullLine) (rest : List TranscriptLine)
-      → run (in_view fds links binds routes msgs xs []) (map line.Full ys ++ rest)
-      ≡ run (in_view fds links binds routes msgs (xs ++ ys) []) rest
-  run_fulls fds links binds routes msgs xs [] rest =
-      ap (λ (zs : List FullLine). run (in_view fds links binds routes msgs zs []) rest) (sym (append-nil xs))
-  run_fulls fds links binds routes msgs xs (y ∷ ys) rest =
-      run_fulls fds links binds routes msgs (xs ++ y ∷ []) ys rest
-      ∙ ap (λ (zs : List FullLine). run (in_view fds links binds routes msgs zs []) rest) (push_assoc xs y ys)
-
-  run_hungs : (fds : List DescriptorLine) (links : List LinkLine) (binds : List BindingLine)
-      (routes : List RouteLine) (msgs : List MessageLine) (fulls : List FullLine) (xs ys : List HungLine)
-      (rest : List TranscriptLine)
-      → run (in_view fds links binds routes msgs fulls xs) (map line.Hung ys ++ rest)
-      ≡ run (in_view fds links binds routes msgs fulls (xs ++ ys)) rest
-  run_hungs fds links binds routes msgs fulls xs [] rest =
-      ap (λ (zs : List HungLine). run (in_view fds links binds routes msgs fulls zs) rest) (sym (append-nil xs))
-  run_hungs fds links binds routes msgs fulls xs (y ∷ ys) rest =
-      run_hungs fds links binds routes msgs fulls (xs ++ y ∷ []) ys rest
-      ∙ ap (λ (zs : List HungLine). run (in_view fds links binds routes msgs fulls zs) rest) (push_assoc xs y ys)
-
-  run_view : (fds : List DescriptorLine) (links : List LinkLine) (binds : List BindingLine)
-      (routes : List RouteLine) (msgs : List MessageLine) (fulls : List FullLine) (hungs : List HungLine)
-      → run (in_view [] [] [] [] [] [] []) (map line.Fd fds
-      ++ (map line.Link links
-      ++ (map line.Bind binds ++ (map line.Route routes ++ (map line.Msg msgs
-      ++ (map line.Full fulls ++ map line.Hung hungs))))))
-      ≡ Some (in_view fds links binds routes msgs fulls hungs)
-  run_view fds links binds routes msgs fulls hungs =
-      run_fds [] fds _ ∙ run_links fds [] links _ ∙ run_binds fds links [] binds _
-      ∙ run_routes fds links binds [] routes _ ∙ run_msgs fds links binds routes [] msgs _
-      ∙ run_fulls fds links binds routes msgs [] fulls _
-      ∙ ap (run (in_view fds links binds routes msgs fulls [])) (sym (append-nil (map line.Hung hungs)))
-      ∙ run_hungs fds links binds routes msgs fulls [] hungs []
+-- the lines of a view, taken behind the first of it, give that view
+run_view : (t : Transcript) (v : ConfigView) → run (in_view t [] [] [] [] [] [] []) (map line.Fd v.fds
+    ++ (map line.Link v.links ++ (map line.Bind v.binds ++ (map line.Route v.routes ++ (map line.Msg v.msgs
+    ++ (map line.Full v.fulls ++ map line.Hung v.hungs))))))
+    ≡ Some (in_view t v.fds v.links v.binds v.routes v.msgs v.fulls v.hungs)
+run_view t v =
+    run_each line.Fd (λ xs. in_view t xs [] [] [] [] [] []) _ (λ xs x ks. refl) [] v.fds
+    ∙ run_each line.Link (λ xs. in_view t v.fds xs [] [] [] [] []) _ (λ xs x ks. refl) [] v.links
+    ∙ run_each line.Bind (λ xs. in_view t v.fds v.links xs [] [] [] []) _ (λ xs x ks. refl) [] v.binds
+    ∙ run_each line.Route (λ xs. in_view t v.fds v.links v.binds xs [] [] []) _ (λ xs x ks. refl) [] v.routes
+    ∙ run_each line.Msg (λ xs. in_view t v.fds v.links v.binds v.routes xs [] []) _ (λ xs x ks. refl) [] v.msgs
+    ∙ run_each line.Full (λ xs. in_view t v.fds v.links v.binds v.routes v.msgs xs []) _ (λ xs x ks. refl) [] v.fulls
+    ∙ ap (run (in_view t v.fds v.links v.binds v.routes v.msgs v.fulls [])) (sym (append-nil (map line.Hung v.hungs)))
+    ∙ run_each line.Hung (λ xs. in_view t v.fds v.links v.binds v.routes v.msgs v.fulls xs) [] (λ xs x ks. refl) []
+    v.hungs
 
 -- the lines of a transcript, taken one by one from the first, give that transcript
 pub run_body : (t : Transcript) → run (new_draft t.version) (body t) ≡ Some (draft stage.View t)
 run_body t =
     run_drivers t.version [] t.drivers (map line.Entry t.entries ++ line.Config ∷ view_body t.view)
     ∙ run_entries t.version t.drivers [] t.entries (line.Config ∷ view_body t.view)
-    ∙ run_view t.version t.drivers t.entries t.view.next_id t.view.next_serial t.view.fds t.view.links t.view.binds
-    t.view.routes t.view.msgs t.view.fulls t.view.hungs
+    ∙ run_view t t.view

@@ -70,16 +70,7 @@ takes d line.End = is_view d.stage
 abbrev pub is_full : TranscriptDraft → TranscriptLine → Bool
 is_full d (line.Driver x) = nat_le (most_drivers d.transcript.version) (length d.transcript.drivers)
 is_full d (line.Entry x) = nat_le MAX_COMMANDS (length d.transcript.entries)
-is_full d line.Config = false
-is_full d (line.Next id serial) = false
-is_full d (line.Fd x) = false
-is_full d (line.Link x) = false
-is_full d (line.Bind x) = false
-is_full d (line.Route x) = false
-is_full d (line.Msg x) = false
-is_full d (line.Full x) = false
-is_full d (line.Hung x) = false
-is_full d line.End = false
+is_full d k = false
 
 infixl 10 ◌>>=◌
 -- what follows on a value that may be missing: nothing where it is

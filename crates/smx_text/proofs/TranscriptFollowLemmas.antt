@@ -32,18 +32,8 @@ pub record Grows (d e : TranscriptDraft) : Type 0 where
 -- a line doesn't change the version
 pub version_stays : (d : TranscriptDraft) (k : TranscriptLine)
     → (with_line d k).transcript.version ≡ d.transcript.version
-version_stays d (line.Driver x) = refl
-version_stays d (line.Entry x) = refl
-version_stays d line.Config = refl
-version_stays d (line.Next id serial) = refl
-version_stays d (line.Fd x) = refl
-version_stays d (line.Link x) = refl
-version_stays d (line.Bind x) = refl
-version_stays d (line.Route x) = refl
-version_stays d (line.Msg x) = refl
-version_stays d (line.Full x) = refl
-version_stays d (line.Hung x) = refl
 version_stays d line.End = refl
+version_stays d k = refl
 
 one_grows : (d : TranscriptDraft) (k : TranscriptLine) → Grows d (with_line d k)
 one_grows d (line.Driver x) =
@@ -58,16 +48,7 @@ one_grows d (line.Entry x) =
       drivers = omega arith;
       entries = omega (arith, length-append d.transcript.entries (x ∷ []));
     }
-one_grows d line.Config = record { version = refl; drivers = omega arith; entries = omega arith }
-one_grows d (line.Next id serial) = record { version = refl; drivers = omega arith; entries = omega arith }
-one_grows d (line.Fd x) = record { version = refl; drivers = omega arith; entries = omega arith }
-one_grows d (line.Link x) = record { version = refl; drivers = omega arith; entries = omega arith }
-one_grows d (line.Bind x) = record { version = refl; drivers = omega arith; entries = omega arith }
-one_grows d (line.Route x) = record { version = refl; drivers = omega arith; entries = omega arith }
-one_grows d (line.Msg x) = record { version = refl; drivers = omega arith; entries = omega arith }
-one_grows d (line.Full x) = record { version = refl; drivers = omega arith; entries = omega arith }
-one_grows d (line.Hung x) = record { version = refl; drivers = omega arith; entries = omega arith }
-one_grows d line.End = record { version = refl; drivers = omega arith; entries = omega arith }
+one_grows d k = record { version = refl; drivers = omega arith; entries = omega arith }
 
 -- while lines are taken, the version stays, and drivers and entries don't get fewer
 pub run_grows : (ks : List TranscriptLine) (d e : TranscriptDraft) → run d ks ≡ Some e → Grows d e
@@ -97,16 +78,7 @@ not_full d (line.Driver x) within = let len = length-append d.transcript.drivers
     let most = within.drivers in grind (arith, nat_tests)
 not_full d (line.Entry x) within = let len = length-append d.transcript.entries (x ∷ []) in
     let most = within.entries in grind (arith, nat_tests)
-not_full d line.Config within = refl
-not_full d (line.Next id serial) within = refl
-not_full d (line.Fd x) within = refl
-not_full d (line.Link x) within = refl
-not_full d (line.Bind x) within = refl
-not_full d (line.Route x) within = refl
-not_full d (line.Msg x) within = refl
-not_full d (line.Full x) within = refl
-not_full d (line.Hung x) within = refl
-not_full d line.End within = refl
+not_full d k within = refl
 
 -- and what is not one too many is within the limits
 pub still_within : (d : TranscriptDraft) (k : TranscriptLine) → IsWithin d → is_full d k ≡ false
@@ -115,16 +87,7 @@ still_within d (line.Driver x) within h = let len = length-append d.transcript.d
     record { drivers = grind (arith, nat_tests); entries = within.entries }
 still_within d (line.Entry x) within h = let len = length-append d.transcript.entries (x ∷ []) in
     record { drivers = within.drivers; entries = grind (arith, nat_tests) }
-still_within d line.Config within h = record { drivers = within.drivers; entries = within.entries }
-still_within d (line.Next id serial) within h = record { drivers = within.drivers; entries = within.entries }
-still_within d (line.Fd x) within h = record { drivers = within.drivers; entries = within.entries }
-still_within d (line.Link x) within h = record { drivers = within.drivers; entries = within.entries }
-still_within d (line.Bind x) within h = record { drivers = within.drivers; entries = within.entries }
-still_within d (line.Route x) within h = record { drivers = within.drivers; entries = within.entries }
-still_within d (line.Msg x) within h = record { drivers = within.drivers; entries = within.entries }
-still_within d (line.Full x) within h = record { drivers = within.drivers; entries = within.entries }
-still_within d (line.Hung x) within h = record { drivers = within.drivers; entries = within.entries }
-still_within d line.End within h = record { drivers = within.drivers; entries = within.entries }
+still_within d k within h = record { drivers = within.drivers; entries = within.entries }
 
 -- the line behind some lines of a whole is the end, or one of the whole
 split_end : (xs ls more : List TranscriptLine) (k : TranscriptLine) → xs ++ line.End ∷ [] ≡ ls ++ k ∷ more
@@ -214,18 +177,8 @@ takes_may version d k h = by_kind (is_line k) refl where
 
   is_end : (d : TranscriptDraft) (k : TranscriptLine) → is_line k ≡ false → takes d k ≡ true
       → GoesOn (transcript_grammar version) (next_of d k) (lines d) k
-  is_end d (line.Driver x) off h = absurd cc
-  is_end d (line.Entry x) off h = absurd cc
-  is_end d line.Config off h = absurd cc
-  is_end d (line.Next id serial) off h = absurd cc
-  is_end d (line.Fd x) off h = absurd cc
-  is_end d (line.Link x) off h = absurd cc
-  is_end d (line.Bind x) off h = absurd cc
-  is_end d (line.Route x) off h = absurd cc
-  is_end d (line.Msg x) off h = absurd cc
-  is_end d (line.Full x) off h = absurd cc
-  is_end d (line.Hung x) off h = absurd cc
   is_end d line.End off h = at_end d.stage d.transcript h
+  is_end d k off h = absurd cc
 
   regroup : (ls : List TranscriptLine) (k : TranscriptLine) (rest : List TranscriptLine)
       → ((ls ++ k ∷ []) ++ rest) ++ line.End ∷ [] ≡ ls ++ k ∷ (rest ++ line.End ∷ [])
@@ -254,15 +207,5 @@ next_allowed d k h room within fits one =
       fits_next k true l h one =
           subst (AllByRecursion (FitsLine d.transcript.version)) (sym (lines_more d k h l))
           (all_push (FitsLine d.transcript.version) (lines d) k fits one)
-      fits_next (line.Driver x) false l h one = absurd cc
-      fits_next (line.Entry x) false l h one = absurd cc
-      fits_next line.Config false l h one = absurd cc
-      fits_next (line.Next id serial) false l h one = absurd cc
-      fits_next (line.Fd x) false l h one = absurd cc
-      fits_next (line.Link x) false l h one = absurd cc
-      fits_next (line.Bind x) false l h one = absurd cc
-      fits_next (line.Route x) false l h one = absurd cc
-      fits_next (line.Msg x) false l h one = absurd cc
-      fits_next (line.Full x) false l h one = absurd cc
-      fits_next (line.Hung x) false l h one = absurd cc
       fits_next line.End false l h one = fits
+      fits_next k false l h one = absurd cc

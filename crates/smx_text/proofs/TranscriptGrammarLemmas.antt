@@ -1,6 +1,6 @@
 -- The lines of a transcript text can be told apart.
 use Rattle.std.proofs.Common.{◌≡◌, ◌≢◌, ℕ, ◌<◌, ◌≤◌, Bool, true, false, Result, Some, ◌++◌, ◌^◌, List}
-use Rattle.std.proofs.Common.{◌∷◌, refl, sym, ap, subst, ◌∙◌, arith, rules}
+use Rattle.std.proofs.Common.{[], ◌∷◌, refl, sym, ap, subst, ◌∙◌, arith, rules}
 use Rattle.std.specs.Fmt.{decimal}
 use Rattle.std.specs.Prelude.{codes, OnOk, IfErr, if◌then◌else◌}
 use Rattle.std.specs.Str.{bytes_eq, all_ascii_digits}
@@ -13,6 +13,7 @@ use Rattle.smx_types.specs.declared.command.Entry.{Entry}
 use Rattle.smx_types.specs.declared.driver.DriverSpec.{DriverSpec}
 use Rattle.smx_types.specs.declared.transcript.Transcript.{Transcript}
 use Rattle.smx_types.specs.declared.view.BindingLine.{BindingLine}
+use Rattle.smx_types.specs.declared.view.ConfigView.{ConfigView}
 use Rattle.smx_types.specs.declared.view.DescriptorLine.{DescriptorLine}
 use Rattle.smx_types.specs.declared.version.Version.{Version}
 use Rattle.smx_types.specs.declared.version.Version.TheVariants.{V1, V2}
@@ -31,16 +32,16 @@ use Rattle.smx_text.specs.declared.text_fault.Cause.TheVariants as cause
 use Rattle.smx_text.specs.declared.transcript.draft.Stage.TheVariants as stage
 use Rattle.smx_text.specs.declared.transcript.draft.TranscriptDraft.{TranscriptDraft}
 use Rattle.smx_text.specs.Drafts.{grammar_of, lines}
-use Rattle.smx_text.specs.Grammar.{Continues, IsNoLine, IsOneLine, header, line_text}
-use Rattle.smx_text.specs.Reading.{Refuses, AddsLine, RefusesLine}
+use Rattle.smx_text.specs.Grammar.{IsBegun, IsNoLine, IsOneLine, header, line_text}
+use Rattle.smx_text.specs.Reading.{Refuses, RefusesLine, AnswersLine, AnswersText}
 use Rattle.smx_text.specs.TranscriptLines.{TranscriptLine}
 use Rattle.smx_text.specs.TranscriptLines as line
 use Rattle.smx_text.specs.TranscriptText.{line_words, FitsHungIn, FitsLine, body, transcript_grammar}
 use Rattle.smx_text.proofs.GrammarLemmas.{IsWellMade}
-use Rattle.smx_text.proofs.ReadingLemmas.{refuses, on_added, on_refused}
-use Rattle.smx_text.proofs.TranscriptDrafts.{new_draft, takes}
+use Rattle.smx_text.proofs.ReadingLemmas.{refuses, answers}
+use Rattle.smx_text.proofs.TranscriptDrafts.{new_draft, takes, is_full, with_line, with_view}
 use Rattle.smx_text.proofs.TranscriptDraftLemmas.{draft, run, run_append, run_body, taken}
-use Rattle.smx_text.proofs.TranscriptLemmas.{misplaced, some_of}
+use Rattle.smx_text.proofs.TranscriptLemmas.{misplaced, some_of, is_group, group_answers}
 use Rattle.smx_text.proofs.TranscriptWholeLemmas.{fits_body}
 use Rattle.smx_text.proofs.VersionLemmas.{AreVersions}
 use Rattle.smx_text.proofs.LineWordLemmas.{one_spelling, first_word, end_spelled, config_spelled, one_line_of, differ}
@@ -115,18 +116,8 @@ number_kind n small =
 -- the first word of a line that can be told tells of which kind it is
 pub kind_first : (version : Version) (k : TranscriptLine) → FitsLine version k
     → kind_at (first_word (line_words k)) ≡ kind_of k
-kind_first version (line.Driver d) fits = refl
 kind_first version (line.Entry e) fits = number_kind e.process (omega (arith, fits.0.process))
-kind_first version line.Config fits = refl
-kind_first version (line.Next id serial) fits = refl
-kind_first version (line.Fd d) fits = refl
-kind_first version (line.Link l) fits = refl
-kind_first version (line.Bind b) fits = refl
-kind_first version (line.Route r) fits = refl
-kind_first version (line.Msg m) fits = refl
-kind_first version (line.Full f) fits = refl
-kind_first version (line.Hung h) fits = refl
-kind_first version line.End fits = refl
+kind_first version k fits = refl
 
 -- ---- lines
 
@@ -217,20 +208,24 @@ versions = record { made = well_made; differ = differ (codes "transcript 1") (co
 
 -- ---- what is done with a line that was read is done with its text
 
--- if a line that was read is the last of longer lines, its text goes on so
-pub on_added_line : {A : Type 0} (version : Version) (ls longer : List TranscriptLine) (k : TranscriptLine)
-    (text : List ℕ) → text ≡ line_text (transcript_grammar version) k → (r : Result A Cause)
-    → OnOk r (AddsLine (transcript_grammar version) ls k longer)
-    → OnOk r (Continues (transcript_grammar version) ls text longer)
-on_added_line version ls longer k text is r h = on_added (transcript_grammar version) ls longer k text is r h
+-- what is answered to a line that was read is answered to its text
+pub answers_line : {A : Type 0} (version : Version) (ls longer : List TranscriptLine) (k : TranscriptLine)
+    (text : List ℕ) → FitsLine version k × (text ≡ line_text (transcript_grammar version) k) → (r : Result A Cause)
+    → AnswersLine (transcript_grammar version) ls k longer r → AnswersText (transcript_grammar version) ls text longer r
+answers_line version = answers (transcript_grammar version) (tells_apart version)
 
--- if a line that was read is refused, its text is refused for the same cause
-pub on_refused_line : {A : Type 0} (version : Version) (ls : List TranscriptLine) (k : TranscriptLine) (text : List ℕ)
-    → FitsLine version k → text ≡ line_text (transcript_grammar version) k → (r : Result A Cause)
-    → IfErr r (RefusesLine (transcript_grammar version) ls k)
-    → IfErr r (Refuses (transcript_grammar version) ls text)
-on_refused_line version ls k text fits is r h =
-    on_refused (transcript_grammar version) (tells_apart version) ls k text fits is r h
+-- what is answered to the text of a line of a group of the view by who puts it behind the others, if it may come
+pub group_text : {A X : Type 0} (d : TranscriptDraft) (k : TranscriptLine) (text : List ℕ)
+    → IsBegun (grammar_of d) (lines d) → is_group k ≡ true → is_full d k ≡ false → k ≢ line.End
+    → (put : List X → ConfigView) (old new : List X) (x : X) (takes_it : Bool) → takes_it ≡ takes d k
+    → with_line d k ≡ with_view d (put (old ++ x ∷ []))
+    → FitsLine d.transcript.version k × (text ≡ line_text (grammar_of d) k)
+    → (r : Result A Cause) → OnOk r ((takes_it ≡ true) × (new ≡ old ++ x ∷ []))
+    → IfErr r (λ why. why ≡ (if takes_it then cause.NoMemory else cause.Form))
+    → AnswersText (grammar_of d) (lines d) text (lines (draft d.stage (record d.transcript { view = put new }))) r
+group_text d k text begun group room other put old new x takes_it may is spelled r ok err =
+    answers_line d.transcript.version (lines d) (lines (draft d.stage (record d.transcript { view = put new }))) k text
+    spelled r (group_answers d k begun group room other put old new x takes_it may is spelled.0 r ok err)
 
 -- the cause for which a line may not follow is one for which its text is refused
 pub refused_line : (version : Version) (ls : List TranscriptLine) (k : TranscriptLine) (text : List ℕ)

@@ -1,21 +1,24 @@
 -- What a reader does with a line behind those of a transcript that is being read.
 use Rattle.std.proofs.Common.{◌≡◌, ◌≢◌, Bool, true, false, List, [], ◌∷◌, ◌++◌, map, Option, Some, None}
 use Rattle.std.proofs.Common.{refl, sym, ap, subst, ◌∙◌, arith}
+use Rattle.std.specs.Prelude.{Result, Ok, Err, OnOk, IfErr, if◌then◌else◌}
 use Rattle.std.specs.List.{AllByRecursion}
 use Rattle.smx_types.specs.declared.transcript.Transcript.{Transcript}
 use Rattle.smx_types.specs.declared.version.Version.{Version}
+use Rattle.smx_types.specs.declared.view.ConfigView.{ConfigView}
+use Rattle.smx_text.specs.declared.text_fault.Cause.{Cause}
 use Rattle.smx_text.specs.declared.text_fault.Cause.TheVariants as cause
 use Rattle.smx_text.specs.declared.transcript.draft.Stage.{Stage}
 use Rattle.smx_text.specs.declared.transcript.draft.Stage.TheVariants as stage
 use Rattle.smx_text.specs.declared.transcript.draft.TranscriptDraft.{TranscriptDraft}
 use Rattle.smx_text.specs.Drafts.{grammar_of, lines}
 use Rattle.smx_text.specs.Grammar.{IsBegun}
-use Rattle.smx_text.specs.Reading.{AddsLine, RefusesLine}
+use Rattle.smx_text.specs.Reading.{AddsLine, RefusesLine, AnswersLine}
 use Rattle.smx_text.specs.TranscriptLines.{TranscriptLine}
 use Rattle.smx_text.specs.TranscriptLines as line
 use Rattle.smx_text.specs.TranscriptText.{FitsLine, body, IsAllowed, transcript_grammar}
 use Rattle.smx_text.proofs.EachLemmas.{all_left}
-use Rattle.smx_text.proofs.TranscriptDrafts.{◌>>=◌, new_view, new_draft, takes, is_full, with_line}
+use Rattle.smx_text.proofs.TranscriptDrafts.{◌>>=◌, new_view, new_draft, takes, is_full, with_line, with_view}
 use Rattle.smx_text.proofs.TranscriptDraftLemmas.{draft, not_end, lines_more, run, run_append, run_lines}
 use Rattle.smx_text.proofs.TranscriptDraftLemmas.{run_drivers, run_entries, run_body}
 use Rattle.smx_text.proofs.TranscriptWholeLemmas.{completes, still, IsWithin, fits_body, allowed}
@@ -44,31 +47,10 @@ led : (d : TranscriptDraft) → run (new_draft d.transcript.version) (lines d) �
 led d = led_by d.stage d.transcript
 
 takes_clean_by : (s : Stage) (t : Transcript) (k : TranscriptLine) → takes (clean_by s t) k ≡ takes (draft s t) k
-takes_clean_by stage.History t (line.Driver x) = refl
-takes_clean_by stage.History t (line.Entry x) = refl
-takes_clean_by stage.History t line.Config = refl
-takes_clean_by stage.History t (line.Next id serial) = refl
-takes_clean_by stage.History t (line.Fd x) = refl
-takes_clean_by stage.History t (line.Link x) = refl
-takes_clean_by stage.History t (line.Bind x) = refl
-takes_clean_by stage.History t (line.Route x) = refl
-takes_clean_by stage.History t (line.Msg x) = refl
-takes_clean_by stage.History t (line.Full x) = refl
-takes_clean_by stage.History t (line.Hung x) = refl
 takes_clean_by stage.History t line.End = refl
-takes_clean_by stage.Config t (line.Driver x) = refl
-takes_clean_by stage.Config t (line.Entry x) = refl
-takes_clean_by stage.Config t line.Config = refl
-takes_clean_by stage.Config t (line.Next id serial) = refl
-takes_clean_by stage.Config t (line.Fd x) = refl
-takes_clean_by stage.Config t (line.Link x) = refl
-takes_clean_by stage.Config t (line.Bind x) = refl
-takes_clean_by stage.Config t (line.Route x) = refl
-takes_clean_by stage.Config t (line.Msg x) = refl
-takes_clean_by stage.Config t (line.Full x) = refl
-takes_clean_by stage.Config t (line.Hung x) = refl
 takes_clean_by stage.Config t line.End = refl
 takes_clean_by stage.View t k = refl
+takes_clean_by s t k = refl
 
 full_clean_by : (s : Stage) (t : Transcript) (k : TranscriptLine) → is_full (draft s t) k ≡ true
     → is_full (clean_by s t) k ≡ true
@@ -181,7 +163,8 @@ whole d begun view =
 
 -- ---- lines of the groups of a view
 
-abbrev is_group : TranscriptLine → Bool
+-- the line is of a group of the view
+abbrev pub is_group : TranscriptLine → Bool
 is_group (line.Driver x) = false
 is_group (line.Entry x) = false
 is_group line.Config = false
@@ -198,40 +181,36 @@ is_group line.End = false
 in_view_by : (s : Stage) (t : Transcript) (k : TranscriptLine) → is_group k ≡ true
     → takes (draft s t) k ≡ true → s ≡ stage.View
 in_view_by stage.View t k group may = refl
-in_view_by stage.History t (line.Driver x) group may = absurd cc
-in_view_by stage.History t (line.Entry x) group may = absurd cc
-in_view_by stage.History t line.Config group may = absurd cc
-in_view_by stage.History t (line.Next id serial) group may = absurd cc
-in_view_by stage.History t (line.Fd x) group may = absurd cc
-in_view_by stage.History t (line.Link x) group may = absurd cc
-in_view_by stage.History t (line.Bind x) group may = absurd cc
-in_view_by stage.History t (line.Route x) group may = absurd cc
-in_view_by stage.History t (line.Msg x) group may = absurd cc
-in_view_by stage.History t (line.Full x) group may = absurd cc
-in_view_by stage.History t (line.Hung x) group may = absurd cc
 in_view_by stage.History t line.End group may = absurd cc
-in_view_by stage.Config t (line.Driver x) group may = absurd cc
-in_view_by stage.Config t (line.Entry x) group may = absurd cc
-in_view_by stage.Config t line.Config group may = absurd cc
-in_view_by stage.Config t (line.Next id serial) group may = absurd cc
-in_view_by stage.Config t (line.Fd x) group may = absurd cc
-in_view_by stage.Config t (line.Link x) group may = absurd cc
-in_view_by stage.Config t (line.Bind x) group may = absurd cc
-in_view_by stage.Config t (line.Route x) group may = absurd cc
-in_view_by stage.Config t (line.Msg x) group may = absurd cc
-in_view_by stage.Config t (line.Full x) group may = absurd cc
-in_view_by stage.Config t (line.Hung x) group may = absurd cc
 in_view_by stage.Config t line.End group may = absurd cc
+in_view_by s t k group may = absurd cc
 
--- a line of a view's group that the draft takes, and that is not too many, is the last of its lines then
-pub group_added : (d : TranscriptDraft) (t : Transcript) (k : TranscriptLine)
-    → IsBegun (grammar_of d) (lines d) → takes d k ≡ true → is_group k ≡ true → is_full d k ≡ false
-    → FitsLine d.transcript.version k → k ≢ line.End
-    → with_line d k ≡ draft stage.View t → AddsLine (grammar_of d) (lines d) k (lines (draft d.stage t))
-group_added d t k begun may group room fits other is =
-    let view = in_view_by d.stage d.transcript k group may in
-    adds d (draft d.stage t) k begun may room fits other (ap (λ (s : Stage). lines (draft s t)) view
-    ∙ sym (ap lines is))
+-- what is answered to a line of a group of the view, which is not too many
+module _ (d : TranscriptDraft) (k : TranscriptLine) (begun : IsBegun (grammar_of d) (lines d))
+    (group : is_group k ≡ true) (room : is_full d k ≡ false) (other : k ≢ line.End) where
+  -- where it is spelled and taken, it is the last of its group
+  added : (v : ConfigView) → FitsLine d.transcript.version k → takes d k ≡ true → with_line d k ≡ with_view d v
+      → AddsLine (grammar_of d) (lines d) k (lines (draft d.stage (record d.transcript { view = v })))
+  added v fits may is =
+      let view = in_view_by d.stage d.transcript k group may in
+      adds d (draft d.stage (record d.transcript { view = v })) k begun may room fits other
+      (ap (λ (s : Stage). lines (draft s (record d.transcript { view = v }))) view ∙ sym (ap lines is))
+
+  -- where it is not, that is for its form, or for want of memory if it may come
+  pub group_refused : (takes_it : Bool) → takes_it ≡ takes d k → FitsLine d.transcript.version k → (why : Cause)
+      → why ≡ (if takes_it then cause.NoMemory else cause.Form) → RefusesLine (grammar_of d) (lines d) k why
+  group_refused true may fits why is = rw is (longer_begun d k begun (sym may) room fits other)
+  group_refused false may fits why is = rw is (misplaced d k (sym may))
+
+  -- so it is answered by who puts it behind the others of its group, if it may come
+  pub group_answers : {A X : Type 0} (put : List X → ConfigView) (old new : List X) (x : X) (takes_it : Bool)
+      → takes_it ≡ takes d k → with_line d k ≡ with_view d (put (old ++ x ∷ [])) → FitsLine d.transcript.version k
+      → (r : Result A Cause) → OnOk r ((takes_it ≡ true) × (new ≡ old ++ x ∷ []))
+      → IfErr r (λ why. why ≡ (if takes_it then cause.NoMemory else cause.Form))
+      → AnswersLine (grammar_of d) (lines d) k (lines (draft d.stage (record d.transcript { view = put new }))) r
+  group_answers put old new x takes_it may is fits (Ok u) ok err =
+      rw ok.1 (added (put (old ++ x ∷ [])) fits (sym may ∙ ok.0) is)
+  group_answers put old new x takes_it may is fits (Err why) ok err = group_refused takes_it may fits why err
 
 -- before its first line, a text is the beginning of some allowed transcript
 pub nothing_begun : (version : Version) → IsBegun (transcript_grammar version) []

@@ -18,7 +18,9 @@ use Rattle.smx_types.specs.declared.command.Which.TheVariants as which
 use Rattle.smx_types.specs.declared.driver.DriverKind.TheVariants as kind
 use Rattle.smx_types.specs.declared.version.Version.TheVariants.{V1}
 use Rattle.smx_words.specs.HexWords.{hex_word}
+use Rattle.smx_words.specs.declared.reading.verb.Verb.{Verb}
 use Rattle.smx_words.specs.declared.reading.verb.Verb.TheVariants as verb
+use Rattle.smx_words.specs.Verbs.{verb_word}
 use Rattle.smx_words.specs.Spellable.{FitsBytes, FitsCommand, FitsCommandIn, FitsName, FitsNumber, FitsWhich}
 use Rattle.smx_words.specs.Spelling.{command_words, driver_words, process_words, sides_word, which_word}
 use Rattle.smx_words.specs.Words.{IsFree, SPACE, line_of}
@@ -130,131 +132,114 @@ wrong_words ws free one none driver process end =
     wrong_at_4 (line_of ws) one
     (no_words ws free (λ c fits. none c fits.0) driver process (differ (line_of ws) (codes "end") end))
 
+-- words that stand behind a verb in no command of it
+abbrev IsNone : Verb → List (List ℕ) → Type 0
+IsNone v ws = (c : Command) → FitsCommand c → verb_of c ≡ v → verb_word v ∷ ws ≢ command_words c
+
+no_other : (v : Verb) → (bytes_eq (verb_word v) (codes "driver") ≡ false)
+    × (bytes_eq (verb_word v) (codes "process") ≡ false)
+no_other verb.Clone = (refl, refl)
+no_other v = (refl, refl)
+
+wrong_verb : (v : Verb) (ws : List (List ℕ)) → AllByRecursion (IsFree SPACE) (verb_word v ∷ ws)
+    → IsOneLine (line_of (verb_word v ∷ ws)) → bytes_eq (line_of (verb_word v ∷ ws)) (codes "end") ≡ false
+    → IsNone v ws → AreWrongPrograms (with_line_4 (line_of (verb_word v ∷ ws))) 4 cause.Form
+wrong_verb v ws free one end none =
+    wrong_words (verb_word v ∷ ws) (free, omega arith) one (λ c fits e. none c fits (verb_is c v ws e) e)
+    (no_other v).0 (no_other v).1 end
+
 -- zero is one digit, not two
 pub two_zeros : AreWrongPrograms (with_line_4 (codes "dup 00")) 4 cause.Form
-two_zeros =
-    wrong_words (codes "dup" ∷ codes "00" ∷ []) (search rules, omega arith) (search rules)
-    (λ c fits e. none c fits (verb_is c verb.Dup _ e) e) refl refl refl where
-      none : (c : Command) → FitsCommand c → verb_of c ≡ verb.Dup → codes "dup" ∷ codes "00" ∷ [] ≢ command_words c
-      none (command.Dup n) fits v e = zeros n fits (cc e)
-      none c fits v e = absurd (cc v)
+two_zeros = wrong_verb verb.Dup (codes "00" ∷ []) (search rules) (search rules) refl none where
+  none : IsNone verb.Dup (codes "00" ∷ [])
+  none (command.Dup n) fits v e = zeros n fits (cc e)
+  none c fits v e = absurd (cc v)
 
 -- a number has no sign
 pub a_sign : AreWrongPrograms (with_line_4 (codes "dup +1")) 4 cause.Form
-a_sign = wrong_words (codes "dup" ∷ codes "+1" ∷ []) (search rules, omega arith) (search rules)
-    (λ c fits e. none c fits (verb_is c verb.Dup _ e) e) refl refl refl where
-      none : (c : Command) → FitsCommand c → verb_of c ≡ verb.Dup → codes "dup" ∷ codes "+1" ∷ [] ≢ command_words c
-      none (command.Dup n) fits v e = signed n fits (cc e)
-      none c fits v e = absurd (cc v)
+a_sign = wrong_verb verb.Dup (codes "+1" ∷ []) (search rules) (search rules) refl none where
+  none : IsNone verb.Dup (codes "+1" ∷ [])
+  none (command.Dup n) fits v e = signed n fits (cc e)
+  none c fits v e = absurd (cc v)
 
 -- one space stands between two words, not two
 pub two_spaces : AreWrongPrograms (with_line_4 (codes "close  0")) 4 cause.Form
-two_spaces =
-    wrong_words (codes "close" ∷ [] ∷ codes "0" ∷ []) (search rules, omega arith) (search rules)
-    (λ c fits e. none c fits (verb_is c verb.Close _ e) e) refl refl refl where
-      none : (c : Command) → FitsCommand c → verb_of c ≡ verb.Close
-          → codes "close" ∷ [] ∷ codes "0" ∷ [] ≢ command_words c
-      none (command.Close n) fits v e = omega (arith, ap (length {A = List ℕ}) e)
-      none c fits v e = absurd (cc v)
+two_spaces = wrong_verb verb.Close ([] ∷ codes "0" ∷ []) (search rules) (search rules) refl none where
+  none : IsNone verb.Close ([] ∷ codes "0" ∷ [])
+  none (command.Close n) fits v e = omega (arith, ap (length {A = List ℕ}) e)
+  none c fits v e = absurd (cc v)
 
 -- no space stands behind the last word
 pub a_last_space : AreWrongPrograms (with_line_4 (codes "close 0 ")) 4 cause.Form
-a_last_space =
-    wrong_words (codes "close" ∷ codes "0" ∷ [] ∷ []) (search rules, omega arith) (search rules)
-    (λ c fits e. none c fits (verb_is c verb.Close _ e) e) refl refl refl where
-      none : (c : Command) → FitsCommand c → verb_of c ≡ verb.Close
-          → codes "close" ∷ codes "0" ∷ [] ∷ [] ≢ command_words c
-      none (command.Close n) fits v e = omega (arith, ap (length {A = List ℕ}) e)
-      none c fits v e = absurd (cc v)
+a_last_space = wrong_verb verb.Close (codes "0" ∷ [] ∷ []) (search rules) (search rules) refl none where
+  none : IsNone verb.Close (codes "0" ∷ [] ∷ [])
+  none (command.Close n) fits v e = omega (arith, ap (length {A = List ℕ}) e)
+  none c fits v e = absurd (cc v)
 
 -- a number has at most 32 bits
 pub large_number : AreWrongPrograms (with_line_4 (codes "open ip 4294967296")) 4 cause.Form
-large_number =
-    wrong_words (codes "open" ∷ codes "ip" ∷ codes "4294967296" ∷ []) (search rules, omega arith)
-    (search rules) (λ c fits e. none c fits (verb_is c verb.Open _ e) e) refl refl refl where
-      none : (c : Command) → FitsCommand c → verb_of c ≡ verb.Open
-          → codes "open" ∷ codes "ip" ∷ codes "4294967296" ∷ [] ≢ command_words c
-      none (command.OpenMinor d n) fits v e = too_large n fits.1 (cc e)
-      none c fits v e = absurd (cc v)
+large_number = wrong_verb verb.Open (codes "ip" ∷ codes "4294967296" ∷ []) (search rules) (search rules) refl none where
+  none : IsNone verb.Open (codes "ip" ∷ codes "4294967296" ∷ [])
+  none (command.OpenMinor d n) fits v e = too_large n fits.1 (cc e)
+  none c fits v e = absurd (cc v)
 
 -- a driver's name begins with no digit
 pub digit_first : AreWrongPrograms (with_line_4 (codes "open 9a 0")) 4 cause.Form
-digit_first =
-    wrong_words (codes "open" ∷ codes "9a" ∷ codes "0" ∷ []) (search rules, omega arith) (search rules)
-    (λ c fits e. none c fits (verb_is c verb.Open _ e) e) refl refl refl where
-      none : (c : Command) → FitsCommand c → verb_of c ≡ verb.Open
-          → codes "open" ∷ codes "9a" ∷ codes "0" ∷ [] ≢ command_words c
-      none (command.OpenMinor d n) fits v e = no_digit_first d fits.0 (cc e)
-      none c fits v e = absurd (cc v)
+digit_first = wrong_verb verb.Open (codes "9a" ∷ codes "0" ∷ []) (search rules) (search rules) refl none where
+  none : IsNone verb.Open (codes "9a" ∷ codes "0" ∷ [])
+  none (command.OpenMinor d n) fits v e = no_digit_first d fits.0 (cc e)
+  none c fits v e = absurd (cc v)
 
 -- a driver's name has at most eight bytes
 pub nine_letters : AreWrongPrograms (with_line_4 (codes "clone ninelette")) 4 cause.Form
-nine_letters =
-    wrong_words (codes "clone" ∷ codes "ninelette" ∷ []) (search rules, omega arith) (search rules)
-    (λ c fits e. none c fits (verb_is c verb.Clone _ e) e) refl refl refl where
-      none : (c : Command) → FitsCommand c → verb_of c ≡ verb.Clone
-          → codes "clone" ∷ codes "ninelette" ∷ [] ≢ command_words c
-      none (command.OpenClone d) fits v e = no_nine_letters d fits (cc e)
-      none c fits v e = absurd (cc v)
+nine_letters = wrong_verb verb.Clone (codes "ninelette" ∷ []) (search rules) (search rules) refl none where
+  none : IsNone verb.Clone (codes "ninelette" ∷ [])
+  none (command.OpenClone d) fits v e = no_nine_letters d fits (cc e)
+  none c fits v e = absurd (cc v)
 
 -- `link` has two descriptors, not one
 pub word_wanting : AreWrongPrograms (with_line_4 (codes "link 0")) 4 cause.Form
-word_wanting =
-    wrong_words (codes "link" ∷ codes "0" ∷ []) (search rules, omega arith) (search rules)
-    (λ c fits e. none c fits (verb_is c verb.Link _ e) e) refl refl refl where
-      none : (c : Command) → FitsCommand c → verb_of c ≡ verb.Link → codes "link" ∷ codes "0" ∷ [] ≢ command_words c
-      none (command.Link n m) fits v e = omega (arith, ap (length {A = List ℕ}) e)
-      none c fits v e = absurd (cc v)
+word_wanting = wrong_verb verb.Link (codes "0" ∷ []) (search rules) (search rules) refl none where
+  none : IsNone verb.Link (codes "0" ∷ [])
+  none (command.Link n m) fits v e = omega (arith, ap (length {A = List ℕ}) e)
+  none c fits v e = absurd (cc v)
 
 -- the word for all links is in small letters
 pub capitals : AreWrongPrograms (with_line_4 (codes "unlink 0 ALL")) 4 cause.Form
-capitals =
-    wrong_words (codes "unlink" ∷ codes "0" ∷ codes "ALL" ∷ []) (search rules, omega arith) (search rules)
-    (λ c fits e. none c fits (verb_is c verb.Unlink _ e) e) refl refl refl where
-      none : (c : Command) → FitsCommand c → verb_of c ≡ verb.Unlink
-          → codes "unlink" ∷ codes "0" ∷ codes "ALL" ∷ [] ≢ command_words c
-      none (command.Unlink n x) fits v e = no_capitals x fits.1 (cc e)
-      none c fits v e = absurd (cc v)
+capitals = wrong_verb verb.Unlink (codes "0" ∷ codes "ALL" ∷ []) (search rules) (search rules) refl none where
+  none : IsNone verb.Unlink (codes "0" ∷ codes "ALL" ∷ [])
+  none (command.Unlink n x) fits v e = no_capitals x fits.1 (cc e)
+  none c fits v e = absurd (cc v)
 
 -- both sides of a flush are `rw`, not `wr`
 pub sides_turned : AreWrongPrograms (with_line_4 (codes "flush 0 wr")) 4 cause.Form
-sides_turned =
-    wrong_words (codes "flush" ∷ codes "0" ∷ codes "wr" ∷ []) (search rules, omega arith) (search rules)
-    (λ c fits e. none c fits (verb_is c verb.Flush _ e) e) refl refl refl where
-      none : (c : Command) → FitsCommand c → verb_of c ≡ verb.Flush
-          → codes "flush" ∷ codes "0" ∷ codes "wr" ∷ [] ≢ command_words c
-      none (command.Flush n s) fits v e = turned s (cc e)
-      none c fits v e = absurd (cc v)
+sides_turned = wrong_verb verb.Flush (codes "0" ∷ codes "wr" ∷ []) (search rules) (search rules) refl none where
+  none : IsNone verb.Flush (codes "0" ∷ codes "wr" ∷ [])
+  none (command.Flush n s) fits v e = turned s (cc e)
+  none c fits v e = absurd (cc v)
 
 -- the digits of bytes are small letters
 pub capital_digits : AreWrongPrograms (with_line_4 (codes "write 0 5 AA")) 4 cause.Form
 capital_digits =
-    wrong_words (codes "write" ∷ codes "0" ∷ codes "5" ∷ codes "AA" ∷ []) (search rules, omega arith)
-    (search rules) (λ c fits e. none c fits (verb_is c verb.Write _ e) e) refl refl refl where
-      none : (c : Command) → FitsCommand c → verb_of c ≡ verb.Write
-          → codes "write" ∷ codes "0" ∷ codes "5" ∷ codes "AA" ∷ [] ≢ command_words c
+    wrong_verb verb.Write (codes "0" ∷ codes "5" ∷ codes "AA" ∷ []) (search rules) (search rules) refl none where
+      none : IsNone verb.Write (codes "0" ∷ codes "5" ∷ codes "AA" ∷ [])
       none (command.Write n m bs) fits v e = no_capital_digits bs fits.2 (cc e)
       none c fits v e = absurd (cc v)
 
 -- each byte has two digits
 pub odd_digits : AreWrongPrograms (with_line_4 (codes "write 0 5 aab")) 4 cause.Form
 odd_digits =
-    wrong_words (codes "write" ∷ codes "0" ∷ codes "5" ∷ codes "aab" ∷ []) (search rules, omega arith)
-    (search rules) (λ c fits e. none c fits (verb_is c verb.Write _ e) e) refl refl refl where
-      none : (c : Command) → FitsCommand c → verb_of c ≡ verb.Write
-          → codes "write" ∷ codes "0" ∷ codes "5" ∷ codes "aab" ∷ [] ≢ command_words c
+    wrong_verb verb.Write (codes "0" ∷ codes "5" ∷ codes "aab" ∷ []) (search rules) (search rules) refl none where
+      none : IsNone verb.Write (codes "0" ∷ codes "5" ∷ codes "aab" ∷ [])
       none (command.Write n m bs) fits v e = no_odd_digits bs fits.2 (cc e)
       none c fits v e = absurd (cc v)
 
 -- `write` has a word for its bytes even where there are none
 pub bytes_wanting : AreWrongPrograms (with_line_4 (codes "write 0 5")) 4 cause.Form
-bytes_wanting =
-    wrong_words (codes "write" ∷ codes "0" ∷ codes "5" ∷ []) (search rules, omega arith) (search rules)
-    (λ c fits e. none c fits (verb_is c verb.Write _ e) e) refl refl refl where
-      none : (c : Command) → FitsCommand c → verb_of c ≡ verb.Write
-          → codes "write" ∷ codes "0" ∷ codes "5" ∷ [] ≢ command_words c
-      none (command.Write n m bs) fits v e = omega (arith, ap (length {A = List ℕ}) e)
-      none c fits v e = absurd (cc v)
+bytes_wanting = wrong_verb verb.Write (codes "0" ∷ codes "5" ∷ []) (search rules) (search rules) refl none where
+  none : IsNone verb.Write (codes "0" ∷ codes "5" ∷ [])
+  none (command.Write n m bs) fits v e = omega (arith, ap (length {A = List ℕ}) e)
+  none c fits v e = absurd (cc v)
 
 -- an empty line is no command
 pub no_word : AreWrongPrograms (with_line_4 []) 4 cause.Form

@@ -27,7 +27,7 @@ use Rattle.smx_words.specs.Words.{IsFree, SPACE, line_of}
 use Rattle.smx_words.proofs.NumberLemmas.{own}
 use Rattle.smx_words.proofs.SameCommandLemmas.{verb_first, verb_of}
 use Rattle.smx_words.proofs.SameReplyLemmas.{reply_verb_of, verb_again, verb_at}
-use Rattle.smx_words.proofs.SameWordLemmas.{all_fault, fault_line, first_of_these, found_fault}
+use Rattle.smx_words.proofs.SameWordLemmas.{fault_at, found_fault}
 use Rattle.smx_text.specs.declared.text_fault.Cause.TheVariants as cause
 use Rattle.smx_text.specs.declared.transcript.draft.Stage.TheVariants as stage
 use Rattle.smx_text.specs.declared.transcript.draft.TranscriptDraft.{TranscriptDraft}
@@ -297,7 +297,7 @@ process_64 =
 -- a fault of one word is none of two
 no_fault : (f : Fault) → codes "EINVAL" ∷ [] ≢ fault_words f
 no_fault f e =
-    let none : None ≡ Some f = ap (first_of_these fault_line all_fault) (ap line_of e) ∙ found_fault f in
+    let none : None ≡ Some f = ap fault_at e ∙ found_fault f in
     absurd (cc none)
 
 no_reply : (r : Reply) → codes "EINVAL" ∷ [] ≢ reply_words r

@@ -4,6 +4,7 @@ use Rattle.smx_text.specs.declared.text_fault.Cause.{Cause}
 use Rattle.smx_text.specs.declared.text_fault.Cause.TheVariants as cause
 use Rattle.smx_text.specs.declared.text_fault.TextFault.{TextFault}
 use Rattle.smx_text.specs.Grammar.{Grammar, line_text, IsBegun, MayFollow, IsFull, IsNoLine, IsOneTooMany, IsOneMore}
+use Rattle.smx_text.specs.Grammar.{Continues}
 
 module _ {V K : Type 0} (g : Grammar V K) where
   -- ---- a line as bytes
@@ -45,3 +46,15 @@ module _ {V K : Type 0} (g : Grammar V K) where
   RefusesLine lines k cause.Header = ⊥
   RefusesLine lines k cause.Cut = ⊥
   RefusesLine lines k cause.Trailing = ⊥
+
+  -- ---- what is answered to a line
+
+  -- to one that was read: it is the last of longer lines, or why it is refused behind these
+  abbrev pub AnswersLine : {A : Type 0} → List K → K → List K → Result A Cause → Type 0
+  AnswersLine lines k longer (Ok x) = AddsLine lines k longer
+  AnswersLine lines k longer (Err why) = RefusesLine lines k why
+
+  -- to one as bytes: some allowed value goes on with it behind these lines, or why it is refused there
+  abbrev pub AnswersText : {A : Type 0} → List K → List ℕ → List K → Result A Cause → Type 0
+  AnswersText lines text longer (Ok x) = Continues g lines text longer
+  AnswersText lines text longer (Err why) = Refuses lines text why

@@ -3,10 +3,10 @@
 ghost use Rattle.std.specs.Prelude.{◌≡◌, ◌≢◌, ◌<◌, ◌-◌, ◌^◌, ◌∷◌, ◌++◌, [], List, length, codes, MatchOption};
 ghost use Rattle.std.specs.Prelude.{IfOk, IfErr, OnOk};
 ghost use Rattle.smx_types.specs.declared.version.Version.{Version as AnyVersion};
-ghost use Rattle.smx_text.specs.Grammar.{Grammar, IsBegun, IsOneLine, IsFault, MakesAny, Continues, header};
+ghost use Rattle.smx_text.specs.Grammar.{Grammar, IsBegun, IsOneLine, IsFault, MakesAny, header};
 ghost use Rattle.smx_text.specs.Grammar.{line_text};
 ghost use Rattle.smx_words.specs.Words.{LINE_FEED};
-ghost use Rattle.smx_text.specs.Reading.{Refuses, EndsAs, EndsText};
+ghost use Rattle.smx_text.specs.Reading.{AnswersText, EndsAs, EndsText};
 
 use crate::text_fault::{Cause, TextFault};
 use memchr::memchr;
@@ -51,10 +51,9 @@ pub trait Draft: Drop {
     fn add(&mut self, alloc: Global, text: &[u8]) -> Result<(), Cause>
         requires begun { IsBegun (grammar (version_of self.old)) (lines self.old) }
         requires other { text.now ≢ codes "end" }
-        ensures added { OnOk result
-            (Continues (grammar (version_of self.old)) (lines self.old) text.now (lines self.new)) }
-        ensures version { OnOk result (version_of self.new ≡ version_of self.old) }
-        ensures refused { IfErr result (Refuses (grammar (version_of self.old)) (lines self.old) text.now) };
+        ensures answers { AnswersText (grammar (version_of self.old)) (lines self.old) text.now
+            (lines self.new) result }
+        ensures version { OnOk result (version_of self.new ≡ version_of self.old) };
 
     // What is made of what the lines say, if a text may end behind them.
     fn finish(self) -> Option<Self::Whole>

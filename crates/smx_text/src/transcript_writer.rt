@@ -76,8 +76,8 @@ impl TranscriptWriter {
 
     /// The same of an entry whose command has this line, without a line feed. Fails only for want of memory.
     pub fn add_line(&mut self, process: Process, line: &[u8], reply: &Reply) -> Result<(), NoMemory>
-        ensures { OnOk result ((version : AnyVersion) (drivers : List AnyDriver) (before : List AnyEntry) (command : AnyCommand)
-            → line.now ≡ line_of (command_words command) → FitsCommand command
+        ensures { OnOk result ((version : AnyVersion) (drivers : List AnyDriver) (before : List AnyEntry)
+            (command : AnyCommand) → line.now ≡ line_of (command_words command) → FitsCommand command
             → BeginsTranscript version drivers before self.old → BeginsTranscript version drivers (before
             ++ record { process = process; command = command; reply = reply.now } ∷ []) self.new) }
     {

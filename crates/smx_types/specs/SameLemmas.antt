@@ -58,49 +58,32 @@ apart : (a b : Command) → eqb (number_of a) (number_of b) ≡ false → of_com
 apart a b other says = (λ h. absurd (cc (h, says)), λ e. absurd (differs e)) where
   differs : a ≡ b → ⊥
   differs e =
-      let same : eqb (number_of a) (number_of a) ≡ false = ap (λ (x : Command). eqb (number_of a) (number_of x)) e ∙ other in
+      let same : eqb (number_of a) (number_of a) ≡ false =
+      ap (λ (x : Command). eqb (number_of a) (number_of x)) e ∙ other in
       grind (arith, nat_tests)
 
 -- a search for each kind of command, since all of them at once are too many for one
 pub command_tells : Tells of_command.ghosts.eq
 command_tells (command.OpenClone k) (command.OpenClone k') = search rules
-command_tells (command.OpenClone k) b = apart (command.OpenClone k) b refl refl
 command_tells (command.OpenMinor k l) (command.OpenMinor k' l') = search rules
-command_tells (command.OpenMinor k l) b = apart (command.OpenMinor k l) b refl refl
 command_tells (command.Dup k) (command.Dup k') = search rules
-command_tells (command.Dup k) b = apart (command.Dup k) b refl refl
 command_tells (command.Close k) (command.Close k') = search rules
-command_tells (command.Close k) b = apart (command.Close k) b refl refl
 command_tells command.CloseAll command.CloseAll = search rules
-command_tells command.CloseAll b = apart command.CloseAll b refl refl
 command_tells (command.Link k l) (command.Link k' l') = search rules
-command_tells (command.Link k l) b = apart (command.Link k l) b refl refl
 command_tells (command.Plink k l) (command.Plink k' l') = search rules
-command_tells (command.Plink k l) b = apart (command.Plink k l) b refl refl
 command_tells (command.Unlink k l) (command.Unlink k' l') = search rules
-command_tells (command.Unlink k l) b = apart (command.Unlink k l) b refl refl
 command_tells (command.Punlink k l) (command.Punlink k' l') = search rules
-command_tells (command.Punlink k l) b = apart (command.Punlink k l) b refl refl
 command_tells (command.Bind k l) (command.Bind k' l') = search rules
-command_tells (command.Bind k l) b = apart (command.Bind k l) b refl refl
 command_tells (command.Unbind k) (command.Unbind k') = search rules
-command_tells (command.Unbind k) b = apart (command.Unbind k) b refl refl
 command_tells (command.Route k l m) (command.Route k' l' m') = search rules
-command_tells (command.Route k l m) b = apart (command.Route k l m) b refl refl
 command_tells (command.Unroute k l) (command.Unroute k' l') = search rules
-command_tells (command.Unroute k l) b = apart (command.Unroute k l) b refl refl
 command_tells (command.Write k l m) (command.Write k' l' m') = search rules
-command_tells (command.Write k l m) b = apart (command.Write k l m) b refl refl
 command_tells (command.Read k) (command.Read k') = search rules
-command_tells (command.Read k) b = apart (command.Read k) b refl refl
 command_tells (command.Flush k l) (command.Flush k' l') = search rules
-command_tells (command.Flush k l) b = apart (command.Flush k l) b refl refl
 command_tells (command.Inject k l m n) (command.Inject k' l' m' n') = search rules
-command_tells (command.Inject k l m n) b = apart (command.Inject k l m n) b refl refl
 command_tells (command.Transmit k l) (command.Transmit k' l') = search rules
-command_tells (command.Transmit k l) b = apart (command.Transmit k l) b refl refl
 command_tells (command.Hangup k l) (command.Hangup k' l') = search rules
-command_tells (command.Hangup k l) b = apart (command.Hangup k l) b refl refl
+command_tells a b = apart a b refl refl
 
 pub reply_tells : Tells of_reply.ghosts.eq
 reply_tells a b = search rules

@@ -1,5 +1,7 @@
 //! What `==` tells of the values of this crate: exactly whether both are the same.
 
+ghost use Rattle.std.proofs.Common.{rules};
+
 use crate::command::{Command, Entry, Sides, Which};
 use crate::driver::{DriverKind, DriverSpec, SpecFault};
 use crate::items::Items;
@@ -38,176 +40,118 @@ impl<T: Same> Same for Items<T> {
 }
 
 impl Same for u8 {
-    ghost use Rattle.std.proofs.Common.{rules};
-
     ghost tells = { Prim.search rules };
 }
 
 impl Same for u32 {
-    ghost use Rattle.std.proofs.Common.{rules};
-
     ghost tells = { Prim.search rules };
 }
 
 impl Same for Name {
-    ghost use Rattle.std.proofs.Common.{rules};
-
     ghost tells = { Prim.search rules };
 }
 
 impl Same for Process {
-    ghost use Rattle.std.proofs.Common.{rules};
-
     ghost tells = { Prim.search rules };
 }
 
 impl Same for NoMemory {
-    ghost use Rattle.std.proofs.Common.{rules};
-
     ghost tells = { Prim.search rules };
 }
 
 impl Same for Which {
-    ghost use Rattle.std.proofs.Common.{rules};
-
     ghost tells = { Prim.search rules };
 }
 
 impl Same for Sides {
-    ghost use Rattle.std.proofs.Common.{rules};
-
     ghost tells = { Prim.search rules };
 }
 
 impl Same for DriverKind {
-    ghost use Rattle.std.proofs.Common.{rules};
-
     ghost tells = { Prim.search rules };
 }
 
 impl Same for DriverSpec {
-    ghost use Rattle.std.proofs.Common.{rules};
-
     ghost tells = { Prim.search rules };
 }
 
 impl Same for SpecFault {
-    ghost use Rattle.std.proofs.Common.{rules};
-
     ghost tells = { Prim.search rules };
 }
 
 impl Same for LinkKind {
-    ghost use Rattle.std.proofs.Common.{rules};
-
     ghost tells = { Prim.search rules };
 }
 
 impl Same for Link {
-    ghost use Rattle.std.proofs.Common.{rules};
-
     ghost tells = { Prim.search rules };
 }
 
 impl Same for Binding {
-    ghost use Rattle.std.proofs.Common.{rules};
-
     ghost tells = { Prim.search rules };
 }
 
 impl Same for Route {
-    ghost use Rattle.std.proofs.Common.{rules};
-
     ghost tells = { Prim.search rules };
 }
 
 impl Same for StreamId {
-    ghost use Rattle.std.proofs.Common.{rules};
-
     ghost tells = { Prim.search rules };
 }
 
 impl Same for Side {
-    ghost use Rattle.std.proofs.Common.{rules};
-
     ghost tells = { Prim.search rules };
 }
 
 impl Same for Place {
-    ghost use Rattle.std.proofs.Common.{rules};
-
     ghost tells = { Prim.search rules };
 }
 
 impl Same for Descriptor {
-    ghost use Rattle.std.proofs.Common.{rules};
-
     ghost tells = { Prim.search rules };
 }
 
 impl Same for Fault {
-    ghost use Rattle.std.proofs.Common.{rules};
-
     ghost tells = { Prim.search rules };
 }
 
 impl Same for DescriptorLine {
-    ghost use Rattle.std.proofs.Common.{rules};
-
     ghost tells = { Prim.search rules };
 }
 
 impl Same for LinkLine {
-    ghost use Rattle.std.proofs.Common.{rules};
-
     ghost tells = { Prim.search rules };
 }
 
 impl Same for BindingLine {
-    ghost use Rattle.std.proofs.Common.{rules};
-
     ghost tells = { Prim.search rules };
 }
 
 impl Same for RouteLine {
-    ghost use Rattle.std.proofs.Common.{rules};
-
     ghost tells = { Prim.search rules };
 }
 
 impl Same for HungLine {
-    ghost use Rattle.std.proofs.Common.{rules};
-
     ghost tells = { Prim.search rules };
 }
 
 impl Same for Version {
-    ghost use Rattle.std.proofs.Common.{rules};
-
     ghost tells = { Prim.search rules };
 }
 
 impl Same for FullLine {
-    ghost use Rattle.std.proofs.Common.{rules};
-
     ghost tells = { Prim.search rules };
 }
 
 impl Same for Message {
-    ghost use Rattle.std.proofs.Common.{rules};
-
     ghost tells = { Prim.search rules };
 }
 
 impl Same for Reply {
-    ghost use Rattle.std.proofs.Common.{rules};
-
     ghost tells = { Prim.search rules };
 }
 
 impl Same for MessageLine {
-    ghost use Rattle.std.proofs.Common.{rules};
-
     ghost tells = { Prim.search rules };
 }
 
@@ -237,7 +181,6 @@ impl Same for ConfigView {
 
 impl Same for Transcript {
     ghost use Rattle.smx_types.specs.SameLemmas.{drivers_tell, entries_tell, view_tells};
-    ghost use Rattle.std.proofs.Common.{rules};
 
     ghost tells = { Prim.search (rules, drivers_tell, entries_tell, view_tells) };
 }

@@ -1,13 +1,15 @@
--- Whether some value is spelled so is told for words, for words in order, and for the line of words.
-use Rattle.std.proofs.Common.{◌≡◌, ◌≢◌, ℕ, Bool, true, false, List, [], ◌∷◌, ◌++◌, map, Option, Some, None}
-use Rattle.std.proofs.Common.{refl, sym, ap, subst, ◌∙◌, arith, inl, inr}
-use Rattle.std.specs.Prelude.{◌⊎◌}
-use Rattle.std.specs.List.{AllByRecursion}
+-- Words of some values: none is of two of them, and whether words are of one is told for words, for words in order, and
+-- for the line of words.
+use Rattle.std.proofs.Common.{◌≡◌, ◌≢◌, ℕ, ◌<◌, ◌≤◌, Bool, true, false, ◌&&◌, List, [], ◌∷◌, ◌++◌, length, map}
+use Rattle.std.proofs.Common.{Option, Some, None, refl, sym, ap, subst, ◌∙◌, arith, inl, inr}
+use Rattle.std.specs.Prelude.{◌⊎◌, nat_le}
+use Rattle.std.specs.List.{AllByRecursion, list_all}
 use Rattle.std.specs.Str.{bytes_eq}
+use Rattle.std.proofs.lemmas.Bool.Decides.{nat_tests}
 use Rattle.std.proofs.lemmas.Slice.Eq.{bytes_eq-Decides}
 use Rattle.smx_words.specs.LineReading.{IsReadAs}
-use Rattle.smx_words.specs.Words.{AreWords, SPACE, line_of}
-use Rattle.smx_words.proofs.LineLemmas.{same_free_words, words_free, words_in}
+use Rattle.smx_words.specs.Words.{IsWord, SPACE, line_of}
+use Rattle.smx_words.proofs.LineLemmas.{same_free_words, same_words, words_free, words_in}
 
 -- a value that fits and is spelled so
 abbrev Has : {X S : Type 0} → (X → Type 0) → (X → S) → S → Type 0
@@ -17,9 +19,17 @@ Has {X} {S} Fits spelling s = (x : X) × Fits x × (s ≡ spelling x)
 abbrev pub Answer : {X S : Type 0} → (X → Type 0) → (X → S) → S → Type 0
 Answer {X} {S} Fits spelling s = Has Fits spelling s ⊎ ((x : X) → Fits x → s ≢ spelling x)
 
--- there is such an answer for whatever is asked of
-pub record IsDecided {X S : Type 0} (Fits : X → Type 0) (spelling : X → S) : Type 0 where
-  pub answer : (s : S) → Answer Fits spelling s
+-- each value that fits has a word of its own, and whether a word is one of theirs is told
+pub record HasWord {X : Type 0} (Fits : X → Type 0) (word : X → List ℕ) : Type 0 where
+  pub answer : (w : List ℕ) → Answer Fits word w
+  pub one : (x y : X) → Fits x → Fits y → word x ≡ word y → x ≡ y
+  pub is_word : (x : X) → Fits x → IsWord (word x)
+
+-- each has words of its own, and whether words are those of one is told
+pub record HasWords {X : Type 0} (Fits : X → Type 0) (words : X → List (List ℕ)) : Type 0 where
+  pub answer : (ws : List (List ℕ)) → Answer Fits words ws
+  pub one : (x y : X) → Fits x → Fits y → words x ≡ words y → x ≡ y
+  pub are_words : (x : X) → Fits x → AllByRecursion IsWord (words x)
 
 -- two words are the same or they differ
 pub same_or_not : (w v : List ℕ) → (w ≡ v) ⊎ (w ≢ v)
@@ -30,26 +40,42 @@ same_or_not w v = by_test (bytes_eq w v) refl where
     wrong : true ≡ false → ⊥
     wrong bad = absurd (cc bad)
 
--- two lists of words are the same or they differ
-pub same_words_or_not : (ws vs : List (List ℕ)) → (ws ≡ vs) ⊎ (ws ≢ vs)
-same_words_or_not [] [] = inl refl
-same_words_or_not [] (v ∷ vs) = inr (λ e. absurd (cc e))
-same_words_or_not (w ∷ ws) [] = inr (λ e. absurd (cc e))
-same_words_or_not (w ∷ ws) (v ∷ vs) =
-    elim (same_or_not w v) [
-      | inl first ↦ elim (same_words_or_not ws vs) [
-        | inl more ↦ inl (cc (first, more))
-        | inr other ↦ inr (λ e. other (cc e))
-      ]
-      | inr other ↦ inr (λ e. other (cc e))
-    ]
+-- some bytes that can be seen, as a test
+abbrev is_seen : List ℕ → Bool
+is_seen w = list_all (λ b. nat_le 0x21 b && nat_le b 0x7E) w
+
+abbrev is_word : List ℕ → Bool
+is_word [] = false
+is_word (b ∷ w) = is_seen (b ∷ w)
+
+seen : (w : List ℕ) → is_seen w ≡ true → AllByRecursion (λ b. (0x21 ≤ b) × (b ≤ 0x7E)) w
+seen [] h = tt
+seen (b ∷ w) h = ((grind (arith, nat_tests), grind (arith, nat_tests)), seen w (grind (arith, nat_tests)))
+
+word_is : (w : List ℕ) → is_word w ≡ true → IsWord w
+word_is [] h = absurd (cc h)
+word_is (b ∷ w) h = (omega arith, seen (b ∷ w) h)
+
+-- two pairs of the same parts are the same
+both : {X Y : Type 0} (p q : X × Y) → p.0 ≡ q.0 → p.1 ≡ q.1 → p ≡ q
+both {X} {Y} p q h k = let same : ◌≡◌ {A = X × Y} (p.0, p.1) (q.0, q.1) = cc (h, k) in same
 
 -- ---- words in order
 
+-- no words
+pub nothing : HasWords (λ (x : Unit {0}). Unit {0}) (λ (x : Unit {0}). [])
+nothing = record { answer = answer; one = λ x y h k e. refl; are_words = λ x h. tt } where
+  answer : (ws : List (List ℕ)) → Answer (λ (x : Unit {0}). Unit {0}) (λ (x : Unit {0}). []) ws
+  answer [] = inl (tt, tt, refl)
+  answer (w ∷ ws) = inr (λ x fits e. absurd (cc e))
+
 -- one word, then no more
-pub last : {X : Type 0} {Fits : X → Type 0} {word : X → List ℕ} → IsDecided Fits word
-    → IsDecided Fits (λ x. word x ∷ [])
-last {X} {Fits} {word} d = record { answer = answer } where
+pub last : {X : Type 0} {Fits : X → Type 0} {word : X → List ℕ} → HasWord Fits word → HasWords Fits (λ x. word x ∷ [])
+last {X} {Fits} {word} d = record {
+  answer = answer;
+  one = λ x y h k e. d.one x y h k (cc e);
+  are_words = λ x h. (d.is_word x h, tt);
+} where
   answer : (ws : List (List ℕ)) → Answer Fits (λ x. word x ∷ []) ws
   answer [] = inr (λ x fits e. absurd (cc e))
   answer (w ∷ []) =
@@ -61,9 +87,13 @@ last {X} {Fits} {word} d = record { answer = answer } where
 
 -- one word, then others
 pub first : {X Y : Type 0} {Fits : X → Type 0} {word : X → List ℕ} {FitsMore : Y → Type 0}
-    {words : Y → List (List ℕ)} → IsDecided Fits word → IsDecided FitsMore words
-    → IsDecided (λ (p : X × Y). Fits p.0 × FitsMore p.1) (λ (p : X × Y). word p.0 ∷ words p.1)
-first {X} {Y} {Fits} {word} {FitsMore} {words} d more = record { answer = answer } where
+    {words : Y → List (List ℕ)} → HasWord Fits word → HasWords FitsMore words
+    → HasWords (λ (p : X × Y). Fits p.0 × FitsMore p.1) (λ (p : X × Y). word p.0 ∷ words p.1)
+first {X} {Y} {Fits} {word} {FitsMore} {words} d more = record {
+  answer = answer;
+  one = λ p q h k e. both p q (d.one p.0 q.0 h.0 k.0 (cc e)) (more.one p.1 q.1 h.1 k.1 (cc e));
+  are_words = λ p h. (d.is_word p.0 h.0, more.are_words p.1 h.1);
+} where
   answer : (ws : List (List ℕ))
       → Answer (λ (p : X × Y). Fits p.0 × FitsMore p.1) (λ (p : X × Y). word p.0 ∷ words p.1) ws
   answer [] = inr (λ x fits e. absurd (cc e))
@@ -77,9 +107,13 @@ first {X} {Y} {Fits} {word} {FitsMore} {words} d more = record { answer = answer
       ]
 
 -- a word that stands for nothing, then others
-pub after : {X : Type 0} {Fits : X → Type 0} {words : X → List (List ℕ)} (word : List ℕ)
-    → IsDecided Fits words → IsDecided Fits (λ x. word ∷ words x)
-after {X} {Fits} {words} word d = record { answer = answer } where
+pub after : {X : Type 0} {Fits : X → Type 0} {words : X → List (List ℕ)} (word : List ℕ) → is_word word ≡ true
+    → HasWords Fits words → HasWords Fits (λ x. word ∷ words x)
+after {X} {Fits} {words} word is d = record {
+  answer = answer;
+  one = λ x y h k e. d.one x y h k (cc e);
+  are_words = λ x h. (word_is word is, d.are_words x h);
+} where
   answer : (ws : List (List ℕ)) → Answer Fits (λ x. word ∷ words x) ws
   answer [] = inr (λ x fits e. absurd (cc e))
   answer (w ∷ ws) =
@@ -91,16 +125,20 @@ after {X} {Fits} {words} word d = record { answer = answer } where
         | inr other ↦ inr (λ x fits e. other (cc e))
       ]
 
--- these words alone
-pub exactly : (words : List (List ℕ)) → IsDecided (λ (x : Unit {0}). Unit {0}) (λ (x : Unit {0}). words)
-exactly words = record { answer = answer } where
-  answer : (ws : List (List ℕ)) → Answer (λ (x : Unit {0}). Unit {0}) (λ (x : Unit {0}). words) ws
-  answer ws = elim (same_words_or_not ws words) [ inl is ↦ inl (tt, tt, is) | inr other ↦ inr (λ x fits e. other e) ]
-
 -- a word for each of some values
-pub each : {X : Type 0} {Fits : X → Type 0} {word : X → List ℕ} → IsDecided Fits word
-    → IsDecided (AllByRecursion Fits) (map word)
-each {X} {Fits} {word} d = record { answer = answer } where
+pub each : {X : Type 0} {Fits : X → Type 0} {word : X → List ℕ} → HasWord Fits word
+    → HasWords (AllByRecursion Fits) (map word)
+each {X} {Fits} {word} d = record { answer = answer; one = one; are_words = are_words } where
+  one : (xs ys : List X) → AllByRecursion Fits xs → AllByRecursion Fits ys → map word xs ≡ map word ys → xs ≡ ys
+  one [] [] h k e = refl
+  one [] (y ∷ ys) h k e = absurd (cc e)
+  one (x ∷ xs) [] h k e = absurd (cc e)
+  one (x ∷ xs) (y ∷ ys) h k e = cc (d.one x y h.0 k.0 (cc e), one xs ys h.1 k.1 (cc e))
+
+  are_words : (xs : List X) → AllByRecursion Fits xs → AllByRecursion IsWord (map word xs)
+  are_words [] h = tt
+  are_words (x ∷ xs) h = (d.is_word x h.0, are_words xs h.1)
+
   answer : (ws : List (List ℕ)) → Answer (AllByRecursion Fits) (map word) ws
   answer [] = inl ([], tt, refl)
   answer (w ∷ ws) =
@@ -120,98 +158,116 @@ each {X} {Fits} {word} d = record { answer = answer } where
         no_first none [] fits e = absurd (cc e)
         no_first none (x ∷ xs) fits e = none x fits.0 (cc e)
 
-at_front : {P Q : List (List ℕ) → Type 0} → ((a : List (List ℕ)) → P a ⊎ (P a → ⊥))
-    → ((b : List (List ℕ)) → Q b ⊎ (Q b → ⊥)) → (ws : List (List ℕ)) → (P [] × Q ws) ⊎ (P [] → Q ws → ⊥)
-at_front p q ws =
-    elim (p []) [
-      | inl h ↦ elim (q ws) [ inl k ↦ inl (h, k) | inr none ↦ inr (λ g k. none k) ]
-      | inr none ↦ inr (λ h k. none h)
-    ]
-
--- words of two properties, one after the other
-cut : {P Q : List (List ℕ) → Type 0} → ((a : List (List ℕ)) → P a ⊎ (P a → ⊥))
-    → ((b : List (List ℕ)) → Q b ⊎ (Q b → ⊥)) → (ws : List (List ℕ))
-    → ((a : List (List ℕ)) × (b : List (List ℕ)) × P a × Q b × (ws ≡ a ++ b))
-    ⊎ ((a b : List (List ℕ)) → P a → Q b → ws ≢ a ++ b)
-cut {P} {Q} p q [] =
-    elim (at_front p q []) [ inl y ↦ inl ([], [], y.0, y.1, refl) | inr none ↦ inr (nowhere none) ] where
-      nowhere : (P [] → Q [] → ⊥) → (a b : List (List ℕ)) → P a → Q b → [] ≢ a ++ b
-      nowhere none [] b h k e = none h (subst Q (sym e) k)
-      nowhere none (c ∷ a) b h k e = absurd (cc e)
-cut {P} {Q} p q (w ∷ ws) =
-    elim (at_front p q (w ∷ ws)) [
-      | inl y ↦ inl ([], w ∷ ws, y.0, y.1, refl)
-      | inr none ↦ elim (cut {P = λ a. P (w ∷ a)} {Q = Q} (λ a. p (w ∷ a)) q ws) [
-        | inl z ↦ inl (w ∷ z.0, z.1, z.2, z.3, ap (λ (x : List (List ℕ)). w ∷ x) z.4)
-        | inr later ↦ inr (nowhere none later)
-      ]
-    ] where
-      nowhere : (P [] → Q (w ∷ ws) → ⊥) → ((a b : List (List ℕ)) → P (w ∷ a) → Q b → ws ≢ a ++ b)
-          → (a b : List (List ℕ)) → P a → Q b → w ∷ ws ≢ a ++ b
-      nowhere none later [] b h k e = none h (subst Q (sym e) k)
-      nowhere none later (c ∷ a) b h k e = let same : c ≡ w = cc e in
-          later a b (subst (λ (x : List ℕ). P (x ∷ a)) same h) k (cc e)
-
-has_or_not : {X : Type 0} {Fits : X → Type 0} {words : X → List (List ℕ)} → IsDecided Fits words
-    → (ws : List (List ℕ)) → Has Fits words ws ⊎ (Has Fits words ws → ⊥)
-has_or_not d ws = elim (d.answer ws) [ inl p ↦ inl p | inr none ↦ inr (λ p. none p.0 p.1 p.2) ]
-
--- words of one value, then of another
+-- words of one value, a word that is none of them, and words of another value
 pub joined : {X Y : Type 0} {Fits : X → Type 0} {words : X → List (List ℕ)} {FitsMore : Y → Type 0}
-    {more : Y → List (List ℕ)} → IsDecided Fits words → IsDecided FitsMore more
-    → IsDecided (λ (p : X × Y). Fits p.0 × FitsMore p.1) (λ (p : X × Y). words p.0 ++ more p.1)
-joined {X} {Y} {Fits} {words} {FitsMore} {more} d e = record { answer = answer } where
+    {more : Y → List (List ℕ)} (sign : List ℕ) → is_word sign ≡ true → HasWords Fits words
+    → ((x : X) → Fits x → AllByRecursion (λ w. w ≢ sign) (words x)) → HasWords FitsMore more
+    → HasWords (λ (p : X × Y). Fits p.0 × FitsMore p.1) (λ (p : X × Y). words p.0 ++ sign ∷ more p.1)
+joined {X} {Y} {Fits} {words} {FitsMore} {more} sign is d free m = record {
+  answer = λ ws. answer ws (cut ws);
+  one = λ p q h k e.
+      let t = alone (words p.0) (words q.0) _ _ (free p.0 h.0) (free q.0 k.0) e in
+      both p q (d.one p.0 q.0 h.0 k.0 t.0) (m.one p.1 q.1 h.1 k.1 t.1);
+  are_words = λ p h. and_more (words p.0) (more p.1) (d.are_words p.0 h.0) (m.are_words p.1 h.1);
+} where
+  -- the sign is found in one place
+  alone : (a c b e : List (List ℕ)) → AllByRecursion (λ w. w ≢ sign) a → AllByRecursion (λ w. w ≢ sign) c
+      → a ++ sign ∷ b ≡ c ++ sign ∷ e → (a ≡ c) × (b ≡ e)
+  alone [] [] b e h k is = (refl, cc is)
+  alone [] (y ∷ c) b e h k is = absurd (k.0 (cc is))
+  alone (x ∷ a) [] b e h k is = absurd (h.0 (cc is))
+  alone (x ∷ a) (y ∷ c) b e h k is =
+      let first : x ≡ y = cc is in
+      let t = alone a c b e h.1 k.1 (cc is) in
+      (cc (first, t.0), t.1)
+
+  -- or nowhere
+  cut : (ws : List (List ℕ))
+      → ((a : List (List ℕ)) × (b : List (List ℕ)) × AllByRecursion (λ w. w ≢ sign) a × (ws ≡ a ++ sign ∷ b))
+      ⊎ ((a b : List (List ℕ)) → ws ≢ a ++ sign ∷ b)
+  cut [] = inr none where
+    none : (a b : List (List ℕ)) → [] ≢ a ++ sign ∷ b
+    none [] b e = absurd (cc e)
+    none (x ∷ a) b e = absurd (cc e)
+  cut (w ∷ ws) =
+      elim (same_or_not w sign) [
+        | inl here ↦ inl ([], ws, tt, ap (λ (v : List ℕ). v ∷ ws) here)
+        | inr other ↦ elim (cut ws) [
+          | inl c ↦ inl (w ∷ c.0, c.1, (other, c.2), ap (λ (vs : List (List ℕ)). w ∷ vs) c.3)
+          | inr none ↦ inr (later other none)
+        ]
+      ] where
+        later : w ≢ sign → ((a b : List (List ℕ)) → ws ≢ a ++ sign ∷ b) → (a b : List (List ℕ))
+            → w ∷ ws ≢ a ++ sign ∷ b
+        later other none [] b e = other (cc e)
+        later other none (x ∷ a) b e = none a b (cc e)
+
   answer : (ws : List (List ℕ))
-      → Answer (λ (p : X × Y). Fits p.0 × FitsMore p.1) (λ (p : X × Y). words p.0 ++ more p.1) ws
-  answer ws =
-      elim (cut {P = Has Fits words} {Q = Has FitsMore more} (has_or_not d) (has_or_not e) ws) [
-        | inl c ↦ let x = c.2 in let y = c.3 in let whole = c.4 in let one = x.2 in let two = y.2 in
-            inl ((x.0, y.0), (x.1, y.1), cc (whole, one, two))
-        | inr none ↦ inr (λ p fits is. none (words p.0) (more p.1) (p.0, fits.0, refl) (p.1, fits.1, refl) is)
+      → ((a : List (List ℕ)) × (b : List (List ℕ)) × AllByRecursion (λ w. w ≢ sign) a × (ws ≡ a ++ sign ∷ b))
+      ⊎ ((a b : List (List ℕ)) → ws ≢ a ++ sign ∷ b)
+      → Answer (λ (p : X × Y). Fits p.0 × FitsMore p.1) (λ (p : X × Y). words p.0 ++ sign ∷ more p.1) ws
+  answer ws (inr none) = inr (λ p fits e. none (words p.0) (more p.1) e)
+  answer ws (inl (a, b, clear, whole)) =
+      elim (d.answer a) [
+        | inl x ↦ elim (m.answer b) [
+          | inl y ↦ let one = x.2 in let two = y.2 in inl ((x.0, y.0), (x.1, y.1), cc (whole, one, two))
+          | inr none ↦ inr (λ p fits e.
+              none p.1 fits.1 (alone a (words p.0) b (more p.1) clear (free p.0 fits.0) (sym whole ∙ e)).1)
+        ]
+        | inr none ↦ inr (λ p fits e.
+            none p.0 fits.0 (alone a (words p.0) b (more p.1) clear (free p.0 fits.0) (sym whole ∙ e)).0)
       ]
 
--- ---- other values for the same spelling
+  and_more : (ws vs : List (List ℕ)) → AllByRecursion IsWord ws → AllByRecursion IsWord vs
+      → AllByRecursion IsWord (ws ++ sign ∷ vs)
+  and_more [] vs h k = (word_is sign is, k)
+  and_more (w ∷ ws) vs h k = (h.0, and_more ws vs h.1 k)
+
+-- ---- other values for the same words
 
 -- the values that others stand for
-pub via : {X Y S : Type 0} {Fits : X → Type 0} {spelling : X → S} {FitsOther : Y → Type 0} {other : Y → S}
-    → IsDecided FitsOther other
+pub via : {X Y : Type 0} {Fits : X → Type 0} {words : X → List (List ℕ)} {FitsOther : Y → Type 0}
+    {other : Y → List (List ℕ)} → HasWords FitsOther other
     → (make : Y → X) → (back : X → Y) → ((y : Y) → FitsOther y → Fits (make y))
-    → ((x : X) → Fits x → FitsOther (back x)) → ((y : Y) → other y ≡ spelling (make y))
-    → ((x : X) → spelling x ≡ other (back x))
-    → IsDecided Fits spelling
-via {X} {Y} {S} {Fits} {spelling} d make back to from is was = record { answer = answer } where
-  answer : (s : S) → Answer Fits spelling s
-  answer s =
-      elim (d.answer s) [
+    → ((x : X) → Fits x → FitsOther (back x)) → ((y : Y) → other y ≡ words (make y)) → ((x : X) → make (back x) ≡ x)
+    → HasWords Fits words
+via {X} {Y} {Fits} {words} {FitsOther} {other} d make back to from is same = record {
+  answer = answer;
+  one = λ x y h k e.
+      sym (same x)
+      ∙ ap make (d.one (back x) (back y) (from x h) (from y k) (sym (was x) ∙ e ∙ was y)) ∙ same y;
+  are_words = λ x h. subst (AllByRecursion IsWord) (sym (was x)) (d.are_words (back x) (from x h));
+} where
+  was : (x : X) → words x ≡ other (back x)
+  was x = ap words (sym (same x)) ∙ sym (is (back x))
+
+  answer : (ws : List (List ℕ)) → Answer Fits words ws
+  answer ws =
+      elim (d.answer ws) [
         | inl p ↦ inl (make p.0, to p.0 p.1, p.2 ∙ is p.0)
         | inr none ↦ inr (λ x fits e. none (back x) (from x fits) (e ∙ was x))
       ]
 
 -- the values of one form, or else others
-pub or_else : {X Y S : Type 0} {Fits : X → Type 0} {spelling : X → S} {FitsOther : Y → Type 0}
-    {other : Y → S} {s : S} → IsDecided FitsOther other → (make : Y → X)
-    → ((y : Y) → FitsOther y → Fits (make y)) → ((y : Y) → other y ≡ spelling (make y))
-    → (((y : Y) → FitsOther y → s ≢ other y) → Answer Fits spelling s) → Answer Fits spelling s
-or_else {s = s} d make to is rest =
-    elim (d.answer s) [ inl p ↦ inl (make p.0, to p.0 p.1, p.2 ∙ is p.0) | inr none ↦ rest none ]
-
--- one of these values, or none of them
-pub one_of : {X S : Type 0} (spelling : X → S) (same : (s t : S) → (s ≡ t) ⊎ (s ≢ t)) (xs : List X) (s : S)
-    → ((x : X) × (s ≡ spelling x)) ⊎ AllByRecursion (λ x. s ≢ spelling x) xs
-one_of spelling same [] s = inr tt
-one_of spelling same (x ∷ xs) s =
-    elim (same s (spelling x)) [
-      | inl is ↦ inl (x, is)
-      | inr other ↦ elim (one_of spelling same xs s) [ inl p ↦ inl p | inr none ↦ inr (other, none) ]
-    ]
+pub or_else : {X Y : Type 0} {Fits : X → Type 0} {words : X → List (List ℕ)} {FitsOther : Y → Type 0}
+    {other : Y → List (List ℕ)} {ws : List (List ℕ)} → HasWords FitsOther other → (make : Y → X)
+    → ((y : Y) → FitsOther y → Fits (make y)) → ((y : Y) → other y ≡ words (make y))
+    → (((y : Y) → FitsOther y → ws ≢ other y) → Answer Fits words ws) → Answer Fits words ws
+or_else {ws = ws} d make to is rest =
+    elim (d.answer ws) [ inl p ↦ inl (make p.0, to p.0 p.1, p.2 ∙ is p.0) | inr none ↦ rest none ]
 
 -- ---- lines
 
--- so where words have an answer, each line has a reading
-pub reading : {X : Type 0} {Fits : X → Type 0} {words_of : X → List (List ℕ)} → IsDecided Fits words_of
-    → ((x : X) → Fits x → AreWords (words_of x))
-    → (line : List ℕ) → (o : Option X) × IsReadAs Fits words_of line o
-reading {X} {Fits} {words_of} d spelled line =
+-- no two values have one line
+pub one_line : {X : Type 0} {Fits : X → Type 0} {words_of : X → List (List ℕ)} → HasWords Fits words_of
+    → (x y : X) → Fits x → Fits y → line_of (words_of x) ≡ line_of (words_of y) → x ≡ y
+one_line {words_of = words_of} d x y h k e =
+    d.one x y h k (same_words (words_of x) (words_of y) (d.are_words x h) (d.are_words y k) e)
+
+-- and each line has a reading
+pub reading : {X : Type 0} {Fits : X → Type 0} {words_of : X → List (List ℕ)} → HasWords Fits words_of
+    → ((x : X) → 0 < length (words_of x)) → (line : List ℕ) → (o : Option X) × IsReadAs Fits words_of line o
+reading {X} {Fits} {words_of} d some line =
     let all = words_in line in
     elim (d.answer all.0) [
       | inl p ↦ (Some p.0, (p.1, all.3 ∙ ap line_of p.2))
@@ -219,7 +275,6 @@ reading {X} {Fits} {words_of} d spelled line =
         None,
         λ x fits e.
             none x fits (same_free_words all.0 (words_of x) all.1
-            (words_free SPACE (omega arith) (words_of x) (spelled x fits).0) all.2 (spelled x fits).1
-            (sym all.3 ∙ e)),
+            (words_free SPACE (omega arith) (words_of x) (d.are_words x fits)) all.2 (some x) (sym all.3 ∙ e)),
       )
     ]

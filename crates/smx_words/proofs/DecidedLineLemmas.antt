@@ -1,5 +1,5 @@
--- Each line of any bytes has a reading as each kind of value.
-use Rattle.std.proofs.Common.{ℕ, List, Option, refl}
+-- Each kind of value has words of its own, and each line of any bytes has a reading as it.
+use Rattle.std.proofs.Common.{ℕ, List, Option, refl, arith}
 use Rattle.std.specs.Prelude.{codes}
 use Rattle.smx_types.specs.declared.driver.DriverSpec.{DriverSpec}
 use Rattle.smx_types.specs.declared.view.BindingLine.{BindingLine}
@@ -13,22 +13,23 @@ use Rattle.smx_words.specs.Spellable.{FitsBinding, FitsDescriptor, FitsDriver, F
 use Rattle.smx_words.specs.Spellable.{FitsMessage, FitsNext, FitsNumber, FitsRoute}
 use Rattle.smx_words.specs.Spelling.{bind_words, descriptor_words, driver_words, full_words, link_words, hung_words}
 use Rattle.smx_words.specs.Spelling.{message_words, next_words, process_words, route_words}
-use Rattle.smx_words.proofs.DecidedLemmas.{IsDecided, after, first, last, reading, via}
-use Rattle.smx_words.proofs.DecidedWordLemmas.{bytes, driver_kind, link_kind, name, number, process, stream_side}
-use Rattle.smx_words.proofs.LawLemmas.{bind_spelled, descriptor_spelled, driver_spelled, full_spelled, hung_spelled}
-use Rattle.smx_words.proofs.LawLemmas.{link_spelled, message_spelled, next_spelled, process_spelled}
-use Rattle.smx_words.proofs.LawLemmas.{route_spelled}
+use Rattle.smx_words.proofs.DecidedLemmas.{HasWords, after, first, last, reading, via}
+use Rattle.smx_words.proofs.DecidedWordLemmas.{bytes, name, number, process}
+use Rattle.smx_words.proofs.SameWordLemmas.{driver_kind, link_kind, stream_side}
 use Rattle.smx_types.specs.declared.view.HungLine.{HungLine}
 
-process_decided : IsDecided FitsNumber process_words
-process_decided = after (codes "process") (last number)
+-- where a process begins
+pub process_has_words : HasWords FitsNumber process_words
+process_has_words = after (codes "process") refl (last number)
 
-next_decided : IsDecided FitsNext next_words
-next_decided = after (codes "next") (first number (last number))
+-- the next id and the next serial
+pub next_has_words : HasWords FitsNext next_words
+next_has_words = after (codes "next") refl (first number (last number))
 
-driver_decided : IsDecided FitsDriver driver_words
-driver_decided =
-    via (after (codes "driver")
+-- a driver
+pub driver_has_words : HasWords FitsDriver driver_words
+driver_has_words =
+    via (after (codes "driver") refl
     (first name (first driver_kind (first number (first number (first number (last number)))))))
     (λ p. record { name = p.0; kind = p.1.0; minors = p.1.1.0; high = p.1.1.1.0; low = p.1.1.1.1.0; max = p.1.1.1.1.1 })
     (λ d. (d.name, (d.kind, (d.minors, (d.high, (d.low, d.max))))))
@@ -36,17 +37,19 @@ driver_decided =
     (λ d h. (h.name, (tt, (h.minors, (h.high, (h.low, h.max))))))
     (λ p. refl) (λ d. refl)
 
-descriptor_decided : IsDecided FitsDescriptor descriptor_words
-descriptor_decided = via (after (codes "fd") (first process (first number (first name (last number)))))
+-- an open descriptor
+pub descriptor_has_words : HasWords FitsDescriptor descriptor_words
+descriptor_has_words = via (after (codes "fd") refl (first process (first number (first name (last number)))))
     (λ p. record { process = p.0; fd = p.1.0; driver = p.1.1.0; minor = p.1.1.1 })
     (λ d. (d.process, (d.fd, (d.driver, d.minor))))
     (λ p h. record { process = h.0; fd = h.1.0; driver = h.1.1.0; minor = h.1.1.1 })
     (λ d h. (h.process, (h.fd, (h.driver, h.minor))))
     (λ p. refl) (λ d. refl)
 
-link_decided : IsDecided FitsLink link_words
-link_decided =
-    via (after (codes "link")
+-- a link
+pub link_has_words : HasWords FitsLink link_words
+link_has_words =
+    via (after (codes "link") refl
     (first number (first name (first number (first name (first number (last link_kind)))))))
     (λ p. record {
       id = p.0;
@@ -67,25 +70,28 @@ link_decided =
     (λ l h. (h.id, (h.ctl_driver, (h.ctl_minor, (h.lower_driver, (h.lower_minor, tt))))))
     (λ p. refl) (λ l. refl)
 
-bind_decided : IsDecided FitsBinding bind_words
-bind_decided = via (after (codes "bind") (first name (first number (last number))))
+-- a binding
+pub bind_has_words : HasWords FitsBinding bind_words
+bind_has_words = via (after (codes "bind") refl (first name (first number (last number))))
     (λ p. record { driver = p.0; addr = p.1.0; minor = p.1.1 })
     (λ b. (b.driver, (b.addr, b.minor)))
     (λ p h. record { driver = h.0; addr = h.1.0; minor = h.1.1 })
     (λ b h. (h.driver, (h.addr, h.minor)))
     (λ p. refl) (λ b. refl)
 
-route_decided : IsDecided FitsRoute route_words
-route_decided = via (after (codes "route") (first name (first number (last number))))
+-- a route
+pub route_has_words : HasWords FitsRoute route_words
+route_has_words = via (after (codes "route") refl (first name (first number (last number))))
     (λ p. record { driver = p.0; addr = p.1.0; id = p.1.1 })
     (λ r. (r.driver, (r.addr, r.id)))
     (λ p h. record { driver = h.0; addr = h.1.0; id = h.1.1 })
     (λ r h. (h.driver, (h.addr, h.id)))
     (λ p. refl) (λ r. refl)
 
-message_decided : IsDecided FitsMessage message_words
-message_decided =
-    via (after (codes "msg")
+-- a queued message
+pub message_has_words : HasWords FitsMessage message_words
+message_has_words =
+    via (after (codes "msg") refl
     (first name (first number (first stream_side (first number (first number (last bytes)))))))
     (λ p. record {
       driver = p.0;
@@ -98,16 +104,18 @@ message_decided =
     (λ m h. (h.driver, (h.minor, (tt, (h.serial, (h.addr, h.bytes))))))
     (λ p. refl) (λ m. refl)
 
-hung_decided : IsDecided FitsHung hung_words
-hung_decided = via (after (codes "hung") (first name (last number)))
+-- a hung-up stream
+pub hung_has_words : HasWords FitsHung hung_words
+hung_has_words = via (after (codes "hung") refl (first name (last number)))
     (λ p. record { driver = p.0; minor = p.1 })
     (λ s. (s.driver, s.minor))
     (λ p h. record { driver = h.0; minor = h.1 })
     (λ s h. (h.driver, h.minor))
     (λ p. refl) (λ s. refl)
 
-full_decided : IsDecided FitsFull full_words
-full_decided = via (after (codes "full") (first name (first number (last stream_side))))
+-- a full place
+pub full_has_words : HasWords FitsFull full_words
+full_has_words = via (after (codes "full") refl (first name (first number (last stream_side))))
     (λ p. record { driver = p.0; minor = p.1.0; side = p.1.1 })
     (λ f. (f.driver, (f.minor, f.side)))
     (λ p h. record { driver = h.0; minor = h.1.0 })
@@ -118,40 +126,40 @@ full_decided = via (after (codes "full") (first name (first number (last stream_
 
 -- each line is that with which a process begins, or is none
 pub process_reading : (line : List ℕ) → (o : Option ℕ) × IsReadAs FitsNumber process_words line o
-process_reading = reading process_decided process_spelled
+process_reading = reading process_has_words (λ x. omega arith)
 
 -- each line is that of a next id and a next serial, or of none
 pub next_reading : (line : List ℕ) → (o : Option (ℕ × ℕ)) × IsReadAs FitsNext next_words line o
-next_reading = reading next_decided next_spelled
+next_reading = reading next_has_words (λ x. omega arith)
 
 -- each line is that of a driver, or of none
 pub driver_reading : (line : List ℕ) → (o : Option DriverSpec) × IsReadAs FitsDriver driver_words line o
-driver_reading = reading driver_decided driver_spelled
+driver_reading = reading driver_has_words (λ x. omega arith)
 
 -- each line is that of an open descriptor, or of none
 pub descriptor_reading : (line : List ℕ) → (o : Option DescriptorLine) × IsReadAs FitsDescriptor descriptor_words line o
-descriptor_reading = reading descriptor_decided descriptor_spelled
+descriptor_reading = reading descriptor_has_words (λ x. omega arith)
 
 -- each line is that of a link, or of none
 pub link_reading : (line : List ℕ) → (o : Option LinkLine) × IsReadAs FitsLink link_words line o
-link_reading = reading link_decided link_spelled
+link_reading = reading link_has_words (λ x. omega arith)
 
 -- each line is that of a binding, or of none
 pub bind_reading : (line : List ℕ) → (o : Option BindingLine) × IsReadAs FitsBinding bind_words line o
-bind_reading = reading bind_decided bind_spelled
+bind_reading = reading bind_has_words (λ x. omega arith)
 
 -- each line is that of a route, or of none
 pub route_reading : (line : List ℕ) → (o : Option RouteLine) × IsReadAs FitsRoute route_words line o
-route_reading = reading route_decided route_spelled
+route_reading = reading route_has_words (λ x. omega arith)
 
 -- each line is that of a queued message, or of none
 pub message_reading : (line : List ℕ) → (o : Option MessageLine) × IsReadAs FitsMessage message_words line o
-message_reading = reading message_decided message_spelled
+message_reading = reading message_has_words (λ x. omega arith)
 
 -- each line is that of a full place, or of none
 pub full_reading : (line : List ℕ) → (o : Option FullLine) × IsReadAs FitsFull full_words line o
-full_reading = reading full_decided full_spelled
+full_reading = reading full_has_words (λ x. omega arith)
 
 -- each line is that of a hung-up stream, or of none
 pub hung_reading : (line : List ℕ) → (o : Option HungLine) × IsReadAs FitsHung hung_words line o
-hung_reading = reading hung_decided hung_spelled
+hung_reading = reading hung_has_words (λ x. omega arith)

@@ -1,5 +1,5 @@
--- Whether some value is spelled so is told for each kind of word.
-use Rattle.std.proofs.Common.{◌≡◌, ◌≢◌, ℕ, ◌<◌, ◌≤◌, ◌^◌, ◌%◌, Bool, true, false, List, [], ◌∷◌, length}
+-- Numbers, names, bytes and ids have a word of their own each, and whether a word is one of theirs is told.
+use Rattle.std.proofs.Common.{◌≡◌, ◌≢◌, ℕ, ◌<◌, ◌≤◌, ◌^◌, ◌%◌, Bool, true, false, List, [], length}
 use Rattle.std.proofs.Common.{refl, sym, ap, ◌∙◌, arith, inl, inr}
 use Rattle.std.specs.Prelude.{codes}
 use Rattle.std.specs.List.{list_all}
@@ -8,22 +8,24 @@ use Rattle.std.specs.Str.Parse.{digits_value}
 use Rattle.std.proofs.lemmas.Bool.{cases_lt}
 use Rattle.std.proofs.lemmas.Fmt.{digits_value-decimal}
 use Rattle.smx_types.specs.Names.{is_name}
-use Rattle.smx_types.specs.declared.command.Sides.TheVariants as sides
 use Rattle.smx_types.specs.declared.command.Which.{Which}
 use Rattle.smx_types.specs.declared.command.Which.TheVariants as which
-use Rattle.smx_types.specs.declared.driver.DriverKind.TheVariants as kind
-use Rattle.smx_types.specs.declared.link.LinkKind.TheVariants as link
-use Rattle.smx_types.specs.declared.stream.Side.TheVariants as side
 use Rattle.smx_words.specs.HexWords.{hex_word, is_digit}
-use Rattle.smx_words.specs.Spellable.{FitsAlways, FitsBytes, FitsName, FitsNumber, FitsProcess, FitsWhich}
-use Rattle.smx_words.specs.Spelling.{kind_word, link_kind_word, side_word, sides_word, which_word}
-use Rattle.smx_words.proofs.DecidedLemmas.{Answer, IsDecided, one_of, same_or_not}
+use Rattle.smx_words.specs.Spellable.{FitsBytes, FitsName, FitsNumber, FitsProcess, FitsWhich}
+use Rattle.smx_words.specs.Spelling.{which_word}
+use Rattle.smx_words.proofs.DecidedLemmas.{Answer, HasWord, same_or_not}
 use Rattle.smx_words.proofs.HexLemmas.{no_digits, odd_is_none, spell_some}
-use Rattle.smx_words.proofs.NumberLemmas.{own}
+use Rattle.smx_words.proofs.NumberLemmas.{own, same_number}
+use Rattle.smx_words.proofs.PlainLemmas.{hex_plain, name_plain, number_plain, plain_word, which_plain}
+use Rattle.smx_words.proofs.SameWordLemmas.{same_bytes, same_which}
 
 -- a word of a number below a limit is the word of its digits' value
-below : (limit : ℕ) → limit ≤ 2 ^ 32 → IsDecided (λ n. n < limit) decimal
-below limit le = record { answer = answer } where
+below : (limit : ℕ) → limit ≤ 2 ^ 32 → HasWord (λ n. n < limit) decimal
+below limit le = record {
+  answer = answer;
+  one = λ n m h k e. same_number n m (omega arith) (omega arith) e;
+  is_word = λ n h. plain_word (decimal n) (number_plain n (omega arith));
+} where
   value : (w : List ℕ) (n : ℕ) → n < limit → w ≡ decimal n → digits_value 10 w ≡ n
   value w n lt e = ap (digits_value 10) e ∙ digits_value-decimal own n (omega (arith, lt, le))
 
@@ -38,16 +40,20 @@ below limit le = record { answer = answer } where
       ]
 
 -- each word is that of a number of 32 bits, or of none
-pub number : IsDecided FitsNumber decimal
+pub number : HasWord FitsNumber decimal
 number = below (2 ^ 32) (omega arith)
 
 -- each word is that of a process, or of none
-pub process : IsDecided FitsProcess decimal
+pub process : HasWord FitsProcess decimal
 process = below _ (omega arith)
 
 -- each word is a driver's name, or is none
-pub name : IsDecided FitsName (λ (w : List ℕ). w)
-name = record { answer = λ w. by_test w (is_name w) refl } where
+pub name : HasWord FitsName (λ (w : List ℕ). w)
+name = record {
+  answer = λ w. by_test w (is_name w) refl;
+  one = λ x y h k e. e;
+  is_word = λ w h. plain_word w (name_plain w h);
+} where
   by_test : (w : List ℕ) (t : Bool) → is_name w ≡ t → Answer FitsName (λ (w : List ℕ). w) w
   by_test w true e = inl (w, e, refl)
   by_test w false e = inr (λ x fits is. wrong (sym fits ∙ ap is_name (sym is) ∙ e)) where
@@ -55,8 +61,12 @@ name = record { answer = λ w. by_test w (is_name w) refl } where
     wrong bad = absurd (cc bad)
 
 -- bytes are a dash, or an even number of digits
-pub bytes : IsDecided FitsBytes hex_word
-bytes = record { answer = answer } where
+pub bytes : HasWord FitsBytes hex_word
+bytes = record {
+  answer = answer;
+  one = same_bytes;
+  is_word = λ bs h. plain_word (hex_word bs) (hex_plain bs h);
+} where
   by_test : (w : List ℕ) → 0 < length w → length w % 2 ≢ 1 → (t : Bool) → list_all is_digit w ≡ t
       → Answer FitsBytes hex_word w
   by_test w some even true e = inl (spell_some w some even e)
@@ -77,51 +87,13 @@ bytes = record { answer = answer } where
     ]
   ]
 
--- ---- words of few values
-
--- each word is that of a driver's kind, or of none
-pub driver_kind : IsDecided FitsAlways kind_word
-driver_kind = record { answer = answer } where
-  answer : (w : List ℕ) → Answer FitsAlways kind_word w
-  answer w = elim (one_of kind_word same_or_not (kind.Leaf ∷ kind.Mux ∷ []) w) [
-    | inl p ↦ inl (p.0, tt, p.1)
-    | inr none ↦ inr (λ x fits. (elim x as (λ x. w ≢ kind_word x) [ kind.Leaf ↦ none.0 | kind.Mux ↦ none.1.0 ]))
-  ]
-
--- each word is that of a link's kind, or of none
-pub link_kind : IsDecided FitsAlways link_kind_word
-link_kind = record { answer = answer } where
-  answer : (w : List ℕ) → Answer FitsAlways link_kind_word w
-  answer w = elim (one_of link_kind_word same_or_not (link.Ordinary ∷ link.Persistent ∷ []) w) [
-    | inl p ↦ inl (p.0, tt, p.1)
-    | inr none ↦
-        inr (λ x fits.
-        (elim x as (λ x. w ≢ link_kind_word x) [ link.Ordinary ↦ none.0 | link.Persistent ↦ none.1.0 ]))
-  ]
-
--- each word is that of a stream's side, or of none
-pub stream_side : IsDecided FitsAlways side_word
-stream_side = record { answer = answer } where
-  answer : (w : List ℕ) → Answer FitsAlways side_word w
-  answer w = elim (one_of side_word same_or_not (side.Write ∷ side.Read ∷ []) w) [
-    | inl p ↦ inl (p.0, tt, p.1)
-    | inr none ↦ inr (λ x fits. (elim x as (λ x. w ≢ side_word x) [ side.Write ↦ none.0 | side.Read ↦ none.1.0 ]))
-  ]
-
--- each word is that of the sides of a flush, or of none
-pub flush_sides : IsDecided FitsAlways sides_word
-flush_sides = record { answer = answer } where
-  answer : (w : List ℕ) → Answer FitsAlways sides_word w
-  answer w = elim (one_of sides_word same_or_not (sides.R ∷ sides.W ∷ sides.RW ∷ []) w) [
-    | inl p ↦ inl (p.0, tt, p.1)
-    | inr none ↦
-        inr (λ x fits.
-        (elim x as (λ x. w ≢ sides_word x) [ sides.R ↦ none.0 | sides.W ↦ none.1.0 | sides.RW ↦ none.1.1.0 ]))
-  ]
-
 -- each word is that of an id, or of all, or is none
-pub id_or_all : IsDecided FitsWhich which_word
-id_or_all = record { answer = answer } where
+pub id_or_all : HasWord FitsWhich which_word
+id_or_all = record {
+  answer = answer;
+  one = same_which;
+  is_word = λ x h. plain_word (which_word x) (which_plain x h);
+} where
   neither : (w : List ℕ) → w ≢ codes "all" → ((n : ℕ) → FitsNumber n → w ≢ decimal n) → (x : Which)
       → FitsWhich x → w ≢ which_word x
   neither w no_word none which.All fits e = no_word e

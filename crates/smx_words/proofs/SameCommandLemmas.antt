@@ -1,18 +1,19 @@
 -- Commands are told apart by their words.
 use Rattle.std.proofs.Common.{[], ◌≡◌, ℕ, List, ◌∷◌, refl, sym, ap, ◌∙◌, ◌++◌, eqb, false, arith}
 use Rattle.std.proofs.lemmas.Bool.Decides.{nat_tests}
-use Rattle.std.specs.Fmt.{decimal}
 use Rattle.std.proofs.lemmas.List.{append-nil}
 use Rattle.smx_types.specs.declared.command.Command.{Command}
 use Rattle.smx_types.specs.declared.command.Command.TheVariants as command
+use Rattle.smx_types.specs.declared.command.Sides.{Sides}
+use Rattle.smx_types.specs.declared.command.Which.{Which}
 use Rattle.smx_words.specs.declared.reading.verb.Verb.{Verb}
 use Rattle.smx_words.specs.declared.reading.verb.Verb.TheVariants as verb
-use Rattle.smx_words.specs.HexWords.{hex_word}
 use Rattle.smx_words.specs.Spellable.{FitsCommand}
-use Rattle.smx_words.specs.Spelling.{command_words, sides_word, which_word}
+use Rattle.smx_words.specs.Spelling.{command_words}
 use Rattle.smx_words.specs.Verbs.{verb_word}
-use Rattle.smx_words.proofs.NumberLemmas.{same_number}
-use Rattle.smx_words.proofs.SameWordLemmas.{same_bytes, same_sides, same_verb, same_which}
+use Rattle.smx_words.proofs.DecidedLemmas.{first, last}
+use Rattle.smx_words.proofs.DecidedWordLemmas.{bytes, id_or_all, name, number}
+use Rattle.smx_words.proofs.SameWordLemmas.{flush_sides, same_verb}
 
 -- what a command does
 abbrev pub verb_of : Command → Verb
@@ -37,25 +38,8 @@ verb_of (command.Transmit d n) = verb.Transmit
 verb_of (command.Hangup d n) = verb.Hangup
 
 first_word : (c : Command) → (ws : List (List ℕ)) × (command_words c ≡ verb_word (verb_of c) ∷ ws)
-first_word (command.OpenClone d) = (_, refl)
-first_word (command.OpenMinor d n) = (_, refl)
-first_word (command.Dup n) = (_, refl)
-first_word (command.Close n) = (_, refl)
 first_word command.CloseAll = (_, refl)
-first_word (command.Link n m) = (_, refl)
-first_word (command.Plink n m) = (_, refl)
-first_word (command.Unlink n x) = (_, refl)
-first_word (command.Punlink n x) = (_, refl)
-first_word (command.Bind n m) = (_, refl)
-first_word (command.Unbind n) = (_, refl)
-first_word (command.Route n m j) = (_, refl)
-first_word (command.Unroute n m) = (_, refl)
-first_word (command.Write n m bs) = (_, refl)
-first_word (command.Read n) = (_, refl)
-first_word (command.Flush n s) = (_, refl)
-first_word (command.Inject d n m bs) = (_, refl)
-first_word (command.Transmit d n) = (_, refl)
-first_word (command.Hangup d n) = (_, refl)
+first_word c = (_, refl)
 
 one_verb : (c d : Command) → command_words c ≡ command_words d → verb_of c ≡ verb_of d
 one_verb c d e =
@@ -108,127 +92,47 @@ apart v w other same =
 
 by_verb : (c d : Command) → FitsCommand c → FitsCommand d → verb_of c ≡ verb_of d
     → command_words c ≡ command_words d → c ≡ d
-by_verb (command.OpenClone d) (command.OpenClone d') h k v e =
-    let e_d : d ≡ d' = cc e in
-    ap command.OpenClone e_d
-by_verb (command.OpenClone d) d' h k v e = absurd (apart verb.Clone (verb_of d') refl v)
+by_verb (command.OpenClone d) (command.OpenClone d') h k v e = ap command.OpenClone (cc e)
 by_verb (command.OpenMinor d n) (command.OpenMinor d' n') h k v e =
-    let e_d : d ≡ d' = cc e in
-    let w_n : decimal n ≡ decimal n' = cc e in
-    let e_n = same_number n n' h.1 k.1 w_n in
-    cc (e_d, e_n)
-by_verb (command.OpenMinor d n) d' h k v e = absurd (apart verb.Open (verb_of d') refl v)
-by_verb (command.Dup n) (command.Dup n') h k v e =
-    let w_n : decimal n ≡ decimal n' = cc e in
-    let e_n = same_number n n' h k w_n in
-    ap command.Dup e_n
-by_verb (command.Dup n) d' h k v e = absurd (apart verb.Dup (verb_of d') refl v)
-by_verb (command.Close n) (command.Close n') h k v e =
-    let w_n : decimal n ≡ decimal n' = cc e in
-    let e_n = same_number n n' h k w_n in
-    ap command.Close e_n
-by_verb (command.Close n) d' h k v e = absurd (apart verb.Close (verb_of d') refl v)
+    ap (λ (p : List ℕ × ℕ). command.OpenMinor p.0 p.1) ((first name (last number)).one (d, n) (d', n') h k (cc e))
+by_verb (command.Dup n) (command.Dup n') h k v e = ap command.Dup (number.one n n' h k (cc e))
+by_verb (command.Close n) (command.Close n') h k v e = ap command.Close (number.one n n' h k (cc e))
 by_verb command.CloseAll command.CloseAll h k v e = refl
-by_verb command.CloseAll d h k v e = absurd (apart verb.Exit (verb_of d) refl v)
 by_verb (command.Link n m) (command.Link n' m') h k v e =
-    let w_n : decimal n ≡ decimal n' = cc e in
-    let e_n = same_number n n' h.0 k.0 w_n in
-    let w_m : decimal m ≡ decimal m' = cc e in
-    let e_m = same_number m m' h.1 k.1 w_m in
-    cc (e_n, e_m)
-by_verb (command.Link n m) d' h k v e = absurd (apart verb.Link (verb_of d') refl v)
+    ap (λ (p : ℕ × ℕ). command.Link p.0 p.1) ((first number (last number)).one (n, m) (n', m') h k (cc e))
 by_verb (command.Plink n m) (command.Plink n' m') h k v e =
-    let w_n : decimal n ≡ decimal n' = cc e in
-    let e_n = same_number n n' h.0 k.0 w_n in
-    let w_m : decimal m ≡ decimal m' = cc e in
-    let e_m = same_number m m' h.1 k.1 w_m in
-    cc (e_n, e_m)
-by_verb (command.Plink n m) d' h k v e = absurd (apart verb.Plink (verb_of d') refl v)
+    ap (λ (p : ℕ × ℕ). command.Plink p.0 p.1) ((first number (last number)).one (n, m) (n', m') h k (cc e))
 by_verb (command.Unlink n x) (command.Unlink n' x') h k v e =
-    let w_n : decimal n ≡ decimal n' = cc e in
-    let e_n = same_number n n' h.0 k.0 w_n in
-    let w_x : which_word x ≡ which_word x' = cc e in
-    let e_x = same_which x x' h.1 k.1 w_x in
-    cc (e_n, e_x)
-by_verb (command.Unlink n x) d' h k v e = absurd (apart verb.Unlink (verb_of d') refl v)
+    ap (λ (p : ℕ × Which). command.Unlink p.0 p.1) ((first number (last id_or_all)).one (n, x) (n', x') h k (cc e))
 by_verb (command.Punlink n x) (command.Punlink n' x') h k v e =
-    let w_n : decimal n ≡ decimal n' = cc e in
-    let e_n = same_number n n' h.0 k.0 w_n in
-    let w_x : which_word x ≡ which_word x' = cc e in
-    let e_x = same_which x x' h.1 k.1 w_x in
-    cc (e_n, e_x)
-by_verb (command.Punlink n x) d' h k v e = absurd (apart verb.Punlink (verb_of d') refl v)
+    ap (λ (p : ℕ × Which). command.Punlink p.0 p.1) ((first number (last id_or_all)).one (n, x) (n', x') h k (cc e))
 by_verb (command.Bind n m) (command.Bind n' m') h k v e =
-    let w_n : decimal n ≡ decimal n' = cc e in
-    let e_n = same_number n n' h.0 k.0 w_n in
-    let w_m : decimal m ≡ decimal m' = cc e in
-    let e_m = same_number m m' h.1 k.1 w_m in
-    cc (e_n, e_m)
-by_verb (command.Bind n m) d' h k v e = absurd (apart verb.Bind (verb_of d') refl v)
-by_verb (command.Unbind n) (command.Unbind n') h k v e =
-    let w_n : decimal n ≡ decimal n' = cc e in
-    let e_n = same_number n n' h k w_n in
-    ap command.Unbind e_n
-by_verb (command.Unbind n) d' h k v e = absurd (apart verb.Unbind (verb_of d') refl v)
+    ap (λ (p : ℕ × ℕ). command.Bind p.0 p.1) ((first number (last number)).one (n, m) (n', m') h k (cc e))
+by_verb (command.Unbind n) (command.Unbind n') h k v e = ap command.Unbind (number.one n n' h k (cc e))
 by_verb (command.Route n m j) (command.Route n' m' j') h k v e =
-    let w_n : decimal n ≡ decimal n' = cc e in
-    let e_n = same_number n n' h.0 k.0 w_n in
-    let w_m : decimal m ≡ decimal m' = cc e in
-    let e_m = same_number m m' h.1 k.1 w_m in
-    let w_j : decimal j ≡ decimal j' = cc e in
-    let e_j = same_number j j' h.2 k.2 w_j in
-    cc (e_n, e_m, e_j)
-by_verb (command.Route n m j) d' h k v e = absurd (apart verb.Route (verb_of d') refl v)
+    ap (λ (p : ℕ × (ℕ × ℕ)). command.Route p.0 p.1.0 p.1.1)
+    ((first number (first number (last number))).one (n, (m, j)) (n', (m', j'))
+    (h.0, (h.1, h.2)) (k.0, (k.1, k.2)) (cc e))
 by_verb (command.Unroute n m) (command.Unroute n' m') h k v e =
-    let w_n : decimal n ≡ decimal n' = cc e in
-    let e_n = same_number n n' h.0 k.0 w_n in
-    let w_m : decimal m ≡ decimal m' = cc e in
-    let e_m = same_number m m' h.1 k.1 w_m in
-    cc (e_n, e_m)
-by_verb (command.Unroute n m) d' h k v e = absurd (apart verb.Unroute (verb_of d') refl v)
+    ap (λ (p : ℕ × ℕ). command.Unroute p.0 p.1) ((first number (last number)).one (n, m) (n', m') h k (cc e))
 by_verb (command.Write n m bs) (command.Write n' m' bs') h k v e =
-    let w_n : decimal n ≡ decimal n' = cc e in
-    let e_n = same_number n n' h.0 k.0 w_n in
-    let w_m : decimal m ≡ decimal m' = cc e in
-    let e_m = same_number m m' h.1 k.1 w_m in
-    let w_bs : hex_word bs ≡ hex_word bs' = cc e in
-    let e_bs = same_bytes bs bs' h.2 k.2 w_bs in
-    cc (e_n, e_m, e_bs)
-by_verb (command.Write n m bs) d' h k v e = absurd (apart verb.Write (verb_of d') refl v)
-by_verb (command.Read n) (command.Read n') h k v e =
-    let w_n : decimal n ≡ decimal n' = cc e in
-    let e_n = same_number n n' h k w_n in
-    ap command.Read e_n
-by_verb (command.Read n) d' h k v e = absurd (apart verb.Read (verb_of d') refl v)
+    ap (λ (p : ℕ × (ℕ × List ℕ)). command.Write p.0 p.1.0 p.1.1)
+    ((first number (first number (last bytes))).one (n, (m, bs)) (n', (m', bs'))
+    (h.0, (h.1, h.2)) (k.0, (k.1, k.2)) (cc e))
+by_verb (command.Read n) (command.Read n') h k v e = ap command.Read (number.one n n' h k (cc e))
 by_verb (command.Flush n s) (command.Flush n' s') h k v e =
-    let w_n : decimal n ≡ decimal n' = cc e in
-    let e_n = same_number n n' h k w_n in
-    let w_s : sides_word s ≡ sides_word s' = cc e in
-    let e_s = same_sides s s' w_s in
-    cc (e_n, e_s)
-by_verb (command.Flush n s) d' h k v e = absurd (apart verb.Flush (verb_of d') refl v)
+    ap (λ (p : ℕ × Sides). command.Flush p.0 p.1)
+    ((first number (last flush_sides)).one (n, s) (n', s') (h, tt) (k, tt) (cc e))
 by_verb (command.Inject d n m bs) (command.Inject d' n' m' bs') h k v e =
-    let e_d : d ≡ d' = cc e in
-    let w_n : decimal n ≡ decimal n' = cc e in
-    let e_n = same_number n n' h.1 k.1 w_n in
-    let w_m : decimal m ≡ decimal m' = cc e in
-    let e_m = same_number m m' h.2 k.2 w_m in
-    let w_bs : hex_word bs ≡ hex_word bs' = cc e in
-    let e_bs = same_bytes bs bs' h.3 k.3 w_bs in
-    cc (e_d, e_n, e_m, e_bs)
-by_verb (command.Inject d n m bs) d' h k v e = absurd (apart verb.Inject (verb_of d') refl v)
+    ap (λ (p : List ℕ × (ℕ × (ℕ × List ℕ))). command.Inject p.0 p.1.0 p.1.1.0 p.1.1.1)
+    ((first name (first number (first number (last bytes)))).one (d, (n, (m, bs))) (d', (n', (m', bs')))
+    (h.0, (h.1, (h.2, h.3)))
+    (k.0, (k.1, (k.2, k.3))) (cc e))
 by_verb (command.Transmit d n) (command.Transmit d' n') h k v e =
-    let e_d : d ≡ d' = cc e in
-    let w_n : decimal n ≡ decimal n' = cc e in
-    let e_n = same_number n n' h.1 k.1 w_n in
-    cc (e_d, e_n)
-by_verb (command.Transmit d n) d' h k v e = absurd (apart verb.Transmit (verb_of d') refl v)
+    ap (λ (p : List ℕ × ℕ). command.Transmit p.0 p.1) ((first name (last number)).one (d, n) (d', n') h k (cc e))
 by_verb (command.Hangup d n) (command.Hangup d' n') h k v e =
-    let e_d : d ≡ d' = cc e in
-    let w_n : decimal n ≡ decimal n' = cc e in
-    let e_n = same_number n n' h.1 k.1 w_n in
-    cc (e_d, e_n)
-by_verb (command.Hangup d n) d' h k v e = absurd (apart verb.Hangup (verb_of d') refl v)
+    ap (λ (p : List ℕ × ℕ). command.Hangup p.0 p.1) ((first name (last number)).one (d, n) (d', n') h k (cc e))
+by_verb c d h k v e = absurd (apart (verb_of c) (verb_of d) refl v)
 
 -- a command is told by its words
 pub same_command : (c d : Command) → FitsCommand c → FitsCommand d → command_words c ≡ command_words d → c ≡ d

@@ -1,7 +1,11 @@
--- Values of one word are told apart by it, and faults by their words.
-use Rattle.std.proofs.Common.{◌≡◌, ℕ, true, cond, List, [], ◌∷◌, Option, Some, None, refl, sym, ap, ◌∙◌}
+-- Values of one word are told apart by it, and faults by their words. Whether words are of one of few is told.
+use Rattle.std.proofs.Common.{◌≡◌, ℕ, Bool, true, false, cond, List, [], ◌∷◌, Option, Some, None, refl, sym, ap}
+use Rattle.std.proofs.Common.{◌∙◌, rules, inl, inr}
+use Rattle.std.specs.Bool.{Decides}
+use Rattle.std.specs.Cmp.Lexicographic.{pointwise, pointwise_decides}
 use Rattle.std.specs.Prelude.{codes}
 use Rattle.std.specs.Str.{all_ascii_digits, bytes_eq}
+use Rattle.std.proofs.lemmas.Slice.Eq.{bytes_eq-Decides}
 use Rattle.hex.specs.Hex.{decode_of}
 use Rattle.hex.proofs.HexLemmas.{decode_of-encode_lower}
 use Rattle.smx_types.specs.declared.command.Sides.{Sides}
@@ -19,72 +23,107 @@ use Rattle.smx_types.specs.declared.stream.Side.TheVariants as side
 use Rattle.smx_words.specs.declared.reading.verb.Verb.{Verb}
 use Rattle.smx_words.specs.declared.reading.verb.Verb.TheVariants as verb
 use Rattle.smx_words.specs.HexWords.{hex_word}
-use Rattle.smx_words.specs.Spellable.{FitsBytes, FitsWhich}
+use Rattle.smx_words.specs.Spellable.{FitsAlways, FitsBytes, FitsWhich}
 use Rattle.smx_words.specs.Spelling.{fault_words, kind_word, link_kind_word, side_word, sides_word, which_word}
 use Rattle.smx_words.specs.Verbs.{verb_word}
-use Rattle.smx_words.specs.Words.{line_of}
+use Rattle.smx_words.specs.Words.{IsWord}
+use Rattle.smx_words.proofs.DecidedLemmas.{Answer, HasWord, HasWords}
 use Rattle.smx_words.proofs.HexLemmas.{are_bytes, dash, ok_same}
 use Rattle.smx_words.proofs.NumberLemmas.{decimal_digits, same_number}
+use Rattle.smx_words.proofs.PlainLemmas.{fault_plain, plain_word, plain_words, sides_plain}
 
 -- ---- values of few, each of which has its spelling
 
 some_same : {X : Type 0} (x y : X) → Some x ≡ Some y → x ≡ y
 some_same x y e = cc e
 
--- the first of some that is spelled so
-abbrev pub first_of_these : {X : Type 0} → (X → List ℕ) → List X → List ℕ → Option X
-first_of_these spelling [] bytes = None
-first_of_these spelling (x ∷ xs) bytes = cond (bytes_eq bytes (spelling x)) (Some x) (first_of_these spelling xs bytes)
+-- the first of some that is spelled so, as a test of spellings tells
+abbrev pub first_of_these : {X S : Type 0} → (S → S → Bool) → (X → S) → List X → S → Option X
+first_of_these same spelling [] s = None
+first_of_these same spelling (x ∷ xs) s = cond (same s (spelling x)) (Some x) (first_of_these same spelling xs s)
 
-told : {X : Type 0} (spelling : X → List ℕ) (all : List X)
-    → ((x : X) → first_of_these spelling all (spelling x) ≡ Some x) → (x y : X)
+-- where each is found by its spelling, no two are spelled alike
+pub told : {X S : Type 0} (same : S → S → Bool) (spelling : X → S) (all : List X)
+    → ((x : X) → first_of_these same spelling all (spelling x) ≡ Some x) → (x y : X)
     → spelling x ≡ spelling y → x ≡ y
-told spelling all found x y e = some_same x y (sym (found x) ∙ ap (first_of_these spelling all) e ∙ found y)
+told same spelling all found x y e =
+    some_same x y (sym (found x) ∙ ap (first_of_these same spelling all) e ∙ found y)
 
-abbrev all_kind : List DriverKind
-all_kind = kind.Leaf ∷ kind.Mux ∷ []
+-- and whether one is spelled so is told
+pub few : {X S : Type 0} (same : S → S → Bool) → ((s t : S) → Decides (same s t) (s ≡ t)) → (spelling : X → S)
+    (all : List X) → ((x : X) → first_of_these same spelling all (spelling x) ≡ Some x)
+    → (s : S) → Answer FitsAlways spelling s
+few {X} same tells spelling all found s = by_first (first_of_these same spelling all s) refl where
+  by_test : (x y : X) (t : Bool) (rest : Option X) → same s (spelling y) ≡ t → (rest ≡ Some x → s ≡ spelling x)
+      → cond t (Some y) rest ≡ Some x → s ≡ spelling x
+  by_test x y true rest is more e = (tells s (spelling y)).0 is ∙ ap spelling (some_same y x e)
+  by_test x y false rest is more e = more e
 
-found_kind : (k : DriverKind) → first_of_these kind_word all_kind (kind_word k) ≡ Some k
-found_kind kind.Leaf = refl
-found_kind kind.Mux = refl
+  spelled : (xs : List X) (x : X) → first_of_these same spelling xs s ≡ Some x → s ≡ spelling x
+  spelled [] x e = absurd (cc e)
+  spelled (y ∷ xs) x e =
+      by_test x y (same s (spelling y)) (first_of_these same spelling xs s) refl (spelled xs x) e
 
--- no two kinds of drivers have one word
-pub same_kind : (x y : DriverKind) → kind_word x ≡ kind_word y → x ≡ y
-same_kind = told kind_word all_kind found_kind
+  by_first : (o : Option X) → first_of_these same spelling all s ≡ o → Answer FitsAlways spelling s
+  by_first (Some x) e = inl (x, tt, spelled all x e)
+  by_first None e = inr (λ x fits is.
+      absurd (none_some x (sym e ∙ ap (first_of_these same spelling all) is ∙ found x))) where
+        none_some : (x : X) → None ≡ Some x → ⊥
+        none_some x bad = absurd (cc bad)
 
-abbrev all_link_kind : List LinkKind
-all_link_kind = link.Ordinary ∷ link.Persistent ∷ []
+-- values of few that have a word each
+word_of_few : {X : Type 0} (word : X → List ℕ) (all : List X)
+    → ((x : X) → first_of_these bytes_eq word all (word x) ≡ Some x) → ((x : X) → IsWord (word x))
+    → HasWord FitsAlways word
+word_of_few word all found is_word = record {
+  answer = few bytes_eq bytes_eq-Decides word all found;
+  one = λ x y h k e. told bytes_eq word all found x y e;
+  is_word = λ x h. is_word x;
+}
 
-found_link_kind : (k : LinkKind) → first_of_these link_kind_word all_link_kind (link_kind_word k) ≡ Some k
-found_link_kind link.Ordinary = refl
-found_link_kind link.Persistent = refl
+-- the two kinds of drivers
+pub driver_kind : HasWord FitsAlways kind_word
+driver_kind = word_of_few kind_word (kind.Leaf ∷ kind.Mux ∷ []) found is_word where
+  found : (k : DriverKind) → first_of_these bytes_eq kind_word (kind.Leaf ∷ kind.Mux ∷ []) (kind_word k) ≡ Some k
+  found kind.Leaf = refl
+  found kind.Mux = refl
 
--- no two kinds of links have one word
-pub same_link_kind : (x y : LinkKind) → link_kind_word x ≡ link_kind_word y → x ≡ y
-same_link_kind = told link_kind_word all_link_kind found_link_kind
+  is_word : (k : DriverKind) → IsWord (kind_word k)
+  is_word kind.Leaf = search rules
+  is_word kind.Mux = search rules
 
-abbrev all_side : List Side
-all_side = side.Write ∷ side.Read ∷ []
+-- the two kinds of links
+pub link_kind : HasWord FitsAlways link_kind_word
+link_kind = word_of_few link_kind_word (link.Ordinary ∷ link.Persistent ∷ []) found is_word where
+  found : (k : LinkKind)
+      → first_of_these bytes_eq link_kind_word (link.Ordinary ∷ link.Persistent ∷ []) (link_kind_word k) ≡ Some k
+  found link.Ordinary = refl
+  found link.Persistent = refl
 
-found_side : (s : Side) → first_of_these side_word all_side (side_word s) ≡ Some s
-found_side side.Write = refl
-found_side side.Read = refl
+  is_word : (k : LinkKind) → IsWord (link_kind_word k)
+  is_word link.Ordinary = search rules
+  is_word link.Persistent = search rules
 
--- the two sides of a stream have two words
-pub same_side : (x y : Side) → side_word x ≡ side_word y → x ≡ y
-same_side = told side_word all_side found_side
+-- the two sides of a stream
+pub stream_side : HasWord FitsAlways side_word
+stream_side = word_of_few side_word (side.Write ∷ side.Read ∷ []) found is_word where
+  found : (s : Side) → first_of_these bytes_eq side_word (side.Write ∷ side.Read ∷ []) (side_word s) ≡ Some s
+  found side.Write = refl
+  found side.Read = refl
 
-abbrev all_sides : List Sides
-all_sides = sides.R ∷ sides.W ∷ sides.RW ∷ []
+  is_word : (s : Side) → IsWord (side_word s)
+  is_word side.Write = search rules
+  is_word side.Read = search rules
 
-found_sides : (s : Sides) → first_of_these sides_word all_sides (sides_word s) ≡ Some s
-found_sides sides.R = refl
-found_sides sides.W = refl
-found_sides sides.RW = refl
-
--- no two choices of a flush have one word
-pub same_sides : (x y : Sides) → sides_word x ≡ sides_word y → x ≡ y
-same_sides = told sides_word all_sides found_sides
+-- the choices of a flush
+pub flush_sides : HasWord FitsAlways sides_word
+flush_sides = word_of_few sides_word (sides.R ∷ sides.W ∷ sides.RW ∷ []) found
+    (λ s. plain_word (sides_word s) (sides_plain s)) where
+      found : (s : Sides)
+          → first_of_these bytes_eq sides_word (sides.R ∷ sides.W ∷ sides.RW ∷ []) (sides_word s) ≡ Some s
+      found sides.R = refl
+      found sides.W = refl
+      found sides.RW = refl
 
 abbrev all_verb : List Verb
 all_verb =
@@ -92,66 +131,38 @@ all_verb =
     ∷ verb.Punlink ∷ verb.Bind ∷ verb.Unbind ∷ verb.Route ∷ verb.Unroute ∷ verb.Write ∷ verb.Read
     ∷ verb.Flush ∷ verb.Inject ∷ verb.Transmit ∷ verb.Hangup ∷ []
 
-found_verb : (v : Verb) → first_of_these verb_word all_verb (verb_word v) ≡ Some v
+found_verb : (v : Verb) → first_of_these bytes_eq verb_word all_verb (verb_word v) ≡ Some v
 found_verb verb.Clone = refl
-found_verb verb.Open = refl
-found_verb verb.Dup = refl
-found_verb verb.Close = refl
-found_verb verb.Exit = refl
-found_verb verb.Link = refl
-found_verb verb.Plink = refl
-found_verb verb.Unlink = refl
-found_verb verb.Punlink = refl
-found_verb verb.Bind = refl
-found_verb verb.Unbind = refl
-found_verb verb.Route = refl
-found_verb verb.Unroute = refl
-found_verb verb.Write = refl
-found_verb verb.Read = refl
-found_verb verb.Flush = refl
-found_verb verb.Inject = refl
-found_verb verb.Transmit = refl
-found_verb verb.Hangup = refl
+found_verb v = refl
 
 -- no two commands begin with one word
 pub same_verb : (x y : Verb) → verb_word x ≡ verb_word y → x ≡ y
-same_verb = told verb_word all_verb found_verb
-
--- the words of a fault, as a line
-abbrev pub fault_line : Fault → List ℕ
-fault_line f = line_of (fault_words f)
+same_verb = told bytes_eq verb_word all_verb found_verb
 
 -- all faults
-abbrev pub all_fault : List Fault
+abbrev all_fault : List Fault
 all_fault =
     fault.BadDescriptor ∷ fault.Below ∷ fault.NotMux ∷ fault.AlreadyBelow ∷ fault.Cycle
     ∷ fault.TooManyLinks ∷ fault.NoLink ∷ fault.NoDriver ∷ fault.NoMinor ∷ fault.TooManyDescriptors
     ∷ fault.AddressInUse ∷ fault.Unbound ∷ fault.Unrouted ∷ fault.Full ∷ fault.Empty
     ∷ fault.BadSize ∷ fault.HungUp ∷ []
 
--- of all faults, the first with the line of this one is this one
-pub found_fault : (f : Fault) → first_of_these fault_line all_fault (fault_line f) ≡ Some f
-found_fault fault.BadDescriptor = refl
-found_fault fault.Below = refl
-found_fault fault.NotMux = refl
-found_fault fault.AlreadyBelow = refl
-found_fault fault.Cycle = refl
-found_fault fault.TooManyLinks = refl
-found_fault fault.NoLink = refl
-found_fault fault.NoDriver = refl
-found_fault fault.NoMinor = refl
-found_fault fault.TooManyDescriptors = refl
-found_fault fault.AddressInUse = refl
-found_fault fault.Unbound = refl
-found_fault fault.Unrouted = refl
-found_fault fault.Full = refl
-found_fault fault.Empty = refl
-found_fault fault.BadSize = refl
-found_fault fault.HungUp = refl
+-- the fault of these words
+abbrev pub fault_at : List (List ℕ) → Option Fault
+fault_at = first_of_these (pointwise bytes_eq) fault_words all_fault
 
--- no two faults have one line
-pub same_fault : (x y : Fault) → fault_line x ≡ fault_line y → x ≡ y
-same_fault = told fault_line all_fault found_fault
+-- is that which they spell
+pub found_fault : (f : Fault) → fault_at (fault_words f) ≡ Some f
+found_fault fault.BadDescriptor = refl
+found_fault f = refl
+
+-- so each has words of its own, and whether words are those of one is told
+pub every_fault : HasWords FitsAlways fault_words
+every_fault = record {
+  answer = few (pointwise bytes_eq) (pointwise_decides bytes_eq-Decides) fault_words all_fault found_fault;
+  one = λ x y h k e. told (pointwise bytes_eq) fault_words all_fault found_fault x y e;
+  are_words = λ f h. plain_words (fault_words f) (fault_plain f).1;
+}
 
 -- ---- other words
 

@@ -6,11 +6,9 @@ use Rattle.smx_types.specs.declared.stream.Side.{Side}
 use Rattle.smx_types.specs.declared.stream.Side.TheVariants as side
 use Rattle.smx_words.specs.declared.reading.verb.ReplyVerb.{ReplyVerb}
 use Rattle.smx_words.specs.declared.reading.verb.ReplyVerb.TheVariants as reply_verb
-use Rattle.smx_words.specs.declared.reading.verb.Verb.{Verb}
-use Rattle.smx_words.specs.declared.reading.verb.Verb.TheVariants as verb
 use Rattle.smx_words.specs.Spellable.{FitsAlways, FitsName}
 use Rattle.smx_words.specs.Spelling.{kind_word, side_word}
-use Rattle.smx_words.specs.Verbs.{verb_word, reply_verb_word}
+use Rattle.smx_words.specs.Verbs.{reply_verb_word}
 use Rattle.smx_words.specs.Words.{SPACE, IsFree}
 use Rattle.smx_words.proofs.CutLemmas.{apart}
 use Rattle.smx_words.proofs.LineLemmas.{seen_free}
@@ -33,32 +31,7 @@ side_free side.Read fits = search rules
 -- no space stands in the word with which a reply begins
 pub reply_verb_free : (v : ReplyVerb) → FitsAlways v → IsFree SPACE (reply_verb_word v)
 reply_verb_free reply_verb.Fd fits = search rules
-reply_verb_free reply_verb.Id fits = search rules
-reply_verb_free reply_verb.Took fits = search rules
-reply_verb_free reply_verb.Got fits = search rules
-reply_verb_free reply_verb.Done fits = search rules
-
--- no space stands in the word with which a command begins
-pub verb_free : (v : Verb) → FitsAlways v → IsFree SPACE (verb_word v)
-verb_free verb.Clone fits = search rules
-verb_free verb.Open fits = search rules
-verb_free verb.Dup fits = search rules
-verb_free verb.Close fits = search rules
-verb_free verb.Exit fits = search rules
-verb_free verb.Link fits = search rules
-verb_free verb.Plink fits = search rules
-verb_free verb.Unlink fits = search rules
-verb_free verb.Punlink fits = search rules
-verb_free verb.Bind fits = search rules
-verb_free verb.Unbind fits = search rules
-verb_free verb.Route fits = search rules
-verb_free verb.Unroute fits = search rules
-verb_free verb.Write fits = search rules
-verb_free verb.Read fits = search rules
-verb_free verb.Flush fits = search rules
-verb_free verb.Inject fits = search rules
-verb_free verb.Transmit fits = search rules
-verb_free verb.Hangup fits = search rules
+reply_verb_free v fits = search rules
 
 -- the name before the first space, and no other
 pub first_name_is : (text word rest name : List ℕ) → IsFree SPACE word → text ≡ word ++ SPACE ∷ rest

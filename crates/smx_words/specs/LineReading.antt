@@ -1,6 +1,9 @@
 -- What a reader may answer. No reader is named.
 use Rattle.std.specs.Prelude.{◌≡◌, ◌≢◌, ℕ, List, [], ◌++◌, ◌∷◌, Bool, true, false, Option, Some, None, MatchOption}
 use denote.Ref.{Bor}
+use Rattle.smx_types.specs.declared.version.Version.{Version}
+use Rattle.smx_words.specs.Spellable.{FitsCommandIn}
+use Rattle.smx_words.specs.Spelling.{command_words}
 use Rattle.smx_words.specs.Words.{SPACE, line_of}
 
 -- a value that fits and that the bytes spell, or nothing where they spell none
@@ -27,6 +30,10 @@ IsSpelled {X} Fits spelling bytes = (x : X) × Fits x × (bytes ≡ spelling x)
 -- the line is the words of some value that fits
 abbrev pub IsLineOf : {X : Type 0} → (X → Type 0) → (X → List (List ℕ)) → List ℕ → Type 0
 IsLineOf {X} Fits words_of line = IsSpelled Fits (λ x. line_of (words_of x)) line
+
+-- the line is the words of a command that this version can tell
+abbrev pub IsCommandLine : Version → List ℕ → Type 0
+IsCommandLine version line = IsLineOf (FitsCommandIn version) command_words line
 
 -- whether the line is the words of some value that fits, which then stands behind the others
 abbrev pub IsPushed : {X : Type 0} → (X → Type 0) → (X → List (List ℕ)) → List ℕ → List X → List X → Bool → Type 0

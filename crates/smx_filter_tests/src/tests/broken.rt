@@ -1,7 +1,7 @@
 //! Runs, checks and replays with devices that stop once, at each read and at each write, and would then go on.
 
 use super::devices::{ERRORS, Stop, TWO_ERRORS};
-use super::jobs::{Job, ends_so, outcome};
+use super::tasks::{Task, ends_so, outcome};
 use super::texts::{
     IN_TURN, IN_TURN_REPLAYED, OPENED_AND_CLOSED, OPENS_AND_CLOSES, OTHER_CONFIGURATION,
     TWO_PROCESSES, WRONG_REPLY,
@@ -13,23 +13,23 @@ use std::sync::Wait;
 use std::thread::Threads;
 
 // What is done of an input, and the output and the status that are wanted.
-const DONE: [(Job, &[u8], &[u8], u8); 5] = [
-    (Job::Run, OPENS_AND_CLOSES, OPENED_AND_CLOSED, 0),
-    (Job::Check, TWO_PROCESSES, b"legal 2\n", 0),
-    (Job::Check, WRONG_REPLY, b"illegal 2\n", 4),
-    (Job::Check, OTHER_CONFIGURATION, b"config differs\n", 4),
-    (Job::Replay, IN_TURN, IN_TURN_REPLAYED, 0),
+const DONE: [(Task, &[u8], &[u8], u8); 5] = [
+    (Task::Run, OPENS_AND_CLOSES, OPENED_AND_CLOSED, 0),
+    (Task::Check, TWO_PROCESSES, b"legal 2\n", 0),
+    (Task::Check, WRONG_REPLY, b"illegal 2\n", 4),
+    (Task::Check, OTHER_CONFIGURATION, b"config differs\n", 4),
+    (Task::Replay, IN_TURN, IN_TURN_REPLAYED, 0),
 ];
 
 // Where the read after this many fails, nothing is written, nor read again.
 fn writes_nothing<R: AllocGlobal + Abort + Threads + Wait + Sync>(
     rt: &R,
-    job: Job,
+    task: Task,
     input: &[u8],
     reads: usize,
     kind: ErrorKind,
 ) {
-    let ran = outcome(rt, job, input, reads, kind, usize::MAX, Stop::TakesNone);
+    let ran = outcome(rt, task, input, reads, kind, usize::MAX, Stop::TakesNone);
     ends_so(rt, &ran, "read failed", 5, b"");
     assert!(rt; ran.reads == reads.saturating_add(1));
     assert!(rt; ran.calls == 0);
@@ -37,22 +37,22 @@ fn writes_nothing<R: AllocGlobal + Abort + Threads + Wait + Sync>(
 }
 
 // So it is at each read, the one that shows the end among them.
-fn reads_no_more<R: AllocGlobal + Abort + Threads + Wait + Sync>(rt: &R, job: Job, input: &[u8]) {
+fn reads_no_more<R: AllocGlobal + Abort + Threads + Wait + Sync>(rt: &R, task: Task, input: &[u8]) {
     for kind in &TWO_ERRORS {
         for reads in 0..input.len().saturating_add(1) {
-            writes_nothing(rt, job, input, reads, *kind);
+            writes_nothing(rt, task, input, reads, *kind);
         }
     }
     for kind in &ERRORS {
-        writes_nothing(rt, job, input, 0, *kind);
-        writes_nothing(rt, job, input, input.len(), *kind);
+        writes_nothing(rt, task, input, 0, *kind);
+        writes_nothing(rt, task, input, input.len(), *kind);
     }
 }
 
 // Byte by byte it comes to its end, with no call more than are needed.
 fn ends<R: AllocGlobal + Abort + Threads + Wait + Sync>(
     rt: &R,
-    job: Job,
+    task: Task,
     input: &[u8],
     output: &[u8],
     wanted: u8,
@@ -60,7 +60,7 @@ fn ends<R: AllocGlobal + Abort + Threads + Wait + Sync>(
     let reads = input.len().saturating_add(1);
     let calls = output.len().saturating_add(1);
     let stop = Stop::Fails(ErrorKind::Other);
-    let ran = outcome(rt, job, input, reads, ErrorKind::Other, calls, stop);
+    let ran = outcome(rt, task, input, reads, ErrorKind::Other, calls, stop);
     ends_so(rt, &ran, "", wanted, output);
     assert!(rt; ran.flushed);
     assert!(rt; ran.reads == reads);
@@ -70,21 +70,21 @@ fn ends<R: AllocGlobal + Abort + Threads + Wait + Sync>(
 
 #[test]
 fn ends_byte_by_byte(rt: HostRuntime) {
-    for (job, input, output, status) in &DONE {
-        ends(&rt, *job, *input, *output, *status);
+    for (task, input, output, status) in &DONE {
+        ends(&rt, *task, *input, *output, *status);
     }
 }
 
 // Where it is stopped behind this beginning of its output, it leaves just that.
 fn leaves<R: AllocGlobal + Abort + Threads + Wait + Sync>(
     rt: &R,
-    job: Job,
+    task: Task,
     input: &[u8],
     beginning: &[u8],
     stop: Stop,
 ) {
     let writes = beginning.len();
-    let ran = outcome(rt, job, input, usize::MAX, ErrorKind::Other, writes, stop);
+    let ran = outcome(rt, task, input, usize::MAX, ErrorKind::Other, writes, stop);
     ends_so(rt, &ran, "write failed", 5, beginning);
     assert!(rt; ran.calls == writes.saturating_add(1));
     forget(ran);
@@ -93,36 +93,36 @@ fn leaves<R: AllocGlobal + Abort + Threads + Wait + Sync>(
 // So it does behind each beginning, and behind the whole where the flush fails.
 fn writes_no_more<R: AllocGlobal + Abort + Threads + Wait + Sync>(
     rt: &R,
-    job: Job,
+    task: Task,
     input: &[u8],
     output: &[u8],
 ) {
     for writes in 0..output.len() {
         for kind in &TWO_ERRORS {
-            leaves(rt, job, input, &output[..writes], Stop::Fails(*kind));
+            leaves(rt, task, input, &output[..writes], Stop::Fails(*kind));
         }
-        leaves(rt, job, input, &output[..writes], Stop::TakesNone);
+        leaves(rt, task, input, &output[..writes], Stop::TakesNone);
     }
     for kind in &ERRORS {
-        leaves(rt, job, input, b"", Stop::Fails(*kind));
-        leaves(rt, job, input, output, Stop::Fails(*kind));
+        leaves(rt, task, input, b"", Stop::Fails(*kind));
+        leaves(rt, task, input, output, Stop::Fails(*kind));
     }
 }
 
 #[test]
 fn a_job_reads_no_more(rt: HostRuntime) {
-    reads_no_more(&rt, Job::Run, OPENS_AND_CLOSES);
-    reads_no_more(&rt, Job::Check, TWO_PROCESSES);
-    reads_no_more(&rt, Job::Replay, IN_TURN);
+    reads_no_more(&rt, Task::Run, OPENS_AND_CLOSES);
+    reads_no_more(&rt, Task::Check, TWO_PROCESSES);
+    reads_no_more(&rt, Task::Replay, IN_TURN);
 }
 
 #[test]
 fn a_job_writes_no_more(rt: HostRuntime) {
-    for (job, input, output, _status) in &DONE {
-        writes_no_more(&rt, *job, *input, *output);
+    for (task, input, output, _status) in &DONE {
+        writes_no_more(&rt, *task, *input, *output);
     }
     for kind in &ERRORS {
         let stop = Stop::Fails(*kind);
-        leaves(&rt, Job::Run, OPENS_AND_CLOSES, b"transcript 1\n", stop);
+        leaves(&rt, Task::Run, OPENS_AND_CLOSES, b"transcript 1\n", stop);
     }
 }

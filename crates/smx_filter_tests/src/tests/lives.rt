@@ -1,7 +1,7 @@
 //! Live sessions byte by byte, and on devices that stop, with what is wanted typed in from the rules.
 
 use super::devices::{ERRORS, Stop, TWO_ERRORS};
-use super::jobs::{Job, ends_so, outcome};
+use super::tasks::{Task, ends_so, outcome};
 use std::io::ErrorKind;
 use std::mem::forget;
 use std::process::Abort;
@@ -20,7 +20,7 @@ const ANSWERS: &[u8] =
 fn answers_byte_by_byte(rt: HostRuntime) {
     let reads = LINES.len().saturating_add(1);
     let (kind, stop) = (ErrorKind::Other, Stop::TakesNone);
-    let ran = outcome(&rt, Job::Live, LINES, reads, kind, usize::MAX, stop);
+    let ran = outcome(&rt, Task::Live, LINES, reads, kind, usize::MAX, stop);
     ends_so(&rt, &ran, "", 0, ANSWERS);
     assert!(rt; ran.flushed);
     // What stands behind the line `end`, which is `rest`, is not asked for.
@@ -38,7 +38,7 @@ fn is_left<R: AllocGlobal + Abort + Threads + Wait + Sync>(
 ) {
     let ran = outcome(
         rt,
-        Job::Live,
+        Task::Live,
         LINES,
         reads,
         kind,
@@ -94,7 +94,7 @@ fn leaves_what_was_answered_before_a_failed_read(rt: HostRuntime) {
 // A session that is stopped behind this beginning leaves just that.
 fn leaves<R: AllocGlobal + Abort + Threads + Wait + Sync>(rt: &R, beginning: &[u8], stop: Stop) {
     let (reads, kind) = (usize::MAX, ErrorKind::Other);
-    let ran = outcome(rt, Job::Live, LINES, reads, kind, beginning.len(), stop);
+    let ran = outcome(rt, Task::Live, LINES, reads, kind, beginning.len(), stop);
     ends_so(rt, &ran, "write failed", 5, beginning);
     forget(ran);
 }

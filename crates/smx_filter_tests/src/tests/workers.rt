@@ -2,7 +2,7 @@
 
 ghost use Rattle.std.specs.Prelude.{◌≤◌};
 
-use super::jobs::{is_judged, whole};
+use super::tasks::{is_judged, whole};
 use super::texts::TWO_LONG_PROGRAMS;
 use smx_filters::{Source, Target, run_text};
 use smx_run::Gate;

@@ -3,7 +3,7 @@
 ghost use Rattle.std.specs.Prelude.{◌≤◌};
 
 use super::devices::{ERRORS, Stop, WholeWriter, one_byte_sink};
-use super::jobs::whole;
+use super::tasks::whole;
 use super::texts::TWO_LONG_PROGRAMS;
 use smx_filters::{MainFault, Source, Target, run_text, write_all};
 use smx_run::NoGate;

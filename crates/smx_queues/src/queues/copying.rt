@@ -25,6 +25,7 @@ impl Queues {
         ensures { OnOk result (self.new.queues ≡ with_queue self.old.queues to
             (record (queue_at self.old.queues to) { messages = (queue_at others.now.queues p).messages })) }
     {
+        // Opens the invariant of the others, whose bytes are counted.
         let _chains = &others.chains;
         let _bytes = others.bytes(p);
         let mut rest = others.messages(p);

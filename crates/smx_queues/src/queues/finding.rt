@@ -17,7 +17,6 @@ impl Queues {
     pub fn len(&self) -> usize
         ensures { result ≡ message_total self.now.queues }
     {
-        let _chains = &self.chains;
         self.nodes.len()
     }
 

@@ -6,7 +6,7 @@ ghost use Rattle.smx_types.specs.declared.message.Message.{Message};
 ghost use Rattle.smx_model.specs.Queues.{bytes_of};
 ghost use Rattle.smx_queues.specs.QueueTable.{queue_at, IsPlace};
 
-use crate::messages::Messages;
+use crate::place_messages::PlaceMessages;
 use crate::queues::{PlaceId, Queues};
 use smx_types::{Message, NoMemory};
 
@@ -64,12 +64,12 @@ impl Queues {
     }
 
     /// The messages at the place, from the front on. Takes no memory.
-    pub fn messages(&self, p: PlaceId) -> Messages<'_>
+    pub fn messages(&self, p: PlaceId) -> PlaceMessages<'_>
         requires { IsPlace self.now.queues p }
         ensures { result ≡ (queue_at self.now.queues p).messages }
     {
         let chain = self.chains[p];
-        Messages {
+        PlaceMessages {
             nodes: &self.nodes,
             key: chain.first,
             left: chain.count,
@@ -77,10 +77,10 @@ impl Queues {
     }
 
     // No messages, of any place.
-    pub(crate) fn no_messages(&self) -> Messages<'_>
+    pub(crate) fn no_messages(&self) -> PlaceMessages<'_>
         ensures { result ≡ [] }
     {
-        Messages {
+        PlaceMessages {
             nodes: &self.nodes,
             key: 0,
             left: 0,

@@ -23,7 +23,9 @@ fd 2 0 ip 1
 end
 ";
 
-// The entry of each of them.
+// The entries of none, and of each of them.
+const BY_NONE: &[u8] = b"transcript 1\nconfig\nnext 1 1\nend\n";
+
 const BY_ZERO: &[u8] = b"transcript 1\n0 clone ip = fd 0 0\nconfig\nnext 1 1\nend\n";
 
 const BY_ONE: &[u8] = b"transcript 1\n1 clone ip = fd 0 2\nconfig\nnext 1 1\nend\n";
@@ -114,15 +116,28 @@ fn three_entries_are_reported(rt: HostRuntime) {
     forget(want);
 }
 
-// Two of the three transcripts are exchanged: the entries of process 1 in the history are not its transcript.
+// Transcripts of the three, and the process whose entries in the history are not its transcript: one is empty, one is
+// not given, two are exchanged.
+const STRANGE: [(&[&[u8]], u32); 3] = [
+    (&[BY_ZERO, BY_NONE, BY_TWO], 1),
+    (&[BY_ZERO, BY_ONE], 2),
+    (&[BY_ZERO, BY_TWO, BY_ONE], 1),
+];
+
+fn is_strange(rt: &(impl AllocGlobal + Abort), system: &System, texts: &[&[u8]], process: u32) {
+    let transcripts = transcripts_of(rt, texts);
+    let fault = gathered_of(rt, system, transcripts.as_slice()).err();
+    assert!(rt; fault == Some(GatherFault::Strange(numbered(rt, process))));
+    forget(transcripts);
+}
+
 #[test]
-fn exchanged_transcripts_are_strange(rt: HostRuntime) {
+fn strange_transcripts(rt: HostRuntime) {
     let want = read(&rt, OPENED);
     let system = three_opened(&rt, &want);
-    let transcripts = transcripts_of(&rt, &[BY_ZERO, BY_TWO, BY_ONE]);
-    let fault = gathered_of(&rt, &system, transcripts.as_slice()).err();
-    assert!(rt; fault == Some(GatherFault::Strange(numbered(&rt, 1))));
-    forget(transcripts);
+    for (texts, process) in STRANGE {
+        is_strange(&rt, &system, texts, process);
+    }
     forget(system);
     forget(want);
 }

@@ -1,7 +1,6 @@
 //! A recorder of tests, and a taker of programs that performs each command as its line is read and tells the recorder.
 
-use super::gates::Log;
-use smx_run::{GrowingRun, NewRecorder, Recorder, RunFault};
+use smx_run::{Gate, GrowingRun, NewRecorder, Recorder, RunFault};
 use smx_text::ProgramTaker;
 use smx_types::{
     Command, ConfigView, Copied, DriverSpec, Drivers, Entries, Entry, NoMemory, Process, Reply,
@@ -80,13 +79,13 @@ impl<'a> NewRecorder for Kept<'a> {
 
 /// Performs each command as its line is read, and tells of the line too where it has an even number of bytes.
 #[derive(Drop)]
-pub struct Growing<'a> {
+pub struct Growing<'a, G: Gate> {
     run: GrowingRun<Kept<'a>>,
-    log: &'a Log,
+    gate: &'a G,
 }
 
-impl<'a> ProgramTaker for Growing<'a> {
-    type With = ((Global, &'a AtomicUsize, usize), &'a Log);
+impl<'a, G: Gate> ProgramTaker for Growing<'a, G> {
+    type With = ((Global, &'a AtomicUsize, usize), &'a G);
 
     type Whole = Result<(Kept<'a>, ConfigView), RunFault>;
 
@@ -96,12 +95,12 @@ impl<'a> ProgramTaker for Growing<'a> {
 
     fn begin(
         alloc: Global,
-        with: ((Global, &'a AtomicUsize, usize), &'a Log),
+        with: ((Global, &'a AtomicUsize, usize), &'a G),
         version: Version,
-    ) -> Growing<'a> {
-        let (room, log) = with;
+    ) -> Growing<'a, G> {
+        let (room, gate) = with;
         let run = GrowingRun::new(alloc, version, room);
-        Growing { run, log }
+        Growing { run, gate }
     }
 
     fn add_driver(&mut self, driver: DriverSpec) -> Result<(), NoMemory> {
@@ -118,9 +117,9 @@ impl<'a> ProgramTaker for Growing<'a> {
             return Ok(false);
         };
         if line.len() % 2 == 0 {
-            self.run.add_line(self.log, &command, line);
+            self.run.add_line(self.gate, &command, line);
         } else {
-            self.run.add_command(self.log, &command);
+            self.run.add_command(self.gate, &command);
         }
         Ok(true)
     }

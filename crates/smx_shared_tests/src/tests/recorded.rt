@@ -1,5 +1,5 @@
-//! Runs of which a recorder is told: of programs that were read, of programs that grow while their text is read, and of
-//! several workers. What it is told, and a gate, of drivers that are refused, and where the recorder wants memory.
+//! Runs of which a recorder is told: of programs that grow while their text is read, and of several workers. What it is
+//! told, and a gate, of drivers that are refused, and where the recorder wants memory.
 
 ghost use Rattle.std.specs.Prelude.{◌<◌, ◌≤◌, length};
 
@@ -8,7 +8,7 @@ use super::gates::{Log, Told};
 use super::growing::{Growing, Kept};
 use super::made::read;
 use super::told::{IN_TURN, SIX};
-use smx_run::{Gate, RunFault, run_recorded, run_recorded_together};
+use smx_run::{Gate, RunFault, run_recorded_together};
 use smx_text::{read_programs, take_programs};
 use smx_types::{ConfigView, Process, Programs, Transcript};
 use std::mem::forget;
@@ -23,8 +23,6 @@ type Ran<'a> = Result<(Kept<'a>, ConfigView), RunFault>;
 // How the programs of a text are run.
 #[derive(Clone, Copy)]
 enum Way {
-    // When all are read.
-    Read,
     // While they are read.
     Growing,
     // By so many workers, when all are read.
@@ -82,12 +80,8 @@ fn ran<R: AllocGlobal + Abort + Threads + Wait + Sync>(
 ) -> Option<RunFault> {
     let room = (rt.alloc(), count, most);
     match way {
-        Way::Read => {
-            let ran = run_recorded(rt.alloc(), programs_of(rt, text), room, log);
-            end_of(rt, ran, wanted)
-        }
         Way::Growing => {
-            let ran = take_programs::<Growing>(rt.alloc(), (room, log), text);
+            let ran = take_programs::<Growing<Log>>(rt.alloc(), (room, log), text);
             end_of(rt, ran.expect(rt, "a text"), wanted)
         }
         Way::Together(workers) => {
@@ -136,22 +130,16 @@ const NO_PROCESS: &[u8] = b"programs 2\ndriver ip mux 2 8 3 16\nend\n";
 const OF_NO_PROCESS: &[u8] = b"transcript 2\ndriver ip mux 2 8 3 16\nconfig\nnext 1 1\nend\n";
 
 // A recorder of a run of this text is told this.
-fn tells<R: AllocGlobal + Abort + Threads + Wait + Sync>(
-    rt: &R,
-    way: Way,
-    text: &[u8],
-    wanted: &[u8],
-) {
+fn tells<R: AllocGlobal + Abort + Threads + Wait + Sync>(rt: &R, text: &[u8], wanted: &[u8]) {
     let (count, log) = (AtomicUsize::new(0), Log::of(rt, 0));
-    assert!(rt; ran(rt, way, text, &count, 1000, &log, wanted).is_none());
+    assert!(rt; ran(rt, Way::Growing, text, &count, 1000, &log, wanted).is_none());
     forget(log);
 }
 
 #[test]
 fn a_recorder_is_told_of_all(rt: HostRuntime) {
-    tells(&rt, Way::Read, TWO_PROCESSES, OF_TWO_PROCESSES);
-    tells(&rt, Way::Growing, TWO_PROCESSES, OF_TWO_PROCESSES);
-    tells(&rt, Way::Growing, NO_PROCESS, OF_NO_PROCESS);
+    tells(&rt, TWO_PROCESSES, OF_TWO_PROCESSES);
+    tells(&rt, NO_PROCESS, OF_NO_PROCESS);
 }
 
 // What a gate is told of the six commands of the two processes.
@@ -180,10 +168,11 @@ fn are_told(rt: &impl Abort, count: &AtomicUsize, often: usize, log: &Log, times
 
 // A recorder that may be told of so many entries stops the run at the next one: of this it is told, and so is the log.
 // Neither is told of anything behind it.
-fn stops_behind<R: AllocGlobal + Abort + Threads + Wait + Sync>(rt: &R, way: Way, entries: usize)
+fn stops_behind<R: AllocGlobal + Abort + Threads + Wait + Sync>(rt: &R, entries: usize)
     requires { entries < 6 }
 {
     let (count, log) = (AtomicUsize::new(0), Log::of(rt, 16));
+    let way = Way::Growing;
     let fault = ran(rt, way, TWO_PROCESSES, &count, entries + 1, &log, b"");
     assert!(rt;
         fault == Some(RunFault::NoMemory),
@@ -196,8 +185,7 @@ fn stops_behind<R: AllocGlobal + Abort + Threads + Wait + Sync>(rt: &R, way: Way
 #[test]
 fn a_run_stops_where_its_recorder_does(rt: HostRuntime) {
     for entries in 0..6 {
-        stops_behind(&rt, Way::Read, entries);
-        stops_behind(&rt, Way::Growing, entries);
+        stops_behind(&rt, entries);
     }
 }
 
@@ -227,31 +215,21 @@ fn a_recorder_that_wants_memory_is_told_of_nothing_more(rt: HostRuntime) {
 const SAME_NAME: &[u8] =
     b"programs 1\ndriver ip mux 4 8 3 16\ndriver ip leaf 1 1 0 1\nprocess 0\nexit\nend\n";
 
-fn drivers_come_first<R: AllocGlobal + Abort + Threads + Wait + Sync>(rt: &R, way: Way) {
-    let (count, log) = (AtomicUsize::new(0), Log::of(rt, 4));
-    let fault = ran(rt, way, SAME_NAME, &count, 9, &log, b"");
-    assert!(rt; matches!(fault, Some(RunFault::ConfigFault(_))));
-    are_told(rt, &count, 0, &log, 0);
-    forget(log);
-}
-
-fn tells_in_turn<R: AllocGlobal + Abort + Threads + Wait + Sync>(rt: &R, way: Way) {
-    let (count, log) = (AtomicUsize::new(0), Log::of(rt, 40));
-    assert!(rt; ran(rt, way, SIX, &count, 14, &log, b"").is_none());
-    assert!(rt; log.has(&IN_TURN));
-    forget(log);
-}
-
 #[test]
 fn drivers_come_before_the_recorder_and_commands(rt: HostRuntime) {
-    drivers_come_first(&rt, Way::Read);
-    drivers_come_first(&rt, Way::Growing);
+    let (count, log) = (AtomicUsize::new(0), Log::of(&rt, 4));
+    let fault = ran(&rt, Way::Growing, SAME_NAME, &count, 9, &log, b"");
+    assert!(rt; matches!(fault, Some(RunFault::ConfigFault(_))));
+    are_told(&rt, &count, 0, &log, 0);
+    forget(log);
 }
 
 #[test]
 fn a_recorded_run_tells_of_each_command_in_turn(rt: HostRuntime) {
-    tells_in_turn(&rt, Way::Read);
-    tells_in_turn(&rt, Way::Growing);
+    let (count, log) = (AtomicUsize::new(0), Log::of(&rt, 40));
+    assert!(rt; ran(&rt, Way::Growing, SIX, &count, 14, &log, b"").is_none());
+    assert!(rt; log.has(&IN_TURN));
+    forget(log);
 }
 
 // Counts how often it is told in time: before a command, while the recorder was told of just those before it, and after
@@ -295,8 +273,8 @@ impl<'a> Gate for InTime<'a> {
 // Whether a run of the six programs, of which this gate is told, comes to its end.
 fn runs(rt: &(impl AllocGlobal + Abort), told: &AtomicUsize, gate: &InTime) -> bool {
     let room = (rt.alloc(), told, 14);
-    let ran: Ran = run_recorded(rt.alloc(), programs_of(rt, SIX), room, gate);
-    end_of(rt, ran, b"").is_none()
+    let ran = take_programs::<Growing<InTime>>(rt.alloc(), (room, gate), SIX);
+    end_of(rt, ran.expect(rt, "a text"), b"").is_none()
 }
 
 #[test]

@@ -1,7 +1,7 @@
 //! Systems: how they play a worked history, commands that are given up, and their copies.
 
-use super::made::{read, system_over, tells_of_want};
-use smx_shared::System;
+use super::made::{clone_of, numbered, read, system_over, tells_of_want};
+use smx_shared::{ApplyFault, System};
 use smx_types::{Entry, Transcript};
 use std::mem::forget;
 use std::process::Abort;
@@ -76,6 +76,19 @@ fn commands_that_are_given_up(rt: HostRuntime) {
     appends(&rt, &mut system, want.entries.as_slice());
     has(&rt, &system, &want);
     copy_has(&rt, &system, &want);
+    forget(want);
+    forget(system);
+}
+
+// The same three are answered, and then the history is full.
+#[test]
+fn three_entries_are_the_most(rt: HostRuntime) {
+    let want = read(&rt, THREE);
+    let mut system = system_over(&rt, want.drivers.as_slice(), 3);
+    plays(&rt, &mut system, want.entries.as_slice());
+    let answer = system.apply(numbered(&rt, 0), &clone_of(&rt, "ip"));
+    assert!(rt; answer.err() == Some(ApplyFault::HistoryFull));
+    has(&rt, &system, &want);
     forget(want);
     forget(system);
 }

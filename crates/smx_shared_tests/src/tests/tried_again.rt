@@ -3,7 +3,7 @@
 ghost use Rattle.std.specs.Prelude.{◌≡◌, All};
 
 use super::callers::{closes_with, last_two, opens, start};
-use super::made::{clone_of, ip, system_over, tells_of_want};
+use super::made::{clone_of, front, ip, system_over, tells_of_want};
 use super::worked::is_judged;
 use smx_config::Verdict;
 use smx_run::{NoGate, RunFault, run_programs};
@@ -115,40 +115,44 @@ fn shared_by_two(rt: &(impl AllocGlobal + Abort)) -> (Shared, Vec<Seat>)
     }
 }
 
-// A call, which is made again where memory was wanting.
+// A call, which is made again where memory was wanting. The other seat has then seen no entry.
 fn called(
     rt: &(impl AllocGlobal + Abort + Print + Wait),
     shared: &Shared,
     seat: &mut Seat,
+    other: &mut Seat,
     command: &Command,
 ) -> Entry
-    requires { seat.old.shared ≡ shared.now.name }
-    ensures { seat.new.shared ≡ shared.now.name }
+    requires { (seat.old.shared ≡ shared.now.name) × (other.old.shared ≡ shared.now.name) }
+    ensures { (seat.new.shared ≡ shared.now.name) × (other.new.shared ≡ shared.now.name) }
 {
     match shared.call(rt, rt.alloc(), seat, command) {
         Ok(entry) => entry,
         Err(_) => {
             tells_of_want(rt, "a call");
+            assert!(rt; shared.glance(other) == front(0, 0, false));
             let again = shared.call(rt, rt.alloc(), seat, command);
             again.expect(rt, "an answer")
         }
     }
 }
 
-// The same of a try.
+// The same of a try, behind one entry.
 fn tried(
     rt: &(impl AllocGlobal + Abort + Print),
     shared: &Shared,
     seat: &mut Seat,
+    other: &mut Seat,
     command: &Command,
 ) -> Entry
-    requires { seat.old.shared ≡ shared.now.name }
-    ensures { seat.new.shared ≡ shared.now.name }
+    requires { (seat.old.shared ≡ shared.now.name) × (other.old.shared ≡ shared.now.name) }
+    ensures { (seat.new.shared ≡ shared.now.name) × (other.new.shared ≡ shared.now.name) }
 {
     match shared.try_call(rt.alloc(), seat, command) {
         Ok(entry) => entry,
         Err(_) => {
             tells_of_want(rt, "a call");
+            assert!(rt; shared.glance(other) == front(1, 0, false));
             let again = shared.try_call(rt.alloc(), seat, command);
             again.expect(rt, "an answer")
         }
@@ -166,8 +170,8 @@ fn both_call(
 {
     let command = clone_of(rt, "ip");
     let (mut zero, mut one) = last_two(rt, shared, seats);
-    let first = called(rt, shared, &mut zero, &command);
-    let second = tried(rt, shared, &mut one, &command);
+    let first = called(rt, shared, &mut zero, &mut one, &command);
+    let second = tried(rt, shared, &mut one, &mut zero, &command);
     assert!(rt; opens(&first, 0));
     assert!(rt; opens(&second, 1));
     forget((first, second));

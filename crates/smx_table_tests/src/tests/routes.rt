@@ -65,7 +65,6 @@ fn unroutes(rt: &impl Abort, table: &mut Routes) {
         id: 2,
     });
     assert!(rt; table.at(0, 4) == first);
-    assert!(rt; table.is_routed(0, 4));
     assert!(rt; table.unroute(0, 4) == first);
     table.unroute_link(3);
     assert!(rt; table.len() == 2);

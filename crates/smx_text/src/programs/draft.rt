@@ -8,8 +8,8 @@ ghost use Rattle.smx_words.specs.LineReading.{IsLineOf, IsReadAs};
 ghost use Rattle.smx_words.specs.Words.{line_of};
 ghost use Rattle.smx_words.specs.Spelling.{command_words};
 ghost use Rattle.smx_words.specs.Spellable.{FitsNumber, FitsDriver, FitsCommandIn};
-ghost use Rattle.smx_text.specs.Grammar.{IsBegun, Continues, line_text};
-ghost use Rattle.smx_text.specs.Reading.{Refuses, AddsLine, RefusesLine, EndsAs};
+ghost use Rattle.smx_text.specs.Grammar.{IsBegun, line_text};
+ghost use Rattle.smx_text.specs.Reading.{AnswersLine, AnswersText, RefusesLine, EndsAs};
 ghost use Rattle.smx_text.specs.ProgramLines.{Driver as DriverLine, Process as ProcessLine};
 ghost use Rattle.smx_text.specs.ProgramLines.{Command as CommandLine, End};
 ghost use Rattle.smx_text.specs.ProgramsText.{body, programs_grammar};
@@ -103,10 +103,9 @@ impl<P: ProgramTaker> ProgramsDraft<P> {
         requires no_command { (c : AnyCommand) → FitsCommandIn self.old.version c
             → text.now ≢ line_of (command_words c) }
         requires no_end { text.now ≢ codes "end" }
-        ensures added { OnOk result
-            (Continues (programs_grammar self.old.version) (body self.old) text.now (body self.new)) }
+        ensures answers { AnswersText (programs_grammar self.old.version) (body self.old) text.now
+            (body self.new) result }
         ensures version { OnOk result (self.new.version ≡ self.old.version) }
-        ensures refused { IfErr result (Refuses (programs_grammar self.old.version) (body self.old) text.now) }
     {
         if let Some(driver) = driver_of(text) {
             return self.add_driver(driver);
@@ -121,11 +120,9 @@ impl<P: ProgramTaker> ProgramsDraft<P> {
     fn add_driver(&mut self, driver: DriverSpec) -> Result<(), Cause>
         requires begun { IsBegun (programs_grammar self.old.version) (body self.old) }
         requires fits { FitsDriver driver }
-        ensures added { OnOk result
-            (AddsLine (programs_grammar self.old.version) (body self.old) (DriverLine driver) (body self.new)) }
+        ensures answers { AnswersLine (programs_grammar self.old.version) (body self.old) (DriverLine driver)
+            (body self.new) result }
         ensures version { OnOk result (self.new.version ≡ self.old.version) }
-        ensures refused { IfErr result
-            (RefusesLine (programs_grammar self.old.version) (body self.old) (DriverLine driver)) }
     {
         if self.programs > 0 {
             return Err(Cause::Form);
@@ -141,11 +138,9 @@ impl<P: ProgramTaker> ProgramsDraft<P> {
     // Processes are numbered from 0 on, in order.
     fn add_process(&mut self, alloc: Global, number: u32) -> Result<(), Cause>
         requires begun { IsBegun (programs_grammar self.old.version) (body self.old) }
-        ensures added { OnOk result
-            (AddsLine (programs_grammar self.old.version) (body self.old) (ProcessLine number) (body self.new)) }
+        ensures answers { AnswersLine (programs_grammar self.old.version) (body self.old) (ProcessLine number)
+            (body self.new) result }
         ensures version { OnOk result (self.new.version ≡ self.old.version) }
-        ensures refused { IfErr result
-            (RefusesLine (programs_grammar self.old.version) (body self.old) (ProcessLine number)) }
     {
         if number as usize != self.programs {
             return Err(Cause::Form);
@@ -164,10 +159,9 @@ impl<P: ProgramTaker> ProgramsDraft<P> {
         requires some { 0 < length self.old.programs }
         requires few { sum_by length self.old.programs < MAX_COMMANDS }
         requires no_end { text.now ≢ codes "end" }
-        ensures added { OnOk result
-            (Continues (programs_grammar self.old.version) (body self.old) text.now (body self.new)) }
+        ensures answers { AnswersText (programs_grammar self.old.version) (body self.old) text.now
+            (body self.new) result }
         ensures version { OnOk result (self.new.version ≡ self.old.version) }
-        ensures refused { IfErr result (Refuses (programs_grammar self.old.version) (body self.old) text.now) }
     {
         match self.taker.add_command(alloc, text) {
             Ok(true) => {
@@ -185,10 +179,9 @@ impl<P: ProgramTaker> ProgramsDraft<P> {
         requires none { (c : AnyCommand)
             → RefusesLine (programs_grammar self.old.version) (body self.old) (CommandLine c) cause }
         requires no_end { text.now ≢ codes "end" }
-        ensures added { OnOk result
-            (Continues (programs_grammar self.old.version) (body self.old) text.now (body self.new)) }
+        ensures answers { AnswersText (programs_grammar self.old.version) (body self.old) text.now
+            (body self.new) result }
         ensures version { OnOk result (self.new.version ≡ self.old.version) }
-        ensures refused { IfErr result (Refuses (programs_grammar self.old.version) (body self.old) text.now) }
     {
         match command_of(alloc, self.version, text) {
             Ok(None) => self.add_other(alloc, text),

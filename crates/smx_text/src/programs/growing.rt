@@ -4,7 +4,7 @@ ghost use Rattle.std.specs.Prelude.{◌≡◌, ◌≢◌, ◌<◌, [], ◌∷◌
 ghost use Rattle.std.specs.Prelude.{OnOk, OnErr};
 ghost use Rattle.std.specs.Vec.{vec_len, vec_capacity};
 ghost use Rattle.smx_types.specs.declared.command.Command.{Command as AnyCommand};
-ghost use Rattle.smx_words.specs.LineReading.{IsLineOf};
+ghost use Rattle.smx_words.specs.LineReading.{IsCommandLine};
 ghost use Rattle.smx_words.specs.Spellable.{FitsCommandIn};
 ghost use Rattle.smx_words.specs.Spelling.{command_words};
 ghost use Rattle.smx_words.specs.Words.{line_of};
@@ -84,7 +84,7 @@ impl GrowingPrograms {
     ) -> Result<bool, NoMemory>
         requires { 0 < length self.old }
         ensures pushed { IfOk result (IsPushed version line.now self.old self.new) }
-        ensures wanted { IfErr result (λ _. IsLineOf (FitsCommandIn version) command_words line.now) }
+        ensures wanted { IfErr result (λ _. IsCommandLine version line.now) }
         ensures kept { OnErr result (self.new ≡ self.old) }
     {
         if self.last.reserve(1).is_err() {
@@ -118,7 +118,7 @@ fn put_last(programs: &mut Vec<Commands>, last: Vec<Command>)
 fn without_room(alloc: Global, version: Version, line: &[u8]) -> Result<bool, NoMemory>
     ensures none { IfOk result (λ pushed. (pushed ≡ false)
         × ((c : AnyCommand) → FitsCommandIn version c → line.now ≢ line_of (command_words c))) }
-    ensures wanted { IfErr result (λ _. IsLineOf (FitsCommandIn version) command_words line.now) }
+    ensures wanted { IfErr result (λ _. IsCommandLine version line.now) }
 {
     match command_of(alloc, version, line) {
         Ok(None) => Ok(false),

@@ -10,9 +10,7 @@ pub trait ProgramTaker: Drop {
     ghost use Rattle.std.specs.List.{sum_by};
     ghost use Rattle.smx_types.specs.ProgramLists.{ProgramLists, AreWithinLimits};
     ghost use Rattle.smx_types.specs.declared.limits.TheConstants.{MAX_COMMANDS, MAX_PROCESSES};
-    ghost use Rattle.smx_words.specs.LineReading.{IsLineOf};
-    ghost use Rattle.smx_words.specs.Spellable.{FitsCommandIn};
-    ghost use Rattle.smx_words.specs.Spelling.{command_words};
+    ghost use Rattle.smx_words.specs.LineReading.{IsCommandLine};
     ghost use Rattle.smx_types.specs.GrowingPrograms.{with_driver, with_program};
     ghost use Rattle.smx_text.specs.TakenPrograms.{IsTaken, nothing_of};
 
@@ -53,8 +51,7 @@ pub trait ProgramTaker: Drop {
         requires some { 0 < length (taken self.old).programs }
         requires few { sum_by length (taken self.old).programs < MAX_COMMANDS }
         ensures taken { IfOk result (IsTaken line.now (taken self.old) (taken self.new)) }
-        ensures wanted { IfErr result (λ _.
-            IsLineOf (FitsCommandIn (taken self.old).version) command_words line.now) }
+        ensures wanted { IfErr result (λ _. IsCommandLine (taken self.old).version line.now) }
         ensures kept { OnErr result (taken self.new ≡ taken self.old) };
 
     /// What it makes of all that it has taken.

@@ -1,13 +1,13 @@
 //! The transcript that is being read.
 
-ghost use Rattle.std.specs.Prelude.{◌≡◌, ◌≢◌, [], OnOk, IfErr};
+ghost use Rattle.std.specs.Prelude.{◌≡◌, ◌≢◌, [], OnOk};
 ghost use Rattle.smx_types.specs.declared.command.Entry.{Entry as AnyEntry};
 ghost use Rattle.smx_types.specs.declared.view.MessageLine.{MessageLine as AnyMessage};
 ghost use Rattle.smx_words.specs.Words.{line_of};
 ghost use Rattle.smx_words.specs.Spelling.{entry_words, message_words};
 ghost use Rattle.smx_words.specs.Spellable.{FitsDriver, FitsEntryIn, FitsMessage};
-ghost use Rattle.smx_text.specs.Grammar.{IsBegun, Continues, line_text};
-ghost use Rattle.smx_text.specs.Reading.{Refuses, AddsLine, RefusesLine};
+ghost use Rattle.smx_text.specs.Grammar.{IsBegun, line_text};
+ghost use Rattle.smx_text.specs.Reading.{AnswersLine, AnswersText};
 ghost use Rattle.smx_text.specs.Drafts.{lines, grammar_of};
 ghost use Rattle.smx_text.specs.TranscriptLines.{Driver as DriverLine, Config as ConfigLine, Next as NextLine, End};
 
@@ -128,10 +128,9 @@ impl TranscriptDraft {
         requires no_entry { (e : AnyEntry) → FitsEntryIn self.old.transcript.version e
             → text.now ≢ line_of (entry_words e) }
         requires no_end { text.now ≢ line_text (grammar_of self.old) End }
-        ensures added { OnOk result
-            (Continues (grammar_of self.old) (lines self.old) text.now (lines self.new)) }
+        ensures answers { AnswersText (grammar_of self.old) (lines self.old) text.now
+            (lines self.new) result }
         ensures version { OnOk result (self.new.transcript.version ≡ self.old.transcript.version) }
-        ensures refused { IfErr result (Refuses (grammar_of self.old) (lines self.old) text.now) }
     {
         match message_of(alloc, text) {
             Ok(Some(message)) => self.add_message(message),
@@ -147,10 +146,9 @@ impl TranscriptDraft {
             → text.now ≢ line_of (entry_words e) }
         requires no_message { (m : AnyMessage) → FitsMessage m → text.now ≢ line_of (message_words m) }
         requires no_end { text.now ≢ line_text (grammar_of self.old) End }
-        ensures added { OnOk result
-            (Continues (grammar_of self.old) (lines self.old) text.now (lines self.new)) }
+        ensures answers { AnswersText (grammar_of self.old) (lines self.old) text.now
+            (lines self.new) result }
         ensures version { OnOk result (self.new.transcript.version ≡ self.old.transcript.version) }
-        ensures refused { IfErr result (Refuses (grammar_of self.old) (lines self.old) text.now) }
     {
         if let Some(driver) = driver_of(text) {
             return self.add_driver(driver);
@@ -168,11 +166,9 @@ impl TranscriptDraft {
     fn add_driver(&mut self, driver: DriverSpec) -> Result<(), Cause>
         requires begun { IsBegun (grammar_of self.old) (lines self.old) }
         requires fits { FitsDriver driver }
-        ensures added { OnOk result
-            (AddsLine (grammar_of self.old) (lines self.old) (DriverLine driver) (lines self.new)) }
+        ensures answers { AnswersLine (grammar_of self.old) (lines self.old) (DriverLine driver)
+            (lines self.new) result }
         ensures version { OnOk result (self.new.transcript.version ≡ self.old.transcript.version) }
-        ensures refused { IfErr result
-            (RefusesLine (grammar_of self.old) (lines self.old) (DriverLine driver)) }
     {
         if self.stage != Stage::History || !self.transcript.entries.as_slice().is_empty() {
             return Err(Cause::Form);
@@ -187,10 +183,9 @@ impl TranscriptDraft {
     // The configuration comes behind the entries.
     fn add_config(&mut self) -> Result<(), Cause>
         requires begun { IsBegun (grammar_of self.old) (lines self.old) }
-        ensures added { OnOk result
-            (AddsLine (grammar_of self.old) (lines self.old) ConfigLine (lines self.new)) }
+        ensures answers { AnswersLine (grammar_of self.old) (lines self.old) ConfigLine
+            (lines self.new) result }
         ensures version { OnOk result (self.new.transcript.version ≡ self.old.transcript.version) }
-        ensures refused { IfErr result (RefusesLine (grammar_of self.old) (lines self.old) ConfigLine) }
     {
         if self.stage != Stage::History {
             return Err(Cause::Form);
@@ -202,11 +197,9 @@ impl TranscriptDraft {
     // The view begins with what comes next.
     fn add_next(&mut self, alloc: Global, next_id: u32, next_serial: u32) -> Result<(), Cause>
         requires begun { IsBegun (grammar_of self.old) (lines self.old) }
-        ensures added { OnOk result
-            (AddsLine (grammar_of self.old) (lines self.old) (NextLine next_id next_serial) (lines self.new)) }
+        ensures answers { AnswersLine (grammar_of self.old) (lines self.old) (NextLine next_id next_serial)
+            (lines self.new) result }
         ensures version { OnOk result (self.new.transcript.version ≡ self.old.transcript.version) }
-        ensures refused { IfErr result
-            (RefusesLine (grammar_of self.old) (lines self.old) (NextLine next_id next_serial)) }
     {
         if self.stage != Stage::Config {
             return Err(Cause::Form);

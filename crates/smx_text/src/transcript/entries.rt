@@ -4,7 +4,7 @@ ghost use Rattle.std.specs.Prelude.{◌≡◌, ◌<◌, length, OnOk, IfErr};
 ghost use Rattle.smx_types.specs.declared.command.Entry.{Entry as AnyEntry};
 ghost use Rattle.smx_words.specs.Spellable.{FitsEntryIn};
 ghost use Rattle.smx_text.specs.Grammar.{IsBegun};
-ghost use Rattle.smx_text.specs.Reading.{AddsLine, RefusesLine};
+ghost use Rattle.smx_text.specs.Reading.{AnswersLine, RefusesLine};
 ghost use Rattle.smx_text.specs.Drafts.{lines, grammar_of};
 ghost use Rattle.smx_text.specs.declared.transcript.draft.Stage.TheVariants.{History};
 ghost use Rattle.smx_types.specs.declared.limits.TheConstants.{MAX_COMMANDS};
@@ -18,10 +18,9 @@ impl TranscriptDraft {
     pub fn add_entry(&mut self, entry: Entry) -> Result<(), Cause>
         requires begun { IsBegun (grammar_of self.old) (lines self.old) }
         requires fits { FitsEntryIn self.old.transcript.version entry }
-        ensures added { OnOk result
-            (AddsLine (grammar_of self.old) (lines self.old) (EntryLine entry) (lines self.new)) }
+        ensures answers { AnswersLine (grammar_of self.old) (lines self.old) (EntryLine entry)
+            (lines self.new) result }
         ensures version { OnOk result (self.new.transcript.version ≡ self.old.transcript.version) }
-        ensures refused { IfErr result (RefusesLine (grammar_of self.old) (lines self.old) (EntryLine entry)) }
     {
         self.room_for_entry()?;
         self.transcript.entries.push(entry)?;

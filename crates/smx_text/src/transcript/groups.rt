@@ -1,29 +1,24 @@
 //! The groups of the configuration in a transcript that is being read: each comes behind those before it.
 
-ghost use Rattle.std.specs.Prelude.{◌≡◌, ◌≢◌, ℕ, OnOk, IfErr};
+ghost use Rattle.std.specs.Prelude.{◌≡◌, ◌≢◌, ◌∷◌, ◌++◌, [], ℕ, true, OnOk, IfErr, if◌then◌else◌};
 ghost use Rattle.smx_types.specs.declared.command.Entry.{Entry as AnyEntry};
 ghost use Rattle.smx_types.specs.declared.view.MessageLine.{MessageLine as AnyMessage};
 ghost use Rattle.smx_words.specs.LineReading.{IsReadAs};
 ghost use Rattle.smx_words.specs.Words.{line_of};
 ghost use Rattle.smx_words.specs.Spelling.{entry_words, message_words, driver_words, next_words, hung_words};
-ghost use Rattle.smx_words.specs.Spellable.{FitsDriver, FitsEntryIn, FitsDescriptor, FitsLink, FitsBinding};
-ghost use Rattle.smx_words.specs.Spellable.{FitsRoute, FitsMessage, FitsFull, FitsNext};
+ghost use Rattle.smx_words.specs.Spellable.{FitsDriver, FitsEntryIn, FitsMessage, FitsNext};
 ghost use Rattle.smx_text.specs.TranscriptText.{FitsHungIn};
-ghost use Rattle.smx_text.specs.Grammar.{IsBegun, Continues, line_text};
-ghost use Rattle.smx_text.specs.Reading.{Refuses, AddsLine, RefusesLine};
+ghost use Rattle.smx_text.specs.Grammar.{IsBegun, line_text};
+ghost use Rattle.smx_text.specs.Reading.{AnswersLine, AnswersText, RefusesLine};
 ghost use Rattle.smx_text.specs.Drafts.{lines, takes_fds, takes_links, takes_binds, takes_routes, takes_msgs};
 ghost use Rattle.smx_text.specs.Drafts.{takes_fulls, takes_hungs, grammar_of};
 ghost use Rattle.smx_types.specs.declared.driver.DriverSpec.{DriverSpec as AnyDriver};
-ghost use Rattle.smx_text.specs.TranscriptLines.{Config as ConfigLine};
-ghost use Rattle.smx_text.specs.TranscriptLines.{Fd as FdLine, Link as AnyLink, Bind as BindLine};
-ghost use Rattle.smx_text.specs.TranscriptLines.{Route as AnyRoute, Msg as MsgLine, Full as AnyFull};
-ghost use Rattle.smx_text.specs.TranscriptLines.{Hung as AnyHung, End};
+ghost use Rattle.smx_text.specs.TranscriptLines.{Config as ConfigLine, Msg as MsgLine, End};
+ghost use Rattle.smx_text.specs.declared.text_fault.Cause.TheVariants.{Form, NoMemory};
 
 use super::draft::{Stage, TranscriptDraft};
 use crate::text_fault::Cause;
-use smx_types::{
-    BindingLine, DescriptorLine, FullLine, HungLine, LinkLine, MessageLine, RouteLine, Version,
-};
+use smx_types::{HungLine, Items, MessageLine, Version};
 use smx_words::{bind_of, descriptor_of, full_of, hung_of, link_of, route_of};
 
 impl TranscriptDraft {
@@ -47,105 +42,39 @@ impl TranscriptDraft {
         requires no_config { text.now ≢ line_text (grammar_of self.old) ConfigLine }
         requires no_next { (n : ℕ × ℕ) → FitsNext n → text.now ≢ line_of (next_words n) }
         requires no_end { text.now ≢ line_text (grammar_of self.old) End }
-        ensures added { OnOk result
-            (Continues (grammar_of self.old) (lines self.old) text.now (lines self.new)) }
+        ensures answers { AnswersText (grammar_of self.old) (lines self.old) text.now
+            (lines self.new) result }
         ensures version { OnOk result (self.new.transcript.version ≡ self.old.transcript.version) }
-        ensures refused { IfErr result (Refuses (grammar_of self.old) (lines self.old) text.now) }
     {
         if let Some(fd) = descriptor_of(text) {
-            return self.add_fd(fd);
+            return push_if(self.takes_fds(), &mut self.transcript.view.fds, fd);
         }
         if let Some(link) = link_of(text) {
-            return self.add_link(link);
+            return push_if(self.takes_links(), &mut self.transcript.view.links, link);
         }
         if let Some(bind) = bind_of(text) {
-            return self.add_bind(bind);
+            return push_if(self.takes_binds(), &mut self.transcript.view.binds, bind);
         }
         if let Some(route) = route_of(text) {
-            return self.add_route(route);
+            return push_if(self.takes_routes(), &mut self.transcript.view.routes, route);
         }
         if let Some(full) = full_of(text) {
-            return self.add_full(full);
+            return push_if(self.takes_fulls(), &mut self.transcript.view.fulls, full);
         }
         match self.read_hung(text) {
-            Some(hung) => self.add_hung(hung),
+            Some(hung) => push_if(self.takes_hungs(), &mut self.transcript.view.hungs, hung),
             None => Err(Cause::Form),
         }
-    }
-
-    fn add_fd(&mut self, fd: DescriptorLine) -> Result<(), Cause>
-        requires begun { IsBegun (grammar_of self.old) (lines self.old) }
-        requires fits { FitsDescriptor fd }
-        ensures added { OnOk result
-            (AddsLine (grammar_of self.old) (lines self.old) (FdLine fd) (lines self.new)) }
-        ensures version { OnOk result (self.new.transcript.version ≡ self.old.transcript.version) }
-        ensures refused { IfErr result (RefusesLine (grammar_of self.old) (lines self.old) (FdLine fd)) }
-    {
-        if !self.takes_fds() {
-            return Err(Cause::Form);
-        }
-        self.transcript.view.fds.push(fd)?;
-        Ok(())
-    }
-
-    fn add_link(&mut self, link: LinkLine) -> Result<(), Cause>
-        requires begun { IsBegun (grammar_of self.old) (lines self.old) }
-        requires fits { FitsLink link }
-        ensures added { OnOk result
-            (AddsLine (grammar_of self.old) (lines self.old) (AnyLink link) (lines self.new)) }
-        ensures version { OnOk result (self.new.transcript.version ≡ self.old.transcript.version) }
-        ensures refused { IfErr result (RefusesLine (grammar_of self.old) (lines self.old) (AnyLink link)) }
-    {
-        if !self.takes_links() {
-            return Err(Cause::Form);
-        }
-        self.transcript.view.links.push(link)?;
-        Ok(())
-    }
-
-    fn add_bind(&mut self, bind: BindingLine) -> Result<(), Cause>
-        requires begun { IsBegun (grammar_of self.old) (lines self.old) }
-        requires fits { FitsBinding bind }
-        ensures added { OnOk result
-            (AddsLine (grammar_of self.old) (lines self.old) (BindLine bind) (lines self.new)) }
-        ensures version { OnOk result (self.new.transcript.version ≡ self.old.transcript.version) }
-        ensures refused { IfErr result (RefusesLine (grammar_of self.old) (lines self.old) (BindLine bind)) }
-    {
-        if !self.takes_binds() {
-            return Err(Cause::Form);
-        }
-        self.transcript.view.binds.push(bind)?;
-        Ok(())
-    }
-
-    fn add_route(&mut self, route: RouteLine) -> Result<(), Cause>
-        requires begun { IsBegun (grammar_of self.old) (lines self.old) }
-        requires fits { FitsRoute route }
-        ensures added { OnOk result
-            (AddsLine (grammar_of self.old) (lines self.old) (AnyRoute route) (lines self.new)) }
-        ensures version { OnOk result (self.new.transcript.version ≡ self.old.transcript.version) }
-        ensures refused { IfErr result (RefusesLine (grammar_of self.old) (lines self.old) (AnyRoute route)) }
-    {
-        if !self.takes_routes() {
-            return Err(Cause::Form);
-        }
-        self.transcript.view.routes.push(route)?;
-        Ok(())
     }
 
     pub fn add_message(&mut self, message: MessageLine) -> Result<(), Cause>
         requires begun { IsBegun (grammar_of self.old) (lines self.old) }
         requires fits { FitsMessage message }
-        ensures added { OnOk result
-            (AddsLine (grammar_of self.old) (lines self.old) (MsgLine message) (lines self.new)) }
+        ensures answers { AnswersLine (grammar_of self.old) (lines self.old) (MsgLine message)
+            (lines self.new) result }
         ensures version { OnOk result (self.new.transcript.version ≡ self.old.transcript.version) }
-        ensures refused { IfErr result (RefusesLine (grammar_of self.old) (lines self.old) (MsgLine message)) }
     {
-        if !self.takes_msgs() {
-            return Err(Cause::Form);
-        }
-        self.transcript.view.msgs.push(message)?;
-        Ok(())
+        push_if(self.takes_msgs(), &mut self.transcript.view.msgs, message)
     }
 
     // Why a message is refused for which there is no memory.
@@ -159,36 +88,6 @@ impl TranscriptDraft {
         } else {
             Cause::Form
         }
-    }
-
-    fn add_full(&mut self, full: FullLine) -> Result<(), Cause>
-        requires begun { IsBegun (grammar_of self.old) (lines self.old) }
-        requires fits { FitsFull full }
-        ensures added { OnOk result
-            (AddsLine (grammar_of self.old) (lines self.old) (AnyFull full) (lines self.new)) }
-        ensures version { OnOk result (self.new.transcript.version ≡ self.old.transcript.version) }
-        ensures refused { IfErr result (RefusesLine (grammar_of self.old) (lines self.old) (AnyFull full)) }
-    {
-        if !self.takes_fulls() {
-            return Err(Cause::Form);
-        }
-        self.transcript.view.fulls.push(full)?;
-        Ok(())
-    }
-
-    fn add_hung(&mut self, hung: HungLine) -> Result<(), Cause>
-        requires begun { IsBegun (grammar_of self.old) (lines self.old) }
-        requires fits { FitsHungIn self.old.transcript.version hung }
-        ensures added { OnOk result
-            (AddsLine (grammar_of self.old) (lines self.old) (AnyHung hung) (lines self.new)) }
-        ensures version { OnOk result (self.new.transcript.version ≡ self.old.transcript.version) }
-        ensures refused { IfErr result (RefusesLine (grammar_of self.old) (lines self.old) (AnyHung hung)) }
-    {
-        if !self.takes_hungs() {
-            return Err(Cause::Form);
-        }
-        self.transcript.view.hungs.push(hung)?;
-        Ok(())
     }
 
     // Whether a hung-up stream may come: the last group.
@@ -239,4 +138,16 @@ impl TranscriptDraft {
     {
         self.takes_links() && self.transcript.view.links.as_slice().is_empty()
     }
+}
+
+// Puts a line behind those of its group, if it may come.
+fn push_if<T: Drop>(takes: bool, group: &mut Items<T>, line: T) -> Result<(), Cause>
+    ensures pushed { OnOk result ((takes ≡ true) × (group.new ≡ group.old ++ line ∷ [])) }
+    ensures refused { IfErr result (λ why. why ≡ if takes then NoMemory else Form) }
+{
+    if !takes {
+        return Err(Cause::Form);
+    }
+    group.push(line)?;
+    Ok(())
 }

@@ -1,9 +1,10 @@
 //! The words of a command.
 
-ghost use Rattle.std.specs.Prelude.{◌≡◌, ◌≢◌, ◌∷◌, ◌++◌, [], ℕ, List, None, codes, IsTrue, ◌↔◌, IfOk, IfErr, OnErr, OnOk};
+ghost use Rattle.std.specs.Prelude.{◌≡◌, ◌≢◌, ◌∷◌, ◌++◌, [], ℕ, List, None, codes};
+ghost use Rattle.std.specs.Prelude.{IsTrue, ◌↔◌, IfOk, IfErr, OnErr, OnOk};
 ghost use Rattle.smx_types.specs.declared.version.Version.{Version as AnyVersion};
 ghost use Rattle.smx_types.specs.declared.version.Version.TheVariants.{V1};
-ghost use Rattle.smx_words.specs.LineReading.{IsReadAs, IsLineOf};
+ghost use Rattle.smx_words.specs.LineReading.{IsReadAs, IsCommandLine};
 ghost use Rattle.smx_words.specs.Spellable.{FitsAlways, FitsCommand, FitsCommandIn};
 ghost use Rattle.smx_words.specs.Spelling.{command_words};
 ghost use Rattle.smx_words.specs.Verbs.{verb_word};
@@ -24,7 +25,7 @@ use std::alloc::Global;
 /// the line is such a command's.
 pub fn command_of(alloc: Global, version: Version, line: &[u8]) -> Result<Option<Command>, NoMemory>
     ensures reading { IfOk result (IsReadAs (FitsCommandIn version) command_words line.now) }
-    ensures wanted { IfErr result (λ _. IsLineOf (FitsCommandIn version) command_words line.now) }
+    ensures wanted { IfErr result (λ _. IsCommandLine version line.now) }
 {
     let mut room = Vec::new(alloc);
     let mut read = None;
@@ -44,7 +45,7 @@ pub fn command_in(
 ) -> Result<(), NoMemory>
     requires { read.old ≡ None }
     ensures reading { OnOk result (IsReadAs (FitsCommandIn version) command_words line.now read.new) }
-    ensures wanted { IfErr result (λ _. IsLineOf (FitsCommandIn version) command_words line.now) }
+    ensures wanted { IfErr result (λ _. IsCommandLine version line.now) }
     ensures kept { OnErr result (read.new ≡ None) }
 {
     let Some((verb, rest)) = first_verb(line) else {
@@ -90,8 +91,7 @@ pub(super) fn command_after(
     requires { read.old ≡ None }
     ensures reading { OnOk result
         (IsReadAs FitsCommand command_words (line_of (verb_word verb ∷ rest.now ∷ [])) read.new) }
-    ensures wanted { IfErr result
-        (λ _. IsLineOf (FitsCommandIn V1) command_words (line_of (verb_word verb ∷ rest.now ∷ []))) }
+    ensures wanted { IfErr result (λ _. IsCommandLine V1 (line_of (verb_word verb ∷ rest.now ∷ []))) }
     ensures kept { OnErr result (read.new ≡ None) }
 {
     if let Verb::Write = verb {
@@ -138,10 +138,9 @@ fn clone(read: &mut Option<Command>, rest: &[u8])
     requires { read.old ≡ None }
     ensures { IsReadAs FitsCommand command_words (line_of (codes "clone" ∷ rest.now ∷ [])) read.new }
 {
-    let Some(driver) = name(rest) else {
-        return;
-    };
-    *read = Some(Command::OpenClone { driver });
+    if let Some(driver) = name(rest) {
+        *read = Some(Command::OpenClone { driver });
+    }
 }
 
 #[inline(never)]
@@ -149,10 +148,9 @@ fn open(read: &mut Option<Command>, rest: &[u8])
     requires { read.old ≡ None }
     ensures { IsReadAs FitsCommand command_words (line_of (codes "open" ∷ rest.now ∷ [])) read.new }
 {
-    let Some((driver, minor)) = name_and_number(rest) else {
-        return;
-    };
-    *read = Some(Command::OpenMinor { driver, minor });
+    if let Some((driver, minor)) = name_and_number(rest) {
+        *read = Some(Command::OpenMinor { driver, minor });
+    }
 }
 
 #[inline(never)]
@@ -160,10 +158,9 @@ fn dup(read: &mut Option<Command>, rest: &[u8])
     requires { read.old ≡ None }
     ensures { IsReadAs FitsCommand command_words (line_of (codes "dup" ∷ rest.now ∷ [])) read.new }
 {
-    let Some(fd) = number(rest) else {
-        return;
-    };
-    *read = Some(Command::Dup { fd });
+    if let Some(fd) = number(rest) {
+        *read = Some(Command::Dup { fd });
+    }
 }
 
 #[inline(never)]
@@ -171,10 +168,9 @@ fn close(read: &mut Option<Command>, rest: &[u8])
     requires { read.old ≡ None }
     ensures { IsReadAs FitsCommand command_words (line_of (codes "close" ∷ rest.now ∷ [])) read.new }
 {
-    let Some(fd) = number(rest) else {
-        return;
-    };
-    *read = Some(Command::Close { fd });
+    if let Some(fd) = number(rest) {
+        *read = Some(Command::Close { fd });
+    }
 }
 
 #[inline(never)]
@@ -182,10 +178,9 @@ fn link(read: &mut Option<Command>, rest: &[u8])
     requires { read.old ≡ None }
     ensures { IsReadAs FitsCommand command_words (line_of (codes "link" ∷ rest.now ∷ [])) read.new }
 {
-    let Some((fd, arg)) = pair(rest) else {
-        return;
-    };
-    *read = Some(Command::Link { fd, arg });
+    if let Some((fd, arg)) = pair(rest) {
+        *read = Some(Command::Link { fd, arg });
+    }
 }
 
 #[inline(never)]
@@ -193,10 +188,9 @@ fn plink(read: &mut Option<Command>, rest: &[u8])
     requires { read.old ≡ None }
     ensures { IsReadAs FitsCommand command_words (line_of (codes "plink" ∷ rest.now ∷ [])) read.new }
 {
-    let Some((fd, arg)) = pair(rest) else {
-        return;
-    };
-    *read = Some(Command::Plink { fd, arg });
+    if let Some((fd, arg)) = pair(rest) {
+        *read = Some(Command::Plink { fd, arg });
+    }
 }
 
 #[inline(never)]
@@ -207,10 +201,9 @@ fn unlink(read: &mut Option<Command>, rest: &[u8])
     let Some((fd, rest)) = first_number(rest) else {
         return;
     };
-    let Some(which) = which(rest) else {
-        return;
-    };
-    *read = Some(Command::Unlink { fd, which });
+    if let Some(which) = which(rest) {
+        *read = Some(Command::Unlink { fd, which });
+    }
 }
 
 #[inline(never)]
@@ -221,10 +214,9 @@ fn punlink(read: &mut Option<Command>, rest: &[u8])
     let Some((fd, rest)) = first_number(rest) else {
         return;
     };
-    let Some(which) = which(rest) else {
-        return;
-    };
-    *read = Some(Command::Punlink { fd, which });
+    if let Some(which) = which(rest) {
+        *read = Some(Command::Punlink { fd, which });
+    }
 }
 
 #[inline(never)]
@@ -232,10 +224,9 @@ fn bind(read: &mut Option<Command>, rest: &[u8])
     requires { read.old ≡ None }
     ensures { IsReadAs FitsCommand command_words (line_of (codes "bind" ∷ rest.now ∷ [])) read.new }
 {
-    let Some((fd, addr)) = pair(rest) else {
-        return;
-    };
-    *read = Some(Command::Bind { fd, addr });
+    if let Some((fd, addr)) = pair(rest) {
+        *read = Some(Command::Bind { fd, addr });
+    }
 }
 
 #[inline(never)]
@@ -243,10 +234,9 @@ fn unbind(read: &mut Option<Command>, rest: &[u8])
     requires { read.old ≡ None }
     ensures { IsReadAs FitsCommand command_words (line_of (codes "unbind" ∷ rest.now ∷ [])) read.new }
 {
-    let Some(fd) = number(rest) else {
-        return;
-    };
-    *read = Some(Command::Unbind { fd });
+    if let Some(fd) = number(rest) {
+        *read = Some(Command::Unbind { fd });
+    }
 }
 
 #[inline(never)]
@@ -257,10 +247,9 @@ fn route(read: &mut Option<Command>, rest: &[u8])
     let Some((fd, rest)) = first_number(rest) else {
         return;
     };
-    let Some((addr, id)) = pair(rest) else {
-        return;
-    };
-    *read = Some(Command::Route { fd, addr, id });
+    if let Some((addr, id)) = pair(rest) {
+        *read = Some(Command::Route { fd, addr, id });
+    }
 }
 
 #[inline(never)]
@@ -268,10 +257,9 @@ fn unroute(read: &mut Option<Command>, rest: &[u8])
     requires { read.old ≡ None }
     ensures { IsReadAs FitsCommand command_words (line_of (codes "unroute" ∷ rest.now ∷ [])) read.new }
 {
-    let Some((fd, addr)) = pair(rest) else {
-        return;
-    };
-    *read = Some(Command::Unroute { fd, addr });
+    if let Some((fd, addr)) = pair(rest) {
+        *read = Some(Command::Unroute { fd, addr });
+    }
 }
 
 #[inline(never)]
@@ -279,10 +267,9 @@ fn read_next(read: &mut Option<Command>, rest: &[u8])
     requires { read.old ≡ None }
     ensures { IsReadAs FitsCommand command_words (line_of (codes "read" ∷ rest.now ∷ [])) read.new }
 {
-    let Some(fd) = number(rest) else {
-        return;
-    };
-    *read = Some(Command::Read { fd });
+    if let Some(fd) = number(rest) {
+        *read = Some(Command::Read { fd });
+    }
 }
 
 #[inline(never)]
@@ -293,10 +280,9 @@ fn flush(read: &mut Option<Command>, rest: &[u8])
     let Some((fd, rest)) = first_number(rest) else {
         return;
     };
-    let Some(sides) = sides(rest) else {
-        return;
-    };
-    *read = Some(Command::Flush { fd, sides });
+    if let Some(sides) = sides(rest) {
+        *read = Some(Command::Flush { fd, sides });
+    }
 }
 
 #[inline(never)]
@@ -304,10 +290,9 @@ fn transmit(read: &mut Option<Command>, rest: &[u8])
     requires { read.old ≡ None }
     ensures { IsReadAs FitsCommand command_words (line_of (codes "transmit" ∷ rest.now ∷ [])) read.new }
 {
-    let Some((driver, minor)) = name_and_number(rest) else {
-        return;
-    };
-    *read = Some(Command::Transmit { driver, minor });
+    if let Some((driver, minor)) = name_and_number(rest) {
+        *read = Some(Command::Transmit { driver, minor });
+    }
 }
 
 #[inline(never)]
@@ -315,10 +300,9 @@ fn hangup(read: &mut Option<Command>, rest: &[u8])
     requires { read.old ≡ None }
     ensures { IsReadAs FitsCommand command_words (line_of (codes "hangup" ∷ rest.now ∷ [])) read.new }
 {
-    let Some((driver, minor)) = name_and_number(rest) else {
-        return;
-    };
-    *read = Some(Command::Hangup { driver, minor });
+    if let Some((driver, minor)) = name_and_number(rest) {
+        *read = Some(Command::Hangup { driver, minor });
+    }
 }
 
 #[inline(never)]
@@ -331,8 +315,7 @@ fn write(
     requires { read.old ≡ None }
     ensures reading { OnOk result
         (IsReadAs FitsCommand command_words (line_of (codes "write" ∷ rest.now ∷ [])) read.new) }
-    ensures wanted { IfErr result
-        (λ _. IsLineOf (FitsCommandIn V1) command_words (line_of (codes "write" ∷ rest.now ∷ []))) }
+    ensures wanted { IfErr result (λ _. IsCommandLine V1 (line_of (codes "write" ∷ rest.now ∷ []))) }
     ensures kept { OnErr result (read.new ≡ None) }
 {
     let Some((fd, rest)) = first_number(rest) else {
@@ -360,8 +343,7 @@ fn inject(
     requires { read.old ≡ None }
     ensures reading { OnOk result
         (IsReadAs FitsCommand command_words (line_of (codes "inject" ∷ rest.now ∷ [])) read.new) }
-    ensures wanted { IfErr result
-        (λ _. IsLineOf (FitsCommandIn V1) command_words (line_of (codes "inject" ∷ rest.now ∷ []))) }
+    ensures wanted { IfErr result (λ _. IsCommandLine V1 (line_of (codes "inject" ∷ rest.now ∷ []))) }
     ensures kept { OnErr result (read.new ≡ None) }
 {
     let Some((driver, rest)) = first_name(rest) else {

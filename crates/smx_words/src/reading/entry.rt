@@ -1,7 +1,7 @@
 //! The words of an entry.
 
 ghost use Rattle.std.specs.Prelude.{◌≡◌, ◌≢◌, ◌++◌, ◌∷◌, List, ℕ, codes, None, MatchOption, IfOk, IfErr};
-ghost use Rattle.smx_words.specs.LineReading.{IsReadAs, IsLineOf};
+ghost use Rattle.smx_words.specs.LineReading.{IsReadAs, IsCommandLine, IsLineOf};
 ghost use Rattle.smx_words.specs.Spellable.{FitsCommandIn, FitsEntryIn, FitsReplyIn};
 ghost use Rattle.smx_words.specs.Spelling.{command_words, entry_words, reply_words};
 ghost use Rattle.smx_words.specs.Words.{EQUALS, IsFree, line_of};
@@ -51,7 +51,7 @@ fn both(
         → reply.now ≢ line_of (reply_words r))
         (λ p. FitsCommandIn version p.0 × FitsReplyIn version p.1 × (command.now ≡ line_of (command_words p.0))
         × (reply.now ≡ line_of (reply_words p.1)))) }
-    ensures wanted { IfErr result (λ _. IsLineOf (FitsCommandIn version) command_words command.now
+    ensures wanted { IfErr result (λ _. IsCommandLine version command.now
         × IsLineOf (FitsReplyIn version) reply_words reply.now) }
 {
     match command_of(alloc, version, command) {

@@ -1,6 +1,7 @@
 //! Bytes in a word.
 
-ghost use Rattle.std.specs.Prelude.{◌≡◌, ◌≢◌, ◌<◌, ◌≤◌, ◌*◌, ◌%◌, ◌∷◌, ◌++◌, true, List, ℕ, length, slice_index, IfOk, IfErr};
+ghost use Rattle.std.specs.Prelude.{◌≡◌, ◌≢◌, ◌<◌, ◌≤◌, ◌*◌, ◌%◌, ◌∷◌, ◌++◌, true, List, ℕ};
+ghost use Rattle.std.specs.Prelude.{length, slice_index, IfOk, IfErr};
 ghost use Rattle.std.specs.Prelude.{MatchBool, MatchOption};
 ghost use Rattle.std.specs.Fmt.{decimal};
 ghost use Rattle.std.specs.List.{list_all};

@@ -3,7 +3,7 @@
 ghost use Rattle.std.specs.Prelude.{◌≡◌, ◌<◌, ◌∷◌, ◌++◌, [], true, false, IfOk, IfErr, OnErr, MatchOption};
 ghost use Rattle.std.specs.Vec.{vec_len, vec_capacity};
 ghost use Rattle.smx_types.specs.declared.version.Version.TheVariants.{V1};
-ghost use Rattle.smx_words.specs.LineReading.{IsLineOf, IsPushed};
+ghost use Rattle.smx_words.specs.LineReading.{IsCommandLine, IsPushed};
 ghost use Rattle.smx_words.specs.Spellable.{FitsCommand, FitsCommandIn};
 ghost use Rattle.smx_words.specs.Spelling.{command_words};
 ghost use Rattle.smx_words.specs.Verbs.{verb_word};
@@ -27,7 +27,7 @@ pub fn push_command(
     requires room { vec_len commands.old < vec_capacity commands.old }
     ensures pushed { IfOk result
         (IsPushed (FitsCommandIn version) command_words line.now commands.old.items commands.new.items) }
-    ensures wanted { IfErr result (λ _. IsLineOf (FitsCommandIn version) command_words line.now) }
+    ensures wanted { IfErr result (λ _. IsCommandLine version line.now) }
     ensures kept { OnErr result (commands.new.items ≡ commands.old.items) }
 {
     let Some((verb, rest)) = first_verb(line) else {
@@ -53,7 +53,7 @@ fn push_after(
     requires room { vec_len commands.old < vec_capacity commands.old }
     ensures pushed { IfOk result (IsPushed FitsCommand command_words (line_of (verb_word verb ∷ rest.now ∷ []))
         commands.old.items commands.new.items) }
-    ensures wanted { IfErr result (λ _. IsLineOf (FitsCommandIn V1) command_words (line_of (verb_word verb ∷ rest.now ∷ []))) }
+    ensures wanted { IfErr result (λ _. IsCommandLine V1 (line_of (verb_word verb ∷ rest.now ∷ []))) }
     ensures kept { OnErr result (commands.new.items ≡ commands.old.items) }
 {
     let mut room = Vec::new(alloc);

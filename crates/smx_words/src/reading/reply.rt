@@ -102,7 +102,8 @@ fn got(alloc: Global, rest: &[u8]) -> Result<Option<Reply>, NoMemory>
 
 fn done(alloc: Global, rest: &[u8]) -> Result<Option<Reply>, NoMemory>
     ensures reading { IfOk result (IsReadAs FitsReply reply_words (line_of (codes "done" ∷ rest.now ∷ []))) }
-    ensures wanted { IfErr result (λ _. IsLineOf (FitsReplyIn V1) reply_words (line_of (codes "done" ∷ rest.now ∷ []))) }
+    ensures wanted { IfErr result (λ _.
+        IsLineOf (FitsReplyIn V1) reply_words (line_of (codes "done" ∷ rest.now ∷ []))) }
 {
     match serials(alloc, rest) {
         Ok(Some(dropped)) => Ok(Some(Reply::Done { dropped })),

@@ -4,7 +4,8 @@ ghost use Rattle.std.specs.Prelude.{◌≡◌, ◌≢◌, ◌∷◌, ◌++◌, �
 ghost use Rattle.std.specs.Fmt.{decimal};
 ghost use Rattle.smx_types.specs.declared.link.LinkKind.{LinkKind as AnyKind};
 ghost use Rattle.smx_words.specs.LineReading.{IsReadAs, IsLineOf};
-ghost use Rattle.smx_words.specs.Spellable.{FitsDescriptor, FitsLink, FitsBinding, FitsRoute, FitsMessage, FitsFull, FitsHung};
+ghost use Rattle.smx_words.specs.Spellable.{FitsDescriptor, FitsLink, FitsBinding, FitsRoute};
+ghost use Rattle.smx_words.specs.Spellable.{FitsMessage, FitsFull, FitsHung};
 ghost use Rattle.smx_words.specs.Spellable.{FitsName, FitsNumber};
 ghost use Rattle.smx_words.specs.Spelling.{
   descriptor_words,

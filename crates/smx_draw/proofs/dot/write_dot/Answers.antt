@@ -3,7 +3,7 @@ use Rattle.std.specs.List.{flat_map}
 use Rattle.smx_draw.specs.DotLines.{driver_line, queue_line}
 use Rattle.smx_draw.specs.DotQueues.{queues_of}
 use Rattle.smx_draw.specs.DotText.{dot_foot, dot_head, dot_view}
-use Rattle.smx_draw.specs.declared.dot.queues.DotQueue.{DotQueue}
+use Rattle.smx_draw.specs.declared.dot.dot_queues.DotQueue.{DotQueue}
 use Rattle.smx_draw.proofs.DrawingLemmas.{five_put}
 use Rattle.smx_draw.proofs.dot.write_dot.Goals as goal
 

@@ -1,12 +1,4 @@
-use Rattle.std.proofs.Common.{subst}
-use Rattle.smx_config.specs.DriverFaults.{RefusesDrivers}
-use Rattle.smx_filters.proofs.FilterLemmas.{judged_refused}
 use Rattle.smx_filters.proofs.check.judge.Goals as goal
 
-pub returns-in_err-verdict : goal.returns-in_err-verdict
-returns-in_err-verdict c =
-    let fault = c.in_err-verdict.field-0.0 in
-    let refused = subst (λ drivers. RefusesDrivers drivers fault) c.as_slice-drivers.ensures
-    c.in_err-verdict.ensures.refused in
-    judged_refused _ c.in_ok-transcript.transcript c.in_ok-transcript.ensures fault _
-    c.from_residual-in_err-verdict.ensures.1 refused
+pub returns : goal.returns
+returns c = c.judged.ensures c.args.input.now c.in_ok-transcript.ensures

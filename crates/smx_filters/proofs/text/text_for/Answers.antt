@@ -2,8 +2,15 @@ use Rattle.std.proofs.Common.{Err}
 use Rattle.smx_filters.proofs.FilterLemmas.{text_refused}
 use Rattle.smx_filters.proofs.text.text_for.Goals as goal
 
-pub returns-in-Err-read_programs-clause-answers : goal.returns-in-Err-read_programs-clause-answers
-returns-in-Err-read_programs-clause-answers g c =
-    let kept = c.kept_for-in-Err-read_programs in
-    text_refused c.args.fronts c.args.workers _ _ c.as_slice-2.ensures.value c.in-Err-read_programs.fault
-    (Err kept.result.fault) kept.ensures.fault c.in-Err-read_programs.ensures
+pub returns-then-not-has_second_process-clause-answers : goal.returns-then-not-has_second_process-clause-answers
+returns-then-not-has_second_process-clause-answers g c =
+    rw c.if-not-fronts.true (c.text_as_read.ensures.answers c.args.workers)
+
+pub returns-then-min-lt2-clause-answers : goal.returns-then-min-lt2-clause-answers
+returns-then-min-lt2-clause-answers g c =
+    rw c.if-fronts.false (c.text_as_read-then-min-lt2.ensures.answers c.args.workers)
+
+pub returns-in-Err-clause-answers : goal.returns-in-Err-clause-answers
+returns-in-Err-clause-answers g c =
+    text_refused c.args.fronts c.args.workers _ _ c.as_slice-2.ensures.value c.in-Err.fault
+    (Err c.kept_for.result.fault) c.kept_for.ensures.fault c.in-Err.ensures

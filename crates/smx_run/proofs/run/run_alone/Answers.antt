@@ -1,5 +1,5 @@
-use Rattle.std.proofs.Common.{rules, ◌≡◌, ◌≢◌, ◌+◌, ◌++◌, ◌∷◌, [], List, ℕ, length, map, refl, ap, sym, subst, arith, ◌∙◌}
-use Rattle.std.proofs.Common.{Err}
+use Rattle.std.proofs.Common.{rules, ◌≡◌, ◌≢◌, ◌+◌, ◌++◌, ◌∷◌, [], List, ℕ, length, map, refl, ap, sym, subst}
+use Rattle.std.proofs.Common.{arith, ◌∙◌, Err}
 use Rattle.std.specs.Vec.Iter.{into_iter_items}
 use Rattle.std.proofs.lemmas.List.{length-append}
 use Rattle.smx_types.specs.declared.driver.DriverSpec.{DriverSpec}

@@ -1,7 +1,6 @@
 use Rattle.std.proofs.Common.{arith, ◌∷◌, [], refl}
 use Rattle.std.proofs.lemmas.List.{length-append}
-use Rattle.smx_run.specs.Hands.{given, called, HasEnded}
-use Rattle.smx_run.specs.declared.worker.EndedProgram.{EndedProgram}
+use Rattle.smx_run.specs.Hands.{given, called, EndsWith}
 use Rattle.smx_run.proofs.FullHistoryLemmas.{handed_on, memory_is_not_full}
 use Rattle.smx_run.proofs.HandLemmas.{one_more, all_more}
 use Rattle.smx_run.proofs.worker.work.Goals as goal
@@ -10,8 +9,7 @@ pub loop-job-preserved : goal.loop-job-preserved
 loop-job-preserved g c =
     let before = c.loop-job.invariant in
     let here = c.in_ok-run_job.ensures in
-    let has_ended : EndedProgram g.row.D-Seat.Denot
-    → Type 0 = λ d. g.D.Door.is_seat c.args.door.now d.seat × HasEnded (g.D.Door.known d.seat) d.front in
+    let known = g.D.Door.known in
     record {
       room = omega (arith, before.room, c.push_reserved.ensures.capacity);
       counted = omega (
@@ -26,9 +24,9 @@ loop-job-preserved g c =
         c.in-Some.ensures.steps.1,
         length-append c.loop-job.yielded (c.in-Some.job ∷ []),
       );
-      called = one_more (called g.D.Door.known)
-          (given g.D.Door.known) _ _ _ _ _ before.called here.called c.push_reserved.ensures.items;
-      ended = all_more has_ended _ _ _ before.ended here.ended c.push_reserved.ensures.items;
+      called = one_more (called known) (given known) _ _ _ _ _ before.called here.called c.push_reserved.ensures.items;
+      ended = all_more (EndsWith (g.D.Door.is_seat c.args.door.now) known) _ _ _ before.ended here.ended
+          c.push_reserved.ensures.items;
     }
 
 pub returns-in_err-done-clause-full : goal.returns-in_err-done-clause-full

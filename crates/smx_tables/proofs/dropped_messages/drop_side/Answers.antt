@@ -1,15 +1,21 @@
-use Rattle.std.proofs.Common.{sym, ◌∙◌}
+use Rattle.std.proofs.Common.{ap, ◌&&◌, false, sym, ◌∙◌, Bool}
+use Rattle.smx_types.specs.declared.stream.Place.{Place}
+use Rattle.smx_model.specs.Configuration.{same_place}
+use Rattle.smx_tables.specs.DroppedMessages.{is_flushed_at}
+use Rattle.smx_tables.proofs.BelowLemmas.{empties_alike, empties_none}
 use Rattle.smx_tables.proofs.DropLemmas.{all_stay}
 use Rattle.smx_tables.proofs.dropped_messages.drop_side.Goals as goal
 
-pub returns-then-is_side-clause-flow : goal.returns-then-is_side-clause-flow
-returns-then-is_side-clause-flow c = rw (sym c.is_side.ensures ∙ c.if-is_side.true) c.drop_at.ensures.flow
+pub returns-then-is_side : goal.returns-then-is_side
+returns-then-is_side c =
+    let here : Place = record { stream = c.args.stream; side = c.args.side } in
+    empties_alike (λ p. same_place p here) (is_flushed_at c.args.stream c.args.sides c.args.side) _ _ _ _
+    (λ p. ap (λ (b : Bool). b && same_place p here) (sym c.is_side.ensures ∙ c.if-is_side.true)) c.drop_at.ensures
 
-pub returns-then-is_side-clause-fulls : goal.returns-then-is_side-clause-fulls
-returns-then-is_side-clause-fulls c = rw (sym c.is_side.ensures ∙ c.if-is_side.true) c.drop_at.ensures.fulls
-
-pub returns-else-is_side-clause-flow : goal.returns-else-is_side-clause-flow
-returns-else-is_side-clause-flow c = rw (sym c.is_side.ensures ∙ c.if-is_side.false) (all_stay c.args.queues.now.flow)
-
-pub returns-else-is_side-clause-fulls : goal.returns-else-is_side-clause-fulls
-returns-else-is_side-clause-fulls c = rw (sym c.is_side.ensures ∙ c.if-is_side.false) (all_stay c.args.queues.now.fulls)
+pub returns-else-is_side : goal.returns-else-is_side
+returns-else-is_side c =
+    let here : Place = record { stream = c.args.stream; side = c.args.side } in
+    empties_alike (λ p. false) (is_flushed_at c.args.stream c.args.sides c.args.side) _ _ _ _
+    (λ p. ap (λ (b : Bool). b && same_place p here) (sym c.is_side.ensures ∙ c.if-is_side.false))
+    (empties_none (λ p. false) c.args.queues.now c.args.dropped.now (all_stay c.args.queues.now.flow)
+    (all_stay c.args.queues.now.fulls) c.requires)

@@ -14,7 +14,7 @@ pub release_below-requires-clause-cascade : goal.release_below-requires-clause-c
 release_below-requires-clause-cascade c =
     subst (λ (ss : List StreamId). IsCascade c.args.links.now.links c.loop-stream.streams ss
     (vec_capacity c.pop.new.self)) c.in-Some.ensures.items
-    (subst (λ (n : ℕ). IsCascade c.args.links.now.links c.loop-stream.streams c.loop-stream.left.items n)
+    (subst (λ (n : ℕ). IsCascade c.args.links.now.links c.loop-stream.streams c.loop-stream.touched.items n)
     (sym c.pop.ensures.capacity) c.loop-stream.invariant.cascade)
 
 pub loop-stream-init : goal.loop-stream-init
@@ -54,7 +54,7 @@ loop-stream-preserved c = record {
     c.push_reserved.ensures.capacity,
   );
   seen = λ s h. rw c.push_reserved.ensures.items
-      (seen_more c.loop-stream.streams c.release_below.new.streams c.loop-stream.left.items c.pop.new.self.items
+      (seen_more c.loop-stream.streams c.release_below.new.streams c.loop-stream.touched.items c.pop.new.self.items
       c.release_below.new.touched.items c.loop-stream.seen.items c.in-Some.stream s c.in-Some.ensures.items
       c.release_below.ensures.touched (c.loop-stream.invariant.seen s h));
   gone = c.release_below.ensures.gone;
@@ -70,13 +70,13 @@ push_reserved-requires c = omega (
 
 pub returns-clause-seen : goal.returns-clause-seen
 returns-clause-seen c = λ s h.
-    let none : length c.loop-stream.left.items ≡ 0 = search rules in
-    all_seen c.loop-stream.streams c.loop-stream.left.items c.loop-stream.seen.items s
-    (nothing_left c.loop-stream.left.items none) (c.loop-stream.invariant.seen s h)
+    let none : length c.loop-stream.touched.items ≡ 0 = search rules in
+    all_seen c.loop-stream.streams c.loop-stream.touched.items c.loop-stream.seen.items s
+    (nothing_left c.loop-stream.touched.items none) (c.loop-stream.invariant.seen s h)
 
 pub returns-clause-none : goal.returns-clause-none
 returns-clause-none c =
-    let none : length c.loop-stream.left.items ≡ 0 = search rules in
+    let none : length c.loop-stream.touched.items ≡ 0 = search rules in
     none_loose c.loop-stream.streams c.args.links.now.links
     (subst (λ (ss : List StreamId). list_all (is_watched c.loop-stream.streams ss) c.args.links.now.links ≡ true)
-    (nothing_left c.loop-stream.left.items none) c.loop-stream.invariant.cascade.watched)
+    (nothing_left c.loop-stream.touched.items none) c.loop-stream.invariant.cascade.watched)

@@ -1,4 +1,5 @@
-use Rattle.std.proofs.Common.{◌≡◌, ℕ, true, ◌||◌, not, eqb, List, length, filter, refl, sym, subst, ◌∙◌}
+use Rattle.std.proofs.Common.{◌≡◌, ℕ, true, ◌||◌, not, eqb, List, length, filter, refl, sym, ap, subst, ◌∙◌, arith}
+use Rattle.std.specs.Prelude.{vec_capacity}
 use Rattle.std.specs.List.{All, list_all, list_any}
 use Rattle.std.proofs.lemmas.List.Elements.{All-filter}
 use Rattle.smx_types.specs.declared.link.Link.{Link}
@@ -11,43 +12,63 @@ use Rattle.smx_tables.specs.ModelOfLists.{configuration_of}
 use Rattle.smx_tables.specs.TouchedStreams.{is_there_or_touched}
 use Rattle.smx_tables.proofs.OrphanLemmas.{held_is_left, kept_alike, left_is_linked, left_links, released_are_orphaned}
 use Rattle.smx_tables.proofs.OrphanIdLemmas.{none_released_yet}
+use Rattle.smx_tables.proofs.TouchLemmas.{cascade_at_first}
 use Rattle.smx_tables.proofs.sweep.drop_orphans.Goals as goal
+use Rattle.smx_tables.proofs.sweep.drop_orphans.Goals.{After-drop_links}
 
-pub release_orphans-requires-clause-gone : goal.release_orphans-requires-clause-gone
-release_orphans-requires-clause-gone c = none_released_yet c.args.lists.now.links.links c.args.lists.now.streams
-    c.args.room.items _ c.requires.kept.held c.requires.empty c.requires.room
-
-pub tells_existing-requires-clause-held : goal.tells_existing-requires-clause-held
-tells_existing-requires-clause-held c =
+-- the links are left whose lower streams are held still
+left : (c : After-drop_links) → c.drop_links.new.lists.links.links
+    ≡ filter (is_held c.release_orphans.new.streams) c.args.lists.now.links.links
+left c =
     let links = c.args.lists.now.links.links in
     let t = c.release_orphans.new.streams in
-    let left = c.drop_links.ensures.links ∙ left_links links _ t c.is_sound.ensures.ids.rise
-    (subst (AreIdsOf (λ l. not (is_held t l)) links) (sym c.deref.ensures.value) c.release_orphans.ensures.gone.same) in
-    subst (λ (ls : List Link). AreHeld ls c.drop_links.new.lists.streams) (sym left)
+    c.drop_links.ensures.links ∙ left_links links _ t c.is_sound.ensures.ids.rise
+    (subst (AreIdsOf (λ l. not (is_held t l)) links) (sym c.deref.ensures.value) c.release_orphans.ensures.gone.same)
+
+-- each stream that is below one of them has a hold
+held : (c : After-drop_links) → AreHeld c.drop_links.new.lists.links.links c.drop_links.new.lists.streams
+held c =
+    let links = c.args.lists.now.links.links in
+    let t = c.release_orphans.new.streams in
+    subst (λ (ls : List Link). AreHeld ls c.drop_links.new.lists.streams) (sym (left c))
     (subst (λ (u : StreamTable). AreHeld (filter (is_held t) links) u) (sym c.drop_links.ensures.streams)
     (held_is_left links (length c.args.drivers.now) t
     (c.release_orphans.ensures.releasing (length c.args.drivers.now))))
 
+pub release_orphans-requires-clause-cascade : goal.release_orphans-requires-clause-cascade
+release_orphans-requires-clause-cascade c = cascade_at_first c.args.lists.now.links.links c.args.lists.now.streams
+    c.args.room.now.touched.items _ c.requires.kept.held c.requires.touched.links
+    (omega (arith, c.requires.room.touched_room))
+
+pub release_orphans-requires-clause-room : goal.release_orphans-requires-clause-room
+release_orphans-requires-clause-room c =
+    let cascade = cascade_at_first c.args.lists.now.links.links c.args.lists.now.streams c.args.room.now.touched.items
+    (vec_capacity c.args.room.now.seen) c.requires.kept.held c.requires.touched.links
+    (omega (arith, c.requires.room.seen_room)) in
+    omega (arith, cascade.enough, ap length c.requires.room.seen_empty)
+
+pub release_orphans-requires-clause-gone : goal.release_orphans-requires-clause-gone
+release_orphans-requires-clause-gone c = none_released_yet c.args.lists.now.links.links c.args.lists.now.streams
+    c.args.room.now.orphaned.items _ c.requires.kept.held c.requires.room.orphaned_empty c.requires.room.orphaned_room
+
+pub tells_existing-requires-clause-held : goal.tells_existing-requires-clause-held
+tells_existing-requires-clause-held c = held (goal.at.tells_existing-requires-clause-held c).After-drop_links
+
 pub tells_existing-requires-clause-known : goal.tells_existing-requires-clause-known
 tells_existing-requires-clause-known c =
-    let links = c.args.lists.now.links.links in
-    let t = c.release_orphans.new.streams in
-    let left = c.drop_links.ensures.links ∙ left_links links _ t c.is_sound.ensures.ids.rise
-    (subst (AreIdsOf (λ l. not (is_held t l)) links) (sym c.deref.ensures.value) c.release_orphans.ensures.gone.same) in
-    subst (λ (ls : List Link). All (λ l. IsKnown c.args.drivers.now l.ctl) ls) (sym left)
-    (All-filter (is_held t) (λ l. IsKnown c.args.drivers.now l.ctl) links c.requires.known)
+    subst (λ (ls : List Link). All (λ l. IsKnown c.args.drivers.now l.ctl) ls)
+    (sym (left (goal.at.tells_existing-requires-clause-known c).After-drop_links))
+    (All-filter (is_held c.release_orphans.new.streams) (λ l. IsKnown c.args.drivers.now l.ctl)
+    c.args.lists.now.links.links c.requires.known)
 
 pub tells_existing-requires-clause-linked : goal.tells_existing-requires-clause-linked
 tells_existing-requires-clause-linked c =
     let links = c.args.lists.now.links.links in
     let t = c.release_orphans.new.streams in
-    let left = c.drop_links.ensures.links ∙ left_links links _ t c.is_sound.ensures.ids.rise
-    (subst (AreIdsOf (λ l. not (is_held t l)) links) (sym c.deref.ensures.value) c.release_orphans.ensures.gone.same) in
     subst (λ (ls : List Link). list_all (λ l. is_persistent l || is_there c.drop_links.new.lists.streams l.ctl) ls
-    ≡ true) (sym left)
+    ≡ true) (sym (left (goal.at.tells_existing-requires-clause-linked c).After-drop_links))
     (subst (λ (u : StreamTable). list_all (λ l. is_persistent l || is_there u l.ctl) (filter (is_held t) links) ≡ true)
-    (sym c.drop_links.ensures.streams)
-    (left_is_linked t links c.release_orphans.ensures.none))
+    (sym c.drop_links.ensures.streams) (left_is_linked t links c.release_orphans.ensures.none))
 
 pub returns-clause-value : goal.returns-clause-value
 returns-clause-value c =
@@ -65,17 +86,7 @@ returns-clause-value c =
     ∙ rw (c.release_orphans.ensures.fds, c.drop_links.ensures.streams) refl
 
 pub returns-clause-kept : goal.returns-clause-kept
-returns-clause-kept c =
-    let links = c.args.lists.now.links.links in
-    let t = c.release_orphans.new.streams in
-    let left = c.drop_links.ensures.links ∙ left_links links _ t c.is_sound.ensures.ids.rise
-    (subst (AreIdsOf (λ l. not (is_held t l)) links) (sym c.deref.ensures.value) c.release_orphans.ensures.gone.same) in
-    let held =
-    subst (λ (ls : List Link). AreHeld ls c.drop_links.new.lists.streams) (sym left)
-    (subst (λ (u : StreamTable). AreHeld (filter (is_held t) links) u) (sym c.drop_links.ensures.streams)
-    (held_is_left links (length c.args.drivers.now) t
-    (c.release_orphans.ensures.releasing (length c.args.drivers.now)))) in
-    record { held = held }
+returns-clause-kept c = record { held = held (goal.at.returns-clause-kept c).After-drop_links }
 
 pub returns-clause-seen : goal.returns-clause-seen
 returns-clause-seen c = λ s h. subst (λ (t : StreamTable). is_there_or_touched t c.release_orphans.new.seen.items s

@@ -1,6 +1,6 @@
-use Rattle.std.proofs.Common.{ap, sym, subst, ◌∙◌, arith}
+use Rattle.std.proofs.Common.{ap, sym, subst, ◌∙◌}
 use Rattle.std.specs.List.{list_all}
-use Rattle.std.specs.Prelude.{vec_capacity, length}
+use Rattle.std.specs.Prelude.{length}
 use Rattle.smx_model.specs.Configuration.{Configuration}
 use Rattle.smx_model.specs.Removal.{without_dead_streams, without_links}
 use Rattle.smx_streams.specs.StreamTables.{exists as is_there}
@@ -9,7 +9,7 @@ use Rattle.smx_tables.specs.ListedLinks.{is_orphaned}
 use Rattle.smx_tables.specs.ModelOfLists.{configuration_of}
 use Rattle.smx_tables.specs.TouchedStreams.{IsTouched}
 use Rattle.smx_tables.proofs.HungSweepLemmas.{dead_of_left}
-use Rattle.smx_tables.proofs.TouchLemmas.{cascade_at_first, linked_still, swept_still, touched_hungs, touched_on}
+use Rattle.smx_tables.proofs.TouchLemmas.{linked_still, swept_still, touched_hungs, touched_on}
 use Rattle.smx_tables.proofs.TouchLemmas.{touched_without}
 use Rattle.smx_tables.proofs.sweep.sweep.Goals as goal
 
@@ -27,25 +27,13 @@ returns-then-are_there-clause-value c =
     (ap (list_all (is_there c.args.lists.now.streams)) (sym c.deref.ensures.value) ∙ sym c.are_there.ensures
     ∙ c.if-are_there.true) c.requires.touched c.is_sound.ensures.exist))
 
-pub drop_orphans-requires-clause-cascade : goal.drop_orphans-requires-clause-cascade
-drop_orphans-requires-clause-cascade c = cascade_at_first c.args.lists.now.links.links c.args.lists.now.streams
-    c.args.room.touched.items _ c.requires.kept.held c.requires.touched.links
-    (omega (arith, c.requires.room.touched_room))
-
-pub drop_orphans-requires-clause-seen : goal.drop_orphans-requires-clause-seen
-drop_orphans-requires-clause-seen c =
-    let cascade = cascade_at_first c.args.lists.now.links.links c.args.lists.now.streams c.args.room.touched.items
-    (vec_capacity c.args.room.seen) c.requires.kept.held c.requires.touched.links
-    (omega (arith, c.requires.room.seen_room)) in
-    omega (arith, cascade.enough, ap length c.requires.room.seen_empty)
-
 pub drop_dead-requires-clause-seen : goal.drop_dead-requires-clause-seen
 drop_dead-requires-clause-seen c =
     let old = configuration_of c.args.lists.now in
     let t = c.args.lists.now.streams in
     let u = c.drop_orphans.new.lists.streams in
     let goes = is_orphaned t.fds c.args.lists.now.links.links (length c.args.drivers.now) in
-    let seen = c.drop_orphans.new.seen.items in
+    let seen = c.drop_orphans.new.room.seen.items in
     rw c.deref-2.ensures.value (subst (λ (x : Configuration). IsTouched u seen x) (sym c.drop_orphans.ensures.value)
     (touched_hungs u seen (without_links old goes) u.hungs
     (touched_on t u c.args.room.touched.items seen (without_links old goes)

@@ -42,6 +42,6 @@ returns-in-Err g c =
     let version = g.D.Draft.version_of c.lines.draft in
     let fault = refused (g.D.Draft.grammar version) c.args.bytes.now _ _ _ c.in-Some.text.now
     c.in-Some.after.now c.lines.invariant.between c.in-Some.ensures.next c.in-Err.cause
-    c.in-Err.ensures.refused in
-    let behind = refused_behind (g.D.Draft.grammar version) _ _ c.in-Err.cause c.in-Err.ensures.refused in
+    c.in-Err.ensures.answers in
+    let behind = refused_behind (g.D.Draft.grammar version) _ _ c.in-Err.cause c.in-Err.ensures.answers in
     rw c.at-in-Err.ensures (version, fault, λ header. absurd (behind header))

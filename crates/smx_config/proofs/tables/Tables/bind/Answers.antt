@@ -1,7 +1,7 @@
 use Rattle.std.proofs.Common.{refl, sym, ap, ◌∙◌}
 use Rattle.smx_config.specs.Machine.{Machine}
 use Rattle.smx_config.proofs.DoneLemmas.{bind_does}
-use Rattle.smx_config.proofs.LookupLemmas.{not_refused}
+use Rattle.smx_config.proofs.AcceptedLemmas.{not_refused}
 use Rattle.smx_config.proofs.tables.Tables.bind.Goals as goal
 
 pub returns : goal.returns

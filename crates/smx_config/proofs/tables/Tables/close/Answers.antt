@@ -5,7 +5,8 @@ use Rattle.smx_tables.specs.ModelOfLists.{configuration_of}
 use Rattle.smx_tables.proofs.HungLemmas.{all_pass}
 use Rattle.smx_tables.proofs.TouchLemmas.{linked_still, swept_still, touched_by, touched_fds}
 use Rattle.smx_config.specs.Closing.{closing}
-use Rattle.smx_config.proofs.ClosingLemmas.{all_stay, closed_stays, closes_shared, fd_at}
+use Rattle.smx_config.proofs.AcceptedLemmas.{fd_at}
+use Rattle.smx_config.proofs.ClosingLemmas.{all_stay, closed_stays, closes_shared}
 use Rattle.smx_config.proofs.TablesLemmas.{accepted, sound_inside}
 use Rattle.smx_config.proofs.tables.Tables.close.Goals as goal
 

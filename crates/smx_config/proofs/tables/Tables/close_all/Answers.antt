@@ -1,6 +1,8 @@
-use Rattle.std.proofs.Common.{◌==◌, not, filter, refl, ◌∙◌}
+use Rattle.std.proofs.Common.{List, ◌==◌, not, filter, ap, refl, ◌∙◌}
+use Rattle.smx_types.specs.declared.stream.Descriptor.{Descriptor}
 use Rattle.smx_types.specs.declared.command.Command.TheVariants as command
 use Rattle.smx_model.specs.Commands.{outcome}
+use Rattle.smx_model.specs.Removal.{after_sweep}
 use Rattle.smx_tables.specs.ModelOfLists.{configuration_of}
 use Rattle.smx_tables.proofs.HungSweepLemmas.{sweep_of_left}
 use Rattle.smx_tables.proofs.TouchLemmas.{touched_by, touched_fds, touched_hungs}
@@ -36,5 +38,7 @@ returns c =
     (swept_is c.self.inside.drivers.items c.deref-2.result.now old
     (record old { fds = filter (λ d. not (d.process == c.args.process)) old.fds }) swept _
     c.sweep_and_reply.result
-    c.deref-2.ensures.value c.sweep_and_reply.ensures.value (left ∙ rw c.close_process.ensures.rest.fds refl)
+    c.deref-2.ensures.value c.sweep_and_reply.ensures.value (left
+    ∙ ap (λ (fs : List Descriptor). after_sweep c.self.inside.drivers.items (record old { fds = fs }))
+    c.close_process.ensures.rest.fds)
     (c.sweep_and_reply.ensures.reply old.flow sound.serials.apart c.in_ok-room.ensures.none))

@@ -2,7 +2,8 @@ use Rattle.std.proofs.Common.{sym, ap, ◌∙◌, arith}
 use Rattle.smx_model.specs.DriverList.{is_mux}
 use Rattle.smx_config.specs.Machine.{Machine}
 use Rattle.smx_config.proofs.KnownLemmas.{unknown_is_not}
-use Rattle.smx_config.proofs.LookupLemmas.{no_leaf, not_refused}
+use Rattle.smx_config.proofs.AcceptedLemmas.{not_refused}
+use Rattle.smx_config.proofs.LookupLemmas.{no_leaf}
 use Rattle.smx_config.proofs.tables.Tables.leaf_stream.Goals as goal
 
 pub returns-then-minor-from : goal.returns-then-minor-from

@@ -15,7 +15,7 @@ returns-then-has_messages c =
 pub returns-else-has_messages : goal.returns-else-has_messages
 returns-else-has_messages c = (
   c.args.run.now,
-  rw (← c.self.view_is) (no_message c.self.inside.lists.queues.flow c.args.place c.args.run.now
-      (told_none _ (sym c.if-has_messages.false ∙ c.has_messages.ensures))),
+  no_message c.args.self.now.configuration.flow c.args.place c.args.run.now
+      (told_none _ (sym c.if-has_messages.false ∙ c.has_messages.ensures)),
   needed_all c.args.self.now.drivers c.args.self.now.configuration c.args.run.now,
 )

@@ -6,11 +6,13 @@ use Rattle.smx_types.specs.declared.stream.Place.{Place}
 use Rattle.smx_model.specs.Configuration.{Configuration, same_place}
 use Rattle.smx_model.specs.KnownStreams.{IsKnown}
 use Rattle.smx_model.specs.Queues.{after_leaving, first_message}
+use Rattle.smx_model.specs.Settling.{after_move}
 use Rattle.smx_model.specs.SettlingByMarks.{turned_by_move}
 use Rattle.smx_queues.specs.PlaceMarks.{MarkList, has_mark}
 use Rattle.smx_config.specs.Machine.{Machine}
 use Rattle.smx_config.specs.declared.marks.Marks.{Marks}
 use Rattle.smx_config.specs.Marking.{AreMarks, HasNeeded, IsMarkedUnless, IsMarkedWhere, IsWoken}
+use Rattle.smx_config.proofs.MoveLemmas.{moves_there}
 use Rattle.smx_config.proofs.NeededLemmas.{needed_do}
 use Rattle.smx_config.proofs.NextMoveLemmas.{movable_to}
 use Rattle.smx_config.proofs.NextPlaceLemmas.{IsOpenNext, open_next}
@@ -19,9 +21,18 @@ use Rattle.smx_config.proofs.WakeLemmas.{woken}
 use Rattle.smx_config.proofs.WokenLemmas.{turned_ends}
 use Rattle.smx_config.proofs.tables.Tables.move_marked.Goals as goal
 
+pub carry-requires : goal.carry-requires
+carry-requires c = let next = open_next c.args.self.now.drivers c.args.self.now.configuration c.args.next.from
+    c.args.next.to c.requires.sound c.requires.open in
+    record { some = next.some; known = next.known; differ = next.differ; free = next.free }
+
+pub returns-clause-value : goal.returns-clause-value
+returns-clause-value c =
+    moves_there c.args.self.now c.carry.new.self c.args.next.from c.args.next.to c.requires.open c.carry.ensures
+
 pub returns-clause-marks : goal.returns-clause-marks
-returns-clause-marks c = subst (λ (ds : List DriverSpec). AreMarks ds now last) (sym (ap (λ (m : Machine). m.drivers)
-    c.move_on.ensures))
+returns-clause-marks c = subst (λ (ds : List DriverSpec). AreMarks ds now last)
+    (sym (ap (λ (m : Machine). m.drivers) value))
     (needed_do drivers now (with_run all) last enough
     (subst (λ (m : Machine). HasNeeded m.drivers m.configuration all c.mark_arrived.new.run) same_machine
     c.mark_arrived.ensures.2) refl refl) where
@@ -32,7 +43,7 @@ returns-clause-marks c = subst (λ (ds : List DriverSpec). AreMarks ds now last)
       before = c.args.self.now.configuration
 
       now : Configuration
-      now = c.move_on.new.self.configuration
+      now = c.carry.new.self.configuration
 
       from : Place
       from = c.args.next.from
@@ -40,9 +51,12 @@ returns-clause-marks c = subst (λ (ds : List DriverSpec). AreMarks ds now last)
       to : Place
       to = c.args.next.to
 
-      same_machine : c.move_on.new.self ≡ record { drivers = drivers; configuration = now }
-      same_machine = c.move_on.ensures ∙ sym (ap (λ (x : Configuration). record c.args.self.now { configuration = x })
-          (ap (λ (m : Machine). m.configuration) c.move_on.ensures))
+      value : c.carry.new.self ≡ record c.args.self.now { configuration = after_move drivers before from }
+      value = moves_there c.args.self.now c.carry.new.self from to c.requires.open c.carry.ensures
+
+      same_machine : c.carry.new.self ≡ record { drivers = drivers; configuration = now }
+      same_machine = value ∙ sym (ap (λ (x : Configuration). record c.args.self.now { configuration = x })
+          (ap (λ (m : Machine). m.configuration) value))
 
       with_run : MarkList → Marks
       with_run run =
@@ -94,7 +108,7 @@ returns-clause-marks c = subst (λ (ds : List DriverSpec). AreMarks ds now last)
       enough = subst
           (λ (x : Configuration). IsWoken x (turned_by_move drivers before from) (same_place from) c.args.marks.now
           (with_run all) → AreMarks drivers x (with_run all))
-          (sym (ap (λ (m : Machine). m.configuration) c.move_on.ensures))
+          (sym (ap (λ (m : Machine). m.configuration) value))
           (c.moved_marks_are_enough.ensures drivers before from to c.args.marks.now (with_run all) c.requires.sound
           c.requires.marks c.requires.open)
           (woken now (turned_by_move drivers before from) (same_place from) c.args.marks.now

@@ -6,10 +6,6 @@ use Rattle.smx_config.proofs.RowLemmas.{arrived_there, goes_there, next_after, n
 use Rattle.smx_queues.proofs.PlaceLemmas.{place_self}
 use Rattle.smx_config.proofs.tables.Tables.move_row.Goals as goal
 
-pub first_addr-addr-requires : goal.first_addr-addr-requires
-first_addr-addr-requires c = rw (the_message c.args.self.now.drivers c.args.self.now.configuration c.args.next.from
-    c.args.next.to c.requires.least.1).1 refl
-
 pub loop-left-init : goal.loop-left-init
 loop-left-init c =
     let drivers = c.args.self.now.drivers in
@@ -23,9 +19,9 @@ loop-left-init c =
           (none_moved drivers now c.args.moves c.requires.sound) c.requires.some c.requires.least.0 refl
           (c.moves_keep_soundness.ensures drivers now from c.requires.sound));
       marks = c.move_marked.ensures.marks;
-      next = subst (λ (x : Machine). next_place x.drivers x.configuration from c.first_addr-addr.result ≡ Some to)
-          (sym c.move_marked.ensures.value) (next_after drivers now from to c.first_addr-addr.result
-          (goes_there drivers now from to c.first_addr-addr.result c.requires.least.1 c.first_addr-addr.ensures));
+      next = subst (λ (x : Machine). next_place x.drivers x.configuration from c.args.next.addr ≡ Some to)
+          (sym c.move_marked.ensures.value) (next_after drivers now from to c.args.next.addr
+          (goes_there drivers now from to c.args.next.addr c.requires.least.1 c.requires.least.2));
       filled = rw c.move_marked.ensures.value (arrived_there drivers now from to m.0 (place_self to) c.requires.least.1
           m.1);
       fewer = omega arith;
@@ -45,9 +41,9 @@ loop-left-preserved c =
           old.configuration _ from c.args.moves c.loop-left.left c.loop-left.invariant.moved (omega arith) least.0 refl
           (c.moves_keep_soundness.ensures old.drivers old.configuration from c.loop-left.invariant.moved.sound));
       marks = c.move_marked-in-loop-left.ensures.marks;
-      next = subst (λ (x : Machine). next_place x.drivers x.configuration from c.first_addr-addr.result ≡ Some to)
+      next = subst (λ (x : Machine). next_place x.drivers x.configuration from c.args.next.addr ≡ Some to)
           (sym c.move_marked-in-loop-left.ensures.value) (next_after old.drivers old.configuration from to
-          c.first_addr-addr.result c.loop-left.invariant.next);
+          c.args.next.addr c.loop-left.invariant.next);
       filled = rw c.move_marked-in-loop-left.ensures.value (arrived_there old.drivers old.configuration from to m.0
           (place_self to) least.1 m.1);
       fewer = omega arith;

@@ -14,7 +14,7 @@ invariant-loop-left l = record {
   drivers : l.self.drivers ≡ l.fn.self.drivers;
   moved : HasMoved l.self.drivers l.fn.self.configuration l.self.configuration l.fn.moves l.left;
   marks : AreMarks l.self.drivers l.self.configuration l.marks;
-  next : next_place l.self.drivers l.self.configuration l.fn.next.from l.addr ≡ Some l.fn.next.to;
+  next : next_place l.self.drivers l.self.configuration l.fn.next.from l.fn.next.addr ≡ Some l.fn.next.to;
   filled : true ≡ is_some (first_message l.self.configuration.flow l.fn.next.to);
   fewer : l.left < l.fn.moves;
 }

@@ -5,7 +5,7 @@ use Rattle.smx_model.specs.DriverList.{minors_of}
 use Rattle.smx_model.specs.Standing.{is_below}
 use Rattle.smx_streams.specs.StreamTables.{minor_answer}
 use Rattle.smx_config.proofs.DescriptorLemmas.{agrees_err, minor_agrees, refused_by}
-use Rattle.smx_config.proofs.LookupLemmas.{not_refused}
+use Rattle.smx_config.proofs.AcceptedLemmas.{not_refused}
 use Rattle.smx_config.proofs.TablesLemmas.{streams_over}
 use Rattle.smx_config.proofs.tables.Tables.open_minor.Goals as goal
 

@@ -1,6 +1,5 @@
-use Rattle.std.proofs.Common.{◌≡◌, Some}
+use Rattle.std.proofs.Common.{◌≡◌}
 use Rattle.std.specs.Option.{is_some}
-use Rattle.smx_types.specs.declared.message.Message.{Message}
 use Rattle.smx_model.specs.LoneMessages.{IsUnderWay}
 use Rattle.smx_model.specs.Queues.{first_message}
 use Rattle.smx_config.specs.Ways.{AreWays}
@@ -12,7 +11,6 @@ decreases-loop-filled l = l.left
 abbrev pub invariant-loop-filled : goal.invariant-loop-filled
 invariant-loop-filled l = record {
   filled : l.filled ≡ is_some (first_message l.self.configuration.flow l.at);
-  addr : (m : Message) → first_message l.self.configuration.flow l.fn.from ≡ Some m → l.addr ≡ m.addr;
   ways : AreWays l.self.drivers l.self.configuration l.ways;
-  way : IsUnderWay l.self.drivers l.self.configuration l.fn.moves l.fn.from l.at l.left;
+  way : IsUnderWay l.self.drivers l.self.configuration l.fn.moves l.fn.first.from l.at l.left;
 }

@@ -1,5 +1,4 @@
 use Rattle.std.proofs.Common.{◌≡◌, true, rules, sym, ◌∙◌}
-use Rattle.std.proofs.lemmas.Result.{err_from_is_err_and}
 use Rattle.smx_config.proofs.DoneLemmas.{punlink_is, unlink_is}
 use Rattle.smx_config.proofs.ReplyLemmas.{carries_nothing, nothing_fits}
 use Rattle.smx_config.proofs.tables.Tables.room_for_reply.Goals as goal
@@ -32,25 +31,14 @@ returns-in-OpenClone-clause-makes c =
     (c.other_commands_drop_none.ensures c.args.self.now.drivers c.args.self.now.configuration c.args.process
     c.args.command.now c.requires.swept) c.no_room.ensures
 
-pub returns-in_err-check_unlink-in-Unlink-clause-makes : goal.returns-in_err-check_unlink-in-Unlink-clause-makes
-returns-in_err-check_unlink-in-Unlink-clause-makes c =
-    let p = err_from_is_err_and c.from_residual-in_err-check_unlink-in-Unlink.result
-    c.from_residual-in_err-check_unlink-in-Unlink.ensures.1 in
-    rw (
-      p.1,
-      p.2,
-      c.in-Unlink.is,
-      unlink_is c.args.self.now.drivers c.args.self.now.configuration c.args.process c.in-Unlink.fd c.in-Unlink.which,
-    ) c.in_err-check_unlink-in-Unlink.ensures.refused
+pub returns-in-Unlink-clause-makes : goal.returns-in-Unlink-clause-makes
+returns-in-Unlink-clause-makes c = rw (
+  c.in-Unlink.is,
+  unlink_is c.args.self.now.drivers c.args.self.now.configuration c.args.process c.in-Unlink.fd c.in-Unlink.which,
+) c.room_for_unlink.ensures
 
-pub returns-in_err-check_unlink-in-Punlink-clause-makes : goal.returns-in_err-check_unlink-in-Punlink-clause-makes
-returns-in_err-check_unlink-in-Punlink-clause-makes c =
-    let p = err_from_is_err_and c.from_residual-in_err-check_unlink-in-Punlink.result
-    c.from_residual-in_err-check_unlink-in-Punlink.ensures.1 in
-    rw (
-      p.1,
-      p.2,
-      c.in-Punlink.is,
-      punlink_is c.args.self.now.drivers c.args.self.now.configuration c.args.process c.in-Punlink.fd
-          c.in-Punlink.which,
-    ) c.in_err-check_unlink-in-Punlink.ensures.refused
+pub returns-in-Punlink-clause-makes : goal.returns-in-Punlink-clause-makes
+returns-in-Punlink-clause-makes c = rw (
+  c.in-Punlink.is,
+  punlink_is c.args.self.now.drivers c.args.self.now.configuration c.args.process c.in-Punlink.fd c.in-Punlink.which,
+) c.room_for_unlink-in-Punlink.ensures

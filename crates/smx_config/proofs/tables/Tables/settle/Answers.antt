@@ -1,13 +1,18 @@
 use Rattle.std.proofs.Common.{◌≡◌, ◌∙◌, arith, ap, refl, subst, sym}
+use Rattle.std.proofs.lemmas.Nat.{mul-lt}
+use Rattle.std.specs.Prelude.{◌^◌}
 use Rattle.smx_model.specs.Settling.{IsSettled, after_settling}
 use Rattle.smx_model.specs.SettlingByMarks.{HasNoRunMark}
 use Rattle.smx_queues.specs.PlaceMarks.{has_mark}
 use Rattle.smx_config.specs.Machine.{Machine}
 use Rattle.smx_config.proofs.LoneMessageLemmas.{the_message}
 use Rattle.smx_config.proofs.SettleLemmas.{settled_to, within_zero}
-use Rattle.smx_config.proofs.NextMoveLemmas.{none_left}
+use Rattle.smx_config.proofs.NextMoveLemmas.{movable_to, none_left}
 use Rattle.smx_config.proofs.WayLemmas.{after_rest, alike}
 use Rattle.smx_config.proofs.tables.Tables.settle.Goals as goal
+
+pub overflow_mul-left : goal.overflow_mul-left
+overflow_mul-left c = omega (arith, mul-lt _ _ (2 ^ 64) (2 ^ 64) c.len.type_inv c.len-2.type_inv)
 
 pub loop-left-preserved : goal.loop-left-preserved
 loop-left-preserved c =
@@ -40,6 +45,19 @@ returns-clause-none c =
     (subst (λ (m : Machine). IsSettled m.drivers m.configuration) (sym at_end)
     (c.settling_suffices.ensures old.drivers old.configuration c.requires.sound).settled)
     c.next_move-none.ensures.least c.next_move-none.ensures.none
+
+pub moves_alone-requires-clause-marked : goal.moves_alone-requires-clause-marked
+moves_alone-requires-clause-marked c =
+    let old = c.loop-left.self in
+    c.movable_places_are_marked.ensures old.drivers old.configuration (has_mark c.next_move.new.marks.run)
+    (has_mark c.next_move.new.marks.wanted) c.in-Some.next.from c.in-Some.ensures.marks.waiting
+    (movable_to old.drivers old.configuration c.in-Some.next.from c.in-Some.next.to c.in-Some.ensures.least.1)
+
+pub come_to_rest-requires-clause-some : goal.come_to_rest-requires-clause-some
+come_to_rest-requires-clause-some c =
+    let old = c.loop-left.self in
+    rw (the_message old.drivers old.configuration c.in-Some.next.from c.in-Some.next.to c.in-Some.ensures.least.1).1
+    refl
 
 pub returns-then-moves_alone-clause-value : goal.returns-then-moves_alone-clause-value
 returns-then-moves_alone-clause-value c =

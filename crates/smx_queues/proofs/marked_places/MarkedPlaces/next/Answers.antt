@@ -6,4 +6,4 @@ returns-in_err-p c = let x = marks_end _ _ _ _ c.self.invariant.0.one_each c.sel
     rw c.from_residual.ensures (x, x)
 
 pub returns : goal.returns
-returns c = marks_step _ _ _ _ _ _ c.self.invariant.0.one_each c.self.view_is c.in_ok-p.ensures c.at.ensures
+returns c = marks_step _ _ _ _ _ _ c.self.invariant.0.one_each c.self.view_is c.in_ok-p.ensures c.at-place.ensures.place

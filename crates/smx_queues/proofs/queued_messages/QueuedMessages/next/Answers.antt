@@ -1,4 +1,4 @@
-use Rattle.std.proofs.Common.{refl, sym, ◌∙◌, arith}
+use Rattle.std.proofs.Common.{refl, sym, ◌∙◌}
 use Rattle.smx_queues.proofs.StepLemmas.{below, messages_end, messages_step}
 use Rattle.smx_queues.proofs.queued_messages.QueuedMessages.next.Goals as goal
 
@@ -13,10 +13,8 @@ returns-in_err-p c =
 pub at-self-inside-requires : goal.at-self-inside-requires
 at-self-inside-requires c = below _ _ _ c.self.invariant c.in_ok-p.ensures.1
 
-pub overflow_add-self : goal.overflow_add-self
-overflow_add-self c = omega (arith, below _ _ _ c.self.invariant c.in_ok-p.ensures.1)
-
 pub returns : goal.returns
 returns c =
     messages_step _ _ _ _ _ _ _ _ _ _ c.self.invariant c.self.view_is c.in_default.ensures.steps.0 c.in_ok-p.ensures
-    c.at-self-inside.ensures (sym c.messages-self-inside.ensures ∙ c.in_ok-message.ensures.steps)
+    c.at-self-inside.ensures.place
+    (sym (rw c.queues.ensures at c.messages-self-inside.ensures) ∙ c.in_ok-message.ensures.steps)

@@ -1,6 +1,7 @@
 -- It owns nothing, so it may go to another thread.
-use denote.Param.Send.{IsSend, owning_send}
-use Rattle.smx_run.specs.contracts.past.Past.{the_row, the_type}
+use denote.Param.Send.{IsSend}
+use denote.RattleType.{RattleType}
+use Rattle.smx_run.specs.contracts.past.Past.{the_row}
 
-pub send : IsSend the_row
-send = owning_send the_type tt (λ d. tt) (λ k x w. tt)
+pub send : (T : RattleType) → IsSend (the_row T)
+send T = record { owned = λ d vs. ((λ vss. (tt, ((λ uss. (tt, tt)), tt))), tt); leaving = λ k f vs. tt }

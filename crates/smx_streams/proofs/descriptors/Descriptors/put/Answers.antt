@@ -15,7 +15,8 @@ returns c =
     let free : list_any (is_fd c.args.process c.args.fd) _
     ≡ false = subst (λ (l : Listed). list_any (is_fd c.args.process c.args.fd) l.fds ≡ false)
     (sym c.self.view_is) c.requires.free in
-    rw c.set_cell.ensures (put_cell c.self.inside.processes.items c.args.process c.args.fd c.args.stream
+    rw (c.set_cell.ensures, c.get.ensures.value)
+    (put_cell c.self.inside.processes.items c.args.process c.args.fd c.args.stream
     (omega (arith, room, row_length c.self.inside.processes.items c.args.process)) free)
     ∙ ap (λ (l : Listed). with_inserted fd_before l.fds
     (record { process = c.args.process; fd = c.args.fd; stream = c.args.stream })) c.self.view_is

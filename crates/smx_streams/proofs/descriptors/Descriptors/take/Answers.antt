@@ -19,7 +19,8 @@ returns-in_err-stream-clause-rest c =
 
 pub invariant_of-self : goal.invariant_of-self
 invariant_of-self c =
-    rw c.set_cell.ensures (rows_with_cell c.self.inside.processes.items c.args.process c.args.fd _ c.self.invariant)
+    rw (c.set_cell.ensures, c.get.ensures.value)
+    (rows_with_cell c.self.inside.processes.items c.args.process c.args.fd _ c.self.invariant)
 
 pub returns-clause-stream : goal.returns-clause-stream
 returns-clause-stream c = rw c.deref.ensures.value at c.in_ok-stream.ensures
@@ -27,5 +28,7 @@ returns-clause-stream c = rw c.deref.ensures.value at c.in_ok-stream.ensures
     ∙ ap (λ (l : Listed). stream_at l.fds c.args.process c.args.fd) c.self.view_is
 
 pub returns-clause-rest : goal.returns-clause-rest
-returns-clause-rest c = rw c.set_cell.ensures (sym (take_cell c.self.inside.processes.items c.args.process c.args.fd))
+returns-clause-rest c =
+    rw (c.set_cell.ensures, c.get.ensures.value)
+    (sym (take_cell c.self.inside.processes.items c.args.process c.args.fd))
     ∙ ap (λ (l : Listed). filter (λ d. not (is_fd c.args.process c.args.fd d)) l.fds) c.self.view_is

@@ -1,6 +1,60 @@
+use Rattle.std.proofs.Common.{sym, subst, refl, ◌∙◌, arith}
+use Rattle.smx_model.specs.Configuration.{fd_before}
+use Rattle.smx_model.specs.Ordered.{IsRising}
+use Rattle.smx_streams.specs.StreamTables.{StreamTable, HasOneLess}
+use Rattle.smx_streams.specs.TableFields.{IsWhole, table_of}
+use Rattle.smx_streams.proofs.NameLemmas.{names_after_take, names_some}
+use Rattle.smx_streams.proofs.HungLemmas.{kept, left, same_number}
 use Rattle.smx_streams.proofs.WentLemmas.{went_is_named}
 use Rattle.smx_streams.proofs.streams.Streams.close_fd.Goals as goal
+use Rattle.smx_streams.proofs.streams.Streams.close_fd.Goals.{After-close}
+
+pub close-requires : goal.close-requires
+close-requires c =
+    let some = names_some c.in_ok-stream.stream c.args.process c.args.fd c.self.inside.descriptors.fds
+    (sym c.in_ok-stream.ensures.stream) in
+    omega (arith, some, c.self.invariant c.in_ok-stream.stream)
+
+-- the records count the descriptors that are left
+whole : (c : After-close) → IsWhole (record c.self.inside { descriptors = c.take.new.self; records = c.close.new.self })
+whole c s =
+    c.close.ensures.opens_now s
+    ∙ rw (c.in_ok-stream.ensures.rest)
+    (names_after_take c.self.inside.records.opens s c.in_ok-stream.stream c.args.process c.args.fd
+    c.self.inside.descriptors.fds c.self.invariant c.is_sound.ensures.rise (sym c.in_ok-stream.ensures.stream))
+
+-- the table has one descriptor less
+less : (c : After-close) → HasOneLess c.args.self.now c.args.process c.args.fd
+    (table_of (record c.self.inside { descriptors = c.take.new.self; records = c.close.new.self }))
+less c =
+    let new = table_of (record c.self.inside { descriptors = c.take.new.self; records = c.close.new.self }) in
+    subst (λ (t : StreamTable). HasOneLess t c.args.process c.args.fd new) c.self.view_is (record {
+      minors = c.close.ensures.minors;
+      fds = c.in_ok-stream.ensures.rest;
+      holds = λ x. c.close.ensures.holds_now x ∙ same_number c.self.inside.records.holds x c.in_ok-stream.stream _ refl;
+      hungs = left c.make_the_list.ensures c.self.inside.records c.close.new.self (table_of c.self.inside) new
+          c.in_ok-stream.stream _ _ c.close.ensures c.is_sound-2.ensures.hung (whole c) refl refl refl;
+    })
+
+pub returns-in_err-stream-clause-rest : goal.returns-in_err-stream-clause-rest
+returns-in_err-stream-clause-rest c =
+    let new = table_of (record c.self.inside { descriptors = c.take.new.self }) in
+    subst (λ (t : StreamTable). HasOneLess t c.args.process c.args.fd new) c.self.view_is (record {
+      minors = refl;
+      fds = c.in_err-stream.ensures.rest;
+      holds = λ x. refl;
+      hungs = kept c.make_the_list.ensures c.self.inside.records (table_of c.self.inside) new
+          c.is_sound-2.ensures.hung (λ x. rw c.in_err-stream.ensures.unchanged (c.self.invariant x)) refl refl refl;
+    })
+
+pub invariant_of-self-2 : goal.invariant_of-self-2
+invariant_of-self-2 c = whole (goal.at.invariant_of-self-2 c).After-close
+
+pub returns-clause-rest : goal.returns-clause-rest
+returns-clause-rest c = less (goal.at.returns-clause-rest c).After-close
 
 pub returns-clause-went : goal.returns-clause-went
-returns-clause-went c = λ s was gone. went_is_named c.args.self.now c.take_fd.new.self s c.args.process c.args.fd
-    c.is_listed.ensures.rise c.take_fd.ensures.rest was gone
+returns-clause-went c = λ s was gone.
+    went_is_named _ _ s _ _
+    (subst (λ (t : StreamTable). IsRising fd_before t.fds) c.self.view_is c.is_sound.ensures.rise)
+    (less (goal.at.returns-clause-went c).After-close) was gone

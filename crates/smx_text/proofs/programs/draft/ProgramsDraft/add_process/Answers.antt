@@ -1,35 +1,28 @@
-use Rattle.std.proofs.Common.{◌≡◌, ◌≤◌, ◌<◌, ◌∙◌, length, sym, ap, subst, refl, rules, arith}
+use Rattle.std.proofs.Common.{◌≡◌, ◌≤◌, ◌<◌, ◌∙◌, length, sym, ap, refl, rules, arith}
 use Rattle.smx_types.specs.ProgramLists.{ProgramLists}
 use Rattle.smx_types.specs.declared.limits.TheConstants.{MAX_PROCESSES}
-use Rattle.smx_text.specs.Drafts.{IsCounted}
 use Rattle.smx_text.specs.ProgramLines as line
 use Rattle.smx_types.specs.GrowingPrograms.{with_program}
-use Rattle.smx_text.proofs.ProgramsLemmas.{misplaced, too_many, taken_more, longer_begun}
+use Rattle.smx_text.proofs.ProgramsLemmas.{counted, misplaced, too_many, taken_more, longer_begun}
 use Rattle.smx_text.proofs.programs.draft.ProgramsDraft.add_process.Goals as goal
 
-pub returns-then-number-self-clause-refused : goal.returns-then-number-self-clause-refused
-returns-then-number-self-clause-refused g c =
-    let own : IsCounted c.args.self.now c.self.inside.version c.self.inside.drivers c.self.inside.programs
-    c.self.inside.commands = subst (λ (p : ProgramLists). IsCounted p c.self.inside.version c.self.inside.drivers
-    c.self.inside.programs c.self.inside.commands) c.self.view_is c.self.invariant in
+pub returns-then-number-self-clause-answers : goal.returns-then-number-self-clause-answers
+returns-then-number-self-clause-answers g c =
+    let own = counted c.self.invariant c.self.view_is in
     misplaced c.args.self.now.version c.args.self.now (line.Process c.args.number)
     (λ same. c.if-number-self.true (same ∙ sym own.has_programs))
 
-pub returns-then-number-ge-MAX_PROCESSES-clause-refused : goal.returns-then-number-ge-MAX_PROCESSES-clause-refused
-returns-then-number-ge-MAX_PROCESSES-clause-refused g c =
-    let own : IsCounted c.args.self.now c.self.inside.version c.self.inside.drivers c.self.inside.programs
-    c.self.inside.commands = subst (λ (p : ProgramLists). IsCounted p c.self.inside.version c.self.inside.drivers
-    c.self.inside.programs c.self.inside.commands) c.self.view_is c.self.invariant in
+pub returns-then-number-ge-MAX_PROCESSES-clause-answers : goal.returns-then-number-ge-MAX_PROCESSES-clause-answers
+returns-then-number-ge-MAX_PROCESSES-clause-answers g c =
+    let own = counted c.self.invariant c.self.view_is in
     let same : c.args.number ≡ length c.args.self.now.programs = c.if-number-self.false ∙ own.has_programs in
     let many : MAX_PROCESSES ≤ length c.args.self.now.programs =
     omega (arith, same, c.if-number-ge-MAX_PROCESSES.true) in
     too_many c.args.self.now.version c.args.self.now (line.Process c.args.number) same many
 
-pub returns-in_err-add_program-clause-refused : goal.returns-in_err-add_program-clause-refused
-returns-in_err-add_program-clause-refused g c =
-    let own : IsCounted c.args.self.now c.self.inside.version c.self.inside.drivers c.self.inside.programs
-    c.self.inside.commands = subst (λ (p : ProgramLists). IsCounted p c.self.inside.version c.self.inside.drivers
-    c.self.inside.programs c.self.inside.commands) c.self.view_is c.self.invariant in
+pub returns-in_err-add_program-clause-answers : goal.returns-in_err-add_program-clause-answers
+returns-in_err-add_program-clause-answers g c =
+    let own = counted c.self.invariant c.self.view_is in
     let same : c.args.number ≡ length c.args.self.now.programs = c.if-number-self.false ∙ own.has_programs in
     let few : length c.args.self.now.programs < MAX_PROCESSES =
     omega (arith, same, c.if-number-ge-MAX_PROCESSES.false) in
@@ -37,11 +30,9 @@ returns-in_err-add_program-clause-refused g c =
     same few c.ranges.number.fits in
     search rules
 
-pub returns-clause-added : goal.returns-clause-added
-returns-clause-added g c =
-    let own : IsCounted c.args.self.now c.self.inside.version c.self.inside.drivers c.self.inside.programs
-    c.self.inside.commands = subst (λ (p : ProgramLists). IsCounted p c.self.inside.version c.self.inside.drivers
-    c.self.inside.programs c.self.inside.commands) c.self.view_is c.self.invariant in
+pub returns-clause-answers : goal.returns-clause-answers
+returns-clause-answers g c =
+    let own = counted c.self.invariant c.self.view_is in
     let same : c.args.number ≡ length c.args.self.now.programs = c.if-number-self.false ∙ own.has_programs in
     let few : length c.args.self.now.programs < MAX_PROCESSES =
     omega (arith, same, c.if-number-ge-MAX_PROCESSES.false) in

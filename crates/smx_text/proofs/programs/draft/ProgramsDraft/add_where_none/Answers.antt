@@ -9,8 +9,8 @@ use Rattle.smx_text.specs.ProgramsText.{body}
 use Rattle.smx_text.proofs.ProgramsGrammarLemmas.{refused_line}
 use Rattle.smx_text.proofs.programs.draft.ProgramsDraft.add_where_none.Goals as goal
 
-pub returns-in-Ok-Some-clause-refused : goal.returns-in-Ok-Some-clause-refused
-returns-in-Ok-Some-clause-refused g c =
+pub returns-in-Ok-Some-clause-answers : goal.returns-in-Ok-Some-clause-answers
+returns-in-Ok-Some-clause-answers g c =
     let same : c.self.inside.version ≡ c.args.self.now.version =
     c.self.invariant.of_version ∙ ap (λ (p : ProgramLists). p.version) c.self.view_is in
     let read = subst (λ (v : Version). IsReadAs (FitsCommandIn v) command_words c.args.text.now c.in-Ok-Some.field-0)
@@ -22,8 +22,8 @@ returns-in-Ok-Some-clause-refused g c =
     refused_line c.args.self.now.version (body c.args.self.now) (line.Command c.in-Ok-Some.field-0-0) c.args.text.now
     is.0 is.1 c.args.cause (c.requires.none c.in-Ok-Some.field-0-0)
 
-pub returns-clause-refused : goal.returns-clause-refused
-returns-clause-refused g c =
+pub returns-clause-answers : goal.returns-clause-answers
+returns-clause-answers g c =
     let same : c.self.inside.version ≡ c.args.self.now.version =
     c.self.invariant.of_version ∙ ap (λ (p : ProgramLists). p.version) c.self.view_is in
     let some = subst (λ (v : Version). IsLineOf (FitsCommandIn v) command_words c.args.text.now) same

@@ -4,10 +4,10 @@ use Rattle.smx_text.proofs.TranscriptDrafts.{with_line}
 use Rattle.smx_text.proofs.TranscriptLemmas.{misplaced, adds}
 use Rattle.smx_text.proofs.transcript.draft.TranscriptDraft.add_config.Goals as goal
 
-pub returns-then-ne-clause-refused : goal.returns-then-ne-clause-refused
-returns-then-ne-clause-refused c = misplaced c.args.self.now line.Config (search rules)
+pub returns-then-ne-clause-answers : goal.returns-then-ne-clause-answers
+returns-then-ne-clause-answers c = misplaced c.args.self.now line.Config (search rules)
 
-pub returns-clause-added : goal.returns-clause-added
-returns-clause-added c =
+pub returns-clause-answers : goal.returns-clause-answers
+returns-clause-answers c =
     adds c.args.self.now (with_line c.args.self.now line.Config) line.Config c.requires.begun (search rules)
     refl tt (λ e. cc) refl

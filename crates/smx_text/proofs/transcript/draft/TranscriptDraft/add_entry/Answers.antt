@@ -4,18 +4,18 @@ use Rattle.smx_text.proofs.TranscriptDrafts.{with_line}
 use Rattle.smx_text.proofs.TranscriptLemmas.{adds, longer_begun}
 use Rattle.smx_text.proofs.transcript.draft.TranscriptDraft.add_entry.Goals as goal
 
-pub returns-in_err-room_for_entry-clause-refused : goal.returns-in_err-room_for_entry-clause-refused
-returns-in_err-room_for_entry-clause-refused c = let why =
+pub returns-in_err-room_for_entry-clause-answers : goal.returns-in_err-room_for_entry-clause-answers
+returns-in_err-room_for_entry-clause-answers c = let why =
     c.in_err-room_for_entry.ensures.refused c.args.entry in search rules
 
-pub returns-clause-added : goal.returns-clause-added
-returns-clause-added c =
+pub returns-clause-answers : goal.returns-clause-answers
+returns-clause-answers c =
     rw c.in_ok-push.ensures.ok (adds c.args.self.now (with_line c.args.self.now (line.Entry c.args.entry))
     (line.Entry c.args.entry) c.requires.begun (search rules) (search rules) c.requires.fits
     (λ e. cc) refl)
 
-pub returns-in_err-push-clause-refused : goal.returns-in_err-push-clause-refused
-returns-in_err-push-clause-refused c =
+pub returns-in_err-push-clause-answers : goal.returns-in_err-push-clause-answers
+returns-in_err-push-clause-answers c =
     let room =
     longer_begun c.args.self.now (line.Entry c.args.entry) c.requires.begun (search rules) (search rules)
     c.requires.fits (λ e. cc) in

@@ -4,12 +4,12 @@ use Rattle.smx_text.proofs.TranscriptDrafts.{with_line}
 use Rattle.smx_text.proofs.TranscriptLemmas.{misplaced, adds}
 use Rattle.smx_text.proofs.transcript.draft.TranscriptDraft.add_next.Goals as goal
 
-pub returns-then-ne-clause-refused : goal.returns-then-ne-clause-refused
-returns-then-ne-clause-refused c =
+pub returns-then-ne-clause-answers : goal.returns-then-ne-clause-answers
+returns-then-ne-clause-answers c =
     misplaced c.args.self.now (line.Next c.args.next_id c.args.next_serial) (search rules)
 
-pub returns-clause-added : goal.returns-clause-added
-returns-clause-added c =
+pub returns-clause-answers : goal.returns-clause-answers
+returns-clause-answers c =
     rw c.new_view.ensures
     (adds c.args.self.now (with_line c.args.self.now (line.Next c.args.next_id c.args.next_serial))
     (line.Next c.args.next_id c.args.next_serial) c.requires.begun (search rules) refl

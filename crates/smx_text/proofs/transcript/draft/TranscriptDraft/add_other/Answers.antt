@@ -4,19 +4,18 @@ use Rattle.smx_words.specs.Spellable.{FitsMessage}
 use Rattle.smx_words.specs.Spelling.{message_words}
 use Rattle.smx_text.specs.Drafts.{lines}
 use Rattle.smx_text.specs.TranscriptLines as line
-use Rattle.smx_text.proofs.TranscriptGrammarLemmas.{on_refused_line, refused_line}
+use Rattle.smx_text.proofs.TranscriptGrammarLemmas.{answers_line, refused_line}
 use Rattle.smx_text.proofs.transcript.draft.TranscriptDraft.add_other.Goals as goal
 
-pub returns-in-Ok-Some-clause-refused : goal.returns-in-Ok-Some-clause-refused
-returns-in-Ok-Some-clause-refused c =
+pub returns-in-Ok-Some-clause-answers : goal.returns-in-Ok-Some-clause-answers
+returns-in-Ok-Some-clause-answers c =
     let is = subst (IsReadAs FitsMessage message_words c.args.text.now) c.in-Ok-Some.field-0-is
     c.in-Ok-Some.ensures.reading in
-    on_refused_line c.args.self.now.transcript.version (lines c.args.self.now) (line.Msg c.in-Ok-Some.message)
-    c.args.text.now is.0 is.1
-    c.add_message.result c.add_message.ensures.refused
+    answers_line c.args.self.now.transcript.version (lines c.args.self.now) (lines c.add_message.new.self)
+    (line.Msg c.in-Ok-Some.message) c.args.text.now is c.add_message.result c.add_message.ensures.answers
 
-pub returns-in-Err-clause-refused : goal.returns-in-Err-clause-refused
-returns-in-Err-clause-refused c =
+pub returns-in-Err-clause-answers : goal.returns-in-Err-clause-answers
+returns-in-Err-clause-answers c =
     let some = c.in-Err.ensures.wanted in
     refused_line c.args.self.now.transcript.version (lines c.args.self.now) (line.Msg some.0) c.args.text.now
     some.1 some.2

@@ -4,20 +4,19 @@ use Rattle.smx_words.specs.Spellable.{FitsEntryIn}
 use Rattle.smx_words.specs.Spelling.{entry_words}
 use Rattle.smx_text.specs.Drafts.{lines}
 use Rattle.smx_text.specs.TranscriptLines as line
-use Rattle.smx_text.proofs.TranscriptGrammarLemmas.{on_refused_line, refused_line}
+use Rattle.smx_text.proofs.TranscriptGrammarLemmas.{answers_line, refused_line}
 use Rattle.smx_text.proofs.transcript.draft.TranscriptDraftDraft.add.Goals as goal
 
-pub returns-in-Ok-Some-clause-refused : goal.returns-in-Ok-Some-clause-refused
-returns-in-Ok-Some-clause-refused c =
+pub returns-in-Ok-Some-clause-answers : goal.returns-in-Ok-Some-clause-answers
+returns-in-Ok-Some-clause-answers c =
     let is = subst (IsReadAs (FitsEntryIn c.args.self.now.transcript.version) entry_words c.args.text.now)
     c.in-Ok-Some.field-0-is
     c.in-Ok-Some.ensures.reading in
-    on_refused_line c.args.self.now.transcript.version (lines c.args.self.now) (line.Entry c.in-Ok-Some.entry)
-    c.args.text.now is.0 is.1
-    c.add_entry.result c.add_entry.ensures.refused
+    answers_line c.args.self.now.transcript.version (lines c.args.self.now) (lines c.add_entry.new.self)
+    (line.Entry c.in-Ok-Some.entry) c.args.text.now is c.add_entry.result c.add_entry.ensures.answers
 
-pub returns-in-Err-clause-refused : goal.returns-in-Err-clause-refused
-returns-in-Err-clause-refused c =
+pub returns-in-Err-clause-answers : goal.returns-in-Err-clause-answers
+returns-in-Err-clause-answers c =
     let some = c.in-Err.ensures.wanted in
     refused_line c.args.self.now.transcript.version (lines c.args.self.now) (line.Entry some.0) c.args.text.now
     some.1 some.2

@@ -1,0 +1,139 @@
+//! What the filters and a live session are asked to do.
+
+ghost use Rattle.std.specs.Prelude.{◌≡◌, false};
+
+use super::devices::{Stop, one_byte_feed, one_byte_sink};
+use smx_config::Verdict;
+use smx_filters::{Done, Feed, MainFault, Sink, Source, Target, check_text, replay_text, run_text};
+use smx_live::live_text;
+use smx_run::NoGate;
+use smx_samples::{Part, text_of};
+use std::fmt::InlineText;
+use std::io::ErrorKind;
+use std::process::Abort;
+use std::sync::Wait;
+use std::thread::Threads;
+
+/// A filter, or a live session. A run is one on one worker.
+#[derive(Clone, Copy)]
+pub enum Task {
+    Run,
+    Check,
+    Replay,
+    Live,
+}
+
+fn finished(outcome: Result<(), MainFault>) -> Result<Done, MainFault> {
+    match outcome {
+        Ok(()) => Ok(Done::Finished),
+        Err(fault) => Err(fault),
+    }
+}
+
+fn judged(outcome: Result<Verdict, MainFault>) -> Result<Done, MainFault> {
+    match outcome {
+        Ok(verdict) => Ok(Done::Judged(verdict)),
+        Err(fault) => Err(fault),
+    }
+}
+
+// The line on standard error, behind the program's name, and the status.
+fn ending(outcome: Result<Done, MainFault>) -> (InlineText<64>, u8) {
+    match outcome {
+        Ok(done) => (InlineText::of(""), done.status()),
+        Err(fault) => {
+            let status = fault.status();
+            (InlineText::of(fault), status)
+        }
+    }
+}
+
+// Does this task from a feed to a sink: the line on standard error, behind the program's name, and the status.
+fn perform<R: AllocGlobal + Threads + Wait + Sync, F: Feed, S: Sink>(
+    rt: &R,
+    task: Task,
+    feed: &mut F,
+    sink: &mut S,
+) -> (InlineText<64>, u8)
+    requires before_the_end { F.ended feed.old ≡ false }
+    requires fed { F.failures feed.old ≡ 0 }
+    requires sunk { S.failures sink.old ≡ 0 }
+{
+    let alloc = rt.alloc();
+    ending(match task {
+        Task::Run => finished(run_text(rt, alloc, feed, sink, 1, false, &NoGate)),
+        Task::Check => judged(check_text(alloc, feed, sink)),
+        Task::Replay => finished(replay_text(alloc, feed, sink)),
+        Task::Live => finished(live_text(alloc, feed, sink)),
+    })
+}
+
+/// What came of a task between devices that move one byte a call.
+#[derive(Drop)]
+pub struct Tried {
+    line: InlineText<64>,
+    status: u8,
+    /// How often the reader was asked.
+    pub reads: usize,
+    /// How many bytes it still has.
+    pub left: usize,
+    /// How often the writer was asked to write or to flush.
+    pub calls: usize,
+    /// What it has taken.
+    pub taken: Vec<u8>,
+    pub flushed: bool,
+}
+
+/// Does it from a reader whose read after so many is an error of this kind to a writer that stops after so many calls.
+pub fn outcome<R: AllocGlobal + Threads + Wait + Sync>(
+    rt: &R,
+    task: Task,
+    input: &[u8],
+    reads: usize,
+    kind: ErrorKind,
+    calls: usize,
+    stop: Stop,
+) -> Tried {
+    let mut feed = one_byte_feed(input, reads, kind);
+    let mut sink = one_byte_sink(rt.alloc(), calls, stop);
+    let (line, status) = perform(rt, task, &mut feed, &mut sink);
+    Tried {
+        line,
+        status,
+        reads: feed.reader.asked,
+        left: feed.reader.bytes.len(),
+        calls: sink.writer.asked,
+        flushed: sink.flushed,
+        taken: sink.writer.taken,
+    }
+}
+
+/// It has left this line and this status, and these bytes are out.
+pub fn ends_so(rt: &impl Abort, tried: &Tried, line: &str, status: u8, taken: &[u8]) {
+    let (reads, calls) = (tried.reads, tried.calls);
+    assert!(rt;
+        tried.line.as_str() == line,
+        "behind {reads} reads and {calls} calls"
+    );
+    assert!(rt;
+        tried.status == status,
+        "behind {reads} reads and {calls} calls"
+    );
+    assert!(rt;
+        tried.taken.as_slice() == taken,
+        "behind {reads} reads and {calls} calls"
+    );
+}
+
+/// The verdict on this transcript is this line.
+pub fn is_judged(rt: &(impl AllocGlobal + Abort), transcript: &[u8], line: &[u8]) {
+    let mut sink = Target::new(Vec::new(rt.alloc()));
+    let judged = check_text(rt.alloc(), &mut Source::new(transcript), &mut sink);
+    assert!(rt; judged.is_ok());
+    assert!(rt; sink.writer.as_slice() == line);
+}
+
+/// The text of these parts.
+pub fn whole(rt: &(impl AllocGlobal + Abort), parts: &[Part]) -> String {
+    text_of(rt.alloc(), parts).expect(rt, "there is memory")
+}

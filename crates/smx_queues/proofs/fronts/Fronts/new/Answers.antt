@@ -1,5 +1,0 @@
-use Rattle.smx_queues.proofs.LeftLemmas.{fronts_found}
-use Rattle.smx_queues.proofs.fronts.Fronts.new.Goals as goal
-
-pub returns : goal.returns
-returns c = fronts_found _ _ c.requires.rising

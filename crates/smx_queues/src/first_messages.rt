@@ -1,0 +1,59 @@
+//! The first message of each place that has any.
+
+ghost use Rattle.std.specs.Prelude.{◌≡◌};
+ghost use Rattle.std.specs.Iterator.{YieldsFirstBy};
+ghost use Rattle.smx_queues.specs.QueuedMessages.{queued_message};
+ghost use Rattle.smx_queues.specs.FlowTables.{flow_of, fronts, IsFlow};
+
+use crate::busy_queues::BusyQueues;
+use crate::places::Places;
+use crate::queued::Queued;
+use std::marker::Model;
+
+/// The first message of each place that has any, in order of place, seen as the list of those that are left. Takes no
+/// memory.
+#[derive(Drop)]
+pub struct FirstMessages<'a> {
+    places: &'a Places,
+    queues: &'a BusyQueues,
+    // The number of the next place to look at.
+    next: usize,
+}
+
+impl<'a> Model for FirstMessages<'a> {
+    ghost use Rattle.std.specs.Prelude.{List, drop};
+    ghost use Rattle.smx_model.specs.Configuration.{QueuedMessage};
+    ghost use Rattle.smx_queues.specs.FlowTables.{fronts_of, IsFlow};
+
+    ghost Value = { List QueuedMessage };
+
+    ghost view = { λ it. fronts_of (drop it.next it.places.now.places) (drop it.next it.queues.now.queues) };
+
+    ghost invariant = { λ it. IsFlow it.places.now it.queues.now.queues };
+}
+
+impl<'a> FirstMessages<'a> {
+    pub(crate) fn new(places: &'a Places, queues: &'a BusyQueues) -> FirstMessages<'a>
+        requires { IsFlow places.now queues.now.queues }
+        ensures { result ≡ fronts (flow_of places.now.places queues.now.queues) }
+    {
+        FirstMessages {
+            places,
+            queues,
+            next: 0,
+        }
+    }
+}
+
+impl<'a> FirstMessages<'a> {
+    /// The next one, if any is left. Takes no memory.
+    pub fn next(&mut self) -> Option<Queued<'a>>
+        ensures { YieldsFirstBy queued_message (λ rest. rest) self.old result self.new }
+    {
+        let p = self.queues.filled_from(self.next)?;
+        let message = self.queues.queues().front(p)?;
+        let place = self.places.at(p);
+        self.next = p + 1;
+        Some(Queued { place, message })
+    }
+}

@@ -1,0 +1,163 @@
+//! Three seats, each on a thread of its own: two look on while the third one holds the turn. Then they meet.
+
+ghost use Rattle.std.specs.Prelude.{◌≡◌, All};
+
+use super::callers::{last_of, last_two, opens, start};
+use super::gates::is_reached;
+use super::made::{clone_of, front, ip, system_over};
+use smx_shared::{Door, Front, Hold, Seat, Shared, TryFault};
+use smx_types::Entry;
+use std::mem::forget;
+use std::process::Abort;
+use std::sync::Wait;
+use std::sync::atomic::{AtomicU64, Ordering};
+use std::thread::{Threads, join};
+
+// Whether the turn is held, and how many have seen it held. It is given back when two have.
+#[derive(Drop)]
+struct Watched {
+    held: AtomicU64,
+    seen: AtomicU64,
+}
+
+impl Hold for Watched {
+    fn inside(&self) {
+        self.held.fetch_add(1, Ordering::SeqCst);
+        is_reached(&self.seen, 2);
+    }
+}
+
+// The seat that holds the turn gets the stream of minor 1.
+fn holds<R: AllocGlobal + Abort + Wait>(
+    rt: &R,
+    shared: &Shared,
+    mut seat: Seat,
+    watched: &Watched,
+) -> Seat
+    requires { seat.shared ≡ shared.now.name }
+    ensures { result.shared ≡ shared.now.name }
+{
+    let ip = clone_of(rt, "ip");
+    let answer = shared.call_holding(rt, rt.alloc(), &mut seat, &ip, watched);
+    let entry = answer.expect(rt, "an answer");
+    assert!(rt; opens(&entry, 1));
+    forget(entry);
+    seat
+}
+
+// A look and then a try see it held, behind one entry.
+fn sees_it_held(
+    rt: &(impl AllocGlobal + Abort),
+    shared: &Shared,
+    mut seat: Seat,
+    watched: &Watched,
+) -> Seat
+    requires { seat.shared ≡ shared.now.name }
+    ensures { result.shared ≡ shared.now.name }
+{
+    let held: Front = front(1, 0, true);
+    assert!(rt; is_reached(&watched.held, 1));
+    assert!(rt; shared.glance(&mut seat) == held);
+    let fault = shared.try_call(rt.alloc(), &mut seat, &clone_of(rt, "ip"));
+    assert!(rt; fault.err() == Some(TryFault::Busy(held)));
+    watched.seen.fetch_add(1, Ordering::SeqCst);
+    seat
+}
+
+// The first two seats, which have both seen it held.
+fn two_look_on<R: AllocGlobal + Abort + Threads + Sync>(
+    rt: &R,
+    shared: &Shared,
+    zero: Seat,
+    one: Seat,
+    watched: &Watched,
+) -> (Seat, Seat)
+    requires { (zero.shared ≡ shared.now.name) × (one.shared ≡ shared.now.name) }
+    ensures { (result.0.shared ≡ shared.now.name) × (result.1.shared ≡ shared.now.name) }
+{
+    join(
+        rt,
+        || -> Seat
+            requires { zero.shared ≡ shared.now.name }
+            ensures { result.shared ≡ shared.entry.now.name }
+        { sees_it_held(rt, shared, zero, watched) },
+        || -> Seat
+            requires { one.shared ≡ shared.now.name }
+            ensures { result.shared ≡ shared.entry.now.name }
+        { sees_it_held(rt, shared, one, watched) },
+    )
+}
+
+// The three seats, of which the last one has held the turn.
+fn three_on_threads<R: AllocGlobal + Abort + Threads + Wait + Sync>(
+    rt: &R,
+    shared: &Shared,
+    zero: Seat,
+    one: Seat,
+    two: Seat,
+) -> ((Seat, Seat), Seat)
+    requires others { (zero.shared ≡ shared.now.name) × (one.shared ≡ shared.now.name) }
+    requires last { two.shared ≡ shared.now.name }
+    ensures others { (result.0.0.shared ≡ shared.now.name) × (result.0.1.shared ≡ shared.now.name) }
+    ensures last { result.1.shared ≡ shared.now.name }
+{
+    let watched = Watched {
+        held: AtomicU64::new(0),
+        seen: AtomicU64::new(0),
+    };
+    let watch = &watched;
+    join(
+        rt,
+        || -> (Seat, Seat)
+            requires { (zero.shared ≡ shared.now.name) × (one.shared ≡ shared.now.name) }
+            ensures { (result.0.shared ≡ shared.entry.now.name) × (result.1.shared ≡ shared.entry.now.name) }
+        { two_look_on(rt, shared, zero, one, watch) },
+        || -> Seat
+            requires { two.shared ≡ shared.now.name }
+            ensures { result.shared ≡ shared.entry.now.name }
+        { holds(rt, shared, two, watch) },
+    )
+}
+
+// The first one calls; two see the third one hold the turn; the second one tries again, with no look before; the first
+// one looks, and meets the others.
+fn three_meet<R: AllocGlobal + Abort + Threads + Wait + Sync>(
+    rt: &R,
+    shared: &Shared,
+    mut seats: Vec<Seat>,
+) -> Seat
+    requires { All (λ s. s.shared ≡ shared.now.name) seats.items }
+    ensures { result.shared ≡ shared.now.name }
+{
+    let ip = clone_of(rt, "ip");
+    let two = last_of(rt, shared, &mut seats);
+    let (mut zero, mut one) = last_two(rt, shared, seats);
+    let first = shared.call(rt, rt.alloc(), &mut zero, &ip);
+    assert!(rt; opens(&first.expect(rt, "an answer"), 0));
+    assert!(rt; shared.glance(&mut one) == front(1, 0, false));
+    let ((mut zero, mut one), two) = three_on_threads(rt, shared, zero, one, two);
+    let third = shared.try_call(rt.alloc(), &mut one, &ip);
+    assert!(rt; opens(&third.expect(rt, "an answer"), 2));
+    assert!(rt; shared.glance(&mut zero) == front(3, 0, false));
+    shared.meet(&mut zero, one);
+    shared.meet(&mut zero, two);
+    zero
+}
+
+// These are the processes of the entries.
+fn are_of(rt: &impl Abort, entries: &[Entry], processes: [u32; 3]) {
+    assert_eq!(rt; entries.len(), 3);
+    for number in 0..3 {
+        assert_eq!(rt; entries[number].process.get(), processes[number]);
+    }
+}
+
+#[test]
+fn two_see_the_third_hold_the_turn(rt: HostRuntime) {
+    let system = system_over(&rt, &[ip(&rt, 4)], 10);
+    let (shared, seats) = start(&rt, system, 3).expect(&rt, "a start");
+    let zero = three_meet(&rt, &shared, seats);
+    let system = shared.close(zero).expect(&rt, "nobody has the turn");
+    are_of(&rt, system.entries(), [0, 2, 1]);
+    forget(system);
+}
