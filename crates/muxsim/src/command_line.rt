@@ -27,7 +27,7 @@ pub fn job<'a, S: AsStr>(alloc: Global, words: &'a [S]) -> Result<Job, Error>
 {
     let matches = program(alloc)?.try_get_matches_from(words)?;
     let job = job_of(alloc, &matches);
-    // (what clap made of the words is small, and stays until the program ends)
+    // What clap made of the words is small; it stays until the program ends.
     forget(matches);
     job
 }

@@ -5,7 +5,8 @@ ghost use Rattle.smx_text.specs.declared.text_fault.TextFault.{TextFault};
 ghost use Rattle.smx_filters.specs.ExplainText.{IsKept, answer_of};
 ghost use Rattle.smx_filters.specs.Filters.{Answers};
 ghost use Rattle.smx_filters.specs.FrontsText.{fronts_text};
-ghost use Rattle.smx_filters.specs.RunText.{IsFrontsTextFor, IsRefusedFor, IsTranscriptFor, RunsText, items_of, running};
+ghost use Rattle.smx_filters.specs.RunText.{IsFrontsTextFor, IsRefusedFor, IsTranscriptFor, RunsText};
+ghost use Rattle.smx_filters.specs.RunText.{items_of, running};
 ghost use Rattle.smx_filters.specs.declared.main_fault.MainFault.TheVariants.{Refused, Text};
 ghost use Rattle.smx_run.specs.declared.run_fault.RunFault.{RunFault as AnyFault};
 ghost use Rattle.smx_run.specs.RunFaults.{RefusesRun};
@@ -73,7 +74,7 @@ pub(crate) fn text_for<R: Threads + Wait + Sync, G: Gate + Sync>(
     ensures given_up { IfErr result (λ r. (f : AnyFault) → r.fault ≡ Refused f → r.text ≡ None) }
 {
     if !fronts && (workers == 1 || !has_second_process(input.as_slice())) {
-        return text_as_read(alloc, input, gate);
+        return transcript_on_one_thread(alloc, input, gate);
     }
     let programs = match read_programs(alloc, input.as_slice()) {
         Ok(programs) => programs,
@@ -83,7 +84,7 @@ pub(crate) fn text_for<R: Threads + Wait + Sync, G: Gate + Sync>(
         return Ok(fronts_of_run(rt, alloc, programs, workers, gate)?);
     }
     if workers.min(programs.programs().len()) < 2 {
-        return text_as_read(alloc, input, gate);
+        return transcript_on_one_thread(alloc, input, gate);
     }
     Ok(transcript_of_several(rt, alloc, input, programs, workers, gate)?)
 }
@@ -104,7 +105,7 @@ fn kept_for(fault: MainFault, input: Vec<u8>) -> Refusal
     Refusal { fault, text }
 }
 
-// Whether the programs that the text spells may be of more than one process, each of which has a line that begins so.
+// Whether a second line begins with `process `. Without one there is one process at most.
 fn has_second_process(text: &[u8]) -> bool {
     let begins = b"\nprocess ";
     match memmem::find(text, begins) {
@@ -113,9 +114,13 @@ fn has_second_process(text: &[u8]) -> bool {
     }
 }
 
-// The text of a run on this thread alone, for its transcript, of the programs that the input spells. Any number of
-// workers may answer it.
-fn text_as_read<G: Gate>(alloc: Global, input: Vec<u8>, gate: &G) -> Result<Vec<u8>, Refusal>
+// The transcript of a run on this thread alone, which answers for any number of workers. The input is kept where it is
+// at fault.
+fn transcript_on_one_thread<G: Gate>(
+    alloc: Global,
+    input: Vec<u8>,
+    gate: &G,
+) -> Result<Vec<u8>, Refusal>
     ensures answers { (workers : ℕ) → Answers (running false workers) input.items (items_of (answer_of result)) }
     ensures kept { IfErr result (λ r. (fault : TextFault) → r.fault ≡ Text fault → IsKept r.text input.items) }
     ensures given_up { IfErr result (λ r. (f : AnyFault) → r.fault ≡ Refused f → r.text ≡ None) }

@@ -31,12 +31,12 @@ pub record HasEnded (k : Known) (front : Front) : Type 0 where
   pub numbers : IsFrontOf front k.drivers k.seen
 
 -- a process is to be run, with a seat of some door, with which nothing was called yet
-abbrev pub BeginsWith : {S : Type 0} → (S → Type 0) → (S → Known) → SeatedProgram S → Type 0
-BeginsWith is_seat known job = is_seat job.seat × ((known job.seat).own ≡ [])
+abbrev pub IsToRunWith : {S : Type 0} → (S → Type 0) → (S → Known) → SeatedProgram S → Type 0
+IsToRunWith is_seat known job = is_seat job.seat × ((known job.seat).own ≡ [])
 
 -- a process has ended, with a seat of some door
-abbrev pub EndsWith : {S : Type 0} → (S → Type 0) → (S → Known) → EndedProgram S → Type 0
-EndsWith is_seat known done = is_seat done.seat × HasEnded (known done.seat) done.front
+abbrev pub HasEndedWith : {S : Type 0} → (S → Type 0) → (S → Known) → EndedProgram S → Type 0
+HasEndedWith is_seat known done = is_seat done.seat × HasEnded (known done.seat) done.front
 
 -- some seat of a door has seen the history full
 abbrev pub SomeKnowsItFull : {S : Type 0} → (S → Type 0) → (S → Known) → Type 0
@@ -74,14 +74,14 @@ EndsAt name done = (done.seat.shared ≡ name) × HasEnded done.seat.known done.
 abbrev pub HaveEnded : {A : Type 0} → SharedId → Vec (EndedProgram Seated) A → Type 0
 HaveEnded name hand = All (EndsAt name) hand.items
 
--- all processes of all hands have
+-- all processes of all hands have ended
 abbrev pub AllHaveEnded : {A B : Type 0} → SharedId → Vec (Vec (EndedProgram Seated) A) B → Type 0
 AllHaveEnded name hands = All (HaveEnded name) hands.items
 
--- and each hand has called what it was to call
-abbrev pub AreCalled : {A B : Type 0} → Vec (Vec (SeatedProgram Seated) A) B → Vec (Vec (EndedProgram Seated) A) B
+-- each hand has called what it was to call
+abbrev pub HaveCalled : {A B : Type 0} → Vec (Vec (SeatedProgram Seated) A) B → Vec (Vec (EndedProgram Seated) A) B
     → Type 0
-AreCalled given ended = map called_hand ended.items ≡ map given_hand given.items
+HaveCalled given ended = map called_hand ended.items ≡ map given_hand given.items
 
 -- the processes of one worker of so many: those whose number modulo that many is its own, in their order
 abbrev pub hand_of : ℕ → List Calls → ℕ → List Calls

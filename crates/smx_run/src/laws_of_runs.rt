@@ -73,7 +73,8 @@ pub fn calls_of_an_example()
 
 /// Who performs commands in order has stopped before the last one, and not behind it, nor behind another one.
 pub fn stops_of_an_example()
-    ensures before_the_last { StopsAmong KeepsBehind [] (OpenClone ip ∷ Dup 0 ∷ []) (OpenClone ip ∷ []) }
+    ensures before_the_last { StopsAmong KeepsBehind (Dup 1 ∷ []) (OpenClone ip ∷ Dup 0 ∷ [])
+        (Dup 1 ∷ OpenClone ip ∷ []) }
     ensures not_at_the_end { StopsAmong KeepsBehind [] (Dup 0 ∷ []) (Dup 0 ∷ []) → ⊥ }
     ensures not_behind_another { StopsAmong KeepsBehind [] (OpenClone ip ∷ Dup 0 ∷ []) (Dup 0 ∷ []) → ⊥ }
 {}

@@ -9,7 +9,7 @@ ghost use Rattle.smx_model.specs.Histories.{HoldsPrograms};
 ghost use Rattle.smx_shared.specs.Seats.{SharedId};
 ghost use Rattle.smx_shared.specs.declared.shared_fault.ApplyFault.TheVariants as apply;
 ghost use Rattle.smx_run.specs.Fronts.{AreFrontsFrom};
-ghost use Rattle.smx_run.specs.Hands.{called_hand, given_hand, AllHaveEnded, AreCalled, AreFresh, HaveEnded, IsFresh};
+ghost use Rattle.smx_run.specs.Hands.{called_hand, given_hand, AllHaveEnded, HaveCalled, AreFresh, HaveEnded, IsFresh};
 ghost use Rattle.smx_run.specs.Hands.{IsSeenFull};
 ghost use Rattle.smx_run.specs.ProgramOrder.{Calls, numbered};
 ghost use Rattle.smx_run.specs.RunFaults.{RefusesRun};
@@ -99,7 +99,7 @@ fn run_hands<R: Threads + Wait + Sync, K: Keeper + Send, G: Gate + Sync>(
     gate: &G,
 ) -> Result<Vec<Vec<EndedProgram<Seat<K>>>>, ApplyFault>
     requires { All (AreFresh shared.now.name) hands.items }
-    ensures called { IfOk result (AreCalled hands) }
+    ensures called { IfOk result (HaveCalled hands) }
     ensures ended { IfOk result (AllHaveEnded shared.now.name) }
     ensures full { IsErrOf result apply.HistoryFull → IsSeenFull shared.now.name }
 {
@@ -108,7 +108,7 @@ fn run_hands<R: Threads + Wait + Sync, K: Keeper + Send, G: Gate + Sync>(
         rt,
         |scope| -> Result<Vec<Vec<EndedProgram<Seat<K>>>>, ApplyFault>
             requires { All (AreFresh shared.now.name) hands.items }
-            ensures called { IfOk result (AreCalled hands) }
+            ensures called { IfOk result (HaveCalled hands) }
             ensures ended { IfOk result (AllHaveEnded shared.entry.now.name) }
             ensures full { IsErrOf result apply.HistoryFull → IsSeenFull shared.entry.now.name }
         { run_from(scope, rt, alloc, shared, hands, gate) },
@@ -126,7 +126,7 @@ fn run_from<'s, E, R: Threads + Wait + Sync, K: Keeper + Send, G: Gate + Sync>(
     gate: &'s G,
 ) -> Result<Vec<Vec<EndedProgram<Seat<K>>>>, ApplyFault>
     requires { All (AreFresh shared.now.name) hands.items }
-    ensures called { IfOk result (AreCalled hands) }
+    ensures called { IfOk result (HaveCalled hands) }
     ensures ended { IfOk result (AllHaveEnded shared.now.name) }
     ensures full { IsErrOf result apply.HistoryFull → IsSeenFull shared.now.name }
 {

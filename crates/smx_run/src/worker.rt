@@ -3,7 +3,7 @@
 ghost use Rattle.std.specs.Prelude.{◌≡◌, All, map, IfOk, OnOk, OnErr, IsErrOf};
 ghost use Rattle.smx_shared.specs.declared.shared_fault.ApplyFault.TheVariants as apply;
 ghost use Rattle.smx_run.specs.Desks.{StopsAmong};
-ghost use Rattle.smx_run.specs.Hands.{given, called, BeginsWith, EndsWith, SomeKnowsItFull};
+ghost use Rattle.smx_run.specs.Hands.{given, called, IsToRunWith, HasEndedWith, SomeKnowsItFull};
 
 use crate::desk::{Desk, SeatDesk};
 use crate::gate::Gate;
@@ -37,9 +37,9 @@ pub fn work<D: Door, G: Gate, R: Wait>(
 ) -> Result<Vec<EndedProgram<D::Seat>>, ApplyFault>
 where
     D::Seat: Drop,
-    requires { All (BeginsWith (D.is_seat door.now) D.known) hand.items }
+    requires { All (IsToRunWith (D.is_seat door.now) D.known) hand.items }
     ensures called { IfOk result (λ v. map (called D.known) v.items ≡ map (given D.known) hand.items) }
-    ensures ended { IfOk result (λ v. All (EndsWith (D.is_seat door.now) D.known) v.items) }
+    ensures ended { IfOk result (λ v. All (HasEndedWith (D.is_seat door.now) D.known) v.items) }
     ensures full { IsErrOf result apply.HistoryFull → SomeKnowsItFull (D.is_seat door.now) D.known }
 {
     let mut done = Vec::with_capacity(alloc, hand.len())?;
@@ -59,9 +59,9 @@ fn run_job<D: Door, G: Gate, R: Wait>(
 ) -> Result<EndedProgram<D::Seat>, ApplyFault>
 where
     D::Seat: Drop,
-    requires { BeginsWith (D.is_seat door.now) D.known job }
+    requires { IsToRunWith (D.is_seat door.now) D.known job }
     ensures called { IfOk result (λ d. called D.known d ≡ given D.known job) }
-    ensures ended { IfOk result (EndsWith (D.is_seat door.now) D.known) }
+    ensures ended { IfOk result (HasEndedWith (D.is_seat door.now) D.known) }
     ensures full { IsErrOf result apply.HistoryFull → SomeKnowsItFull (D.is_seat door.now) D.known }
 {
     let SeatedProgram { seat, commands } = job;

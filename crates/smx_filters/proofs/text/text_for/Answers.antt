@@ -4,11 +4,11 @@ use Rattle.smx_filters.proofs.text.text_for.Goals as goal
 
 pub returns-then-not-has_second_process-clause-answers : goal.returns-then-not-has_second_process-clause-answers
 returns-then-not-has_second_process-clause-answers g c =
-    rw c.if-not-fronts.true (c.text_as_read.ensures.answers c.args.workers)
+    rw c.if-not-fronts.true (c.transcript_on_one_thread.ensures.answers c.args.workers)
 
 pub returns-then-min-lt2-clause-answers : goal.returns-then-min-lt2-clause-answers
 returns-then-min-lt2-clause-answers g c =
-    rw c.if-fronts.false (c.text_as_read-then-min-lt2.ensures.answers c.args.workers)
+    rw c.if-fronts.false (c.transcript_on_one_thread-then-min-lt2.ensures.answers c.args.workers)
 
 pub returns-in-Err-clause-answers : goal.returns-in-Err-clause-answers
 returns-in-Err-clause-answers g c =

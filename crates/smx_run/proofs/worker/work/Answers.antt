@@ -1,6 +1,6 @@
 use Rattle.std.proofs.Common.{arith, ◌∷◌, [], refl}
 use Rattle.std.proofs.lemmas.List.{length-append}
-use Rattle.smx_run.specs.Hands.{given, called, EndsWith}
+use Rattle.smx_run.specs.Hands.{given, called, HasEndedWith}
 use Rattle.smx_run.proofs.FullHistoryLemmas.{handed_on, memory_is_not_full}
 use Rattle.smx_run.proofs.HandLemmas.{one_more, all_more}
 use Rattle.smx_run.proofs.worker.work.Goals as goal
@@ -25,7 +25,7 @@ loop-job-preserved g c =
         length-append c.loop-job.yielded (c.in-Some.job ∷ []),
       );
       called = one_more (called known) (given known) _ _ _ _ _ before.called here.called c.push_reserved.ensures.items;
-      ended = all_more (EndsWith (g.D.Door.is_seat c.args.door.now) known) _ _ _ before.ended here.ended
+      ended = all_more (HasEndedWith (g.D.Door.is_seat c.args.door.now) known) _ _ _ before.ended here.ended
           c.push_reserved.ensures.items;
     }
 

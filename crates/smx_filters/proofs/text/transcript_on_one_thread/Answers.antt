@@ -3,7 +3,7 @@ use Rattle.smx_filters.specs.Filters.{Answers}
 use Rattle.smx_filters.specs.RunText.{running}
 use Rattle.smx_filters.specs.declared.main_fault.MainFault.{MainFault}
 use Rattle.smx_filters.proofs.FilterLemmas.{answered_by_any}
-use Rattle.smx_filters.proofs.text.text_as_read.Goals as goal
+use Rattle.smx_filters.proofs.text.transcript_on_one_thread.Goals as goal
 
 pub returns-in-Ok-clause-answers : goal.returns-in-Ok-clause-answers
 returns-in-Ok-clause-answers g c workers =
