@@ -188,6 +188,7 @@ fn transcript_of_several<R: Threads + Wait + Sync, G: Gate + Sync>(
     ensures refused { IfErr result (RefusesRun programs.drivers) }
 {
     reports_need_no_later_version();
+    // For the proof: the programs are within their limits, and tell nothing that is of a later version.
     let _version = programs.version();
     let (TextRecorder { writer }, view) = run_recorded_together(
         rt, alloc, programs, workers, room, gate,

@@ -129,12 +129,12 @@ impl Places {
         }
         let firsts: &[usize] = &self.firsts;
         let places: &[Place] = &self.places;
-        // Its bound is one of the sum below.
+        // For the proof: no slice is so long that the sum below could overflow.
         let _count = places.len();
         Some(first_of(firsts, driver) + 2 * minor as usize + side_number(place.side))
     }
 
-    /// The place of a number. There is a next number.
+    /// The place of a number. The next number can be had as a number, whether a place has it or not.
     pub fn at(&self, number: usize) -> Place
         requires { number < length self.now.places }
         ensures place { slice_get self.now.places number ≡ Some result }

@@ -13,7 +13,7 @@ use Rattle.smx_types.specs.declared.driver.DriverSpec.{DriverSpec}
 use Rattle.smx_types.specs.declared.version.Version.{Version}
 use Rattle.smx_model.specs.DriverList.{IsDriverList}
 use Rattle.smx_config.specs.Machine.{Machine}
-use Rattle.smx_run.specs.Desks.{HasRecorded, PerformedRecording}
+use Rattle.smx_run.specs.Recordings.{HasRecorded, PerformedRecording}
 use Rattle.smx_run.specs.GrowingRuns.{IsRecordingOf}
 use Rattle.smx_types.specs.GrowingPrograms.{with_command, with_program}
 use Rattle.smx_run.specs.ProgramOrder.{calls_of, calls_from}

@@ -19,7 +19,7 @@ use Rattle.smx_model.specs.LawfulHistories.{AreDropsAllowed, IsLawfulThroughout}
 use Rattle.smx_model.specs.Views.{view}
 use Rattle.smx_config.specs.Machine.{Machine}
 use Rattle.smx_shared.specs.Recorded.{Recorded, IsSoundSystem}
-use Rattle.smx_run.specs.Desks.{HasRecorded}
+use Rattle.smx_run.specs.Recordings.{HasRecorded}
 use Rattle.smx_run.specs.ProgramOrder.{calls_of, calls_from}
 use Rattle.smx_run.specs.RecordedRuns.{IsRecordOf, IsRecordOfRun, KeepsAll, run_of}
 use Rattle.smx_run.specs.RunFaults.{RefusesAlone, RefusesRun}

@@ -1,21 +1,51 @@
--- Where a run on one thread stops: there is room for all commands, so it is want of memory alone that stops it.
+-- What a run on one thread performs, and where it stops: there is room for all commands, so it is want of memory alone
+-- that stops it.
 use Rattle.std.proofs.Common.{◌≡◌, ◌≢◌, ℕ, ◌+◌, ◌<◌, List, [], ◌∷◌, ◌++◌, length, map, refl, sym, ap, ◌∙◌, arith}
 use Rattle.std.proofs.Common.{append_assoc, Result, Ok, Err}
 use Rattle.std.specs.Prelude.{OnErr}
-use Rattle.std.proofs.lemmas.List.{length-append, length-map, map-append}
+use Rattle.std.proofs.lemmas.List.{append-nil, length-append, length-map, map-append}
 use Rattle.std.specs.List.{sum_by}
 use Rattle.smx_types.specs.declared.command.Command.{Command}
 use Rattle.smx_types.specs.declared.command.Entry.{Entry}
 use Rattle.smx_model.specs.Histories.{call_of}
 use Rattle.smx_shared.specs.declared.shared_fault.ApplyFault.{ApplyFault}
 use Rattle.smx_shared.specs.declared.shared_fault.ApplyFault.TheVariants as apply
+use Rattle.smx_shared.specs.Recorded.{Recorded, next_entry, with_entry}
+use Rattle.smx_run.specs.Alone.{PerformedAlone}
 use Rattle.smx_run.specs.ProgramOrder.{calls_of, calls_from}
 use Rattle.smx_run.proofs.RecordingLemmas.{counted}
+use Rattle.smx_run.proofs.RunLemmas.{map_behind}
 
 -- what is so is so where a fault is answered
 pub on_err : {T E : Type 0} (result : Result T E) (P : Type 0) → P → OnErr result P
 on_err (Ok value) P h = tt
 on_err (Err fault) P h = h
+
+-- no command changes nothing
+pub alone_none : (process : ℕ) (a : Recorded) → PerformedAlone process a [] a
+alone_none process a = record {
+  drivers = refl;
+  limit = refl;
+  begins = ([], append-nil a.history);
+  calls = sym (append-nil (map call_of a.history));
+}
+
+-- these commands, and then one more
+pub alone_more : (process : ℕ) (a b c : Recorded) (commands : List Command) (command : Command)
+    → PerformedAlone process a commands b → c ≡ with_entry b process command
+    → PerformedAlone process a (commands ++ command ∷ []) c
+alone_more process a b c commands command was is =
+    let entry : Entry = next_entry b process command in
+    rw is (record {
+      drivers = was.drivers;
+      limit = was.limit;
+      begins = (
+        was.begins.0 ++ entry ∷ [],
+        sym (append_assoc a.history was.begins.0 (entry ∷ [])) ∙ ap (λ (es : List Entry). es ++ entry ∷ []) was.begins.1,
+      );
+      calls = map_behind (λ (c : Command). (process, c)) (map call_of a.history) (map call_of b.history)
+          (map call_of (b.history ++ entry ∷ [])) commands command was.calls (map-append call_of b.history (entry ∷ []));
+    })
 
 -- what is asked by some programs, and then by those behind them
 calls_apart : (n : ℕ) (programs later : List (List Command))

@@ -5,7 +5,7 @@ use Rattle.smx_types.specs.declared.command.Entry.{Entry}
 use Rattle.smx_types.specs.declared.driver.DriverSpec.{DriverSpec}
 use Rattle.smx_types.specs.declared.version.Version.{Version}
 use Rattle.smx_model.specs.DriverList.{IsDriverList}
-use Rattle.smx_run.specs.Desks.{HasRecorded}
+use Rattle.smx_run.specs.Recordings.{HasRecorded}
 use Rattle.smx_run.specs.ProgramOrder.{calls_from}
 use Rattle.smx_run.specs.RunFaults.{RefusesAlone}
 use Rattle.smx_run.specs.declared.growing_run.Stage.{Stage}

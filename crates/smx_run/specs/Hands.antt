@@ -1,5 +1,5 @@
 -- What workers are given, and what they give back.
-use Rattle.std.specs.Prelude.{◌≡◌, ℕ, ◌%◌, ◌==◌, List, [], All, map, filter, Vec}
+use Rattle.std.specs.Prelude.{◌≡◌, ℕ, ◌%◌, ◌==◌, List, [], ◌++◌, All, length, map, filter, Vec}
 use Rattle.std.specs.List.{range_with_len}
 use Rattle.smx_types.specs.declared.command.Command.{Command}
 use Rattle.smx_types.specs.declared.command.Entry.{Entry}
@@ -7,7 +7,6 @@ use Rattle.smx_model.specs.Histories.{call_of}
 use Rattle.smx_shared.specs.Fronts.{IsFrontOf}
 use Rattle.smx_shared.specs.Seats.{Known, Seated, SharedId, entries_of}
 use Rattle.smx_shared.specs.declared.front.Front.{Front}
-use Rattle.smx_run.specs.Desks.{KnowsItFull}
 use Rattle.smx_run.specs.ProgramOrder.{Calls, calls_of}
 use Rattle.smx_run.specs.declared.worker.SeatedProgram.{SeatedProgram}
 use Rattle.smx_run.specs.declared.worker.EndedProgram.{EndedProgram}
@@ -23,6 +22,15 @@ calls_in entries = map call_of entries
 -- the process of a seat, and what was called with it
 abbrev pub called : {S : Type 0} → (S → Known) → EndedProgram S → Calls
 called known done = ((known done.seat).process, calls_in (known done.seat).own)
+
+-- as far as the history was seen, it has as many entries as it may
+abbrev pub KnowsItFull : Known → Type 0
+KnowsItFull k = length k.seen ≡ k.limit
+
+-- the same process has made these commands more
+pub record HasCalled (old : Known) (commands : List Command) (new : Known) : Type 0 where
+  pub process : new.process ≡ old.process
+  pub calls : calls_in new.own ≡ calls_in old.own ++ calls_of old.process commands
 
 -- what is known once a program has ended: what was made here is just what the history has of the process, as far as it
 -- was seen, and the front is that of it

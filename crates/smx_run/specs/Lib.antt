@@ -1,6 +1,5 @@
+pub mod Alone
 pub mod FaultWords
-pub mod DeskLemmas
-pub mod Desks
 pub mod Fronts
 pub mod Gathering
 pub mod GrowingRuns
@@ -8,6 +7,7 @@ pub mod Hands
 pub mod Meeting
 pub mod ProgramOrder
 pub mod RecordedRuns
+pub mod Recordings
 pub mod Reports
 pub mod RunFaults
 pub mod Scribes

@@ -12,10 +12,11 @@ ghost use Rattle.smx_model.specs.Histories.{call_of};
 ghost use Rattle.smx_model.specs.Worked.Common.{mux, ip, OpenClone, Dup, CloseAll};
 ghost use Rattle.smx_model.specs.Worked.Reports.{copied, drivers, exited, opened, programs};
 ghost use Rattle.smx_config.specs.declared.config_fault.ConfigFault.TheVariants as config;
-ghost use Rattle.smx_shared.specs.WorkedCalls.{front, knows};
-ghost use Rattle.smx_run.specs.Desks.{KeepsBehind, KnowsItFull, StopsAmong};
+ghost use Rattle.smx_shared.specs.WorkedCalls.{front, idle, knows};
+ghost use Rattle.smx_run.specs.Alone.{KeepsBehind, StopsAmong};
 ghost use Rattle.smx_run.specs.Fronts.{AreFrontsFrom};
 ghost use Rattle.smx_run.specs.Gathering.{IsLeastStrange};
+ghost use Rattle.smx_run.specs.Hands.{HasCalled, HasEndedWith, IsToRunWith, KnowsItFull};
 ghost use Rattle.smx_run.specs.ProgramOrder.{calls_from, BeginsCalls};
 ghost use Rattle.smx_run.specs.RecordedRuns.{IsRecordOf, KeepsAll};
 ghost use Rattle.smx_run.specs.RunFaults.{RefusesAlone, RefusesRun};
@@ -77,6 +78,34 @@ pub fn stops_of_an_example()
         (Dup 1 ∷ OpenClone ip ∷ []) }
     ensures not_at_the_end { StopsAmong KeepsBehind [] (Dup 0 ∷ []) (Dup 0 ∷ []) → ⊥ }
     ensures not_behind_another { StopsAmong KeepsBehind [] (OpenClone ip ∷ Dup 0 ∷ []) (Dup 0 ∷ []) → ⊥ }
+{}
+
+/// A process has called the commands of the entries that were made with its seat, in order: none more, no other, and
+/// none where it saw the entry and didn't make it. Nor has another process.
+pub fn what_a_process_has_called()
+    ensures one { HasCalled (knows 0 0 9) (OpenClone ip ∷ []) (knows 0 1 9) }
+    ensures none { HasCalled (knows 1 0 9) [] (knows 1 1 9) }
+    ensures not_none { HasCalled (knows 0 0 9) [] (knows 0 1 9) → ⊥ }
+    ensures not_another { HasCalled (knows 0 0 9) (CloseAll ∷ []) (knows 0 1 9) → ⊥ }
+    ensures not_unmade { HasCalled (knows 0 0 9) (OpenClone ip ∷ []) idle → ⊥ }
+    ensures not_elsewhere { HasCalled (knows 0 0 9) [] (knows 1 0 9) → ⊥ }
+{}
+
+/// A process is to be run with a seat of the door, here of process 0, with which nothing was called yet; and has ended
+/// with such a seat that knows all of its entries, with the front that was seen then.
+pub fn what_is_to_be_run_and_what_has_ended()
+    ensures to_run { IsToRunWith (λ k. k.process ≡ 0) (λ k. k) (record { seat = knows 0 0 9; commands = [] }) }
+    ensures not_again { IsToRunWith (λ k. k.process ≡ 0) (λ k. k) (record { seat = knows 0 1 9; commands = [] }) → ⊥ }
+    ensures not_elsewhere { IsToRunWith (λ k. k.process ≡ 0) (λ k. k) (record { seat = knows 1 0 9; commands = [] })
+        → ⊥ }
+    ensures ended { HasEndedWith (λ k. k.process ≡ 0) (λ k. k)
+        (record { seat = knows 0 1 9; front = front 1 0 false }) }
+    ensures not_ended_idle { HasEndedWith (λ k. k.process ≡ 0) (λ k. k)
+        (record { seat = idle; front = front 1 0 false }) → ⊥ }
+    ensures not_ended_elsewhere { HasEndedWith (λ k. k.process ≡ 0) (λ k. k)
+        (record { seat = knows 1 1 9; front = front 1 0 false }) → ⊥ }
+    ensures not_at_another_front { HasEndedWith (λ k. k.process ≡ 0) (λ k. k)
+        (record { seat = knows 0 1 9; front = front 0 0 false }) → ⊥ }
 {}
 
 /// A history of one entry is known to be full where it may have one, and not where it may have two.

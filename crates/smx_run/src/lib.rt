@@ -1,7 +1,6 @@
 //! A run of programs by many threads, and what comes of all of them: the report of one history.
 #![tactic(auto)]
 
-mod desk;
 mod gate;
 mod gathering;
 mod growing_run;

@@ -3,7 +3,7 @@
 ghost use Rattle.std.specs.Prelude.{◌≡◌, [], ◌∷◌, IfErr, IfOk, IfSome, OnOk};
 ghost use Rattle.smx_model.specs.DriverList.{IsDriverList};
 ghost use Rattle.smx_model.specs.Views.{view};
-ghost use Rattle.smx_run.specs.Desks.{HasRecorded, PerformedRecording};
+ghost use Rattle.smx_run.specs.Recordings.{HasRecorded, PerformedRecording};
 ghost use Rattle.smx_run.specs.RunFaults.{RefusesAlone};
 
 use crate::gate::Gate;

@@ -1,6 +1,6 @@
 //! A run: the programs of all processes, by so many workers.
 
-ghost use Rattle.std.specs.Prelude.{◌≡◌, ◌≤◌, ◌<◌, ◌⊎◌, [], length, map, IfOk, IfErr, OnOk, OnErr};
+ghost use Rattle.std.specs.Prelude.{◌≡◌, ◌≤◌, ◌<◌, ◌⊎◌, [], length, map, IfOk, IfErr, OnOk, OnErr, IsErrOf};
 ghost use Rattle.std.specs.List.{sum_by};
 ghost use Rattle.smx_model.specs.Headline.{IsReportOf};
 ghost use Rattle.smx_model.specs.DriverList.{IsDriverList};
@@ -8,19 +8,18 @@ ghost use Rattle.smx_model.specs.Histories.{call_of, HoldsPrograms};
 ghost use Rattle.smx_types.specs.declared.limits.TheConstants.{MAX_COMMANDS, MAX_PROCESSES};
 ghost use Rattle.smx_shared.specs.Fronts.{IsFrontOf};
 ghost use Rattle.smx_shared.specs.declared.shared_fault.ApplyFault.TheVariants as apply;
+ghost use Rattle.smx_run.specs.Alone.{PerformedAlone, StopsAmong};
 ghost use Rattle.smx_run.specs.Fronts.{AreFrontsFrom};
 ghost use Rattle.smx_run.specs.ProgramOrder.{calls_from, BeginsCalls};
 ghost use Rattle.smx_run.specs.Reports.{transcript_of};
 ghost use Rattle.smx_run.specs.RunFaults.{RefusesAlone, RefusesRun};
 ghost use Rattle.smx_run.specs.declared.run.TheConstants.{MAX_WORKERS};
 
-use crate::desk::Alone;
 use crate::gate::Gate;
 use crate::gathering::report;
 use crate::report::Report;
 use crate::run_fault::RunFault;
 use crate::threads::run_together;
-use crate::worker::run_program;
 use smx_model::laws_of_messages::few_commands_drop;
 use smx_shared::{ApplyFault, Front, Fronts, System};
 use smx_types::{Commands, DriverSpec, MAX_COMMANDS, Process, ProgramList, Programs};
@@ -98,10 +97,9 @@ fn run_all<R: Threads + Wait + Sync, G: Gate + Sync>(
 {
     let hands = workers.min(programs.as_slice().len());
     if hands < 2 {
-        let process = Process::new(0).unwrap();
-        let mut desk = Alone { process, system };
-        let fronts = run_alone(rt, alloc, &mut desk, programs, gate)?;
-        return Ok((desk.system, fronts));
+        let mut system = system;
+        let fronts = run_alone(alloc, &mut system, programs, gate)?;
+        return Ok((system, fronts));
     }
     run_together(rt, alloc, system, programs, hands, gate)
 }
@@ -128,29 +126,49 @@ fn front_of(system: &System) -> Front
 
 // Each program in turn, on this thread, and the front after each. There is room for all commands, so it fails only for
 // want of memory; no command behind that is performed.
-fn run_alone<G: Gate, R: Wait>(
-    rt: &R,
+fn run_alone<G: Gate>(
     alloc: Global,
-    desk: &mut Alone,
+    system: &mut System,
     programs: ProgramList,
     gate: &G,
 ) -> Result<Fronts, ApplyFault>
-    requires empty { desk.old.system.history ≡ [] }
+    requires empty { system.old.history ≡ [] }
     requires processes { length programs ≤ MAX_PROCESSES }
-    requires room { sum_by length programs ≤ desk.old.system.limit }
-    ensures drivers { OnOk result (desk.new.system.drivers ≡ desk.old.system.drivers) }
-    ensures calls { OnOk result (map call_of desk.new.system.history ≡ calls_from 0 programs) }
-    ensures fronts { IfOk result (AreFrontsFrom desk.new.system.drivers desk.new.system.history 0 programs) }
-    ensures stops { OnErr result (BeginsCalls (map call_of desk.new.system.history) 0 programs) }
+    requires room { sum_by length programs ≤ system.old.limit }
+    ensures drivers { OnOk result (system.new.drivers ≡ system.old.drivers) }
+    ensures calls { OnOk result (map call_of system.new.history ≡ calls_from 0 programs) }
+    ensures fronts { IfOk result (AreFrontsFrom system.new.drivers system.new.history 0 programs) }
+    ensures stops { OnErr result (BeginsCalls (map call_of system.new.history) 0 programs) }
     ensures refused { IfErr result (λ f. f ≡ apply.NoMemory) }
 {
     let mut fronts = Vec::with_capacity(alloc, programs.as_slice().len())?;
     let mut number = 0;
     for commands in programs.into_vec() {
-        desk.process = Process::new(number).unwrap();
-        run_program(rt, desk, commands, gate)?;
-        fronts.push_reserved(front_of(&desk.system));
+        append_all(system, Process::new(number).unwrap(), commands, gate)?;
+        fronts.push_reserved(front_of(system));
         number += 1;
     }
     Ok(Fronts::from_vec(fronts))
+}
+
+// Has the commands of this process performed, in order, to the last or to the first fault, and tells the gate of each.
+fn append_all<G: Gate>(
+    system: &mut System,
+    process: Process,
+    commands: Commands,
+    gate: &G,
+) -> Result<(), ApplyFault>
+    ensures performed { OnOk result (PerformedAlone process system.old commands system.new) }
+    ensures stops { OnErr result (StopsAmong (PerformedAlone process) system.old commands system.new) }
+    ensures full { IsErrOf result apply.HistoryFull → length system.new.history ≡ system.new.limit }
+{
+    let mut number = 0;
+    for command in commands.into_vec() {
+        gate.before(process, number);
+        let outcome = system.append(process, command);
+        gate.after(process, number);
+        outcome?;
+        number += 1;
+    }
+    Ok(())
 }

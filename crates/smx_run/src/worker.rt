@@ -1,11 +1,10 @@
 //! A worker: the processes that one thread runs.
 
-ghost use Rattle.std.specs.Prelude.{◌≡◌, All, map, IfOk, OnOk, OnErr, IsErrOf};
+ghost use Rattle.std.specs.Prelude.{◌≡◌, All, map, IfOk, OnOk, IsErrOf};
 ghost use Rattle.smx_shared.specs.declared.shared_fault.ApplyFault.TheVariants as apply;
-ghost use Rattle.smx_run.specs.Desks.{StopsAmong};
-ghost use Rattle.smx_run.specs.Hands.{given, called, IsToRunWith, HasEndedWith, SomeKnowsItFull};
+ghost use Rattle.smx_run.specs.Hands.{given, called, HasCalled, IsToRunWith, HasEndedWith, KnowsItFull};
+ghost use Rattle.smx_run.specs.Hands.{SomeKnowsItFull};
 
-use crate::desk::{Desk, SeatDesk};
 use crate::gate::Gate;
 use smx_shared::{ApplyFault, Door, Front};
 use smx_types::Commands;
@@ -64,36 +63,34 @@ where
     ensures ended { IfOk result (HasEndedWith (D.is_seat door.now) D.known) }
     ensures full { IsErrOf result apply.HistoryFull → SomeKnowsItFull (D.is_seat door.now) D.known }
 {
-    let SeatedProgram { seat, commands } = job;
-    let mut desk = SeatDesk { alloc, door, seat };
-    run_program(rt, &mut desk, commands, gate)?;
-    let front = door.glance(&mut desk.seat);
-    Ok(EndedProgram {
-        seat: desk.seat,
-        front,
-    })
+    let SeatedProgram { mut seat, commands } = job;
+    run_program(rt, alloc, door, &mut seat, commands, gate)?;
+    let front = door.glance(&mut seat);
+    Ok(EndedProgram { seat, front })
 }
 
-/// Has the commands of a program performed, in order, to the end of it or to the first fault. The gate is told of each
-/// under the process that the desk is of.
-pub fn run_program<K: Desk, G: Gate, R: Wait>(
+// Has the commands of a program performed with its seat, in order, to the end of it or to the first fault. The gate is
+// told of each under the process that the seat is of.
+fn run_program<D: Door, G: Gate, R: Wait>(
     rt: &R,
-    desk: &mut K,
+    alloc: Global,
+    door: &D,
+    seat: &mut D::Seat,
     commands: Commands,
     gate: &G,
 ) -> Result<(), ApplyFault>
-    requires { K.ready desk.old }
-    ensures whose { K.whose desk.new ≡ K.whose desk.old }
-    ensures ready { K.ready desk.new }
-    ensures performed { OnOk result (K.performed desk.old commands desk.new) }
-    ensures stops { OnErr result (StopsAmong K.performed desk.old commands desk.new) }
-    ensures full { IsErrOf result apply.HistoryFull → K.is_full desk.new }
+where
+    D::Seat: Drop,
+    requires { D.is_seat door.now seat.old }
+    ensures seat { D.is_seat door.now seat.new }
+    ensures called { OnOk result (HasCalled (D.known seat.old) commands (D.known seat.new)) }
+    ensures full { IsErrOf result apply.HistoryFull → KnowsItFull (D.known seat.new) }
 {
-    let process = desk.process();
+    let process = D::process(seat);
     let mut number = 0;
     for command in commands.into_vec() {
         gate.before(process, number);
-        let outcome = desk.perform(rt, command);
+        let outcome = door.perform(rt, alloc, seat, command);
         gate.after(process, number);
         outcome?;
         number += 1;

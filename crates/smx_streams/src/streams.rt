@@ -56,7 +56,7 @@ impl Model for Streams {
 }
 
 // What the law says of all lists, as one fact.
-fn make_the_list()
+fn law_of_lists()
     ensures { MakeTheList }
 {
     hung_up_streams_make_the_list();
@@ -146,7 +146,7 @@ impl Streams {
         ensures err { OnErr result (self.new ≡ self.old) }
         ensures in_place { (n : ℕ) → stream_at self.old.fds process n ≡ Some stream → IsOk result }
     {
-        make_the_list();
+        law_of_lists();
         self.descriptors.is_sound();
         self.descriptors.make_room(self.alloc, process)?;
         self.records.open(stream)?;
@@ -253,7 +253,7 @@ impl Streams {
             → stream_at self.old.fds process fd ≡ Some s }
         ensures unchanged { IfNone result (self.new ≡ self.old) }
     {
-        make_the_list();
+        law_of_lists();
         self.descriptors.is_sound();
         self.records.is_sound();
         let stream = self.descriptors.take(process, fd)?;
@@ -306,7 +306,7 @@ impl Streams {
         ensures rest { HasHolds self.old stream (number_at self.old.holds stream + 1) self.new }
         ensures hungs { self.new.hungs ≡ self.old.hungs }
     {
-        make_the_list();
+        law_of_lists();
         self.records.is_sound();
         self.records.hold(stream);
     }
@@ -318,7 +318,7 @@ impl Streams {
         ensures answer { result ≡ not (exists self.new stream) }
         ensures rest { HasHolds self.old stream (number_at self.old.holds stream - 1) self.new }
     {
-        make_the_list();
+        law_of_lists();
         self.records.is_sound();
         self.records.release(stream);
         !self.exists(stream)
@@ -329,7 +329,7 @@ impl Streams {
         requires { exists self.old stream ≡ true }
         ensures { HasHungUp self.old stream self.new }
     {
-        make_the_list();
+        law_of_lists();
         self.records.hang(stream);
     }
 

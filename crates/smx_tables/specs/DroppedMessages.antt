@@ -19,7 +19,8 @@ pub record AreDropped (old new : List QueuedMessage) (dropped : List ℕ) : Type
   pub left : new ≡ filter keep old
   pub gone : IsPermutation (serials (filter (λ h. not (keep h)) old)) dropped
 
--- of whatever messages some were dropped, they were dropped with those that went from a flow since
+-- whatever messages there were at first: where these were dropped of them and a flow was left, then more are dropped of
+-- them now and less is left
 abbrev pub DropsMore : List QueuedMessage → List ℕ → List QueuedMessage → List ℕ → Type 0
 DropsMore flow dropped left more = (old : List QueuedMessage) → AreDropped old flow dropped → AreDropped old left more
 
@@ -36,7 +37,7 @@ pub record EmptiesPlaces {A : Type 0} (goes : Place → Bool) (old : FlowLists) 
   pub dropped : DropsMore old.flow before.items new.flow after.items
   pub room : HasRoom after new.flow
 
--- the reply names what was dropped, of whatever messages
+-- whatever messages there were at first: the reply names those that are gone of them, in their order
 abbrev pub NamesDropped : List QueuedMessage → List ℕ → List QueuedMessage → Reply → Type 0
 NamesDropped flow dropped left reply = (old : List QueuedMessage) → AllPairs (λ m n. m ≢ n) (serials old)
     → AreDropped old flow dropped → reply ≡ Done (serials_that_left old left)

@@ -89,8 +89,8 @@ pub struct SweepReserve {
     pub dropped: Vec<u32>,
 }
 
-// Removes the ordinary links whose controlling stream doesn't exist, which is one of those that were touched. What may
-// have gone is seen then.
+// Removes the ordinary links whose controlling stream doesn't exist, which is one of those that were touched. Each
+// stream that may have gone is then among those seen.
 fn drop_orphans(drivers: &[DriverSpec], lists: &mut Lists, room: &mut SweepReserve)
     requires kept { KeepsHolds lists.old }
     requires known { AreControllingKnown drivers.now lists.old.links.links }

@@ -16,14 +16,14 @@ use Rattle.smx_run.proofs.run.run_alone.Goals as goal
 pub loop-commands-preserved : goal.loop-commands-preserved
 loop-commands-preserved g c =
     let before = c.loop-commands.invariant in
-    let did = c.in_ok-run_program.ensures.performed in
+    let did = c.in_ok-append_all.ensures.performed in
     let commands = c.in-Some.commands in
-    let p : ℕ = c.unwrap-desk.result in
+    let p : ℕ = c.unwrap.result in
     let number : p ≡ 0 + length c.loop-commands.yielded = search rules in
     let calls = did.calls ∙ ap (λ (cs : List (ℕ × Command)). cs ++ calls_of p commands) before.calls
     ∙ sym (calls_more 0 p c.loop-commands.yielded commands number) in
     let was = subst
-    (λ (ds : List DriverSpec). AreFrontsFrom ds c.loop-commands.desk.system.history 0 c.loop-commands.yielded
+    (λ (ds : List DriverSpec). AreFrontsFrom ds c.loop-commands.system.history 0 c.loop-commands.yielded
     c.loop-commands.fronts.items) (sym did.drivers) before.fronts in
     record {
       drivers = did.drivers ∙ before.drivers;
@@ -47,46 +47,46 @@ loop-commands-preserved g c =
 pub returns-in_err-fronts-clause-stops : goal.returns-in_err-fronts-clause-stops
 returns-in_err-fronts-clause-stops g c =
     let asked = calls_from 0 c.args.programs in
-    let none : BeginsCalls (map call_of c.args.desk.now.system.history) 0 c.args.programs =
+    let none : BeginsCalls (map call_of c.args.system.now.history) 0 c.args.programs =
     (asked, ap (λ (es : List Entry). map call_of es ++ asked) c.requires.empty) in
     on_err _ _ none
 
-pub returns-in_err-run_program-clause-stops : goal.returns-in_err-run_program-clause-stops
-returns-in_err-run_program-clause-stops g c =
+pub returns-in_err-append_all-clause-stops : goal.returns-in_err-append_all-clause-stops
+returns-in_err-append_all-clause-stops g c =
     let before = c.loop-commands.invariant in
     let yielded = c.loop-commands.yielded in
-    let did = c.in_err-run_program.ensures.stops in
-    let p : ℕ = c.unwrap-desk.result in
+    let did = c.in_err-append_all.ensures.stops in
+    let p : ℕ = c.unwrap.result in
     let number : p ≡ 0 + length yielded = search rules in
     let all = ap (λ (programs : List (List Command)). yielded ++ programs) (sym c.in-Some.ensures.steps.0)
     ∙ before.all in
     let calls = did.came.calls ∙ ap (λ (cs : List (ℕ × Command)). cs ++ calls_of p did.done) before.calls in
-    let left = left_of (map call_of c.run_program.new.desk.system.history) p c.args.programs yielded
+    let left = left_of (map call_of c.append_all.new.system.history) p c.args.programs yielded
     (into_iter_items c.next.new.self) c.in-Some.commands did.done did.left did.next all did.all number calls in
-    let begins : BeginsCalls (map call_of c.run_program.new.desk.system.history) 0 c.args.programs = (
+    let begins : BeginsCalls (map call_of c.append_all.new.system.history) 0 c.args.programs = (
       (p, did.next)
           ∷ left.0,
       left.1,
     ) in
     on_err _ _ begins
 
-pub returns-in_err-run_program-clause-refused : goal.returns-in_err-run_program-clause-refused
-returns-in_err-run_program-clause-refused g c =
+pub returns-in_err-append_all-clause-refused : goal.returns-in_err-append_all-clause-refused
+returns-in_err-append_all-clause-refused g c =
     let before = c.loop-commands.invariant in
     let yielded = c.loop-commands.yielded in
-    let did = c.in_err-run_program.ensures.stops in
-    let p : ℕ = c.unwrap-desk.result in
+    let did = c.in_err-append_all.ensures.stops in
+    let p : ℕ = c.unwrap.result in
     let number : p ≡ 0 + length yielded = search rules in
     let all = ap (λ (programs : List (List Command)). yielded ++ programs) (sym c.in-Some.ensures.steps.0)
     ∙ before.all in
     let calls = did.came.calls ∙ ap (λ (cs : List (ℕ × Command)). cs ++ calls_of p did.done) before.calls in
-    let left = left_of (map call_of c.run_program.new.desk.system.history) p c.args.programs yielded
+    let left = left_of (map call_of c.append_all.new.system.history) p c.args.programs yielded
     (into_iter_items c.next.new.self) c.in-Some.commands did.done did.left did.next all did.all number calls in
-    let fewer = room_left c.run_program.new.desk.system.history c.args.programs (p, did.next) left.0 left.1 in
-    let room : c.run_program.new.desk.system.limit ≡ c.args.desk.now.system.limit = did.came.limit ∙ before.limit in
-    let other : c.in_err-run_program.field-0.0 ≢ apply.HistoryFull = λ is.
-    omega (arith, fewer, room, c.requires.room, c.in_err-run_program.ensures.full (ap Err is)) in
-    let fault = memory_left c.in_err-run_program.field-0.0 other in
+    let fewer = room_left c.append_all.new.system.history c.args.programs (p, did.next) left.0 left.1 in
+    let room : c.append_all.new.system.limit ≡ c.args.system.now.limit = did.came.limit ∙ before.limit in
+    let other : c.in_err-append_all.field-0.0 ≢ apply.HistoryFull = λ is.
+    omega (arith, fewer, room, c.requires.room, c.in_err-append_all.ensures.full (ap Err is)) in
+    let fault = memory_left c.in_err-append_all.field-0.0 other in
     search rules
 
 pub push_reserved-requires : goal.push_reserved-requires

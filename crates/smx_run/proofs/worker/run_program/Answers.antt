@@ -1,34 +1,15 @@
-use Rattle.std.proofs.Common.{rules, ◌∷◌, ◌++◌, [], List, ap, sym, subst, ◌∙◌, arith}
-use Rattle.std.specs.Vec.Iter.{into_iter_items}
-use Rattle.std.proofs.lemmas.List.{append-nil, length-append}
-use Rattle.smx_types.specs.declared.command.Command.{Command}
-use Rattle.smx_run.specs.Desks.{StopsAmong}
-use Rattle.smx_run.proofs.RunLemmas.{next_taken}
-use Rattle.smx_run.proofs.StopLemmas.{on_err}
+use Rattle.std.proofs.Common.{rules, ◌∷◌, [], ap, ◌∙◌, arith}
+use Rattle.std.proofs.lemmas.List.{length-append}
+use Rattle.smx_run.proofs.FullHistoryLemmas.{handed_on}
+use Rattle.smx_run.proofs.RunLemmas.{called_more, called_none, next_taken}
 use Rattle.smx_run.proofs.worker.run_program.Goals as goal
-
-pub returns-in_err-outcome-clause-stops : goal.returns-in_err-outcome-clause-stops
-returns-in_err-outcome-clause-stops g c =
-    let before = c.loop-command.invariant in
-    let done = c.loop-command.yielded in
-    let stops : StopsAmong g.K.Desk.performed c.args.desk.now c.args.commands c.perform-outcome.new.self =
-    record {
-      done = done;
-      next = c.in-Some.command;
-      left = into_iter_items c.next.new.self;
-      all = ap (λ (cs : List Command). done ++ cs) (sym c.in-Some.ensures.steps.0) ∙ before.all;
-      came = subst (λ (cs : List Command). g.K.Desk.performed c.args.desk.now cs c.perform-outcome.new.self)
-          (append-nil done)
-          (g.met.K.Desk.performed_more _ _ _ _ _ before.performed c.in_err-outcome.ensures.none);
-    } in
-    on_err _ _ stops
 
 pub loop-command-preserved : goal.loop-command-preserved
 loop-command-preserved g c =
-    let before = c.loop-command.invariant in record {
-      whose = c.perform-outcome.ensures.whose ∙ before.whose;
-      ready = c.perform-outcome.ensures.ready;
-      performed = g.met.K.Desk.performed_more _ _ _ _ _ before.performed c.in_ok-outcome.ensures.performed;
+    let before = c.loop-command.invariant in
+    record {
+      seat = c.perform-outcome.ensures.seat;
+      called = called_more _ _ _ _ _ before.called c.perform-outcome.ensures.seen c.in_ok-outcome.ensures.added;
       numbered = omega (arith, before.numbered, length-append c.loop-command.yielded (c.in-Some.command ∷ []));
       all = next_taken _ _ _ _ _ before.all c.in-Some.ensures.steps.0;
       left = search rules;

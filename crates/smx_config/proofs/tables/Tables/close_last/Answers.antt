@@ -22,8 +22,8 @@ returns-then-not-is_upper c =
     let old = configuration_of c.self.inside.lists in
     let sound = sound_inside c.self.inside c.args.self.now c.self.view_is c.requires.sound in
     closes_last c.self.inside c.args.self.now c.args.process c.args.fd c.close_fd-gone.new.self
-    c.deref-then-not-is_upper.result.now _ c.sweep_alone_and_reply.result c.self.view_is c.self.invariant c.close_fd-gone.ensures.rest
-    c.deref-then-not-is_upper.ensures.value c.sweep_alone_and_reply.ensures.value
+    c.deref-then-not-is_upper.result.now _ c.sweep_alone_and_reply.result c.self.view_is c.self.invariant
+    c.close_fd-gone.ensures.rest c.deref-then-not-is_upper.ensures.value c.sweep_alone_and_reply.ensures.value
     (c.sweep_alone_and_reply.ensures.reply old.flow sound.serials.apart
     (none_dropped old.flow c.in_ok-room.room.items c.in_ok-room.ensures.items))
 
