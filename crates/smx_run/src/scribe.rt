@@ -6,7 +6,8 @@ ghost use Rattle.smx_types.specs.declared.limits.TheConstants.{MAX_COMMANDS};
 use crate::past::Past;
 use crate::recorder::Recorder;
 use smx_shared::Keeper;
-use smx_types::{Entries, Entry, NoMemory};
+use smx_types::{Command, Entries, Entry, NoMemory, Process, Reply};
+use std::alloc::Global;
 use std::marker::{Brand, Model, PhantomData};
 
 /// Which version and which drivers a recorder was told of first. No value of it is made.
@@ -29,8 +30,8 @@ impl About for Brand {
     ghost drivers = { [] };
 }
 
-/// A recorder that is told of each entry as it is added; then the entry is given up. Where the recorder wants memory,
-/// that is given up too, and memory is wanting before the next command and at the end. Contracts see the entries so far,
+/// A recorder that is told of each entry as it is added, and of which nothing else is kept. Where the recorder wants
+/// memory, it is given up, and memory is wanting before the next command and at the end. Contracts see the entries so far,
 /// and whether the recorder is still there.
 #[derive(Drop)]
 pub struct Scribe<A: About, K: Recorder> {
@@ -73,14 +74,16 @@ impl<A: About, K: Recorder> Scribe<A, K> {
     }
 
     // Tells the recorder of an entry, if it is still there.
-    fn tell(&mut self, entry: &Entry)
+    fn tell(&mut self, process: Process, command: &Command, reply: &Reply)
         requires few { length self.old.entries < MAX_COMMANDS }
-        ensures { self.new.entries ≡ self.old.entries ++ entry.now ∷ [] }
+        ensures { self.new.entries ≡ self.old.entries
+            ++ record { process = process; command = command.now; reply = reply.now } ∷ [] }
     {
-        self.told = Past::new(&(&self.told, entry));
+        let entry: Past<Entry> = Past::new(&(process, command, reply));
+        self.told = Past::new(&(&self.told, &entry));
         self.count += 1;
         if let Some(recorder) = &mut self.recorder {
-            let outcome = recorder.add(entry.process, &entry.command, &entry.reply);
+            let outcome = recorder.add(process, command, reply);
             if outcome.is_err() {
                 self.recorder = None;
             }
@@ -90,6 +93,9 @@ impl<A: About, K: Recorder> Scribe<A, K> {
 
 impl<A: About, K: Recorder> Keeper for Scribe<A, K> {
     ghost use Rattle.std.specs.Prelude.{◌≡◌, true};
+
+    // Nothing: the recorder is told while the command is there.
+    ghost keeps = { λ _ _. Unit {0} };
 
     ghost told = { λ s. s.entries };
 
@@ -106,7 +112,11 @@ impl<A: About, K: Recorder> Keeper for Scribe<A, K> {
         }
     }
 
-    fn add(&mut self, entry: Entry) {
-        self.tell(&entry);
+    fn keep(_alloc: Global, _command: &Command) -> Result<Option<Command>, NoMemory> {
+        Ok(None)
+    }
+
+    fn add(&mut self, process: Process, command: &Command, _kept: Option<Command>, reply: Reply) {
+        self.tell(process, command, &reply);
     }
 }

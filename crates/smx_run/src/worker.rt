@@ -7,7 +7,7 @@ ghost use Rattle.smx_run.specs.Hands.{SomeKnowsItFull};
 
 use crate::gate::Gate;
 use smx_shared::{ApplyFault, Door, Front};
-use smx_types::Commands;
+use smx_types::{Command, Commands};
 use std::alloc::Global;
 use std::sync::Wait;
 
@@ -64,7 +64,7 @@ where
     ensures full { IsErrOf result apply.HistoryFull → SomeKnowsItFull (D.is_seat door.now) D.known }
 {
     let SeatedProgram { mut seat, commands } = job;
-    run_program(rt, alloc, door, &mut seat, commands, gate)?;
+    run_program(rt, alloc, door, &mut seat, commands.as_slice(), gate)?;
     let front = door.glance(&mut seat);
     Ok(EndedProgram { seat, front })
 }
@@ -76,19 +76,19 @@ fn run_program<D: Door, G: Gate, R: Wait>(
     alloc: Global,
     door: &D,
     seat: &mut D::Seat,
-    commands: Commands,
+    commands: &[Command],
     gate: &G,
 ) -> Result<(), ApplyFault>
 where
     D::Seat: Drop,
     requires { D.is_seat door.now seat.old }
     ensures seat { D.is_seat door.now seat.new }
-    ensures called { OnOk result (HasCalled (D.known seat.old) commands (D.known seat.new)) }
+    ensures called { OnOk result (HasCalled (D.known seat.old) commands.now (D.known seat.new)) }
     ensures full { IsErrOf result apply.HistoryFull → KnowsItFull (D.known seat.new) }
 {
     let process = D::process(seat);
     let mut number = 0;
-    for command in commands.into_vec() {
+    for command in commands {
         gate.before(process, number);
         let outcome = door.perform(rt, alloc, seat, command);
         gate.after(process, number);

@@ -45,21 +45,21 @@ pub trait Door {
         ensures answer { IfOk result (AnswersEntry (known seat.old) (known seat.new) command.now) }
         ensures refused { IfErr result (Refuses (known seat.old) (known seat.new)) };
 
-    /// The same for a command that is given up, whose entry nobody asks for.
+    /// The same for a command whose entry nobody asks for.
     fn perform<R: Wait>(
         &self,
         rt: &R,
         alloc: Global,
         seat: &mut Self::Seat,
-        command: Command,
+        command: &Command,
     ) -> Result<(), ApplyFault>
         requires { is_seat self.now seat.old }
         ensures seat { is_seat self.now seat.new }
         ensures seen { HasSeenMore (known seat.old) (known seat.new) }
-        ensures added { OnOk result (AddsEntry (known seat.old) (known seat.new) command) }
+        ensures added { OnOk result (AddsEntry (known seat.old) (known seat.new) command.now) }
         ensures refused { IfErr result (Refuses (known seat.old) (known seat.new)) }
     {
-        self.call(rt, alloc, seat, &command)?;
+        self.call(rt, alloc, seat, command)?;
         Ok(())
     }
 

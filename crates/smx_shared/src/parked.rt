@@ -59,13 +59,13 @@ impl<K: Keeper> Parked<K> {
         self.system.apply(process, command)
     }
 
-    /// `System::append`.
-    pub fn append(&mut self, process: Process, command: Command) -> Result<(), ApplyFault>
-        ensures ok { OnOk result (self.new ≡ with_entry self.old process command) }
+    /// `System::perform`.
+    pub fn perform(&mut self, process: Process, command: &Command) -> Result<(), ApplyFault>
+        ensures ok { OnOk result (self.new ≡ with_entry self.old process command.now) }
         ensures full { IsErrOf result HistoryFull ↔ (length self.old.history ≡ self.old.limit) }
         ensures err { OnErr result (self.new ≡ self.old) }
         ensures sound { IsSoundSystem self.new }
     {
-        self.system.append(process, command)
+        self.system.perform(process, command)
     }
 }

@@ -193,18 +193,18 @@ impl<K: Keeper> Door for Shared<K> {
         rt: &R,
         _alloc: Global,
         seat: &mut Seat<K>,
-        command: Command,
+        command: &Command,
     ) -> Result<(), ApplyFault>
         requires { seat.old.shared ≡ self.now.name }
         ensures rests { Rests seat.old seat.new }
         ensures met { seat.new.met ≡ seat.old.met }
         ensures seen { HasSeenMore seat.old.known seat.new.known }
-        ensures added { OnOk result (AddsEntry seat.old.known seat.new.known command) }
+        ensures added { OnOk result (AddsEntry seat.old.known seat.new.known command.now) }
         ensures refused { IfErr result (Refuses seat.old.known seat.new.known) }
     {
         self.turns.take(rt, &mut seat.token);
         self.turns
-            .serve_given(&mut seat.token, seat.process, command)
+            .serve_unanswered(&mut seat.token, seat.process, command)
     }
 
     fn glance(&self, seat: &mut Seat<K>) -> Front

@@ -107,6 +107,27 @@ impl System {
         Entries::from_vec(kept)
     }
 
+    /// Performs one command as `perform` does, and moves it into the history, so that nothing is copied.
+    pub fn append(&mut self, process: Process, command: Command) -> Result<(), ApplyFault>
+        // What it does.
+        ensures ok { OnOk result (self.new ≡ with_entry self.old process command) }
+        // What is refused.
+        ensures full { IsErrOf result HistoryFull ↔ (length self.old.history ≡ self.old.limit) }
+        ensures err { OnErr result (self.new ≡ self.old) }
+        // What it is afterwards, either way.
+        ensures sound { IsSoundSystem self.new }
+    {
+        lawful_after_each_entry();
+        make_room(&mut self.kept, self.limit)?;
+        let reply = self.config.step(process, &command)?;
+        self.kept.push_reserved(Entry {
+            process,
+            command,
+            reply,
+        });
+        Ok(())
+    }
+
     /// The same system again, by the allocator that this one has. Fails only for want of memory.
     pub fn copy(&self) -> Result<System, NoMemory>
         ensures { IfOk result (λ s. s ≡ self.now) }
@@ -159,14 +180,10 @@ impl<K: Keeper> System<K> {
     {
         lawful_after_each_entry();
         make_room(&mut self.kept, self.limit)?;
-        let kept = command.copy(self.alloc)?;
+        let kept = K::keep(self.alloc, command)?;
         let command_again = command.copy(self.alloc)?;
         let (reply, reply_again) = self.config.step_twin(process, command)?;
-        self.kept.add(Entry {
-            process,
-            command: kept,
-            reply,
-        });
+        self.kept.add(process, command, kept, reply);
         Ok(Entry {
             process,
             command: command_again,
@@ -174,11 +191,10 @@ impl<K: Keeper> System<K> {
         })
     }
 
-    /// The same for a command that is given up: it is moved into the history, no entry is answered, and so nothing is
-    /// copied.
-    pub fn append(&mut self, process: Process, command: Command) -> Result<(), ApplyFault>
+    /// The same, where no entry is answered.
+    pub fn perform(&mut self, process: Process, command: &Command) -> Result<(), ApplyFault>
         // What it does.
-        ensures ok { OnOk result (self.new ≡ with_entry self.old process command) }
+        ensures ok { OnOk result (self.new ≡ with_entry self.old process command.now) }
         // What is refused.
         ensures full { IsErrOf result HistoryFull ↔ (length self.old.history ≡ self.old.limit) }
         ensures err { OnErr result (self.new ≡ self.old) }
@@ -187,12 +203,9 @@ impl<K: Keeper> System<K> {
     {
         lawful_after_each_entry();
         make_room(&mut self.kept, self.limit)?;
-        let reply = self.config.step(process, &command)?;
-        self.kept.add(Entry {
-            process,
-            command,
-            reply,
-        });
+        let kept = K::keep(self.alloc, command)?;
+        let reply = self.config.step(process, command)?;
+        self.kept.add(process, command, kept, reply);
         Ok(())
     }
 

@@ -224,23 +224,23 @@ impl<K: Keeper> TurnTable<K> {
         outcome
     }
 
-    /// The same for a command that is given up: nothing is copied, and no entry is answered.
-    pub fn serve_given(
+    /// The same, where no entry is answered.
+    pub fn serve_unanswered(
         &self,
         token: &mut Token<K>,
         process: Process,
-        command: Command,
+        command: &Command,
     ) -> Result<(), ApplyFault>
         requires table { token.old.table_id ≡ self.now.table.shared.table_id }
         requires turn { HasTurn token.old.me (Some (system_of token.old.me.0)) }
         requires named { (token.old.me.0.named ≡ true) × (token.old.me.0.process ≡ process) }
         ensures table { token.new.table_id ≡ token.old.table_id }
         ensures rest { RestsAfter token.old.me.0 token.new.me }
-        ensures added { OnOk result (AddsEntry (known_of token.old.me.0) (known_of token.new.me.0) command) }
+        ensures added { OnOk result (AddsEntry (known_of token.old.me.0) (known_of token.new.me.0) command.now) }
         ensures refused { IfErr result (Refuses (known_of token.old.me.0) (known_of token.new.me.0)) }
     {
         let mut system = self.take_out(token);
-        let outcome = system.append(process, command);
+        let outcome = system.perform(process, command);
         self.give_back(token, system);
         outcome
     }

@@ -63,9 +63,11 @@ fn links<R: AllocGlobal + Abort + Wait>(rt: &R, shared: &Shared, seat: &mut Seat
     requires { seat.old.shared ≡ shared.now.name }
     ensures { seat.new.shared ≡ shared.now.name }
 {
-    let opened = shared.perform(rt, rt.alloc(), seat, clone_of(rt, "ip"));
+    let clone = clone_of(rt, "ip");
+    let opened = shared.perform(rt, rt.alloc(), seat, &clone);
     assert!(rt; opened.is_ok());
-    let opened = shared.perform(rt, rt.alloc(), seat, clone_of(rt, "eth"));
+    let clone = clone_of(rt, "eth");
+    let opened = shared.perform(rt, rt.alloc(), seat, &clone);
     assert!(rt; opened.is_ok());
     let link = Command::Link { fd: 0, arg: 1 };
     gets(rt, shared, seat, &link, &Reply::Id(1));
@@ -96,7 +98,7 @@ fn is_full<R: AllocGlobal + Abort + Wait>(rt: &R, shared: &Shared, seat: &mut Se
     assert!(rt; fault == Some(ApplyFault::HistoryFull));
     let fault = shared.try_call(rt.alloc(), seat, &exit).err();
     assert!(rt; fault == Some(TryFault::HistoryFull));
-    let fault = shared.perform(rt, rt.alloc(), seat, exit).err();
+    let fault = shared.perform(rt, rt.alloc(), seat, &exit).err();
     assert!(rt; fault == Some(ApplyFault::HistoryFull));
     assert!(rt; shared.glance(seat) == front(5, 1, false));
 }

@@ -1,16 +1,23 @@
-use Rattle.std.proofs.Common.{rules, ◌∷◌, [], ap, ◌∙◌, arith}
-use Rattle.std.proofs.lemmas.List.{length-append}
-use Rattle.smx_run.proofs.FullHistoryLemmas.{handed_on}
-use Rattle.smx_run.proofs.RunLemmas.{called_more, called_none, next_taken}
+use Rattle.std.proofs.Common.{rules, ◌≡◌, ◌+◌, ◌∷◌, ◌++◌, [], List, ap, sym, take, ◌∙◌}
+use Rattle.std.proofs.lemmas.List.{take_more}
+use Rattle.smx_types.specs.declared.command.Command.{Command}
+use Rattle.smx_run.proofs.RunLemmas.{called_more, called_none}
 use Rattle.smx_run.proofs.worker.run_program.Goals as goal
+
+pub loop-command-init : goal.loop-command-init
+loop-command-init g c = record { seat = c.requires; called = called_none _; numbered = search rules }
 
 pub loop-command-preserved : goal.loop-command-preserved
 loop-command-preserved g c =
     let before = c.loop-command.invariant in
+    let index = c.loop-command.command-index in
+    let commands : List Command = c.args.commands.now in
+    let more : take (index + 1) commands ≡ take index commands ++ c.command-item.result ∷ [] =
+    take_more commands index c.command-item.result c.loop-command-test.true
+    ∙ ap (λ (x : Command). take index commands ++ x ∷ []) (sym c.command-item.is) in
     record {
       seat = c.perform-outcome.ensures.seat;
-      called = called_more _ _ _ _ _ before.called c.perform-outcome.ensures.seen c.in_ok-outcome.ensures.added;
-      numbered = omega (arith, before.numbered, length-append c.loop-command.yielded (c.in-Some.command ∷ []));
-      all = next_taken _ _ _ _ _ before.all c.in-Some.ensures.steps.0;
-      left = search rules;
+      called = rw more
+          (called_more _ _ _ _ _ before.called c.perform-outcome.ensures.seen c.in_ok-outcome.ensures.added);
+      numbered = search rules;
     }

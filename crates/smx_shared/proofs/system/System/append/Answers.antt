@@ -1,22 +1,17 @@
-use Rattle.std.proofs.Common.{◌≡◌, [], ◌∷◌, ◌++◌, ap, arith, length}
+use Rattle.std.proofs.Common.{◌≡◌, [], ◌∷◌, ◌++◌}
 use Rattle.smx_types.specs.declared.command.Entry.{Entry}
 use Rattle.smx_shared.proofs.RecordLemmas.{one_entry_more}
 use Rattle.smx_shared.proofs.system.System.append.Goals as goal
 
 pub invariant_of-self-2 : goal.invariant_of-self-2
-invariant_of-self-2 g c =
+invariant_of-self-2 c =
     let e : Entry = record { process = c.args.process; command = c.args.command; reply = c.in_ok-reply.reply } in
     let old = c.self.inside in
-    let told = g.K.Keeper.told in
-    let added : told c.add.new.self ≡ told old.kept ++ e ∷ [] = rw (← c.in_ok-make_room.ensures.same) c.add.ensures in
+    let added : c.push_reserved.new.self.items ≡ old.kept.items ++ e ∷ [] =
+    rw (← c.in_ok-make_room.ensures.same) c.push_reserved.ensures.items in
     let did = c.in_ok-reply.ensures in
-    one_entry_more c.lawful_after_each_entry.ensures old.config c.step.new.self old.limit (told old.kept)
-    (told c.add.new.self) e c.self.invariant c.in_ok-make_room.ensures.below did.drivers did.ok added
+    one_entry_more c.lawful_after_each_entry.ensures old.config c.step.new.self old.limit old.kept.items
+    c.push_reserved.new.self.items e c.self.invariant c.in_ok-make_room.ensures.below did.drivers did.ok added
 
 pub returns-clause-sound : goal.returns-clause-sound
-returns-clause-sound g c = (invariant_of-self-2 g c).sound
-
-pub add-requires-clause-few : goal.add-requires-clause-few
-add-requires-clause-few g c =
-    let made = c.in_ok-make_room.ensures in
-    omega (arith, made.below, c.self.invariant.sound.limited, ap length made.same)
+returns-clause-sound c = (invariant_of-self-2 c).sound
