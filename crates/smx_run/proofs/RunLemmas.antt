@@ -1,6 +1,7 @@
 -- What the workers have made, and how far each of them saw the history.
 use Rattle.std.proofs.Common.{◌≡◌, ◌≢◌, ℕ, zero, suc, ◌+◌, ◌<◌, ◌≤◌, false, List, [], ◌∷◌, ◌++◌, All, length, map}
-use Rattle.std.proofs.Common.{get_or, refl, ap, sym, subst, ◌∙◌, arith, inl, inr, append_assoc}
+use Rattle.std.proofs.Common.{drop, get_or, refl, ap, sym, subst, take, ◌∙◌, arith, inl, inr, append_assoc}
+use Rattle.std.proofs.Common.{take-append-drop}
 use Rattle.std.specs.Prelude.{◌==◌}
 use Rattle.std.proofs.lemmas.Bool.{cases_lt}
 use Rattle.std.proofs.lemmas.Bool.Decides.{nat_tests}
@@ -9,13 +10,16 @@ use Rattle.smx_types.specs.declared.command.Command.{Command}
 use Rattle.smx_types.specs.declared.command.Entry.{Entry}
 use Rattle.smx_types.specs.declared.driver.DriverSpec.{DriverSpec}
 use Rattle.smx_model.specs.Histories.{call_of, commands_of, HoldsPrograms}
-use Rattle.smx_shared.specs.Calls.{AddsEntry, HasSeenMore, EndsAs}
+use Rattle.smx_shared.specs.Calls.{AddsEntry, HasSeenMore, EndsAs, Refuses}
 use Rattle.smx_shared.specs.Fronts.{IsFrontOf}
 use Rattle.smx_shared.specs.Recorded.{Recorded}
 use Rattle.smx_shared.specs.Seats.{Known, Seated, SharedId, AreNamedBelow, GoesOnNamed, IsBeginningOf, IsMetBy}
 use Rattle.smx_shared.specs.Seats.{AreMetBy, entries_of, first_seat, met_seat}
 use Rattle.smx_shared.specs.declared.front.Front.{Front}
+use Rattle.smx_shared.specs.declared.shared_fault.ApplyFault.{ApplyFault}
+use Rattle.smx_shared.specs.declared.shared_fault.ApplyFault.TheVariants as apply
 use Rattle.smx_shared.specs.declared.seat_view.MetSeat.{MetSeat}
+use Rattle.smx_run.specs.Alone.{StopsAmong}
 use Rattle.smx_run.specs.Fronts.{IsFrontAfter, AreFrontsFrom}
 use Rattle.smx_run.specs.Hands.{called, calls_in, known_at, HasCalled, IsFresh, EndsAt}
 use Rattle.smx_run.specs.Meeting.{IsBorneOutBy}
@@ -152,6 +156,31 @@ called_more a b c commands command was more added =
       calls = map_behind (λ (each : Command). (a.process, each)) (calls_in a.own) (calls_in b.own) (calls_in c.own)
           commands command was.calls (own ∙ ap (λ (call : ℕ × Command). calls_in b.own ++ call ∷ []) one);
     }
+
+-- or a look, or a command that was refused
+pub called_same : (a b c : Known) (commands : List Command) → HasCalled a commands b → HasSeenMore b c → c.own ≡ b.own
+    → HasCalled a commands c
+called_same a b c commands was more same =
+    record { process = more.process ∙ was.process; calls = ap calls_in same ∙ was.calls }
+
+-- a call that is refused has added nothing
+pub none_added : (old new : Known) (fault : ApplyFault) → Refuses old new fault → new.own ≡ old.own
+none_added old new apply.HistoryFull refused = refused.0
+none_added old new apply.NoMemory refused = refused.0
+
+-- what was performed of some commands, where the next one is not
+pub stops_at : (a b : Known) (commands : List Command) (index : ℕ) (next : Command)
+    → take (index + 1) commands ≡ take index commands ++ next ∷ [] → HasCalled a (take index commands) b
+    → StopsAmong HasCalled a commands b
+stops_at a b commands index next more was = record {
+  done = take index commands;
+  next = next;
+  left = drop (index + 1) commands;
+  all = sym (append_assoc (take index commands) (next ∷ []) (drop (index + 1) commands))
+      ∙ ap (λ (some : List Command). some ++ drop (index + 1) commands) (sym more)
+      ∙ take-append-drop (index + 1) commands;
+  came = was;
+}
 
 -- none yet
 pub called_none : (a : Known) → HasCalled a [] a

@@ -1,8 +1,8 @@
-//! Systems: how they play a worked history, commands that are given up, and their copies.
+//! Systems: how they play a worked history, commands that are given up or lent, and their copies.
 
 use super::made::{clone_of, numbered, read, system_over, tells_of_want};
 use smx_shared::{ApplyFault, System};
-use smx_types::{Entry, Transcript};
+use smx_types::{Command, Entry, Transcript};
 use std::mem::forget;
 use std::process::Abort;
 
@@ -58,6 +58,13 @@ fn appends(rt: &(impl Abort + AllocGlobal), system: &mut System, entries: &[Entr
     }
 }
 
+// The commands of these entries are lent.
+fn performs(rt: &impl Abort, system: &mut System, entries: &[Entry]) {
+    for entry in entries {
+        assert!(rt; system.perform(entry.process, &entry.command).is_ok());
+    }
+}
+
 fn has(rt: &impl Abort, system: &System, want: &Transcript) {
     assert!(rt; system.entries() == want.entries.as_slice());
     assert!(rt; system.config().shows(&want.view));
@@ -76,6 +83,20 @@ fn commands_that_are_given_up(rt: HostRuntime) {
     appends(&rt, &mut system, want.entries.as_slice());
     has(&rt, &system, &want);
     copy_has(&rt, &system, &want);
+    forget(want);
+    forget(system);
+}
+
+#[test]
+fn commands_that_are_lent(rt: HostRuntime) {
+    let want = read(&rt, THREE);
+    let mut system = system_over(&rt, want.drivers.as_slice(), 3);
+    performs(&rt, &mut system, want.entries.as_slice());
+    has(&rt, &system, &want);
+    let exit = Command::CloseAll;
+    let fault = system.perform(numbered(&rt, 0), &exit).err();
+    assert!(rt; fault == Some(ApplyFault::HistoryFull));
+    has(&rt, &system, &want);
     forget(want);
     forget(system);
 }
