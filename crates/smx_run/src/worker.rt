@@ -8,7 +8,7 @@ ghost use Rattle.smx_run.specs.Hands.{SomeKnowsItFull};
 
 use crate::gate::Gate;
 use smx_shared::{ApplyFault, Door, Front};
-use smx_types::{Command, Commands};
+use smx_types::Commands;
 use std::alloc::Global;
 use std::sync::Wait;
 
@@ -65,7 +65,7 @@ where
     ensures full { IsErrOf result apply.HistoryFull → SomeKnowsItFull (D.is_seat door.now) D.known }
 {
     let SeatedProgram { mut seat, commands } = job;
-    run_program(rt, alloc, door, &mut seat, commands.as_slice(), gate)?;
+    run_program(rt, alloc, door, &mut seat, commands, gate)?;
     let front = door.glance(&mut seat);
     Ok(EndedProgram { seat, front })
 }
@@ -77,22 +77,22 @@ fn run_program<D: Door, G: Gate, R: Wait>(
     alloc: Global,
     door: &D,
     seat: &mut D::Seat,
-    commands: &[Command],
+    commands: Commands,
     gate: &G,
 ) -> Result<(), ApplyFault>
 where
     D::Seat: Drop,
     requires { D.is_seat door.now seat.old }
     ensures seat { D.is_seat door.now seat.new }
-    ensures called { OnOk result (HasCalled (D.known seat.old) commands.now (D.known seat.new)) }
-    ensures stops { OnErr result (StopsAmong HasCalled (D.known seat.old) commands.now (D.known seat.new)) }
+    ensures called { OnOk result (HasCalled (D.known seat.old) commands (D.known seat.new)) }
+    ensures stops { OnErr result (StopsAmong HasCalled (D.known seat.old) commands (D.known seat.new)) }
     ensures full { IsErrOf result apply.HistoryFull → KnowsItFull (D.known seat.new) }
 {
     let process = D::process(seat);
     let mut number = 0;
-    for command in commands {
+    for command in commands.into_vec() {
         gate.before(process, number);
-        let outcome = door.perform(rt, alloc, seat, command);
+        let outcome = door.perform(rt, alloc, seat, &command);
         gate.after(process, number);
         outcome?;
         number += 1;

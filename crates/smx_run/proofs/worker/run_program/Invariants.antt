@@ -1,10 +1,13 @@
-use Rattle.std.proofs.Common.{◌≡◌, take}
+use Rattle.std.proofs.Common.{◌≡◌, ◌++◌, length}
+use Rattle.std.specs.Vec.Iter.{into_iter_items, into_iter_len}
 use Rattle.smx_run.specs.Hands.{HasCalled}
 use Rattle.smx_run.proofs.worker.run_program.Given as goal
 
 abbrev pub invariant-loop-command : goal.invariant-loop-command
 invariant-loop-command g l = record {
   seat : g.D.Door.is_seat l.door l.seat;
-  called : HasCalled (g.D.Door.known l.fn.seat) (take l.command-index l.commands) (g.D.Door.known l.seat);
-  numbered : l.number ≡ l.command-index;
+  called : HasCalled (g.D.Door.known l.fn.seat) l.yielded (g.D.Door.known l.seat);
+  numbered : l.number ≡ length l.yielded;
+  all : l.yielded ++ into_iter_items l.command-iterator ≡ l.fn.commands;
+  left : into_iter_len l.command-iterator ≡ length (into_iter_items l.command-iterator);
 }
