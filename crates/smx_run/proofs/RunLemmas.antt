@@ -9,12 +9,14 @@ use Rattle.smx_types.specs.declared.command.Command.{Command}
 use Rattle.smx_types.specs.declared.command.Entry.{Entry}
 use Rattle.smx_types.specs.declared.driver.DriverSpec.{DriverSpec}
 use Rattle.smx_model.specs.Histories.{call_of, commands_of, HoldsPrograms}
-use Rattle.smx_shared.specs.Calls.{AddsEntry, HasSeenMore, EndsAs}
+use Rattle.smx_shared.specs.Calls.{AddsEntry, HasSeenMore, EndsAs, Refuses}
 use Rattle.smx_shared.specs.Fronts.{IsFrontOf}
 use Rattle.smx_shared.specs.Recorded.{Recorded}
 use Rattle.smx_shared.specs.Seats.{Known, Seated, SharedId, AreNamedBelow, GoesOnNamed, IsBeginningOf, IsMetBy}
 use Rattle.smx_shared.specs.Seats.{AreMetBy, entries_of, first_seat, met_seat}
 use Rattle.smx_shared.specs.declared.front.Front.{Front}
+use Rattle.smx_shared.specs.declared.shared_fault.ApplyFault.{ApplyFault}
+use Rattle.smx_shared.specs.declared.shared_fault.ApplyFault.TheVariants as apply
 use Rattle.smx_shared.specs.declared.seat_view.MetSeat.{MetSeat}
 use Rattle.smx_run.specs.Fronts.{IsFrontAfter, AreFrontsFrom}
 use Rattle.smx_run.specs.Hands.{called, calls_in, known_at, HasCalled, IsFresh, EndsAt}
@@ -152,6 +154,17 @@ called_more a b c commands command was more added =
       calls = map_behind (λ (each : Command). (a.process, each)) (calls_in a.own) (calls_in b.own) (calls_in c.own)
           commands command was.calls (own ∙ ap (λ (call : ℕ × Command). calls_in b.own ++ call ∷ []) one);
     }
+
+-- or none, by a command that was refused
+pub called_same : (a b c : Known) (commands : List Command) → HasCalled a commands b → HasSeenMore b c → c.own ≡ b.own
+    → HasCalled a commands c
+called_same a b c commands was more same =
+    record { process = more.process ∙ was.process; calls = ap calls_in same ∙ was.calls }
+
+-- a call that is refused has added nothing
+pub none_added : (old new : Known) (fault : ApplyFault) → Refuses old new fault → new.own ≡ old.own
+none_added old new apply.HistoryFull refused = refused.0
+none_added old new apply.NoMemory refused = refused.0
 
 -- none yet
 pub called_none : (a : Known) → HasCalled a [] a

@@ -1,7 +1,8 @@
 //! A worker: the processes that one thread runs.
 
-ghost use Rattle.std.specs.Prelude.{◌≡◌, All, map, IfOk, OnOk, IsErrOf};
+ghost use Rattle.std.specs.Prelude.{◌≡◌, All, map, IfOk, OnOk, OnErr, IsErrOf};
 ghost use Rattle.smx_shared.specs.declared.shared_fault.ApplyFault.TheVariants as apply;
+ghost use Rattle.smx_run.specs.Alone.{StopsAmong};
 ghost use Rattle.smx_run.specs.Hands.{given, called, HasCalled, IsToRunWith, HasEndedWith, KnowsItFull};
 ghost use Rattle.smx_run.specs.Hands.{SomeKnowsItFull};
 
@@ -84,6 +85,7 @@ where
     requires { D.is_seat door.now seat.old }
     ensures seat { D.is_seat door.now seat.new }
     ensures called { OnOk result (HasCalled (D.known seat.old) commands (D.known seat.new)) }
+    ensures stops { OnErr result (StopsAmong HasCalled (D.known seat.old) commands (D.known seat.new)) }
     ensures full { IsErrOf result apply.HistoryFull → KnowsItFull (D.known seat.new) }
 {
     let process = D::process(seat);
