@@ -142,6 +142,10 @@ map_behind f base xs more ys y before added =
     added ∙ ap (λ l. l ++ f y ∷ []) before ∙ append_assoc base (map f ys) (f y ∷ [])
     ∙ ap (λ l. base ++ l) (sym (map-append f ys (y ∷ [])))
 
+-- a process that has made nothing since has called nothing
+pub called_none : (a : Known) → HasCalled a [] a
+called_none a = record { process = refl; calls = sym (append-nil (calls_in a.own)) }
+
 -- what was called with a seat, and one command more
 pub called_more : (a b c : Known) (commands : List Command) (command : Command) → HasCalled a commands b
     → HasSeenMore b c → AddsEntry b c command → HasCalled a (commands ++ command ∷ []) c
@@ -155,20 +159,16 @@ called_more a b c commands command was more added =
           commands command was.calls (own ∙ ap (λ (call : ℕ × Command). calls_in b.own ++ call ∷ []) one);
     }
 
--- or none, by a command that was refused
-pub called_same : (a b c : Known) (commands : List Command) → HasCalled a commands b → HasSeenMore b c → c.own ≡ b.own
-    → HasCalled a commands c
-called_same a b c commands was more same =
-    record { process = more.process ∙ was.process; calls = ap calls_in same ∙ was.calls }
-
 -- a call that is refused has added nothing
 pub none_added : (old new : Known) (fault : ApplyFault) → Refuses old new fault → new.own ≡ old.own
 none_added old new apply.HistoryFull refused = refused.0
 none_added old new apply.NoMemory refused = refused.0
 
--- none yet
-pub called_none : (a : Known) → HasCalled a [] a
-called_none a = record { process = refl; calls = sym (append-nil (calls_in a.own)) }
+-- what was called with a seat stays so where it has made nothing since
+pub called_same : (a b c : Known) (commands : List Command) → HasCalled a commands b → HasSeenMore b c → c.own ≡ b.own
+    → HasCalled a commands c
+called_same a b c commands was more same =
+    record { process = more.process ∙ was.process; calls = ap calls_in same ∙ was.calls }
 
 -- ---- the whole history
 

@@ -41,10 +41,12 @@ alone_more process a b c commands command was is =
       limit = was.limit;
       begins = (
         was.begins.0 ++ entry ∷ [],
-        sym (append_assoc a.history was.begins.0 (entry ∷ [])) ∙ ap (λ (es : List Entry). es ++ entry ∷ []) was.begins.1,
+        sym (append_assoc a.history was.begins.0 (entry ∷ []))
+            ∙ ap (λ (es : List Entry). es ++ entry ∷ []) was.begins.1,
       );
-      calls = map_behind (λ (c : Command). (process, c)) (map call_of a.history) (map call_of b.history)
-          (map call_of (b.history ++ entry ∷ [])) commands command was.calls (map-append call_of b.history (entry ∷ []));
+      calls = map_behind (λ (each : Command). (process, each)) (map call_of a.history) (map call_of b.history)
+          (map call_of (b.history ++ entry ∷ [])) commands command was.calls
+          (map-append call_of b.history (entry ∷ []));
     })
 
 -- what is asked by some programs, and then by those behind them

@@ -27,7 +27,7 @@ called known done = ((known done.seat).process, calls_in (known done.seat).own)
 abbrev pub KnowsItFull : Known → Type 0
 KnowsItFull k = length k.seen ≡ k.limit
 
--- the same process has made these commands more
+-- these are the commands that the same process has made since
 pub record HasCalled (old : Known) (commands : List Command) (new : Known) : Type 0 where
   pub process : new.process ≡ old.process
   pub calls : calls_in new.own ≡ calls_in old.own ++ calls_of old.process commands

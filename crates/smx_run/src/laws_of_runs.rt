@@ -80,26 +80,33 @@ pub fn stops_of_an_example()
     ensures not_behind_another { StopsAmong KeepsBehind [] (OpenClone ip ∷ Dup 0 ∷ []) (Dup 0 ∷ []) → ⊥ }
 {}
 
-/// A process has called the commands of the entries that were made with its seat, in order: none more, no other, and
-/// none where it saw the entry and didn't make it. Nor has another process.
+/// Between two moments a process has called the commands of the entries that were made with its seat in between, in their
+/// order: no fewer, no other, and none for an entry that was only seen. The process is the same.
 pub fn what_a_process_has_called()
     ensures one { HasCalled (knows 0 0 9) (OpenClone ip ∷ []) (knows 0 1 9) }
     ensures none { HasCalled (knows 1 0 9) [] (knows 1 1 9) }
+    ensures behind { HasCalled (knows 0 1 9) (Dup 0 ∷ []) (knows 0 3 9) }
+    ensures in_order { HasCalled (knows 0 0 9) (OpenClone ip ∷ Dup 0 ∷ []) (knows 0 3 9) }
+    ensures not_in_another_order { HasCalled (knows 0 0 9) (Dup 0 ∷ OpenClone ip ∷ []) (knows 0 3 9) → ⊥ }
     ensures not_none { HasCalled (knows 0 0 9) [] (knows 0 1 9) → ⊥ }
     ensures not_another { HasCalled (knows 0 0 9) (CloseAll ∷ []) (knows 0 1 9) → ⊥ }
     ensures not_unmade { HasCalled (knows 0 0 9) (OpenClone ip ∷ []) idle → ⊥ }
     ensures not_elsewhere { HasCalled (knows 0 0 9) [] (knows 1 0 9) → ⊥ }
 {}
 
-/// A process is to be run with a seat of the door, here of process 0, with which nothing was called yet; and has ended
-/// with such a seat that knows all of its entries, with the front that was seen then.
+/// A process is to be run with a seat of the door, here of one process, with which nothing was called yet, whatever was
+/// seen. It has ended with a seat of the door that knows all of its entries, and with the front that was seen then.
 pub fn what_is_to_be_run_and_what_has_ended()
     ensures to_run { IsToRunWith (λ k. k.process ≡ 0) (λ k. k) (record { seat = knows 0 0 9; commands = [] }) }
+    ensures to_run_behind { IsToRunWith (λ k. k.process ≡ 0) (λ k. k)
+        (record { seat = idle; commands = OpenClone ip ∷ [] }) }
     ensures not_again { IsToRunWith (λ k. k.process ≡ 0) (λ k. k) (record { seat = knows 0 1 9; commands = [] }) → ⊥ }
     ensures not_elsewhere { IsToRunWith (λ k. k.process ≡ 0) (λ k. k) (record { seat = knows 1 0 9; commands = [] })
         → ⊥ }
     ensures ended { HasEndedWith (λ k. k.process ≡ 0) (λ k. k)
         (record { seat = knows 0 1 9; front = front 1 0 false }) }
+    ensures ended_among_others { HasEndedWith (λ k. k.process ≡ 1) (λ k. k)
+        (record { seat = knows 1 1 9; front = front 1 0 false }) }
     ensures not_ended_idle { HasEndedWith (λ k. k.process ≡ 0) (λ k. k)
         (record { seat = idle; front = front 1 0 false }) → ⊥ }
     ensures not_ended_elsewhere { HasEndedWith (λ k. k.process ≡ 0) (λ k. k)
@@ -111,6 +118,7 @@ pub fn what_is_to_be_run_and_what_has_ended()
 /// A history of one entry is known to be full where it may have one, and not where it may have two.
 pub fn a_full_history_of_an_example()
     ensures full { KnowsItFull (knows 0 1 1) }
+    ensures full_by_others { KnowsItFull (knows 1 1 1) }
     ensures not_full { KnowsItFull (knows 0 1 2) → ⊥ }
 {}
 

@@ -79,7 +79,7 @@ fn new_system(alloc: Global, drivers: &[DriverSpec], entries: usize) -> Result<S
 fn run_all<R: Threads + Wait + Sync, G: Gate + Sync>(
     rt: &R,
     alloc: Global,
-    system: System,
+    mut system: System,
     programs: ProgramList,
     workers: usize,
     gate: &G,
@@ -97,7 +97,6 @@ fn run_all<R: Threads + Wait + Sync, G: Gate + Sync>(
 {
     let hands = workers.min(programs.as_slice().len());
     if hands < 2 {
-        let mut system = system;
         let fronts = run_alone(alloc, &mut system, programs, gate)?;
         return Ok((system, fronts));
     }
