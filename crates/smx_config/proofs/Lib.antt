@@ -1,12 +1,6 @@
-pub mod DescriptorLemmas
-pub mod DroppedLemmas
-pub mod ReplyLemmas
-pub mod KnownLemmas
-pub mod SendLemmas
-pub mod LookupLemmas
+pub mod AlikeLemmas
 pub mod DriverFaultLemmas
 pub mod VerdictLemmas
-pub mod AcceptedLemmas
 pub mod RunMarkLemmas
 pub mod NeededLemmas
 pub mod WakeLemmas
@@ -19,6 +13,3 @@ pub mod MoveLemmas
 pub mod WayLemmas
 pub mod RowLemmas
 pub mod NextPlaceLemmas
-pub mod DoneLemmas
-pub mod ClosingLemmas
-pub mod TablesLemmas

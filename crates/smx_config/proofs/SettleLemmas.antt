@@ -3,7 +3,7 @@ use Rattle.std.proofs.Common.{◌≡◌, ℕ, zero, suc, ◌-◌, ◌<◌, List,
 use Rattle.smx_types.specs.declared.driver.DriverSpec.{DriverSpec}
 use Rattle.smx_types.specs.declared.stream.Place.{Place}
 use Rattle.smx_model.specs.Configuration.{Configuration}
-use Rattle.smx_config.specs.Machine.{Machine}
+use Rattle.smx_commands.specs.Machine.{Machine}
 use Rattle.smx_model.specs.Settling.{least_movable, after_move, after_settling_within}
 
 -- one round, by what the least movable place is

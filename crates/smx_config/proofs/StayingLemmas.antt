@@ -23,7 +23,8 @@ use Rattle.smx_model.specs.Queues.{first_message}
 use Rattle.smx_model.specs.RunMarks.{next_of, next_of_first}
 use Rattle.smx_model.specs.Standing.{is_below}
 use Rattle.smx_model.specs.TurnedPlaces.{of_stream, read_side, write_side}
-use Rattle.smx_config.proofs.AcceptedLemmas.{bound, free_says, leaf_says, read_alike}
+use Rattle.smx_commands.proofs.AcceptedLemmas.{bound, free_says, leaf_says}
+use Rattle.smx_config.proofs.AlikeLemmas.{read_alike}
 use Rattle.smx_queues.proofs.PlaceLemmas.{place_is}
 
 -- ---- what an accepted lookup says

@@ -22,12 +22,13 @@ use Rattle.smx_model.specs.LoneMessages.{moved}
 use Rattle.smx_model.specs.Queues.{first_message}
 use Rattle.smx_model.specs.Settling.{after_move_to, next_place}
 use Rattle.smx_model.specs.TurnedPlaces.{read_side, write_side}
-use Rattle.smx_config.specs.Machine.{Machine}
-use Rattle.smx_config.specs.Refinement.{Refines}
-use Rattle.smx_config.specs.declared.step_error.StepError.{StepError}
+use Rattle.smx_commands.specs.Machine.{Machine}
+use Rattle.smx_commands.specs.Refinement.{Refines}
+use Rattle.smx_commands.specs.declared.step_error.StepError.{StepError}
 use Rattle.smx_config.specs.Ways.{AreWays, IsSameWay, IsWay, LeadAlike, WayList, keeps_ways}
 use Rattle.smx_config.specs.declared.ways.Way.{Way}
-use Rattle.smx_config.proofs.AcceptedLemmas.{bound, read_alike, received_alike, sent_alike}
+use Rattle.smx_commands.proofs.AcceptedLemmas.{bound}
+use Rattle.smx_config.proofs.AlikeLemmas.{read_alike, received_alike, sent_alike}
 
 -- ---- one more is noted
 

@@ -34,15 +34,15 @@ use Rattle.smx_model.specs.Standing.{exists, is_persistent}
 use Rattle.smx_model.specs.Swept.{IsSwept}
 use Rattle.smx_model.specs.TurnedPlaces.{of_stream, read_side, turned_by, write_side}
 use Rattle.smx_config.specs.declared.marks.Marks.{Marks}
-use Rattle.smx_config.specs.declared.step_error.StepError.{StepError}
-use Rattle.smx_config.specs.declared.step_error.StepError.TheVariants as step_error
+use Rattle.smx_commands.specs.declared.step_error.StepError.{StepError}
+use Rattle.smx_commands.specs.declared.step_error.StepError.TheVariants as step_error
 use Rattle.smx_config.specs.Marking.{AreMarks, IsWoken}
-use Rattle.smx_config.specs.Machine.{Machine}
-use Rattle.smx_config.specs.Refinement.{Refines}
+use Rattle.smx_commands.specs.Machine.{Machine}
+use Rattle.smx_commands.specs.Refinement.{Refines}
 use Rattle.smx_config.specs.Wakes.{IsEnough, arrives, freed_under, on_stream, turned_under, wakes_of}
 use Rattle.smx_config.specs.declared.wakes.Wakes.{Wakes}
 use Rattle.smx_config.specs.declared.wakes.Wakes.TheVariants as wakes
-use Rattle.smx_config.proofs.AcceptedLemmas.{accepted, bound}
+use Rattle.smx_commands.proofs.AcceptedLemmas.{accepted, bound}
 use Rattle.smx_config.proofs.StayingLemmas.{read_stays, transmit_stays}
 
 -- ---- a binding changes no link

@@ -3,7 +3,7 @@ use Rattle.smx_config.specs.declared.config.Config.TheInside.{Inside}
 use Rattle.smx_model.specs.KeptConfigurations.{IsKept}
 use Rattle.smx_model.specs.SettlingByMarks.{HasNoRunMark}
 use Rattle.smx_queues.specs.PlaceMarks.{has_mark}
-use Rattle.smx_config.specs.Machine.{Machine}
+use Rattle.smx_commands.specs.Machine.{Machine}
 use Rattle.smx_config.specs.Marking.{AreMarks}
 use Rattle.smx_config.specs.Ways.{AreWays}
 

@@ -10,15 +10,17 @@ ghost use Rattle.smx_model.specs.KeptConfigurations.{IsKept};
 ghost use Rattle.smx_model.specs.LawfulHistories.{delivered_by};
 ghost use Rattle.smx_model.specs.Views.{view};
 ghost use Rattle.smx_config.specs.DriverFaults.{RefusesDrivers};
-ghost use Rattle.smx_config.specs.Machine.{takes_no_memory};
+ghost use Rattle.smx_commands.specs.Machine.{takes_no_memory};
 
 use crate::config_fault::ConfigFault;
 use crate::driver_list::check_drivers;
 use crate::laws_of_waking::woken_marks_are_enough;
 use crate::marks::{Marks, copy_marks, no_marks};
-use crate::step_error::StepError;
-use crate::tables::Tables;
+use crate::settling::settle;
+use crate::wakes::wakes_of;
+use crate::waking::wake;
 use crate::ways::Ways;
+use smx_commands::{StepError, Tables};
 use smx_model::laws_of_marked_commands::empty_needs_no_mark;
 use smx_model::laws_of_steps::{
     commands_keep, empty_is_kept, outcomes_are_sound, refusals_change_nothing,
@@ -47,7 +49,7 @@ impl Drop for Config {
 }
 
 impl Model for Config {
-    ghost use Rattle.smx_config.specs.Machine.{Machine};
+    ghost use Rattle.smx_commands.specs.Machine.{Machine};
 
     ghost Value = { Machine };
 
@@ -100,12 +102,12 @@ impl Config {
         refusals_change_nothing();
         woken_marks_are_enough();
         let named = self.tables.message_stream(process, command);
-        let wakes = self.tables.wakes_of(process, command, named);
+        let wakes = wakes_of(&self.tables, process, command, named);
         let answer = self.tables.perform(process, command, named);
         if answer.is_ok() {
             self.ways.forget_after(command);
-            self.tables.wake(&mut self.marks, wakes);
-            self.tables.settle(&mut self.marks, &mut self.ways);
+            wake(&self.tables, &mut self.marks, wakes);
+            settle(&mut self.tables, &mut self.marks, &mut self.ways);
         }
         match answer {
             Ok(reply) => Ok(reply),
@@ -164,8 +166,8 @@ impl Config {
     pub fn link_count(&self) -> u32
         ensures { result ≡ length self.now.configuration.links }
     {
-        self.tables.lists.links.is_sound();
-        self.tables.lists.links.len() as u32
+        self.tables.links().is_sound();
+        self.tables.links().len() as u32
     }
 
     /// The drivers that it was made with, which no command changes. Takes no memory.
@@ -173,7 +175,7 @@ impl Config {
         ensures value { result.now ≡ self.now.drivers }
         ensures list { IsDriverList self.now.drivers }
     {
-        self.tables.drivers.as_slice()
+        self.tables.drivers()
     }
 
     /// What every configuration is, whichever commands came before: its links form no cycle and no stream is below two
@@ -184,14 +186,14 @@ impl Config {
         ensures kept { IsKept self.now.drivers self.now.configuration }
     {
         // What the tables and the configuration keep is known where their fields are read.
-        let _drivers = self.tables.drivers.as_slice();
+        let _drivers = self.tables.drivers();
     }
 
     /// The same configuration again, by the allocator that this one has. Fails only for want of memory.
     pub fn copy(&self) -> Result<Config, NoMemory>
         ensures { IfOk result (λ c. c ≡ self.now) }
     {
-        let alloc = self.tables.alloc;
+        let alloc = self.tables.alloc();
         Ok(Config {
             tables: self.tables.copy()?,
             marks: copy_marks(alloc, &self.marks)?,

@@ -4,7 +4,7 @@ ghost use Rattle.std.specs.Prelude.{◌≡◌, ℕ, true, List};
 ghost use Rattle.smx_types.specs.declared.driver.DriverSpec.{DriverSpec};
 ghost use Rattle.smx_types.specs.declared.command.Command.TheVariants as command;
 ghost use Rattle.smx_config.specs.DriverFaults.{RefusesDrivers};
-ghost use Rattle.smx_config.specs.Machine.{takes_no_memory};
+ghost use Rattle.smx_commands.specs.Machine.{takes_no_memory};
 ghost use Rattle.smx_config.specs.declared.config_fault.ConfigFault.{ConfigFault};
 
 /// A list of drivers has one fault at most, and none where a configuration can have it: want of memory alone is told

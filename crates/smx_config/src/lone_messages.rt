@@ -18,9 +18,10 @@ ghost use Rattle.smx_config.specs.Moves.{IsLeastMove};
 ghost use Rattle.smx_config.specs.Ways.{AreWays};
 
 use crate::marks::Marks;
-use crate::settling::{Move, mark_wanted};
-use crate::tables::Tables;
+use crate::next_places::next_by_ways;
+use crate::settling::{Move, if_open, mark_wanted};
 use crate::ways::Ways;
+use smx_commands::Tables;
 use smx_model::laws_of_lone_messages::{
     empty_places_are_passed, lone_messages_change_two, lone_messages_come_to_rest,
     lone_messages_set_out,
@@ -49,89 +50,68 @@ fn note_target(waits: &mut Waiters, at: Place, target: Option<Place>)
     }
 }
 
-impl Tables {
-    // Whether it is certain that no other message may move on than the one that is alone at this place.
-    pub fn moves_alone(&self, marks: &Marks, from: Place) -> bool
-        requires marks { AreMarks self.now.drivers self.now.configuration marks.now }
-        requires marked { has_mark marks.now.run from ≡ true }
-        ensures { IsTrue result → MovesAlone self.now.drivers self.now.configuration marks.now from }
-    {
-        marks.run.has_at_most_one() && self.lists.queues.has_lone_message(from)
-    }
+// Whether it is certain that no other message may move on than the one that is alone at this place.
+pub fn moves_alone(tables: &Tables, marks: &Marks, from: Place) -> bool
+    requires marks { AreMarks tables.now.drivers tables.now.configuration marks.now }
+    requires marked { has_mark marks.now.run from ≡ true }
+    ensures { IsTrue result → MovesAlone tables.now.drivers tables.now.configuration marks.now from }
+{
+    marks.run.has_at_most_one() && tables.queues().has_lone_message(from)
+}
 
-    // Whether there is a message at the place.
-    pub fn has_messages(&self, place: Place) -> bool
-        ensures { result ≡ is_some (first_message self.now.configuration.flow place) }
-    {
-        self.lists.queues.has_messages(place)
+// Where the message of the least move comes to rest, within so many moves, of which that is the first.
+pub fn rest_of(tables: &Tables, marks: &Marks, ways: &mut Ways, first: Move, moves: u128) -> Rest
+    requires sound { IsSound tables.now.drivers tables.now.configuration }
+    requires alone { MovesAlone tables.now.drivers tables.now.configuration marks.now first.from }
+    requires least { IsLeastMove tables.now.drivers tables.now.configuration (Some first) }
+    requires some { 0 < moves }
+    requires settled { IsSettled tables.now.drivers
+        (after_settling_within tables.now.drivers moves tables.now.configuration) }
+    requires ways { AreWays tables.now.drivers tables.now.configuration ways.old }
+    ensures ways { AreWays tables.now.drivers tables.now.configuration ways.new }
+    ensures way { (left : ℕ) × IsUnderWay tables.now.drivers tables.now.configuration moves first.from result.at left }
+    ensures stays { (m : MessageValue) → first_message tables.now.configuration.flow first.from ≡ Some m
+        → StaysAt tables.now.drivers tables.now.configuration result.at m result.waits }
+{
+    empty_places_are_passed();
+    lone_messages_set_out();
+    let mut at = first.to;
+    let mut left = moves - 1;
+    let mut filled = tables.has_messages(at);
+    while !filled {
+        let next = next_by_ways(tables, ways, at, first.addr);
+        let Some(open) = if_open(tables, next) else {
+            return Rest { at, waits: next };
+        };
+        filled = tables.has_messages(open);
+        at = open;
+        left -= 1;
     }
+    Rest { at, waits: None }
+}
 
-    // Where the message of the least move comes to rest, within so many moves, of which that is the first.
-    pub fn rest_of(&self, marks: &Marks, ways: &mut Ways, first: Move, moves: u128) -> Rest
-        requires sound { IsSound self.now.drivers self.now.configuration }
-        requires alone { MovesAlone self.now.drivers self.now.configuration marks.now first.from }
-        requires least { IsLeastMove self.now.drivers self.now.configuration (Some first) }
-        requires some { 0 < moves }
-        requires settled { IsSettled self.now.drivers
-            (after_settling_within self.now.drivers moves self.now.configuration) }
-        requires ways { AreWays self.now.drivers self.now.configuration ways.old }
-        ensures ways { AreWays self.now.drivers self.now.configuration ways.new }
-        ensures way { (left : ℕ) × IsUnderWay self.now.drivers self.now.configuration moves first.from result.at left }
-        ensures stays { (m : MessageValue) → first_message self.now.configuration.flow first.from ≡ Some m
-            → StaysAt self.now.drivers self.now.configuration result.at m result.waits }
-    {
-        empty_places_are_passed();
-        lone_messages_set_out();
-        let mut at = first.to;
-        let mut left = moves - 1;
-        let mut filled = self.has_messages(at);
-        while !filled {
-            let next = self.next_by_ways(ways, at, first.addr);
-            let Some(open) = self.if_open(next) else {
-                return Rest { at, waits: next };
-            };
-            filled = self.has_messages(open);
-            at = open;
-            left -= 1;
-        }
-        Rest { at, waits: None }
-    }
-
-    // The first message of a place goes to the end of another's queue.
-    pub fn carry(&mut self, from: Place, to: Place)
-        requires some { IsSome (first_message self.old.configuration.flow from) }
-        requires known { IsKnown self.old.drivers to.stream }
-        requires differ { same_place from to ≡ false }
-        requires free { is_full self.old.configuration to ≡ false }
-        ensures { self.new ≡ record self.old { configuration = moved self.old.drivers self.old.configuration from to } }
-    {
-        self.lists.links.is_sound();
-        self.lists.queues.move_front(from, to);
-    }
-
-    // It is moved there, and no place has a run mark.
-    pub fn come_to_rest(&mut self, marks: &mut Marks, from: Place, rest: Rest)
-        requires sound { IsSound self.old.drivers self.old.configuration }
-        requires marks { AreMarks self.old.drivers self.old.configuration marks.old }
-        requires alone { MovesAlone self.old.drivers self.old.configuration marks.old from }
-        requires some { IsSome (first_message self.old.configuration.flow from) }
-        requires way { (moves : ℕ) × (left : ℕ)
-            × IsUnderWay self.old.drivers self.old.configuration moves from rest.at left }
-        requires stays { (m : MessageValue) → first_message self.old.configuration.flow from ≡ Some m
-            → StaysAt self.old.drivers self.old.configuration rest.at m rest.waits }
-        ensures value { self.new
-            ≡ record self.old { configuration = moved self.old.drivers self.old.configuration from rest.at } }
-        ensures marks { AreMarks self.new.drivers self.new.configuration marks.new }
-        ensures none { HasNoRunMark (has_mark marks.new.run) }
-    {
-        lone_messages_change_two();
-        lone_messages_come_to_rest();
-        more_marks_do();
-        places_are_known();
-        self.carry(from, rest.at);
-        marks.run.clear(from);
-        marks.waits.clear(from);
-        mark_wanted(&mut marks.wanted, rest.waits);
-        note_target(&mut marks.waits, rest.at, rest.waits);
-    }
+// It is moved there, and no place has a run mark.
+pub fn come_to_rest(tables: &mut Tables, marks: &mut Marks, from: Place, rest: Rest)
+    requires sound { IsSound tables.old.drivers tables.old.configuration }
+    requires marks { AreMarks tables.old.drivers tables.old.configuration marks.old }
+    requires alone { MovesAlone tables.old.drivers tables.old.configuration marks.old from }
+    requires some { IsSome (first_message tables.old.configuration.flow from) }
+    requires way { (moves : ℕ) × (left : ℕ)
+        × IsUnderWay tables.old.drivers tables.old.configuration moves from rest.at left }
+    requires stays { (m : MessageValue) → first_message tables.old.configuration.flow from ≡ Some m
+        → StaysAt tables.old.drivers tables.old.configuration rest.at m rest.waits }
+    ensures value { tables.new
+        ≡ record tables.old { configuration = moved tables.old.drivers tables.old.configuration from rest.at } }
+    ensures marks { AreMarks tables.new.drivers tables.new.configuration marks.new }
+    ensures none { HasNoRunMark (has_mark marks.new.run) }
+{
+    lone_messages_change_two();
+    lone_messages_come_to_rest();
+    more_marks_do();
+    places_are_known();
+    tables.carry(from, rest.at);
+    marks.run.clear(from);
+    marks.waits.clear(from);
+    mark_wanted(&mut marks.wanted, rest.waits);
+    note_target(&mut marks.waits, rest.at, rest.waits);
 }

@@ -7,9 +7,10 @@ ghost use Rattle.smx_queues.specs.PlaceMarks.{MarkList};
 ghost use Rattle.smx_config.specs.Marking.{is_read_below_driver, is_write_of};
 ghost use Rattle.smx_config.specs.Marking.{HasNeeded, IsMarkedUnless, IsMarkedWhere, IsOneMore};
 
-use crate::tables::Tables;
+use crate::next_places::leads_on;
+use smx_commands::Tables;
 use smx_queues::PlaceMarks;
-use smx_types::{Place, Side, StreamId};
+use smx_types::{Place, Side};
 
 // Whether the place is a write side of the driver's streams.
 fn is_write_of(driver: u8, place: Place) -> bool
@@ -21,80 +22,79 @@ fn is_write_of(driver: u8, place: Place) -> bool
     }
 }
 
-impl Tables {
-    // Marks the place, unless no message goes on from it.
-    pub fn mark_leading(&self, run: &mut PlaceMarks, place: Place)
-        ensures { (all : MarkList) × IsOneMore place run.old all
-            × HasNeeded self.now.drivers self.now.configuration all run.new }
-    {
-        if self.leads_on(place) {
-            run.mark(place);
+// Marks the place, unless no message goes on from it.
+pub fn mark_leading(tables: &Tables, run: &mut PlaceMarks, place: Place)
+    ensures { (all : MarkList) × IsOneMore place run.old all
+        × HasNeeded tables.now.drivers tables.now.configuration all run.new }
+{
+    if leads_on(tables, place) {
+        run.mark(place);
+    }
+}
+
+// Marks a place where a message arrived, if it is the first one there.
+pub fn mark_arrived(tables: &Tables, run: &mut PlaceMarks, place: Place, filled: bool)
+    ensures { (all : MarkList) × IsMarkedUnless filled place run.old all
+        × HasNeeded tables.now.drivers tables.now.configuration all run.new }
+{
+    if !filled {
+        mark_leading(tables, run, place);
+    }
+}
+
+// Marks a place that has a message, unless none goes on from it.
+pub fn mark_waiting(tables: &Tables, run: &mut PlaceMarks, place: Place)
+    ensures { (all : MarkList) × IsMarkedWhere tables.now.configuration.flow (same_place place) run.old all
+        × HasNeeded tables.now.drivers tables.now.configuration all run.new }
+{
+    if tables.has_messages(place) {
+        mark_leading(tables, run, place);
+    }
+}
+
+// Marks the write sides of the driver's streams that have a message. It looks at no stream that has none.
+pub fn mark_writes(tables: &Tables, run: &mut PlaceMarks, driver: u8)
+    ensures { IsMarkedWhere tables.now.configuration.flow (is_write_of driver) run.old run.new }
+{
+    if tables.queues().len() == 0 {
+        return;
+    }
+    let mut rest = tables.queues().fronts();
+    while let Some(first) = rest.next() {
+        if is_write_of(driver, first.place) {
+            run.mark(first.place);
         }
     }
+}
 
-    // Marks a place where a message arrived, if it is the first one there.
-    pub fn mark_arrived(&self, run: &mut PlaceMarks, place: Place, filled: bool)
-        ensures { (all : MarkList) × IsMarkedUnless filled place run.old all
-            × HasNeeded self.now.drivers self.now.configuration all run.new }
-    {
-        if !filled {
-            self.mark_leading(run, place);
-        }
+// Whether the place is the read side of a stream below the driver.
+fn is_read_below(tables: &Tables, place: Place, driver: u8) -> bool
+    ensures { result ≡ is_read_below_driver tables.now.configuration driver place }
+{
+    let links = tables.links();
+    links.is_sound();
+    match place.side {
+        Side::Write => false,
+        Side::Read => match links.above(place.stream) {
+            Some(link) => link.ctl.driver == driver,
+            None => false,
+        },
     }
+}
 
-    // Marks a place that has a message, unless none goes on from it.
-    pub fn mark_waiting(&self, run: &mut PlaceMarks, place: Place)
-        ensures { (all : MarkList) × IsMarkedWhere self.now.configuration.flow (same_place place) run.old all
-            × HasNeeded self.now.drivers self.now.configuration all run.new }
-    {
-        if self.has_messages(place) {
-            self.mark_leading(run, place);
-        }
+// Marks the read sides of the streams below the driver that have a message. It looks at no link but those above
+// streams that have one.
+pub fn mark_reads(tables: &Tables, run: &mut PlaceMarks, driver: u8)
+    ensures { IsMarkedWhere tables.now.configuration.flow
+        (is_read_below_driver tables.now.configuration driver) run.old run.new }
+{
+    if tables.queues().len() == 0 {
+        return;
     }
-
-    // Marks the write sides of the driver's streams that have a message. It looks at no stream that has none.
-    pub fn mark_writes(&self, run: &mut PlaceMarks, driver: u8)
-        ensures { IsMarkedWhere self.now.configuration.flow (is_write_of driver) run.old run.new }
-    {
-        if self.lists.queues.len() == 0 {
-            return;
-        }
-        let mut rest = self.lists.queues.fronts();
-        while let Some(first) = rest.next() {
-            if is_write_of(driver, first.place) {
-                run.mark(first.place);
-            }
-        }
-    }
-
-    // Whether the place is the read side of a stream below the driver.
-    fn is_read_below(&self, place: Place, driver: u8) -> bool
-        ensures { result ≡ is_read_below_driver self.now.configuration driver place }
-    {
-        self.lists.links.is_sound();
-        match place.side {
-            Side::Write => false,
-            Side::Read => match self.lists.links.above(place.stream) {
-                Some(link) => link.ctl.driver == driver,
-                None => false,
-            },
-        }
-    }
-
-    // Marks the read sides of the streams below the driver that have a message. It looks at no link but those above
-    // streams that have one.
-    pub fn mark_reads(&self, run: &mut PlaceMarks, driver: u8)
-        ensures { IsMarkedWhere self.now.configuration.flow
-            (is_read_below_driver self.now.configuration driver) run.old run.new }
-    {
-        if self.lists.queues.len() == 0 {
-            return;
-        }
-        let mut rest = self.lists.queues.fronts();
-        while let Some(first) = rest.next() {
-            if self.is_read_below(first.place, driver) {
-                run.mark(first.place);
-            }
+    let mut rest = tables.queues().fronts();
+    while let Some(first) = rest.next() {
+        if is_read_below(tables, first.place, driver) {
+            run.mark(first.place);
         }
     }
 }

@@ -14,9 +14,12 @@ ghost use Rattle.smx_config.specs.Moves.{if_open, IsLeastMove};
 ghost use Rattle.smx_config.specs.Marking.{AreMarks};
 ghost use Rattle.smx_config.specs.Ways.{AreWays};
 
+use crate::lone_messages::{come_to_rest, moves_alone, rest_of};
 use crate::marks::Marks;
-use crate::tables::Tables;
+use crate::next_places::next_of_first;
+use crate::rows::move_row;
 use crate::ways::Ways;
+use smx_commands::Tables;
 use smx_model::laws_of_lone_messages::lone_messages_come_to_rest;
 use smx_model::laws_of_run_marks::{
     movable_places_are_marked, places_are_known, the_least_marked_is_the_least,
@@ -61,103 +64,101 @@ fn note_waiting(waits: &mut Waiters, from: Place, next: Option<Place>)
     }
 }
 
-impl Tables {
-    // The place, unless it is full.
-    pub fn if_open(&self, place: Option<Place>) -> Option<Place>
-        ensures { result ≡ if_open self.now.configuration place }
-    {
-        let place = place?;
-        if self.is_full(place) {
-            None
-        } else {
-            Some(place)
-        }
-    }
-
-    // The run mark of a place that can't be moved from is cleared, and the full place that it waits for is wanted.
-    fn clear_mark(&self, marks: &mut Marks, from: Place, next: Option<Place>)
-        requires sound { IsSound self.now.drivers self.now.configuration }
-        requires marks { AreMarks self.now.drivers self.now.configuration marks.old }
-        requires least { IsLeastMarked (has_mark marks.old.run) from }
-        requires next { next ≡ next_of_first self.now.drivers self.now.configuration from }
-        requires stays { if_open self.now.configuration next ≡ None }
-        ensures marks { AreMarks self.now.drivers self.now.configuration marks.new }
-        ensures fewer { length marks.new.run.marked < length marks.old.run.marked }
-    {
-        places_are_known();
-        clearing_keeps_marks();
-        mark_wanted(&mut marks.wanted, next);
-        note_waiting(&mut marks.waits, from, next);
-        marks.run.clear(from);
-    }
-
-    // The least movable place, with where its first message goes. Only places with a run mark are looked at, and the
-    // marks of those that come before it are cleared. Apart, so that the test before it is inlined.
-    #[inline(never)]
-    fn marked_move(&self, marks: &mut Marks, ways: &mut Ways) -> Option<Move>
-        requires sound { IsSound self.now.drivers self.now.configuration }
-        requires marks { AreMarks self.now.drivers self.now.configuration marks.old }
-        requires ways { AreWays self.now.drivers self.now.configuration ways.old }
-        ensures least { IsLeastMove self.now.drivers self.now.configuration result }
-        ensures marks { AreMarks self.now.drivers self.now.configuration marks.new }
-        ensures ways { AreWays self.now.drivers self.now.configuration ways.new }
-        ensures none { IfNone result (HasNoRunMark (has_mark marks.new.run)) }
-    {
-        the_least_marked_is_the_least();
-        without_marks_it_is_settled();
-        while let Some(from) = marks.run.first() {
-            let (next, addr) = self.next_of_first(ways, from);
-            if let Some(to) = self.if_open(next) {
-                return Some(Move { from, to, addr });
-            }
-            self.clear_mark(marks, from, next);
-        }
+// The place, unless it is full.
+pub fn if_open(tables: &Tables, place: Option<Place>) -> Option<Place>
+    ensures { result ≡ if_open tables.now.configuration place }
+{
+    let place = place?;
+    if tables.is_full(place) {
         None
+    } else {
+        Some(place)
     }
+}
 
-    // The same, for where mostly no place has a run mark.
-    fn next_move(&self, marks: &mut Marks, ways: &mut Ways) -> Option<Move>
-        requires sound { IsSound self.now.drivers self.now.configuration }
-        requires marks { AreMarks self.now.drivers self.now.configuration marks.old }
-        requires ways { AreWays self.now.drivers self.now.configuration ways.old }
-        ensures least { IsLeastMove self.now.drivers self.now.configuration result }
-        ensures marks { AreMarks self.now.drivers self.now.configuration marks.new }
-        ensures ways { AreWays self.now.drivers self.now.configuration ways.new }
-        ensures none { IfNone result (HasNoRunMark (has_mark marks.new.run)) }
-    {
-        without_marks_it_is_settled();
-        match marks.run.first() {
-            Some(_place) => self.marked_move(marks, ways),
-            None => None,
-        }
-    }
+// The run mark of a place that can't be moved from is cleared, and the full place that it waits for is wanted.
+fn clear_mark(tables: &Tables, marks: &mut Marks, from: Place, next: Option<Place>)
+    requires sound { IsSound tables.now.drivers tables.now.configuration }
+    requires marks { AreMarks tables.now.drivers tables.now.configuration marks.old }
+    requires least { IsLeastMarked (has_mark marks.old.run) from }
+    requires next { next ≡ next_of_first tables.now.drivers tables.now.configuration from }
+    requires stays { if_open tables.now.configuration next ≡ None }
+    ensures marks { AreMarks tables.now.drivers tables.now.configuration marks.new }
+    ensures fewer { length marks.new.run.marked < length marks.old.run.marked }
+{
+    places_are_known();
+    clearing_keeps_marks();
+    mark_wanted(&mut marks.wanted, next);
+    note_waiting(&mut marks.waits, from, next);
+    marks.run.clear(from);
+}
 
-    // Moves messages on until none can, and no run mark is left. A message that moves alone is moved once.
-    pub fn settle(&mut self, marks: &mut Marks, ways: &mut Ways)
-        requires sound { IsSound self.old.drivers self.old.configuration }
-        requires marks { AreMarks self.old.drivers self.old.configuration marks.old }
-        requires ways { AreWays self.old.drivers self.old.configuration ways.old }
-        ensures value { self.new
-            ≡ record self.old { configuration = after_settling self.old.drivers self.old.configuration } }
-        ensures marks { AreMarks self.new.drivers self.new.configuration marks.new }
-        ensures ways { AreWays self.new.drivers self.new.configuration ways.new }
-        ensures none { HasNoRunMark (has_mark marks.new.run) }
-    {
-        lone_messages_come_to_rest();
-        movable_places_are_marked();
-        settling_suffices();
-        let mut left = self.lists.queues.len() as u128 * self.drivers.len() as u128;
-        while left > 0 {
-            let Some(next) = self.next_move(marks, ways) else {
-                return;
-            };
-            if self.moves_alone(marks, next.from) {
-                let rest = self.rest_of(marks, ways, next, left);
-                self.come_to_rest(marks, next.from, rest);
-                return;
-            }
-            left = self.move_row(marks, next, left);
+// The least movable place, with where its first message goes. Only places with a run mark are looked at, and the
+// marks of those that come before it are cleared. Apart, so that the test before it is inlined.
+#[inline(never)]
+fn marked_move(tables: &Tables, marks: &mut Marks, ways: &mut Ways) -> Option<Move>
+    requires sound { IsSound tables.now.drivers tables.now.configuration }
+    requires marks { AreMarks tables.now.drivers tables.now.configuration marks.old }
+    requires ways { AreWays tables.now.drivers tables.now.configuration ways.old }
+    ensures least { IsLeastMove tables.now.drivers tables.now.configuration result }
+    ensures marks { AreMarks tables.now.drivers tables.now.configuration marks.new }
+    ensures ways { AreWays tables.now.drivers tables.now.configuration ways.new }
+    ensures none { IfNone result (HasNoRunMark (has_mark marks.new.run)) }
+{
+    the_least_marked_is_the_least();
+    without_marks_it_is_settled();
+    while let Some(from) = marks.run.first() {
+        let (next, addr) = next_of_first(tables, ways, from);
+        if let Some(to) = if_open(tables, next) {
+            return Some(Move { from, to, addr });
         }
-        let _none = self.next_move(marks, ways);
+        clear_mark(tables, marks, from, next);
     }
+    None
+}
+
+// The same, for where mostly no place has a run mark.
+fn next_move(tables: &Tables, marks: &mut Marks, ways: &mut Ways) -> Option<Move>
+    requires sound { IsSound tables.now.drivers tables.now.configuration }
+    requires marks { AreMarks tables.now.drivers tables.now.configuration marks.old }
+    requires ways { AreWays tables.now.drivers tables.now.configuration ways.old }
+    ensures least { IsLeastMove tables.now.drivers tables.now.configuration result }
+    ensures marks { AreMarks tables.now.drivers tables.now.configuration marks.new }
+    ensures ways { AreWays tables.now.drivers tables.now.configuration ways.new }
+    ensures none { IfNone result (HasNoRunMark (has_mark marks.new.run)) }
+{
+    without_marks_it_is_settled();
+    match marks.run.first() {
+        Some(_place) => marked_move(tables, marks, ways),
+        None => None,
+    }
+}
+
+// Moves messages on until none can, and no run mark is left. A message that moves alone is moved once.
+pub fn settle(tables: &mut Tables, marks: &mut Marks, ways: &mut Ways)
+    requires sound { IsSound tables.old.drivers tables.old.configuration }
+    requires marks { AreMarks tables.old.drivers tables.old.configuration marks.old }
+    requires ways { AreWays tables.old.drivers tables.old.configuration ways.old }
+    ensures value { tables.new
+        ≡ record tables.old { configuration = after_settling tables.old.drivers tables.old.configuration } }
+    ensures marks { AreMarks tables.new.drivers tables.new.configuration marks.new }
+    ensures ways { AreWays tables.new.drivers tables.new.configuration ways.new }
+    ensures none { HasNoRunMark (has_mark marks.new.run) }
+{
+    lone_messages_come_to_rest();
+    movable_places_are_marked();
+    settling_suffices();
+    let mut left = tables.queues().len() as u128 * tables.drivers().len() as u128;
+    while left > 0 {
+        let Some(next) = next_move(tables, marks, ways) else {
+            return;
+        };
+        if moves_alone(tables, marks, next.from) {
+            let rest = rest_of(tables, marks, ways, next, left);
+            come_to_rest(tables, marks, next.from, rest);
+            return;
+        }
+        left = move_row(tables, marks, next, left);
+    }
+    let _none = next_move(tables, marks, ways);
 }

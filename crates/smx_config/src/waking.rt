@@ -9,8 +9,9 @@ ghost use Rattle.smx_config.specs.Marking.{AreWaitersMarked, HasNeeded, IsMarked
 ghost use Rattle.smx_config.specs.Wakes.{everywhere, freed_under, turned_under};
 
 use crate::marks::Marks;
-use crate::tables::Tables;
+use crate::run_marks::{mark_reads, mark_waiting, mark_writes};
 use crate::wakes::Wakes;
+use smx_commands::Tables;
 use smx_queues::{PlaceMarks, Waiters};
 use smx_tables::comparisons::same_place;
 use smx_types::Place;
@@ -37,72 +38,70 @@ fn release(marks: &mut Marks, place: Place)
     mark_waiters(&marks.waits, &mut marks.run, place);
 }
 
-impl Tables {
-    // So it is with the place, if it is wanted and not full.
-    #[inline(always)]
-    pub fn release_if_open(&self, marks: &mut Marks, place: Place)
-        ensures { IsReleased self.now.configuration (same_place place) marks.old marks.new }
-    {
-        if !self.is_full(place) && marks.wanted.is_marked(place) {
-            release(marks, place);
+// So it is with the place, if it is wanted and not full.
+#[inline(always)]
+pub fn release_if_open(tables: &Tables, marks: &mut Marks, place: Place)
+    ensures { IsReleased tables.now.configuration (same_place place) marks.old marks.new }
+{
+    if !tables.is_full(place) && marks.wanted.is_marked(place) {
+        release(marks, place);
+    }
+}
+
+// A wanted place that is not full, if there is one.
+fn first_open(tables: &Tables, wanted: &PlaceMarks) -> Option<Place>
+    ensures some { IfSome result (λ p.
+        (has_mark wanted.now p ≡ true) × (is_full tables.now.configuration p ≡ false)) }
+    ensures none { IfNone result ((p : PlaceValue)
+        → has_mark wanted.now p ≡ true → is_full tables.now.configuration p ≡ true) }
+{
+    let mut rest = wanted.marked();
+    while let Some(place) = rest.next() {
+        if !tables.is_full(place) {
+            return Some(place);
         }
     }
+    None
+}
 
-    // A wanted place that is not full, if there is one.
-    fn first_open(&self, wanted: &PlaceMarks) -> Option<Place>
-        ensures some { IfSome result (λ p.
-            (has_mark wanted.now p ≡ true) × (is_full self.now.configuration p ≡ false)) }
-        ensures none { IfNone result ((p : PlaceValue)
-            → has_mark wanted.now p ≡ true → is_full self.now.configuration p ≡ true) }
-    {
-        let mut rest = wanted.marked();
-        while let Some(place) = rest.next() {
-            if !self.is_full(place) {
-                return Some(place);
-            }
-        }
-        None
+// So it is with each place.
+fn release_all(tables: &Tables, marks: &mut Marks)
+    ensures { IsReleased tables.now.configuration everywhere marks.old marks.new }
+{
+    while let Some(place) = first_open(tables, &marks.wanted) {
+        release(marks, place);
     }
+}
 
-    // So it is with each place.
-    fn release_all(&self, marks: &mut Marks)
-        ensures { IsReleased self.now.configuration everywhere marks.old marks.new }
-    {
-        while let Some(place) = self.first_open(&marks.wanted) {
-            release(marks, place);
-        }
+fn release_freed(tables: &Tables, marks: &mut Marks, wakes: Wakes)
+    ensures { IsReleased tables.now.configuration (freed_under wakes) marks.old marks.new }
+{
+    match wakes {
+        Wakes::Leaves(place) => release_if_open(tables, marks, place),
+        Wakes::Frees => release_all(tables, marks),
+        Wakes::Nothing | Wakes::Turns(_) | Wakes::TurnsWrites(_) | Wakes::TurnsReads(_) => {}
     }
+}
 
-    fn release_freed(&self, marks: &mut Marks, wakes: Wakes)
-        ensures { IsReleased self.now.configuration (freed_under wakes) marks.old marks.new }
-    {
-        match wakes {
-            Wakes::Leaves(place) => self.release_if_open(marks, place),
-            Wakes::Frees => self.release_all(marks),
-            Wakes::Nothing | Wakes::Turns(_) | Wakes::TurnsWrites(_) | Wakes::TurnsReads(_) => {}
-        }
+fn mark_turned(tables: &Tables, run: &mut PlaceMarks, wakes: Wakes)
+    ensures { (all : MarkList)
+        × IsMarkedWhere tables.now.configuration.flow (turned_under tables.now.configuration wakes) run.old all
+        × HasNeeded tables.now.drivers tables.now.configuration all run.new }
+{
+    match wakes {
+        Wakes::Turns(place) => mark_waiting(tables, run, place),
+        Wakes::TurnsWrites(driver) => mark_writes(tables, run, driver),
+        Wakes::TurnsReads(driver) => mark_reads(tables, run, driver),
+        Wakes::Nothing | Wakes::Leaves(_) | Wakes::Frees => {}
     }
+}
 
-    fn mark_turned(&self, run: &mut PlaceMarks, wakes: Wakes)
-        ensures { (all : MarkList)
-            × IsMarkedWhere self.now.configuration.flow (turned_under self.now.configuration wakes) run.old all
-            × HasNeeded self.now.drivers self.now.configuration all run.new }
-    {
-        match wakes {
-            Wakes::Turns(place) => self.mark_waiting(run, place),
-            Wakes::TurnsWrites(driver) => self.mark_writes(run, driver),
-            Wakes::TurnsReads(driver) => self.mark_reads(run, driver),
-            Wakes::Nothing | Wakes::Leaves(_) | Wakes::Frees => {}
-        }
-    }
-
-    // Marks what a command woke, and takes the wanted marks of the places that it freed.
-    pub fn wake(&self, marks: &mut Marks, wakes: Wakes)
-        ensures { (all : MarkList) × IsWoken self.now.configuration (turned_under self.now.configuration wakes)
-            (freed_under wakes) marks.old (record marks.new { run = all })
-            × HasNeeded self.now.drivers self.now.configuration all marks.new.run }
-    {
-        self.release_freed(marks, wakes);
-        self.mark_turned(&mut marks.run, wakes);
-    }
+// Marks what a command woke, and takes the wanted marks of the places that it freed.
+pub fn wake(tables: &Tables, marks: &mut Marks, wakes: Wakes)
+    ensures { (all : MarkList) × IsWoken tables.now.configuration (turned_under tables.now.configuration wakes)
+        (freed_under wakes) marks.old (record marks.new { run = all })
+        × HasNeeded tables.now.drivers tables.now.configuration all marks.new.run }
+{
+    release_freed(tables, marks, wakes);
+    mark_turned(tables, &mut marks.run, wakes);
 }

@@ -40,7 +40,7 @@ pub returns-in-Ok-clause-fault : goal.returns-in-Ok-clause-fault
 returns-in-Ok-clause-fault c = elim c.if-is_ok.branch [
   | then-is_ok w ↦
       let old = c.self.inside.tables in
-      λ f fault. w.self-is ∙ (fault_keeps old c.perform-answer.new.self w.settle.new.self c.args.process
+      λ f fault. w.self-is ∙ (fault_keeps old c.perform-answer.new.self w.settle.new.tables c.args.process
       c.args.command.now c.perform-answer.result c.in-Ok.reply f c.in-Ok.is c.perform-answer.ensures.refines
       w.settle.ensures.value (c.refusals_change_nothing.ensures old.drivers old.configuration c.args.process
       c.args.command.now f) fault ∙ c.self.view_is)

@@ -1,0 +1,60 @@
+-- What an accepted result says of what came before it.
+use Rattle.std.proofs.Common.{◌≡◌, ℕ, Bool, true, false, not, List, Option, Some, None}
+use Rattle.std.proofs.Common.{Result, Ok, Err, refl, ap, ◌∙◌, subst}
+use Rattle.std.proofs.lemmas.Bool.{not-false}
+use Rattle.smx_types.specs.declared.driver.DriverSpec.{DriverSpec}
+use Rattle.smx_types.specs.declared.reply.Fault.{Fault}
+use Rattle.smx_types.specs.declared.reply.Fault.TheVariants.{BadDescriptor, Below}
+use Rattle.smx_types.specs.declared.reply.Fault.TheVariants.{NoDriver, NoMinor}
+use Rattle.smx_types.specs.declared.stream.StreamId.{StreamId}
+use Rattle.smx_model.specs.Configuration.{Configuration}
+use Rattle.smx_model.specs.DriverList.{is_mux}
+use Rattle.smx_model.specs.Lookups.{driver_of, free_stream, leaf_stream, stream_of}
+use Rattle.smx_model.specs.Outcomes.{◌>>=◌, or_fault, refuse}
+use Rattle.smx_model.specs.Standing.{exists, is_below}
+
+-- what came before an accepted result was accepted
+pub bound : {A B : Type 0} (r : Result A Fault) (f : A → Result B Fault) (y : B) → (r >>= f) ≡ Ok y
+    → (x : A) × (r ≡ Ok x) × (f x ≡ Ok y)
+bound (Err e) f y h = absurd cc
+bound (Ok x) f y h = (x, refl, h)
+
+-- what is not refused has failed the test
+pub not_refused : (f : Fault) (t : Bool) {u : Unit {0}} → refuse f t ≡ Ok u → t ≡ false
+not_refused f true h = absurd cc
+not_refused f false h = refl
+
+-- what is accepted is one thing
+pub accepted : {A : Type 0} (x y : A) → ◌≡◌ {A = Result A Fault} (Ok x) (Ok y) → x ≡ y
+accepted x y h = cc
+
+-- ---- lookups
+
+-- a stream that a lookup of a descriptor gives without a refusal is there
+pub fd_at : (o : Option StreamId) (s : StreamId) → or_fault BadDescriptor o ≡ Ok s → o ≡ Some s
+fd_at None s e = absurd cc
+fd_at (Some x) s e = ap (λ (y : StreamId). Some y) (accepted x s e)
+
+-- the stream of a free descriptor is the descriptor's, and it is not below a link
+pub free_says : (c : Configuration) (process fd : ℕ) (s : StreamId) → free_stream c process fd ≡ Ok s
+    → (stream_of c process fd ≡ Ok s) × (is_below c.links s ≡ false)
+free_says c process fd s e =
+    let found = bound (stream_of c process fd) (λ x. refuse Below (is_below c.links x) >>= (λ a. Ok x)) s e in
+    let above = bound (refuse Below (is_below c.links found.0)) (λ a. Ok found.0) s found.2 in (
+      found.1 ∙ above.2,
+      subst (λ (x : StreamId). is_below c.links x ≡ false) (accepted found.0 s above.2)
+          (not_refused Below _ above.1),
+    )
+
+-- the stream of a device exists, and its driver is no multiplexing one
+pub leaf_says : (drivers : List DriverSpec) (c : Configuration) (name : List ℕ) (minor : ℕ) (s : StreamId)
+    → leaf_stream drivers c name minor ≡ Ok s → (exists drivers c s ≡ true) × (is_mux drivers s.driver ≡ false)
+leaf_says drivers c name minor s e =
+    let found = bound (driver_of drivers name) _ s e in
+    let leaf = bound (refuse NoDriver (is_mux drivers found.0)) _ s found.2 in
+    let here : StreamId = record { driver = found.0; minor = minor } in
+    let there = bound (refuse NoMinor (not (exists drivers c here))) _ s leaf.2 in
+    let same = accepted here s there.2 in (
+      subst (λ (x : StreamId). exists drivers c x ≡ true) same (not-false _ (not_refused NoMinor _ there.1)),
+      subst (λ (x : StreamId). is_mux drivers x.driver ≡ false) same (not_refused NoDriver _ leaf.1),
+    )

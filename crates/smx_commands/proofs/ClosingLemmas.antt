@@ -1,0 +1,142 @@
+-- What a close of descriptors touches, and its outcome.
+use Rattle.std.proofs.Common.{◌≡◌, ℕ, ◌+◌, ◌<◌, true, false, ◌||◌, not, List, [], ◌∷◌, ◌++◌, filter, Option, Some, None}
+use Rattle.std.proofs.Common.{Ok, refl, sym, ap, subst, ◌∙◌, arith, inl, inr}
+use Rattle.std.specs.Prelude.{nat_lt}
+use Rattle.std.specs.List.{list_any}
+use Rattle.std.proofs.lemmas.Bool.{cases_Bool, cases_lt, or_left, or_right, false≢true}
+use Rattle.smx_types.specs.declared.driver.DriverSpec.{DriverSpec}
+use Rattle.smx_types.specs.declared.limits.TheConstants.{MAX_DESCRIPTORS}
+use Rattle.smx_types.specs.declared.reply.Reply.{Reply}
+use Rattle.smx_types.specs.declared.reply.Reply.TheVariants.{Done}
+use Rattle.smx_types.specs.declared.stream.Descriptor.{Descriptor}
+use Rattle.smx_types.specs.declared.stream.StreamId.{StreamId}
+use Rattle.smx_model.specs.Commands.{done_outcome}
+use Rattle.smx_model.specs.Configuration.{Configuration, is_fd, same_stream}
+use Rattle.smx_model.specs.Hangups.{is_hung}
+use Rattle.smx_model.specs.Removal.{after_sweep, serials_that_left}
+use Rattle.smx_model.specs.Standing.{is_named}
+use Rattle.smx_model.specs.Swept.{IsSwept}
+use Rattle.smx_streams.specs.StreamTables.{StreamTable, HasOneLess, is_last, number_at, stream_at, without_fd}
+use Rattle.smx_streams.specs.StreamTables.{exists as is_there}
+use Rattle.smx_tables.specs.ExistingStreams.{TellsExisting}
+use Rattle.smx_tables.specs.ModelOfLists.{configuration_of}
+use Rattle.smx_tables.specs.TouchedStreams.{IsTouched, is_there_or_touched}
+use Rattle.smx_commands.specs.declared.tables.Tables.TheInside.{Inside}
+use Rattle.smx_commands.specs.Closing.{closing}
+use Rattle.smx_commands.specs.Machine.{Machine}
+use Rattle.smx_commands.specs.ModelOfTables.{TablesInvariant, machine_of}
+use Rattle.smx_commands.proofs.DoneLemmas.{IdleDropsNone, swept_is}
+use Rattle.smx_commands.proofs.TablesLemmas.{accepted}
+use Rattle.smx_tables.proofs.HungSweepLemmas.{sweep_of_left}
+use Rattle.smx_tables.proofs.TouchLemmas.{touched_by, touched_fds, touched_hungs, touched_there}
+use Rattle.smx_tables.proofs.WatchLemmas.{listed_last, still_listed}
+
+-- one descriptor is closed, and its stream stays
+pub closed_stays : (t u : StreamTable) (p n : ℕ) → is_last t p n ≡ false → HasOneLess t p n u
+    → ((s : StreamId) → is_there t s ≡ true → is_there u s ≡ false → stream_at t.fds p n ≡ Some s)
+    → (s : StreamId) → is_there t s ≡ true → is_there_or_touched u [] s ≡ true
+closed_stays t u p n stays less went s there = elim (cases_Bool (is_there u s)) [
+  | inl a ↦ or_left _ _ a
+  | inr gone ↦
+      let last : is_last t p n ≡ not (is_there (without_fd t p n) s) = rw (went s there gone) refl in
+      absurd (false≢true (sym stays ∙ last ∙ ap not (sym same ∙ gone)))
+] where
+  same : is_there u s ≡ is_there (without_fd t p n) s
+  same = ap (λ (fds : List Descriptor). is_named fds s || nat_lt 0 (number_at u.holds s)) less.fds
+      ∙ ap (λ (m : ℕ). is_named (filter (λ d. not (is_fd p n d)) t.fds) s || nat_lt 0 m) (less.holds s)
+
+-- so the hung-up streams are there
+pub all_stay : (t u : StreamTable) (hungs : List StreamId)
+    → ((x : StreamId) → is_hung hungs x ≡ true → is_there t x ≡ true)
+    → ((x : StreamId) → is_there t x ≡ true → is_there_or_touched u [] x ≡ true)
+    → (x : StreamId) → is_hung hungs x ≡ true → is_there u x ≡ true
+all_stay t u hungs there stays x up = touched_there u [] x refl (stays x (there x up))
+
+-- or it is touched
+pub closed_touches : (t u : StreamTable) (p n : ℕ) (s : StreamId) (ss : List StreamId) → stream_at t.fds p n ≡ Some s
+    → list_any (same_stream s) ss ≡ true
+    → ((x : StreamId) → is_there t x ≡ true → is_there u x ≡ false → stream_at t.fds p n ≡ Some x) → (x : StreamId)
+    → is_there t x ≡ true → is_there_or_touched u ss x ≡ true
+closed_touches t u p n s ss at one went x there = elim (cases_Bool (is_there u x)) [
+  | inl a ↦ or_left _ _ a
+  | inr gone ↦
+      let both : ◌≡◌ {A = Option StreamId} (Some s) (Some x) = sym at ∙ went x there gone in
+      let same : s ≡ x = cc in
+      or_right _ _ (subst (λ (y : StreamId). list_any (same_stream y) ss ≡ true) same one)
+]
+
+-- so the sweep after a close finds all that it has to look at
+pub close_touches : (drivers : List DriverSpec) (old : Configuration) (t u : StreamTable) (p n : ℕ) (s : StreamId)
+    (ss : List StreamId) → TellsExisting drivers old t → IsSwept drivers old → stream_at t.fds p n ≡ Some s
+    → list_any (same_stream s) ss ≡ true
+    → ((x : StreamId) → is_there t x ≡ true → is_there u x ≡ false → stream_at t.fds p n ≡ Some x)
+    → IsTouched u ss (record old { fds = u.fds; hungs = u.hungs })
+close_touches drivers old t u p n s ss told swept at one went =
+    touched_hungs u ss (record old { fds = u.fds }) u.hungs
+    (touched_fds u ss old u.fds (touched_by drivers old t u ss told swept (closed_touches t u p n s ss at one went)))
+
+-- all descriptors of a process are closed
+pub all_closed_touch : (t u : StreamTable) (p : ℕ) (ss : List StreamId)
+    → ((n : ℕ) (s : StreamId) → n < MAX_DESCRIPTORS → stream_at t.fds p n ≡ Some s → list_any (same_stream s) ss ≡ true)
+    → ((x : StreamId) → is_there t x ≡ true → is_there u x ≡ false → (n : ℕ) × (n < MAX_DESCRIPTORS)
+    × (stream_at t.fds p n ≡ Some x)) → (x : StreamId) → is_there t x ≡ true → is_there_or_touched u ss x ≡ true
+all_closed_touch t u p ss named went x there = elim (cases_Bool (is_there u x)) [
+  | inl a ↦ or_left _ _ a
+  | inr gone ↦ let at = went x there gone in or_right _ _ (named at.0 x at.1 at.2)
+]
+
+-- ---- the outcome of a close
+
+-- what was swept after a close is its outcome
+pub closes_last : (t : Inside) (m : Machine) (p n : ℕ) (u : StreamTable) (given : List DriverSpec) (d : Configuration)
+    (r : Reply) → machine_of t ≡ m → TablesInvariant t → HasOneLess t.lists.streams p n u → given ≡ t.drivers.items
+    → d ≡ after_sweep given (record (configuration_of t.lists) { fds = u.fds; hungs = u.hungs })
+    → r ≡ Done (serials_that_left t.lists.queues.flow d.flow)
+    → (t.drivers.items ≡ m.drivers) × (closing m.drivers m.configuration p n ≡ Ok (d, r))
+closes_last t m p n u given d r e kept less same is left =
+    let old = configuration_of t.lists in
+    let swept : Configuration = record old { fds = u.fds; hungs = u.hungs } in
+    accepted t m d (λ x. closing x.drivers x.configuration p n) r e
+    (swept_is t.drivers.items given old (record old { fds = filter (λ f. not (is_fd p n f)) old.fds }) swept d r same is
+    (sweep_of_left t.drivers.items swept u old.hungs (λ s. less.holds s ∙ kept.kept.held s) refl less.hungs
+    ∙ ap (λ (fs : List Descriptor). after_sweep t.drivers.items (record old { fds = fs })) less.fds) left)
+
+-- a close that leaves nothing to sweep takes its descriptor away, and drops no message
+pub closes_shared : (drivers : List DriverSpec) (c : Configuration) (process fd : ℕ) (fds : List Descriptor)
+    (new : Configuration) (r : Reply) → IdleDropsNone drivers → IsSwept drivers (record c { fds = fds })
+    → fds ≡ filter (λ d. not (is_fd process fd d)) c.fds → new ≡ record c { fds = fds } → r ≡ Done []
+    → closing drivers c process fd ≡ Ok (new, r)
+closes_shared drivers c process fd fds new r idle swept e is none =
+    subst (λ (ds : List Descriptor). done_outcome drivers c (record c { fds = ds }) ≡ Ok (new, r)) e
+    (rw (is, none) (idle c (record c { fds = fds }) swept refl))
+
+-- ---- the streams of a process's descriptors
+
+-- the streams of the process's descriptors with numbers below k are all among these
+abbrev pub AreNamed : List Descriptor → ℕ → ℕ → List StreamId → Type 0
+AreNamed fds p k ss = (n : ℕ) (s : StreamId) → n < k → stream_at fds p n ≡ Some s → list_any (same_stream s) ss ≡ true
+
+-- one number more, with a stream
+pub one_named_more : (fds : List Descriptor) (p k : ℕ) (t : StreamId) (ss : List StreamId) → stream_at fds p k ≡ Some t
+    → AreNamed fds p k ss → AreNamed fds p (k + 1) (ss ++ t ∷ [])
+one_named_more fds p k t ss at h = λ n s lt e. elim (cases_lt n k) [
+  | inl earlier ↦ still_listed s ss t (h n s earlier e)
+  | inr here ↦
+      let last : n ≡ k = omega (arith, here, lt) in
+      let both : ◌≡◌ {A = Option StreamId} (Some t) (Some s) =
+      sym at ∙ subst (λ (m : ℕ). stream_at fds p m ≡ Some s) last e in
+      let same : t ≡ s = cc in
+      subst (λ (x : StreamId). list_any (same_stream x) (ss ++ t ∷ []) ≡ true) same (listed_last ss t)
+]
+
+-- and without one
+pub none_named_more : (fds : List Descriptor) (p k : ℕ) (ss : List StreamId) → stream_at fds p k ≡ None
+    → AreNamed fds p k ss → AreNamed fds p (k + 1) ss
+none_named_more fds p k ss at h = λ n s lt e. elim (cases_lt n k) [
+  | inl earlier ↦ h n s earlier e
+  | inr here ↦
+      let last : n ≡ k = omega (arith, here, lt) in
+      let both : ◌≡◌ {A = Option StreamId} None (Some s) =
+      sym at ∙ subst (λ (m : ℕ). stream_at fds p m ≡ Some s) last e in
+      absurd cc
+]

@@ -1,0 +1,145 @@
+-- What the table of streams answers an open or a dup is what the command table says.
+use Rattle.std.proofs.Common.{◌≡◌, ℕ, zero, suc, ◌<◌, Bool, true, false, not, List, [], ◌∷◌, length, map, find, Option}
+use Rattle.std.proofs.Common.{Some, None, Ok, Err, refl, sym, ap, subst, ◌∙◌, arith, inl, inr}
+use Rattle.std.specs.Prelude.{IsOk, nat_le, slice_index}
+use Rattle.std.specs.List.{range_with_len}
+use Rattle.std.proofs.lemmas.Bool.{cases_Bool}
+use Rattle.std.proofs.lemmas.Bool.Decides.{nat_tests}
+use Rattle.smx_types.specs.declared.command.Command.TheVariants as command
+use Rattle.smx_types.specs.declared.driver.DriverSpec.{DriverSpec}
+use Rattle.smx_types.specs.declared.reply.Fault.TheVariants.{NoMinor, TooManyDescriptors}
+use Rattle.smx_types.specs.declared.reply.Reply.TheVariants.{Fd}
+use Rattle.smx_types.specs.declared.stream.Descriptor.{Descriptor}
+use Rattle.smx_types.specs.declared.stream.StreamId.{StreamId}
+use Rattle.smx_model.specs.Commands.{outcome, with_fd}
+use Rattle.smx_model.specs.Configuration.{Configuration}
+use Rattle.smx_model.specs.DriverList.{minors_of}
+use Rattle.smx_model.specs.Lookups.{driver_of, free_fd, free_minor}
+use Rattle.smx_model.specs.Outcomes.{Outcome, or_fault}
+use Rattle.smx_model.specs.Standing.{exists, is_below}
+use Rattle.smx_streams.specs.StreamTables.{Answer, StreamTable, IsRefused, is_in_range, clone_answer}
+use Rattle.smx_streams.specs.StreamTables.{minor_answer, least_fd, least_minor, exists as is_there}
+use Rattle.smx_streams.specs.declared.stream_fault.StreamFault.{StreamFault}
+use Rattle.smx_streams.specs.declared.stream_fault.StreamFault.TheVariants as stream_fault
+use Rattle.smx_commands.specs.declared.step_error.StepError.{StepError}
+use Rattle.smx_commands.specs.declared.step_error.StepError.TheVariants as step_error
+use Rattle.smx_tables.specs.ExistingStreams.{TellsExisting}
+use Rattle.smx_commands.specs.Machine.{Machine}
+use Rattle.smx_commands.specs.Refinement.{HasOutcome}
+use Rattle.smx_commands.specs.StreamFaults.{as_step_error}
+
+-- a refusal with this fault; or none, where memory is wanted
+abbrev pub IsRefusedBy : Outcome → StepError → Type 0
+IsRefusedBy o (step_error.Refused f) = o ≡ Err f
+IsRefusedBy o step_error.NoMemory = IsOk o
+
+-- where an outcome is refused with this fault, or memory is wanted, and nothing has changed, that is what came of it
+pub refused_by : (old new : Machine) (o : Outcome) (e : StepError) → new ≡ old → IsRefusedBy o e
+    → HasOutcome old new o (Err e)
+refused_by old new o (step_error.Refused f) same h = (same, h)
+refused_by old new o step_error.NoMemory same h = (same, h)
+
+-- the outcome is that of the table's answer: one more descriptor, or the same refusal
+abbrev pub Agrees : Configuration → ℕ → Answer → Outcome → Type 0
+Agrees c process (Ok x) o = o ≡ Ok (with_fd c process x.0 x.1, Fd x.0 x.1.minor)
+Agrees c process (Err f) o = IsRefusedBy o (as_step_error f)
+
+-- where the table answers a number and a stream, and the outcome agrees, it is one more descriptor
+pub agrees_ok : (c : Configuration) (process : ℕ) (a : Answer) (o : Outcome) (x : ℕ × StreamId) → Agrees c process a o
+    → a ≡ Ok x → o ≡ Ok (with_fd c process x.0 x.1, Fd x.0 x.1.minor)
+agrees_ok c process a o x h e = subst (λ (b : Answer). Agrees c process b o) e h
+
+agrees_some : (c : Configuration) (process : ℕ) (a : Answer) (o : Outcome) → Agrees c process a o → IsOk a → IsOk o
+agrees_some c process (Ok x) o h some = rw h refl
+agrees_some c process (Err f) o h some = absurd cc
+
+-- where the table refuses, and the outcome agrees, that is refused with the same fault, or memory is wanted
+pub agrees_err : (c : Configuration) (process : ℕ) (a : Answer) (o : Outcome) (f : StreamFault) → Agrees c process a o
+    → IsRefused a f → IsRefusedBy o (as_step_error f)
+agrees_err c process a o f h (inl e) = subst (λ (b : Answer). Agrees c process b o) e h
+agrees_err c process a o f h (inr both) =
+    subst (λ (g : StreamFault). IsRefusedBy o (as_step_error g)) (sym both.0) (agrees_some c process a o h both.1)
+
+-- ---- each of them
+
+minors_at : (drivers : List DriverSpec) (n : ℕ)
+    → slice_index (map (λ (d : DriverSpec). d.minors) drivers) n ≡ minors_of drivers n
+minors_at [] n = refl
+minors_at (d ∷ ds) zero = refl
+minors_at (d ∷ ds) (suc n) = minors_at ds n
+
+find_same : (f g : ℕ → Bool) (ns : List ℕ) → ((n : ℕ) → f n ≡ g n) → find f ns ≡ find g ns
+find_same f g [] h = refl
+find_same f g (n ∷ ns) h =
+    elim (cases_Bool (g n)) [ inl t ↦ rw (h n, t) refl | inr u ↦ rw (h n, u) (find_same f g ns h) ]
+
+least_same : (drivers : List DriverSpec) (c : Configuration) (t : StreamTable) (n : ℕ)
+    → t.minors ≡ map (λ d. d.minors) drivers → TellsExisting drivers c t
+    → least_minor t n ≡ find (λ m. not (exists drivers c (record { driver = n; minor = m })))
+    (range_with_len 0 (minors_of drivers n))
+least_same drivers c t n minors told =
+    let count : slice_index t.minors n ≡ minors_of drivers n = ap (λ (xs : List ℕ). slice_index xs n) minors
+    ∙ minors_at drivers n in
+    rw count (find_same (λ m. not (is_there t (record { driver = n; minor = m })))
+    (λ m. not (exists drivers c (record { driver = n; minor = m }))) (range_with_len 0 (minors_of drivers n))
+    (λ m. ap not (told (record { driver = n; minor = m }))))
+
+-- there is such a driver
+has_driver : (drivers : List DriverSpec) (t : StreamTable) (n : ℕ) → t.minors ≡ map (λ d. d.minors) drivers
+    → n < length drivers → nat_le (length t.minors) n ≡ false
+has_driver drivers t n minors lt =
+    let len : length t.minors ≡ length drivers = ap length minors ∙ many drivers in
+    grind (arith, nat_tests) where
+      many : (ds : List DriverSpec) → length (map (λ (d : DriverSpec). d.minors) ds) ≡ length ds
+      many [] = refl
+      many (d ∷ ds) = ap suc (many ds)
+
+-- by what the answer is, and what the outcome is
+agree : (c : Configuration) (process : ℕ) (a b : Answer) (o p : Outcome) → a ≡ b → o ≡ p → Agrees c process b p
+    → Agrees c process a o
+agree c process a b o p e f h =
+    subst (λ (x : Answer). Agrees c process x o) (sym e) (subst (λ (x : Outcome). Agrees c process b x) (sym f) h)
+
+-- what the table of streams answers a clone open agrees with the outcome of the command
+pub clone_agrees : (drivers : List DriverSpec) (c : Configuration) (t : StreamTable) (process n : ℕ) (name : List ℕ)
+    → t.minors ≡ map (λ d. d.minors) drivers → TellsExisting drivers c t → t.fds ≡ c.fds
+    → driver_of drivers name ≡ Ok n → n < length drivers
+    → Agrees c process (clone_answer t process n) (outcome drivers c process (command.OpenClone name))
+clone_agrees drivers c t process n name minors told same found lt =
+    by (least_minor t n) (least_fd t.fds process) refl refl where
+      free : (o : Option ℕ) → least_minor t n ≡ o → free_minor drivers c n ≡ or_fault NoMinor o
+      free o e = ap (or_fault NoMinor) (sym (least_same drivers c t n minors told) ∙ e)
+
+      number : (k : Option ℕ) → least_fd t.fds process ≡ k → free_fd c process ≡ or_fault TooManyDescriptors k
+      number k e =
+          ap (or_fault TooManyDescriptors) (ap (λ (fds : List Descriptor). least_fd fds process) (sym same) ∙ e)
+
+      by : (o k : Option ℕ) → least_minor t n ≡ o → least_fd t.fds process ≡ k
+          → Agrees c process (clone_answer t process n) (outcome drivers c process (command.OpenClone name))
+      by None k e g = agree c process _ (Err stream_fault.NoMinor) _ (Err NoMinor)
+          (rw (has_driver drivers t n minors lt, e) refl) (rw (found, free None e) refl) refl
+      by (Some m) None e g = agree c process _ (Err stream_fault.TooManyDescriptors) _ (Err TooManyDescriptors)
+          (rw (has_driver drivers t n minors lt, e, g) refl) (rw (found, free (Some m) e, number None g) refl) refl
+      by (Some m) (Some k) e g = agree c process _ (Ok (k, record { driver = n; minor = m })) _ _
+          (rw (has_driver drivers t n minors lt, e, g) refl) (rw (found, free (Some m) e, number (Some k) g) refl) refl
+
+-- what the table of streams answers an open of a minor agrees with the outcome of the command
+pub minor_agrees : (drivers : List DriverSpec) (c : Configuration) (t : StreamTable) (process n minor : ℕ)
+    (name : List ℕ) → t.minors ≡ map (λ d. d.minors) drivers → t.fds ≡ c.fds
+    → driver_of drivers name ≡ Ok n → n < length drivers → nat_le (minors_of drivers n) minor ≡ false
+    → is_below c.links (record { driver = n; minor = minor }) ≡ false
+    → Agrees c process (minor_answer t process n minor) (outcome drivers c process (command.OpenMinor name minor))
+minor_agrees drivers c t process n minor name minors same found lt few free = by (least_fd t.fds process) refl where
+  inside : is_in_range t.minors n minor ≡ true
+  inside = let count : slice_index t.minors n ≡ minors_of drivers n = ap (λ (xs : List ℕ). slice_index xs n) minors
+      ∙ minors_at drivers n in grind (arith, nat_tests)
+
+  number : (k : Option ℕ) → least_fd t.fds process ≡ k → free_fd c process ≡ or_fault TooManyDescriptors k
+  number k e = ap (or_fault TooManyDescriptors) (ap (λ (fds : List Descriptor). least_fd fds process) (sym same) ∙ e)
+
+  by : (k : Option ℕ) → least_fd t.fds process ≡ k
+      → Agrees c process (minor_answer t process n minor) (outcome drivers c process (command.OpenMinor name minor))
+  by None g = agree c process _ (Err stream_fault.TooManyDescriptors) _ (Err TooManyDescriptors)
+      (rw (has_driver drivers t n minors lt, inside, g) refl) (rw (found, few, free, number None g) refl) refl
+  by (Some k) g = agree c process _ (Ok (k, record { driver = n; minor = minor })) _ _
+      (rw (has_driver drivers t n minors lt, inside, g) refl) (rw (found, few, free, number (Some k) g) refl) refl

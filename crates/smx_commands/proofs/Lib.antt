@@ -1,0 +1,11 @@
+pub mod DescriptorLemmas
+pub mod DroppedLemmas
+pub mod ReplyLemmas
+pub mod KnownLemmas
+pub mod SendLemmas
+pub mod LookupLemmas
+pub mod AcceptedLemmas
+pub mod MoveLemmas
+pub mod DoneLemmas
+pub mod ClosingLemmas
+pub mod TablesLemmas

@@ -1,0 +1,79 @@
+-- Replies that carry no bytes and no serials, and the room for them.
+use Rattle.std.proofs.Common.{◌≡◌, ℕ, Bool, true, false, not, List, [], ◌∷◌, Result, Ok, Err}
+use Rattle.std.proofs.Common.{refl, rules, sym, ◌∙◌}
+use Rattle.std.specs.Prelude.{◌≢◌, IsTrue}
+use Rattle.std.proofs.lemmas.Bool.{false≢true, not-true}
+use Rattle.smx_types.specs.declared.command.Command.{Command}
+use Rattle.smx_types.specs.declared.command.Command.TheVariants as command
+use Rattle.smx_types.specs.declared.driver.DriverSpec.{DriverSpec}
+use Rattle.smx_types.specs.declared.reply.Fault.{Fault}
+use Rattle.smx_types.specs.declared.reply.Reply.{Reply}
+use Rattle.smx_model.specs.Commands.{after_outcome, outcome, step}
+use Rattle.smx_model.specs.Configuration.{Configuration}
+use Rattle.smx_model.specs.LawfulHistories.{dropped_by, may_drop}
+use Rattle.smx_model.specs.Outcomes.{Outcome, ◌>>=◌}
+use Rattle.smx_commands.specs.SecondReplies.{HasRoomFor, HasRoomForReply, bytes_of}
+use Rattle.smx_commands.specs.declared.second_reply.ReplyRoom.{ReplyRoom}
+
+-- neither delivers a message nor may drop one
+abbrev pub carries_nothing : Command → Bool
+carries_nothing (command.Read fd) = false
+carries_nothing (command.Transmit name minor) = false
+carries_nothing k = not (may_drop k)
+
+-- the reply to an outcome carries no bytes
+record HasNoBytes (drivers : List DriverSpec) (c : Configuration) (o : Outcome) : Type 0 where
+  pub none : bytes_of (after_outcome drivers c o).1 ≡ []
+
+nothing : (drivers : List DriverSpec) (c : Configuration) (x : Configuration × Reply) → bytes_of x.1 ≡ []
+    → HasNoBytes drivers c (Ok x)
+nothing drivers c x h = record { none = h }
+
+-- what holds of each outcome behind a step holds of the whole
+behind : {A : Type 0} (drivers : List DriverSpec) (c : Configuration) (a : Result A Fault) (f : A → Outcome)
+    → ((v : A) → HasNoBytes drivers c (f v)) → HasNoBytes drivers c (a >>= f)
+behind drivers c (Ok v) f h = h v
+behind drivers c (Err g) f h = record { none = refl }
+
+no_bytes : (drivers : List DriverSpec) (c : Configuration) (process : ℕ) (k : Command) → carries_nothing k ≡ true
+    → HasNoBytes drivers c (outcome drivers c process k)
+no_bytes drivers c process (command.OpenClone name) h = search (behind, nothing, rules) depth 20
+no_bytes drivers c process (command.OpenMinor name minor) h = search (behind, nothing, rules) depth 20
+no_bytes drivers c process (command.Dup fd) h = search (behind, nothing, rules) depth 20
+no_bytes drivers c process (command.Close fd) h = absurd cc
+no_bytes drivers c process command.CloseAll h = absurd cc
+no_bytes drivers c process (command.Link fd arg) h = search (behind, nothing, rules) depth 20
+no_bytes drivers c process (command.Plink fd arg) h = search (behind, nothing, rules) depth 20
+no_bytes drivers c process (command.Unlink fd w) h = absurd cc
+no_bytes drivers c process (command.Punlink fd w) h = absurd cc
+no_bytes drivers c process (command.Bind fd addr) h = search (behind, nothing, rules) depth 20
+no_bytes drivers c process (command.Unbind fd) h = search (behind, nothing, rules) depth 20
+no_bytes drivers c process (command.Route fd addr id) h = search (behind, nothing, rules) depth 20
+no_bytes drivers c process (command.Unroute fd addr) h = search (behind, nothing, rules) depth 20
+no_bytes drivers c process (command.Write fd addr bytes) h = search (behind, nothing, rules) depth 20
+no_bytes drivers c process (command.Read fd) h = absurd cc
+no_bytes drivers c process (command.Flush fd w) h = absurd cc
+no_bytes drivers c process (command.Inject name minor addr bytes) h = search (behind, nothing, rules) depth 20
+no_bytes drivers c process (command.Transmit name minor) h = absurd cc
+no_bytes drivers c process (command.Hangup name minor) h = search (behind, nothing, rules) depth 20
+
+-- and so may drop none
+drops_none : (k : Command) → carries_nothing k ≡ true → may_drop k ≡ false
+drops_none (command.Read fd) h = refl
+drops_none (command.Transmit name minor) h = refl
+drops_none k h = not-true _ h
+
+not_some : (ns : List ℕ) → ((ns ≡ [] → ⊥) → ⊥) → ns ≡ []
+not_some [] h = refl
+not_some (n ∷ ns) h = absurd (h (λ e. cc))
+
+-- so no room is enough for their replies
+pub nothing_fits : (drivers : List DriverSpec) (c : Configuration) (process : ℕ) (k : Command) (room : ReplyRoom)
+    → carries_nothing k ≡ true → (dropped_by (step drivers c process k).1 ≢ [] → IsTrue (may_drop k))
+    → HasRoomFor 0 0 room
+    → HasRoomForReply (after_outcome drivers c (outcome drivers c process k)).1 room
+nothing_fits drivers c process k room plain law h =
+    rw (
+      (no_bytes drivers c process k plain).none,
+      not_some (dropped_by (step drivers c process k).1) (λ some. false≢true (sym (drops_none k plain) ∙ law some)),
+    ) h

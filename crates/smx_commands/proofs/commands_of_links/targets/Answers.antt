@@ -1,0 +1,17 @@
+use Rattle.std.proofs.Common.{◌≡◌, ◌&&◌, eqb, subst}
+use Rattle.std.specs.Prelude.{Ok}
+use Rattle.std.specs.List.{list_any}
+use Rattle.smx_types.specs.declared.command.Which.{Which}
+use Rattle.smx_types.specs.declared.reply.Fault.TheVariants.{NoLink}
+use Rattle.smx_commands.specs.UnlinkTargets.{are_there, may_unlink}
+use Rattle.smx_tables.proofs.AboveLemmas.{target_of_id}
+use Rattle.smx_commands.proofs.LookupLemmas.{is_there}
+use Rattle.smx_commands.proofs.commands_of_links.targets.Goals as goal
+
+pub returns-in-Id : goal.returns-in-Id
+returns-in-Id c =
+    let t = may_unlink c.args.kind c.args.stream in
+    let links = c.args.links.now.links in
+    let there = is_there NoLink (list_any (λ l. eqb l.id c.in-Id.id && t l) links)
+    (subst (λ (w : Which). are_there w c.args.kind c.args.stream links ≡ Ok tt) c.in-Id.is c.requires) in
+    rw c.in-Id.is (rw (target_of_id t c.in-Id.id links c.is_sound.ensures.ids.rise there) c.from_slice.ensures.items)

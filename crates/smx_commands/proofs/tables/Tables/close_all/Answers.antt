@@ -1,0 +1,44 @@
+use Rattle.std.proofs.Common.{List, ◌==◌, not, filter, ap, refl, ◌∙◌}
+use Rattle.smx_types.specs.declared.stream.Descriptor.{Descriptor}
+use Rattle.smx_types.specs.declared.command.Command.TheVariants as command
+use Rattle.smx_model.specs.Commands.{outcome}
+use Rattle.smx_model.specs.Removal.{after_sweep}
+use Rattle.smx_tables.specs.ModelOfLists.{configuration_of}
+use Rattle.smx_tables.proofs.HungSweepLemmas.{sweep_of_left}
+use Rattle.smx_tables.proofs.TouchLemmas.{touched_by, touched_fds, touched_hungs}
+use Rattle.smx_commands.proofs.ClosingLemmas.{all_closed_touch}
+use Rattle.smx_commands.proofs.DoneLemmas.{swept_is}
+use Rattle.smx_commands.proofs.TablesLemmas.{accepted, sound_inside}
+use Rattle.smx_commands.proofs.tables.Tables.close_all.Goals as goal
+
+pub sweep_and_reply-requires-clause-touched : goal.sweep_and_reply-requires-clause-touched
+sweep_and_reply-requires-clause-touched c =
+    let old = configuration_of c.self.inside.lists in
+    let t = c.self.inside.lists.streams in
+    let u = c.close_process.new.self in
+    let ss = c.touch_each.new.touched.items in
+    let sound = sound_inside c.self.inside c.args.self.now c.self.view_is c.requires in
+    touched_hungs u ss (record old { fds = u.fds }) u.hungs
+    (touched_fds u ss old u.fds
+    (touched_by c.self.inside.drivers.items old t u ss
+    (rw (← c.deref.ensures.value) c.tells_existing.ensures) sound.swept
+    (all_closed_touch t u c.args.process ss c.touch_each.ensures.named c.close_process.ensures.went)))
+
+pub returns : goal.returns
+returns c =
+    let old = configuration_of c.self.inside.lists in
+    let u = c.close_process.new.self in
+    let sound = sound_inside c.self.inside c.args.self.now c.self.view_is c.requires in
+    let swept = record old { fds = u.fds; hungs = u.hungs } in
+    let left = sweep_of_left c.self.inside.drivers.items swept u old.hungs
+    (λ s. c.close_process.ensures.rest.holds s ∙ c.self.invariant.kept.held s)
+    refl c.close_process.ensures.rest.hungs in
+    accepted c.self.inside c.args.self.now _
+    (λ m. outcome m.drivers m.configuration c.args.process command.CloseAll) _ c.self.view_is
+    (swept_is c.self.inside.drivers.items c.deref-2.result.now old
+    (record old { fds = filter (λ d. not (d.process == c.args.process)) old.fds }) swept _
+    c.sweep_and_reply.result
+    c.deref-2.ensures.value c.sweep_and_reply.ensures.value (left
+    ∙ ap (λ (fs : List Descriptor). after_sweep c.self.inside.drivers.items (record old { fds = fs }))
+    c.close_process.ensures.rest.fds)
+    (c.sweep_and_reply.ensures.reply old.flow sound.serials.apart c.in_ok-room.ensures.none))

@@ -1,0 +1,44 @@
+use Rattle.std.proofs.Common.{◌≡◌, true, rules, sym, ◌∙◌}
+use Rattle.smx_commands.proofs.DoneLemmas.{punlink_is, unlink_is}
+use Rattle.smx_commands.proofs.ReplyLemmas.{carries_nothing, nothing_fits}
+use Rattle.smx_commands.proofs.tables.Tables.room_for_reply.Goals as goal
+
+pub returns-in_ok-stream-in-Read-clause-makes : goal.returns-in_ok-stream-in-Read-clause-makes
+returns-in_ok-stream-in-Read-clause-makes c =
+    rw (c.in-Read.is, sym c.free_stream.ensures ∙ c.in_ok-stream-in-Read.was)
+    c.room_for_read.ensures.makes
+
+pub returns-in_ok-stream-in-Read-clause-in_place : goal.returns-in_ok-stream-in-Read-clause-in_place
+returns-in_ok-stream-in-Read-clause-in_place c =
+    rw (c.in-Read.is, sym c.free_stream.ensures ∙ c.in_ok-stream-in-Read.was)
+    (λ _. c.room_for_read.ensures.in_place)
+
+pub returns-in_ok-stream-in-Transmit-clause-makes : goal.returns-in_ok-stream-in-Transmit-clause-makes
+returns-in_ok-stream-in-Transmit-clause-makes c =
+    rw (c.in-Transmit.is, sym c.live_leaf.ensures ∙ c.in_ok-stream-in-Transmit.was)
+    c.room_for_first.ensures.makes
+
+pub returns-in_ok-stream-in-Transmit-clause-in_place : goal.returns-in_ok-stream-in-Transmit-clause-in_place
+returns-in_ok-stream-in-Transmit-clause-in_place c =
+    rw (c.in-Transmit.is, sym c.live_leaf.ensures ∙ c.in_ok-stream-in-Transmit.was)
+    (λ _. c.room_for_first.ensures.in_place)
+
+pub returns-in-OpenClone-clause-makes : goal.returns-in-OpenClone-clause-makes
+returns-in-OpenClone-clause-makes c =
+    let plain : carries_nothing c.args.command.now ≡ true = search rules in
+    nothing_fits c.args.self.now.drivers c.args.self.now.configuration c.args.process c.args.command.now
+    c.no_room.result plain
+    (c.other_commands_drop_none.ensures c.args.self.now.drivers c.args.self.now.configuration c.args.process
+    c.args.command.now c.requires.swept) c.no_room.ensures
+
+pub returns-in-Unlink-clause-makes : goal.returns-in-Unlink-clause-makes
+returns-in-Unlink-clause-makes c = rw (
+  c.in-Unlink.is,
+  unlink_is c.args.self.now.drivers c.args.self.now.configuration c.args.process c.in-Unlink.fd c.in-Unlink.which,
+) c.room_for_unlink.ensures
+
+pub returns-in-Punlink-clause-makes : goal.returns-in-Punlink-clause-makes
+returns-in-Punlink-clause-makes c = rw (
+  c.in-Punlink.is,
+  punlink_is c.args.self.now.drivers c.args.self.now.configuration c.args.process c.in-Punlink.fd c.in-Punlink.which,
+) c.room_for_unlink-in-Punlink.ensures

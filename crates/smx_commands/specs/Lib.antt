@@ -1,0 +1,11 @@
+pub mod Machine
+pub mod CommandsInPlace
+pub mod LinkFaults
+pub mod StreamFaults
+pub mod Sending
+pub mod MessageStreams
+pub mod Refinement
+pub mod ModelOfTables
+pub mod SecondReplies
+pub mod UnlinkTargets
+pub mod Closing

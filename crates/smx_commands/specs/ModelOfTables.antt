@@ -1,0 +1,25 @@
+-- The tables of a configuration with their drivers, and what they keep. No public clause needs this.
+use Rattle.smx_commands.specs.declared.tables.Tables.TheInside.{Inside}
+use Rattle.std.specs.Prelude.{◌≡◌, ℕ, List, length, map}
+use Rattle.smx_types.specs.declared.driver.DriverSpec.{DriverSpec}
+use Rattle.smx_model.specs.DriverList.{IsDriverList}
+use Rattle.smx_tables.specs.KeptHolds.{KeepsHolds}
+use Rattle.smx_tables.specs.ModelOfLists.{configuration_of, sizes_of}
+use Rattle.smx_commands.specs.Machine.{Machine}
+
+-- the fields as the value that a contract sees
+abbrev pub machine_of : Inside → Machine
+machine_of t = record { drivers = t.drivers.items; configuration = configuration_of t.lists }
+
+-- the sizes of tables over these drivers
+abbrev pub sizes_over : List DriverSpec → ℕ × List ℕ × List DriverSpec
+sizes_over drivers = (length drivers, map (λ d. d.minors) drivers, drivers)
+
+-- what holds of the fields between any two calls
+pub record TablesInvariant (t : Inside) : Type 0 where
+  -- the drivers can be had
+  pub can : IsDriverList t.drivers.items
+  -- each table is over the drivers
+  pub sizes : sizes_of t.lists ≡ sizes_over t.drivers.items
+  -- each stream below a link is held
+  pub kept : KeepsHolds t.lists

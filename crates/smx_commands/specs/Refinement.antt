@@ -1,0 +1,26 @@
+-- What the part of a step that is a command leaves, before messages move on. No public clause needs this.
+use Rattle.std.specs.Prelude.{◌≡◌, ℕ, Result, Ok, Err, IsOk}
+use Rattle.smx_types.specs.declared.command.Command.{Command}
+use Rattle.smx_types.specs.declared.reply.Fault.{Fault}
+use Rattle.smx_types.specs.declared.reply.Reply.{Reply}
+use Rattle.smx_model.specs.Commands.{outcome}
+use Rattle.smx_model.specs.Outcomes.{Outcome}
+use Rattle.smx_commands.specs.Machine.{Machine}
+use Rattle.smx_commands.specs.declared.step_error.StepError.{StepError}
+use Rattle.smx_commands.specs.declared.step_error.StepError.TheVariants as step_error
+
+-- accepted, with this outcome; or refused; or a growth was refused of what was accepted: then nothing has changed
+abbrev pub HasOutcome : Machine → Machine → Outcome → Result Reply StepError → Type 0
+HasOutcome old new o (Ok r) = (new.drivers ≡ old.drivers) × (o ≡ Ok (new.configuration, r))
+HasOutcome old new o (Err (step_error.Refused f)) = (new ≡ old) × (o ≡ Err f)
+HasOutcome old new o (Err step_error.NoMemory) = (new ≡ old) × IsOk o
+
+-- a command comes to the outcome of the command table
+abbrev pub Refines : Machine → Machine → ℕ → Command → Result Reply StepError → Type 0
+Refines old new process command result =
+    HasOutcome old new (outcome old.drivers old.configuration process command) result
+
+-- the answer of a command that takes no memory, among those that may take some
+abbrev pub as_step_error : Result Reply Fault → Result Reply StepError
+as_step_error (Ok r) = Ok r
+as_step_error (Err f) = Err (step_error.Refused f)

@@ -1,0 +1,78 @@
+//! Binding streams to addresses, and routing addresses to links.
+
+ghost use Rattle.std.specs.Prelude.{◌≡◌, ◌==◌, ◌&&◌};
+ghost use Rattle.std.specs.List.{list_any};
+ghost use Rattle.smx_types.specs.declared.command.Command.TheVariants as command;
+ghost use Rattle.smx_model.specs.KeptConfigurations.{IsSound};
+ghost use Rattle.smx_commands.specs.Refinement.{Refines, as_step_error};
+
+use crate::answers::{done, refuse};
+use crate::step_error::StepError;
+use crate::tables::Tables;
+use smx_model::laws_of_steps::idle_changes_drop_none;
+use smx_types::{Fault, Process, Reply};
+
+// What is left to sweep stays as it is under each of them: the stream exists, and a route holds no stream.
+impl Tables {
+    pub(crate) fn bind(&mut self, process: Process, fd: u32, addr: u32) -> Result<Reply, StepError>
+        requires { IsSound self.old.drivers self.old.configuration }
+        ensures { Refines self.old self.new process (command.Bind fd addr) result }
+    {
+        idle_changes_drop_none();
+        let stream = self.mux_stream(process, fd)?;
+        refuse(Fault::AddressInUse, self.lists.binds.is_taken(stream, addr))?;
+        self.lists.binds.bind(stream, addr)?;
+        Ok(done(self.alloc))
+    }
+
+    pub(crate) fn unbind(&mut self, process: Process, fd: u32) -> Result<Reply, Fault>
+        requires { IsSound self.old.drivers self.old.configuration }
+        ensures { Refines self.old self.new process (command.Unbind fd) (as_step_error result) }
+    {
+        idle_changes_drop_none();
+        let stream = self.mux_stream(process, fd)?;
+        let Some(_binding) = self.lists.binds.unbind(stream) else {
+            return Err(Fault::Unbound);
+        };
+        Ok(done(self.alloc))
+    }
+
+    fn has_link(&self, driver: u8, id: u32) -> bool
+        ensures { result ≡ list_any (λ l. (l.id == id) && (l.ctl.driver == driver)) self.now.configuration.links }
+    {
+        self.lists.links.is_sound();
+        match self.lists.links.get(id) {
+            Some(link) => link.ctl.driver == driver,
+            None => false,
+        }
+    }
+
+    pub(crate) fn route(
+        &mut self,
+        process: Process,
+        fd: u32,
+        addr: u32,
+        id: u32,
+    ) -> Result<Reply, StepError>
+        requires { IsSound self.old.drivers self.old.configuration }
+        ensures { Refines self.old self.new process (command.Route fd addr id) result }
+    {
+        idle_changes_drop_none();
+        let stream = self.mux_stream(process, fd)?;
+        refuse(Fault::NoLink, !self.has_link(stream.driver, id))?;
+        self.lists.routes.route(stream.driver, addr, id)?;
+        Ok(done(self.alloc))
+    }
+
+    pub(crate) fn unroute(&mut self, process: Process, fd: u32, addr: u32) -> Result<Reply, Fault>
+        requires { IsSound self.old.drivers self.old.configuration }
+        ensures { Refines self.old self.new process (command.Unroute fd addr) (as_step_error result) }
+    {
+        idle_changes_drop_none();
+        let stream = self.mux_stream(process, fd)?;
+        let Some(_route) = self.lists.routes.unroute(stream.driver, addr) else {
+            return Err(Fault::Unrouted);
+        };
+        Ok(done(self.alloc))
+    }
+}

@@ -1,0 +1,160 @@
+//! Linking streams below a driver, and removing links.
+
+ghost use Rattle.std.specs.Prelude.{◌≡◌, map, filter, IfOk, Ok};
+ghost use Rattle.std.specs.List.{list_any};
+ghost use Rattle.smx_types.specs.declared.command.Which.TheVariants as which;
+ghost use Rattle.smx_types.specs.declared.stream.StreamId.{StreamId as StreamValue};
+ghost use Rattle.smx_model.specs.Commands.{link_outcome};
+ghost use Rattle.smx_model.specs.KeptConfigurations.{IsSound};
+ghost use Rattle.smx_commands.specs.UnlinkTargets.{may_have_links, may_unlink, is_target, are_there, unlinks};
+ghost use Rattle.smx_commands.specs.Refinement.{HasOutcome};
+
+use crate::answers::refuse;
+use crate::step_error::StepError;
+use crate::tables::{Tables, tells_existing};
+use smx_links::LinkTable;
+use smx_tables::comparisons::same_stream;
+use smx_tables::driver_specs::is_mux;
+use smx_tables::removal::remove_links;
+use smx_tables::standing::is_persistent;
+use smx_tables::sweep::{reserve_for_sweep, sweep_and_reply};
+use smx_types::{Fault, Link, LinkKind, Process, Reply, StreamId, Which};
+use std::alloc::{AllocError, Global};
+
+// Whether a command for links of this kind on this stream is for the link.
+fn may_unlink(kind: LinkKind, stream: StreamId, link: &Link) -> bool
+    ensures { result ≡ may_unlink kind stream link.now }
+{
+    match kind {
+        LinkKind::Ordinary => !is_persistent(link) && same_stream(link.ctl, stream),
+        LinkKind::Persistent => is_persistent(link) && link.ctl.driver == stream.driver,
+    }
+}
+
+// The links among which those are that a command for links of this kind may be for.
+fn links_of(links: &LinkTable, kind: LinkKind) -> &[Link]
+    ensures { (s : StreamValue) → filter (may_unlink kind s) result.now ≡ filter (may_unlink kind s) links.now.links }
+{
+    match kind {
+        LinkKind::Ordinary => links.ordinary(),
+        LinkKind::Persistent => links.links(),
+    }
+}
+
+// The ids of all links that such a command may be for.
+fn all_targets(
+    alloc: Global,
+    links: &LinkTable,
+    kind: LinkKind,
+    stream: StreamId,
+) -> Result<Vec<u32>, AllocError>
+    ensures { IfOk result (λ v. v.items ≡ map (λ l. l.id) (filter (may_unlink kind stream) links.now.links)) }
+{
+    let mut ids = Vec::new(alloc);
+    for link in links_of(links, kind) {
+        if may_unlink(kind, stream, link) {
+            ids.push(link.id)?;
+        }
+    }
+    Ok(ids)
+}
+
+// The ids of the links that the command is for.
+fn targets(
+    alloc: Global,
+    links: &LinkTable,
+    which: Which,
+    kind: LinkKind,
+    stream: StreamId,
+) -> Result<Vec<u32>, AllocError>
+    requires { are_there which kind stream links.now.links ≡ Ok tt }
+    ensures { IfOk result (λ v. v.items ≡ map (λ l. l.id) (filter (is_target which kind stream) links.now.links)) }
+{
+    links.is_sound();
+    match which {
+        Which::All => all_targets(alloc, links, kind, stream),
+        Which::Id(id) => Vec::from_slice(alloc, &[id]),
+    }
+}
+
+// Whether a command for links of this kind on this stream is for the link with the id.
+fn has_target(links: &LinkTable, id: u32, kind: LinkKind, stream: StreamId) -> bool
+    ensures { result ≡ list_any (is_target (which.Id id) kind stream) links.now.links }
+{
+    links.is_sound();
+    match links.get(id) {
+        Some(link) => may_unlink(kind, stream, link),
+        None => false,
+    }
+}
+
+impl Tables {
+    // Whether streams may be linked below this one; the first refusal that applies.
+    fn check_upper(&self, upper: StreamId) -> Result<(), Fault>
+        ensures { result ≡ may_have_links self.now.drivers self.now.configuration upper }
+    {
+        refuse(Fault::Below, self.lists.links.is_below(upper))?;
+        refuse(Fault::HungUp, self.lists.streams.is_hung(upper))?;
+        refuse(Fault::NotMux, !is_mux(&self.drivers, upper.driver as usize))
+    }
+
+    // Links a stream below another one, by a link of this kind.
+    pub(crate) fn link_as(
+        &mut self,
+        process: Process,
+        fd: u32,
+        arg: u32,
+        kind: LinkKind,
+    ) -> Result<Reply, StepError>
+        requires { IsSound self.old.drivers self.old.configuration }
+        ensures { HasOutcome self.old self.new
+            (link_outcome self.old.drivers self.old.configuration process fd arg kind) result }
+    {
+        let upper = self.stream_of(process, fd)?;
+        let lower = self.stream_of(process, arg)?;
+        self.check_upper(upper)?;
+        let id = self.lists.links.try_link(upper, lower, kind)?;
+        self.lists.streams.hold(lower);
+        Ok(Reply::Id(id))
+    }
+
+    // Whether links are there that are named; links of no id need not be.
+    pub(crate) fn check_targets(
+        &self,
+        which: Which,
+        kind: LinkKind,
+        stream: StreamId,
+    ) -> Result<(), Fault>
+        ensures { result ≡ are_there which kind stream self.now.configuration.links }
+    {
+        match which {
+            Which::All => Ok(()),
+            Which::Id(id) => refuse(
+                Fault::NoLink,
+                !has_target(&self.lists.links, id, kind, stream),
+            ),
+        }
+    }
+
+    // Removes links of this kind.
+    pub(crate) fn unlink_as(
+        &mut self,
+        process: Process,
+        fd: u32,
+        which: Which,
+        kind: LinkKind,
+    ) -> Result<Reply, StepError>
+        requires { IsSound self.old.drivers self.old.configuration }
+        ensures { HasOutcome self.old self.new
+            (unlinks self.old.drivers self.old.configuration process fd which kind) result }
+    {
+        let stream = self.mux_stream(process, fd)?;
+        self.check_targets(which, kind, stream)?;
+        tells_existing(&self.drivers, &self.lists);
+        self.lists.links.is_sound();
+        let gone = targets(self.alloc, &self.lists.links, which, kind, stream)?;
+        let mut room = reserve_for_sweep(self.alloc, &self.lists, gone.len())?;
+        remove_links(&mut self.lists, &gone, &mut room.touched, &mut room.dropped);
+        Ok(sweep_and_reply(&self.drivers, &mut self.lists, room))
+    }
+}

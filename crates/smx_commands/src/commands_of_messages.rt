@@ -1,0 +1,154 @@
+//! Writing, reading, flushing, and the device's side.
+
+ghost use Rattle.std.specs.Prelude.{◌≡◌, ◌≢◌, ◌==◌, ◌||◌, nat_lt, nat_le, length, IfOk, Err};
+ghost use Rattle.smx_types.specs.declared.command.Command.TheVariants.{Flush};
+ghost use Rattle.smx_types.specs.declared.limits.TheConstants.{NUMBER_END};
+ghost use Rattle.smx_model.specs.Commands.{send_outcome, receive_outcome};
+ghost use Rattle.smx_model.specs.DriverList.{max_of};
+ghost use Rattle.smx_model.specs.KeptConfigurations.{IsSound};
+ghost use Rattle.smx_model.specs.KnownStreams.{IsKnown};
+ghost use Rattle.smx_model.specs.Queues.{is_full};
+ghost use Rattle.smx_commands.specs.Refinement.{HasOutcome, Refines};
+ghost use Rattle.smx_commands.specs.declared.step_error.StepError.TheVariants as step_error;
+ghost use Rattle.smx_commands.specs.Sending.{is_at_end, may_send, read_from, received_from, sent_to};
+
+use crate::answers::refuse;
+use crate::step_error::StepError;
+use crate::tables::{Tables, tells_existing};
+use smx_tables::arrivals::{arrive, leave};
+use smx_tables::driver_specs::max_of;
+use smx_tables::dropped_messages::drop_sides;
+use smx_tables::sweep::{reserve_for_sweep, sweep_and_reply};
+use smx_types::{
+    Bytes, DriverSpec, Fault, Message, NUMBER_END, Place, Process, Reply, Side, Sides, StreamId,
+};
+
+// Whether there are no bytes, or more than the driver lets a message have.
+fn has_bad_size(drivers: &[DriverSpec], place: Place, bytes: &Bytes) -> bool
+    ensures { result ≡ ((length bytes.now == 0) || nat_lt (max_of drivers.now place.stream.driver) (length bytes.now)) }
+{
+    let len = bytes.as_slice().len();
+    len == 0 || len > max_of(drivers, place.stream.driver as usize) as usize
+}
+
+impl Tables {
+    // Whether the place is full, or there is no next serial.
+    fn has_no_room(&self, place: Place) -> bool
+        ensures { result
+            ≡ (is_full self.now.configuration place || nat_le NUMBER_END self.now.configuration.next_serial) }
+    {
+        self.is_full(place) || self.lists.next_serial >= NUMBER_END
+    }
+
+    // Whether bytes may be sent to the place; the first refusal that applies.
+    fn check_send(&self, place: Place, bytes: &Bytes) -> Result<(), Fault>
+        ensures { result ≡ may_send self.now.drivers self.now.configuration place bytes.now }
+    {
+        refuse(Fault::BadSize, has_bad_size(&self.drivers, place, bytes))?;
+        refuse(Fault::Full, self.has_no_room(place))
+    }
+
+    fn send_to(&mut self, place: Place, addr: u32, bytes: &Bytes) -> Result<Reply, StepError>
+        requires { IsKnown self.old.drivers place.stream }
+        ensures { HasOutcome self.old self.new
+            (send_outcome self.old.drivers self.old.configuration place addr bytes.now) result }
+    {
+        self.check_send(place, bytes)?;
+        let bytes = bytes.copy(self.alloc)?;
+        self.lists.queues.reserve_one()?;
+        let serial = self.lists.next_serial;
+        let message = Message {
+            serial,
+            addr,
+            bytes,
+        };
+        arrive(&mut self.lists, place, message);
+        self.lists.next_serial = serial + 1;
+        Ok(Reply::Took { serial })
+    }
+
+    // A message that a command sends to a side of the stream that it names.
+    pub(crate) fn send(
+        &mut self,
+        named: Result<StreamId, Fault>,
+        side: Side,
+        addr: u32,
+        bytes: &Bytes,
+    ) -> Result<Reply, StepError>
+        requires { IfOk named (IsKnown self.old.drivers) }
+        ensures { HasOutcome self.old self.new
+            (sent_to self.old.drivers self.old.configuration named side addr bytes.now) result }
+    {
+        let stream = named?;
+        self.send_to(Place { stream, side }, addr, bytes)
+    }
+
+    fn receive_from(&mut self, place: Place) -> Result<Reply, StepError>
+        ensures outcome { HasOutcome self.old self.new
+            (receive_outcome self.old.drivers self.old.configuration place) result }
+        ensures in_place { result ≢ Err step_error.NoMemory }
+    {
+        let Some(message) = leave(&mut self.lists, place) else {
+            return Err(StepError::Refused(Fault::Empty));
+        };
+        Ok(Reply::Got {
+            serial: message.serial,
+            addr: message.addr,
+            bytes: message.bytes,
+        })
+    }
+
+    // Whether the stream has hung up, and there is nothing to read.
+    pub(crate) fn is_at_end(&self, stream: StreamId) -> bool
+        ensures { result ≡ is_at_end self.now.configuration stream }
+    {
+        let side = Side::Read;
+        self.lists.streams.is_hung(stream)
+            && !self.lists.queues.has_messages(Place { stream, side })
+    }
+
+    // The first message of the read side of the stream that a command names; the end of file, where that has hung up
+    // and has none.
+    pub(crate) fn read(&mut self, named: Result<StreamId, Fault>) -> Result<Reply, StepError>
+        ensures outcome { HasOutcome self.old self.new
+            (read_from self.old.drivers self.old.configuration named) result }
+        ensures in_place { result ≢ Err step_error.NoMemory }
+    {
+        let stream = named?;
+        if self.is_at_end(stream) {
+            return Ok(Reply::Eof);
+        }
+        let side = Side::Read;
+        self.receive_from(Place { stream, side })
+    }
+
+    // The message that a command takes from a side of the stream that it names.
+    pub(crate) fn receive(
+        &mut self,
+        named: Result<StreamId, Fault>,
+        side: Side,
+    ) -> Result<Reply, StepError>
+        ensures outcome { HasOutcome self.old self.new
+            (received_from self.old.drivers self.old.configuration named side) result }
+        ensures in_place { result ≢ Err step_error.NoMemory }
+    {
+        let stream = named?;
+        self.receive_from(Place { stream, side })
+    }
+
+    pub(crate) fn flush(
+        &mut self,
+        process: Process,
+        fd: u32,
+        sides: Sides,
+    ) -> Result<Reply, StepError>
+        requires { IsSound self.old.drivers self.old.configuration }
+        ensures { Refines self.old self.new process (Flush fd sides) result }
+    {
+        let stream = self.live_stream(process, fd)?;
+        tells_existing(&self.drivers, &self.lists);
+        let mut room = reserve_for_sweep(self.alloc, &self.lists, 0)?;
+        drop_sides(&mut self.lists.queues, stream, sides, &mut room.dropped);
+        Ok(sweep_and_reply(&self.drivers, &mut self.lists, room))
+    }
+}

@@ -1,0 +1,153 @@
+//! Opening, sharing and closing streams.
+
+ghost use Rattle.std.specs.Prelude.{◌≡◌, ◌≢◌, ℕ, ◌+◌, ◌<◌, ◌≤◌, true, false, length, vec_capacity, Some, Err};
+ghost use Rattle.std.specs.List.{list_any};
+ghost use Rattle.smx_types.specs.declared.command.Command.TheVariants.{OpenClone, OpenMinor, Dup};
+ghost use Rattle.smx_types.specs.declared.command.Command.TheVariants.{Close, CloseAll, Hangup};
+ghost use Rattle.smx_types.specs.declared.limits.TheConstants.{MAX_DESCRIPTORS};
+ghost use Rattle.smx_types.specs.declared.reply.Reply.TheVariants.{Fd};
+ghost use Rattle.smx_types.specs.declared.stream.StreamId.{StreamId};
+ghost use Rattle.smx_model.specs.Configuration.{same_stream};
+ghost use Rattle.smx_model.specs.KeptConfigurations.{IsSound};
+ghost use Rattle.smx_streams.specs.StreamTables.{stream_at};
+ghost use Rattle.smx_commands.specs.Closing.{closing};
+ghost use Rattle.smx_commands.specs.declared.step_error.StepError.TheVariants as step_error;
+ghost use Rattle.smx_commands.specs.Refinement.{HasOutcome, Refines, as_step_error};
+
+use crate::answers::{done, refuse};
+use crate::step_error::StepError;
+use crate::tables::{Tables, tells_existing};
+use smx_model::laws_of_steps::idle_changes_drop_none;
+use smx_streams::Streams;
+use smx_tables::standing;
+use smx_tables::sweep::{reserve_for_sweep, sweep_alone_and_reply, sweep_and_reply};
+use smx_types::{Fault, MAX_DESCRIPTORS, Name, Process, Reply, StreamId};
+
+// A descriptor and its stream, as a reply.
+fn fd_reply(opened: (u32, StreamId)) -> Reply
+    ensures { result ≡ Fd opened.0 opened.1.minor }
+{
+    Reply::Fd {
+        fd: opened.0,
+        minor: u32::from(opened.1.minor),
+    }
+}
+
+// Puts the streams of a process's descriptors to those that a change touches.
+fn touch_each(streams: &Streams, process: Process, touched: &mut Vec<StreamId>)
+    requires { length touched.old.items + MAX_DESCRIPTORS ≤ vec_capacity touched.old }
+    ensures named { (n : ℕ) (s : StreamId) → n < MAX_DESCRIPTORS → stream_at streams.now.fds process n ≡ Some s
+        → list_any (same_stream s) touched.new.items ≡ true }
+    ensures few { length touched.new.items ≤ length touched.old.items + MAX_DESCRIPTORS }
+    ensures capacity { vec_capacity touched.new ≡ vec_capacity touched.old }
+{
+    for fd in 0..MAX_DESCRIPTORS {
+        if let Some(stream) = streams.stream_of(process, fd) {
+            touched.push_reserved(stream);
+        }
+    }
+}
+
+impl Tables {
+    pub(crate) fn open_clone(&mut self, process: Process, name: &Name) -> Result<Reply, StepError>
+        requires { IsSound self.old.drivers self.old.configuration }
+        ensures { Refines self.old self.new process (OpenClone name.now) result }
+    {
+        let driver = self.driver_of(name)?;
+        tells_existing(&self.drivers, &self.lists);
+        let opened = self.lists.streams.open_clone(process, driver)?;
+        Ok(fd_reply(opened))
+    }
+
+    pub(crate) fn open_minor(
+        &mut self,
+        process: Process,
+        name: &Name,
+        minor: u32,
+    ) -> Result<Reply, StepError>
+        ensures { Refines self.old self.new process (OpenMinor name.now minor) result }
+    {
+        let driver = self.driver_of(name)?;
+        refuse(Fault::NoMinor, u32::from(self.minors_of(driver)) <= minor)?;
+        let stream = StreamId {
+            driver,
+            minor: minor as u8,
+        };
+        refuse(Fault::Below, self.lists.links.is_below(stream))?;
+        let opened = self.lists.streams.open_minor(process, driver, minor)?;
+        Ok(fd_reply(opened))
+    }
+
+    pub(crate) fn dup(&mut self, process: Process, fd: u32) -> Result<Reply, StepError>
+        ensures refines { Refines self.old self.new process (Dup fd) result }
+        ensures in_place { result ≢ Err step_error.NoMemory }
+    {
+        let opened = self.lists.streams.dup(process, fd)?;
+        Ok(fd_reply(opened))
+    }
+
+    // Closes the last descriptor of a stream that isn't held, and sweeps what goes with it: the stream alone, where no
+    // link is below its driver.
+    fn close_last(
+        &mut self,
+        process: Process,
+        fd: u32,
+        stream: StreamId,
+    ) -> Result<Reply, StepError>
+        requires sound { IsSound self.old.drivers self.old.configuration }
+        requires there { stream_at self.old.configuration.fds process fd ≡ Some stream }
+        ensures { HasOutcome self.old self.new
+            (closing self.old.drivers self.old.configuration process fd) result }
+    {
+        tells_existing(&self.drivers, &self.lists);
+        if !self.lists.links.is_upper(stream.driver) {
+            let room = Vec::with_capacity(self.alloc, self.lists.queues.len())?;
+            let _gone = self.lists.streams.close_fd(process, fd);
+            return Ok(sweep_alone_and_reply(&self.drivers, &mut self.lists, stream, room));
+        }
+        let mut room = reserve_for_sweep(self.alloc, &self.lists, 1)?;
+        let _closed = self.lists.streams.close_fd(process, fd);
+        room.touched.push_reserved(stream);
+        Ok(sweep_and_reply(&self.drivers, &mut self.lists, room))
+    }
+
+    // Where a stream stays, nothing goes with its descriptor, so that no memory is taken.
+    pub(crate) fn close(&mut self, process: Process, fd: u32) -> Result<Reply, StepError>
+        requires { IsSound self.old.drivers self.old.configuration }
+        ensures { Refines self.old self.new process (Close fd) result }
+    {
+        let stream = self.stream_of(process, fd)?;
+        if self.lists.streams.is_last(process, fd) {
+            return self.close_last(process, fd, stream);
+        }
+        idle_changes_drop_none();
+        tells_existing(&self.drivers, &self.lists);
+        self.lists.streams.is_sound();
+        let _stays = self.lists.streams.close_fd(process, fd);
+        standing::tells_existing(&self.drivers, &self.lists);
+        Ok(done(self.alloc))
+    }
+
+    pub(crate) fn close_all(&mut self, process: Process) -> Result<Reply, StepError>
+        requires { IsSound self.old.drivers self.old.configuration }
+        ensures { Refines self.old self.new process CloseAll result }
+    {
+        tells_existing(&self.drivers, &self.lists);
+        let mut room = reserve_for_sweep(self.alloc, &self.lists, MAX_DESCRIPTORS as usize)?;
+        touch_each(&self.lists.streams, process, &mut room.touched);
+        self.lists.streams.close_process(process);
+        Ok(sweep_and_reply(&self.drivers, &mut self.lists, room))
+    }
+
+    // What is left to sweep stays as it is: the stream exists.
+    pub(crate) fn hangup(&mut self, name: &Name, minor: u32) -> Result<Reply, Fault>
+        requires { IsSound self.old.drivers self.old.configuration }
+        ensures { (process : ℕ) → Refines self.old self.new process (Hangup name.now minor) (as_step_error result) }
+    {
+        idle_changes_drop_none();
+        let stream = self.leaf_stream(name, minor)?;
+        tells_existing(&self.drivers, &self.lists);
+        self.lists.streams.hang(stream);
+        Ok(done(self.alloc))
+    }
+}

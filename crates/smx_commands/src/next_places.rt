@@ -1,0 +1,63 @@
+//! Where messages go next.
+
+ghost use Rattle.std.specs.Prelude.{◌≡◌};
+ghost use Rattle.smx_model.specs.Settling.{live_write_side, place_below, place_above, next_place};
+
+use crate::tables::Tables;
+use smx_tables::driver_specs::is_mux;
+use smx_types::{Place, Side, StreamId};
+
+impl Tables {
+    // The write side of the stream, unless its device has hung up.
+    fn live_write_side(&self, stream: StreamId) -> Option<Place>
+        ensures { result ≡ live_write_side self.now.configuration.hungs stream }
+    {
+        if self.lists.streams.is_hung(stream) {
+            return None;
+        }
+        let side = Side::Write;
+        Some(Place { stream, side })
+    }
+
+    // The write side of the stream below the link of the driver's route, unless that has hung up.
+    fn down(&self, driver: u8, addr: u32) -> Option<Place>
+        ensures { result ≡ place_below self.now.configuration.links self.now.configuration.routes
+            self.now.configuration.hungs driver addr }
+    {
+        let route = self.lists.routes.at(driver, addr)?;
+        let link = self.lists.links.get(route.id)?;
+        self.live_write_side(link.lower)
+    }
+
+    // The read side of the stream that is bound to the address on the upper driver.
+    fn up(&self, stream: StreamId, addr: u32) -> Option<Place>
+        ensures { result ≡ place_above self.now.configuration.links self.now.configuration.binds stream addr }
+    {
+        let link = self.lists.links.above(stream)?;
+        let binding = self.lists.binds.at(link.ctl.driver, addr)?;
+        Some(Place {
+            stream: StreamId {
+                driver: binding.driver,
+                minor: binding.minor,
+            },
+            side: Side::Read,
+        })
+    }
+
+    /// The next place of a message of this address, whether it is full or not. Takes no memory.
+    pub fn next_place(&self, place: Place, addr: u32) -> Option<Place>
+        ensures { result ≡ next_place self.now.drivers self.now.configuration place addr }
+    {
+        let stream = place.stream;
+        match place.side {
+            Side::Write => {
+                if is_mux(&self.drivers, stream.driver as usize) {
+                    self.down(stream.driver, addr)
+                } else {
+                    None
+                }
+            }
+            Side::Read => self.up(stream, addr),
+        }
+    }
+}

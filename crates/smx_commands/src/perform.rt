@@ -1,0 +1,67 @@
+//! One command, before messages move on.
+
+ghost use Rattle.std.specs.Prelude.{◌≡◌, ◌≢◌, IfOk, IsTrue, Err};
+ghost use Rattle.smx_model.specs.KeptConfigurations.{IsSound};
+ghost use Rattle.smx_model.specs.KnownStreams.{IsKnown};
+ghost use Rattle.smx_commands.specs.declared.step_error.StepError.TheVariants as step_error;
+ghost use Rattle.smx_commands.specs.Machine.{takes_no_memory};
+ghost use Rattle.smx_commands.specs.Refinement.{Refines, as_step_error};
+ghost use Rattle.smx_commands.specs.MessageStreams.{message_stream};
+
+use crate::step_error::StepError;
+use crate::tables::Tables;
+use smx_types::{Command, Fault, LinkKind, Process, Reply, Side, StreamId};
+
+fn as_step_error(answer: Result<Reply, Fault>) -> Result<Reply, StepError>
+    ensures { result ≡ as_step_error answer }
+{
+    match answer {
+        Ok(reply) => Ok(reply),
+        Err(fault) => Err(StepError::Refused(fault)),
+    }
+}
+
+impl Tables {
+    /// Does a command of a process, before messages move on, where it is told which stream the command sends to or takes
+    /// from. Where it is refused, or memory is wanting, nothing has changed; `dup`, `unbind`, `unroute`, `read`,
+    /// `transmit` and `hangup` take none.
+    #[inline(always)]
+    pub fn perform(
+        &mut self,
+        process: Process,
+        command: &Command,
+        named: Result<StreamId, Fault>,
+    ) -> Result<Reply, StepError>
+        requires sound { IsSound self.old.drivers self.old.configuration }
+        requires known { IfOk named (IsKnown self.old.drivers) }
+        requires named { named ≡ message_stream self.old.drivers self.old.configuration process command.now }
+        ensures refines { Refines self.old self.new process command.now result }
+        ensures in_place { IsTrue (takes_no_memory command.now) → result ≢ Err step_error.NoMemory }
+    {
+        match command {
+            Command::OpenClone { driver } => self.open_clone(process, driver),
+            Command::OpenMinor { driver, minor } => self.open_minor(process, driver, *minor),
+            Command::Dup { fd } => self.dup(process, *fd),
+            Command::Close { fd } => self.close(process, *fd),
+            Command::CloseAll => self.close_all(process),
+            Command::Link { fd, arg } => self.link_as(process, *fd, *arg, LinkKind::Ordinary),
+            Command::Plink { fd, arg } => self.link_as(process, *fd, *arg, LinkKind::Persistent),
+            Command::Unlink { fd, which } => {
+                self.unlink_as(process, *fd, *which, LinkKind::Ordinary)
+            }
+            Command::Punlink { fd, which } => {
+                self.unlink_as(process, *fd, *which, LinkKind::Persistent)
+            }
+            Command::Bind { fd, addr } => self.bind(process, *fd, *addr),
+            Command::Unbind { fd } => as_step_error(self.unbind(process, *fd)),
+            Command::Route { fd, addr, id } => self.route(process, *fd, *addr, *id),
+            Command::Unroute { fd, addr } => as_step_error(self.unroute(process, *fd, *addr)),
+            Command::Write { addr, bytes, .. } => self.send(named, Side::Write, *addr, bytes),
+            Command::Read { .. } => self.read(named),
+            Command::Flush { fd, sides } => self.flush(process, *fd, *sides),
+            Command::Inject { addr, bytes, .. } => self.send(named, Side::Read, *addr, bytes),
+            Command::Transmit { .. } => self.receive(named, Side::Write),
+            Command::Hangup { driver, minor } => as_step_error(self.hangup(driver, *minor)),
+        }
+    }
+}
