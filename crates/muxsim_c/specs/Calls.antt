@@ -4,15 +4,15 @@ use Rattle.smx_session.specs.Sessions.{IsLastLine, IsNoCall, StartsAs, State, sh
 use Rattle.smx_session.specs.Sessions.{Performs as Steps}
 use Rattle.smx_session.specs.declared.trouble.Trouble.{Trouble as SessionTrouble}
 use Rattle.muxsim_c.specs.Codes.{Outcome, code, told_of}
-use Rattle.muxsim_c.specs.declared.trouble.Trouble.{Trouble}
-use Rattle.muxsim_c.specs.declared.trouble.Trouble.TheVariants.{NoMemory, Line, NoEntry, NoRoom, Closed, IsOpen}
+use Rattle.muxsim_c.specs.declared.call_fault.CallFault.{CallFault}
+use Rattle.muxsim_c.specs.declared.call_fault.CallFault.TheVariants.{NoMemory, Line, NoEntry, NoRoom, Closed, IsOpen}
 
 -- n is the code of an outcome for which this holds
 abbrev pub Answers : ℤ → (Outcome → Type 0) → Type 0
 Answers n Holds = (outcome : Outcome) × Holds outcome × (n ≡ code outcome)
 
 -- the text's first fault, or that of its drivers, or want of memory, as C is told of it
-abbrev pub HasFault : List ℕ → Trouble → Type 0
+abbrev pub HasFault : List ℕ → CallFault → Type 0
 HasFault text t = (fault : SessionTrouble) × StartsAs text (Err fault) × (t ≡ told_of fault)
 
 -- a session over the drivers of the text, where there is none; one that is there stays

@@ -2,8 +2,8 @@
 use Rattle.std.specs.Prelude.{◌≡◌, [], ◌∷◌, map, Ok, Err, pos, refl}
 use Rattle.smx_session.specs.declared.trouble.Trouble.TheVariants as session
 use Rattle.muxsim_c.specs.Codes.{code, told_of}
-use Rattle.muxsim_c.specs.declared.trouble.Trouble.TheVariants.{NoMemory, Text, Drivers, Line, NoEntry}
-use Rattle.muxsim_c.specs.declared.trouble.Trouble.TheVariants.{NoRoom, Closed, IsOpen}
+use Rattle.muxsim_c.specs.declared.call_fault.CallFault.TheVariants.{NoMemory, Text, Drivers, Line, NoEntry}
+use Rattle.muxsim_c.specs.declared.call_fault.CallFault.TheVariants.{NoRoom, Closed, IsOpen}
 
 -- the codes of `include/muxsim.h`, in its order
 pub codes_of_the_header : map code (Ok tt ∷ Err NoMemory ∷ Err Text ∷ Err Drivers ∷ Err Line ∷ Err NoEntry ∷ Err NoRoom

@@ -3,23 +3,23 @@
 ghost use Rattle.std.specs.Prelude.{◌≡◌, ◌⊎◌, None, IfOk, IfErr};
 ghost use Rattle.smx_session.specs.Sessions.{IsLastLine};
 ghost use Rattle.muxsim_c.specs.Calls.{Closes, Opens, Performs, Shows, Tells};
-ghost use Rattle.muxsim_c.specs.declared.trouble.Trouble.TheVariants.{Line, NoEntry, NoMemory};
+ghost use Rattle.muxsim_c.specs.declared.call_fault.CallFault.TheVariants.{Line, NoEntry, NoMemory};
 ghost use Rattle.smx_session.specs.declared.trouble.Trouble.TheVariants.{Line as SessionLine};
 
+use crate::call_fault::{CallFault, told};
 use crate::handle::Handle;
 use crate::slots::{put, take};
 use crate::texts::copy_out;
-use crate::trouble::{Trouble, told};
 use smx_session::Session;
 use std::alloc::Global;
 
 /// Makes a session over the drivers of a programs text.
-pub fn open(alloc: Global, handle: &mut Handle, programs: &[u8]) -> Result<(), Trouble>
+pub fn open(alloc: Global, handle: &mut Handle, programs: &[u8]) -> Result<(), CallFault>
     ensures { Opens handle.old.value programs.now handle.new.value result }
 {
     if let Some(session) = take(alloc, handle) {
         put(handle, session);
-        return Err(Trouble::IsOpen);
+        return Err(CallFault::IsOpen);
     }
     match Session::new(alloc, programs) {
         Ok(session) => match Box::new(alloc, session) {
@@ -27,18 +27,18 @@ pub fn open(alloc: Global, handle: &mut Handle, programs: &[u8]) -> Result<(), T
                 put(handle, session);
                 Ok(())
             }
-            Err(_) => Err(Trouble::NoMemory),
+            Err(_) => Err(CallFault::NoMemory),
         },
         Err(trouble) => Err(told(trouble)),
     }
 }
 
 /// Performs the command of a line.
-pub fn perform(alloc: Global, handle: &mut Handle, line: &[u8]) -> Result<(), Trouble>
+pub fn perform(alloc: Global, handle: &mut Handle, line: &[u8]) -> Result<(), CallFault>
     ensures { Performs handle.old.value line.now handle.new.value result }
 {
     let Some(mut session) = take(alloc, handle) else {
-        return Err(Trouble::Closed);
+        return Err(CallFault::Closed);
     };
     let outcome = session.perform(alloc, line);
     put(handle, session);
@@ -49,29 +49,29 @@ pub fn perform(alloc: Global, handle: &mut Handle, line: &[u8]) -> Result<(), Tr
 }
 
 // A session performs every line that has a command, unless memory is wanting.
-fn line_or_memory(trouble: smx_session::Trouble) -> Trouble
+fn line_or_memory(trouble: smx_session::Trouble) -> CallFault
     ensures { (result ≡ NoMemory) ⊎ ((result ≡ Line) × (trouble ≡ SessionLine)) }
 {
     match trouble {
-        smx_session::Trouble::Line => Trouble::Line,
+        smx_session::Trouble::Line => CallFault::Line,
         smx_session::Trouble::NoMemory
         | smx_session::Trouble::Text(_)
         | smx_session::Trouble::Drivers(_)
-        | smx_session::Trouble::NoEntry => Trouble::NoMemory,
+        | smx_session::Trouble::NoEntry => CallFault::NoMemory,
     }
 }
 
 // The line of the entry that was made last. A session has it wherever there is an entry, unless memory is wanting.
-fn last_line(alloc: Global, session: &Session) -> Result<Vec<u8>, Trouble>
+fn last_line(alloc: Global, session: &Session) -> Result<Vec<u8>, CallFault>
     ensures line { IfOk result (λ v. IsLastLine session.now v.items) }
     ensures none { IfErr result (λ t. (t ≡ NoMemory) ⊎ ((t ≡ NoEntry) × (session.now.last ≡ None))) }
 {
     if session.last().is_none() {
-        return Err(Trouble::NoEntry);
+        return Err(CallFault::NoEntry);
     }
     match session.entry(alloc) {
         Ok(line) => Ok(line),
-        Err(_) => Err(Trouble::NoMemory),
+        Err(_) => Err(CallFault::NoMemory),
     }
 }
 
@@ -81,12 +81,12 @@ pub fn entry(
     handle: &mut Handle,
     text: &mut [u8],
     len: &mut usize,
-) -> Result<(), Trouble>
+) -> Result<(), CallFault>
     ensures same { handle.new.value ≡ handle.old.value }
     ensures told { Tells handle.old.value text.old text.new len.old len.new result }
 {
     let Some(session) = take(alloc, handle) else {
-        return Err(Trouble::Closed);
+        return Err(CallFault::Closed);
     };
     let line = last_line(alloc, &session);
     put(handle, session);
@@ -99,12 +99,12 @@ pub fn show(
     handle: &mut Handle,
     text: &mut [u8],
     len: &mut usize,
-) -> Result<(), Trouble>
+) -> Result<(), CallFault>
     ensures same { handle.new.value ≡ handle.old.value }
     ensures shown { Shows handle.old.value text.old text.new len.old len.new result }
 {
     let Some(session) = take(alloc, handle) else {
-        return Err(Trouble::Closed);
+        return Err(CallFault::Closed);
     };
     let lines = session.shown(alloc);
     put(handle, session);
@@ -112,7 +112,7 @@ pub fn show(
 }
 
 /// Gives the session up.
-pub fn close(alloc: Global, handle: &mut Handle) -> Result<(), Trouble>
+pub fn close(alloc: Global, handle: &mut Handle) -> Result<(), CallFault>
     ensures { Closes handle.old.value handle.new.value result }
 {
     match take(alloc, handle) {
@@ -120,6 +120,6 @@ pub fn close(alloc: Global, handle: &mut Handle) -> Result<(), Trouble>
             drop(session);
             Ok(())
         }
-        None => Err(Trouble::Closed),
+        None => Err(CallFault::Closed),
     }
 }

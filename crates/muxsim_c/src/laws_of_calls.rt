@@ -4,7 +4,7 @@ ghost use Rattle.std.specs.Prelude.{◌≡◌, Some, None, Ok, Err, codes, pos};
 ghost use Rattle.smx_session.specs.WorkedSessions.{begun, hung, opened, table};
 ghost use Rattle.muxsim_c.specs.Calls.{Answers, Closes, Copies, Opens, Performs, Shows, Tells};
 ghost use Rattle.muxsim_c.specs.Codes.{Outcome, code};
-ghost use Rattle.muxsim_c.specs.declared.trouble.Trouble.TheVariants.{NoRoom};
+ghost use Rattle.muxsim_c.specs.declared.call_fault.CallFault.TheVariants.{NoRoom};
 
 use smx_session::laws_of_sessions::a_worked_session;
 

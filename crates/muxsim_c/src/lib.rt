@@ -1,21 +1,21 @@
 //! The configuration for programs in C: each export is one call of a handle, and answers its code.
 #![tactic(auto)]
 
+mod call_fault;
 mod calls;
 mod handle;
 pub mod laws_of_calls;
 mod loose;
 mod slots;
 mod texts;
-mod trouble;
 
 ghost use Rattle.std.specs.Prelude.{◌≡◌};
 ghost use Rattle.muxsim_c.specs.Calls.{Answers, Closes, Opens, Performs, Shows, Tells};
 
+use call_fault::code_of;
 use calls::{close, entry, open, perform, show};
 use handle::Handle;
 use std::alloc::Global;
-use trouble::code_of;
 
 /// Makes a session over the drivers of a programs text, whose programs aren't run.
 #[unsafe(no_mangle)]

@@ -1,6 +1,6 @@
 use Rattle.std.proofs.Common.{Ok, Err, inl, inr, refl, arith}
 use Rattle.std.specs.Prelude.{codes}
-use Rattle.muxsim_c.specs.declared.trouble.Trouble.TheVariants.{NoEntry}
+use Rattle.muxsim_c.specs.declared.call_fault.CallFault.TheVariants.{NoEntry}
 use Rattle.muxsim_c.proofs.laws_of_calls.a_worked_session_in_c.Goals as goal
 
 pub returns-clause-open : goal.returns-clause-open

@@ -7,7 +7,7 @@ use smx_types::NoMemory;
 
 /// Why a call did nothing.
 #[derive(Clone, Copy, Debug, PartialEq, Eq)]
-pub enum Trouble {
+pub enum CallFault {
     /// A growth was refused.
     NoMemory,
     /// The bytes are no programs text.
@@ -27,42 +27,42 @@ pub enum Trouble {
 }
 
 /// The code of an outcome, as `include/muxsim.h` has it.
-pub fn code_of(outcome: &Result<(), Trouble>) -> i32
+pub fn code_of(outcome: &Result<(), CallFault>) -> i32
     ensures { result ≡ code outcome.now }
 {
     match outcome {
         Ok(()) => 0,
-        Err(Trouble::NoMemory) => 1,
-        Err(Trouble::Text) => 2,
-        Err(Trouble::Drivers) => 3,
-        Err(Trouble::Line) => 4,
-        Err(Trouble::NoEntry) => 5,
-        Err(Trouble::NoRoom) => 6,
-        Err(Trouble::Closed) => 7,
-        Err(Trouble::IsOpen) => 8,
+        Err(CallFault::NoMemory) => 1,
+        Err(CallFault::Text) => 2,
+        Err(CallFault::Drivers) => 3,
+        Err(CallFault::Line) => 4,
+        Err(CallFault::NoEntry) => 5,
+        Err(CallFault::NoRoom) => 6,
+        Err(CallFault::Closed) => 7,
+        Err(CallFault::IsOpen) => 8,
     }
 }
 
 /// What C is told of a session's trouble.
-pub fn told(trouble: smx_session::Trouble) -> Trouble
+pub fn told(trouble: smx_session::Trouble) -> CallFault
     ensures { result ≡ told_of trouble }
 {
     match trouble {
-        smx_session::Trouble::NoMemory => Trouble::NoMemory,
-        smx_session::Trouble::Text(_) => Trouble::Text,
-        smx_session::Trouble::Drivers(_) => Trouble::Drivers,
-        smx_session::Trouble::Line => Trouble::Line,
-        smx_session::Trouble::NoEntry => Trouble::NoEntry,
+        smx_session::Trouble::NoMemory => CallFault::NoMemory,
+        smx_session::Trouble::Text(_) => CallFault::Text,
+        smx_session::Trouble::Drivers(_) => CallFault::Drivers,
+        smx_session::Trouble::Line => CallFault::Line,
+        smx_session::Trouble::NoEntry => CallFault::NoEntry,
     }
 }
 
-impl From<NoMemory> for Trouble {
+impl From<NoMemory> for CallFault {
     ghost use Rattle.std.specs.Prelude.{◌≡◌};
-    ghost use Rattle.muxsim_c.specs.declared.trouble.Trouble.TheVariants.{NoMemory};
+    ghost use Rattle.muxsim_c.specs.declared.call_fault.CallFault.TheVariants.{NoMemory};
 
     ghost from_gives = { λ _ t. t ≡ NoMemory };
 
-    fn from(_error: NoMemory) -> Trouble {
-        Trouble::NoMemory
+    fn from(_error: NoMemory) -> CallFault {
+        CallFault::NoMemory
     }
 }
