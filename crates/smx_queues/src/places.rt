@@ -145,7 +145,7 @@ impl Places {
         Some(row.first + 2 * minor + side_number(place.side))
     }
 
-    /// The place of a number. The next number can be had as a number, whether a place has it or not.
+    /// The place of a number; the number behind it is less than 2^64.
     pub fn at(&self, number: usize) -> Place
         requires { number < length self.now.places }
         ensures place { slice_get self.now.places number ≡ Some result }
