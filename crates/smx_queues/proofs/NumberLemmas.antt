@@ -1,13 +1,13 @@
 -- The places of some drivers, and of one driver more.
 use Rattle.std.proofs.Common.{◌≡◌, ℕ, zero, suc, ◌+◌, ◌*◌, ◌<◌, ◌≤◌, true, false, ◌&&◌, eqb, ltb, List, [], ◌∷◌, ◌++◌}
-use Rattle.std.proofs.Common.{length, get_or, Option, Some, refl, sym, ap, ◌∙◌, subst, arith, length-append, inl, inr}
+use Rattle.std.proofs.Common.{length, ◌⊎◌, Option, Some, None, refl, sym, ap, ◌∙◌, subst, arith, length-append, inl, inr}
 use Rattle.std.specs.Prelude.{slice_get}
 use Rattle.std.specs.List.{list_any}
 use Rattle.std.specs.Option.{option_map_or}
 use Rattle.std.proofs.lemmas.Bool.{cases_eq, cases_lt, or_from, ne_eqb}
 use Rattle.std.proofs.lemmas.Bool.Decides.{nat_tests}
 use Rattle.std.proofs.lemmas.List.Folds.{list_any-append}
-use Rattle.std.proofs.lemmas.Option.{slice_get_past}
+use Rattle.std.proofs.lemmas.Option.{same_Some, slice_get_past, slice_get_within}
 use Rattle.smx_types.specs.declared.driver.DriverSpec.{DriverSpec}
 use Rattle.smx_types.specs.declared.stream.Place.{Place}
 use Rattle.smx_types.specs.declared.stream.Side.{Side}
@@ -15,7 +15,8 @@ use Rattle.smx_types.specs.declared.stream.Side.TheVariants as side
 use Rattle.smx_model.specs.Configuration.{place_before, same_place, side_number}
 use Rattle.smx_model.specs.DriverList.{minors_of}
 use Rattle.smx_model.specs.Ordered.{ComesBefore, IsRising}
-use Rattle.smx_queues.specs.PlaceLists.{ArePlaces, HaveDriversBelow, number_of, sides_of}
+use Rattle.smx_queues.specs.PlaceLists.{ArePlaces, HaveDriversBelow, number_in, sides_of}
+use Rattle.smx_queues.specs.declared.places.DriverRow.{DriverRow}
 use Rattle.smx_queues.proofs.PlaceLemmas.{lower_driver, lower_minor}
 
 abbrev place_at : ℕ → ℕ → Side → Place
@@ -40,17 +41,6 @@ pub left_only : {X : Type 0} (xs ys : List X) (i : ℕ) → i < length xs → sl
 left_only [] ys i lt = absurd (omega arith)
 left_only (x ∷ xs) ys zero lt = refl
 left_only (x ∷ xs) ys (suc i) lt = left_only xs ys i (omega arith)
-
-first_left : (xs ys : List ℕ) (i : ℕ) → i < length xs → get_or (xs ++ ys) i 0 ≡ get_or xs i 0
-first_left [] ys i lt = absurd (omega arith)
-first_left (x ∷ xs) ys zero lt = refl
-first_left (x ∷ xs) ys (suc i) lt = first_left xs ys i (omega arith)
-
-first_last : (xs : List ℕ) (x i : ℕ) → i ≡ length xs → get_or (xs ++ x ∷ []) i 0 ≡ x
-first_last [] x zero e = refl
-first_last [] x (suc i) e = absurd (omega arith)
-first_last (y ∷ xs) x zero e = absurd (omega arith)
-first_last (y ∷ xs) x (suc i) e = first_last xs x i (omega arith)
 
 -- ---- both sides of some minors
 
@@ -179,12 +169,20 @@ minors_last ds d n e =
 minors_past : (ds : List DriverSpec) (n : ℕ) → length ds ≤ n → minors_of ds n ≡ 0
 minors_past ds n le = ap (λ (o : Option DriverSpec). option_map_or (λ x. x.minors) o 0) (slice_get_past ds n le)
 
+none_is : {X : Type 0} {x : X} → None ≡ Some x → ⊥
+none_is e = absurd cc
+
+-- the row of a driver whose places come behind these
+abbrev pub row_behind : List Place → DriverSpec → DriverRow
+row_behind places d = record { first = length places; minors = d.minors }
+
 -- with one driver more, the places are those before and both sides of each of its minors
-pub one_driver_more : (ds : List DriverSpec) (firsts : List ℕ) (places : List Place) (d : DriverSpec)
-    → ArePlaces ds firsts places
-    → ArePlaces (ds ++ d ∷ []) (firsts ++ length places ∷ []) (places ++ sides_of (length ds) d.minors)
-one_driver_more ds firsts places d h = record {
-  one_each = omega (arith, length-append firsts (length places ∷ []), length-append ds (d ∷ []), h.one_each);
+pub one_driver_more : (ds : List DriverSpec) (rows : List DriverRow) (places : List Place) (d : DriverSpec)
+    → ArePlaces ds rows places
+    → ArePlaces (ds ++ d ∷ []) (rows ++ row_behind places d ∷ []) (places ++ sides_of (length ds) d.minors)
+one_driver_more ds rows places d h = record {
+  one_each = omega (arith, length-append rows (last ∷ []), length-append ds (d ∷ []), h.one_each);
+  minors = minors;
   rising = rising_more places (sides_of (length ds) d.minors) h.rising (sides_rise (length ds) d.minors)
       (all_before_sides places (length ds) d.minors h.drivers_below);
   numbered = numbered;
@@ -195,24 +193,43 @@ one_driver_more ds firsts places d h = record {
       (below_higher places (length ds) (length ds + 1) (omega arith) h.drivers_below)
       (sides_below (length ds) d.minors (length ds + 1) (omega arith)));
 } where
-  numbered : (p : Place) → p.stream.minor < minors_of (ds ++ d ∷ []) p.stream.driver
-      → slice_get (places ++ sides_of (length ds) d.minors) (number_of (firsts ++ length places ∷ []) p) ≡ Some p
-  numbered p lt = elim (cases_lt p.stream.driver (length ds)) [
-    | inl before ↦
-        let e = first_left firsts (length places ∷ []) p.stream.driver (omega (arith, h.one_each)) in
-        rw e (get_left places (sides_of (length ds) d.minors) (number_of firsts p) p
-        (h.numbered p (omega (arith, minors_left ds d p.stream.driver before))))
-    | inr past ↦ elim (cases_eq p.stream.driver (length ds)) [
+  last : DriverRow
+  last = row_behind places d
+
+  -- a row is one of those before, or the last
+  row_at : (n : ℕ) (row : DriverRow) → slice_get (rows ++ last ∷ []) n ≡ Some row
+      → ((n < length ds) × (slice_get rows n ≡ Some row)) ⊎ ((n ≡ length ds) × (last ≡ row))
+  row_at n row at = elim (cases_lt n (length ds)) [
+    | inl before ↦ inl (before, sym (left_only rows (last ∷ []) n (omega (arith, h.one_each))) ∙ at)
+    | inr past ↦ elim (cases_eq n (length ds)) [
       | inl is ↦
-          let e = first_last firsts (length places) p.stream.driver (omega (arith, h.one_each)) in
-          rw e (get_right places (sides_of (length ds) d.minors)
-          (length places + 2 * p.stream.minor + side_number p.side) (2 * p.stream.minor + side_number p.side)
-          (omega arith)
-          ∙ (sides_at (length ds) d.minors p.stream.minor p.side (omega (arith, minors_last ds d p.stream.driver is))
-          ∙ ap (λ (x : ℕ). Some (place_at x p.stream.minor p.side)) (sym is)))
+          inr (is, same_Some _ _ (sym (get_right rows (last ∷ []) n 0 (omega (arith, h.one_each))) ∙ at))
       | inr other ↦
-          absurd (omega (arith, minors_past (ds ++ d ∷ []) p.stream.driver (omega (arith, length-append ds (d ∷ [])))))
+          let none = slice_get_past (rows ++ last ∷ []) n
+          (omega (arith, length-append rows (last ∷ []), h.one_each)) in
+          absurd (none_is (sym none ∙ at))
     ]
+  ]
+
+  minors : (n : ℕ) (row : DriverRow) → slice_get (rows ++ last ∷ []) n ≡ Some row
+      → row.minors ≡ minors_of (ds ++ d ∷ []) n
+  minors n row at = elim (row_at n row at) [
+    | inl old ↦ h.minors n row old.1 ∙ sym (minors_left ds d n old.0)
+    | inr new ↦ ap (λ (r : DriverRow). r.minors) (sym new.1) ∙ sym (minors_last ds d n new.0)
+  ]
+
+  numbered : (p : Place) (row : DriverRow) → slice_get (rows ++ last ∷ []) p.stream.driver ≡ Some row
+      → p.stream.minor < row.minors
+      → slice_get (places ++ sides_of (length ds) d.minors) (number_in row p) ≡ Some p
+  numbered p row at lt = elim (row_at p.stream.driver row at) [
+    | inl old ↦ get_left places (sides_of (length ds) d.minors) (number_in row p) p (h.numbered p row old.1 lt)
+    | inr new ↦
+        subst (λ (r : DriverRow). slice_get (places ++ sides_of (length ds) d.minors) (number_in r p) ≡ Some p) new.1
+        (get_right places (sides_of (length ds) d.minors) (number_in last p)
+        (2 * p.stream.minor + side_number p.side) (omega arith)
+        ∙ (sides_at (length ds) d.minors p.stream.minor p.side
+        (subst (λ (r : DriverRow). p.stream.minor < r.minors) (sym new.1) lt)
+        ∙ ap (λ (x : ℕ). Some (place_at x p.stream.minor p.side)) (sym new.0)))
   ]
 
   none_else : (p : Place) → minors_of (ds ++ d ∷ []) p.stream.driver ≤ p.stream.minor
@@ -231,3 +248,10 @@ one_driver_more ds firsts places d h = record {
       ]
 
 -- ---- what a place says where its driver has its minor
+
+-- the number of a place is within the places
+pub number_within : (drivers : List DriverSpec) (rows : List DriverRow) (places : List Place) (p : Place)
+    (row : DriverRow) → ArePlaces drivers rows places → Some row ≡ slice_get rows p.stream.driver
+    → p.stream.minor < row.minors → number_in row p < length places
+number_within drivers rows places p row h at lt =
+    slice_get_within places (number_in row p) p (h.numbered p row (sym at) lt)

@@ -8,18 +8,20 @@ use Rattle.smx_types.specs.declared.driver.DriverSpec.{DriverSpec}
 use Rattle.smx_types.specs.declared.stream.Place.{Place}
 use Rattle.smx_model.specs.DriverList.{minors_of}
 use Rattle.smx_queues.specs.PlaceLists.{ArePlaces, sides_of}
-use Rattle.smx_queues.proofs.NumberLemmas.{one_driver_more}
+use Rattle.smx_queues.specs.declared.places.DriverRow.{DriverRow}
+use Rattle.smx_queues.proofs.NumberLemmas.{one_driver_more, row_behind}
 
 -- the places of one driver more of a list
-pub next_driver : (drivers : List DriverSpec) (i : ℕ) (firsts new : List ℕ) (places more : List Place)
-    → i < length drivers → ArePlaces (take i drivers) firsts places
-    → new ≡ firsts ++ length places ∷ [] → more ≡ places ++ sides_of i (minors_of drivers i)
+pub next_driver : (drivers : List DriverSpec) (i : ℕ) (rows new : List DriverRow) (places more : List Place)
+    → i < length drivers → ArePlaces (take i drivers) rows places
+    → new ≡ rows ++ record { first = length places; minors = minors_of drivers i } ∷ []
+    → more ≡ places ++ sides_of i (minors_of drivers i)
     → ArePlaces (take (i + 1) drivers) new more
-next_driver [] i firsts new places more lt h e f = absurd (omega arith)
-next_driver (first ∷ rest) i firsts new places more lt h e f =
+next_driver [] i rows new places more lt h e f = absurd (omega arith)
+next_driver (first ∷ rest) i rows new places more lt h e f =
     let drivers : List DriverSpec = first ∷ rest in
     let d = get_or drivers i first in
-    let one = one_driver_more (take i drivers) firsts places d h in
+    let one = one_driver_more (take i drivers) rows places d h in
     let count : length (take i drivers) ≡ i = length-take-le i drivers (omega arith) in
     let minors : d.minors ≡ minors_of drivers i = ap (λ (o : Option DriverSpec). option_map_or (λ x. x.minors) o 0)
     (sym (slice_get-get_or drivers i first lt)) in
@@ -28,6 +30,7 @@ next_driver (first ∷ rest) i firsts new places more lt h e f =
     let places_are : more ≡ places ++ sides_of (length (take i drivers)) d.minors = f
     ∙ ap (λ (ps : List Place). places ++ ps) (sym sides) in
     subst (λ (ds : List DriverSpec). ArePlaces ds new more) (sym (take_more drivers i first lt))
-    (subst (λ (ns : List ℕ). ArePlaces (take i drivers ++ d ∷ []) ns more) (sym e)
-    (subst (λ (ps : List Place). ArePlaces (take i drivers ++ d ∷ []) (firsts ++ length places ∷ []) ps)
+    (subst (λ (rs : List DriverRow). ArePlaces (take i drivers ++ d ∷ []) rs more)
+    (ap (λ (n : ℕ). rows ++ record { first = length places; minors = n } ∷ []) minors ∙ sym e)
+    (subst (λ (ps : List Place). ArePlaces (take i drivers ++ d ∷ []) (rows ++ row_behind places d ∷ []) ps)
     (sym places_are) one))

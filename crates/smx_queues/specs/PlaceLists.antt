@@ -1,11 +1,12 @@
 -- The places of all streams that some drivers have, and their numbers.
 use Rattle.std.specs.Prelude.{◌≡◌, ℕ, zero, suc, ◌+◌, ◌*◌, ◌<◌, ◌≤◌, false, List, [], ◌∷◌, ◌++◌, length, map, Option}
-use Rattle.std.specs.Prelude.{Some, slice_get, slice_index_or}
+use Rattle.std.specs.Prelude.{Some, slice_get}
 use Rattle.std.specs.List.{list_any}
 use Rattle.smx_types.specs.declared.driver.DriverSpec.{DriverSpec}
 use Rattle.smx_types.specs.declared.stream.Place.{Place}
 use Rattle.smx_types.specs.declared.stream.Side.{Side}
 use Rattle.smx_types.specs.declared.stream.Side.TheVariants as side
+use Rattle.smx_queues.specs.declared.places.DriverRow.{DriverRow}
 use Rattle.smx_model.specs.Configuration.{place_before, same_place, side_number}
 use Rattle.smx_model.specs.DriverList.{high_of, low_of, minors_of}
 use Rattle.smx_model.specs.Ordered.{IsRising}
@@ -23,21 +24,22 @@ sides_of driver (suc n) = sides_of driver n ++ at side.Write ∷ at side.Read �
   at : Side → Place
   at s = record { stream = record { driver = driver; minor = n }; side = s }
 
--- the number of a place, where the first place of each driver has these numbers
-abbrev pub number_of : List ℕ → Place → ℕ
-number_of firsts p = slice_index_or firsts p.stream.driver 0 + 2 * p.stream.minor + side_number p.side
+-- the number of a place of a driver with this row
+abbrev pub number_in : DriverRow → Place → ℕ
+number_in row p = row.first + 2 * p.stream.minor + side_number p.side
 
 -- each is of one of the first n drivers
 abbrev pub HaveDriversBelow : ℕ → List Place → Type 0
 HaveDriversBelow n [] = Unit {0}
 HaveDriversBelow n (p ∷ places) = (p.stream.driver < n) × HaveDriversBelow n places
 
--- the places of the drivers' streams, in order, each at its number, and no others
-pub record ArePlaces (drivers : List DriverSpec) (firsts : List ℕ) (places : List Place) : Type 0 where
-  pub one_each : length firsts ≡ length drivers
+-- a row for each driver, and the places of the drivers' streams, in order, each at its number, and no others
+pub record ArePlaces (drivers : List DriverSpec) (rows : List DriverRow) (places : List Place) : Type 0 where
+  pub one_each : length rows ≡ length drivers
+  pub minors : (driver : ℕ) (row : DriverRow) → slice_get rows driver ≡ Some row → row.minors ≡ minors_of drivers driver
   pub rising : IsRising place_before places
-  pub numbered : (p : Place) → p.stream.minor < minors_of drivers p.stream.driver
-      → slice_get places (number_of firsts p) ≡ Some p
+  pub numbered : (p : Place) (row : DriverRow) → slice_get rows p.stream.driver ≡ Some row
+      → p.stream.minor < row.minors → slice_get places (number_in row p) ≡ Some p
   pub none_else : (p : Place) → minors_of drivers p.stream.driver ≤ p.stream.minor
       → list_any (same_place p) places ≡ false
   pub drivers_below : HaveDriversBelow (length drivers) places

@@ -1,7 +1,7 @@
 //! The places of all streams that some drivers have.
 
 ghost use Rattle.std.specs.Prelude.{◌≡◌, ◌≤◌, ◌++◌, ◌<◌, ◌+◌, ◌^◌, false, Some, IfOk, OnOk, IfSome, IsSome, IfNone};
-ghost use Rattle.std.specs.Prelude.{length, slice_get, slice_index_or};
+ghost use Rattle.std.specs.Prelude.{length, slice_get};
 ghost use Rattle.std.specs.List.{list_any};
 ghost use Rattle.smx_model.specs.Configuration.{place_before, same_place, side_number};
 ghost use Rattle.smx_model.specs.DriverList.{high_of, low_of, minors_of, IsDriverList};
@@ -14,12 +14,19 @@ use smx_types::{DriverSpec, NoMemory, Place, Side, StreamId};
 use std::alloc::Global;
 use std::marker::Model;
 
+/// The number of a driver's first place, and how many minors it has. That is all that a number is made of, so it is kept
+/// by itself, in few bytes.
+#[derive(Clone, Copy, Debug)]
+pub struct DriverRow {
+    pub first: usize,
+    pub minors: usize,
+}
+
 /// Drivers, and both sides of each stream that they have, numbered in order. A contract sees two lists.
 #[derive(Debug, Drop)]
 pub struct Places {
     drivers: Vec<DriverSpec>,
-    // The number of each driver's first place.
-    firsts: Vec<usize>,
+    rows: Vec<DriverRow>,
     places: Vec<Place>,
 }
 
@@ -30,23 +37,23 @@ impl Model for Places {
 
     ghost view = { λ p. record { drivers = p.drivers.items; places = p.places.items } };
 
-    ghost invariant = { λ p. ArePlaces p.drivers.items p.firsts.items p.places.items };
+    ghost invariant = { λ p. ArePlaces p.drivers.items p.rows.items p.places.items };
 }
 
 fn side_number(side: Side) -> usize
     ensures { result ≡ side_number side }
 {
-    match side {
-        Side::Write => 0,
-        Side::Read => 1,
-    }
+    side as usize
 }
 
-fn first_of(firsts: &[usize], driver: u8) -> usize
-    requires { driver < length firsts.now }
-    ensures { result ≡ slice_index_or firsts.now driver 0 }
+// The row of a driver, if it is there.
+fn row_at(rows: &[DriverRow], driver: u8) -> Option<DriverRow>
+    ensures { result ≡ slice_get rows.now driver }
 {
-    firsts[driver as usize]
+    match rows.get(driver as usize) {
+        Some(row) => Some(*row),
+        None => None,
+    }
 }
 
 // The high and the low water mark of a driver that is there.
@@ -95,16 +102,20 @@ impl Places {
         requires { IsDriverList drivers.now }
         ensures { IfOk result (λ p. p.drivers ≡ drivers.now) }
     {
-        let mut firsts = Vec::with_capacity(alloc, drivers.len())?;
+        let mut rows = Vec::with_capacity(alloc, drivers.len())?;
         let mut places = Vec::new(alloc);
         for i in 0..drivers.len() {
-            firsts.push(places.len())?;
-            push_sides(&mut places, i as u8, minors_at(drivers, i))?;
+            let minors = minors_at(drivers, i);
+            rows.push(DriverRow {
+                first: places.len(),
+                minors: minors as usize,
+            })?;
+            push_sides(&mut places, i as u8, minors)?;
         }
         let drivers = Vec::from_slice(alloc, drivers)?;
         Ok(Places {
             drivers,
-            firsts,
+            rows,
             places,
         })
     }
@@ -123,18 +134,18 @@ impl Places {
         ensures known { IsKnown self.now.drivers place.stream → IsSome result }
     {
         let StreamId { driver, minor } = place.stream;
-        let of = self.drivers.get(driver as usize)?;
-        if u32::from(minor) >= of.minors {
+        let row = row_at(&self.rows, driver)?;
+        let minor = minor as usize;
+        if minor >= row.minors {
             return None;
         }
-        let firsts: &[usize] = &self.firsts;
         let places: &[Place] = &self.places;
         // For the proof: no slice is so long that the sum below could overflow.
         let _count = places.len();
-        Some(first_of(firsts, driver) + 2 * minor as usize + side_number(place.side))
+        Some(row.first + 2 * minor + side_number(place.side))
     }
 
-    /// The place of a number. The next number can be had as a number, whether a place has it or not.
+    /// The place of a number; the number behind it is less than 2^64.
     pub fn at(&self, number: usize) -> Place
         requires { number < length self.now.places }
         ensures place { slice_get self.now.places number ≡ Some result }
@@ -169,11 +180,11 @@ impl Places {
         ensures { IfOk result (λ p. p ≡ self.now) }
     {
         let drivers = Vec::from_slice(alloc, &self.drivers)?;
-        let firsts = Vec::from_slice(alloc, &self.firsts)?;
+        let rows = Vec::from_slice(alloc, &self.rows)?;
         let places = Vec::from_slice(alloc, &self.places)?;
         Ok(Places {
             drivers,
-            firsts,
+            rows,
             places,
         })
     }

@@ -3,4 +3,4 @@ use Rattle.smx_queues.specs.PlaceLists.{ArePlaces}
 use Rattle.smx_queues.proofs.places.Places.new.Given as goal
 
 abbrev pub invariant-loop-i : goal.invariant-loop-i
-invariant-loop-i l = ArePlaces (take l.i l.drivers) l.firsts.items l.places.items
+invariant-loop-i l = ArePlaces (take l.i l.drivers) l.rows.items l.places.items
