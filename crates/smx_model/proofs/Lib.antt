@@ -2,6 +2,7 @@ pub mod EachLemmas
 pub mod TestLemmas
 pub mod PathLemmas
 pub mod OutcomeLemmas
+pub mod AcceptedLemmas
 pub mod HangupLemmas
 pub mod SoundLemmas
 pub mod RangeLemmas

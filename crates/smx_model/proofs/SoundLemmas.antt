@@ -7,23 +7,19 @@ use Rattle.std.proofs.lemmas.List.Kept.{AllPairs-filter}
 use Rattle.std.proofs.lemmas.List.Quantifiers.{all_pairs_push}
 use Rattle.std.proofs.lemmas.List.Folds.{list_any_at}
 use Rattle.smx_types.specs.declared.command.Command.{Command}
-use Rattle.smx_types.specs.declared.command.Command.TheVariants as command
 use Rattle.smx_types.specs.declared.reply.Reply.{Reply}
-use Rattle.smx_types.specs.declared.command.Which.{Which}
-use Rattle.smx_types.specs.declared.command.Which.TheVariants as which
 use Rattle.smx_types.specs.declared.driver.DriverSpec.{DriverSpec}
 use Rattle.smx_types.specs.declared.link.Link.{Link}
-use Rattle.smx_types.specs.declared.link.LinkKind.{LinkKind}
 use Rattle.std.proofs.lemmas.List.Elements.{Contains-append_cases, Contains-append_left, Contains-append_right}
-use Rattle.smx_model.specs.Commands.{outcome, done_outcome, link_outcome, unlink_outcome}
+use Rattle.smx_model.specs.Commands.{outcome, done_outcome}
 use Rattle.smx_model.specs.Configuration.{Configuration, same_stream}
 use Rattle.smx_model.specs.Paths.{reaches}
 use Rattle.smx_model.specs.Queues.{first_message}
-use Rattle.smx_model.specs.Removal.{without_links}
 use Rattle.smx_model.specs.Settling.{after_move, after_move_to, next_open_place}
 use Rattle.smx_model.specs.SoundLinks.{AreLinksSound}
 use Rattle.smx_model.specs.Standing.{is_below}
-use Rattle.smx_model.proofs.OutcomeLemmas.{IfAccepted, at_ok, after_ok, after_test, after_some, after_choice}
+use Rattle.smx_model.proofs.AcceptedLemmas.{of_rows}
+use Rattle.smx_model.proofs.OutcomeLemmas.{IfAccepted}
 use Rattle.smx_model.proofs.PathLemmas.{path_reaches, no_cycle_push, no_cycle_fewer}
 use Rattle.smx_types.specs.declared.message.Message.{Message}
 use Rattle.smx_types.specs.declared.stream.Place.{Place}
@@ -64,44 +60,11 @@ sound_done : (drivers : List DriverSpec) (c d : Configuration) → AreLinksSound
     → IfAccepted Sound (done_outcome drivers c d)
 sound_done drivers c d h = record { holds = sound_filter _ d.links h }
 
-sound_unlinked : (drivers : List DriverSpec) (c : Configuration) (w : Which) (mine : Link → Bool)
-    → AreLinksSound c.links → IfAccepted Sound (unlink_outcome drivers c w mine)
-sound_unlinked drivers c which.All mine h = sound_done drivers c (without_links c mine) (sound_filter _ c.links h)
-sound_unlinked drivers c (which.Id id) mine h = search (after_test, sound_done, sound_filter, rules) depth 12
-
-sound_linked : (drivers : List DriverSpec) (c : Configuration) (process fd arg : ℕ) (k : LinkKind)
-    → AreLinksSound c.links → IfAccepted Sound (link_outcome drivers c process fd arg k)
-sound_linked drivers c process fd arg k h = search (after_test, after_ok, at_ok, sound_push, rules) depth 20
-
 -- an accepted command leaves sound links sound
 pub sound_accepted : (drivers : List DriverSpec) (c : Configuration) (process : ℕ) (k : Command) → AreLinksSound c.links
     → IfAccepted Sound (outcome drivers c process k)
-sound_accepted drivers c process (command.OpenClone name) h = search (after_some, after_ok, at_ok, rules) depth 20
-sound_accepted drivers c process (command.OpenMinor name minor) h =
-    search (after_test, after_some, after_ok, at_ok, rules) depth 20
-sound_accepted drivers c process (command.Dup fd) h = search (after_some, after_ok, at_ok, rules) depth 20
-sound_accepted drivers c process (command.Close fd) h = search (after_some, after_ok, at_ok, sound_done, rules) depth 20
-sound_accepted drivers c process command.CloseAll h = search (at_ok, sound_done, rules) depth 20
-sound_accepted drivers c process (command.Link fd arg) h = search (after_some, after_ok, sound_linked, rules) depth 20
-sound_accepted drivers c process (command.Plink fd arg) h = search (after_some, after_ok, sound_linked, rules) depth 20
-sound_accepted drivers c process (command.Unlink fd w) h = search (after_ok, sound_unlinked, rules) depth 20
-sound_accepted drivers c process (command.Punlink fd w) h = search (after_ok, sound_unlinked, rules) depth 20
-sound_accepted drivers c process (command.Bind fd addr) h =
-    search (after_test, after_ok, at_ok, sound_done, rules) depth 20
-sound_accepted drivers c process (command.Unbind fd) h =
-    search (after_test, after_ok, at_ok, sound_done, rules) depth 20
-sound_accepted drivers c process (command.Route fd addr id) h =
-    search (after_test, after_ok, at_ok, sound_done, rules) depth 20
-sound_accepted drivers c process (command.Unroute fd addr) h =
-    search (after_test, after_ok, at_ok, sound_done, rules) depth 20
-sound_accepted drivers c process (command.Write fd addr bytes) h = search (after_test, after_ok, at_ok, rules) depth 20
-sound_accepted drivers c process (command.Read fd) h =
-    search (after_ok, after_choice, after_some, at_ok, rules) depth 20
-sound_accepted drivers c process (command.Flush fd w) h = search (after_ok, at_ok, sound_done, rules) depth 20
-sound_accepted drivers c process (command.Inject name minor addr bytes) h =
-    search (after_test, after_ok, at_ok, rules) depth 20
-sound_accepted drivers c process (command.Transmit name minor) h = search (after_some, after_ok, at_ok, rules) depth 20
-sound_accepted drivers c process (command.Hangup name minor) h = search (after_ok, sound_done, rules) depth 20
+sound_accepted drivers c process k h =
+    search (of_rows, sound_done, sound_filter, sound_push, rules) depth 24
 
 -- a move leaves sound links sound
 pub sound_moved : (drivers : List DriverSpec) (c : Configuration) (p : Place) → AreLinksSound c.links
