@@ -7,21 +7,17 @@ use Rattle.std.proofs.lemmas.Bool.{cases_Bool, eqb-true, leb-false, or_parts}
 use Rattle.std.proofs.lemmas.List.Sums.{length-filter}
 use Rattle.std.proofs.lemmas.Bool.Decides.{nat_tests}
 use Rattle.smx_types.specs.declared.command.Command.{Command}
-use Rattle.smx_types.specs.declared.command.Command.TheVariants as command
 use Rattle.smx_types.specs.declared.command.Entry.{Entry}
-use Rattle.smx_types.specs.declared.command.Which.{Which}
-use Rattle.smx_types.specs.declared.command.Which.TheVariants as which
 use Rattle.smx_types.specs.declared.driver.DriverSpec.{DriverSpec}
 use Rattle.smx_types.specs.declared.limits.TheConstants.{MAX_DESCRIPTORS, MAX_LINKS, NUMBER_END}
 use Rattle.smx_types.specs.declared.link.Link.{Link}
-use Rattle.smx_types.specs.declared.link.LinkKind.{LinkKind}
 use Rattle.smx_types.specs.declared.message.Message.{Message}
 use Rattle.smx_types.specs.declared.reply.Fault.TheVariants.{TooManyDescriptors}
 use Rattle.smx_types.specs.declared.stream.Descriptor.{Descriptor}
 use Rattle.smx_types.specs.declared.stream.Place.{Place}
 use Rattle.smx_types.specs.declared.stream.StreamId.{StreamId}
-use Rattle.smx_model.specs.Commands.{outcome, step, after_outcome, done_outcome, link_outcome, unlink_outcome}
-use Rattle.smx_model.specs.Commands.{send_outcome, receive_outcome, with_fd}
+use Rattle.smx_model.specs.Commands.{outcome, step, after_outcome, done_outcome}
+use Rattle.smx_model.specs.Commands.{with_fd}
 use Rattle.smx_model.specs.Configuration.{Configuration, empty, fd_before, is_fd, pair_before}
 use Rattle.smx_model.specs.Histories.{after, after_from}
 use Rattle.smx_model.specs.Lookups.{free_fd}
@@ -32,7 +28,8 @@ use Rattle.smx_model.specs.Removal.{without_links}
 use Rattle.smx_model.specs.Settling.{after_move, after_move_to, after_settling_within, least_movable, next_open_place}
 use Rattle.smx_model.proofs.EachLemmas.{Each, each_filter, each_placed}
 use Rattle.smx_model.proofs.KeptLemmas.{always_is_kept}
-use Rattle.smx_model.proofs.OutcomeLemmas.{IfAccepted, at_ok, after_ok, after_test, after_some, after_choice}
+use Rattle.smx_model.proofs.AcceptedLemmas.{of_rows}
+use Rattle.smx_model.proofs.OutcomeLemmas.{IfAccepted}
 
 -- it keeps to the limits
 pub record IsWithin (c : Configuration) : Type 0 where
@@ -113,15 +110,6 @@ within_done : (drivers : List DriverSpec) (c d : Configuration) → IsWithin d
 within_done drivers c d h = let k = within_removed d _ h in
     record { holds = record { links = k.links; numbers = k.numbers; ids = k.ids; serials = k.serials } }
 
-within_unlinked : (drivers : List DriverSpec) (c : Configuration) (w : Which) (mine : Link → Bool) → IsWithin c
-    → IfAccepted (λ d r. IsWithin d) (unlink_outcome drivers c w mine)
-within_unlinked drivers c which.All mine h = within_done drivers c (without_links c mine) (within_removed c mine h)
-within_unlinked drivers c (which.Id id) mine h = search (after_test, within_done, within_removed, rules) depth 12
-
-within_linked : (drivers : List DriverSpec) (c : Configuration) (process fd arg : ℕ) (k : LinkKind) → IsWithin c
-    → IfAccepted (λ d r. IsWithin d) (link_outcome drivers c process fd arg k)
-within_linked drivers c process fd arg k h = search (after_test, after_ok, at_ok, within_link, rules) depth 24
-
 -- a message that is sent takes a serial
 
 within_took : (c d : Configuration) (full : Bool) → IsWithin c → d.fds ≡ c.fds → d.links ≡ c.links
@@ -134,43 +122,19 @@ within_took c d full h e f g k room = record {
   serials = rw k (omega (arith, leb-false NUMBER_END c.next_serial (or_parts full _ room).1));
 }
 
-within_sent : (drivers : List DriverSpec) (c : Configuration) (p : Place) (addr : ℕ) (bytes : List ℕ) → IsWithin c
-    → IfAccepted (λ d r. IsWithin d) (send_outcome drivers c p addr bytes)
-within_sent drivers c p addr bytes h = search (after_test, at_ok, within_took, rules) depth 16
-
-within_received : (drivers : List DriverSpec) (c : Configuration) (p : Place) → IsWithin c
-    → IfAccepted (λ d r. IsWithin d) (receive_outcome drivers c p)
-within_received drivers c p h = search (after_some, at_ok, within_same, rules) depth 16
-
 within_accepted : (drivers : List DriverSpec) (c : Configuration) (process : ℕ) (k : Command) → IsWithin c
     → IfAccepted (λ d r. IsWithin d) (outcome drivers c process k)
-within_accepted drivers c process (command.OpenClone name) h = search (after_ok, at_ok, within_fd, rules) depth 20
-within_accepted drivers c process (command.OpenMinor name minor) h =
-    search (after_test, after_ok, at_ok, within_fd, rules) depth 20
-within_accepted drivers c process (command.Dup fd) h = search (after_ok, at_ok, within_fd, rules) depth 20
-within_accepted drivers c process (command.Close fd) h = search (after_ok, within_done, within_closed, rules) depth 20
-within_accepted drivers c process command.CloseAll h = search (within_done, within_closed, rules) depth 20
-within_accepted drivers c process (command.Link fd arg) h = search (within_linked, rules) depth 20
-within_accepted drivers c process (command.Plink fd arg) h = search (within_linked, rules) depth 20
-within_accepted drivers c process (command.Unlink fd w) h = search (after_ok, within_unlinked, rules) depth 20
-within_accepted drivers c process (command.Punlink fd w) h = search (after_ok, within_unlinked, rules) depth 20
-within_accepted drivers c process (command.Bind fd addr) h =
-    search (after_test, after_ok, within_done, within_same, rules) depth 20
-within_accepted drivers c process (command.Unbind fd) h =
-    search (after_test, after_ok, within_done, within_same, rules) depth 20
-within_accepted drivers c process (command.Route fd addr id) h =
-    search (after_test, after_ok, within_done, within_same, rules) depth 20
-within_accepted drivers c process (command.Unroute fd addr) h =
-    search (after_test, after_ok, within_done, within_same, rules) depth 20
-within_accepted drivers c process (command.Write fd addr bytes) h = search (after_ok, within_sent, rules) depth 20
-within_accepted drivers c process (command.Read fd) h =
-    search (after_ok, after_choice, at_ok, within_received, rules) depth 20
-within_accepted drivers c process (command.Flush fd w) h = search (after_ok, within_done, within_same, rules) depth 20
-within_accepted drivers c process (command.Inject name minor addr bytes) h =
-    search (after_ok, within_sent, rules) depth 20
-within_accepted drivers c process (command.Transmit name minor) h = search (after_ok, within_received, rules) depth 20
-within_accepted drivers c process (command.Hangup name minor) h =
-    search (after_ok, within_done, within_same, rules) depth 20
+within_accepted drivers c process k h = search (
+  of_rows,
+  within_fd,
+  within_closed,
+  within_link,
+  within_removed,
+  within_done,
+  within_same,
+  within_took,
+  rules,
+) depth 24
 
 -- moves, settling, histories
 

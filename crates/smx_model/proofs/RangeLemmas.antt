@@ -8,18 +8,14 @@ use Rattle.std.proofs.lemmas.Bool.{cases_Bool, leb-false}
 use Rattle.std.proofs.lemmas.List.Quantifiers.{position-Some}
 use Rattle.std.specs.Option.{option_map}
 use Rattle.smx_types.specs.declared.command.Command.{Command}
-use Rattle.smx_types.specs.declared.command.Command.TheVariants as command
 use Rattle.smx_types.specs.declared.reply.Fault.TheVariants.{BadDescriptor, NoDriver, NoMinor}
-use Rattle.smx_types.specs.declared.command.Which.{Which}
-use Rattle.smx_types.specs.declared.command.Which.TheVariants as which
 use Rattle.smx_types.specs.declared.stream.Descriptor.{Descriptor}
 use Rattle.smx_types.specs.declared.driver.DriverSpec.{DriverSpec}
 use Rattle.smx_types.specs.declared.link.Link.{Link}
-use Rattle.smx_types.specs.declared.link.LinkKind.{LinkKind}
 use Rattle.smx_types.specs.declared.message.Message.{Message}
 use Rattle.smx_types.specs.declared.stream.Place.{Place}
 use Rattle.smx_types.specs.declared.stream.StreamId.{StreamId}
-use Rattle.smx_model.specs.Commands.{outcome, done_outcome, link_outcome, unlink_outcome, with_fd}
+use Rattle.smx_model.specs.Commands.{outcome, done_outcome, with_fd}
 use Rattle.smx_model.specs.Configuration.{Configuration, fd_before, is_fd}
 use Rattle.smx_model.specs.DriverList.{minors_of}
 use Rattle.smx_model.specs.KnownStreams.{IsKnown}
@@ -29,7 +25,8 @@ use Rattle.smx_model.specs.Queues.{first_message}
 use Rattle.smx_model.specs.Removal.{without_links}
 use Rattle.smx_model.specs.Settling.{after_move, after_move_to, next_open_place}
 use Rattle.smx_model.specs.Standing.{exists}
-use Rattle.smx_model.proofs.OutcomeLemmas.{IfAccepted, at_ok, after_ok, after_test, after_some, after_choice}
+use Rattle.smx_model.proofs.AcceptedLemmas.{of_rows}
+use Rattle.smx_model.proofs.OutcomeLemmas.{IfAccepted}
 use Rattle.smx_model.proofs.EachLemmas.{Each, each_filter, each_placed, each_push, each_find}
 
 -- each descriptor has a stream, and each link a controlling and a lower one, that the drivers have
@@ -128,49 +125,24 @@ named_removed : (drivers : List DriverSpec) (c : Configuration) (goes : Link →
     → AreNamed drivers (without_links c goes)
 named_removed drivers c goes h = record { fds = h.fds; links = each_filter _ _ c.links h.links }
 
-named_unlinked : (drivers : List DriverSpec) (c : Configuration) (w : Which) (mine : Link → Bool) → AreNamed drivers c
-    → IfAccepted (λ d r. AreNamed drivers d) (unlink_outcome drivers c w mine)
-named_unlinked drivers c which.All mine h = named_done drivers c (without_links c mine) (named_removed drivers c mine h)
-named_unlinked drivers c (which.Id id) mine h = search (after_test, named_done, named_removed, rules) depth 12
-
-named_linked : (drivers : List DriverSpec) (c : Configuration) (process fd arg : ℕ) (k : LinkKind) → AreNamed drivers c
-    → IfAccepted (λ d r. AreNamed drivers d) (link_outcome drivers c process fd arg k)
-named_linked drivers c process fd arg k h =
-    search (after_test, after_ok, at_ok, named_link, stream_known, rules) depth 24
-
 -- an accepted command leaves descriptors and links with streams that the drivers have
 pub named_accepted : (drivers : List DriverSpec) (c : Configuration) (process : ℕ) (k : Command) → AreNamed drivers c
     → IfAccepted (λ d r. AreNamed drivers d) (outcome drivers c process k)
-named_accepted drivers c process (command.OpenClone name) h =
-    search (after_ok, at_ok, named_fd, known_made, minor_free, driver_below, rules) depth 20
-named_accepted drivers c process (command.OpenMinor name minor) h =
-    search (after_test, after_ok, at_ok, named_fd, known_made, minor_in, driver_below, rules) depth 20
-named_accepted drivers c process (command.Dup fd) h = search (after_ok, at_ok, named_fd, stream_known, rules) depth 20
-named_accepted drivers c process (command.Close fd) h = search (after_ok, named_done, named_closed, rules) depth 20
-named_accepted drivers c process command.CloseAll h = search (at_ok, named_done, named_closed, rules) depth 20
-named_accepted drivers c process (command.Link fd arg) h = search (named_linked, rules) depth 20
-named_accepted drivers c process (command.Plink fd arg) h = search (named_linked, rules) depth 20
-named_accepted drivers c process (command.Unlink fd w) h = search (after_ok, named_unlinked, rules) depth 20
-named_accepted drivers c process (command.Punlink fd w) h = search (after_ok, named_unlinked, rules) depth 20
-named_accepted drivers c process (command.Bind fd addr) h =
-    search (after_test, after_ok, named_done, named_same, rules) depth 20
-named_accepted drivers c process (command.Unbind fd) h =
-    search (after_test, after_ok, named_done, named_same, rules) depth 20
-named_accepted drivers c process (command.Route fd addr id) h =
-    search (after_test, after_ok, named_done, named_same, rules) depth 20
-named_accepted drivers c process (command.Unroute fd addr) h =
-    search (after_test, after_ok, named_done, named_same, rules) depth 20
-named_accepted drivers c process (command.Write fd addr bytes) h =
-    search (after_test, after_ok, at_ok, named_same, rules) depth 20
-named_accepted drivers c process (command.Read fd) h =
-    search (after_ok, after_choice, after_some, at_ok, named_same, rules) depth 20
-named_accepted drivers c process (command.Flush fd w) h = search (after_ok, named_done, named_same, rules) depth 20
-named_accepted drivers c process (command.Inject name minor addr bytes) h =
-    search (after_test, after_ok, at_ok, named_same, rules) depth 20
-named_accepted drivers c process (command.Transmit name minor) h =
-    search (after_some, after_ok, at_ok, named_same, rules) depth 20
-named_accepted drivers c process (command.Hangup name minor) h =
-    search (after_ok, named_done, named_same, rules) depth 20
+named_accepted drivers c process k h = search (
+  of_rows,
+  named_fd,
+  named_link,
+  known_made,
+  minor_free,
+  minor_in,
+  driver_below,
+  stream_known,
+  named_done,
+  named_closed,
+  named_removed,
+  named_same,
+  rules,
+) depth 24
 
 -- a move leaves descriptors and links with streams that the drivers have
 pub named_moved : (drivers : List DriverSpec) (c : Configuration) (p : Place) → AreNamed drivers c

@@ -5,21 +5,17 @@ use Rattle.std.specs.List.{list_any, range_with_len}
 use Rattle.std.proofs.lemmas.Bool.{cases_Bool, false≢true}
 use Rattle.std.proofs.lemmas.Bool.Decides.{nat_tests}
 use Rattle.smx_types.specs.declared.command.Command.{Command}
-use Rattle.smx_types.specs.declared.command.Command.TheVariants as command
-use Rattle.smx_types.specs.declared.command.Which.{Which}
-use Rattle.smx_types.specs.declared.command.Which.TheVariants as which
 use Rattle.smx_types.specs.declared.driver.DriverSpec.{DriverSpec}
 use Rattle.smx_types.specs.declared.limits.TheConstants.{MAX_DESCRIPTORS}
 use Rattle.smx_types.specs.declared.link.Binding.{Binding}
 use Rattle.smx_types.specs.declared.link.Link.{Link}
-use Rattle.smx_types.specs.declared.link.LinkKind.{LinkKind}
 use Rattle.smx_types.specs.declared.link.Route.{Route}
 use Rattle.smx_types.specs.declared.message.Message.{Message}
 use Rattle.smx_types.specs.declared.reply.Fault.TheVariants.{TooManyDescriptors}
 use Rattle.smx_types.specs.declared.stream.Descriptor.{Descriptor}
 use Rattle.smx_types.specs.declared.stream.Place.{Place}
 use Rattle.smx_types.specs.declared.stream.StreamId.{StreamId}
-use Rattle.smx_model.specs.Commands.{outcome, done_outcome, link_outcome, receive_outcome, send_outcome, unlink_outcome}
+use Rattle.smx_model.specs.Commands.{outcome, done_outcome}
 use Rattle.smx_model.specs.Commands.{with_fd}
 use Rattle.smx_model.specs.Configuration.{Configuration, empty, is_fd, fd_before, bind_before, route_before}
 use Rattle.smx_model.specs.Configuration.{place_before, pair_before, same_place, same_stream, stream_before}
@@ -31,7 +27,8 @@ use Rattle.smx_model.specs.Queues.{first_message, with_mark, after_arrival, afte
 use Rattle.smx_model.specs.Removal.{without_queues_at, without_links}
 use Rattle.smx_model.specs.Settling.{after_move, after_move_to, next_open_place}
 use Rattle.smx_model.proofs.OrderLemmas.{place_before_trans, place_either}
-use Rattle.smx_model.proofs.OutcomeLemmas.{IfAccepted, after_ok, after_some, after_test, at_ok, after_choice}
+use Rattle.smx_model.proofs.AcceptedLemmas.{of_rows}
+use Rattle.smx_model.proofs.OutcomeLemmas.{IfAccepted}
 use Rattle.smx_model.proofs.EachLemmas.{Each, none_passes, kept_passes}
 use Rattle.smx_model.proofs.TestLemmas.{find_passes}
 
@@ -297,55 +294,26 @@ rising_took : (drivers : List DriverSpec) (c : Configuration) (p : Place) (m : M
 rising_took drivers c p m n h = let a = rising_arrived drivers c p m h in
     record { fds = a.fds; binds = a.binds; routes = a.routes; fulls = a.fulls; hungs = a.hungs }
 
-rising_sent : (drivers : List DriverSpec) (c : Configuration) (p : Place) (addr : ℕ) (bytes : List ℕ) → AreRising c
-    → IfAccepted (λ d r. AreRising d) (send_outcome drivers c p addr bytes)
-rising_sent drivers c p addr bytes h = search (after_test, at_ok, rising_took, rules) depth 12
-
-rising_received : (drivers : List DriverSpec) (c : Configuration) (p : Place) → AreRising c
-    → IfAccepted (λ d r. AreRising d) (receive_outcome drivers c p)
-rising_received drivers c p h = search (after_some, at_ok, rising_left, rules) depth 12
-
-rising_unlinked : (drivers : List DriverSpec) (c : Configuration) (w : Which) (mine : Link → Bool) → AreRising c
-    → IfAccepted (λ d r. AreRising d) (unlink_outcome drivers c w mine)
-rising_unlinked drivers c which.All mine h = rising_done drivers c (without_links c mine) (rising_removed c mine h)
-rising_unlinked drivers c (which.Id id) mine h = search (after_test, rising_done, rising_removed, rules) depth 12
-
-rising_linked : (drivers : List DriverSpec) (c : Configuration) (process fd arg : ℕ) (k : LinkKind) → AreRising c
-    → IfAccepted (λ d r. AreRising d) (link_outcome drivers c process fd arg k)
-rising_linked drivers c process fd arg k h = search (after_test, after_ok, at_ok, rising_same, rules) depth 24
-
 -- an accepted command keeps descriptors, bindings, routes, full places and hung-up streams rising
 pub rising_accepted : (drivers : List DriverSpec) (c : Configuration) (process : ℕ) (k : Command) → AreRising c
     → IfAccepted (λ d r. AreRising d) (outcome drivers c process k)
-rising_accepted drivers c process (command.OpenClone name) h = search (after_ok, at_ok, rising_fd, rules) depth 20
-rising_accepted drivers c process (command.OpenMinor name minor) h =
-    search (after_test, after_ok, at_ok, rising_fd, rules) depth 20
-rising_accepted drivers c process (command.Dup fd) h = search (after_ok, at_ok, rising_fd, rules) depth 20
-rising_accepted drivers c process (command.Close fd) h = search (after_ok, rising_done, rising_closed, rules) depth 20
-rising_accepted drivers c process command.CloseAll h = search (rising_done, rising_closed, rules) depth 20
-rising_accepted drivers c process (command.Link fd arg) h = search (after_ok, rising_linked, rules) depth 20
-rising_accepted drivers c process (command.Plink fd arg) h = search (after_ok, rising_linked, rules) depth 20
-rising_accepted drivers c process (command.Unlink fd w) h = search (after_ok, rising_unlinked, rules) depth 20
-rising_accepted drivers c process (command.Punlink fd w) h = search (after_ok, rising_unlinked, rules) depth 20
-rising_accepted drivers c process (command.Bind fd addr) h =
-    search (after_test, after_ok, rising_done, rising_bind, rules) depth 20
-rising_accepted drivers c process (command.Unbind fd) h =
-    search (after_test, after_ok, rising_done, rising_unbind, rules) depth 20
-rising_accepted drivers c process (command.Route fd addr id) h =
-    search (after_test, after_ok, rising_done, rising_route, rules) depth 20
-rising_accepted drivers c process (command.Unroute fd addr) h =
-    search (after_test, after_ok, rising_done, rising_unroute, rules) depth 20
-rising_accepted drivers c process (command.Write fd addr bytes) h =
-    search (after_test, after_ok, rising_sent, rules) depth 20
-rising_accepted drivers c process (command.Read fd) h =
-    search (after_ok, after_choice, at_ok, rising_received, rules) depth 20
-rising_accepted drivers c process (command.Flush fd w) h =
-    search (after_ok, rising_done, rising_emptied, rules) depth 20
-rising_accepted drivers c process (command.Inject name minor addr bytes) h =
-    search (after_test, after_ok, rising_sent, rules) depth 20
-rising_accepted drivers c process (command.Transmit name minor) h = search (after_ok, rising_received, rules) depth 20
-rising_accepted drivers c process (command.Hangup name minor) h =
-    search (after_ok, rising_done, rising_hung, rules) depth 20
+rising_accepted drivers c process k h = search (
+  of_rows,
+  rising_fd,
+  rising_same,
+  rising_took,
+  rising_left,
+  rising_done,
+  rising_closed,
+  rising_removed,
+  rising_bind,
+  rising_unbind,
+  rising_route,
+  rising_unroute,
+  rising_emptied,
+  rising_hung,
+  rules,
+) depth 24
 
 -- a move keeps descriptors, bindings, routes, full places and hung-up streams rising
 pub rising_moved : (drivers : List DriverSpec) (c : Configuration) (p : Place) → AreRising c

@@ -5,9 +5,6 @@ use Rattle.std.specs.Prelude.{Result}
 use Rattle.std.specs.List.{list_any}
 use Rattle.std.proofs.lemmas.Bool.{lt-ltb, cases_Bool, eqb-true, and_parts, or_cases, or_left, or_right, false≢true}
 use Rattle.smx_types.specs.declared.command.Command.{Command}
-use Rattle.smx_types.specs.declared.command.Command.TheVariants as command
-use Rattle.smx_types.specs.declared.command.Which.{Which}
-use Rattle.smx_types.specs.declared.command.Which.TheVariants as which
 use Rattle.smx_types.specs.declared.driver.DriverSpec.{DriverSpec}
 use Rattle.smx_types.specs.declared.link.Link.{Link}
 use Rattle.smx_types.specs.declared.link.LinkKind.{LinkKind}
@@ -17,7 +14,7 @@ use Rattle.smx_types.specs.declared.reply.Fault.{Fault}
 use Rattle.smx_types.specs.declared.reply.Fault.TheVariants.{NotMux}
 use Rattle.smx_types.specs.declared.stream.Place.{Place}
 use Rattle.smx_types.specs.declared.stream.StreamId.{StreamId}
-use Rattle.smx_model.specs.Commands.{outcome, done_outcome, link_outcome, unlink_outcome}
+use Rattle.smx_model.specs.Commands.{outcome, done_outcome}
 use Rattle.smx_model.specs.Configuration.{Configuration, empty, route_before}
 use Rattle.smx_model.specs.DriverList.{is_mux}
 use Rattle.smx_model.specs.Lookups.{free_stream, mux_stream}
@@ -27,7 +24,8 @@ use Rattle.smx_model.specs.Queues.{first_message}
 use Rattle.smx_model.specs.Removal.{without_links}
 use Rattle.smx_model.specs.Settling.{after_move, after_move_to, next_open_place}
 use Rattle.smx_model.specs.SoundLinks.{AreIdsRising, AreRoutesSound}
-use Rattle.smx_model.proofs.OutcomeLemmas.{IfAccepted, after_ok, after_some, after_test, at_ok, after_choice}
+use Rattle.smx_model.proofs.AcceptedLemmas.{of_rows}
+use Rattle.smx_model.proofs.OutcomeLemmas.{IfAccepted}
 use Rattle.smx_model.proofs.EachLemmas.{Each, each_filter, each_placed, each_push, each_map, all_of_each}
 
 -- each id is below those of the later links
@@ -158,12 +156,6 @@ routed_done : (drivers : List DriverSpec) (c d : Configuration) → AreRouted dr
 routed_done drivers c d h = let k = routed_removed drivers d _ h in
     record { holds = record { rise = k.rise; ids = k.ids; start = k.start; routes = k.routes } }
 
-routed_unlinked : (drivers : List DriverSpec) (c : Configuration) (w : Which) (mine : Link → Bool) → AreRouted drivers c
-    → IfAccepted (λ d r. AreRouted drivers d) (unlink_outcome drivers c w mine)
-routed_unlinked drivers c which.All mine h =
-    routed_done drivers c (without_links c mine) (routed_removed drivers c mine h)
-routed_unlinked drivers c (which.Id id) mine h = search (after_test, routed_done, routed_removed, rules) depth 12
-
 routed_link : (drivers : List DriverSpec) (c : Configuration) (ctl lower : StreamId) (k : LinkKind)
     → AreRouted drivers c
     → AreRouted drivers
@@ -179,10 +171,6 @@ routed_link drivers c ctl lower k h = record {
 } where
   l : Link
   l = record { id = c.next_id; ctl = ctl; lower = lower; kind = k }
-
-routed_linked : (drivers : List DriverSpec) (c : Configuration) (process fd arg : ℕ) (k : LinkKind)
-    → AreRouted drivers c → IfAccepted (λ d r. AreRouted drivers d) (link_outcome drivers c process fd arg k)
-routed_linked drivers c process fd arg k h = search (after_test, after_ok, at_ok, routed_link, rules) depth 24
 
 routed_route : (drivers : List DriverSpec) (c : Configuration) (test : Route → Bool) (driver addr id : ℕ)
     → AreRouted drivers c → is_mux drivers driver ≡ true → not (leads_from c.links id driver) ≡ false
@@ -219,35 +207,17 @@ mux_is drivers c process fd s e = by (free_stream c process fd) e where
 -- an accepted command keeps ids of links rising, and each route with a link of its own driver
 pub routed_accepted : (drivers : List DriverSpec) (c : Configuration) (process : ℕ) (k : Command) → AreRouted drivers c
     → IfAccepted (λ d r. AreRouted drivers d) (outcome drivers c process k)
-routed_accepted drivers c process (command.OpenClone name) h = search (after_ok, at_ok, routed_same, rules) depth 20
-routed_accepted drivers c process (command.OpenMinor name minor) h =
-    search (after_test, after_ok, at_ok, routed_same, rules) depth 20
-routed_accepted drivers c process (command.Dup fd) h = search (after_ok, at_ok, routed_same, rules) depth 20
-routed_accepted drivers c process (command.Close fd) h = search (after_ok, routed_done, routed_same, rules) depth 20
-routed_accepted drivers c process command.CloseAll h = search (routed_done, routed_same, rules) depth 20
-routed_accepted drivers c process (command.Link fd arg) h = search (routed_linked, rules) depth 20
-routed_accepted drivers c process (command.Plink fd arg) h = search (routed_linked, rules) depth 20
-routed_accepted drivers c process (command.Unlink fd w) h = search (after_ok, routed_unlinked, rules) depth 20
-routed_accepted drivers c process (command.Punlink fd w) h = search (after_ok, routed_unlinked, rules) depth 20
-routed_accepted drivers c process (command.Bind fd addr) h =
-    search (after_test, after_ok, routed_done, routed_same, rules) depth 20
-routed_accepted drivers c process (command.Unbind fd) h =
-    search (after_test, after_ok, routed_done, routed_same, rules) depth 20
-routed_accepted drivers c process (command.Route fd addr id) h =
-    search (after_test, after_ok, routed_done, routed_route, mux_is, routed_same, rules) depth 20
-routed_accepted drivers c process (command.Unroute fd addr) h =
-    search (after_test, after_ok, routed_done, routed_fewer, rules) depth 20
-routed_accepted drivers c process (command.Write fd addr bytes) h =
-    search (after_test, after_ok, at_ok, routed_same, rules) depth 20
-routed_accepted drivers c process (command.Read fd) h =
-    search (after_ok, after_choice, after_some, at_ok, routed_same, rules) depth 20
-routed_accepted drivers c process (command.Flush fd w) h = search (after_ok, routed_done, routed_same, rules) depth 20
-routed_accepted drivers c process (command.Inject name minor addr bytes) h =
-    search (after_test, after_ok, at_ok, routed_same, rules) depth 20
-routed_accepted drivers c process (command.Transmit name minor) h =
-    search (after_some, after_ok, at_ok, routed_same, rules) depth 20
-routed_accepted drivers c process (command.Hangup name minor) h =
-    search (after_ok, routed_done, routed_same, rules) depth 20
+routed_accepted drivers c process k h = search (
+  of_rows,
+  routed_same,
+  routed_link,
+  routed_done,
+  routed_removed,
+  routed_route,
+  mux_is,
+  routed_fewer,
+  rules,
+) depth 24
 
 -- a move keeps ids of links rising, and each route with a link of its own driver
 pub routed_moved : (drivers : List DriverSpec) (c : Configuration) (p : Place) → AreRouted drivers c

@@ -3,7 +3,7 @@ use Rattle.std.proofs.Common.{◌≡◌, ℕ, zero, suc, ◌<◌, Bool, true, fa
 use Rattle.std.proofs.Common.{length, find, Option, Some, None, Ok, Err, refl, rules, sym, ap, ◌∙◌, subst, arith, inl}
 use Rattle.std.proofs.Common.{inr}
 use Rattle.std.specs.Prelude.{Result, IfOk}
-use Rattle.smx_model.specs.Commands.{outcome, done_outcome, link_outcome, unlink_outcome, send_outcome, receive_outcome}
+use Rattle.smx_model.specs.Commands.{outcome, done_outcome}
 use Rattle.smx_model.specs.Commands.{with_fd}
 use Rattle.smx_model.specs.Configuration.{Configuration, QueuedMessage, is_at, queued_before, fd_before, same_stream}
 use Rattle.smx_model.specs.Configuration.{place_before, is_fd}
@@ -12,12 +12,13 @@ use Rattle.smx_model.specs.Lookups.{driver_of, stream_of, free_stream, leaf_stre
 use Rattle.smx_model.specs.Outcomes.{Outcome, or_fault, ◌>>=◌, refuse}
 use Rattle.smx_model.specs.Paths.{HasNoCycle}
 use Rattle.smx_model.specs.Queues.{first_message, after_leaving, after_arrival, with_mark}
-use Rattle.smx_model.specs.Removal.{after_sweep, without_links}
+use Rattle.smx_model.specs.Removal.{after_sweep}
 use Rattle.smx_model.specs.Settling.{after_move, after_move_to, next_open_place, next_place}
 use Rattle.smx_model.specs.Standing.{is_persistent, is_named, stands_within, exists, is_below, Stands}
 use Rattle.smx_model.specs.Swept.{IsSwept}
 use Rattle.smx_model.proofs.IdleSweepLemmas.{swept_idle}
-use Rattle.smx_model.proofs.OutcomeLemmas.{IfAccepted, at_ok, after_choice, after_ok, after_test, after_some}
+use Rattle.smx_model.proofs.AcceptedLemmas.{of_rows}
+use Rattle.smx_model.proofs.OutcomeLemmas.{IfAccepted}
 use Rattle.smx_model.proofs.HangupLemmas.{live_is, live_leaf_is}
 use Rattle.smx_model.proofs.PathLemmas.{reaches_at}
 use Rattle.smx_model.proofs.RangeLemmas.{AreNamed}
@@ -26,15 +27,11 @@ use Rattle.smx_model.proofs.StandingLemmas.{swept_is, stands_more, IsLinkIn, cli
 use Rattle.std.specs.List.{list_any}
 use Rattle.std.proofs.lemmas.Bool.{cases_Bool, eq-eqb, and_parts, or_cases, or_left, or_right, and_from}
 use Rattle.smx_types.specs.declared.command.Command.{Command}
-use Rattle.smx_types.specs.declared.command.Command.TheVariants as command
 use Rattle.smx_types.specs.declared.reply.Fault.{Fault}
 use Rattle.smx_types.specs.declared.reply.Fault.TheVariants.{BadDescriptor, NoDriver}
-use Rattle.smx_types.specs.declared.command.Which.{Which}
-use Rattle.smx_types.specs.declared.command.Which.TheVariants as which
 use Rattle.smx_types.specs.declared.stream.Descriptor.{Descriptor}
 use Rattle.smx_types.specs.declared.driver.DriverSpec.{DriverSpec}
 use Rattle.smx_types.specs.declared.link.Link.{Link}
-use Rattle.smx_types.specs.declared.link.LinkKind.{LinkKind}
 use Rattle.smx_types.specs.declared.message.Message.{Message}
 use Rattle.smx_types.specs.declared.stream.Place.{Place}
 use Rattle.smx_types.specs.declared.stream.Side.{Side}
@@ -218,57 +215,26 @@ swept_took : (drivers : List DriverSpec) (c : Configuration) (p : Place) (m : Me
 swept_took drivers c p m n e h = let a = swept_arrived drivers c p m e h in
     record { links = a.links; binds = a.binds; flow = a.flow; fulls = a.fulls; hungs = a.hungs }
 
-swept_sent : (drivers : List DriverSpec) (c : Configuration) (p : Place) (addr : ℕ) (bytes : List ℕ)
-    → exists drivers c p.stream ≡ true → IsSwept drivers c
-    → IfAccepted (λ d r. IsSwept drivers d) (send_outcome drivers c p addr bytes)
-swept_sent drivers c p addr bytes e h = search (after_test, at_ok, swept_took, rules) depth 12
-
-swept_received : (drivers : List DriverSpec) (c : Configuration) (p : Place) → exists drivers c p.stream ≡ true
-    → IsSwept drivers c → IfAccepted (λ d r. IsSwept drivers d) (receive_outcome drivers c p)
-swept_received drivers c p e h = search (after_some, at_ok, swept_left, rules) depth 12
-
 swept_done : (drivers : List DriverSpec) (c d : Configuration)
     → IfAccepted (λ d r. IsSwept drivers d) (done_outcome drivers c d)
 swept_done drivers c d = record { holds = swept_is drivers d }
 
-swept_unlinked : (drivers : List DriverSpec) (c : Configuration) (w : Which) (mine : Link → Bool)
-    → IfAccepted (λ d r. IsSwept drivers d) (unlink_outcome drivers c w mine)
-swept_unlinked drivers c which.All mine = swept_done drivers c (without_links c mine)
-swept_unlinked drivers c (which.Id id) mine = search (after_test, swept_done, rules) depth 12
-
-swept_linked : (drivers : List DriverSpec) (c : Configuration) (process fd arg : ℕ) (k : LinkKind) → IsSwept drivers c
-    → IfAccepted (λ d r. IsSwept drivers d) (link_outcome drivers c process fd arg k)
-swept_linked drivers c process fd arg k h =
-    search (after_test, after_ok, at_ok, swept_link, stream_exists, rules) depth 24
-
 -- an accepted command leaves a swept configuration swept
 pub swept_accepted : (drivers : List DriverSpec) (c : Configuration) (process : ℕ) (k : Command) → IsSwept drivers c
     → IfAccepted (λ d r. IsSwept drivers d) (outcome drivers c process k)
-swept_accepted drivers c process (command.OpenClone name) h = search (after_ok, at_ok, swept_fd, rules) depth 20
-swept_accepted drivers c process (command.OpenMinor name minor) h =
-    search (after_test, after_ok, at_ok, swept_fd, rules) depth 20
-swept_accepted drivers c process (command.Dup fd) h = search (after_ok, at_ok, swept_fd, rules) depth 20
-swept_accepted drivers c process (command.Close fd) h = search (after_ok, swept_done, rules) depth 20
-swept_accepted drivers c process command.CloseAll h = search (swept_done, rules) depth 20
-swept_accepted drivers c process (command.Link fd arg) h = search (after_ok, swept_linked, rules) depth 20
-swept_accepted drivers c process (command.Plink fd arg) h = search (after_ok, swept_linked, rules) depth 20
-swept_accepted drivers c process (command.Unlink fd w) h = search (after_ok, swept_unlinked, rules) depth 20
-swept_accepted drivers c process (command.Punlink fd w) h = search (after_ok, swept_unlinked, rules) depth 20
-swept_accepted drivers c process (command.Bind fd addr) h = search (after_test, after_ok, swept_done, rules) depth 20
-swept_accepted drivers c process (command.Unbind fd) h = search (after_test, after_ok, swept_done, rules) depth 20
-swept_accepted drivers c process (command.Route fd addr id) h =
-    search (after_test, after_ok, swept_done, rules) depth 20
-swept_accepted drivers c process (command.Unroute fd addr) h = search (after_test, after_ok, swept_done, rules) depth 20
-swept_accepted drivers c process (command.Write fd addr bytes) h =
-    search (after_test, after_ok, at_ok, swept_sent, live_exists, rules) depth 20
-swept_accepted drivers c process (command.Read fd) h =
-    search (after_ok, after_choice, at_ok, swept_received, free_exists, rules) depth 20
-swept_accepted drivers c process (command.Flush fd w) h = search (after_ok, swept_done, rules) depth 20
-swept_accepted drivers c process (command.Inject name minor addr bytes) h =
-    search (after_test, after_ok, at_ok, swept_sent, live_leaf_exists, rules) depth 20
-swept_accepted drivers c process (command.Transmit name minor) h =
-    search (after_ok, at_ok, swept_received, live_leaf_exists, rules) depth 20
-swept_accepted drivers c process (command.Hangup name minor) h = search (after_ok, swept_done, rules) depth 20
+swept_accepted drivers c process k h = search (
+  of_rows,
+  swept_fd,
+  swept_link,
+  stream_exists,
+  swept_done,
+  swept_took,
+  live_exists,
+  live_leaf_exists,
+  swept_left,
+  free_exists,
+  rules,
+) depth 24
 
 -- a move goes to a stream that exists
 
