@@ -5,19 +5,14 @@ use Rattle.std.proofs.Common.{length-append}
 use Rattle.std.specs.List.{range_with_len}
 use Rattle.std.proofs.lemmas.Bool.{cases_Bool, cases_lt, cases_eq, ne_eqb, eq-eqb}
 use Rattle.smx_types.specs.declared.command.Command.{Command}
-use Rattle.smx_types.specs.declared.command.Command.TheVariants as command
 use Rattle.smx_types.specs.declared.command.Entry.{Entry}
 use Rattle.smx_types.specs.declared.reply.Reply.{Reply}
 use Rattle.smx_types.specs.declared.reply.Reply.TheVariants as reply
-use Rattle.smx_types.specs.declared.command.Which.{Which}
-use Rattle.smx_types.specs.declared.command.Which.TheVariants as which
 use Rattle.smx_types.specs.declared.driver.DriverSpec.{DriverSpec}
 use Rattle.smx_types.specs.declared.link.Link.{Link}
-use Rattle.smx_types.specs.declared.link.LinkKind.{LinkKind}
 use Rattle.smx_types.specs.declared.message.Message.{Message}
 use Rattle.smx_types.specs.declared.stream.Place.{Place}
-use Rattle.smx_model.specs.Commands.{outcome, step, after_outcome, done_outcome, link_outcome, unlink_outcome}
-use Rattle.smx_model.specs.Commands.{send_outcome, receive_outcome}
+use Rattle.smx_model.specs.Commands.{outcome, step, after_outcome, done_outcome}
 use Rattle.smx_model.specs.Configuration.{Configuration, QueuedMessage, empty, is_at, queued_before}
 use Rattle.smx_model.specs.Histories.{after_from, after, IsLegalFrom, IsLegal}
 use Rattle.smx_model.specs.LawfulHistories.{taken_by, delivered_by, dropped_by, taken_serials, delivered_serials}
@@ -28,7 +23,8 @@ use Rattle.smx_model.specs.Queues.{first_message, after_leaving}
 use Rattle.smx_model.specs.Removal.{after_sweep, without_links, without_queues_at, serials}
 use Rattle.smx_model.specs.Settling.{after_settling_within, least_movable, after_move, after_move_to, next_open_place}
 use Rattle.smx_model.proofs.CountLemmas.{times, times_append, times_gone, permuted}
-use Rattle.smx_model.proofs.OutcomeLemmas.{IfAccepted, at_ok, after_ok, after_test, after_some, after_choice}
+use Rattle.smx_model.proofs.AcceptedLemmas.{of_rows, taken}
+use Rattle.smx_model.proofs.OutcomeLemmas.{IfAccepted}
 
 -- serials of a flow
 
@@ -111,69 +107,40 @@ goes_eof c = record { balance = λ n. omega arith; numbered = refl; next = omega
 goes_id : (c d : Configuration) (id : ℕ) → d.flow ≡ c.flow → d.next_serial ≡ c.next_serial → Goes c d (reply.Id id)
 goes_id c d id e same = record { balance = λ n. rw e (omega arith); numbered = refl; next = omega arith }
 
-goes_sent : (drivers : List DriverSpec) (c : Configuration) (p : Place) (addr : ℕ) (bytes : List ℕ)
-    → IfAccepted (Goes c) (send_outcome drivers c p addr bytes)
-goes_sent drivers c p addr bytes = search (after_test, at_ok, took, rules) depth 12 where
-  took : (d : Configuration)
-      → d.flow ≡ with_inserted queued_before c.flow
-      (record { place = p; message = record { serial = c.next_serial; addr = addr; bytes = bytes } })
-      → d.next_serial ≡ c.next_serial + 1 → Goes c d (reply.Took c.next_serial)
-  took d e next = record {
-    balance = λ n.
-        rw e (omega (
-          arith,
-          serials_placed n c.flow
-              (record { place = p; message = record { serial = c.next_serial; addr = addr; bytes = bytes } }),
-        ));
-    numbered = refl;
-    next = next;
-  }
+goes_took : (drivers : List DriverSpec) (c : Configuration) (p : Place) (addr : ℕ) (bytes : List ℕ)
+    → Goes c (taken drivers c p addr bytes) (reply.Took c.next_serial)
+goes_took drivers c p addr bytes = record {
+  balance = λ n.
+      omega (
+        arith,
+        serials_placed n c.flow
+            (record { place = p; message = record { serial = c.next_serial; addr = addr; bytes = bytes } }),
+      );
+  numbered = refl;
+  next = refl;
+}
 
-goes_received : (drivers : List DriverSpec) (c : Configuration) (p : Place)
-    → IfAccepted (Goes c) (receive_outcome drivers c p)
-goes_received drivers c p = search (after_some, at_ok, got, rules) depth 12 where
-  got : (m : Message) → first_message c.flow p ≡ Some m
-      → Goes c (after_leaving drivers c p) (reply.Got m.serial m.addr m.bytes)
-  got m e = record { balance = λ n. omega (arith, serials_front n c.flow p m e); numbered = refl; next = omega arith }
-
-goes_unlinked : (drivers : List DriverSpec) (c : Configuration) (w : Which) (mine : Link → Bool) → IsNumbered c
-    → IfAccepted (Goes c) (unlink_outcome drivers c w mine)
-goes_unlinked drivers c which.All mine h = goes_done drivers c (without_links c mine) h refl (fewer_removed c mine)
-goes_unlinked drivers c (which.Id id) mine h = search (after_test, goes_done, fewer_removed, rules) depth 12
-
-goes_linked : (drivers : List DriverSpec) (c : Configuration) (process fd arg : ℕ) (k : LinkKind)
-    → IfAccepted (Goes c) (link_outcome drivers c process fd arg k)
-goes_linked drivers c process fd arg k = search (after_test, after_ok, at_ok, goes_id, rules) depth 20
+goes_got : (drivers : List DriverSpec) (c : Configuration) (p : Place) (m : Message) → first_message c.flow p ≡ Some m
+    → Goes c (after_leaving drivers c p) (reply.Got m.serial m.addr m.bytes)
+goes_got drivers c p m e =
+    record { balance = λ n. omega (arith, serials_front n c.flow p m e); numbered = refl; next = omega arith }
 
 -- an accepted command loses and doubles no message, where each queued one has a serial of its own
 pub goes_accepted : (drivers : List DriverSpec) (c : Configuration) (process : ℕ) (k : Command) → IsNumbered c
     → IfAccepted (Goes c) (outcome drivers c process k)
-goes_accepted drivers c process (command.OpenClone name) h = search (after_ok, at_ok, goes_fd, rules) depth 20
-goes_accepted drivers c process (command.OpenMinor name minor) h =
-    search (after_test, after_ok, at_ok, goes_fd, rules) depth 20
-goes_accepted drivers c process (command.Dup fd) h = search (after_ok, at_ok, goes_fd, rules) depth 20
-goes_accepted drivers c process (command.Close fd) h = search (after_ok, at_ok, goes_done, fewer_same, rules) depth 20
-goes_accepted drivers c process command.CloseAll h = search (at_ok, goes_done, fewer_same, rules) depth 20
-goes_accepted drivers c process (command.Link fd arg) h = search (goes_linked, rules) depth 20
-goes_accepted drivers c process (command.Plink fd arg) h = search (goes_linked, rules) depth 20
-goes_accepted drivers c process (command.Unlink fd w) h = search (after_ok, goes_unlinked, rules) depth 20
-goes_accepted drivers c process (command.Punlink fd w) h = search (after_ok, goes_unlinked, rules) depth 20
-goes_accepted drivers c process (command.Bind fd addr) h =
-    search (after_test, after_ok, at_ok, goes_done, fewer_same, rules) depth 20
-goes_accepted drivers c process (command.Unbind fd) h =
-    search (after_test, after_ok, at_ok, goes_done, fewer_same, rules) depth 20
-goes_accepted drivers c process (command.Route fd addr id) h =
-    search (after_test, after_ok, at_ok, goes_done, fewer_same, rules) depth 20
-goes_accepted drivers c process (command.Unroute fd addr) h =
-    search (after_test, after_ok, at_ok, goes_done, fewer_same, rules) depth 20
-goes_accepted drivers c process (command.Write fd addr bytes) h = search (after_ok, goes_sent, rules) depth 20
-goes_accepted drivers c process (command.Read fd) h =
-    search (after_ok, after_choice, at_ok, goes_eof, goes_received, rules) depth 20
-goes_accepted drivers c process (command.Flush fd w) h =
-    search (after_ok, at_ok, goes_done, fewer_emptied, rules) depth 20
-goes_accepted drivers c process (command.Inject name minor addr bytes) h = search (after_ok, goes_sent, rules) depth 20
-goes_accepted drivers c process (command.Transmit name minor) h = search (after_ok, goes_received, rules) depth 20
-goes_accepted drivers c process (command.Hangup name minor) h = search (after_ok, goes_done, fewer_same, rules) depth 20
+goes_accepted drivers c process k h = search (
+  of_rows,
+  goes_fd,
+  goes_id,
+  goes_eof,
+  goes_took,
+  goes_got,
+  goes_done,
+  fewer_same,
+  fewer_emptied,
+  fewer_removed,
+  rules,
+) depth 24
 
 -- settling keeps what is queued
 

@@ -4,19 +4,15 @@ use Rattle.std.proofs.Common.{sym, ap, ◌∙◌, subst, inl, inr}
 use Rattle.std.specs.List.{list_any, list_all}
 use Rattle.std.proofs.lemmas.Bool.{cases_Bool, and_parts, and_from, or_left, or_right, eq-eqb, false≢true}
 use Rattle.smx_types.specs.declared.command.Command.{Command}
-use Rattle.smx_types.specs.declared.command.Command.TheVariants as command
 use Rattle.smx_types.specs.declared.command.Entry.{Entry}
 use Rattle.smx_types.specs.declared.driver.DriverSpec.{DriverSpec}
 use Rattle.smx_types.specs.declared.link.Binding.{Binding}
-use Rattle.smx_types.specs.declared.link.LinkKind.{LinkKind}
 use Rattle.smx_types.specs.declared.link.Route.{Route}
 use Rattle.smx_types.specs.declared.reply.Fault.{Fault}
 use Rattle.smx_types.specs.declared.reply.Fault.TheVariants.{NotMux}
 use Rattle.smx_types.specs.declared.reply.Reply.TheVariants.{Done}
-use Rattle.smx_types.specs.declared.stream.Place.{Place}
 use Rattle.smx_types.specs.declared.stream.StreamId.{StreamId}
-use Rattle.smx_model.specs.Commands.{outcome, step, after_outcome, done_outcome, link_outcome, send_outcome}
-use Rattle.smx_model.specs.Commands.{receive_outcome}
+use Rattle.smx_model.specs.Commands.{outcome, step, after_outcome, done_outcome}
 use Rattle.smx_model.specs.Configuration.{Configuration, QueuedMessage, empty, bind_before, stream_before}
 use Rattle.smx_model.specs.DriverList.{is_mux}
 use Rattle.smx_model.specs.Histories.{IsLegal, IsLegalFrom}
@@ -31,7 +27,8 @@ use Rattle.smx_model.specs.Swept.{IsSwept}
 use Rattle.smx_model.proofs.EachLemmas.{Each, all_of_each}
 use Rattle.smx_model.proofs.IdleSweepLemmas.{swept_idle}
 use Rattle.smx_model.proofs.KeptLemmas.{empty_kept, step_keeps}
-use Rattle.smx_model.proofs.OutcomeLemmas.{IfAccepted, at_ok, after_ok, after_test, after_some, after_choice}
+use Rattle.smx_model.proofs.AcceptedLemmas.{of_rows, at_none}
+use Rattle.smx_model.proofs.OutcomeLemmas.{IfAccepted, at_ok}
 use Rattle.smx_model.proofs.SweptLemmas.{free_exists, leaf_exists}
 use Rattle.smx_model.proofs.TestLemmas.{all_filter, all_placed}
 use Rattle.smx_model.specs.Hangups.{is_hung, with_hung}
@@ -146,51 +143,24 @@ hangup_drops : (drivers : List DriverSpec) (c : Configuration) (s : StreamId) �
 hangup_drops drivers c s h e =
     idle_drops drivers c (record c { hungs = with_hung s c.hungs }) (hung_swept drivers c s h e) refl
 
--- what replies no Done
-
-linked_drops : (drivers : List DriverSpec) (c : Configuration) (process fd arg : ℕ) (k : LinkKind)
-    → DropsNone (link_outcome drivers c process fd arg k)
-linked_drops drivers c process fd arg k = search (after_test, after_ok, at_ok, rules) depth 24
-
-sent_drops : (drivers : List DriverSpec) (c : Configuration) (p : Place) (addr : ℕ) (bytes : List ℕ)
-    → DropsNone (send_outcome drivers c p addr bytes)
-sent_drops drivers c p addr bytes = search (after_test, at_ok, rules) depth 12
-
-received_drops : (drivers : List DriverSpec) (c : Configuration) (p : Place) → DropsNone (receive_outcome drivers c p)
-received_drops drivers c p = search (after_some, at_ok, rules) depth 12
-
 -- each command that may not drop
 
 drops_accepted : (drivers : List DriverSpec) (c : Configuration) (process : ℕ) (k : Command) → may_drop k ≡ false
     → IsSwept drivers c → DropsNone (outcome drivers c process k)
-drops_accepted drivers c process (command.OpenClone name) never h = search (after_ok, at_ok, rules) depth 20
-drops_accepted drivers c process (command.OpenMinor name minor) never h =
-    search (after_test, after_ok, at_ok, rules) depth 20
-drops_accepted drivers c process (command.Dup fd) never h = search (after_ok, at_ok, rules) depth 20
-drops_accepted drivers c process (command.Close fd) never h = absurd (false≢true (sym never))
-drops_accepted drivers c process command.CloseAll never h = absurd (false≢true (sym never))
-drops_accepted drivers c process (command.Link fd arg) never h = search (linked_drops, rules) depth 20
-drops_accepted drivers c process (command.Plink fd arg) never h = search (linked_drops, rules) depth 20
-drops_accepted drivers c process (command.Unlink fd w) never h = absurd (false≢true (sym never))
-drops_accepted drivers c process (command.Punlink fd w) never h = absurd (false≢true (sym never))
-drops_accepted drivers c process (command.Bind fd addr) never h =
-    search (after_test, after_ok, bind_drops, mux_exists, rules) depth 20
-drops_accepted drivers c process (command.Unbind fd) never h =
-    search (after_test, after_ok, unbind_drops, rules) depth 20
-drops_accepted drivers c process (command.Route fd addr id) never h =
-    search (after_test, after_ok, route_drops, rules) depth 20
-drops_accepted drivers c process (command.Unroute fd addr) never h =
-    search (after_test, after_ok, route_drops, rules) depth 20
-drops_accepted drivers c process (command.Write fd addr bytes) never h = search (after_ok, sent_drops, rules) depth 20
-drops_accepted drivers c process (command.Read fd) never h =
-    search (after_ok, after_choice, at_ok, received_drops, rules) depth 20
-drops_accepted drivers c process (command.Flush fd w) never h = absurd (false≢true (sym never))
-drops_accepted drivers c process (command.Inject name minor addr bytes) never h =
-    search (after_ok, sent_drops, rules) depth 20
-drops_accepted drivers c process (command.Transmit name minor) never h =
-    search (after_ok, received_drops, rules) depth 20
-drops_accepted drivers c process (command.Hangup name minor) never h =
-    search (after_ok, hangup_drops, leaf_exists, rules) depth 20
+drops_accepted drivers c process k never h = search (
+  of_rows,
+  bind_drops,
+  mux_exists,
+  unbind_drops,
+  route_drops,
+  hangup_drops,
+  leaf_exists,
+  at_none,
+  drops,
+  rules,
+) depth 24 where
+  drops : (x : Command) → k ≡ x → may_drop x ≡ true → ⊥
+  drops x e may = false≢true (sym never ∙ (ap may_drop e ∙ may))
 
 -- a command whose reply names dropped messages is one of those that may drop
 pub step_drops : (drivers : List DriverSpec) (c : Configuration) (process : ℕ) (k : Command) → IsSwept drivers c
