@@ -136,25 +136,8 @@ record IsHangup (k : Command) : Type 0 where
   is : k ≡ command.Hangup name minor
 
 hangup_of : (k : Command) → is_hangup k ≡ true → IsHangup k
-hangup_of (command.OpenClone name) h = absurd (false≢true h)
-hangup_of (command.OpenMinor name minor) h = absurd (false≢true h)
-hangup_of (command.Dup fd) h = absurd (false≢true h)
-hangup_of (command.Close fd) h = absurd (false≢true h)
-hangup_of command.CloseAll h = absurd (false≢true h)
-hangup_of (command.Link fd arg) h = absurd (false≢true h)
-hangup_of (command.Plink fd arg) h = absurd (false≢true h)
-hangup_of (command.Unlink fd w) h = absurd (false≢true h)
-hangup_of (command.Punlink fd w) h = absurd (false≢true h)
-hangup_of (command.Bind fd addr) h = absurd (false≢true h)
-hangup_of (command.Unbind fd) h = absurd (false≢true h)
-hangup_of (command.Route fd addr id) h = absurd (false≢true h)
-hangup_of (command.Unroute fd addr) h = absurd (false≢true h)
-hangup_of (command.Write fd addr bytes) h = absurd (false≢true h)
-hangup_of (command.Read fd) h = absurd (false≢true h)
-hangup_of (command.Flush fd w) h = absurd (false≢true h)
-hangup_of (command.Inject name minor addr bytes) h = absurd (false≢true h)
-hangup_of (command.Transmit name minor) h = absurd (false≢true h)
 hangup_of (command.Hangup name minor) h = record { name = name; minor = minor; is = refl }
+hangup_of k h = absurd (false≢true h)
 
 -- after it the same have hung up, or one more that exists
 record HangsUp (drivers : List DriverSpec) (c d : Configuration) : Type 0 where
