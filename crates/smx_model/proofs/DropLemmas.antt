@@ -1,6 +1,6 @@
 -- Which commands drop messages.
-use Rattle.std.proofs.Common.{◌≡◌, ℕ, Bool, true, false, not, eqb, List, [], ◌∷◌, filter, Result, Ok, Err, refl, rules}
-use Rattle.std.proofs.Common.{sym, ap, ◌∙◌, subst, inl, inr}
+use Rattle.std.proofs.Common.{◌≡◌, ℕ, Bool, true, false, not, eqb, List, [], ◌∷◌, filter, Ok, Err, refl, rules}
+use Rattle.std.proofs.Common.{sym, ap, ◌∙◌, inl, inr}
 use Rattle.std.specs.List.{list_any, list_all}
 use Rattle.std.proofs.lemmas.Bool.{cases_Bool, and_parts, and_from, or_left, or_right, eq-eqb, false≢true}
 use Rattle.smx_types.specs.declared.command.Command.{Command}
@@ -8,7 +8,6 @@ use Rattle.smx_types.specs.declared.command.Entry.{Entry}
 use Rattle.smx_types.specs.declared.driver.DriverSpec.{DriverSpec}
 use Rattle.smx_types.specs.declared.link.Binding.{Binding}
 use Rattle.smx_types.specs.declared.link.Route.{Route}
-use Rattle.smx_types.specs.declared.reply.Fault.{Fault}
 use Rattle.smx_types.specs.declared.reply.Fault.TheVariants.{NotMux}
 use Rattle.smx_types.specs.declared.reply.Reply.TheVariants.{Done}
 use Rattle.smx_types.specs.declared.stream.StreamId.{StreamId}
@@ -20,7 +19,7 @@ use Rattle.smx_model.specs.KeptConfigurations.{IsKept}
 use Rattle.smx_model.specs.LawfulHistories.{dropped_by, may_drop, AreDropsAllowed}
 use Rattle.smx_model.specs.Lookups.{free_stream, mux_stream}
 use Rattle.smx_model.specs.Ordered.{with_inserted, in_rising_order}
-use Rattle.smx_model.specs.Outcomes.{Outcome, ◌>>=◌, refuse}
+use Rattle.smx_model.specs.Outcomes.{Outcome}
 use Rattle.smx_model.specs.Removal.{serials_that_left, serials}
 use Rattle.smx_model.specs.Standing.{exists}
 use Rattle.smx_model.specs.Swept.{IsSwept}
@@ -28,6 +27,7 @@ use Rattle.smx_model.proofs.EachLemmas.{Each, all_of_each}
 use Rattle.smx_model.proofs.IdleSweepLemmas.{swept_idle}
 use Rattle.smx_model.proofs.KeptLemmas.{empty_kept, step_keeps}
 use Rattle.smx_model.proofs.AcceptedLemmas.{of_rows, at_none}
+use Rattle.smx_model.proofs.LookupLemmas.{tested}
 use Rattle.smx_model.proofs.OutcomeLemmas.{IfAccepted, at_ok}
 use Rattle.smx_model.proofs.SweptLemmas.{free_exists, leaf_exists}
 use Rattle.smx_model.proofs.TestLemmas.{all_filter, all_placed}
@@ -72,16 +72,8 @@ idle_drops drivers c d clean same = rw (done_idle drivers c d clean same) (at_ok
 -- a multiplexing driver's stream that a descriptor names, and that is not linked below, exists
 pub mux_exists : (drivers : List DriverSpec) (c : Configuration) (process fd : ℕ) (s : StreamId)
     → mux_stream drivers c process fd ≡ Ok s → exists drivers c s ≡ true
-mux_exists drivers c process fd s e = by (free_stream c process fd) refl e where
-  tested : (t : StreamId) (b : Bool) → (refuse NotMux b >>= (λ _. Ok t)) ≡ Ok s → t ≡ s
-  tested t true k = cc
-  tested t false k = cc
-
-  by : (r : Result StreamId Fault) → free_stream c process fd ≡ r
-      → (r >>= (λ t. refuse NotMux (not (is_mux drivers t.driver)) >>= (λ _. Ok t))) ≡ Ok s → exists drivers c s ≡ true
-  by (Err f) e k = cc
-  by (Ok t) e k = subst (λ (x : StreamId). exists drivers c x ≡ true) (tested t (not (is_mux drivers t.driver)) k)
-      (free_exists drivers c process fd t e)
+mux_exists drivers c process fd s e = free_exists drivers c process fd s
+    (tested NotMux (free_stream c process fd) (λ t. not (is_mux drivers t.driver)) s e).0
 
 -- a binding of a stream that exists, fewer bindings, or other routes
 

@@ -3,7 +3,7 @@ pub mod TestLemmas
 pub mod PathLemmas
 pub mod OutcomeLemmas
 pub mod AcceptedLemmas
-pub mod HangupLemmas
+pub mod LookupLemmas
 pub mod SoundLemmas
 pub mod RangeLemmas
 pub mod RouteLemmas

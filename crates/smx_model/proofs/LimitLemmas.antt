@@ -1,9 +1,10 @@
 -- Limits: few links, few descriptors of each process, and numbers that end.
 use Rattle.std.proofs.Common.{◌≡◌, ℕ, zero, suc, ◌+◌, ◌<◌, ◌≤◌, Bool, true, false, ◌||◌, not, leb, eqb, arith, List, []}
-use Rattle.std.proofs.Common.{◌∷◌, ◌++◌, length, filter, find, Option, Some, None, Ok, Err, refl, rules, subst, inl}
+use Rattle.std.proofs.Common.{◌∷◌, ◌++◌, length, filter, Option, Some, None, Ok, Err, rules, subst, inl}
 use Rattle.std.proofs.Common.{inr}
-use Rattle.std.specs.List.{count_by, list_any, range_with_len}
+use Rattle.std.specs.List.{count_by, list_any}
 use Rattle.std.proofs.lemmas.Bool.{cases_Bool, eqb-true, leb-false, or_parts}
+use Rattle.std.proofs.lemmas.List.{length_push}
 use Rattle.std.proofs.lemmas.List.Sums.{length-filter}
 use Rattle.std.proofs.lemmas.Bool.Decides.{nat_tests}
 use Rattle.smx_types.specs.declared.command.Command.{Command}
@@ -22,13 +23,15 @@ use Rattle.smx_model.specs.Configuration.{Configuration, empty, fd_before, is_fd
 use Rattle.smx_model.specs.Histories.{after, after_from}
 use Rattle.smx_model.specs.Lookups.{free_fd}
 use Rattle.smx_model.specs.Ordered.{ComesBefore, IsRising}
-use Rattle.smx_model.specs.Outcomes.{Outcome, or_fault}
+use Rattle.smx_model.specs.Outcomes.{Outcome}
 use Rattle.smx_model.specs.Queues.{first_message}
 use Rattle.smx_model.specs.Removal.{without_links}
 use Rattle.smx_model.specs.Settling.{after_move, after_move_to, after_settling_within, least_movable, next_open_place}
 use Rattle.smx_model.proofs.EachLemmas.{Each, each_filter, each_placed}
 use Rattle.smx_model.proofs.KeptLemmas.{always_is_kept}
 use Rattle.smx_model.proofs.AcceptedLemmas.{of_rows}
+use Rattle.smx_model.proofs.LookupLemmas.{there_is}
+use Rattle.smx_model.proofs.RangeLemmas.{range_below}
 use Rattle.smx_model.proofs.OutcomeLemmas.{IfAccepted}
 
 -- it keeps to the limits
@@ -46,21 +49,9 @@ within_same c d h e f g k =
 
 -- a free number is below the limit
 
-range_below : (test : ℕ → Bool) (a n m : ℕ) → find test (range_with_len a n) ≡ Some m → m < a + n
-range_below test a zero m e = cc
-range_below test a (suc n) m e = elim (cases_Bool (test a)) [
-  | inl t ↦ let k : Some a ≡ Some m = rw t at e in let same : a ≡ m = cc in omega (arith, same)
-  | inr f ↦ omega (arith, range_below test (a + 1) n m (rw f at e))
-]
-
 free_below : (c : Configuration) (process fd : ℕ) → free_fd c process ≡ Ok fd → fd < MAX_DESCRIPTORS
 free_below c process fd e =
-    by (find (λ n. not (list_any (is_fd process n) c.fds)) (range_with_len 0 MAX_DESCRIPTORS)) refl e where
-      by : (o : Option ℕ) → find (λ n. not (list_any (is_fd process n) c.fds)) (range_with_len 0 MAX_DESCRIPTORS) ≡ o
-          → or_fault TooManyDescriptors o ≡ Ok fd → fd < MAX_DESCRIPTORS
-      by None f k = cc
-      by (Some n) f k = let same : n ≡ fd = cc in
-          omega (arith, same, range_below (λ n. not (list_any (is_fd process n) c.fds)) 0 MAX_DESCRIPTORS n f)
+    range_below (λ n. not (list_any (is_fd process n) c.fds)) 0 MAX_DESCRIPTORS fd (there_is TooManyDescriptors _ fd e)
 
 within_fd : (c : Configuration) (process fd : ℕ) (s : StreamId) → IsWithin c → free_fd c process ≡ Ok fd
     → IsWithin (with_fd c process fd s)
@@ -84,14 +75,10 @@ fewer test [] = omega arith
 fewer test (x ∷ xs) = elim (cases_Bool (test x))
     [ inl t ↦ rw t (omega (arith, fewer test xs)) | inr f ↦ rw f (omega (arith, fewer test xs)) ]
 
-one_more : {X : Type 0} (xs : List X) (x : X) → length (xs ++ x ∷ []) ≡ length xs + 1
-one_more [] x = refl
-one_more (y ∷ ys) x = omega (arith, one_more ys x)
-
 within_link : (c : Configuration) (l : Link) → IsWithin c → (leb MAX_LINKS (length c.links) || leb NUMBER_END c.next_id)
     ≡ false → IsWithin (record c { links = c.links ++ l ∷ []; next_id = c.next_id + 1 })
 within_link c l h room = let p = or_parts (leb MAX_LINKS (length c.links)) (leb NUMBER_END c.next_id) room in record {
-  links = omega (arith, one_more c.links l, leb-false MAX_LINKS (length c.links) p.0);
+  links = omega (arith, length_push c.links l, leb-false MAX_LINKS (length c.links) p.0);
   numbers = h.numbers;
   ids = omega (arith, leb-false NUMBER_END c.next_id p.1);
   serials = h.serials;

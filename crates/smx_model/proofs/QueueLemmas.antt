@@ -27,7 +27,8 @@ same_places p q r h = ap (λ (x : Place). same_place x r) (same_place_is p q h)
 same_turned : (p q : Place) → same_place p q ≡ true → same_place q p ≡ true
 same_turned p q h = subst (λ (x : Place). same_place x p ≡ true) (same_place_is p q h) (same_self p)
 
-not_same_turned : (p q : Place) → same_place p q ≡ false → same_place q p ≡ false
+-- two places that differ do so the other way round
+pub not_same_turned : (p q : Place) → same_place p q ≡ false → same_place q p ≡ false
 not_same_turned p q h = false_from_ne_true _ (λ t. both_ways (same_place p q) h (same_turned q p t))
 
 -- a message arrives

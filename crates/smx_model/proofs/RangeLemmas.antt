@@ -1,14 +1,13 @@
 -- Descriptors and links name streams that the drivers have.
 use Rattle.std.proofs.Common.{◌≡◌, ℕ, zero, suc, ◌+◌, ◌<◌, Bool, false, not, leb, arith, List, [], ◌∷◌, ◌++◌, length}
-use Rattle.std.proofs.Common.{filter, find, Option, Some, None, Ok, refl, rules, subst, inl, inr}
+use Rattle.std.proofs.Common.{filter, find, Option, Some, None, Ok, rules, subst, inl, inr}
 use Rattle.std.specs.Prelude.{position}
 use Rattle.std.specs.Str.{bytes_eq}
 use Rattle.std.specs.List.{range_with_len}
 use Rattle.std.proofs.lemmas.Bool.{cases_Bool, leb-false}
 use Rattle.std.proofs.lemmas.List.Quantifiers.{position-Some}
-use Rattle.std.specs.Option.{option_map}
 use Rattle.smx_types.specs.declared.command.Command.{Command}
-use Rattle.smx_types.specs.declared.reply.Fault.TheVariants.{BadDescriptor, NoDriver, NoMinor}
+use Rattle.smx_types.specs.declared.reply.Fault.TheVariants.{NoDriver, NoMinor}
 use Rattle.smx_types.specs.declared.stream.Descriptor.{Descriptor}
 use Rattle.smx_types.specs.declared.driver.DriverSpec.{DriverSpec}
 use Rattle.smx_types.specs.declared.link.Link.{Link}
@@ -20,12 +19,12 @@ use Rattle.smx_model.specs.Configuration.{Configuration, fd_before, is_fd}
 use Rattle.smx_model.specs.DriverList.{minors_of}
 use Rattle.smx_model.specs.KnownStreams.{IsKnown}
 use Rattle.smx_model.specs.Lookups.{driver_of, stream_of, free_minor}
-use Rattle.smx_model.specs.Outcomes.{or_fault}
 use Rattle.smx_model.specs.Queues.{first_message}
 use Rattle.smx_model.specs.Removal.{without_links}
 use Rattle.smx_model.specs.Settling.{after_move, after_move_to, next_open_place}
 use Rattle.smx_model.specs.Standing.{exists}
 use Rattle.smx_model.proofs.AcceptedLemmas.{of_rows}
+use Rattle.smx_model.proofs.LookupLemmas.{descriptor_of, there_is}
 use Rattle.smx_model.proofs.OutcomeLemmas.{IfAccepted}
 use Rattle.smx_model.proofs.EachLemmas.{Each, each_filter, each_placed, each_push, each_find}
 
@@ -47,33 +46,25 @@ position_below [] test k e = cc
 position_below (d ∷ ds) test k e = (position-Some test (d ∷ ds) k d e).0
 
 driver_below : (drivers : List DriverSpec) (name : List ℕ) (n : ℕ) → driver_of drivers name ≡ Ok n → n < length drivers
-driver_below drivers name n e = by (position (λ d. bytes_eq d.name name) drivers) refl e where
-  by : (o : Option ℕ) → position (λ d. bytes_eq d.name name) drivers ≡ o → or_fault NoDriver o ≡ Ok n
-      → n < length drivers
-  by None e h = cc
-  by (Some k) e h = let same : k ≡ n = cc in
-      subst (λ (x : ℕ). x < length drivers) same (position_below drivers (λ d. bytes_eq d.name name) k e)
+driver_below drivers name n e = position_below drivers (λ d. bytes_eq d.name name) n (there_is NoDriver _ n e)
 
--- a minor that is found free is one of the driver's
-range_below : (test : ℕ → Bool) (a n m : ℕ) → find test (range_with_len a n) ≡ Some m → m < a + n
+-- what is found in a range is below its end
+pub range_below : (test : ℕ → Bool) (a n m : ℕ) → find test (range_with_len a n) ≡ Some m → m < a + n
 range_below test a zero m e = cc
 range_below test a (suc n) m e = elim (cases_Bool (test a)) [
   | inl t ↦ let k : Some a ≡ Some m = rw t at e in let same : a ≡ m = cc in omega (arith, same)
   | inr f ↦ omega (arith, range_below test (a + 1) n m (rw f at e))
 ]
 
+-- a minor that is found free is one of the driver's
 minor_free : (drivers : List DriverSpec) (c : Configuration) (n m : ℕ) → free_minor drivers c n ≡ Ok m
     → m < minors_of drivers n
-minor_free drivers c n m e = by
-    (find (λ m. not (exists drivers c (record { driver = n; minor = m }))) (range_with_len 0 (minors_of drivers n)))
-    refl e where
-      by : (o : Option ℕ) → find (λ m. not (exists drivers c (record { driver = n; minor = m })))
-          (range_with_len 0 (minors_of drivers n)) ≡ o → or_fault NoMinor o ≡ Ok m → m < minors_of drivers n
-      by None e k = cc
-      by (Some x) e k = let same : x ≡ m = cc in
-          let lt : x < 0 + minors_of drivers n = range_below
-          (λ m. not (exists drivers c (record { driver = n; minor = m }))) 0 (minors_of drivers n) x e in
-          subst (λ (y : ℕ). y < minors_of drivers n) same (omega (arith, lt))
+minor_free drivers c n m e =
+    omega (
+      arith,
+      range_below (λ m. not (exists drivers c (record { driver = n; minor = m }))) 0 (minors_of drivers n) m
+          (there_is NoMinor _ m e),
+    )
 
 minor_in : (drivers : List DriverSpec) (n m : ℕ) → leb (minors_of drivers n) m ≡ false → m < minors_of drivers n
 minor_in drivers n m e = leb-false (minors_of drivers n) m e
@@ -84,12 +75,9 @@ known_made drivers n m lt lt2 = (lt, lt2)
 
 stream_known : (drivers : List DriverSpec) (c : Configuration) (process fd : ℕ) (s : StreamId) → AreNamed drivers c
     → stream_of c process fd ≡ Ok s → IsKnown drivers s
-stream_known drivers c process fd s h e = by (find (is_fd process fd) c.fds) refl e where
-  by : (o : Option Descriptor) → find (is_fd process fd) c.fds ≡ o
-      → or_fault BadDescriptor (option_map (λ d. d.stream) o) ≡ Ok s → IsKnown drivers s
-  by None e k = cc
-  by (Some d) e k = let same : d.stream ≡ s = cc in
-      subst (IsKnown drivers) same (each_find (λ d. IsKnown drivers d.stream) (is_fd process fd) c.fds d e h.fds)
+stream_known drivers c process fd s h e =
+    let d = descriptor_of c process fd s e in
+    subst (IsKnown drivers) d.2 (each_find (λ d. IsKnown drivers d.stream) (is_fd process fd) c.fds d.0 d.1 h.fds)
 
 named_fd : (drivers : List DriverSpec) (c : Configuration) (process fd : ℕ) (s : StreamId) → AreNamed drivers c
     → IsKnown drivers s → AreNamed drivers (with_fd c process fd s)

@@ -1,8 +1,8 @@
 -- Descriptors, bindings, routes, full places and hung-up streams stay in their order.
-use Rattle.std.proofs.Common.{◌≡◌, ℕ, Bool, true, false, ◌&&◌, ◌||◌, not, eqb, List, [], ◌∷◌, filter, find, Option}
-use Rattle.std.proofs.Common.{Some, None, Ok, refl, rules, sym, ap, ◌∙◌, arith, inl, inr}
+use Rattle.std.proofs.Common.{◌≡◌, ℕ, Bool, true, false, ◌&&◌, ◌||◌, not, eqb, List, [], ◌∷◌, filter, Option}
+use Rattle.std.proofs.Common.{Some, None, Ok, refl, rules, arith, inl, inr}
 use Rattle.std.specs.List.{list_any, range_with_len}
-use Rattle.std.proofs.lemmas.Bool.{cases_Bool, false≢true}
+use Rattle.std.proofs.lemmas.Bool.{cases_Bool, not-true}
 use Rattle.std.proofs.lemmas.Bool.Decides.{nat_tests}
 use Rattle.smx_types.specs.declared.command.Command.{Command}
 use Rattle.smx_types.specs.declared.driver.DriverSpec.{DriverSpec}
@@ -22,12 +22,12 @@ use Rattle.smx_model.specs.Configuration.{place_before, pair_before, same_place,
 use Rattle.smx_model.specs.Hangups.{is_hung, with_hung}
 use Rattle.smx_model.specs.Lookups.{free_fd}
 use Rattle.smx_model.specs.Ordered.{with_inserted, ComesBefore, IsRising}
-use Rattle.smx_model.specs.Outcomes.{or_fault}
 use Rattle.smx_model.specs.Queues.{first_message, with_mark, after_arrival, after_leaving}
 use Rattle.smx_model.specs.Removal.{without_queues_at, without_links}
 use Rattle.smx_model.specs.Settling.{after_move, after_move_to, next_open_place}
 use Rattle.smx_model.proofs.OrderLemmas.{place_before_trans, place_either}
 use Rattle.smx_model.proofs.AcceptedLemmas.{of_rows}
+use Rattle.smx_model.proofs.LookupLemmas.{there_is}
 use Rattle.smx_model.proofs.OutcomeLemmas.{IfAccepted}
 use Rattle.smx_model.proofs.EachLemmas.{Each, none_passes, kept_passes}
 use Rattle.smx_model.proofs.TestLemmas.{find_passes}
@@ -94,10 +94,6 @@ route_trans x y z h k = pair_trans x.driver x.addr y.driver y.addr z.driver z.ad
 
 stream_trans : IsTransitive stream_before
 stream_trans x y z h k = pair_trans x.driver x.minor y.driver y.minor z.driver z.minor h k
-
-not_true : (b : Bool) → not b ≡ true → b ≡ false
-not_true true h = absurd (false≢true h)
-not_true false h = refl
 
 -- a bound address or a bound stream differs from both
 bind_other : (a b c d e m : ℕ) → (eqb c a && (eqb d b || eqb e m)) ≡ false → (eqb c a && eqb d b) ≡ false
@@ -171,13 +167,8 @@ rising_done drivers c d h = record {
 free_is_free : (c : Configuration) (process fd : ℕ) → free_fd c process ≡ Ok fd
     → list_any (is_fd process fd) c.fds ≡ false
 free_is_free c process fd e =
-    by (find (λ n. not (list_any (is_fd process n) c.fds)) (range_with_len 0 MAX_DESCRIPTORS)) refl e where
-      by : (o : Option ℕ) → find (λ n. not (list_any (is_fd process n) c.fds)) (range_with_len 0 MAX_DESCRIPTORS) ≡ o
-          → or_fault TooManyDescriptors o ≡ Ok fd → list_any (is_fd process fd) c.fds ≡ false
-      by None f k = cc
-      by (Some n) f k = let same : n ≡ fd = cc in ap (λ (x : ℕ). list_any (is_fd process x) c.fds) (sym same)
-          ∙ not_true _ (find_passes (λ n. not (list_any (is_fd process n) c.fds))
-          (range_with_len 0 MAX_DESCRIPTORS) n f)
+    not-true _ (find_passes (λ n. not (list_any (is_fd process n) c.fds)) (range_with_len 0 MAX_DESCRIPTORS) fd
+    (there_is TooManyDescriptors _ fd e))
 
 rising_fd : (c : Configuration) (process fd : ℕ) (s : StreamId) → AreRising c → free_fd c process ≡ Ok fd
     → AreRising (with_fd c process fd s)
@@ -228,7 +219,7 @@ rising_route c driver addr id h = record {
   binds = h.binds;
   routes = rising_placed route_before route_trans (record { driver = driver; addr = addr; id = id }) _
       (kept_passes (λ r. not (eqb r.driver driver && eqb r.addr addr)) _ c.routes
-      (λ r t k. pair_other driver addr r.driver r.addr (not_true _ t) k))
+      (λ r t k. pair_other driver addr r.driver r.addr (not-true _ t) k))
       (rising_filter route_before _ c.routes h.routes);
   fulls = h.fulls;
   hungs = h.hungs;
@@ -265,7 +256,7 @@ rising_unroute c test h = record {
 rising_marked : (p : Place) (b : Bool) (ps : List Place) → IsRising place_before ps
     → IsRising place_before (with_mark p b ps)
 rising_marked p true ps h = rising_placed place_before place_before_trans p _
-    (kept_passes (λ q. not (same_place p q)) _ ps (λ q t k. place_either p q (not_true _ t) k))
+    (kept_passes (λ q. not (same_place p q)) _ ps (λ q t k. place_either p q (not-true _ t) k))
     (rising_filter place_before _ ps h)
 rising_marked p false ps h = rising_filter place_before _ ps h
 

@@ -1,16 +1,14 @@
 -- Ids of links rise, and routes name links of their own upper driver.
 use Rattle.std.proofs.Common.{◌≡◌, ℕ, ◌+◌, ◌<◌, ◌≤◌, Bool, true, false, ◌&&◌, ◌||◌, not, eqb, ltb, List, [], ◌∷◌, ◌++◌}
-use Rattle.std.proofs.Common.{filter, Option, Some, None, Ok, Err, refl, rules, sym, ◌∙◌, subst, arith, inl, inr}
-use Rattle.std.specs.Prelude.{Result}
+use Rattle.std.proofs.Common.{filter, Option, Some, None, Ok, refl, rules, sym, ◌∙◌, subst, arith, inl, inr}
 use Rattle.std.specs.List.{list_any}
-use Rattle.std.proofs.lemmas.Bool.{lt-ltb, cases_Bool, eqb-true, and_parts, or_cases, or_left, or_right, false≢true}
+use Rattle.std.proofs.lemmas.Bool.{lt-ltb, not-false, cases_Bool, eqb-true, and_parts, or_cases, or_left, or_right, false≢true}
 use Rattle.smx_types.specs.declared.command.Command.{Command}
 use Rattle.smx_types.specs.declared.driver.DriverSpec.{DriverSpec}
 use Rattle.smx_types.specs.declared.link.Link.{Link}
 use Rattle.smx_types.specs.declared.link.LinkKind.{LinkKind}
 use Rattle.smx_types.specs.declared.link.Route.{Route}
 use Rattle.smx_types.specs.declared.message.Message.{Message}
-use Rattle.smx_types.specs.declared.reply.Fault.{Fault}
 use Rattle.smx_types.specs.declared.reply.Fault.TheVariants.{NotMux}
 use Rattle.smx_types.specs.declared.stream.Place.{Place}
 use Rattle.smx_types.specs.declared.stream.StreamId.{StreamId}
@@ -19,12 +17,12 @@ use Rattle.smx_model.specs.Configuration.{Configuration, empty, route_before}
 use Rattle.smx_model.specs.DriverList.{is_mux}
 use Rattle.smx_model.specs.Lookups.{free_stream, mux_stream}
 use Rattle.smx_model.specs.Ordered.{with_inserted, ComesBefore, IsRising}
-use Rattle.smx_model.specs.Outcomes.{◌>>=◌, refuse}
 use Rattle.smx_model.specs.Queues.{first_message}
 use Rattle.smx_model.specs.Removal.{without_links}
 use Rattle.smx_model.specs.Settling.{after_move, after_move_to, next_open_place}
 use Rattle.smx_model.specs.SoundLinks.{AreIdsRising, AreRoutesSound}
 use Rattle.smx_model.proofs.AcceptedLemmas.{of_rows}
+use Rattle.smx_model.proofs.LookupLemmas.{tested}
 use Rattle.smx_model.proofs.OutcomeLemmas.{IfAccepted}
 use Rattle.smx_model.proofs.EachLemmas.{Each, each_filter, each_placed, each_push, each_map, all_of_each}
 
@@ -184,25 +182,14 @@ routed_route drivers c test driver addr id h mux there = record {
   ids = h.ids;
   start = h.start;
   routes = each_placed _ route_before (filter test c.routes) (record { driver = driver; addr = addr; id = id })
-      (mux, not_false _ there) (each_filter _ test c.routes h.routes);
-} where
-  not_false : (b : Bool) → not b ≡ false → b ≡ true
-  not_false true e = refl
-  not_false false e = absurd (false≢true (sym e))
+      (mux, not-false _ there) (each_filter _ test c.routes h.routes);
+}
 
 -- the stream's driver is a multiplexing one
 mux_is : (drivers : List DriverSpec) (c : Configuration) (process fd : ℕ) (s : StreamId)
     → mux_stream drivers c process fd ≡ Ok s → is_mux drivers s.driver ≡ true
-mux_is drivers c process fd s e = by (free_stream c process fd) e where
-  tested : (t : StreamId) (b : Bool) → is_mux drivers t.driver ≡ b → (refuse NotMux (not b) >>= (λ _. Ok t)) ≡ Ok s
-      → is_mux drivers s.driver ≡ true
-  tested t true h k = let same : t ≡ s = cc in subst (λ (x : StreamId). is_mux drivers x.driver ≡ true) same h
-  tested t false h k = cc
-
-  by : (r : Result StreamId Fault) → (r >>= (λ t. refuse NotMux (not (is_mux drivers t.driver)) >>= (λ _. Ok t))) ≡ Ok s
-      → is_mux drivers s.driver ≡ true
-  by (Err f) k = cc
-  by (Ok t) k = tested t (is_mux drivers t.driver) refl k
+mux_is drivers c process fd s e =
+    not-false _ (tested NotMux (free_stream c process fd) (λ t. not (is_mux drivers t.driver)) s e).1
 
 -- an accepted command keeps ids of links rising, and each route with a link of its own driver
 pub routed_accepted : (drivers : List DriverSpec) (c : Configuration) (process : ℕ) (k : Command) → AreRouted drivers c

@@ -21,7 +21,7 @@ use Rattle.smx_model.specs.Queues.{first_message, after_leaving, is_full}
 use Rattle.smx_model.specs.Settling.{◌>>=◌, after_settling, after_settling_within, least_movable, after_move}
 use Rattle.smx_model.specs.Settling.{after_move_to, next_open_place, is_movable, next_place, live_write_side}
 use Rattle.smx_model.specs.Settling.{place_below, place_above, IsSettled}
-use Rattle.smx_model.proofs.HangupLemmas.{live_is_side}
+use Rattle.smx_model.proofs.LookupLemmas.{live_is_side}
 use Rattle.smx_model.specs.SoundLinks.{AreLinksSound}
 use Rattle.smx_model.proofs.PathLemmas.{reaches_path, reaches_trans, reaches_link}
 use Rattle.smx_model.proofs.RangeLemmas.{links_below, AreNamed}

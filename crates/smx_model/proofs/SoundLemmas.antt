@@ -1,8 +1,7 @@
 -- Links stay sound.
 use Rattle.std.proofs.Common.{◌≡◌, ℕ, Bool, false, ◌||◌, eqb, List, [], ◌∷◌, ◌++◌, filter, Option, Some, None, rules}
-use Rattle.std.proofs.Common.{arith, inl, inr}
-use Rattle.std.specs.List.{Contains}
-use Rattle.std.proofs.lemmas.Bool.{false≢true, cases_Bool, both_ways, false_from_ne_true}
+use Rattle.std.proofs.Common.{arith}
+use Rattle.std.proofs.lemmas.Bool.{false≢true, both_ways, false_from_ne_true}
 use Rattle.std.proofs.lemmas.List.Kept.{AllPairs-filter}
 use Rattle.std.proofs.lemmas.List.Quantifiers.{all_pairs_push}
 use Rattle.std.proofs.lemmas.List.Folds.{list_any_at}
@@ -10,7 +9,6 @@ use Rattle.smx_types.specs.declared.command.Command.{Command}
 use Rattle.smx_types.specs.declared.reply.Reply.{Reply}
 use Rattle.smx_types.specs.declared.driver.DriverSpec.{DriverSpec}
 use Rattle.smx_types.specs.declared.link.Link.{Link}
-use Rattle.std.proofs.lemmas.List.Elements.{Contains-append_cases, Contains-append_left, Contains-append_right}
 use Rattle.smx_model.specs.Commands.{outcome, done_outcome}
 use Rattle.smx_model.specs.Configuration.{Configuration, same_stream}
 use Rattle.smx_model.specs.Paths.{reaches}
@@ -19,27 +17,16 @@ use Rattle.smx_model.specs.Settling.{after_move, after_move_to, next_open_place}
 use Rattle.smx_model.specs.SoundLinks.{AreLinksSound}
 use Rattle.smx_model.specs.Standing.{is_below}
 use Rattle.smx_model.proofs.AcceptedLemmas.{of_rows}
+use Rattle.smx_model.proofs.MemberLemmas.{of_filtered}
 use Rattle.smx_model.proofs.OutcomeLemmas.{IfAccepted}
 use Rattle.smx_model.proofs.PathLemmas.{path_reaches, no_cycle_push, no_cycle_fewer}
 use Rattle.smx_types.specs.declared.message.Message.{Message}
 use Rattle.smx_types.specs.declared.stream.Place.{Place}
 
-kept_or_deeper : (m : Link) (ls ms : List Link) (l : Link) → ((k : Link) → Contains ms k → Contains ls k)
-    → Contains (m ∷ ms) l → Contains (m ∷ ls) l
-kept_or_deeper m ls ms l more h = elim (Contains-append_cases (m ∷ []) ms l h)
-    [ inl c ↦ Contains-append_left (m ∷ []) ls l c | inr c ↦ Contains-append_right (m ∷ []) ls l (more l c) ]
-
-in_filter : (test : Link → Bool) (ls : List Link) (l : Link) → Contains (filter test ls) l → Contains ls l
-in_filter test [] l h = h
-in_filter test (m ∷ ls) l h = elim (cases_Bool (test m)) [
-  | inl t ↦ kept_or_deeper m ls (filter test ls) l (in_filter test ls) (rw t at h)
-  | inr f ↦ Contains-append_right (m ∷ []) ls l (in_filter test ls l (rw f at h))
-]
-
 -- sound links stay so when they are filtered
 pub sound_filter : (test : Link → Bool) (ls : List Link) → AreLinksSound ls → AreLinksSound (filter test ls)
 sound_filter test ls h = record {
-  no_cycle = no_cycle_fewer ls (filter test ls) (in_filter test ls) h.no_cycle;
+  no_cycle = no_cycle_fewer ls (filter test ls) (of_filtered test ls) h.no_cycle;
   lowers = AllPairs-filter (λ l k. same_stream l.lower k.lower ≡ false) test ls h.lowers;
 }
 

@@ -9,7 +9,7 @@ use Rattle.smx_model.specs.Configuration.{Configuration, QueuedMessage, is_at, q
 use Rattle.smx_model.specs.Configuration.{place_before, is_fd}
 use Rattle.smx_model.specs.DriverList.{is_mux}
 use Rattle.smx_model.specs.Lookups.{driver_of, stream_of, free_stream, leaf_stream, live_leaf, live_stream}
-use Rattle.smx_model.specs.Outcomes.{Outcome, or_fault, ◌>>=◌, refuse}
+use Rattle.smx_model.specs.Outcomes.{Outcome}
 use Rattle.smx_model.specs.Paths.{HasNoCycle}
 use Rattle.smx_model.specs.Queues.{first_message, after_leaving, after_arrival, with_mark}
 use Rattle.smx_model.specs.Removal.{after_sweep}
@@ -19,16 +19,16 @@ use Rattle.smx_model.specs.Swept.{IsSwept}
 use Rattle.smx_model.proofs.IdleSweepLemmas.{swept_idle}
 use Rattle.smx_model.proofs.AcceptedLemmas.{of_rows}
 use Rattle.smx_model.proofs.OutcomeLemmas.{IfAccepted}
-use Rattle.smx_model.proofs.HangupLemmas.{live_is, live_leaf_is}
+use Rattle.smx_model.proofs.LookupLemmas.{descriptor_of, live_is, live_leaf_is, looked_up, passed, tested}
 use Rattle.smx_model.proofs.PathLemmas.{reaches_at}
 use Rattle.smx_model.proofs.RangeLemmas.{AreNamed}
 use Rattle.smx_model.proofs.SettlingLemmas.{same_place_is, below_link, above_binding, open_next}
 use Rattle.smx_model.proofs.StandingLemmas.{swept_is, stands_more, IsLinkIn, climbs_suffice}
 use Rattle.std.specs.List.{list_any}
-use Rattle.std.proofs.lemmas.Bool.{cases_Bool, eq-eqb, and_parts, or_cases, or_left, or_right, and_from}
+use Rattle.std.proofs.lemmas.Bool.{cases_Bool, not-false, eq-eqb, and_parts, or_cases, or_left, or_right, and_from}
 use Rattle.smx_types.specs.declared.command.Command.{Command}
 use Rattle.smx_types.specs.declared.reply.Fault.{Fault}
-use Rattle.smx_types.specs.declared.reply.Fault.TheVariants.{BadDescriptor, NoDriver}
+use Rattle.smx_types.specs.declared.reply.Fault.TheVariants.{NoDriver}
 use Rattle.smx_types.specs.declared.stream.Descriptor.{Descriptor}
 use Rattle.smx_types.specs.declared.driver.DriverSpec.{DriverSpec}
 use Rattle.smx_types.specs.declared.link.Link.{Link}
@@ -111,70 +111,36 @@ swept_link drivers c l next h e = grown drivers c (record c { links = c.links ++
       more = stands_grow c.fds c.fds c.links (c.links ++ l ∷ []) (λ t e. e) (λ t e. any_push t c.links l e)
           (length drivers)
 
--- a process' stream exists
-named_found : (test : Descriptor → Bool) (ds : List Descriptor) (d : Descriptor) → find test ds ≡ Some d
-    → is_named ds d.stream ≡ true
-named_found test [] d e = cc
-named_found test (x ∷ ds) d e = elim (cases_Bool (test x)) [
-  | inl t ↦ let k : Some x ≡ Some d = rw t at e in let same : x ≡ d = cc in
-      or_left _ _ (subst (λ (y : Descriptor). same_stream y.stream d.stream ≡ true) (sym same) (self d.stream))
-  | inr f ↦ or_right _ _ (named_found test ds d (rw f at e))
-] where
-  self : (t : StreamId) → same_stream t t ≡ true
-  self t = and_from _ _ (eq-eqb t.driver t.driver refl) (eq-eqb t.minor t.minor refl)
+-- a stream is the same as itself
+pub stream_self : (t : StreamId) → same_stream t t ≡ true
+stream_self t = and_from _ _ (eq-eqb t.driver t.driver refl) (eq-eqb t.minor t.minor refl)
 
+-- a process' stream exists
 stream_exists : (drivers : List DriverSpec) (c : Configuration) (process fd : ℕ) (s : StreamId)
     → stream_of c process fd ≡ Ok s → exists drivers c s ≡ true
-stream_exists drivers c process fd s e = stands_more c.fds c.links 0 (length drivers) s (omega arith)
-    (or_left _ _ (by (find (is_fd process fd) c.fds) refl e)) where
-      found : Option Descriptor → Option StreamId
-      found None = None
-      found (Some d) = Some d.stream
-
-      by : (o : Option Descriptor) → find (is_fd process fd) c.fds ≡ o → or_fault BadDescriptor (found o) ≡ Ok s
-          → is_named c.fds s ≡ true
-      by None e k = cc
-      by (Some d) e k = let same : d.stream ≡ s = cc in
-          subst (λ (t : StreamId). is_named c.fds t ≡ true) same (named_found (is_fd process fd) c.fds d e)
+stream_exists drivers c process fd s e =
+    let d = descriptor_of c process fd s e in
+    stands_more c.fds c.links 0 (length drivers) s (omega arith)
+    (or_left _ _ (found_any (is_fd process fd) (λ x. same_stream x.stream s) c.fds d.0 d.1 (rw d.2 (stream_self s))))
 
 -- the stream of a descriptor that is not linked below exists
 pub free_exists : (drivers : List DriverSpec) (c : Configuration) (process fd : ℕ) (s : StreamId)
     → free_stream c process fd ≡ Ok s → exists drivers c s ≡ true
-free_exists drivers c process fd s e = by (stream_of c process fd) refl e where
-  tested : (t : StreamId) (b : Bool) → (refuse Below b >>= (λ _. Ok t)) ≡ Ok s → t ≡ s
-  tested t true k = cc
-  tested t false k = cc
-
-  by : (r : Result StreamId Fault) → stream_of c process fd ≡ r
-      → (r >>= (λ t. refuse Below (is_below c.links t) >>= (λ _. Ok t))) ≡ Ok s → exists drivers c s ≡ true
-  by (Err f) e k = cc
-  by (Ok t) e k = subst (λ (x : StreamId). exists drivers c x ≡ true) (tested t (is_below c.links t) k)
-      (stream_exists drivers c process fd t e)
+free_exists drivers c process fd s e = stream_exists drivers c process fd s
+    (tested Below (stream_of c process fd) (is_below c.links) s e).0
 
 -- the stream of a leaf driver and its minor that a lookup finds exists
 pub leaf_exists : (drivers : List DriverSpec) (c : Configuration) (name : List ℕ) (minor : ℕ) (s : StreamId)
     → leaf_stream drivers c name minor ≡ Ok s → exists drivers c s ≡ true
-leaf_exists drivers c name minor s e = by (driver_of drivers name) e where
-  there : (n : ℕ) (b : Bool) → exists drivers c (record { driver = n; minor = minor }) ≡ b
-      → (refuse NoMinor (not b) >>= (λ _. Ok (record { driver = n; minor = minor }))) ≡ Ok s → exists drivers c s ≡ true
-  there n true h k = let same : record { driver = n; minor = minor } ≡ s =
-      cc in subst (λ (x : StreamId). exists drivers c x ≡ true) same h
-  there n false h k = cc
+leaf_exists drivers c name minor s e =
+    let n = looked_up (driver_of drivers name) _ s e in
+    let there = passed NoMinor _ _ s (passed NoDriver (is_mux drivers n.0) _ s n.2).1 in
+    subst (λ (x : StreamId). exists drivers c x ≡ true) (same n.0 there.1) (not-false _ there.0) where
+      stream : ℕ → Result StreamId Fault
+      stream n = Ok (record { driver = n; minor = minor })
 
-  leaf : (n : ℕ) (b : Bool)
-      → (refuse NoDriver
-      b >>= (λ _. refuse NoMinor (not (exists drivers c (record { driver = n; minor = minor }))) >>= (λ _.
-      Ok (record { driver = n; minor = minor })))) ≡ Ok s → exists drivers c s ≡ true
-  leaf n true k = cc
-  leaf n false k = there n (exists drivers c (record { driver = n; minor = minor })) refl k
-
-  by : (r : Result ℕ Fault)
-      → (r >>= (λ n. refuse NoDriver
-      (is_mux drivers n) >>= (λ _. refuse NoMinor
-      (not (exists drivers c (record { driver = n; minor = minor }))) >>= (λ _.
-      Ok (record { driver = n; minor = minor }))))) ≡ Ok s → exists drivers c s ≡ true
-  by (Err f) k = cc
-  by (Ok n) k = leaf n (is_mux drivers n) k
+      same : (n : ℕ) → stream n ≡ Ok s → record { driver = n; minor = minor } ≡ s
+      same n e = cc
 
 live_exists : (drivers : List DriverSpec) (c : Configuration) (process fd : ℕ) (s : StreamId)
     → live_stream c process fd ≡ Ok s → exists drivers c s ≡ true
@@ -253,10 +219,6 @@ pub record IsWhole (drivers : List DriverSpec) (c : Configuration) : Type 0 wher
   pub none : HasNoCycle c.links
   pub named : AreNamed drivers c
   pub swept_ : IsSwept drivers c
-
--- a stream is the same as itself
-pub stream_self : (t : StreamId) → same_stream t t ≡ true
-stream_self t = and_from _ _ (eq-eqb t.driver t.driver refl) (eq-eqb t.minor t.minor refl)
 
 -- what keeps the lower streams of links
 pub record AreKeepingLowers (drivers : List DriverSpec) (c : Configuration) : Type 0 where

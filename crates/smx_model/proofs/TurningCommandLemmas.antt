@@ -1,10 +1,10 @@
 -- Which places the commands turn.
 use Rattle.std.proofs.Common.{◌≡◌, ℕ, suc, ◌<◌, ◌+◌, Bool, true, false, ◌&&◌, ◌||◌, not, eqb, List, [], ◌∷◌, ◌++◌}
-use Rattle.std.proofs.Common.{length, get_or, filter, Result, Ok, Err, refl, rules, sym, inl, inr, arith}
+use Rattle.std.proofs.Common.{length, get_or, filter, Result, Ok, Err, refl, rules, inl, inr, arith}
 use Rattle.std.specs.Prelude.{nat_lt, IfOk}
 use Rattle.std.specs.List.{list_any, AllPairs}
-use Rattle.std.proofs.lemmas.Bool.{both_ways, cases_Bool, and_parts, and_from, or_cases, false_from_ne_true, eqb-true}
-use Rattle.std.proofs.lemmas.Bool.{eq-eqb, ltb-true}
+use Rattle.std.proofs.lemmas.Bool.{cases_Bool, and_parts, or_cases, false_from_ne_true, eqb-true}
+use Rattle.std.proofs.lemmas.Bool.{ltb-true, not-true}
 use Rattle.smx_types.specs.declared.command.Command.{Command}
 use Rattle.smx_types.specs.declared.command.Command.TheVariants as command
 use Rattle.smx_types.specs.declared.command.Which.{Which}
@@ -37,7 +37,7 @@ use Rattle.smx_model.specs.TurnedPlaces.{of_stream, read_side, write_side, turne
 use Rattle.smx_model.proofs.TurningLemmas.{Apart, apart_filter, next_of_others, bound, routed, binds_find, fewer_turns}
 use Rattle.smx_model.proofs.TurningLemmas.{keyed_removed, routes_find, turns_arrived, turns_bound, turns_emptied}
 use Rattle.smx_model.proofs.TurningLemmas.{turns_left, turns_linked, turns_removed, turns_routed, turns_swept}
-use Rattle.smx_model.proofs.TurningLemmas.{turns_then, IsKeyed, AreRooted, rooted_filter}
+use Rattle.smx_model.proofs.TurningLemmas.{turns_then, other, IsKeyed, AreRooted, rooted_filter}
 use Rattle.smx_model.specs.Hangups.{is_hung, with_hung}
 use Rattle.smx_model.proofs.TestLemmas.{any_placed}
 use Rattle.smx_model.specs.KnownStreams.{IsKnown}
@@ -103,36 +103,28 @@ apart_placed R before s x (y ∷ ys) e h = elim (cases_Bool (before x y)) [
   more y r [] g = (r, tt)
   more y r (z ∷ zs) g = elim (cases_Bool (before x z)) [ inl t ↦ rw t (r, g) | inr f ↦ rw f (g.0, more y r zs g.1) ]
 
-turned_key : (a b c d : ℕ) → (eqb a c && eqb b d) ≡ false → (eqb c a && eqb d b) ≡ false
-turned_key a b c d h = false_from_ne_true _ (λ t. let p = and_parts (eqb c a) (eqb d b) t in
-    both_ways (eqb a c && eqb b d) h
-    (and_from _ _ (eq-eqb a c (sym (eqb-true c a p.0))) (eq-eqb b d (sym (eqb-true d b p.1)))))
-
 keyed_routed : (c : Configuration) (driver addr id : ℕ) → IsKeyed c → IsKeyed (routed c driver addr id)
 keyed_routed c driver addr id h = record {
   routes = apart_placed (λ r s. (eqb r.driver s.driver && eqb r.addr s.addr) ≡ false) route_before
-      (λ r s. turned_key r.driver r.addr s.driver s.addr) (record { driver = driver; addr = addr; id = id })
+      (λ r s. other s.driver s.addr r.driver r.addr) (record { driver = driver; addr = addr; id = id })
       (filter (λ r. not (eqb r.driver driver && eqb r.addr addr)) c.routes)
       (kept_passes (λ r. not (eqb r.driver driver && eqb r.addr addr)) _ c.routes
-      (λ r t. turned_key r.driver r.addr driver addr (by (eqb r.driver driver && eqb r.addr addr) t)))
+      (λ r t. other driver addr r.driver r.addr (not-true (eqb r.driver driver && eqb r.addr addr) t)))
       (apart_filter _ _ c.routes h.routes);
   ids = h.ids;
   lowers = h.lowers;
   binds = h.binds;
-} where
-  by : (b : Bool) → not b ≡ true → b ≡ false
-  by true e = sym e
-  by false e = refl
+}
 
 keyed_bound : (c : Configuration) (driver addr minor : ℕ)
     → list_any (λ b. eqb b.driver driver && (eqb b.addr addr || eqb b.minor minor)) c.binds ≡ false → IsKeyed c
     → IsKeyed (bound c driver addr minor)
 keyed_bound c driver addr minor free h = record {
   binds = apart_placed (λ b e. (eqb b.driver e.driver && eqb b.addr e.addr) ≡ false) bind_before
-      (λ b e. turned_key b.driver b.addr e.driver e.addr)
+      (λ b e. other e.driver e.addr b.driver b.addr)
       (record { driver = driver; addr = addr; minor = minor }) c.binds
       (none_passes (λ b. eqb b.driver driver && (eqb b.addr addr || eqb b.minor minor)) _ c.binds
-      (λ b f. turned_key b.driver b.addr driver addr (by (eqb b.driver driver) (eqb b.addr addr) (eqb b.minor minor) f))
+      (λ b f. other driver addr b.driver b.addr (by (eqb b.driver driver) (eqb b.addr addr) (eqb b.minor minor) f))
       free)
       h.binds;
   ids = h.ids;

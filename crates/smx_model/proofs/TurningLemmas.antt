@@ -26,7 +26,7 @@ use Rattle.smx_model.proofs.OrderLemmas.{order_without}
 use Rattle.smx_model.specs.Settling.{◌>>=◌, after_move, after_move_to, next_open_place, next_place, live_write_side}
 use Rattle.smx_model.specs.Standing.{is_persistent, exists}
 use Rattle.smx_model.specs.SoundLinks.{AreRoutesSound, AreLinksSound}
-use Rattle.smx_model.proofs.EachLemmas.{Each, each_filter, each_of_all, each_find}
+use Rattle.smx_model.proofs.EachLemmas.{Each, each_filter, each_map, each_of_all, each_find}
 use Rattle.smx_model.proofs.TestLemmas.{found_any, find_passes, any_more, any_filter}
 use Rattle.smx_model.proofs.QueueLemmas.{emptied_queue, front_is, marked_full}
 use Rattle.smx_model.proofs.SettlingLemmas.{open_next, same_place_is}
@@ -113,10 +113,6 @@ none_finds : {X : Type 0} (t : X → Bool) (xs : List X) → Each (λ y. t y ≡
 none_finds t [] h = refl
 none_finds t (x ∷ xs) h = rw h.0 (none_finds t xs h.1)
 
-each_then : {X : Type 0} (P Q : X → Type 0) (xs : List X) → ((x : X) → P x → Q x) → Each P xs → Each Q xs
-each_then P Q [] f h = tt
-each_then P Q (x ∷ xs) f h = (f x h.0, each_then P Q xs f h.1)
-
 -- where no two elements pass a test, a search by it finds the same after a filter, or nothing
 pub finds_kept : {X : Type 0} (R : X → X → Type 0) (t keep : X → Bool) (xs : List X)
     → ((x y : X) → t x ≡ true → R x y → t y ≡ false) → Apart R xs → Finds (find t xs) (find t (filter keep xs))
@@ -127,7 +123,7 @@ finds_kept R t keep (x ∷ xs) f h = elim (cases_Bool (t x)) [
     | inr k ↦
         rw (k, y)
         (inr (none_finds t (filter keep xs)
-        (each_filter (λ z. t z ≡ false) keep xs (each_then (R x) (λ z. t z ≡ false) xs (λ z r. f x z y r) h.0))))
+        (each_filter (λ z. t z ≡ false) keep xs (each_map (R x) (λ z. t z ≡ false) xs (λ z r. f x z y r) h.0))))
   ]
   | inr n ↦ elim (cases_Bool (keep x)) [
     | inl k ↦ rw (k, n) (finds_kept R t keep xs f h.1)
@@ -398,8 +394,8 @@ routed c driver addr id =
           (record { driver = driver; addr = addr; id = id });
     }
 
--- another key
-other : (driver addr d a : ℕ) → (eqb d driver && eqb a addr) ≡ false → (eqb driver d && eqb addr a) ≡ false
+-- two keys that differ do so the other way round
+pub other : (driver addr d a : ℕ) → (eqb d driver && eqb a addr) ≡ false → (eqb driver d && eqb addr a) ≡ false
 other driver addr d a h = false_from_ne_true _ (λ t. let p = and_parts (eqb driver d) (eqb addr a) t in
     both_ways (eqb d driver && eqb a addr) h
     (and_from _ _ (eq-eqb d driver (sym (eqb-true driver d p.0))) (eq-eqb a addr (sym (eqb-true addr a p.1)))))
@@ -565,7 +561,7 @@ one_driver (k ∷ ks) id driver l h e a = elim (cases_Bool (eqb k.id id)) [
         | inr b ↦
             absurd (both_ways _
             (none_both (λ l. eqb l.id id) (λ l. eqb l.ctl.driver driver) ks
-            (each_then (λ y. eqb k.id y.id ≡ false) (λ y. eqb y.id id ≡ false) ks (λ y r. one k.id y.id id t r) h.0)) b)
+            (each_map (λ y. eqb k.id y.id ≡ false) (λ y. eqb y.id id ≡ false) ks (λ y r. one k.id y.id id t r) h.0)) b)
       ]
   | inr f ↦ one_driver ks id driver l h.1 (rw f at e) (rw f at a)
 ]
