@@ -1,6 +1,6 @@
 -- Each message that was taken is delivered, dropped or queued.
 use Rattle.std.proofs.Common.{◌≡◌, ℕ, zero, suc, ◌+◌, ◌<◌, ◌≤◌, Bool, cond, eqb, List, [], ◌∷◌, ◌++◌, length, filter}
-use Rattle.std.proofs.Common.{Option, Some, None, Ok, Err, refl, rules, sym, ap, ◌∙◌, subst, arith, inl, inr}
+use Rattle.std.proofs.Common.{Some, Ok, Err, refl, rules, sym, ap, ◌∙◌, subst, arith, inl, inr}
 use Rattle.std.proofs.Common.{length-append}
 use Rattle.std.specs.List.{range_with_len}
 use Rattle.std.proofs.lemmas.Bool.{cases_Bool, cases_lt, cases_eq, ne_eqb, eq-eqb}
@@ -21,7 +21,8 @@ use Rattle.smx_model.specs.Ordered.{with_inserted, without_first}
 use Rattle.smx_model.specs.Outcomes.{Outcome}
 use Rattle.smx_model.specs.Queues.{first_message, after_leaving}
 use Rattle.smx_model.specs.Removal.{after_sweep, without_links, without_queues_at, serials}
-use Rattle.smx_model.specs.Settling.{after_settling_within, least_movable, after_move, after_move_to, next_open_place}
+use Rattle.smx_model.specs.Settling.{after_settling_within, after_move}
+use Rattle.smx_model.proofs.SettledLemmas.{moved_by, settled_by}
 use Rattle.smx_model.proofs.CountLemmas.{times, times_append, times_gone, permuted}
 use Rattle.smx_model.proofs.AcceptedLemmas.{of_rows, taken}
 use Rattle.smx_model.proofs.OutcomeLemmas.{IfAccepted}
@@ -147,25 +148,17 @@ goes_accepted drivers c process k h = search (
 -- a move leaves the same serials in the flow, each as often
 pub moved_same : (n : ℕ) (drivers : List DriverSpec) (c : Configuration) (p : Place)
     → times n (serials (after_move drivers c p).flow) ≡ times n (serials c.flow)
-moved_same n drivers c p = by (next_open_place drivers c p) (first_message c.flow p) refl where
-  by : (o : Option Place) (m : Option Message) → first_message c.flow p ≡ m
-      → times n (serials (after_move_to drivers c p o m).flow) ≡ times n (serials c.flow)
-  by (Some q) (Some m) e = omega (
-    arith,
-    serials_front n c.flow p m e,
-    serials_placed n (after_leaving drivers c p).flow (record { place = q; message = m }),
-  )
-  by (Some q) None e = refl
-  by None m e = refl
+moved_same n drivers c p = moved_by (λ d. times n (serials d.flow) ≡ times n (serials c.flow)) drivers c p refl
+    (λ q m e. omega (
+      arith,
+      serials_front n c.flow p m e,
+      serials_placed n (after_leaving drivers c p).flow (record { place = q; message = m }),
+    ))
 
 -- a move leaves the next serial as it is
 pub moved_next : (drivers : List DriverSpec) (c : Configuration) (p : Place)
     → (after_move drivers c p).next_serial ≡ c.next_serial
-moved_next drivers c p = by (next_open_place drivers c p) (first_message c.flow p) where
-  by : (o : Option Place) (m : Option Message) → (after_move_to drivers c p o m).next_serial ≡ c.next_serial
-  by (Some q) (Some m) = refl
-  by (Some q) None = refl
-  by None m = refl
+moved_next drivers c p = moved_by (λ d. d.next_serial ≡ c.next_serial) drivers c p refl (λ q m e. refl)
 
 record KeepsSerials (c d : Configuration) : Type 0 where
   same : (n : ℕ) → times n (serials d.flow) ≡ times n (serials c.flow)
@@ -173,14 +166,10 @@ record KeepsSerials (c d : Configuration) : Type 0 where
 
 settled_keeps : (drivers : List DriverSpec) (n : ℕ) (c : Configuration)
     → KeepsSerials c (after_settling_within drivers n c)
-settled_keeps drivers zero c = record { same = λ n. refl; next = refl }
-settled_keeps drivers (suc k) c = elim (least_movable drivers c) as
-    (λ o. KeepsSerials c
-    (elim o as (λ _. Configuration) [ None ↦ c | Some p ↦ after_settling_within drivers k (after_move drivers c p) ])) [
-      | None ↦ record { same = λ n. refl; next = refl }
-      | Some p ↦ let r = settled_keeps drivers k (after_move drivers c p) in
-          record { same = λ n. r.same n ∙ moved_same n drivers c p; next = r.next ∙ moved_next drivers c p }
-    ]
+settled_keeps drivers n c = settled_by (KeepsSerials c) drivers n c (record {
+  each = λ d p r.
+      record { same = λ n. moved_same n drivers d p ∙ r.same n; next = moved_next drivers d p ∙ r.next };
+}) (record { same = λ n. refl; next = refl })
 
 -- a step
 

@@ -1,5 +1,5 @@
 -- Messages keep their serial, address and bytes from where they are taken in to where they are delivered.
-use Rattle.std.proofs.Common.{◌≡◌, ◌⊎◌, ℕ, zero, suc, Bool, List, [], ◌∷◌, ◌++◌, Option, Some, None, Ok, Err, refl}
+use Rattle.std.proofs.Common.{◌≡◌, ◌⊎◌, ℕ, Bool, List, [], ◌∷◌, ◌++◌, Some, Ok, Err, refl}
 use Rattle.std.proofs.Common.{rules, ap, ◌∙◌, subst, inl, inr, arith}
 use Rattle.std.specs.List.{All, Contains}
 use Rattle.std.specs.List.Sorted.{IsPermutation}
@@ -20,7 +20,8 @@ use Rattle.smx_model.specs.Outcomes.{Outcome}
 use Rattle.smx_model.specs.Queues.{first_message, after_leaving}
 use Rattle.smx_model.specs.LawfulHistories.{delivered_by, dropped_by, taken_by}
 use Rattle.smx_model.specs.Removal.{serials}
-use Rattle.smx_model.specs.Settling.{after_move, after_move_to, after_settling_within, least_movable, next_open_place}
+use Rattle.smx_model.specs.Settling.{after_settling}
+use Rattle.smx_model.proofs.SettledLemmas.{MovesKeep, moved_by, settled_by}
 use Rattle.smx_model.proofs.ConservationLemmas.{Goes, goes_step, IsNumbered, numbered_empty, numbered_goes}
 use Rattle.smx_model.proofs.CountLemmas.{permuted, times_append}
 use Rattle.smx_model.proofs.EachLemmas.{Each, all_of_each, each_filter, each_map, each_placed}
@@ -131,36 +132,24 @@ carries_accepted P drivers c process k h = search (
 
 -- moves and settling keep messages
 
-moved_has : (P : Message → Type 0) (drivers : List DriverSpec) (c : Configuration) (p : Place) → OfEach P c.flow
-    → OfEach P (after_move drivers c p).flow
-moved_has P drivers c p h = by (next_open_place drivers c p) (first_message c.flow p) refl where
-  by : (o : Option Place) (m : Option Message) → first_message c.flow p ≡ m
-      → OfEach P (after_move_to drivers c p o m).flow
-  by (Some q) (Some m) e = each_placed _ queued_before _ (record { place = q; message = m })
-      (first_has P c.flow p m e h) (rest_has P (is_at p) c.flow h)
-  by (Some q) None e = h
-  by None m e = h
-
-settled_has : (P : Message → Type 0) (drivers : List DriverSpec) (n : ℕ) (c : Configuration) → OfEach P c.flow
-    → OfEach P (after_settling_within drivers n c).flow
-settled_has P drivers zero c h = h
-settled_has P drivers (suc k) c h = elim (least_movable drivers c) as
-    (λ o. OfEach P (elim o as (λ _. Configuration)
-    [ None ↦ c | Some p ↦ after_settling_within drivers k (after_move drivers c p) ]).flow)
-    [ None ↦ h | Some p ↦ settled_has P drivers k (after_move drivers c p) (moved_has P drivers c p h) ]
+moved_has : (P : Message → Type 0) (drivers : List DriverSpec) → MovesKeep (λ d. OfEach P d.flow) drivers
+moved_has P drivers = record {
+  each = λ c p h. moved_by (λ d. OfEach P d.flow) drivers c p h
+      (λ q m e. each_placed _ queued_before _ (record { place = q; message = m }) (first_has P c.flow p m e h)
+      (rest_has P (is_at p) c.flow h));
+}
 
 -- so each step
 
 carries_finished : (P : Message → Type 0) (drivers : List DriverSpec) (c : Configuration) (k : Command) (o : Outcome)
     → OfEach P c.flow → IfAccepted (Carries P k) o
     → Carries P k (after_outcome drivers c o).0 (after_outcome drivers c o).1
-carries_finished P drivers c k
-    (Ok x) h m =
-    record {
-      flow = settled_has (λ m. P m ⊎ ((x.1 ≡ reply.Took m.serial) × Sends k m.addr m.bytes)) drivers _ x.0
-          m.holds.flow;
-      got = m.holds.got;
-    }
+carries_finished P drivers c k (Ok x) h m = record { flow = settled; got = m.holds.got } where
+  Q : Message → Type 0
+  Q m = P m ⊎ ((x.1 ≡ reply.Took m.serial) × Sends k m.addr m.bytes)
+
+  settled : OfEach Q (after_settling drivers x.0).flow
+  settled = settled_by (λ d. OfEach Q d.flow) drivers _ x.0 (moved_has Q drivers) m.holds.flow
 carries_finished P drivers c k (Err f) h m = record { flow = old P k (reply.Fault f) c.flow h; got = λ m e. cc }
 
 -- it was taken in by this entry or known before

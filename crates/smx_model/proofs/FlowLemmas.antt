@@ -1,14 +1,13 @@
 -- The flow of each configuration is in order.
-use Rattle.std.proofs.Common.{ℕ, List, Option, Some, None, rules}
+use Rattle.std.proofs.Common.{ℕ, List, rules}
 use Rattle.smx_types.specs.declared.command.Command.{Command}
 use Rattle.smx_types.specs.declared.driver.DriverSpec.{DriverSpec}
-use Rattle.smx_types.specs.declared.message.Message.{Message}
 use Rattle.smx_types.specs.declared.stream.Place.{Place}
 use Rattle.smx_model.specs.Commands.{outcome, done_outcome}
 use Rattle.smx_model.specs.Configuration.{Configuration, is_at}
 use Rattle.smx_model.specs.FlowOrder.{IsInOrder}
-use Rattle.smx_model.specs.Queues.{first_message}
-use Rattle.smx_model.specs.Settling.{after_move, after_move_to, next_open_place}
+use Rattle.smx_model.specs.Settling.{after_move}
+use Rattle.smx_model.proofs.SettledLemmas.{moved_by}
 use Rattle.smx_model.proofs.OrderLemmas.{order_placed, order_filter, order_without}
 use Rattle.smx_model.proofs.AcceptedLemmas.{of_rows}
 use Rattle.smx_model.proofs.OutcomeLemmas.{IfAccepted}
@@ -26,8 +25,5 @@ order_accepted drivers c process k h =
 -- a move keeps the flow in order of places
 pub order_moved : (drivers : List DriverSpec) (c : Configuration) (p : Place) → IsInOrder c.flow
     → IsInOrder (after_move drivers c p).flow
-order_moved drivers c p h = by (next_open_place drivers c p) (first_message c.flow p) where
-  by : (o : Option Place) (m : Option Message) → IsInOrder (after_move_to drivers c p o m).flow
-  by (Some q) (Some m) = order_placed _ (record { place = q; message = m }) (order_without (is_at p) c.flow h)
-  by (Some q) None = h
-  by None m = h
+order_moved drivers c p h = moved_by (λ d. IsInOrder d.flow) drivers c p h
+    (λ q m e. order_placed _ (record { place = q; message = m }) (order_without (is_at p) c.flow h))

@@ -1,5 +1,5 @@
 -- What every configuration is, is kept by each command.
-use Rattle.std.proofs.Common.{◌≡◌, ◌↔◌, ℕ, zero, suc, ◌+◌, ◌*◌, ◌<◌, Some, None, Ok, Err, true, ◌≤◌, ltb, List, [], ◌∷◌}
+use Rattle.std.proofs.Common.{◌≡◌, ◌↔◌, ℕ, zero, suc, ◌+◌, ◌*◌, ◌<◌, Ok, Err, true, ◌≤◌, ltb, List, [], ◌∷◌}
 use Rattle.std.proofs.Common.{length, get_or, refl, sym, ◌∙◌, subst, arith, inl, inr}
 use Rattle.std.specs.Prelude.{IfOk}
 use Rattle.std.specs.List.{All, AllPairs}
@@ -18,11 +18,12 @@ use Rattle.smx_model.specs.KnownStreams.{AreStreamsKnown, IsKnown}
 use Rattle.smx_model.specs.Ordered.{ComesBefore, IsRising}
 use Rattle.smx_model.specs.Outcomes.{Outcome}
 use Rattle.smx_model.specs.Removal.{serials}
-use Rattle.smx_model.specs.Settling.{least_movable, after_move, after_settling, after_settling_within}
+use Rattle.smx_model.specs.Settling.{after_move, after_settling}
 use Rattle.smx_model.specs.SoundLinks.{AreIdsRising, AreRoutesSound, AreLinksSound}
 use Rattle.smx_model.specs.Standing.{exists, Stands}
 use Rattle.smx_model.specs.Swept.{IsSwept}
 use Rattle.smx_model.specs.Views.{view}
+use Rattle.smx_model.proofs.SettledLemmas.{settled_by}
 use Rattle.smx_model.proofs.ConservationLemmas.{IsNumbered, Goes, goes_accepted, moved_same, moved_next, numbered_empty}
 use Rattle.smx_model.proofs.ConservationLemmas.{numbered_goes}
 use Rattle.smx_model.proofs.CountLemmas.{times}
@@ -246,19 +247,11 @@ moved_sound drivers c p h = of_parts drivers (after_move drivers c p) (parts_mov
 
 -- and so settling
 
-parts_settled : (drivers : List DriverSpec) (n : ℕ) (c : Configuration) → Parts drivers c
-    → Parts drivers (after_settling_within drivers n c)
-parts_settled drivers zero c h = h
-parts_settled drivers (suc k) c h = elim (least_movable drivers c) as
-    (λ o. Parts drivers
-    (elim o as (λ _. Configuration) [ None ↦ c | Some p ↦ after_settling_within drivers k (after_move drivers c p) ]))
-    [ None ↦ h | Some p ↦ parts_settled drivers k (after_move drivers c p) (parts_moved drivers c p h) ]
-
 -- a sound configuration that is settled stays sound, and no message can move on
 pub settled_kept : (drivers : List DriverSpec) (c : Configuration) → IsSound drivers c
     → IsKept drivers (after_settling drivers c)
 settled_kept drivers c h = let p = parts_of drivers c h in record {
-  sound = of_parts drivers (after_settling drivers c) (parts_settled drivers (length c.flow * length drivers) c p);
+  sound = of_parts drivers (after_settling drivers c) (settled_by (Parts drivers) drivers (length c.flow * length drivers) c (record { each = parts_moved drivers }) p);
   settled = settled_is drivers c p.links p.named p.routed;
 }
 

@@ -1,6 +1,6 @@
 -- Limits: few links, few descriptors of each process, and numbers that end.
-use Rattle.std.proofs.Common.{◌≡◌, ℕ, zero, suc, ◌+◌, ◌<◌, ◌≤◌, Bool, true, false, ◌||◌, not, leb, eqb, arith, List, []}
-use Rattle.std.proofs.Common.{◌∷◌, ◌++◌, length, filter, Option, Some, None, Ok, Err, rules, subst, inl}
+use Rattle.std.proofs.Common.{◌≡◌, ℕ, ◌+◌, ◌<◌, ◌≤◌, Bool, true, false, ◌||◌, not, leb, eqb, arith, List, []}
+use Rattle.std.proofs.Common.{◌∷◌, ◌++◌, length, filter, Ok, rules, subst, inl}
 use Rattle.std.proofs.Common.{inr}
 use Rattle.std.specs.List.{count_by, list_any}
 use Rattle.std.proofs.lemmas.Bool.{cases_Bool, eqb-true, leb-false, or_parts}
@@ -12,21 +12,17 @@ use Rattle.smx_types.specs.declared.command.Entry.{Entry}
 use Rattle.smx_types.specs.declared.driver.DriverSpec.{DriverSpec}
 use Rattle.smx_types.specs.declared.limits.TheConstants.{MAX_DESCRIPTORS, MAX_LINKS, NUMBER_END}
 use Rattle.smx_types.specs.declared.link.Link.{Link}
-use Rattle.smx_types.specs.declared.message.Message.{Message}
 use Rattle.smx_types.specs.declared.reply.Fault.TheVariants.{TooManyDescriptors}
 use Rattle.smx_types.specs.declared.stream.Descriptor.{Descriptor}
-use Rattle.smx_types.specs.declared.stream.Place.{Place}
 use Rattle.smx_types.specs.declared.stream.StreamId.{StreamId}
-use Rattle.smx_model.specs.Commands.{outcome, step, after_outcome, done_outcome}
+use Rattle.smx_model.specs.Commands.{outcome, done_outcome}
 use Rattle.smx_model.specs.Commands.{with_fd}
 use Rattle.smx_model.specs.Configuration.{Configuration, empty, fd_before, is_fd, pair_before}
-use Rattle.smx_model.specs.Histories.{after, after_from}
+use Rattle.smx_model.specs.Histories.{after}
 use Rattle.smx_model.specs.Lookups.{free_fd}
 use Rattle.smx_model.specs.Ordered.{ComesBefore, IsRising}
-use Rattle.smx_model.specs.Outcomes.{Outcome}
-use Rattle.smx_model.specs.Queues.{first_message}
 use Rattle.smx_model.specs.Removal.{without_links}
-use Rattle.smx_model.specs.Settling.{after_move, after_move_to, after_settling_within, least_movable, next_open_place}
+use Rattle.smx_model.proofs.SettledLemmas.{MovesKeep, after_by, moved_by}
 use Rattle.smx_model.proofs.EachLemmas.{Each, each_filter, each_placed}
 use Rattle.smx_model.proofs.KeptLemmas.{always_is_kept}
 use Rattle.smx_model.proofs.AcceptedLemmas.{of_rows}
@@ -125,38 +121,16 @@ within_accepted drivers c process k h = search (
 
 -- moves, settling, histories
 
-within_moved : (drivers : List DriverSpec) (c : Configuration) (p : Place) → IsWithin c
-    → IsWithin (after_move drivers c p)
-within_moved drivers c p h = by (next_open_place drivers c p) (first_message c.flow p) where
-  by : (o : Option Place) (m : Option Message) → IsWithin (after_move_to drivers c p o m)
-  by (Some q) (Some m) = record { links = h.links; numbers = h.numbers; ids = h.ids; serials = h.serials }
-  by (Some q) None = h
-  by None m = h
-
-within_settled : (drivers : List DriverSpec) (n : ℕ) (c : Configuration) → IsWithin c
-    → IsWithin (after_settling_within drivers n c)
-within_settled drivers zero c h = h
-within_settled drivers (suc k) c h = elim (least_movable drivers c) as
-    (λ o. IsWithin (elim o as (λ _. Configuration)
-    [ None ↦ c | Some p ↦ after_settling_within drivers k (after_move drivers c p) ]))
-    [ None ↦ h | Some p ↦ within_settled drivers k (after_move drivers c p) (within_moved drivers c p h) ]
-
-within_finished : (drivers : List DriverSpec) (c : Configuration) (o : Outcome) → IsWithin c
-    → IfAccepted (λ d r. IsWithin d) o → IsWithin (after_outcome drivers c o).0
-within_finished drivers c (Ok x) h k = within_settled drivers _ x.0 k.holds
-within_finished drivers c (Err f) h k = h
-
-within_from : (drivers : List DriverSpec) (c : Configuration) (es : List Entry) → IsWithin c
-    → IsWithin (after_from drivers c es)
-within_from drivers c [] h = h
-within_from drivers c (e ∷ es) h = within_from drivers (step drivers c e.process e.command).0 es
-    (within_finished drivers c (outcome drivers c e.process e.command) h
-    (within_accepted drivers c e.process e.command h))
+within_moved : (drivers : List DriverSpec) → MovesKeep IsWithin drivers
+within_moved drivers = record {
+  each = λ c p h. moved_by IsWithin drivers c p h
+      (λ q m e. record { links = h.links; numbers = h.numbers; ids = h.ids; serials = h.serials });
+}
 
 -- after any history there are no more links, and no higher numbers, ids and serials, than there may be
 pub always_within : (drivers : List DriverSpec) (history : List Entry) → IsWithin (after drivers history)
-always_within drivers history = within_from drivers empty history
-    (record { links = omega arith; numbers = tt; ids = omega arith; serials = omega arith })
+always_within drivers history = after_by IsWithin drivers empty history (within_moved drivers)
+    (within_accepted drivers) (record { links = omega arith; numbers = tt; ids = omega arith; serials = omega arith })
 
 -- of a process there are as many descriptors as numbers
 

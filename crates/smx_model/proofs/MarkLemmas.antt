@@ -1,6 +1,6 @@
 -- A full place has more bytes than its low water mark, and one that is not full fewer than its high one.
 use Rattle.std.proofs.Common.{◌≡◌, ℕ, zero, suc, ◌<◌, ◌≤◌, Bool, true, false, ◌&&◌, ◌||◌, not, cond, leb, ltb, arith}
-use Rattle.std.proofs.Common.{List, [], ◌∷◌, drop, length, filter, Option, Some, None, Result, Ok, Err, refl, rules}
+use Rattle.std.proofs.Common.{List, [], ◌∷◌, drop, length, filter, Result, Ok, Err, refl, rules}
 use Rattle.std.proofs.Common.{sym, ap, ◌∙◌, subst, inl, inr}
 use Rattle.std.specs.List.{list_any, sum_by}
 use Rattle.std.proofs.lemmas.Bool.{and_cases, and_parts, cases_Bool, false≢true, leb-false, leb-true, ltb-false}
@@ -16,16 +16,15 @@ use Rattle.smx_types.specs.declared.limits.TheConstants.{MAX_HIGH, MAX_MESSAGE, 
 use Rattle.smx_types.specs.declared.link.Link.{Link}
 use Rattle.smx_types.specs.declared.message.Message.{Message}
 use Rattle.smx_types.specs.declared.stream.Place.{Place}
-use Rattle.smx_model.specs.Commands.{outcome, step, after_outcome, done_outcome}
+use Rattle.smx_model.specs.Commands.{outcome, done_outcome}
 use Rattle.smx_model.specs.Configuration.{Configuration, QueuedMessage, empty, is_at, queued_before, same_place}
 use Rattle.smx_model.specs.DriverList.{high_of, IsDriverList, low_of}
 use Rattle.smx_model.specs.Histories.{after, after_from}
 use Rattle.smx_model.specs.KnownStreams.{IsKnown}
 use Rattle.smx_model.specs.Ordered.{with_inserted, without_first}
-use Rattle.smx_model.specs.Outcomes.{Outcome}
-use Rattle.smx_model.specs.Queues.{after_arrival, after_leaving, bytes_at, first_message, is_full, queue}
+use Rattle.smx_model.specs.Queues.{after_arrival, after_leaving, bytes_at, is_full, queue}
 use Rattle.smx_model.specs.Removal.{without_links, without_queues_at}
-use Rattle.smx_model.specs.Settling.{after_move, after_move_to, after_settling_within, least_movable, next_open_place}
+use Rattle.smx_model.proofs.SettledLemmas.{MovesKeep, after_by, moved_by}
 use Rattle.smx_model.proofs.EachLemmas.{Each, each_of_all}
 use Rattle.smx_model.proofs.KeptLemmas.{always_is_kept}
 use Rattle.smx_model.proofs.OrderLemmas.{same_self}
@@ -232,34 +231,16 @@ marked_accepted drivers p c process k a h = of_rows _ drivers c process k (searc
 
 -- moves, settling, histories
 
-marked_moved : (drivers : List DriverSpec) (p : Place) (c : Configuration) (q : Place) → IsApart drivers p
-    → IsMarked drivers p c → IsMarked drivers p (after_move drivers c q)
-marked_moved drivers p c q a h = by (next_open_place drivers c q) (first_message c.flow q) where
-  by : (o : Option Place) (m : Option Message) → IsMarked drivers p (after_move_to drivers c q o m)
-  by (Some r) (Some m) = marked_arrived drivers p (after_leaving drivers c q) r m a (marked_left drivers p c q a h)
-  by (Some r) None = h
-  by None m = h
-
-marked_settled : (drivers : List DriverSpec) (p : Place) (n : ℕ) (c : Configuration) → IsApart drivers p
-    → IsMarked drivers p c → IsMarked drivers p (after_settling_within drivers n c)
-marked_settled drivers p zero c a h = h
-marked_settled drivers p (suc k) c a h = elim (least_movable drivers c) as
-    (λ o. IsMarked drivers p
-    (elim o as (λ _. Configuration) [ None ↦ c | Some q ↦ after_settling_within drivers k (after_move drivers c q) ]))
-    [ None ↦ h | Some q ↦ marked_settled drivers p k (after_move drivers c q) a (marked_moved drivers p c q a h) ]
-
-marked_finished : (drivers : List DriverSpec) (p : Place) (c : Configuration) (o : Outcome) → IsApart drivers p
-    → IsMarked drivers p c → IfAccepted (λ d r. IsMarked drivers p d) o
-    → IsMarked drivers p (after_outcome drivers c o).0
-marked_finished drivers p c (Ok x) a h k = marked_settled drivers p _ x.0 a k.holds
-marked_finished drivers p c (Err f) a h k = h
+marked_moved : (drivers : List DriverSpec) (p : Place) → IsApart drivers p → MovesKeep (IsMarked drivers p) drivers
+marked_moved drivers p a = record {
+  each = λ c q h. moved_by (IsMarked drivers p) drivers c q h
+      (λ r m e. marked_arrived drivers p (after_leaving drivers c q) r m a (marked_left drivers p c q a h));
+}
 
 marked_from : (drivers : List DriverSpec) (p : Place) (c : Configuration) (es : List Entry) → IsApart drivers p
     → IsMarked drivers p c → IsMarked drivers p (after_from drivers c es)
-marked_from drivers p c [] a h = h
-marked_from drivers p c (e ∷ es) a h = marked_from drivers p (step drivers c e.process e.command).0 es a
-    (marked_finished drivers p c (outcome drivers c e.process e.command) a h
-    (marked_accepted drivers p c e.process e.command a h))
+marked_from drivers p c es a h = after_by (IsMarked drivers p) drivers c es (marked_moved drivers p a)
+    (λ d process k. marked_accepted drivers p d process k a) h
 
 -- drivers that can be had
 

@@ -1,6 +1,6 @@
 -- Descriptors and links name streams that the drivers have.
 use Rattle.std.proofs.Common.{◌≡◌, ℕ, zero, suc, ◌+◌, ◌<◌, Bool, false, not, leb, arith, List, [], ◌∷◌, ◌++◌, length}
-use Rattle.std.proofs.Common.{filter, find, Option, Some, None, Ok, rules, subst, inl, inr}
+use Rattle.std.proofs.Common.{filter, find, Some, Ok, rules, subst, inl, inr}
 use Rattle.std.specs.Prelude.{position}
 use Rattle.std.specs.Str.{bytes_eq}
 use Rattle.std.specs.List.{range_with_len}
@@ -11,7 +11,6 @@ use Rattle.smx_types.specs.declared.reply.Fault.TheVariants.{NoDriver, NoMinor}
 use Rattle.smx_types.specs.declared.stream.Descriptor.{Descriptor}
 use Rattle.smx_types.specs.declared.driver.DriverSpec.{DriverSpec}
 use Rattle.smx_types.specs.declared.link.Link.{Link}
-use Rattle.smx_types.specs.declared.message.Message.{Message}
 use Rattle.smx_types.specs.declared.stream.Place.{Place}
 use Rattle.smx_types.specs.declared.stream.StreamId.{StreamId}
 use Rattle.smx_model.specs.Commands.{outcome, done_outcome, with_fd}
@@ -19,10 +18,10 @@ use Rattle.smx_model.specs.Configuration.{Configuration, fd_before, is_fd}
 use Rattle.smx_model.specs.DriverList.{minors_of}
 use Rattle.smx_model.specs.KnownStreams.{IsKnown}
 use Rattle.smx_model.specs.Lookups.{driver_of, stream_of, free_minor}
-use Rattle.smx_model.specs.Queues.{first_message}
 use Rattle.smx_model.specs.Removal.{without_links}
-use Rattle.smx_model.specs.Settling.{after_move, after_move_to, next_open_place}
+use Rattle.smx_model.specs.Settling.{after_move}
 use Rattle.smx_model.specs.Standing.{exists}
+use Rattle.smx_model.proofs.SettledLemmas.{moved_by}
 use Rattle.smx_model.proofs.AcceptedLemmas.{of_rows}
 use Rattle.smx_model.proofs.LookupLemmas.{descriptor_of, there_is}
 use Rattle.smx_model.proofs.OutcomeLemmas.{IfAccepted}
@@ -135,8 +134,5 @@ named_accepted drivers c process k h = search (
 -- a move leaves descriptors and links with streams that the drivers have
 pub named_moved : (drivers : List DriverSpec) (c : Configuration) (p : Place) → AreNamed drivers c
     → AreNamed drivers (after_move drivers c p)
-named_moved drivers c p h = by (next_open_place drivers c p) (first_message c.flow p) where
-  by : (o : Option Place) (m : Option Message) → AreNamed drivers (after_move_to drivers c p o m)
-  by (Some q) (Some m) = record { fds = h.fds; links = h.links }
-  by (Some q) None = h
-  by None m = h
+named_moved drivers c p h =
+    moved_by (AreNamed drivers) drivers c p h (λ q m e. record { fds = h.fds; links = h.links })

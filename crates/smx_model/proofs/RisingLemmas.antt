@@ -1,6 +1,6 @@
 -- Descriptors, bindings, routes, full places and hung-up streams stay in their order.
-use Rattle.std.proofs.Common.{◌≡◌, ℕ, Bool, true, false, ◌&&◌, ◌||◌, not, eqb, List, [], ◌∷◌, filter, Option}
-use Rattle.std.proofs.Common.{Some, None, Ok, refl, rules, arith, inl, inr}
+use Rattle.std.proofs.Common.{◌≡◌, ℕ, Bool, true, false, ◌&&◌, ◌||◌, not, eqb, List, [], ◌∷◌, filter}
+use Rattle.std.proofs.Common.{Ok, refl, rules, arith, inl, inr}
 use Rattle.std.specs.List.{list_any, range_with_len}
 use Rattle.std.proofs.lemmas.Bool.{cases_Bool, not-true}
 use Rattle.std.proofs.lemmas.Bool.Decides.{nat_tests}
@@ -22,9 +22,10 @@ use Rattle.smx_model.specs.Configuration.{place_before, pair_before, same_place,
 use Rattle.smx_model.specs.Hangups.{is_hung, with_hung}
 use Rattle.smx_model.specs.Lookups.{free_fd}
 use Rattle.smx_model.specs.Ordered.{with_inserted, ComesBefore, IsRising}
-use Rattle.smx_model.specs.Queues.{first_message, with_mark, after_arrival, after_leaving}
+use Rattle.smx_model.specs.Queues.{with_mark, after_arrival, after_leaving}
 use Rattle.smx_model.specs.Removal.{without_queues_at, without_links}
-use Rattle.smx_model.specs.Settling.{after_move, after_move_to, next_open_place}
+use Rattle.smx_model.specs.Settling.{after_move}
+use Rattle.smx_model.proofs.SettledLemmas.{moved_by}
 use Rattle.smx_model.proofs.OrderLemmas.{place_before_trans, place_either}
 use Rattle.smx_model.proofs.AcceptedLemmas.{of_rows}
 use Rattle.smx_model.proofs.LookupLemmas.{there_is}
@@ -309,11 +310,8 @@ rising_accepted drivers c process k h = search (
 -- a move keeps descriptors, bindings, routes, full places and hung-up streams rising
 pub rising_moved : (drivers : List DriverSpec) (c : Configuration) (p : Place) → AreRising c
     → AreRising (after_move drivers c p)
-rising_moved drivers c p h = by (next_open_place drivers c p) (first_message c.flow p) where
-  by : (o : Option Place) (m : Option Message) → AreRising (after_move_to drivers c p o m)
-  by (Some q) (Some m) = rising_arrived drivers (after_leaving drivers c p) q m (rising_left drivers c p h)
-  by (Some q) None = h
-  by None m = h
+rising_moved drivers c p h = moved_by AreRising drivers c p h
+    (λ q m e. rising_arrived drivers (after_leaving drivers c p) q m (rising_left drivers c p h))
 
 -- the lists of the empty configuration rise
 pub rising_empty : AreRising empty

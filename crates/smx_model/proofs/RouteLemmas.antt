@@ -1,14 +1,14 @@
 -- Ids of links rise, and routes name links of their own upper driver.
 use Rattle.std.proofs.Common.{◌≡◌, ℕ, ◌+◌, ◌<◌, ◌≤◌, Bool, true, false, ◌&&◌, ◌||◌, not, eqb, ltb, List, [], ◌∷◌, ◌++◌}
-use Rattle.std.proofs.Common.{filter, Option, Some, None, Ok, refl, rules, sym, ◌∙◌, subst, arith, inl, inr}
+use Rattle.std.proofs.Common.{filter, Ok, refl, rules, sym, ◌∙◌, subst, arith, inl, inr}
 use Rattle.std.specs.List.{list_any}
-use Rattle.std.proofs.lemmas.Bool.{lt-ltb, not-false, cases_Bool, eqb-true, and_parts, or_cases, or_left, or_right, false≢true}
+use Rattle.std.proofs.lemmas.Bool.{lt-ltb, cases_Bool, eqb-true, and_parts, not-false, or_cases, or_left, or_right}
+use Rattle.std.proofs.lemmas.Bool.{false≢true}
 use Rattle.smx_types.specs.declared.command.Command.{Command}
 use Rattle.smx_types.specs.declared.driver.DriverSpec.{DriverSpec}
 use Rattle.smx_types.specs.declared.link.Link.{Link}
 use Rattle.smx_types.specs.declared.link.LinkKind.{LinkKind}
 use Rattle.smx_types.specs.declared.link.Route.{Route}
-use Rattle.smx_types.specs.declared.message.Message.{Message}
 use Rattle.smx_types.specs.declared.reply.Fault.TheVariants.{NotMux}
 use Rattle.smx_types.specs.declared.stream.Place.{Place}
 use Rattle.smx_types.specs.declared.stream.StreamId.{StreamId}
@@ -17,10 +17,10 @@ use Rattle.smx_model.specs.Configuration.{Configuration, empty, route_before}
 use Rattle.smx_model.specs.DriverList.{is_mux}
 use Rattle.smx_model.specs.Lookups.{free_stream, mux_stream}
 use Rattle.smx_model.specs.Ordered.{with_inserted, ComesBefore, IsRising}
-use Rattle.smx_model.specs.Queues.{first_message}
 use Rattle.smx_model.specs.Removal.{without_links}
-use Rattle.smx_model.specs.Settling.{after_move, after_move_to, next_open_place}
+use Rattle.smx_model.specs.Settling.{after_move}
 use Rattle.smx_model.specs.SoundLinks.{AreIdsRising, AreRoutesSound}
+use Rattle.smx_model.proofs.SettledLemmas.{moved_by}
 use Rattle.smx_model.proofs.AcceptedLemmas.{of_rows}
 use Rattle.smx_model.proofs.LookupLemmas.{tested}
 use Rattle.smx_model.proofs.OutcomeLemmas.{IfAccepted}
@@ -209,11 +209,8 @@ routed_accepted drivers c process k h = search (
 -- a move keeps ids of links rising, and each route with a link of its own driver
 pub routed_moved : (drivers : List DriverSpec) (c : Configuration) (p : Place) → AreRouted drivers c
     → AreRouted drivers (after_move drivers c p)
-routed_moved drivers c p h = by (next_open_place drivers c p) (first_message c.flow p) where
-  by : (o : Option Place) (m : Option Message) → AreRouted drivers (after_move_to drivers c p o m)
-  by (Some q) (Some m) = record { rise = h.rise; ids = h.ids; start = h.start; routes = h.routes }
-  by (Some q) None = h
-  by None m = h
+routed_moved drivers c p h = moved_by (AreRouted drivers) drivers c p h
+    (λ q m e. record { rise = h.rise; ids = h.ids; start = h.start; routes = h.routes })
 
 -- in the empty configuration, without links and routes, ids rise and no route lacks its link
 pub routed_empty : (drivers : List DriverSpec) → AreRouted drivers empty

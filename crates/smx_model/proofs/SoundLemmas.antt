@@ -1,5 +1,5 @@
 -- Links stay sound.
-use Rattle.std.proofs.Common.{◌≡◌, ℕ, Bool, false, ◌||◌, eqb, List, [], ◌∷◌, ◌++◌, filter, Option, Some, None, rules}
+use Rattle.std.proofs.Common.{◌≡◌, ℕ, Bool, false, ◌||◌, eqb, List, [], ◌∷◌, ◌++◌, filter, rules}
 use Rattle.std.proofs.Common.{arith}
 use Rattle.std.proofs.lemmas.Bool.{false≢true, both_ways, false_from_ne_true}
 use Rattle.std.proofs.lemmas.List.Kept.{AllPairs-filter}
@@ -12,15 +12,14 @@ use Rattle.smx_types.specs.declared.link.Link.{Link}
 use Rattle.smx_model.specs.Commands.{outcome, done_outcome}
 use Rattle.smx_model.specs.Configuration.{Configuration, same_stream}
 use Rattle.smx_model.specs.Paths.{reaches}
-use Rattle.smx_model.specs.Queues.{first_message}
-use Rattle.smx_model.specs.Settling.{after_move, after_move_to, next_open_place}
+use Rattle.smx_model.specs.Settling.{after_move}
 use Rattle.smx_model.specs.SoundLinks.{AreLinksSound}
 use Rattle.smx_model.specs.Standing.{is_below}
+use Rattle.smx_model.proofs.SettledLemmas.{moved_by}
 use Rattle.smx_model.proofs.AcceptedLemmas.{of_rows}
 use Rattle.smx_model.proofs.MemberLemmas.{of_filtered}
 use Rattle.smx_model.proofs.OutcomeLemmas.{IfAccepted}
 use Rattle.smx_model.proofs.PathLemmas.{path_reaches, no_cycle_push, no_cycle_fewer}
-use Rattle.smx_types.specs.declared.message.Message.{Message}
 use Rattle.smx_types.specs.declared.stream.Place.{Place}
 
 -- sound links stay so when they are filtered
@@ -56,11 +55,7 @@ sound_accepted drivers c process k h =
 -- a move leaves sound links sound
 pub sound_moved : (drivers : List DriverSpec) (c : Configuration) (p : Place) → AreLinksSound c.links
     → AreLinksSound (after_move drivers c p).links
-sound_moved drivers c p h = onto (next_open_place drivers c p) (first_message c.flow p) where
-  onto : (o : Option Place) (m : Option Message) → AreLinksSound (after_move_to drivers c p o m).links
-  onto (Some q) (Some m) = h
-  onto (Some q) None = h
-  onto None m = h
+sound_moved drivers c p h = moved_by (λ d. AreLinksSound d.links) drivers c p h (λ q m e. h)
 
 -- where there are no links, they are sound
 pub sound_empty : AreLinksSound []
