@@ -251,7 +251,8 @@ moved_sound drivers c p h = of_parts drivers (after_move drivers c p) (parts_mov
 pub settled_kept : (drivers : List DriverSpec) (c : Configuration) → IsSound drivers c
     → IsKept drivers (after_settling drivers c)
 settled_kept drivers c h = let p = parts_of drivers c h in record {
-  sound = of_parts drivers (after_settling drivers c) (settled_by (Parts drivers) drivers (length c.flow * length drivers) c (record { each = parts_moved drivers }) p);
+  sound = of_parts drivers (after_settling drivers c)
+      (settled_by (Parts drivers) drivers _ c (record { each = parts_moved drivers }) p);
   settled = settled_is drivers c p.links p.named p.routed;
 }
 
