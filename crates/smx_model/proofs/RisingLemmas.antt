@@ -7,12 +7,7 @@ use Rattle.std.proofs.lemmas.Bool.Decides.{nat_tests}
 use Rattle.smx_types.specs.declared.command.Command.{Command}
 use Rattle.smx_types.specs.declared.driver.DriverSpec.{DriverSpec}
 use Rattle.smx_types.specs.declared.limits.TheConstants.{MAX_DESCRIPTORS}
-use Rattle.smx_types.specs.declared.link.Binding.{Binding}
-use Rattle.smx_types.specs.declared.link.Link.{Link}
-use Rattle.smx_types.specs.declared.link.Route.{Route}
-use Rattle.smx_types.specs.declared.message.Message.{Message}
 use Rattle.smx_types.specs.declared.reply.Fault.TheVariants.{TooManyDescriptors}
-use Rattle.smx_types.specs.declared.stream.Descriptor.{Descriptor}
 use Rattle.smx_types.specs.declared.stream.Place.{Place}
 use Rattle.smx_types.specs.declared.stream.StreamId.{StreamId}
 use Rattle.smx_model.specs.Commands.{outcome, done_outcome}
@@ -22,8 +17,7 @@ use Rattle.smx_model.specs.Configuration.{place_before, pair_before, same_place,
 use Rattle.smx_model.specs.Hangups.{is_hung, with_hung}
 use Rattle.smx_model.specs.Lookups.{free_fd}
 use Rattle.smx_model.specs.Ordered.{with_inserted, ComesBefore, IsRising}
-use Rattle.smx_model.specs.Queues.{with_mark, after_arrival, after_leaving}
-use Rattle.smx_model.specs.Removal.{without_queues_at, without_links}
+use Rattle.smx_model.specs.Queues.{with_mark}
 use Rattle.smx_model.specs.Settling.{after_move}
 use Rattle.smx_model.proofs.SettledLemmas.{moved_by}
 use Rattle.smx_model.proofs.OrderLemmas.{place_before_trans, place_either}
@@ -114,44 +108,6 @@ pub record AreRising (c : Configuration) : Type 0 where
   pub fulls : IsRising place_before c.fulls
   pub hungs : IsRising stream_before c.hungs
 
-rising_same : (c d : Configuration) → AreRising c → d.fds ≡ c.fds → d.binds ≡ c.binds → d.routes ≡ c.routes
-    → d.fulls ≡ c.fulls → d.hungs ≡ c.hungs → AreRising d
-rising_same c d h e f g k u = record {
-  fds = rw e h.fds;
-  binds = rw f h.binds;
-  routes = rw g h.routes;
-  fulls = rw k h.fulls;
-  hungs = rw u h.hungs;
-}
-
-rising_closed : (c : Configuration) (test : Descriptor → Bool) → AreRising c
-    → AreRising (record c { fds = filter test c.fds })
-rising_closed c test h = record {
-  fds = rising_filter fd_before test c.fds h.fds;
-  binds = h.binds;
-  routes = h.routes;
-  fulls = h.fulls;
-  hungs = h.hungs;
-}
-
-rising_emptied : (c : Configuration) (goes : Place → Bool) → AreRising c → AreRising (without_queues_at c goes)
-rising_emptied c goes h = record {
-  fds = h.fds;
-  binds = h.binds;
-  routes = h.routes;
-  fulls = rising_filter place_before _ c.fulls h.fulls;
-  hungs = h.hungs;
-}
-
-rising_removed : (c : Configuration) (goes : Link → Bool) → AreRising c → AreRising (without_links c goes)
-rising_removed c goes h = record {
-  fds = h.fds;
-  binds = h.binds;
-  routes = rising_filter route_before _ c.routes h.routes;
-  fulls = rising_filter place_before _ c.fulls h.fulls;
-  hungs = h.hungs;
-}
-
 rising_done : (drivers : List DriverSpec) (c d : Configuration) → AreRising d
     → IfAccepted (λ d r. AreRising d) (done_outcome drivers c d)
 rising_done drivers c d h = record {
@@ -171,60 +127,30 @@ free_is_free c process fd e =
     not-true _ (find_passes (λ n. not (list_any (is_fd process n) c.fds)) (range_with_len 0 MAX_DESCRIPTORS) fd
     (there_is TooManyDescriptors _ fd e))
 
-rising_fd : (c : Configuration) (process fd : ℕ) (s : StreamId) → AreRising c → free_fd c process ≡ Ok fd
-    → AreRising (with_fd c process fd s)
-rising_fd c process fd s h e = record {
-  fds = rising_placed fd_before fd_trans (record { process = process; fd = fd; stream = s }) c.fds
-      (none_passes (is_fd process fd) _ c.fds (λ d f k. pair_other process fd d.process d.fd f k)
-      (free_is_free c process fd e)) h.fds;
-  binds = h.binds;
-  routes = h.routes;
-  fulls = h.fulls;
-  hungs = h.hungs;
-}
+fds_rise : (c : Configuration) (process fd : ℕ) (s : StreamId) → AreRising c → free_fd c process ≡ Ok fd
+    → IsRising fd_before (with_fd c process fd s).fds
+fds_rise c process fd s h e = rising_placed fd_before fd_trans (record { process = process; fd = fd; stream = s }) c.fds
+    (none_passes (is_fd process fd) _ c.fds (λ d f k. pair_other process fd d.process d.fd f k)
+    (free_is_free c process fd e)) h.fds
 
-rising_bind : (c : Configuration) (driver addr minor : ℕ) → AreRising c
+binds_rise : (c : Configuration) (driver addr minor : ℕ) → AreRising c
     → list_any (λ b. eqb b.driver driver && (eqb b.addr addr || eqb b.minor minor)) c.binds ≡ false
-    → AreRising
-    (record c { binds = with_inserted bind_before c.binds (record { driver = driver; addr = addr; minor = minor }) })
-rising_bind c driver addr minor h e = record {
-  fds = h.fds;
-  binds = rising_placed bind_before bind_trans (record { driver = driver; addr = addr; minor = minor }) c.binds
-      (none_passes (λ b. eqb b.driver driver && (eqb b.addr addr || eqb b.minor minor)) _ c.binds
-      (λ b f k. pair_other driver addr b.driver b.addr (bind_other driver addr b.driver b.addr b.minor minor f) k) e)
-      h.binds;
-  routes = h.routes;
-  fulls = h.fulls;
-  hungs = h.hungs;
-}
+    → IsRising bind_before
+    (with_inserted bind_before c.binds (record { driver = driver; addr = addr; minor = minor }))
+binds_rise c driver addr minor h e =
+    rising_placed bind_before bind_trans (record { driver = driver; addr = addr; minor = minor }) c.binds
+    (none_passes (λ b. eqb b.driver driver && (eqb b.addr addr || eqb b.minor minor)) _ c.binds
+    (λ b f k. pair_other driver addr b.driver b.addr (bind_other driver addr b.driver b.addr b.minor minor f) k) e)
+    h.binds
 
-rising_unbind : (c : Configuration) (test : Binding → Bool) → AreRising c
-    → AreRising (record c { binds = filter test c.binds })
-rising_unbind c test h = record {
-  fds = h.fds;
-  binds = rising_filter bind_before test c.binds h.binds;
-  routes = h.routes;
-  fulls = h.fulls;
-  hungs = h.hungs;
-}
-
-rising_route : (c : Configuration) (driver addr id : ℕ) → AreRising c
-    → AreRising
-    (record c {
-      routes = with_inserted route_before
-          (filter (λ r. not (eqb r.driver driver && eqb r.addr addr)) c.routes)
-          (record { driver = driver; addr = addr; id = id });
-    })
-rising_route c driver addr id h = record {
-  fds = h.fds;
-  binds = h.binds;
-  routes = rising_placed route_before route_trans (record { driver = driver; addr = addr; id = id }) _
-      (kept_passes (λ r. not (eqb r.driver driver && eqb r.addr addr)) _ c.routes
-      (λ r t k. pair_other driver addr r.driver r.addr (not-true _ t) k))
-      (rising_filter route_before _ c.routes h.routes);
-  fulls = h.fulls;
-  hungs = h.hungs;
-}
+routes_rise : (c : Configuration) (driver addr id : ℕ) → AreRising c
+    → IsRising route_before
+    (with_inserted route_before (filter (λ r. not (eqb r.driver driver && eqb r.addr addr)) c.routes)
+    (record { driver = driver; addr = addr; id = id }))
+routes_rise c driver addr id h =
+    rising_placed route_before route_trans (record { driver = driver; addr = addr; id = id }) _
+    (kept_passes (λ r. not (eqb r.driver driver && eqb r.addr addr)) _ c.routes
+    (λ r t k. pair_other driver addr r.driver r.addr (not-true _ t) k)) (rising_filter route_before _ c.routes h.routes)
 
 -- hung-up streams that rise do so with one more
 pub rising_with_hung : (s : StreamId) (hungs : List StreamId) → IsRising stream_before hungs
@@ -235,25 +161,6 @@ rising_with_hung s hungs h = by (is_hung hungs s) refl where
   by false e = rw e (rising_placed stream_before stream_trans s hungs
       (none_passes (λ t. same_stream t s) _ hungs (λ t f k. pair_other s.driver s.minor t.driver t.minor f k) e) h)
 
-rising_hung : (c : Configuration) (s : StreamId) → AreRising c → AreRising (record c { hungs = with_hung s c.hungs })
-rising_hung c s h = record {
-  fds = h.fds;
-  binds = h.binds;
-  routes = h.routes;
-  fulls = h.fulls;
-  hungs = rising_with_hung s c.hungs h.hungs;
-}
-
-rising_unroute : (c : Configuration) (test : Route → Bool) → AreRising c
-    → AreRising (record c { routes = filter test c.routes })
-rising_unroute c test h = record {
-  fds = h.fds;
-  binds = h.binds;
-  routes = rising_filter route_before test c.routes h.routes;
-  fulls = h.fulls;
-  hungs = h.hungs;
-}
-
 rising_marked : (p : Place) (b : Bool) (ps : List Place) → IsRising place_before ps
     → IsRising place_before (with_mark p b ps)
 rising_marked p true ps h = rising_placed place_before place_before_trans p _
@@ -261,57 +168,30 @@ rising_marked p true ps h = rising_placed place_before place_before_trans p _
     (rising_filter place_before _ ps h)
 rising_marked p false ps h = rising_filter place_before _ ps h
 
-rising_arrived : (drivers : List DriverSpec) (c : Configuration) (p : Place) (m : Message) → AreRising c
-    → AreRising (after_arrival drivers c p m)
-rising_arrived drivers c p m h = record {
-  fds = h.fds;
-  binds = h.binds;
-  routes = h.routes;
-  fulls = rising_marked p _ c.fulls h.fulls;
-  hungs = h.hungs;
-}
-
-rising_left : (drivers : List DriverSpec) (c : Configuration) (p : Place) → AreRising c
-    → AreRising (after_leaving drivers c p)
-rising_left drivers c p h = record {
-  fds = h.fds;
-  binds = h.binds;
-  routes = h.routes;
-  fulls = rising_marked p _ c.fulls h.fulls;
-  hungs = h.hungs;
-}
-
-rising_took : (drivers : List DriverSpec) (c : Configuration) (p : Place) (m : Message) (n : ℕ) → AreRising c
-    → AreRising (record (after_arrival drivers c p m) { next_serial = n })
-rising_took drivers c p m n h = let a = rising_arrived drivers c p m h in
-    record { fds = a.fds; binds = a.binds; routes = a.routes; fulls = a.fulls; hungs = a.hungs }
-
 -- an accepted command keeps descriptors, bindings, routes, full places and hung-up streams rising
 pub rising_accepted : (drivers : List DriverSpec) (c : Configuration) (process : ℕ) (k : Command) → AreRising c
     → IfAccepted (λ d r. AreRising d) (outcome drivers c process k)
-rising_accepted drivers c process k h = search (
-  of_rows,
-  rising_fd,
-  rising_same,
-  rising_took,
-  rising_left,
+rising_accepted drivers c process k h = of_rows _ drivers c process k (search (
   rising_done,
-  rising_closed,
-  rising_removed,
-  rising_bind,
-  rising_unbind,
-  rising_route,
-  rising_unroute,
-  rising_emptied,
-  rising_hung,
+  rising_filter,
+  rising_marked,
+  rising_with_hung,
+  fds_rise,
+  binds_rise,
+  routes_rise,
   rules,
-) depth 24
+) depth 24)
 
 -- a move keeps descriptors, bindings, routes, full places and hung-up streams rising
 pub rising_moved : (drivers : List DriverSpec) (c : Configuration) (p : Place) → AreRising c
     → AreRising (after_move drivers c p)
-rising_moved drivers c p h = moved_by AreRising drivers c p h
-    (λ q m e. rising_arrived drivers (after_leaving drivers c p) q m (rising_left drivers c p h))
+rising_moved drivers c p h = moved_by AreRising drivers c p h (λ q m e. record {
+  fds = h.fds;
+  binds = h.binds;
+  routes = h.routes;
+  fulls = rising_marked q _ _ (rising_marked p _ c.fulls h.fulls);
+  hungs = h.hungs;
+})
 
 -- the lists of the empty configuration rise
 pub rising_empty : AreRising empty
