@@ -3,7 +3,7 @@ use Rattle.std.proofs.Common.{ℕ, List, rules}
 use Rattle.smx_types.specs.declared.command.Command.{Command}
 use Rattle.smx_types.specs.declared.driver.DriverSpec.{DriverSpec}
 use Rattle.smx_types.specs.declared.stream.Place.{Place}
-use Rattle.smx_model.specs.Commands.{outcome, done_outcome}
+use Rattle.smx_model.specs.Commands.{outcome}
 use Rattle.smx_model.specs.Configuration.{Configuration, is_at}
 use Rattle.smx_model.specs.FlowOrder.{IsInOrder}
 use Rattle.smx_model.specs.Settling.{after_move}
@@ -12,15 +12,11 @@ use Rattle.smx_model.proofs.OrderLemmas.{order_placed, order_filter, order_witho
 use Rattle.smx_model.proofs.AcceptedLemmas.{of_rows}
 use Rattle.smx_model.proofs.OutcomeLemmas.{IfAccepted}
 
-order_done : (drivers : List DriverSpec) (c d : Configuration) → IsInOrder d.flow
-    → IfAccepted (λ d r. IsInOrder d.flow) (done_outcome drivers c d)
-order_done drivers c d h = record { holds = order_filter _ _ (order_filter _ d.flow h) }
-
 -- an accepted command keeps the flow in order of places
 pub order_accepted : (drivers : List DriverSpec) (c : Configuration) (process : ℕ) (k : Command) → IsInOrder c.flow
     → IfAccepted (λ d r. IsInOrder d.flow) (outcome drivers c process k)
 order_accepted drivers c process k h =
-    search (of_rows, order_done, order_filter, order_placed, order_without, rules) depth 24
+    search (of_rows, order_filter, order_placed, order_without, rules) depth 24
 
 -- a move keeps the flow in order of places
 pub order_moved : (drivers : List DriverSpec) (c : Configuration) (p : Place) → IsInOrder c.flow

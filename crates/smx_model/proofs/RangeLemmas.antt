@@ -1,6 +1,6 @@
 -- Descriptors and links name streams that the drivers have.
-use Rattle.std.proofs.Common.{◌≡◌, ℕ, zero, suc, ◌+◌, ◌<◌, Bool, false, not, leb, arith, List, [], ◌∷◌, ◌++◌, length}
-use Rattle.std.proofs.Common.{filter, find, Some, Ok, rules, subst, inl, inr}
+use Rattle.std.proofs.Common.{◌≡◌, ℕ, zero, suc, ◌+◌, ◌<◌, Bool, false, not, leb, arith, List, [], ◌∷◌, length}
+use Rattle.std.proofs.Common.{find, Some, Ok, rules, subst, inl, inr}
 use Rattle.std.specs.Prelude.{position}
 use Rattle.std.specs.Str.{bytes_eq}
 use Rattle.std.specs.List.{range_with_len}
@@ -8,17 +8,15 @@ use Rattle.std.proofs.lemmas.Bool.{cases_Bool, leb-false}
 use Rattle.std.proofs.lemmas.List.Quantifiers.{position-Some}
 use Rattle.smx_types.specs.declared.command.Command.{Command}
 use Rattle.smx_types.specs.declared.reply.Fault.TheVariants.{NoDriver, NoMinor}
-use Rattle.smx_types.specs.declared.stream.Descriptor.{Descriptor}
 use Rattle.smx_types.specs.declared.driver.DriverSpec.{DriverSpec}
 use Rattle.smx_types.specs.declared.link.Link.{Link}
 use Rattle.smx_types.specs.declared.stream.Place.{Place}
 use Rattle.smx_types.specs.declared.stream.StreamId.{StreamId}
-use Rattle.smx_model.specs.Commands.{outcome, done_outcome, with_fd}
-use Rattle.smx_model.specs.Configuration.{Configuration, fd_before, is_fd}
+use Rattle.smx_model.specs.Commands.{outcome}
+use Rattle.smx_model.specs.Configuration.{Configuration, is_fd}
 use Rattle.smx_model.specs.DriverList.{minors_of}
 use Rattle.smx_model.specs.KnownStreams.{IsKnown}
 use Rattle.smx_model.specs.Lookups.{driver_of, stream_of, free_minor}
-use Rattle.smx_model.specs.Removal.{without_links}
 use Rattle.smx_model.specs.Settling.{after_move}
 use Rattle.smx_model.specs.Standing.{exists}
 use Rattle.smx_model.proofs.SettledLemmas.{moved_by}
@@ -78,58 +76,20 @@ stream_known drivers c process fd s h e =
     let d = descriptor_of c process fd s e in
     subst (IsKnown drivers) d.2 (each_find (λ d. IsKnown drivers d.stream) (is_fd process fd) c.fds d.0 d.1 h.fds)
 
-named_fd : (drivers : List DriverSpec) (c : Configuration) (process fd : ℕ) (s : StreamId) → AreNamed drivers c
-    → IsKnown drivers s → AreNamed drivers (with_fd c process fd s)
-named_fd drivers c process fd s h
-    k = record {
-      fds = each_placed (λ d. IsKnown drivers d.stream) fd_before c.fds
-          (record { process = process; fd = fd; stream = s }) k h.fds;
-      links = h.links;
-    }
-
-named_link : (drivers : List DriverSpec) (c : Configuration) (l : Link) (next : ℕ) → AreNamed drivers c
-    → IsKnown drivers l.ctl → IsKnown drivers l.lower
-    → AreNamed drivers (record c { links = c.links ++ l ∷ []; next_id = next })
-named_link drivers c l next h a b = record {
-  fds = h.fds;
-  links = each_push (λ l. IsKnown drivers l.ctl × IsKnown drivers l.lower) c.links l (a, b) h.links;
-}
-
-named_done : (drivers : List DriverSpec) (c d : Configuration) → AreNamed drivers d
-    → IfAccepted (λ d r. AreNamed drivers d) (done_outcome drivers c d)
-named_done drivers c d h = record { holds = record { fds = h.fds; links = each_filter _ _ d.links h.links } }
-
--- descriptors, links as they were or fewer
-named_same : (drivers : List DriverSpec) (c d : Configuration) → AreNamed drivers c → d.fds ≡ c.fds → d.links ≡ c.links
-    → AreNamed drivers d
-named_same drivers c d h e f = record { fds = rw e h.fds; links = rw f h.links }
-
-named_closed : (drivers : List DriverSpec) (c : Configuration) (test : Descriptor → Bool) → AreNamed drivers c
-    → AreNamed drivers (record c { fds = filter test c.fds })
-named_closed drivers c test h = record { fds = each_filter _ test c.fds h.fds; links = h.links }
-
-named_removed : (drivers : List DriverSpec) (c : Configuration) (goes : Link → Bool) → AreNamed drivers c
-    → AreNamed drivers (without_links c goes)
-named_removed drivers c goes h = record { fds = h.fds; links = each_filter _ _ c.links h.links }
-
 -- an accepted command leaves descriptors and links with streams that the drivers have
 pub named_accepted : (drivers : List DriverSpec) (c : Configuration) (process : ℕ) (k : Command) → AreNamed drivers c
     → IfAccepted (λ d r. AreNamed drivers d) (outcome drivers c process k)
-named_accepted drivers c process k h = search (
-  of_rows,
-  named_fd,
-  named_link,
+named_accepted drivers c process k h = of_rows _ drivers c process k (search (
+  each_placed,
+  each_push,
+  each_filter,
   known_made,
   minor_free,
   minor_in,
   driver_below,
   stream_known,
-  named_done,
-  named_closed,
-  named_removed,
-  named_same,
   rules,
-) depth 24
+) depth 24)
 
 -- a move leaves descriptors and links with streams that the drivers have
 pub named_moved : (drivers : List DriverSpec) (c : Configuration) (p : Place) → AreNamed drivers c

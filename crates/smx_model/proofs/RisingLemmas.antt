@@ -10,7 +10,7 @@ use Rattle.smx_types.specs.declared.limits.TheConstants.{MAX_DESCRIPTORS}
 use Rattle.smx_types.specs.declared.reply.Fault.TheVariants.{TooManyDescriptors}
 use Rattle.smx_types.specs.declared.stream.Place.{Place}
 use Rattle.smx_types.specs.declared.stream.StreamId.{StreamId}
-use Rattle.smx_model.specs.Commands.{outcome, done_outcome}
+use Rattle.smx_model.specs.Commands.{outcome}
 use Rattle.smx_model.specs.Commands.{with_fd}
 use Rattle.smx_model.specs.Configuration.{Configuration, empty, is_fd, fd_before, bind_before, route_before}
 use Rattle.smx_model.specs.Configuration.{place_before, pair_before, same_place, same_stream, stream_before}
@@ -108,18 +108,6 @@ pub record AreRising (c : Configuration) : Type 0 where
   pub fulls : IsRising place_before c.fulls
   pub hungs : IsRising stream_before c.hungs
 
-rising_done : (drivers : List DriverSpec) (c d : Configuration) → AreRising d
-    → IfAccepted (λ d r. AreRising d) (done_outcome drivers c d)
-rising_done drivers c d h = record {
-  holds = record {
-    fds = h.fds;
-    binds = rising_filter bind_before _ d.binds h.binds;
-    routes = rising_filter route_before _ d.routes h.routes;
-    fulls = rising_filter place_before _ _ (rising_filter place_before _ d.fulls h.fulls);
-    hungs = rising_filter stream_before _ d.hungs h.hungs;
-  };
-}
-
 -- the number that is free is not there
 free_is_free : (c : Configuration) (process fd : ℕ) → free_fd c process ≡ Ok fd
     → list_any (is_fd process fd) c.fds ≡ false
@@ -172,7 +160,6 @@ rising_marked p false ps h = rising_filter place_before _ ps h
 pub rising_accepted : (drivers : List DriverSpec) (c : Configuration) (process : ℕ) (k : Command) → AreRising c
     → IfAccepted (λ d r. AreRising d) (outcome drivers c process k)
 rising_accepted drivers c process k h = of_rows _ drivers c process k (search (
-  rising_done,
   rising_filter,
   rising_marked,
   rising_with_hung,

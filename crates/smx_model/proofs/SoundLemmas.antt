@@ -9,7 +9,7 @@ use Rattle.smx_types.specs.declared.command.Command.{Command}
 use Rattle.smx_types.specs.declared.reply.Reply.{Reply}
 use Rattle.smx_types.specs.declared.driver.DriverSpec.{DriverSpec}
 use Rattle.smx_types.specs.declared.link.Link.{Link}
-use Rattle.smx_model.specs.Commands.{outcome, done_outcome}
+use Rattle.smx_model.specs.Commands.{outcome}
 use Rattle.smx_model.specs.Configuration.{Configuration, same_stream}
 use Rattle.smx_model.specs.Paths.{reaches}
 use Rattle.smx_model.specs.Settling.{after_move}
@@ -42,15 +42,11 @@ sound_push ls l h free apart = record {
 abbrev Sound : Configuration → Reply → Type 0
 Sound d r = AreLinksSound d.links
 
-sound_done : (drivers : List DriverSpec) (c d : Configuration) → AreLinksSound d.links
-    → IfAccepted Sound (done_outcome drivers c d)
-sound_done drivers c d h = record { holds = sound_filter _ d.links h }
-
 -- an accepted command leaves sound links sound
 pub sound_accepted : (drivers : List DriverSpec) (c : Configuration) (process : ℕ) (k : Command) → AreLinksSound c.links
     → IfAccepted Sound (outcome drivers c process k)
 sound_accepted drivers c process k h =
-    search (of_rows, sound_done, sound_filter, sound_push, rules) depth 24
+    search (of_rows, sound_filter, sound_push, rules) depth 24
 
 -- a move leaves sound links sound
 pub sound_moved : (drivers : List DriverSpec) (c : Configuration) (p : Place) → AreLinksSound c.links
