@@ -9,7 +9,6 @@ use Rattle.smx_types.specs.declared.command.Entry.{Entry}
 use Rattle.smx_types.specs.declared.reply.Reply.{Reply}
 use Rattle.smx_types.specs.declared.reply.Reply.TheVariants as reply
 use Rattle.smx_types.specs.declared.driver.DriverSpec.{DriverSpec}
-use Rattle.smx_types.specs.declared.link.Link.{Link}
 use Rattle.smx_types.specs.declared.message.Message.{Message}
 use Rattle.smx_types.specs.declared.stream.Place.{Place}
 use Rattle.smx_model.specs.Commands.{outcome, step, after_outcome, done_outcome}
@@ -20,7 +19,7 @@ use Rattle.smx_model.specs.LawfulHistories.{dropped_serials, IsConserving}
 use Rattle.smx_model.specs.Ordered.{with_inserted, without_first}
 use Rattle.smx_model.specs.Outcomes.{Outcome}
 use Rattle.smx_model.specs.Queues.{first_message, after_leaving}
-use Rattle.smx_model.specs.Removal.{after_sweep, without_links, without_queues_at, serials}
+use Rattle.smx_model.specs.Removal.{after_sweep, serials}
 use Rattle.smx_model.specs.Settling.{after_settling_within, after_move}
 use Rattle.smx_model.proofs.SettledLemmas.{moved_by, settled_by}
 use Rattle.smx_model.proofs.CountLemmas.{times, times_append, times_gone, permuted}
@@ -66,15 +65,6 @@ pub record IsNumbered (c : Configuration) : Type 0 where
 record IsFewer (c d : Configuration) : Type 0 where
   each : (n : ℕ) → times n (serials d.flow) ≤ times n (serials c.flow)
 
-fewer_same : (c d : Configuration) → d.flow ≡ c.flow → IsFewer c d
-fewer_same c d e = record { each = λ n. rw e (omega arith) }
-
-fewer_emptied : (c : Configuration) (goes : Place → Bool) → IsFewer c (without_queues_at c goes)
-fewer_emptied c goes = record { each = λ n. serials_filter n _ c.flow }
-
-fewer_removed : (c : Configuration) (goes : Link → Bool) → IsFewer c (without_links c goes)
-fewer_removed c goes = record { each = λ n. serials_filter n _ c.flow }
-
 two_filters : (n : ℕ) (f g : QueuedMessage → Bool) (hs : List QueuedMessage)
     → times n (serials (filter g (filter f hs))) ≤ times n (serials hs)
 two_filters n f g hs = omega (arith, serials_filter n g (filter f hs), serials_filter n f hs)
@@ -98,15 +88,13 @@ goes_done drivers c d h same fewer = record {
   };
 }
 
-goes_fd : (c d : Configuration) (fd minor : ℕ) → d.flow ≡ c.flow → d.next_serial ≡ c.next_serial
-    → Goes c d (reply.Fd fd minor)
-goes_fd c d fd minor e same = record { balance = λ n. rw e (omega arith); numbered = refl; next = omega arith }
-
-goes_eof : (c : Configuration) → Goes c c reply.Eof
-goes_eof c = record { balance = λ n. omega arith; numbered = refl; next = omega arith }
-
-goes_id : (c d : Configuration) (id : ℕ) → d.flow ≡ c.flow → d.next_serial ≡ c.next_serial → Goes c d (reply.Id id)
-goes_id c d id e same = record { balance = λ n. rw e (omega arith); numbered = refl; next = omega arith }
+goes_still : (c d : Configuration) (r : Reply) → d.flow ≡ c.flow → d.next_serial ≡ c.next_serial → taken_by r ≡ []
+    → delivered_by r ≡ [] → dropped_by r ≡ [] → Goes c d r
+goes_still c d r e same none given gone = record {
+  balance = λ n. rw (e, none, given, gone) (omega arith);
+  numbered = rw none refl;
+  next = rw none (omega (arith, same));
+}
 
 goes_took : (drivers : List DriverSpec) (c : Configuration) (p : Place) (addr : ℕ) (bytes : List ℕ)
     → Goes c (taken drivers c p addr bytes) (reply.Took c.next_serial)
@@ -129,19 +117,8 @@ goes_got drivers c p m e =
 -- an accepted command loses and doubles no message, where each queued one has a serial of its own
 pub goes_accepted : (drivers : List DriverSpec) (c : Configuration) (process : ℕ) (k : Command) → IsNumbered c
     → IfAccepted (Goes c) (outcome drivers c process k)
-goes_accepted drivers c process k h = search (
-  of_rows,
-  goes_fd,
-  goes_id,
-  goes_eof,
-  goes_took,
-  goes_got,
-  goes_done,
-  fewer_same,
-  fewer_emptied,
-  fewer_removed,
-  rules,
-) depth 24
+goes_accepted drivers c process k h =
+    search (of_rows, goes_still, goes_took, goes_got, goes_done, serials_filter, rules) depth 24
 
 -- settling keeps what is queued
 

@@ -1,6 +1,6 @@
 -- Messages keep their serial, address and bytes from where they are taken in to where they are delivered.
 use Rattle.std.proofs.Common.{◌≡◌, ◌⊎◌, ℕ, Bool, List, [], ◌∷◌, ◌++◌, Some, Ok, Err, refl}
-use Rattle.std.proofs.Common.{rules, ap, ◌∙◌, subst, inl, inr, arith}
+use Rattle.std.proofs.Common.{rules, ap, sym, ◌∙◌, subst, inl, inr, arith}
 use Rattle.std.specs.List.{All, Contains}
 use Rattle.std.specs.List.Sorted.{IsPermutation}
 use Rattle.std.proofs.lemmas.Bool.{cases_Bool}
@@ -68,16 +68,12 @@ old : (P : Message → Type 0) (k : Command) (r : Reply) (hs : List QueuedMessag
     → OfEach (λ m. P m ⊎ ((r ≡ reply.Took m.serial) × Sends k m.addr m.bytes)) hs
 old P k r hs h = each_map _ _ hs (λ x p. inl p) h
 
-carries_fd : (P : Message → Type 0) (k : Command) (d : Configuration) (fd minor : ℕ) → OfEach P d.flow
-    → Carries P k d (reply.Fd fd minor)
-carries_fd P k d fd minor h = record { flow = old P k (reply.Fd fd minor) d.flow h; got = λ m e. cc }
-
-carries_eof : (P : Message → Type 0) (k : Command) (d : Configuration) → OfEach P d.flow → Carries P k d reply.Eof
-carries_eof P k d h = record { flow = old P k reply.Eof d.flow h; got = λ m e. cc }
-
-carries_id : (P : Message → Type 0) (k : Command) (d : Configuration) (id : ℕ) → OfEach P d.flow
-    → Carries P k d (reply.Id id)
-carries_id P k d id h = record { flow = old P k (reply.Id id) d.flow h; got = λ m e. cc }
+carries_still : (P : Message → Type 0) (k : Command) (d : Configuration) (r : Reply) → OfEach P d.flow
+    → delivered_by r ≡ [] → Carries P k d r
+carries_still P k d r h none = record {
+  flow = old P k r d.flow h;
+  got = λ m e. let none_is : [] ≡ m.serial ∷ [] = sym none ∙ ap delivered_by e in cc;
+}
 
 carries_done : (P : Message → Type 0) (k : Command) (drivers : List DriverSpec) (c d : Configuration) → OfEach P d.flow
     → IfAccepted (Carries P k) (done_outcome drivers c d)
@@ -112,9 +108,7 @@ carries_accepted : (P : Message → Type 0) (drivers : List DriverSpec) (c : Con
     → OfEach P c.flow → IfAccepted (Carries P k) (outcome drivers c process k)
 carries_accepted P drivers c process k h = search (
   of_rows,
-  carries_fd,
-  carries_id,
-  carries_eof,
+  carries_still,
   carries_took,
   carries_got,
   carries_done,

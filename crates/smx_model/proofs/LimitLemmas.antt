@@ -14,14 +14,11 @@ use Rattle.smx_types.specs.declared.limits.TheConstants.{MAX_DESCRIPTORS, MAX_LI
 use Rattle.smx_types.specs.declared.link.Link.{Link}
 use Rattle.smx_types.specs.declared.reply.Fault.TheVariants.{TooManyDescriptors}
 use Rattle.smx_types.specs.declared.stream.Descriptor.{Descriptor}
-use Rattle.smx_types.specs.declared.stream.StreamId.{StreamId}
-use Rattle.smx_model.specs.Commands.{outcome, done_outcome}
-use Rattle.smx_model.specs.Commands.{with_fd}
+use Rattle.smx_model.specs.Commands.{outcome}
 use Rattle.smx_model.specs.Configuration.{Configuration, empty, fd_before, is_fd, pair_before}
 use Rattle.smx_model.specs.Histories.{after}
 use Rattle.smx_model.specs.Lookups.{free_fd}
 use Rattle.smx_model.specs.Ordered.{ComesBefore, IsRising}
-use Rattle.smx_model.specs.Removal.{without_links}
 use Rattle.smx_model.proofs.SettledLemmas.{MovesKeep, after_by, moved_by}
 use Rattle.smx_model.proofs.EachLemmas.{Each, each_filter, each_placed}
 use Rattle.smx_model.proofs.KeptLemmas.{always_is_kept}
@@ -37,32 +34,11 @@ pub record IsWithin (c : Configuration) : Type 0 where
   pub ids : c.next_id ≤ NUMBER_END
   pub serials : c.next_serial ≤ NUMBER_END
 
--- descriptors, links and next numbers as they were
-within_same : (c d : Configuration) → IsWithin c → d.fds ≡ c.fds → d.links ≡ c.links → d.next_id ≡ c.next_id
-    → d.next_serial ≡ c.next_serial → IsWithin d
-within_same c d h e f g k =
-    record { links = rw f h.links; numbers = rw e h.numbers; ids = rw g h.ids; serials = rw k h.serials }
-
 -- a free number is below the limit
 
 free_below : (c : Configuration) (process fd : ℕ) → free_fd c process ≡ Ok fd → fd < MAX_DESCRIPTORS
 free_below c process fd e =
     range_below (λ n. not (list_any (is_fd process n) c.fds)) 0 MAX_DESCRIPTORS fd (there_is TooManyDescriptors _ fd e)
-
-within_fd : (c : Configuration) (process fd : ℕ) (s : StreamId) → IsWithin c → free_fd c process ≡ Ok fd
-    → IsWithin (with_fd c process fd s)
-within_fd c process fd s h e = record {
-  links = h.links;
-  numbers = each_placed _ fd_before c.fds (record { process = process; fd = fd; stream = s })
-      (free_below c process fd e) h.numbers;
-  ids = h.ids;
-  serials = h.serials;
-}
-
-within_closed : (c : Configuration) (test : Descriptor → Bool) → IsWithin c
-    → IsWithin (record c { fds = filter test c.fds })
-within_closed c test h =
-    record { links = h.links; numbers = each_filter _ test c.fds h.numbers; ids = h.ids; serials = h.serials }
 
 -- links, one more and fewer
 
@@ -71,53 +47,23 @@ fewer test [] = omega arith
 fewer test (x ∷ xs) = elim (cases_Bool (test x))
     [ inl t ↦ rw t (omega (arith, fewer test xs)) | inr f ↦ rw f (omega (arith, fewer test xs)) ]
 
-within_link : (c : Configuration) (l : Link) → IsWithin c → (leb MAX_LINKS (length c.links) || leb NUMBER_END c.next_id)
-    ≡ false → IsWithin (record c { links = c.links ++ l ∷ []; next_id = c.next_id + 1 })
-within_link c l h room = let p = or_parts (leb MAX_LINKS (length c.links)) (leb NUMBER_END c.next_id) room in record {
-  links = omega (arith, length_push c.links l, leb-false MAX_LINKS (length c.links) p.0);
-  numbers = h.numbers;
-  ids = omega (arith, leb-false NUMBER_END c.next_id p.1);
-  serials = h.serials;
-}
+fewer_fit : (test : Link → Bool) (ls : List Link) → length ls ≤ MAX_LINKS → length (filter test ls) ≤ MAX_LINKS
+fewer_fit test ls h = omega (arith, h, fewer test ls)
 
-within_removed : (c : Configuration) (goes : Link → Bool) → IsWithin c → IsWithin (without_links c goes)
-within_removed c goes h = record {
-  links = omega (arith, h.links, fewer (λ l. not (goes l)) c.links);
-  numbers = h.numbers;
-  ids = h.ids;
-  serials = h.serials;
-}
+link_fits : (ls : List Link) (l : Link) (b : Bool) → (leb MAX_LINKS (length ls) || b) ≡ false
+    → length (ls ++ l ∷ []) ≤ MAX_LINKS
+link_fits ls l b room =
+    omega (arith, length_push ls l, leb-false MAX_LINKS (length ls) (or_parts (leb MAX_LINKS (length ls)) b room).0)
 
-within_done : (drivers : List DriverSpec) (c d : Configuration) → IsWithin d
-    → IfAccepted (λ d r. IsWithin d) (done_outcome drivers c d)
-within_done drivers c d h = let k = within_removed d _ h in
-    record { holds = record { links = k.links; numbers = k.numbers; ids = k.ids; serials = k.serials } }
+-- the next number, below its end
 
--- a message that is sent takes a serial
-
-within_took : (c d : Configuration) (full : Bool) → IsWithin c → d.fds ≡ c.fds → d.links ≡ c.links
-    → d.next_id ≡ c.next_id → d.next_serial ≡ c.next_serial + 1 → (full || leb NUMBER_END c.next_serial) ≡ false
-    → IsWithin d
-within_took c d full h e f g k room = record {
-  links = rw f h.links;
-  numbers = rw e h.numbers;
-  ids = rw g h.ids;
-  serials = rw k (omega (arith, leb-false NUMBER_END c.next_serial (or_parts full _ room).1));
-}
+number_fits : (b : Bool) (n : ℕ) → (b || leb NUMBER_END n) ≡ false → n + 1 ≤ NUMBER_END
+number_fits b n room = omega (arith, leb-false NUMBER_END n (or_parts b (leb NUMBER_END n) room).1)
 
 within_accepted : (drivers : List DriverSpec) (c : Configuration) (process : ℕ) (k : Command) → IsWithin c
     → IfAccepted (λ d r. IsWithin d) (outcome drivers c process k)
-within_accepted drivers c process k h = search (
-  of_rows,
-  within_fd,
-  within_closed,
-  within_link,
-  within_removed,
-  within_done,
-  within_same,
-  within_took,
-  rules,
-) depth 24
+within_accepted drivers c process k h = of_rows _ drivers c process k
+    (search (each_placed, each_filter, free_below, fewer_fit, link_fits, number_fits, rules) depth 24)
 
 -- moves, settling, histories
 
