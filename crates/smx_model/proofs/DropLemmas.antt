@@ -6,19 +6,17 @@ use Rattle.std.proofs.lemmas.Bool.{cases_Bool, and_parts, and_from, or_left, or_
 use Rattle.smx_types.specs.declared.command.Command.{Command}
 use Rattle.smx_types.specs.declared.command.Entry.{Entry}
 use Rattle.smx_types.specs.declared.driver.DriverSpec.{DriverSpec}
-use Rattle.smx_types.specs.declared.link.Binding.{Binding}
-use Rattle.smx_types.specs.declared.link.Route.{Route}
 use Rattle.smx_types.specs.declared.reply.Fault.TheVariants.{NotMux}
 use Rattle.smx_types.specs.declared.reply.Reply.TheVariants.{Done}
 use Rattle.smx_types.specs.declared.stream.StreamId.{StreamId}
 use Rattle.smx_model.specs.Commands.{outcome, step, after_outcome, done_outcome}
-use Rattle.smx_model.specs.Configuration.{Configuration, QueuedMessage, empty, bind_before, stream_before}
+use Rattle.smx_model.specs.Configuration.{Configuration, QueuedMessage, empty, stream_before}
 use Rattle.smx_model.specs.DriverList.{is_mux}
 use Rattle.smx_model.specs.Histories.{IsLegal, IsLegalFrom}
 use Rattle.smx_model.specs.KeptConfigurations.{IsKept}
 use Rattle.smx_model.specs.LawfulHistories.{dropped_by, may_drop, AreDropsAllowed}
 use Rattle.smx_model.specs.Lookups.{free_stream, mux_stream}
-use Rattle.smx_model.specs.Ordered.{with_inserted, in_rising_order}
+use Rattle.smx_model.specs.Ordered.{in_rising_order}
 use Rattle.smx_model.specs.Outcomes.{Outcome}
 use Rattle.smx_model.specs.Removal.{serials_that_left, serials}
 use Rattle.smx_model.specs.Standing.{exists}
@@ -75,45 +73,6 @@ pub mux_exists : (drivers : List DriverSpec) (c : Configuration) (process fd : �
 mux_exists drivers c process fd s e = free_exists drivers c process fd s
     (tested NotMux (free_stream c process fd) (λ t. not (is_mux drivers t.driver)) s e).0
 
--- a binding of a stream that exists, fewer bindings, or other routes
-
-bind_drops : (drivers : List DriverSpec) (c : Configuration) (s : StreamId) (addr : ℕ) → IsSwept drivers c
-    → exists drivers c s ≡ true
-    → DropsNone
-    (done_outcome drivers c
-    (record c {
-      binds = with_inserted bind_before c.binds
-          (record { driver = s.driver; addr = addr; minor = s.minor });
-    }))
-bind_drops drivers c s addr h e = idle_drops drivers c
-    (record c {
-      binds = with_inserted bind_before c.binds
-          (record { driver = s.driver; addr = addr; minor = s.minor });
-    })
-    (record {
-      links = h.links;
-      binds = all_placed _ bind_before c.binds _ e h.binds;
-      flow = h.flow;
-      fulls = h.fulls;
-      hungs = h.hungs;
-    }) refl
-
-unbind_drops : (drivers : List DriverSpec) (c : Configuration) (keep : Binding → Bool) → IsSwept drivers c
-    → DropsNone (done_outcome drivers c (record c { binds = filter keep c.binds }))
-unbind_drops drivers c keep h = idle_drops drivers c (record c { binds = filter keep c.binds })
-    (record {
-      links = h.links;
-      binds = all_filter _ keep c.binds h.binds;
-      flow = h.flow;
-      fulls = h.fulls;
-      hungs = h.hungs;
-    }) refl
-
-route_drops : (drivers : List DriverSpec) (c : Configuration) (routes : List Route) → IsSwept drivers c
-    → DropsNone (done_outcome drivers c (record c { routes = routes }))
-route_drops drivers c routes h = idle_drops drivers c (record c { routes = routes })
-    (record { links = h.links; binds = h.binds; flow = h.flow; fulls = h.fulls; hungs = h.hungs }) refl
-
 -- a hung-up stream that exists
 
 -- a configuration that is swept stays so when a stream that exists hangs up
@@ -130,22 +89,17 @@ hung_swept drivers c s h e = record {
   by true t = rw t h.hungs
   by false f = rw f (all_placed _ stream_before c.hungs s e h.hungs)
 
-hangup_drops : (drivers : List DriverSpec) (c : Configuration) (s : StreamId) → IsSwept drivers c
-    → exists drivers c s ≡ true → DropsNone (done_outcome drivers c (record c { hungs = with_hung s c.hungs }))
-hangup_drops drivers c s h e =
-    idle_drops drivers c (record c { hungs = with_hung s c.hungs }) (hung_swept drivers c s h e) refl
-
 -- each command that may not drop
 
 drops_accepted : (drivers : List DriverSpec) (c : Configuration) (process : ℕ) (k : Command) → may_drop k ≡ false
     → IsSwept drivers c → DropsNone (outcome drivers c process k)
 drops_accepted drivers c process k never h = search (
   of_rows,
-  bind_drops,
+  idle_drops,
+  all_placed,
+  all_filter,
+  hung_swept,
   mux_exists,
-  unbind_drops,
-  route_drops,
-  hangup_drops,
   leaf_exists,
   at_none,
   drops,

@@ -118,18 +118,6 @@ leads_kept goes (l ∷ ls) id driver e h = elim (cases_Bool (goes l)) [
 
 -- of each accepted outcome
 
--- links, routes and next id as they were
-routed_same : (drivers : List DriverSpec) (c d : Configuration) → AreRouted drivers c → d.links ≡ c.links
-    → d.routes ≡ c.routes → d.next_id ≡ c.next_id → AreRouted drivers d
-routed_same drivers c d h e f g =
-    record { rise = rw e h.rise; ids = rw (e, g) h.ids; start = rw g h.start; routes = rw (e, f) h.routes }
-
--- fewer routes
-routed_fewer : (drivers : List DriverSpec) (c : Configuration) (test : Route → Bool) → AreRouted drivers c
-    → AreRouted drivers (record c { routes = filter test c.routes })
-routed_fewer drivers c test h =
-    record { rise = h.rise; ids = h.ids; start = h.start; routes = each_filter _ test c.routes h.routes }
-
 routed_removed : (drivers : List DriverSpec) (c : Configuration) (goes : Link → Bool) → AreRouted drivers c
     → AreRouted drivers (without_links c goes)
 routed_removed drivers c goes h = record {
@@ -194,17 +182,8 @@ mux_is drivers c process fd s e =
 -- an accepted command keeps ids of links rising, and each route with a link of its own driver
 pub routed_accepted : (drivers : List DriverSpec) (c : Configuration) (process : ℕ) (k : Command) → AreRouted drivers c
     → IfAccepted (λ d r. AreRouted drivers d) (outcome drivers c process k)
-routed_accepted drivers c process k h = search (
-  of_rows,
-  routed_same,
-  routed_link,
-  routed_done,
-  routed_removed,
-  routed_route,
-  mux_is,
-  routed_fewer,
-  rules,
-) depth 24
+routed_accepted drivers c process k h = of_rows _ drivers c process k
+    (search (routed_link, routed_done, routed_removed, routed_route, mux_is, each_filter, rules) depth 24)
 
 -- a move keeps ids of links rising, and each route with a link of its own driver
 pub routed_moved : (drivers : List DriverSpec) (c : Configuration) (p : Place) → AreRouted drivers c

@@ -11,7 +11,8 @@ use Rattle.smx_model.specs.DriverList.{is_mux}
 use Rattle.smx_model.specs.Lookups.{driver_of, stream_of, free_stream, leaf_stream, live_leaf, live_stream}
 use Rattle.smx_model.specs.Outcomes.{Outcome}
 use Rattle.smx_model.specs.Paths.{HasNoCycle}
-use Rattle.smx_model.specs.Queues.{first_message, after_leaving, after_arrival, with_mark}
+use Rattle.smx_model.specs.Ordered.{without_first}
+use Rattle.smx_model.specs.Queues.{first_message, with_mark}
 use Rattle.smx_model.specs.Removal.{after_sweep}
 use Rattle.smx_model.specs.Settling.{after_move, after_move_to, next_open_place, next_place}
 use Rattle.smx_model.specs.Standing.{is_persistent, is_named, stands_within, exists, is_below, Stands}
@@ -155,32 +156,6 @@ all_marked : (t : Place → Bool) (p : Place) (b : Bool) (ps : List Place) → t
 all_marked t p true ps h e = all_placed t place_before _ p h (all_filter t _ ps e)
 all_marked t p false ps h e = all_filter t _ ps e
 
-swept_arrived : (drivers : List DriverSpec) (c : Configuration) (p : Place) (m : Message)
-    → exists drivers c p.stream ≡ true → IsSwept drivers c → IsSwept drivers (after_arrival drivers c p m)
-swept_arrived drivers c p m e h = record {
-  links = h.links;
-  binds = h.binds;
-  flow = all_placed _ queued_before c.flow (record { place = p; message = m }) e h.flow;
-  fulls = all_marked _ p _ c.fulls e h.fulls;
-  hungs = h.hungs;
-}
-
-swept_left : (drivers : List DriverSpec) (c : Configuration) (p : Place) → exists drivers c p.stream ≡ true
-    → IsSwept drivers c → IsSwept drivers (after_leaving drivers c p)
-swept_left drivers c p e h = record {
-  links = h.links;
-  binds = h.binds;
-  flow = all_without _ _ c.flow h.flow;
-  fulls = all_marked _ p _ c.fulls e h.fulls;
-  hungs = h.hungs;
-}
-
-swept_took : (drivers : List DriverSpec) (c : Configuration) (p : Place) (m : Message) (n : ℕ)
-    → exists drivers c p.stream ≡ true → IsSwept drivers c
-    → IsSwept drivers (record (after_arrival drivers c p m) { next_serial = n })
-swept_took drivers c p m n e h = let a = swept_arrived drivers c p m e h in
-    record { links = a.links; binds = a.binds; flow = a.flow; fulls = a.fulls; hungs = a.hungs }
-
 swept_done : (drivers : List DriverSpec) (c d : Configuration)
     → IfAccepted (λ d r. IsSwept drivers d) (done_outcome drivers c d)
 swept_done drivers c d = record { holds = swept_is drivers d }
@@ -188,19 +163,19 @@ swept_done drivers c d = record { holds = swept_is drivers d }
 -- an accepted command leaves a swept configuration swept
 pub swept_accepted : (drivers : List DriverSpec) (c : Configuration) (process : ℕ) (k : Command) → IsSwept drivers c
     → IfAccepted (λ d r. IsSwept drivers d) (outcome drivers c process k)
-swept_accepted drivers c process k h = search (
-  of_rows,
+swept_accepted drivers c process k h = of_rows _ drivers c process k (search (
   swept_fd,
   swept_link,
-  stream_exists,
   swept_done,
-  swept_took,
+  all_placed,
+  all_without,
+  all_marked,
+  stream_exists,
+  free_exists,
   live_exists,
   live_leaf_exists,
-  swept_left,
-  free_exists,
   rules,
-) depth 24
+) depth 24)
 
 -- a move goes to a stream that exists
 
@@ -277,9 +252,16 @@ swept_moved drivers c p h = by (next_open_place drivers c p) (first_message c.fl
   by : (o : Option Place) (m : Option Message) → next_open_place drivers c p ≡ o → first_message c.flow p ≡ m
       → IsSwept drivers (after_move_to drivers c p o m)
   by (Some q) (Some m) e f =
+      let here = front_exists (λ x. exists drivers c x.stream) c.flow p m f h.swept_.flow in
       let w = open_next drivers c p q e in
-      swept_arrived drivers (after_leaving drivers c p) q m (next_exists drivers c p.stream w.0.addr p.side q h w.2)
-      (swept_left drivers c p (front_exists (λ x. exists drivers c x.stream) c.flow p m f h.swept_.flow) h.swept_)
+      let there = next_exists drivers c p.stream w.0.addr p.side q h w.2 in record {
+        links = h.swept_.links;
+        binds = h.swept_.binds;
+        flow = all_placed _ queued_before (without_first (is_at p) c.flow) (record { place = q; message = m }) there
+            (all_without _ (is_at p) c.flow h.swept_.flow);
+        fulls = all_marked _ q _ _ there (all_marked _ p _ c.fulls here h.swept_.fulls);
+        hungs = h.swept_.hungs;
+      }
   by (Some q) None e f = h.swept_
   by None m e f = h.swept_
 
