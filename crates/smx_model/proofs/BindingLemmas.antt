@@ -47,14 +47,7 @@ loosed_fewer drivers c goes h =
       fewer = record c { binds = filter (λ b. not (goes b)) c.binds }
 
       idle : done_outcome drivers c fewer ≡ Ok (fewer, reply.Done [])
-      idle = done_idle drivers c fewer
-          (record {
-            links = h.links;
-            binds = all_filter _ _ c.binds h.binds;
-            flow = h.flow;
-            fulls = h.fulls;
-            hungs = h.hungs;
-          }) refl
+      idle = done_idle drivers c fewer (search (all_filter, rules)) refl
 
 -- unbind takes away the bindings of its stream, and leaves all others
 pub unbind_looses : (drivers : List DriverSpec) (c : Configuration) (process fd : ℕ) (s : StreamId) → IsSwept drivers c
