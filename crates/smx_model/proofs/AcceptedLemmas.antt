@@ -111,7 +111,8 @@ pub record OfRows (P : Configuration → Reply → Type 0) (drivers : List Drive
       → leaf_stream drivers c name minor ≡ Ok s
       → IfAccepted P (done_outcome drivers c (record c { hungs = with_hung s c.hungs }))
 
-unlinked : (P : Configuration → Reply → Type 0) (drivers : List DriverSpec) (c : Configuration) (w : Which)
+-- P holds of an unlinking, if it holds once links are removed and swept, whichever these are
+pub unlinked : (P : Configuration → Reply → Type 0) (drivers : List DriverSpec) (c : Configuration) (w : Which)
     (mine : Link → Bool) → ((goes : Link → Bool) → IfAccepted P (done_outcome drivers c (without_links c goes)))
     → IfAccepted P (unlink_outcome drivers c w mine)
 unlinked P drivers c which.All mine h = h mine

@@ -7,8 +7,6 @@ use Rattle.std.specs.List.{list_any}
 use Rattle.std.proofs.lemmas.Bool.{both_ways, cases_Bool, and_parts, false≢true}
 use Rattle.smx_types.specs.declared.command.Command.{Command}
 use Rattle.smx_types.specs.declared.command.Command.TheVariants as command
-use Rattle.smx_types.specs.declared.command.Which.{Which}
-use Rattle.smx_types.specs.declared.command.Which.TheVariants as which
 use Rattle.smx_types.specs.declared.driver.DriverSpec.{DriverSpec}
 use Rattle.smx_types.specs.declared.link.Link.{Link}
 use Rattle.smx_types.specs.declared.link.LinkKind.{LinkKind}
@@ -17,7 +15,7 @@ use Rattle.smx_types.specs.declared.reply.Fault.{Fault}
 use Rattle.smx_types.specs.declared.stream.Descriptor.{Descriptor}
 use Rattle.smx_types.specs.declared.stream.Place.{Place}
 use Rattle.smx_types.specs.declared.stream.StreamId.{StreamId}
-use Rattle.smx_model.specs.Commands.{outcome, done_outcome, link_outcome, unlink_outcome, send_outcome, receive_outcome}
+use Rattle.smx_model.specs.Commands.{outcome, done_outcome, link_outcome, send_outcome, receive_outcome}
 use Rattle.smx_model.specs.Commands.{with_fd}
 use Rattle.smx_model.specs.Configuration.{Configuration, QueuedMessage, same_place}
 use Rattle.smx_model.specs.FreedPlaces.{FreesOnly, freed_by, is_empty_at, is_side_of}
@@ -31,6 +29,7 @@ use Rattle.smx_model.specs.Swept.{IsSwept}
 use Rattle.smx_model.specs.TurnedPlaces.{of_stream, read_side, write_side}
 use Rattle.smx_model.proofs.DropLemmas.{mux_exists, hung_swept}
 use Rattle.smx_model.proofs.IdleSweepLemmas.{swept_idle}
+use Rattle.smx_model.proofs.AcceptedLemmas.{unlinked}
 use Rattle.smx_model.proofs.OutcomeLemmas.{IfAccepted, at_ok, after_ok, after_test, after_some, after_choice}
 use Rattle.smx_model.proofs.QueueLemmas.{emptied_full, emptied_queue, front_is}
 use Rattle.smx_model.proofs.TestLemmas.{all_filter, all_placed}
@@ -160,11 +159,6 @@ frees_removed drivers c goes = record {
       (swept_keeps drivers (without_links c goes)));
 }
 
-frees_unlinked : (drivers : List DriverSpec) (c : Configuration) (w : Which) (mine : Link → Bool)
-    → IfAccepted (λ d r. FreesOnly c d (is_empty_at d)) (unlink_outcome drivers c w mine)
-frees_unlinked drivers c which.All mine = frees_removed drivers c mine
-frees_unlinked drivers c (which.Id id) mine = search (after_test, frees_removed, rules) depth 12
-
 frees_with_fd : (drivers : List DriverSpec) (c : Configuration) (process fd : ℕ) (s : StreamId)
     → FreesOnly c (with_fd c process fd s) nowhere
 frees_with_fd drivers c process fd s = same_frees c (with_fd c process fd s) nowhere refl
@@ -209,8 +203,8 @@ frees drivers c process (command.Close fd) h = search (after_ok, frees_closed, r
 frees drivers c process command.CloseAll h = frees_closed drivers c _
 frees drivers c process (command.Link fd arg) h = search (frees_linked, rules) depth 20
 frees drivers c process (command.Plink fd arg) h = search (frees_linked, rules) depth 20
-frees drivers c process (command.Unlink fd w) h = search (after_ok, frees_unlinked, rules) depth 20
-frees drivers c process (command.Punlink fd w) h = search (after_ok, frees_unlinked, rules) depth 20
+frees drivers c process (command.Unlink fd w) h = search (after_ok, unlinked, frees_removed, rules) depth 20
+frees drivers c process (command.Punlink fd w) h = search (after_ok, unlinked, frees_removed, rules) depth 20
 frees drivers c process (command.Bind fd addr) h =
     search (after_test, after_ok, frees_still, all_placed, mux_exists, rules) depth 20
 frees drivers c process (command.Unbind fd) h =

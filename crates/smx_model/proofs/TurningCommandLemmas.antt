@@ -7,11 +7,8 @@ use Rattle.std.proofs.lemmas.Bool.{cases_Bool, and_parts, or_cases, false_from_n
 use Rattle.std.proofs.lemmas.Bool.{ltb-true, not-true}
 use Rattle.smx_types.specs.declared.command.Command.{Command}
 use Rattle.smx_types.specs.declared.command.Command.TheVariants as command
-use Rattle.smx_types.specs.declared.command.Which.{Which}
-use Rattle.smx_types.specs.declared.command.Which.TheVariants as which
 use Rattle.smx_types.specs.declared.driver.DriverSpec.{DriverSpec}
 use Rattle.smx_types.specs.declared.link.Binding.{Binding}
-use Rattle.smx_types.specs.declared.link.Link.{Link}
 use Rattle.smx_types.specs.declared.link.LinkKind.{LinkKind}
 use Rattle.smx_types.specs.declared.link.LinkKind.TheVariants as kind
 use Rattle.smx_types.specs.declared.link.Route.{Route}
@@ -20,7 +17,7 @@ use Rattle.smx_types.specs.declared.reply.Fault.{Fault}
 use Rattle.smx_types.specs.declared.stream.Descriptor.{Descriptor}
 use Rattle.smx_types.specs.declared.stream.Place.{Place}
 use Rattle.smx_types.specs.declared.stream.StreamId.{StreamId}
-use Rattle.smx_model.specs.Commands.{outcome, done_outcome, link_outcome, unlink_outcome, send_outcome, receive_outcome}
+use Rattle.smx_model.specs.Commands.{outcome, done_outcome, link_outcome, send_outcome, receive_outcome}
 use Rattle.smx_model.specs.Commands.{with_fd}
 use Rattle.smx_model.specs.Configuration.{Configuration, same_place, pair_before, bind_before, route_before}
 use Rattle.smx_model.specs.Configuration.{same_stream, stream_before}
@@ -29,15 +26,16 @@ use Rattle.smx_model.specs.Lookups.{stream_of, free_stream, mux_stream, live_str
 use Rattle.smx_model.specs.Ordered.{with_inserted, IsRising, ComesBefore}
 use Rattle.smx_model.specs.Outcomes.{Outcome, ◌>>=◌}
 use Rattle.smx_model.specs.Queues.{after_arrival}
-use Rattle.smx_model.specs.Removal.{without_queues_at, without_links, after_sweep}
+use Rattle.smx_model.specs.Removal.{after_sweep}
 use Rattle.smx_model.proofs.EachLemmas.{Each, none_passes, kept_passes, each_map, each_of_all}
+use Rattle.smx_model.proofs.AcceptedLemmas.{unlinked}
 use Rattle.smx_model.proofs.OutcomeLemmas.{IfAccepted, at_ok, after_ok, after_test, after_some, after_choice}
 use Rattle.smx_model.specs.RunMarks.{asks_down, asks_up, nowhere, is_first_at, TurnsOnly}
 use Rattle.smx_model.specs.TurnedPlaces.{of_stream, read_side, write_side, turned_by}
 use Rattle.smx_model.proofs.TurningLemmas.{Apart, apart_filter, next_of_others, bound, routed, binds_find, fewer_turns}
 use Rattle.smx_model.proofs.TurningLemmas.{keyed_removed, routes_find, turns_arrived, turns_bound, turns_emptied}
 use Rattle.smx_model.proofs.TurningLemmas.{turns_left, turns_linked, turns_removed, turns_routed, turns_swept}
-use Rattle.smx_model.proofs.TurningLemmas.{turns_then, other, IsKeyed, AreRooted, rooted_filter}
+use Rattle.smx_model.proofs.TurningLemmas.{turns_then, other, same_finds, IsKeyed, AreRooted, rooted_filter}
 use Rattle.smx_model.specs.Hangups.{is_hung, with_hung}
 use Rattle.smx_model.proofs.TestLemmas.{any_placed}
 use Rattle.smx_model.specs.KnownStreams.{IsKnown}
@@ -166,62 +164,28 @@ turns_received : (drivers : List DriverSpec) (c : Configuration) (p : Place)
     → IfAccepted (λ d r. TurnsOnly drivers c d (same_place p)) (receive_outcome drivers c p)
 turns_received drivers c p = search (after_some, at_ok, turns_left, rules) depth 12
 
+-- where nothing is turned before the sweep
+turns_still : (drivers : List DriverSpec) (c new : Configuration) → TurnsOnly drivers c new nowhere → IsKeyed new
+    → AreRooted drivers new.links → IfAccepted (λ d r. TurnsOnly drivers c d nowhere) (done_outcome drivers c new)
+turns_still drivers c new h k x = turns_done drivers c new nowhere h k x
+
 turns_with_fd : (drivers : List DriverSpec) (c : Configuration) (process fd : ℕ) (s : StreamId)
     → TurnsOnly drivers c (with_fd c process fd s) nowhere
 turns_with_fd drivers c process fd s = next_of_others drivers c (with_fd c process fd s) refl refl refl refl refl
 
-turns_closed : (drivers : List DriverSpec) (c : Configuration) (fds : List Descriptor) → IsKeyed c
-    → AreRooted drivers c.links
-    → IfAccepted (λ d r. TurnsOnly drivers c d nowhere) (done_outcome drivers c (record c { fds = fds }))
-turns_closed drivers c fds k x = turns_done drivers c (record c { fds = fds }) nowhere
-    (next_of_others drivers c (record c { fds = fds }) refl refl refl refl refl)
-    (record { routes = k.routes; ids = k.ids; lowers = k.lowers; binds = k.binds }) x
-
-turns_gone : (drivers : List DriverSpec) (c : Configuration) (mine : Link → Bool) → IsKeyed c
-    → AreRooted drivers c.links
-    → IfAccepted (λ d r. TurnsOnly drivers c d nowhere) (done_outcome drivers c (without_links c mine))
-turns_gone drivers c mine k x = turns_done drivers c (without_links c mine) nowhere (turns_removed drivers c mine k)
-    (keyed_removed c mine k) (rooted_filter drivers c.links (λ l. not (mine l)) x)
-
-turns_unlinked : (drivers : List DriverSpec) (c : Configuration) (w : Which) (mine : Link → Bool) → IsKeyed c
-    → AreRooted drivers c.links → IfAccepted (λ d r. TurnsOnly drivers c d nowhere) (unlink_outcome drivers c w mine)
-turns_unlinked drivers c which.All mine k x = turns_gone drivers c mine k x
-turns_unlinked drivers c (which.Id id) mine k x =
-    search (after_test, turns_gone drivers c (λ l. eqb l.id id && mine l) k x, rules) depth 12
+turns_closed : (drivers : List DriverSpec) (c : Configuration) (fds : List Descriptor)
+    → TurnsOnly drivers c (record c { fds = fds }) nowhere
+turns_closed drivers c fds = next_of_others drivers c (record c { fds = fds }) refl refl refl refl refl
 
 turns_unbound : (drivers : List DriverSpec) (c : Configuration) (keep : Binding → Bool) → IsKeyed c
-    → AreRooted drivers c.links → IfAccepted (λ d r. TurnsOnly drivers c d nowhere)
-    (done_outcome drivers c (record c { binds = filter keep c.binds }))
-turns_unbound drivers c keep k x = turns_done drivers c (record c { binds = filter keep c.binds }) nowhere
-    (fewer_turns drivers c (record c { binds = filter keep c.binds })
-    (record {
-      routes = λ d a. inl refl;
-      ids = λ i. inl refl;
-      lowers = λ x. inl refl;
-      binds = λ d a. binds_find keep c d a k;
-      hungs = λ i l e h. h;
-    }) (λ r. inl refl))
-    (record { routes = k.routes; ids = k.ids; lowers = k.lowers; binds = apart_filter _ keep c.binds k.binds }) x
+    → TurnsOnly drivers c (record c { binds = filter keep c.binds }) nowhere
+turns_unbound drivers c keep k = fewer_turns drivers c (record c { binds = filter keep c.binds })
+    (search (binds_find, same_finds, rules)) (λ r. inl refl)
 
 turns_unrouted : (drivers : List DriverSpec) (c : Configuration) (keep : Route → Bool) → IsKeyed c
-    → AreRooted drivers c.links → IfAccepted (λ d r. TurnsOnly drivers c d nowhere)
-    (done_outcome drivers c (record c { routes = filter keep c.routes }))
-turns_unrouted drivers c keep k x = turns_done drivers c (record c { routes = filter keep c.routes }) nowhere
-    (fewer_turns drivers c (record c { routes = filter keep c.routes })
-    (record {
-      routes = λ d a. routes_find keep c d a k;
-      ids = λ i. inl refl;
-      lowers = λ x. inl refl;
-      binds = λ d a. inl refl;
-      hungs = λ i l e h. h;
-    }) (λ r. inl refl))
-    (record { routes = apart_filter _ keep c.routes k.routes; ids = k.ids; lowers = k.lowers; binds = k.binds }) x
-
-turns_flushed : (drivers : List DriverSpec) (c : Configuration) (goes : Place → Bool) → IsKeyed c
-    → AreRooted drivers c.links
-    → IfAccepted (λ d r. TurnsOnly drivers c d nowhere) (done_outcome drivers c (without_queues_at c goes))
-turns_flushed drivers c goes k x = turns_done drivers c (without_queues_at c goes) nowhere
-    (turns_emptied drivers c goes) (record { routes = k.routes; ids = k.ids; lowers = k.lowers; binds = k.binds }) x
+    → TurnsOnly drivers c (record c { routes = filter keep c.routes }) nowhere
+turns_unrouted drivers c keep k = fewer_turns drivers c (record c { routes = filter keep c.routes })
+    (search (routes_find, same_finds, rules)) (λ r. inl refl)
 
 turns_route : (drivers : List DriverSpec) (c : Configuration) (driver addr id : ℕ) → IsKeyed c
     → AreRooted drivers c.links → IfAccepted (λ d r. TurnsOnly drivers c d (asks_down c driver addr))
@@ -246,20 +210,7 @@ hung_more s t hungs h = elim (cases_Bool (is_hung hungs s))
 pub more_hung_turn_none : (drivers : List DriverSpec) (c : Configuration) (s : StreamId)
     → TurnsOnly drivers c (record c { hungs = with_hung s c.hungs }) nowhere
 more_hung_turn_none drivers c s = fewer_turns drivers c (record c { hungs = with_hung s c.hungs })
-    (record {
-      routes = λ d a. inl refl;
-      ids = λ i. inl refl;
-      lowers = λ x. inl refl;
-      binds = λ d a. inl refl;
-      hungs = λ i l e h. hung_more s l.lower c.hungs h;
-    }) (λ r. inl refl)
-
-turns_hangup : (drivers : List DriverSpec) (c : Configuration) (s : StreamId) → IsKeyed c → AreRooted drivers c.links
-    → IfAccepted (λ d r. TurnsOnly drivers c d nowhere)
-    (done_outcome drivers c (record c { hungs = with_hung s c.hungs }))
-turns_hangup drivers c s k x =
-    turns_done drivers c (record c { hungs = with_hung s c.hungs }) nowhere (more_hung_turn_none drivers c s)
-    (record { routes = k.routes; ids = k.ids; lowers = k.lowers; binds = k.binds }) x
+    (search (hung_more, same_finds, rules)) (λ r. inl refl)
 
 -- what changes nothing turns none
 turns_none : (drivers : List DriverSpec) (c : Configuration) (t : Place → Bool) → TurnsOnly drivers c c t
@@ -303,15 +254,15 @@ turns drivers c process (command.OpenMinor name minor) h =
     search (after_test, after_ok, at_ok, turns_with_fd, rules) depth 20
 turns drivers c process (command.Dup fd) h = search (after_ok, at_ok, turns_with_fd, rules) depth 20
 turns drivers c process (command.Close fd) h =
-    let k = keyed drivers c h in let x = rooted drivers c h in search (after_ok, turns_closed, rules) depth 20
+    let k = keyed drivers c h in let x = rooted drivers c h in search (after_ok, turns_still, turns_closed, rules) depth 20
 turns drivers c process command.CloseAll h =
-    turns_closed drivers c (filter (λ d. not (eqb d.process process)) c.fds) (keyed drivers c h) (rooted drivers c h)
+    let k = keyed drivers c h in let x = rooted drivers c h in search (turns_still, turns_closed, rules) depth 20
 turns drivers c process (command.Link fd arg) h = turns_link drivers c process fd arg kind.Ordinary h
 turns drivers c process (command.Plink fd arg) h = turns_link drivers c process fd arg kind.Persistent h
-turns drivers c process (command.Unlink fd w) h =
-    let k = keyed drivers c h in let x = rooted drivers c h in search (after_ok, turns_unlinked, rules) depth 20
-turns drivers c process (command.Punlink fd w) h =
-    let k = keyed drivers c h in let x = rooted drivers c h in search (after_ok, turns_unlinked, rules) depth 20
+turns drivers c process (command.Unlink fd w) h = let k = keyed drivers c h in let x = rooted drivers c h in
+    search (after_ok, unlinked, turns_still, turns_removed, keyed_removed, rooted_filter, rules) depth 20
+turns drivers c process (command.Punlink fd w) h = let k = keyed drivers c h in let x = rooted drivers c h in
+    search (after_ok, unlinked, turns_still, turns_removed, keyed_removed, rooted_filter, rules) depth 20
 turns drivers c process (command.Bind fd addr) h = let k = keyed drivers c h in let x = rooted drivers c h in
     search (
       at_stream drivers c (mux_stream drivers c process fd) (λ s. asks_up c s.driver addr),
@@ -320,7 +271,7 @@ turns drivers c process (command.Bind fd addr) h = let k = keyed drivers c h in 
       rules,
     ) depth 20
 turns drivers c process (command.Unbind fd) h = let k = keyed drivers c h in let x = rooted drivers c h in
-    search (after_test, after_ok, turns_unbound, rules) depth 20
+    search (after_test, after_ok, turns_still, turns_unbound, apart_filter, rules) depth 20
 turns drivers c process (command.Route fd addr id) h = let k = keyed drivers c h in let x = rooted drivers c h in
     search (
       at_stream drivers c (mux_stream drivers c process fd) (λ s. asks_down c s.driver addr),
@@ -329,7 +280,7 @@ turns drivers c process (command.Route fd addr id) h = let k = keyed drivers c h
       rules,
     ) depth 20
 turns drivers c process (command.Unroute fd addr) h = let k = keyed drivers c h in let x = rooted drivers c h in
-    search (after_test, after_ok, turns_unrouted, rules) depth 20
+    search (after_test, after_ok, turns_still, turns_unrouted, apart_filter, rules) depth 20
 turns drivers c process (command.Write fd addr bytes) h = search
     (at_stream drivers c (live_stream c process fd) (λ s. is_first_at c (write_side s)), turns_sent, rules) depth 20
 turns drivers c process (command.Read fd) h = search (
@@ -340,16 +291,16 @@ turns drivers c process (command.Read fd) h = search (
   turns_received,
   rules,
 ) depth 20
-turns drivers c process (command.Flush fd w) h =
-    let k = keyed drivers c h in let x = rooted drivers c h in search (after_ok, turns_flushed, rules) depth 20
+turns drivers c process (command.Flush fd w) h = let k = keyed drivers c h in let x = rooted drivers c h in
+    search (after_ok, turns_still, turns_emptied, rules) depth 20
 turns drivers c process (command.Inject name minor addr bytes) h = search
     (at_stream drivers c (live_leaf drivers c name minor) (λ s. is_first_at c (read_side s)), turns_sent, rules) depth
     20
 turns drivers c process (command.Transmit name minor) h = search
     (at_stream drivers c (live_leaf drivers c name minor) (λ s. same_place (write_side s)), turns_received, rules) depth
     20
-turns drivers c process (command.Hangup name minor) h =
-    let k = keyed drivers c h in let x = rooted drivers c h in search (after_ok, turns_hangup, rules) depth 20
+turns drivers c process (command.Hangup name minor) h = let k = keyed drivers c h in let x = rooted drivers c h in
+    search (after_ok, turns_still, more_hung_turn_none, rules) depth 20
 
 -- what `IfAccepted` says of the configuration of an accepted outcome, `IfOk` says of it too
 pub if_ok : (P : Configuration → Type 0) (o : Outcome) → IfAccepted (λ d r. P d) o → IfOk o (λ x. P x.0)

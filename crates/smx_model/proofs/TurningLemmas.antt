@@ -1,6 +1,6 @@
 -- Which changes turn which places.
 use Rattle.std.proofs.Common.{◌≡◌, ℕ, Bool, true, false, ◌&&◌, not, eqb, List, [], ◌∷◌, ◌++◌, filter, find, Option}
-use Rattle.std.proofs.Common.{Some, None, refl, sym, ap, ◌∙◌, subst, inl, inr, ◌<◌, length}
+use Rattle.std.proofs.Common.{Some, None, refl, sym, ap, ◌∙◌, subst, inl, inr, rules, ◌<◌, length}
 use mathlib.Core.Logic.{◌⊎◌}
 use Rattle.std.specs.Prelude.{slice_get}
 use Rattle.std.specs.List.{list_any}
@@ -93,6 +93,10 @@ stays_by drivers c d p addr h =
 -- a search finds the same as before, or nothing
 abbrev pub Finds : {X : Type 0} → Option X → Option X → Type 0
 Finds {X} o n = (n ≡ o) ⊎ (n ≡ None)
+
+-- what finds as before finds so
+pub same_finds : {X : Type 0} (o : Option X) → Finds o o
+same_finds o = inl refl
 
 -- no element is related to a later one but so
 abbrev pub Apart : {X : Type 0} → (X → X → Type 0) → List X → Type 0
@@ -255,26 +259,14 @@ first_emptied flow goes r = elim (cases_Bool (goes r)) [
 -- places that are emptied turn none
 pub turns_emptied : (drivers : List DriverSpec) (c : Configuration) (goes : Place → Bool)
     → TurnsOnly drivers c (without_queues_at c goes) nowhere
-turns_emptied drivers c goes = fewer_turns drivers c (without_queues_at c goes)
-    (record {
-      routes = λ d a. inl refl;
-      ids = λ i. inl refl;
-      lowers = λ s. inl refl;
-      binds = λ d a. inl refl;
-      hungs = λ i l e k. k;
-    }) (first_emptied c.flow goes)
+turns_emptied drivers c goes = fewer_turns drivers c (without_queues_at c goes) (search (same_finds, rules))
+    (first_emptied c.flow goes)
 
 -- links that are removed, with their routes and their lower streams' read sides, turn no place
 pub turns_removed : (drivers : List DriverSpec) (c : Configuration) (goes : Link → Bool) → IsKeyed c
     → TurnsOnly drivers c (without_links c goes) nowhere
 turns_removed drivers c goes h = fewer_turns drivers c (without_links c goes)
-    (record {
-      routes = λ d a. routes_find _ c d a h;
-      ids = λ i. ids_find _ c i h;
-      lowers = λ s. lowers_find _ c s h;
-      binds = λ d a. inl refl;
-      hungs = λ i l e k. k;
-    }) (first_emptied c.flow _)
+    (search (routes_find, ids_find, lowers_find, same_finds, rules)) (first_emptied c.flow _)
 
 abbrev stream_of_parts : ℕ → ℕ → StreamId
 stream_of_parts driver minor = record { driver = driver; minor = minor }
