@@ -7,7 +7,6 @@ use Rattle.std.proofs.lemmas.Bool.{cases_eq, cases_lt, eq-eqb, ltb-true, ne_eqb}
 use Rattle.smx_types.specs.declared.command.Command.{Command}
 use Rattle.smx_types.specs.declared.command.Entry.{Entry}
 use Rattle.smx_types.specs.declared.driver.DriverSpec.{DriverSpec}
-use Rattle.smx_types.specs.declared.link.Link.{Link}
 use Rattle.smx_model.specs.Commands.{outcome, step, after_outcome}
 use Rattle.smx_model.specs.Configuration.{Configuration, empty}
 use Rattle.smx_model.specs.DriverList.{IsDriverList}
@@ -15,7 +14,6 @@ use Rattle.smx_model.specs.FlowOrder.{IsInOrder}
 use Rattle.smx_model.specs.Histories.{after, after_from}
 use Rattle.smx_model.specs.KeptConfigurations.{IsKept, IsSound}
 use Rattle.smx_model.specs.KnownStreams.{AreStreamsKnown, IsKnown}
-use Rattle.smx_model.specs.Ordered.{ComesBefore, IsRising}
 use Rattle.smx_model.specs.Outcomes.{Outcome}
 use Rattle.smx_model.specs.Removal.{serials}
 use Rattle.smx_model.specs.Settling.{after_move, after_settling}
@@ -31,7 +29,7 @@ use Rattle.smx_model.proofs.FlowLemmas.{order_accepted, order_moved}
 use Rattle.smx_model.proofs.OutcomeLemmas.{IfAccepted}
 use Rattle.smx_model.proofs.RangeLemmas.{AreNamed, named_accepted, named_moved}
 use Rattle.smx_model.proofs.RisingLemmas.{AreRising, rising_accepted, rising_empty, rising_moved}
-use Rattle.smx_model.proofs.RouteLemmas.{AreRouted, Rising, rising_ids, routed_accepted, routed_empty, routed_moved}
+use Rattle.smx_model.proofs.RouteLemmas.{AreRouted, rising_ids, routed_accepted, routed_empty, routed_moved}
 use Rattle.smx_model.proofs.RouteLemmas.{sound_routes}
 use Rattle.smx_model.proofs.SettlingLemmas.{settled_is}
 use Rattle.smx_model.proofs.SoundLemmas.{sound_accepted, sound_empty, sound_moved}
@@ -39,7 +37,8 @@ use Rattle.smx_model.proofs.SweptLemmas.{stands_exists, swept_accepted, swept_mo
 use Rattle.smx_model.proofs.ViewLemmas.{EachKnown, each_known, known_of_each, one_configuration}
 use Rattle.smx_types.specs.declared.stream.Place.{Place}
 use Rattle.smx_types.specs.declared.stream.StreamId.{StreamId}
-use Rattle.smx_model.proofs.EachLemmas.{Each, each_map, each_of_all}
+use Rattle.smx_model.proofs.EachLemmas.{apart_rising, each_both}
+use Rattle.smx_model.proofs.EachLemmas.{each_map, each_of_all}
 
 -- a number that is in a list is there at least once
 
@@ -102,37 +101,17 @@ all_below xs next h k d lt = elim (cases_lt (get_or xs k d) next)
 named_of : (drivers : List DriverSpec) (c : Configuration) → AreStreamsKnown drivers c → AreNamed drivers c
 named_of drivers c h = record {
   fds = each_of_all _ c.fds h.fds;
-  links = both c.links (each_of_all _ c.links h.controlling) (each_of_all _ c.links h.lowers);
-} where
-  both : (ls : List Link) → Each (λ l. IsKnown drivers l.ctl) ls → Each (λ l. IsKnown drivers l.lower) ls
-      → Each (λ l. IsKnown drivers l.ctl × IsKnown drivers l.lower) ls
-  both [] h k = tt
-  both (l ∷ ls) h k = ((h.0, k.0), both ls h.1 k.1)
+  links = each_both _ _ c.links (each_of_all _ c.links h.controlling) (each_of_all _ c.links h.lowers);
+}
 
 routed_of : (drivers : List DriverSpec) (c : Configuration) → AreIdsRising c.links c.next_id → AreRoutesSound drivers c
     → AreRouted drivers c
 routed_of drivers c h k = record {
-  rise = rises c.links h.rise;
-  ids = both c.links (each_of_all _ c.links h.from_one) (each_of_all _ c.links h.below_next);
+  rise = apart_rising _ (λ l k. ltb l.id k.id) (λ l k. ltb-true l.id k.id) c.links h.rise;
+  ids = each_both _ _ c.links (each_of_all _ c.links h.from_one) (each_of_all _ c.links h.below_next);
   start = h.next;
-  routes = pairs _ _ c.routes (each_of_all _ c.routes k.mux) (each_of_all _ c.routes k.lead);
-} where
-  befores : (l : Link) (ls : List Link) → ComesBefore (λ l k. ltb l.id k.id) l ls → Each (λ k. l.id < k.id) ls
-  befores l [] h = tt
-  befores l (k ∷ ls) h = (ltb-true l.id k.id h.0, befores l ls h.1)
-
-  rises : (ls : List Link) → IsRising (λ l k. ltb l.id k.id) ls → Rising ls
-  rises [] h = tt
-  rises (l ∷ ls) h = (befores l ls h.0, rises ls h.1)
-
-  both : (ls : List Link) → Each (λ l. 1 ≤ l.id) ls → Each (λ l. l.id < c.next_id) ls
-      → Each (λ l. (1 ≤ l.id) × (l.id < c.next_id)) ls
-  both [] h k = tt
-  both (l ∷ ls) h k = ((h.0, k.0), both ls h.1 k.1)
-
-  pairs : {X : Type 0} (P Q : X → Type 0) (xs : List X) → Each P xs → Each Q xs → Each (λ x. P x × Q x) xs
-  pairs P Q [] h k = tt
-  pairs P Q (x ∷ xs) h k = ((h.0, k.0), pairs P Q xs h.1 k.1)
+  routes = each_both _ _ c.routes (each_of_all _ c.routes k.mux) (each_of_all _ c.routes k.lead);
+}
 
 -- all that is kept, as the lemmas take it
 record Parts (drivers : List DriverSpec) (c : Configuration) : Type 0 where

@@ -23,7 +23,7 @@ use Rattle.smx_model.proofs.SettledLemmas.{moved_by}
 use Rattle.smx_model.proofs.AcceptedLemmas.{of_rows}
 use Rattle.smx_model.proofs.LookupLemmas.{descriptor_of, there_is}
 use Rattle.smx_model.proofs.OutcomeLemmas.{IfAccepted}
-use Rattle.smx_model.proofs.EachLemmas.{Each, each_filter, each_placed, each_push, each_find}
+use Rattle.smx_model.proofs.EachLemmas.{Each, each_filter, each_placed, each_push, each_find, each_map}
 
 -- each descriptor has a stream, and each link a controlling and a lower one, that the drivers have
 pub record AreNamed (drivers : List DriverSpec) (c : Configuration) : Type 0 where
@@ -34,8 +34,7 @@ pub record AreNamed (drivers : List DriverSpec) (c : Configuration) : Type 0 whe
 pub links_below : (drivers : List DriverSpec) (links : List Link)
     → Each (λ l. IsKnown drivers l.ctl × IsKnown drivers l.lower) links
     → Each (λ l. (l.ctl.driver < length drivers) × (l.lower.driver < length drivers)) links
-links_below drivers [] h = tt
-links_below drivers (l ∷ ls) h = ((h.0.0.0, h.0.1.0), links_below drivers ls h.1)
+links_below drivers links h = each_map _ _ links (λ l p. (p.0.0, p.1.0)) h
 
 position_below : (drivers : List DriverSpec) (test : DriverSpec → Bool) (k : ℕ) → position test drivers ≡ Some k
     → k < length drivers

@@ -24,12 +24,11 @@ use Rattle.smx_model.proofs.SettledLemmas.{moved_by}
 use Rattle.smx_model.proofs.AcceptedLemmas.{of_rows}
 use Rattle.smx_model.proofs.LookupLemmas.{tested}
 use Rattle.smx_model.proofs.OutcomeLemmas.{IfAccepted}
-use Rattle.smx_model.proofs.EachLemmas.{Each, each_filter, each_placed, each_push, each_map, all_of_each}
+use Rattle.smx_model.proofs.EachLemmas.{Apart, apart_filter, Each, each_filter, each_placed, each_push, each_map, all_of_each}
 
 -- each id is below those of the later links
 abbrev pub Rising : List Link → Type 0
-Rising [] = Unit {0}
-Rising (l ∷ ls) = Each (λ k. l.id < k.id) ls × Rising ls
+Rising links = Apart (λ l k. l.id < k.id) links
 
 -- the id is that of a link with this upper driver
 abbrev pub leads_from : List Link → ℕ → ℕ → Bool
@@ -81,11 +80,6 @@ routes_lead drivers c h = each_map _ _ c.routes (λ r p. one_driver c.links r.id
 
 -- the lists as they change
 
-rising_filter : (test : Link → Bool) (ls : List Link) → Rising ls → Rising (filter test ls)
-rising_filter test [] h = tt
-rising_filter test (l ∷ ls) h = elim (cases_Bool (test l))
-    [ inl t ↦ rw t (each_filter _ test ls h.0, rising_filter test ls h.1) | inr f ↦ rw f (rising_filter test ls h.1) ]
-
 rising_push : (ls : List Link) (l : Link) → Each (λ k. k.id < l.id) ls → Rising ls → Rising (ls ++ l ∷ [])
 rising_push [] l h r = (tt, tt)
 rising_push (k ∷ ls) l h r = (each_push _ ls l h.0 r.0, rising_push ls l h.1 r.1)
@@ -121,7 +115,7 @@ leads_kept goes (l ∷ ls) id driver e h = elim (cases_Bool (goes l)) [
 routed_removed : (drivers : List DriverSpec) (c : Configuration) (goes : Link → Bool) → AreRouted drivers c
     → AreRouted drivers (without_links c goes)
 routed_removed drivers c goes h = record {
-  rise = rising_filter _ c.links h.rise;
+  rise = apart_filter _ _ c.links h.rise;
   ids = each_filter _ _ c.links h.ids;
   start = h.start;
   routes = kept c.routes h.routes;

@@ -1,8 +1,8 @@
 -- Which places the commands turn.
-use Rattle.std.proofs.Common.{◌≡◌, ℕ, suc, ◌<◌, ◌+◌, Bool, true, false, ◌&&◌, ◌||◌, not, eqb, List, [], ◌∷◌, ◌++◌}
-use Rattle.std.proofs.Common.{length, get_or, filter, Result, Ok, Err, refl, rules, inl, inr, arith}
+use Rattle.std.proofs.Common.{◌≡◌, ℕ, ◌+◌, Bool, true, false, ◌&&◌, ◌||◌, not, eqb, List, [], ◌∷◌, ◌++◌}
+use Rattle.std.proofs.Common.{filter, Result, Ok, Err, refl, rules, inl, inr, arith}
 use Rattle.std.specs.Prelude.{nat_lt, IfOk}
-use Rattle.std.specs.List.{list_any, AllPairs}
+use Rattle.std.specs.List.{list_any}
 use Rattle.std.proofs.lemmas.Bool.{cases_Bool, and_parts, or_cases, false_from_ne_true, eqb-true}
 use Rattle.std.proofs.lemmas.Bool.{ltb-true, not-true}
 use Rattle.smx_types.specs.declared.command.Command.{Command}
@@ -23,16 +23,17 @@ use Rattle.smx_model.specs.Configuration.{Configuration, same_place, pair_before
 use Rattle.smx_model.specs.Configuration.{same_stream, stream_before}
 use Rattle.smx_model.specs.KeptConfigurations.{IsSound}
 use Rattle.smx_model.specs.Lookups.{stream_of, free_stream, mux_stream, live_stream, live_leaf}
-use Rattle.smx_model.specs.Ordered.{with_inserted, IsRising, ComesBefore}
+use Rattle.smx_model.specs.Ordered.{with_inserted}
 use Rattle.smx_model.specs.Outcomes.{Outcome, ◌>>=◌}
 use Rattle.smx_model.specs.Queues.{after_arrival}
 use Rattle.smx_model.specs.Removal.{after_sweep}
+use Rattle.smx_model.proofs.EachLemmas.{Apart, apart_filter, apart_pairs, apart_rising}
 use Rattle.smx_model.proofs.EachLemmas.{Each, none_passes, kept_passes, each_map, each_of_all}
 use Rattle.smx_model.proofs.AcceptedLemmas.{unlinked}
 use Rattle.smx_model.proofs.OutcomeLemmas.{IfAccepted, at_ok, after_ok, after_test, after_some, after_choice}
 use Rattle.smx_model.specs.RunMarks.{asks_down, asks_up, nowhere, is_first_at, TurnsOnly}
 use Rattle.smx_model.specs.TurnedPlaces.{of_stream, read_side, write_side, turned_by}
-use Rattle.smx_model.proofs.TurningLemmas.{Apart, apart_filter, next_of_others, bound, routed, binds_find, fewer_turns}
+use Rattle.smx_model.proofs.TurningLemmas.{next_of_others, bound, routed, binds_find, fewer_turns}
 use Rattle.smx_model.proofs.TurningLemmas.{keyed_removed, routes_find, turns_arrived, turns_bound, turns_emptied}
 use Rattle.smx_model.proofs.TurningLemmas.{turns_left, turns_linked, turns_removed, turns_routed, turns_swept}
 use Rattle.smx_model.proofs.TurningLemmas.{turns_then, other, same_finds, IsKeyed, AreRooted, rooted_filter}
@@ -41,28 +42,6 @@ use Rattle.smx_model.proofs.TestLemmas.{any_placed}
 use Rattle.smx_model.specs.KnownStreams.{IsKnown}
 
 -- ---- each key is there once
-
-each_rising : {X : Type 0} (R : X → X → Type 0) (before : X → X → Bool) → ((x y : X) → before x y ≡ true → R x y)
-    → (x : X) (xs : List X) → ComesBefore before x xs → Each (R x) xs
-each_rising R before f x [] h = tt
-each_rising R before f x (y ∷ ys) h = (f x y h.0, each_rising R before f x ys h.1)
-
-apart_rising : {X : Type 0} (R : X → X → Type 0) (before : X → X → Bool) → ((x y : X) → before x y ≡ true → R x y)
-    → (xs : List X) → IsRising before xs → Apart R xs
-apart_rising R before f [] h = tt
-apart_rising R before f (x ∷ xs) h = (each_rising R before f x xs h.0, apart_rising R before f xs h.1)
-
-each_at : {X : Type 0} (P : X → Type 0) (xs : List X) → ((k : ℕ) (d : X) → k < length xs → P (get_or xs k d))
-    → Each P xs
-each_at P [] h = tt
-each_at P (x ∷ xs) h = (h 0 x (omega arith), each_at P xs (λ k d lt. h (suc k) d (omega (arith, lt))))
-
-apart_pairs : {X : Type 0} (R : X → X → Type 0) (xs : List X) → AllPairs R xs → Apart R xs
-apart_pairs R [] h = tt
-apart_pairs R (x ∷ xs) h = (
-  each_at (R x) xs (λ k d lt. h 0 (suc k) d (omega arith) (omega (arith, lt))),
-  apart_pairs R xs (λ i j d lt within. h (suc i) (suc j) d (omega (arith, lt)) (omega (arith, within))),
-)
 
 less_other : (a b : ℕ) → nat_lt a b ≡ true → eqb a b ≡ false
 less_other a b h = false_from_ne_true _ (λ t. absurd (omega (arith, ltb-true a b h, eqb-true a b t)))
@@ -254,7 +233,8 @@ turns drivers c process (command.OpenMinor name minor) h =
     search (after_test, after_ok, at_ok, turns_with_fd, rules) depth 20
 turns drivers c process (command.Dup fd) h = search (after_ok, at_ok, turns_with_fd, rules) depth 20
 turns drivers c process (command.Close fd) h =
-    let k = keyed drivers c h in let x = rooted drivers c h in search (after_ok, turns_still, turns_closed, rules) depth 20
+    let k = keyed drivers c h in let x = rooted drivers c h in
+    search (after_ok, turns_still, turns_closed, rules) depth 20
 turns drivers c process command.CloseAll h =
     let k = keyed drivers c h in let x = rooted drivers c h in search (turns_still, turns_closed, rules) depth 20
 turns drivers c process (command.Link fd arg) h = turns_link drivers c process fd arg kind.Ordinary h

@@ -26,7 +26,7 @@ use Rattle.smx_model.proofs.OrderLemmas.{order_without}
 use Rattle.smx_model.specs.Settling.{◌>>=◌, after_move, after_move_to, next_open_place, next_place, live_write_side}
 use Rattle.smx_model.specs.Standing.{is_persistent, exists}
 use Rattle.smx_model.specs.SoundLinks.{AreRoutesSound, AreLinksSound}
-use Rattle.smx_model.proofs.EachLemmas.{Each, each_filter, each_map, each_of_all, each_find}
+use Rattle.smx_model.proofs.EachLemmas.{Apart, apart_filter, Each, each_filter, each_map, each_of_all, each_find}
 use Rattle.smx_model.proofs.TestLemmas.{found_any, find_passes, any_more, any_filter}
 use Rattle.smx_model.proofs.QueueLemmas.{emptied_queue, front_is, marked_full}
 use Rattle.smx_model.proofs.SettlingLemmas.{open_next, same_place_is}
@@ -97,21 +97,6 @@ Finds {X} o n = (n ≡ o) ⊎ (n ≡ None)
 -- what finds as before finds so
 pub same_finds : {X : Type 0} (o : Option X) → Finds o o
 same_finds o = inl refl
-
--- no element is related to a later one but so
-abbrev pub Apart : {X : Type 0} → (X → X → Type 0) → List X → Type 0
-Apart R [] = Unit {0}
-Apart R (x ∷ xs) = Each (R x) xs × Apart R xs
-
--- where each element is related so to all later ones, it is so among those that a filter leaves
-pub apart_filter : {X : Type 0} (R : X → X → Type 0) (keep : X → Bool) (xs : List X) → Apart R xs
-    → Apart R (filter keep xs)
-apart_filter R keep [] h = tt
-apart_filter R keep (x ∷ xs) h = elim (cases_Bool (keep x)) [
-  | inl t ↦ rw t (each_filter (R x) keep xs h.0, apart_filter R keep xs h.1)
-  | inr f ↦
-      rw f (apart_filter R keep xs h.1)
-]
 
 none_finds : {X : Type 0} (t : X → Bool) (xs : List X) → Each (λ y. t y ≡ false) xs → find t xs ≡ None
 none_finds t [] h = refl
