@@ -10,7 +10,6 @@ use Rattle.smx_types.specs.declared.driver.DriverSpec.{DriverSpec}
 use Rattle.smx_model.specs.Commands.{outcome, step, after_outcome}
 use Rattle.smx_model.specs.Configuration.{Configuration, empty}
 use Rattle.smx_model.specs.DriverList.{IsDriverList}
-use Rattle.smx_model.specs.FlowOrder.{IsInOrder}
 use Rattle.smx_model.specs.Histories.{after, after_from}
 use Rattle.smx_model.specs.KeptConfigurations.{IsKept, IsSound}
 use Rattle.smx_model.specs.KnownStreams.{AreStreamsKnown, IsKnown}
@@ -25,10 +24,10 @@ use Rattle.smx_model.proofs.SettledLemmas.{settled_by}
 use Rattle.smx_model.proofs.ConservationLemmas.{IsNumbered, Goes, goes_accepted, moved_same, moved_next, numbered_empty}
 use Rattle.smx_model.proofs.ConservationLemmas.{numbered_goes}
 use Rattle.smx_model.proofs.CountLemmas.{times}
-use Rattle.smx_model.proofs.FlowLemmas.{order_accepted, order_moved}
 use Rattle.smx_model.proofs.OutcomeLemmas.{IfAccepted}
 use Rattle.smx_model.proofs.RangeLemmas.{AreNamed, named_accepted, named_moved}
-use Rattle.smx_model.proofs.RisingLemmas.{AreRising, rising_accepted, rising_empty, rising_moved}
+use Rattle.smx_model.specs.OrderedParts.{AreListsOrdered}
+use Rattle.smx_model.proofs.RisingLemmas.{rising_accepted, rising_empty, rising_moved}
 use Rattle.smx_model.proofs.RouteLemmas.{AreRouted, rising_ids, routed_accepted, routed_empty, routed_moved}
 use Rattle.smx_model.proofs.RouteLemmas.{sound_routes}
 use Rattle.smx_model.proofs.SettlingLemmas.{settled_is}
@@ -118,8 +117,7 @@ record Parts (drivers : List DriverSpec) (c : Configuration) : Type 0 where
   links : AreLinksSound c.links
   named : AreNamed drivers c
   routed : AreRouted drivers c
-  rising : AreRising c
-  flow : IsInOrder c.flow
+  ordered : AreListsOrdered c
   numbered : IsNumbered c
   swept_ : IsSwept drivers c
 
@@ -128,14 +126,7 @@ parts_of drivers c h = record {
   links = h.links;
   named = named_of drivers c h.known;
   routed = routed_of drivers c h.ids h.routes;
-  rising = record {
-    fds = h.ordered.fds;
-    binds = h.ordered.binds;
-    routes = h.ordered.routes;
-    fulls = h.ordered.fulls;
-    hungs = h.ordered.hungs;
-  };
-  flow = h.ordered.flow;
+  ordered = h.ordered;
   numbered = record {
     once = apart_once (serials c.flow) h.serials.apart;
     below = none_from (serials c.flow) c.next_serial h.serials.below_next;
@@ -149,14 +140,7 @@ of_parts drivers c h = record {
   ids = rising_ids drivers c h.routed;
   routes = sound_routes drivers c h.routed;
   known = known_of_each drivers c (each_known drivers c h.named h.routed h.swept_);
-  ordered = record {
-    fds = h.rising.fds;
-    binds = h.rising.binds;
-    routes = h.rising.routes;
-    fulls = h.rising.fulls;
-    hungs = h.rising.hungs;
-    flow = h.flow;
-  };
+  ordered = h.ordered;
   serials = record {
     apart = once_apart (serials c.flow) h.numbered.once;
     below_next = all_below (serials c.flow) c.next_serial h.numbered.below;
@@ -170,24 +154,22 @@ parts_accepted : (drivers : List DriverSpec) (c : Configuration) (process : ℕ)
     → IfAccepted (λ d r. Parts drivers d) (outcome drivers c process k)
 parts_accepted drivers c process k h = by (outcome drivers c process k) (sound_accepted drivers c process k h.links)
     (named_accepted drivers c process k h.named) (routed_accepted drivers c process k h.routed)
-    (rising_accepted drivers c process k h.rising) (order_accepted drivers c process k h.flow)
-    (goes_accepted drivers c process k h.numbered) (swept_accepted drivers c process k h.swept_) where
+    (rising_accepted drivers c process k h.ordered) (goes_accepted drivers c process k h.numbered)
+    (swept_accepted drivers c process k h.swept_) where
       by : (o : Outcome) → IfAccepted (λ d r. AreLinksSound d.links) o → IfAccepted (λ d r. AreNamed drivers d) o
-          → IfAccepted (λ d r. AreRouted drivers d) o → IfAccepted (λ d r. AreRising d) o
-          → IfAccepted (λ d r. IsInOrder d.flow) o → IfAccepted (Goes c) o → IfAccepted (λ d r. IsSwept drivers d) o
-          → IfAccepted (λ d r. Parts drivers d) o
-      by (Ok x) e1 e2 e3 e4 e5 e6 e7 = record {
+          → IfAccepted (λ d r. AreRouted drivers d) o → IfAccepted (λ d r. AreListsOrdered d) o
+          → IfAccepted (Goes c) o → IfAccepted (λ d r. IsSwept drivers d) o → IfAccepted (λ d r. Parts drivers d) o
+      by (Ok x) e1 e2 e3 e4 e5 e6 = record {
         holds = record {
           links = e1.holds;
           named = e2.holds;
           routed = e3.holds;
-          rising = e4.holds;
-          flow = e5.holds;
-          numbered = numbered_goes c x.0 x.1 h.numbered e6.holds;
-          swept_ = e7.holds;
+          ordered = e4.holds;
+          numbered = numbered_goes c x.0 x.1 h.numbered e5.holds;
+          swept_ = e6.holds;
         };
       }
-      by (Err f) e1 e2 e3 e4 e5 e6 e7 = record { holds = tt }
+      by (Err f) e1 e2 e3 e4 e5 e6 = record { holds = tt }
 
 -- what an accepted command leaves of a sound configuration, before it is settled, is sound
 pub outcome_sound : (drivers : List DriverSpec) (c : Configuration) (process : ℕ) (k : Command) → IsSound drivers c
@@ -213,8 +195,7 @@ parts_moved drivers c p h = record {
   links = sound_moved drivers c p h.links;
   named = named_moved drivers c p h.named;
   routed = routed_moved drivers c p h.routed;
-  rising = rising_moved drivers c p h.rising;
-  flow = order_moved drivers c p h.flow;
+  ordered = rising_moved drivers c p h.ordered;
   numbered = numbered_moved drivers c p h.numbered;
   swept_ = swept_moved drivers c p (record { none = h.links.no_cycle; named = h.named; swept_ = h.swept_ });
 }
@@ -256,8 +237,7 @@ empty_kept drivers = record {
         links = sound_empty;
         named = record { fds = tt; links = tt };
         routed = routed_empty drivers;
-        rising = rising_empty;
-        flow = tt;
+        ordered = rising_empty;
         numbered = numbered_empty;
         swept_ = record { links = refl; binds = refl; flow = refl; fulls = refl; hungs = refl };
       });

@@ -9,7 +9,6 @@ pub mod RangeLemmas
 pub mod RouteLemmas
 pub mod SettlingLemmas
 pub mod OrderLemmas
-pub mod FlowLemmas
 pub mod QueueLemmas
 pub mod RisingLemmas
 pub mod StandingLemmas

@@ -19,7 +19,9 @@ use Rattle.smx_model.specs.Lookups.{free_fd}
 use Rattle.smx_model.specs.Ordered.{with_inserted, ComesBefore, IsRising}
 use Rattle.smx_model.specs.Queues.{with_mark}
 use Rattle.smx_model.specs.Settling.{after_move}
-use Rattle.smx_model.proofs.SettledLemmas.{moved_by}
+use Rattle.smx_model.specs.OrderedParts.{AreListsOrdered}
+use Rattle.smx_model.proofs.SettledLemmas.{ChangesQueuesAlone, moved_alone, moved_by}
+use Rattle.smx_model.proofs.OrderLemmas.{order_filter, order_moved, order_placed, order_without}
 use Rattle.smx_model.proofs.OrderLemmas.{place_before_trans, place_either}
 use Rattle.smx_model.proofs.AcceptedLemmas.{of_rows}
 use Rattle.smx_model.proofs.LookupLemmas.{there_is}
@@ -100,14 +102,6 @@ bind_other a b c d e m h = by (eqb c a) (eqb d b) (eqb e m) h where
 
 -- of each accepted outcome
 
--- descriptors, bindings, routes, full places and hung-up streams
-pub record AreRising (c : Configuration) : Type 0 where
-  pub fds : IsRising fd_before c.fds
-  pub binds : IsRising bind_before c.binds
-  pub routes : IsRising route_before c.routes
-  pub fulls : IsRising place_before c.fulls
-  pub hungs : IsRising stream_before c.hungs
-
 -- the number that is free is not there
 free_is_free : (c : Configuration) (process fd : ℕ) → free_fd c process ≡ Ok fd
     → list_any (is_fd process fd) c.fds ≡ false
@@ -115,13 +109,13 @@ free_is_free c process fd e =
     not-true _ (find_passes (λ n. not (list_any (is_fd process n) c.fds)) (range_with_len 0 MAX_DESCRIPTORS) fd
     (there_is TooManyDescriptors _ fd e))
 
-fds_rise : (c : Configuration) (process fd : ℕ) (s : StreamId) → AreRising c → free_fd c process ≡ Ok fd
+fds_rise : (c : Configuration) (process fd : ℕ) (s : StreamId) → AreListsOrdered c → free_fd c process ≡ Ok fd
     → IsRising fd_before (with_fd c process fd s).fds
 fds_rise c process fd s h e = rising_placed fd_before fd_trans (record { process = process; fd = fd; stream = s }) c.fds
     (none_passes (is_fd process fd) _ c.fds (λ d f k. pair_other process fd d.process d.fd f k)
     (free_is_free c process fd e)) h.fds
 
-binds_rise : (c : Configuration) (driver addr minor : ℕ) → AreRising c
+binds_rise : (c : Configuration) (driver addr minor : ℕ) → AreListsOrdered c
     → list_any (λ b. eqb b.driver driver && (eqb b.addr addr || eqb b.minor minor)) c.binds ≡ false
     → IsRising bind_before
     (with_inserted bind_before c.binds (record { driver = driver; addr = addr; minor = minor }))
@@ -131,7 +125,7 @@ binds_rise c driver addr minor h e =
     (λ b f k. pair_other driver addr b.driver b.addr (bind_other driver addr b.driver b.addr b.minor minor f) k) e)
     h.binds
 
-routes_rise : (c : Configuration) (driver addr id : ℕ) → AreRising c
+routes_rise : (c : Configuration) (driver addr id : ℕ) → AreListsOrdered c
     → IsRising route_before
     (with_inserted route_before (filter (λ r. not (eqb r.driver driver && eqb r.addr addr)) c.routes)
     (record { driver = driver; addr = addr; id = id }))
@@ -156,30 +150,37 @@ rising_marked p true ps h = rising_placed place_before place_before_trans p _
     (rising_filter place_before _ ps h)
 rising_marked p false ps h = rising_filter place_before _ ps h
 
--- an accepted command keeps descriptors, bindings, routes, full places and hung-up streams rising
-pub rising_accepted : (drivers : List DriverSpec) (c : Configuration) (process : ℕ) (k : Command) → AreRising c
-    → IfAccepted (λ d r. AreRising d) (outcome drivers c process k)
+-- an accepted command keeps all lists in order
+pub rising_accepted : (drivers : List DriverSpec) (c : Configuration) (process : ℕ) (k : Command) → AreListsOrdered c
+    → IfAccepted (λ d r. AreListsOrdered d) (outcome drivers c process k)
 rising_accepted drivers c process k h = of_rows _ drivers c process k (search (
   rising_filter,
   rising_marked,
   rising_with_hung,
+  order_filter,
+  order_placed,
+  order_without,
   fds_rise,
   binds_rise,
   routes_rise,
   rules,
 ) depth 24)
 
--- a move keeps descriptors, bindings, routes, full places and hung-up streams rising
-pub rising_moved : (drivers : List DriverSpec) (c : Configuration) (p : Place) → AreRising c
-    → AreRising (after_move drivers c p)
-rising_moved drivers c p h = moved_by AreRising drivers c p h (λ q m e. record {
-  fds = h.fds;
-  binds = h.binds;
-  routes = h.routes;
-  fulls = rising_marked q _ _ (rising_marked p _ c.fulls h.fulls);
-  hungs = h.hungs;
-})
+-- a move keeps all lists in order
+pub rising_moved : (drivers : List DriverSpec) (c : Configuration) (p : Place) → AreListsOrdered c
+    → AreListsOrdered (after_move drivers c p)
+rising_moved drivers c p h = record {
+  fds = rw m.fds h.fds;
+  binds = rw m.binds h.binds;
+  routes = rw m.routes h.routes;
+  fulls = moved_by (λ d. IsRising place_before d.fulls) drivers c p h.fulls
+      (λ q m e. rising_marked q _ _ (rising_marked p _ c.fulls h.fulls));
+  hungs = rw m.hungs h.hungs;
+  flow = order_moved drivers c p h.flow;
+} where
+  m : ChangesQueuesAlone c (after_move drivers c p)
+  m = moved_alone drivers c p
 
--- the lists of the empty configuration rise
-pub rising_empty : AreRising empty
-rising_empty = record { fds = tt; binds = tt; routes = tt; fulls = tt; hungs = tt }
+-- the lists of the empty configuration are in order
+pub rising_empty : AreListsOrdered empty
+rising_empty = record { fds = tt; binds = tt; routes = tt; fulls = tt; hungs = tt; flow = tt }

@@ -24,7 +24,8 @@ use Rattle.smx_model.proofs.SettledLemmas.{moved_by}
 use Rattle.smx_model.proofs.AcceptedLemmas.{of_rows}
 use Rattle.smx_model.proofs.LookupLemmas.{tested}
 use Rattle.smx_model.proofs.OutcomeLemmas.{IfAccepted}
-use Rattle.smx_model.proofs.EachLemmas.{Apart, apart_filter, Each, each_filter, each_placed, each_push, each_map, all_of_each}
+use Rattle.smx_model.proofs.EachLemmas.{Apart, apart_filter, Each, each_filter, each_placed, each_push, each_map}
+use Rattle.smx_model.proofs.EachLemmas.{all_of_each}
 
 -- each id is below those of the later links
 abbrev pub Rising : List Link → Type 0
