@@ -4,30 +4,24 @@ use Rattle.std.proofs.Common.{rules, sym, subst}
 use Rattle.std.specs.List.{All, Contains, list_any}
 use Rattle.smx_types.specs.declared.command.Command.{Command}
 use Rattle.smx_types.specs.declared.command.Command.TheVariants as command
-use Rattle.smx_types.specs.declared.command.Which.{Which}
-use Rattle.smx_types.specs.declared.command.Which.TheVariants as which
 use Rattle.smx_types.specs.declared.driver.DriverSpec.{DriverSpec}
 use Rattle.smx_types.specs.declared.link.Binding.{Binding}
-use Rattle.smx_types.specs.declared.link.Link.{Link}
-use Rattle.smx_types.specs.declared.link.LinkKind.{LinkKind}
 use Rattle.smx_types.specs.declared.reply.Fault.{Fault}
 use Rattle.smx_types.specs.declared.reply.Fault.TheVariants.{Unbound}
 use Rattle.smx_types.specs.declared.reply.Reply.TheVariants as reply
-use Rattle.smx_types.specs.declared.stream.Place.{Place}
 use Rattle.smx_types.specs.declared.stream.StreamId.{StreamId}
-use Rattle.smx_model.specs.Commands.{outcome, step, after_outcome, done_outcome, link_outcome, unlink_outcome}
-use Rattle.smx_model.specs.Commands.{send_outcome, receive_outcome}
+use Rattle.smx_model.specs.Commands.{outcome, step, after_outcome, done_outcome}
 use Rattle.smx_model.specs.Configuration.{Configuration, bind_before}
 use Rattle.smx_model.specs.Lookups.{mux_stream}
 use Rattle.smx_model.specs.Ordered.{with_inserted}
 use Rattle.smx_model.specs.Outcomes.{Outcome, ◌>>=◌, refuse}
-use Rattle.smx_model.specs.Removal.{without_links}
 use Rattle.smx_model.specs.Settling.{after_settling_within}
 use Rattle.smx_model.specs.Standing.{exists}
 use Rattle.smx_model.specs.Swept.{IsSwept}
 use Rattle.smx_model.proofs.DropLemmas.{done_idle}
 use Rattle.smx_model.proofs.MemberLemmas.{all_in, filtered_passes, in_all, in_filtered, in_placed, none_in}
-use Rattle.smx_model.proofs.OutcomeLemmas.{IfAccepted, at_ok, after_ok, after_test, after_some, after_choice}
+use Rattle.smx_model.proofs.AcceptedLemmas.{of_rows, at_none}
+use Rattle.smx_model.proofs.OutcomeLemmas.{IfAccepted}
 use Rattle.smx_model.proofs.SettledLemmas.{settled_alone}
 use Rattle.smx_model.proofs.SweptLemmas.{swept_accepted}
 use Rattle.smx_model.proofs.TestLemmas.{all_filter}
@@ -53,14 +47,7 @@ loosed_fewer drivers c goes h =
       fewer = record c { binds = filter (λ b. not (goes b)) c.binds }
 
       idle : done_outcome drivers c fewer ≡ Ok (fewer, reply.Done [])
-      idle = done_idle drivers c fewer
-          (record {
-            links = h.links;
-            binds = all_filter _ _ c.binds h.binds;
-            flow = h.flow;
-            fulls = h.fulls;
-            hungs = h.hungs;
-          }) refl
+      idle = done_idle drivers c fewer (search (all_filter, rules)) refl
 
 -- unbind takes away the bindings of its stream, and leaves all others
 pub unbind_looses : (drivers : List DriverSpec) (c : Configuration) (process fd : ℕ) (s : StreamId) → IsSwept drivers c
@@ -109,51 +96,11 @@ bound_bind : (drivers : List DriverSpec) (c : Configuration) (x : Binding)
 bound_bind drivers c x = bound_done drivers c (record c { binds = with_inserted bind_before c.binds x })
     (λ b h. in_placed bind_before c.binds b x h)
 
-bound_unlinked : (drivers : List DriverSpec) (c : Configuration) (w : Which) (mine : Link → Bool)
-    → IfAccepted (λ d r. KeepsBindings drivers c d) (unlink_outcome drivers c w mine)
-bound_unlinked drivers c which.All mine = bound_like drivers c (without_links c mine) refl
-bound_unlinked drivers c (which.Id id) mine = search (after_test, bound_like, rules) depth 12
-
-bound_linked : (drivers : List DriverSpec) (c : Configuration) (process fd arg : ℕ) (k : LinkKind)
-    → IfAccepted (λ d r. KeepsBindings drivers c d) (link_outcome drivers c process fd arg k)
-bound_linked drivers c process fd arg k = search (after_test, after_ok, at_ok, bound_same, rules) depth 24
-
-bound_sent : (drivers : List DriverSpec) (c : Configuration) (p : Place) (addr : ℕ) (bytes : List ℕ)
-    → IfAccepted (λ d r. KeepsBindings drivers c d) (send_outcome drivers c p addr bytes)
-bound_sent drivers c p addr bytes = search (after_test, at_ok, bound_same, rules) depth 12
-
-bound_received : (drivers : List DriverSpec) (c : Configuration) (p : Place)
-    → IfAccepted (λ d r. KeepsBindings drivers c d) (receive_outcome drivers c p)
-bound_received drivers c p = search (after_some, at_ok, bound_same, rules) depth 12
-
 bound_accepted : (drivers : List DriverSpec) (c : Configuration) (process : ℕ) (k : Command)
     → ((fd : ℕ) → k ≡ command.Unbind fd → ⊥)
     → IfAccepted (λ d r. KeepsBindings drivers c d) (outcome drivers c process k)
-bound_accepted drivers c process (command.OpenClone name) never = search (after_ok, at_ok, bound_same, rules) depth 20
-bound_accepted drivers c process (command.OpenMinor name minor) never =
-    search (after_test, after_ok, at_ok, bound_same, rules) depth 20
-bound_accepted drivers c process (command.Dup fd) never = search (after_ok, at_ok, bound_same, rules) depth 20
-bound_accepted drivers c process (command.Close fd) never = search (after_ok, bound_like, rules) depth 20
-bound_accepted drivers c process command.CloseAll never = search (bound_like, rules) depth 20
-bound_accepted drivers c process (command.Link fd arg) never = search (bound_linked, rules) depth 20
-bound_accepted drivers c process (command.Plink fd arg) never = search (bound_linked, rules) depth 20
-bound_accepted drivers c process (command.Unlink fd w) never = search (after_ok, bound_unlinked, rules) depth 20
-bound_accepted drivers c process (command.Punlink fd w) never = search (after_ok, bound_unlinked, rules) depth 20
-bound_accepted drivers c process (command.Bind fd addr) never =
-    search (after_test, after_ok, bound_bind, rules) depth 20
-bound_accepted drivers c process (command.Unbind fd) never = absurd (never fd refl)
-bound_accepted drivers c process (command.Route fd addr id) never =
-    search (after_test, after_ok, bound_like, rules) depth 20
-bound_accepted drivers c process (command.Unroute fd addr) never =
-    search (after_test, after_ok, bound_like, rules) depth 20
-bound_accepted drivers c process (command.Write fd addr bytes) never = search (after_ok, bound_sent, rules) depth 20
-bound_accepted drivers c process (command.Read fd) never =
-    search (after_ok, after_choice, at_ok, bound_same, bound_received, rules) depth 20
-bound_accepted drivers c process (command.Flush fd w) never = search (after_ok, bound_like, rules) depth 20
-bound_accepted drivers c process (command.Inject name minor addr bytes) never =
-    search (after_ok, bound_sent, rules) depth 20
-bound_accepted drivers c process (command.Transmit name minor) never = search (after_ok, bound_received, rules) depth 20
-bound_accepted drivers c process (command.Hangup name minor) never = search (after_ok, bound_like, rules) depth 20
+bound_accepted drivers c process k never =
+    search (of_rows, bound_same, bound_bind, bound_like, at_none, never, rules) depth 24
 
 -- and no others
 

@@ -1,23 +1,17 @@
 -- Each message that was taken is delivered, dropped or queued.
 use Rattle.std.proofs.Common.{◌≡◌, ℕ, zero, suc, ◌+◌, ◌<◌, ◌≤◌, Bool, cond, eqb, List, [], ◌∷◌, ◌++◌, length, filter}
-use Rattle.std.proofs.Common.{Option, Some, None, Ok, Err, refl, rules, sym, ap, ◌∙◌, subst, arith, inl, inr}
+use Rattle.std.proofs.Common.{Some, Ok, Err, refl, rules, sym, ap, ◌∙◌, subst, arith, inl, inr}
 use Rattle.std.proofs.Common.{length-append}
 use Rattle.std.specs.List.{range_with_len}
 use Rattle.std.proofs.lemmas.Bool.{cases_Bool, cases_lt, cases_eq, ne_eqb, eq-eqb}
 use Rattle.smx_types.specs.declared.command.Command.{Command}
-use Rattle.smx_types.specs.declared.command.Command.TheVariants as command
 use Rattle.smx_types.specs.declared.command.Entry.{Entry}
 use Rattle.smx_types.specs.declared.reply.Reply.{Reply}
 use Rattle.smx_types.specs.declared.reply.Reply.TheVariants as reply
-use Rattle.smx_types.specs.declared.command.Which.{Which}
-use Rattle.smx_types.specs.declared.command.Which.TheVariants as which
 use Rattle.smx_types.specs.declared.driver.DriverSpec.{DriverSpec}
-use Rattle.smx_types.specs.declared.link.Link.{Link}
-use Rattle.smx_types.specs.declared.link.LinkKind.{LinkKind}
 use Rattle.smx_types.specs.declared.message.Message.{Message}
 use Rattle.smx_types.specs.declared.stream.Place.{Place}
-use Rattle.smx_model.specs.Commands.{outcome, step, after_outcome, done_outcome, link_outcome, unlink_outcome}
-use Rattle.smx_model.specs.Commands.{send_outcome, receive_outcome}
+use Rattle.smx_model.specs.Commands.{outcome, step, after_outcome, done_outcome}
 use Rattle.smx_model.specs.Configuration.{Configuration, QueuedMessage, empty, is_at, queued_before}
 use Rattle.smx_model.specs.Histories.{after_from, after, IsLegalFrom, IsLegal}
 use Rattle.smx_model.specs.LawfulHistories.{taken_by, delivered_by, dropped_by, taken_serials, delivered_serials}
@@ -25,10 +19,12 @@ use Rattle.smx_model.specs.LawfulHistories.{dropped_serials, IsConserving}
 use Rattle.smx_model.specs.Ordered.{with_inserted, without_first}
 use Rattle.smx_model.specs.Outcomes.{Outcome}
 use Rattle.smx_model.specs.Queues.{first_message, after_leaving}
-use Rattle.smx_model.specs.Removal.{after_sweep, without_links, without_queues_at, serials}
-use Rattle.smx_model.specs.Settling.{after_settling_within, least_movable, after_move, after_move_to, next_open_place}
+use Rattle.smx_model.specs.Removal.{after_sweep, serials}
+use Rattle.smx_model.specs.Settling.{after_settling_within, after_move}
+use Rattle.smx_model.proofs.SettledLemmas.{moved_by, settled_by}
 use Rattle.smx_model.proofs.CountLemmas.{times, times_append, times_gone, permuted}
-use Rattle.smx_model.proofs.OutcomeLemmas.{IfAccepted, at_ok, after_ok, after_test, after_some, after_choice}
+use Rattle.smx_model.proofs.AcceptedLemmas.{of_rows, taken}
+use Rattle.smx_model.proofs.OutcomeLemmas.{IfAccepted}
 
 -- serials of a flow
 
@@ -69,15 +65,6 @@ pub record IsNumbered (c : Configuration) : Type 0 where
 record IsFewer (c d : Configuration) : Type 0 where
   each : (n : ℕ) → times n (serials d.flow) ≤ times n (serials c.flow)
 
-fewer_same : (c d : Configuration) → d.flow ≡ c.flow → IsFewer c d
-fewer_same c d e = record { each = λ n. rw e (omega arith) }
-
-fewer_emptied : (c : Configuration) (goes : Place → Bool) → IsFewer c (without_queues_at c goes)
-fewer_emptied c goes = record { each = λ n. serials_filter n _ c.flow }
-
-fewer_removed : (c : Configuration) (goes : Link → Bool) → IsFewer c (without_links c goes)
-fewer_removed c goes = record { each = λ n. serials_filter n _ c.flow }
-
 two_filters : (n : ℕ) (f g : QueuedMessage → Bool) (hs : List QueuedMessage)
     → times n (serials (filter g (filter f hs))) ≤ times n (serials hs)
 two_filters n f g hs = omega (arith, serials_filter n g (filter f hs), serials_filter n f hs)
@@ -101,104 +88,54 @@ goes_done drivers c d h same fewer = record {
   };
 }
 
-goes_fd : (c d : Configuration) (fd minor : ℕ) → d.flow ≡ c.flow → d.next_serial ≡ c.next_serial
-    → Goes c d (reply.Fd fd minor)
-goes_fd c d fd minor e same = record { balance = λ n. rw e (omega arith); numbered = refl; next = omega arith }
+goes_still : (c d : Configuration) (r : Reply) → d.flow ≡ c.flow → d.next_serial ≡ c.next_serial → taken_by r ≡ []
+    → delivered_by r ≡ [] → dropped_by r ≡ [] → Goes c d r
+goes_still c d r e same none given gone = record {
+  balance = λ n. rw (e, none, given, gone) (omega arith);
+  numbered = rw none refl;
+  next = rw none (omega (arith, same));
+}
 
-goes_eof : (c : Configuration) → Goes c c reply.Eof
-goes_eof c = record { balance = λ n. omega arith; numbered = refl; next = omega arith }
+goes_took : (drivers : List DriverSpec) (c : Configuration) (p : Place) (addr : ℕ) (bytes : List ℕ)
+    → Goes c (taken drivers c p addr bytes) (reply.Took c.next_serial)
+goes_took drivers c p addr bytes = record {
+  balance = λ n.
+      omega (
+        arith,
+        serials_placed n c.flow
+            (record { place = p; message = record { serial = c.next_serial; addr = addr; bytes = bytes } }),
+      );
+  numbered = refl;
+  next = refl;
+}
 
-goes_id : (c d : Configuration) (id : ℕ) → d.flow ≡ c.flow → d.next_serial ≡ c.next_serial → Goes c d (reply.Id id)
-goes_id c d id e same = record { balance = λ n. rw e (omega arith); numbered = refl; next = omega arith }
-
-goes_sent : (drivers : List DriverSpec) (c : Configuration) (p : Place) (addr : ℕ) (bytes : List ℕ)
-    → IfAccepted (Goes c) (send_outcome drivers c p addr bytes)
-goes_sent drivers c p addr bytes = search (after_test, at_ok, took, rules) depth 12 where
-  took : (d : Configuration)
-      → d.flow ≡ with_inserted queued_before c.flow
-      (record { place = p; message = record { serial = c.next_serial; addr = addr; bytes = bytes } })
-      → d.next_serial ≡ c.next_serial + 1 → Goes c d (reply.Took c.next_serial)
-  took d e next = record {
-    balance = λ n.
-        rw e (omega (
-          arith,
-          serials_placed n c.flow
-              (record { place = p; message = record { serial = c.next_serial; addr = addr; bytes = bytes } }),
-        ));
-    numbered = refl;
-    next = next;
-  }
-
-goes_received : (drivers : List DriverSpec) (c : Configuration) (p : Place)
-    → IfAccepted (Goes c) (receive_outcome drivers c p)
-goes_received drivers c p = search (after_some, at_ok, got, rules) depth 12 where
-  got : (m : Message) → first_message c.flow p ≡ Some m
-      → Goes c (after_leaving drivers c p) (reply.Got m.serial m.addr m.bytes)
-  got m e = record { balance = λ n. omega (arith, serials_front n c.flow p m e); numbered = refl; next = omega arith }
-
-goes_unlinked : (drivers : List DriverSpec) (c : Configuration) (w : Which) (mine : Link → Bool) → IsNumbered c
-    → IfAccepted (Goes c) (unlink_outcome drivers c w mine)
-goes_unlinked drivers c which.All mine h = goes_done drivers c (without_links c mine) h refl (fewer_removed c mine)
-goes_unlinked drivers c (which.Id id) mine h = search (after_test, goes_done, fewer_removed, rules) depth 12
-
-goes_linked : (drivers : List DriverSpec) (c : Configuration) (process fd arg : ℕ) (k : LinkKind)
-    → IfAccepted (Goes c) (link_outcome drivers c process fd arg k)
-goes_linked drivers c process fd arg k = search (after_test, after_ok, at_ok, goes_id, rules) depth 20
+goes_got : (drivers : List DriverSpec) (c : Configuration) (p : Place) (m : Message) → first_message c.flow p ≡ Some m
+    → Goes c (after_leaving drivers c p) (reply.Got m.serial m.addr m.bytes)
+goes_got drivers c p m e =
+    record { balance = λ n. omega (arith, serials_front n c.flow p m e); numbered = refl; next = omega arith }
 
 -- an accepted command loses and doubles no message, where each queued one has a serial of its own
 pub goes_accepted : (drivers : List DriverSpec) (c : Configuration) (process : ℕ) (k : Command) → IsNumbered c
     → IfAccepted (Goes c) (outcome drivers c process k)
-goes_accepted drivers c process (command.OpenClone name) h = search (after_ok, at_ok, goes_fd, rules) depth 20
-goes_accepted drivers c process (command.OpenMinor name minor) h =
-    search (after_test, after_ok, at_ok, goes_fd, rules) depth 20
-goes_accepted drivers c process (command.Dup fd) h = search (after_ok, at_ok, goes_fd, rules) depth 20
-goes_accepted drivers c process (command.Close fd) h = search (after_ok, at_ok, goes_done, fewer_same, rules) depth 20
-goes_accepted drivers c process command.CloseAll h = search (at_ok, goes_done, fewer_same, rules) depth 20
-goes_accepted drivers c process (command.Link fd arg) h = search (goes_linked, rules) depth 20
-goes_accepted drivers c process (command.Plink fd arg) h = search (goes_linked, rules) depth 20
-goes_accepted drivers c process (command.Unlink fd w) h = search (after_ok, goes_unlinked, rules) depth 20
-goes_accepted drivers c process (command.Punlink fd w) h = search (after_ok, goes_unlinked, rules) depth 20
-goes_accepted drivers c process (command.Bind fd addr) h =
-    search (after_test, after_ok, at_ok, goes_done, fewer_same, rules) depth 20
-goes_accepted drivers c process (command.Unbind fd) h =
-    search (after_test, after_ok, at_ok, goes_done, fewer_same, rules) depth 20
-goes_accepted drivers c process (command.Route fd addr id) h =
-    search (after_test, after_ok, at_ok, goes_done, fewer_same, rules) depth 20
-goes_accepted drivers c process (command.Unroute fd addr) h =
-    search (after_test, after_ok, at_ok, goes_done, fewer_same, rules) depth 20
-goes_accepted drivers c process (command.Write fd addr bytes) h = search (after_ok, goes_sent, rules) depth 20
-goes_accepted drivers c process (command.Read fd) h =
-    search (after_ok, after_choice, at_ok, goes_eof, goes_received, rules) depth 20
-goes_accepted drivers c process (command.Flush fd w) h =
-    search (after_ok, at_ok, goes_done, fewer_emptied, rules) depth 20
-goes_accepted drivers c process (command.Inject name minor addr bytes) h = search (after_ok, goes_sent, rules) depth 20
-goes_accepted drivers c process (command.Transmit name minor) h = search (after_ok, goes_received, rules) depth 20
-goes_accepted drivers c process (command.Hangup name minor) h = search (after_ok, goes_done, fewer_same, rules) depth 20
+goes_accepted drivers c process k h =
+    search (of_rows, goes_still, goes_took, goes_got, goes_done, serials_filter, rules) depth 24
 
 -- settling keeps what is queued
 
 -- a move leaves the same serials in the flow, each as often
 pub moved_same : (n : ℕ) (drivers : List DriverSpec) (c : Configuration) (p : Place)
     → times n (serials (after_move drivers c p).flow) ≡ times n (serials c.flow)
-moved_same n drivers c p = by (next_open_place drivers c p) (first_message c.flow p) refl where
-  by : (o : Option Place) (m : Option Message) → first_message c.flow p ≡ m
-      → times n (serials (after_move_to drivers c p o m).flow) ≡ times n (serials c.flow)
-  by (Some q) (Some m) e = omega (
-    arith,
-    serials_front n c.flow p m e,
-    serials_placed n (after_leaving drivers c p).flow (record { place = q; message = m }),
-  )
-  by (Some q) None e = refl
-  by None m e = refl
+moved_same n drivers c p = moved_by (λ d. times n (serials d.flow) ≡ times n (serials c.flow)) drivers c p refl
+    (λ q m e. omega (
+      arith,
+      serials_front n c.flow p m e,
+      serials_placed n (after_leaving drivers c p).flow (record { place = q; message = m }),
+    ))
 
 -- a move leaves the next serial as it is
 pub moved_next : (drivers : List DriverSpec) (c : Configuration) (p : Place)
     → (after_move drivers c p).next_serial ≡ c.next_serial
-moved_next drivers c p = by (next_open_place drivers c p) (first_message c.flow p) where
-  by : (o : Option Place) (m : Option Message) → (after_move_to drivers c p o m).next_serial ≡ c.next_serial
-  by (Some q) (Some m) = refl
-  by (Some q) None = refl
-  by None m = refl
+moved_next drivers c p = moved_by (λ d. d.next_serial ≡ c.next_serial) drivers c p refl (λ q m e. refl)
 
 record KeepsSerials (c d : Configuration) : Type 0 where
   same : (n : ℕ) → times n (serials d.flow) ≡ times n (serials c.flow)
@@ -206,14 +143,10 @@ record KeepsSerials (c d : Configuration) : Type 0 where
 
 settled_keeps : (drivers : List DriverSpec) (n : ℕ) (c : Configuration)
     → KeepsSerials c (after_settling_within drivers n c)
-settled_keeps drivers zero c = record { same = λ n. refl; next = refl }
-settled_keeps drivers (suc k) c = elim (least_movable drivers c) as
-    (λ o. KeepsSerials c
-    (elim o as (λ _. Configuration) [ None ↦ c | Some p ↦ after_settling_within drivers k (after_move drivers c p) ])) [
-      | None ↦ record { same = λ n. refl; next = refl }
-      | Some p ↦ let r = settled_keeps drivers k (after_move drivers c p) in
-          record { same = λ n. r.same n ∙ moved_same n drivers c p; next = r.next ∙ moved_next drivers c p }
-    ]
+settled_keeps drivers n c = settled_by (KeepsSerials c) drivers n c (record {
+  each = λ d p r.
+      record { same = λ n. moved_same n drivers d p ∙ r.same n; next = moved_next drivers d p ∙ r.next };
+}) (record { same = λ n. refl; next = refl })
 
 -- a step
 

@@ -1,36 +1,33 @@
 -- Messages keep their serial, address and bytes from where they are taken in to where they are delivered.
-use Rattle.std.proofs.Common.{◌≡◌, ◌⊎◌, ℕ, zero, suc, Bool, List, [], ◌∷◌, ◌++◌, Option, Some, None, Ok, Err, refl}
-use Rattle.std.proofs.Common.{rules, ap, ◌∙◌, subst, inl, inr, arith}
+use Rattle.std.proofs.Common.{◌≡◌, ◌⊎◌, ℕ, Bool, List, [], ◌∷◌, ◌++◌, Some, Ok, Err, refl}
+use Rattle.std.proofs.Common.{rules, ap, sym, ◌∙◌, subst, inl, inr, arith}
 use Rattle.std.specs.List.{All, Contains}
 use Rattle.std.specs.List.Sorted.{IsPermutation}
 use Rattle.std.proofs.lemmas.Bool.{cases_Bool}
 use Rattle.smx_types.specs.declared.command.Command.{Command}
 use Rattle.smx_types.specs.declared.command.Command.TheVariants as command
 use Rattle.smx_types.specs.declared.command.Entry.{Entry}
-use Rattle.smx_types.specs.declared.command.Which.{Which}
-use Rattle.smx_types.specs.declared.command.Which.TheVariants as which
 use Rattle.smx_types.specs.declared.driver.DriverSpec.{DriverSpec}
-use Rattle.smx_types.specs.declared.link.Link.{Link}
-use Rattle.smx_types.specs.declared.link.LinkKind.{LinkKind}
 use Rattle.smx_types.specs.declared.message.Message.{Message}
 use Rattle.smx_types.specs.declared.reply.Reply.{Reply}
 use Rattle.smx_types.specs.declared.reply.Reply.TheVariants as reply
 use Rattle.smx_types.specs.declared.stream.Place.{Place}
-use Rattle.smx_model.specs.Commands.{outcome, step, after_outcome, done_outcome, link_outcome, unlink_outcome}
-use Rattle.smx_model.specs.Commands.{send_outcome, receive_outcome}
+use Rattle.smx_model.specs.Commands.{outcome, step, after_outcome, done_outcome}
 use Rattle.smx_model.specs.Configuration.{Configuration, QueuedMessage, empty, is_at, queued_before}
 use Rattle.smx_model.specs.Histories.{after, after_from, IsLegal, IsLegalFrom}
-use Rattle.smx_model.specs.Ordered.{with_inserted, without_first}
+use Rattle.smx_model.specs.Ordered.{without_first}
 use Rattle.smx_model.specs.Outcomes.{Outcome}
 use Rattle.smx_model.specs.Queues.{first_message, after_leaving}
 use Rattle.smx_model.specs.LawfulHistories.{delivered_by, dropped_by, taken_by}
-use Rattle.smx_model.specs.Removal.{serials, without_links, without_queues_at}
-use Rattle.smx_model.specs.Settling.{after_move, after_move_to, after_settling_within, least_movable, next_open_place}
+use Rattle.smx_model.specs.Removal.{serials}
+use Rattle.smx_model.specs.Settling.{after_settling}
+use Rattle.smx_model.proofs.SettledLemmas.{MovesKeep, moved_by, settled_by}
 use Rattle.smx_model.proofs.ConservationLemmas.{Goes, goes_step, IsNumbered, numbered_empty, numbered_goes}
 use Rattle.smx_model.proofs.CountLemmas.{permuted, times_append}
 use Rattle.smx_model.proofs.EachLemmas.{Each, all_of_each, each_filter, each_map, each_placed}
 use Rattle.smx_model.proofs.MemberLemmas.{is_first, is_later}
-use Rattle.smx_model.proofs.OutcomeLemmas.{IfAccepted, at_ok, after_ok, after_test, after_some, after_choice}
+use Rattle.smx_model.proofs.AcceptedLemmas.{of_rows, taken}
+use Rattle.smx_model.proofs.OutcomeLemmas.{IfAccepted}
 
 -- a command that sends these bytes to this address
 abbrev Sends : Command → ℕ → List ℕ → Type 0
@@ -71,73 +68,35 @@ old : (P : Message → Type 0) (k : Command) (r : Reply) (hs : List QueuedMessag
     → OfEach (λ m. P m ⊎ ((r ≡ reply.Took m.serial) × Sends k m.addr m.bytes)) hs
 old P k r hs h = each_map _ _ hs (λ x p. inl p) h
 
-carries_fd : (P : Message → Type 0) (k : Command) (d : Configuration) (fd minor : ℕ) → OfEach P d.flow
-    → Carries P k d (reply.Fd fd minor)
-carries_fd P k d fd minor h = record { flow = old P k (reply.Fd fd minor) d.flow h; got = λ m e. cc }
-
-carries_eof : (P : Message → Type 0) (k : Command) (d : Configuration) → OfEach P d.flow → Carries P k d reply.Eof
-carries_eof P k d h = record { flow = old P k reply.Eof d.flow h; got = λ m e. cc }
-
-carries_id : (P : Message → Type 0) (k : Command) (d : Configuration) (id : ℕ) → OfEach P d.flow
-    → Carries P k d (reply.Id id)
-carries_id P k d id h = record { flow = old P k (reply.Id id) d.flow h; got = λ m e. cc }
+carries_still : (P : Message → Type 0) (k : Command) (d : Configuration) (r : Reply) → OfEach P d.flow
+    → delivered_by r ≡ [] → Carries P k d r
+carries_still P k d r h none = record {
+  flow = old P k r d.flow h;
+  got = λ m e. let none_is : [] ≡ m.serial ∷ [] = sym none ∙ ap delivered_by e in cc;
+}
 
 carries_done : (P : Message → Type 0) (k : Command) (drivers : List DriverSpec) (c d : Configuration) → OfEach P d.flow
     → IfAccepted (Carries P k) (done_outcome drivers c d)
 carries_done P k drivers c d h =
     record { holds = record { flow = old P k _ _ (each_filter _ _ _ (each_filter _ _ d.flow h)); got = λ m e. cc } }
 
-carries_emptied : (P : Message → Type 0) (k : Command) (drivers : List DriverSpec) (c : Configuration)
-    (goes : Place → Bool) → OfEach P c.flow
-    → IfAccepted (Carries P k) (done_outcome drivers c (without_queues_at c goes))
-carries_emptied P k drivers c goes h = carries_done P k drivers c (without_queues_at c goes) (each_filter _ _ c.flow h)
-
-carries_unlinked : (P : Message → Type 0) (k : Command) (drivers : List DriverSpec) (c : Configuration) (w : Which)
-    (mine : Link → Bool) → OfEach P c.flow → IfAccepted (Carries P k) (unlink_outcome drivers c w mine)
-carries_unlinked P k drivers c w mine h = by w where
-  gone : (goes : Link → Bool) → IfAccepted (Carries P k) (done_outcome drivers c (without_links c goes))
-  gone goes = carries_done P k drivers c (without_links c goes) (each_filter _ _ c.flow h)
-
-  by : (w : Which) → IfAccepted (Carries P k) (unlink_outcome drivers c w mine)
-  by which.All = gone mine
-  by (which.Id id) = search (after_test, gone, rules) depth 12
-
-carries_linked : (P : Message → Type 0) (k : Command) (drivers : List DriverSpec) (c : Configuration)
-    (process fd arg : ℕ) (kind : LinkKind) → OfEach P c.flow
-    → IfAccepted (Carries P k) (link_outcome drivers c process fd arg kind)
-carries_linked P k drivers c process fd arg kind h = search (after_test, after_ok, at_ok, carries_id, rules) depth 24
-
-carries_sent : (P : Message → Type 0) (k : Command) (drivers : List DriverSpec) (c : Configuration) (p : Place)
+carries_took : (P : Message → Type 0) (k : Command) (drivers : List DriverSpec) (c : Configuration) (p : Place)
     (addr : ℕ) (bytes : List ℕ) → Sends k addr bytes → OfEach P c.flow
-    → IfAccepted (Carries P k) (send_outcome drivers c p addr bytes)
-carries_sent P k drivers c p addr bytes sends h = search (after_test, at_ok, took, rules) depth 12 where
-  took : (d : Configuration)
-      → d.flow ≡ with_inserted queued_before c.flow
+    → Carries P k (taken drivers c p addr bytes) (reply.Took c.next_serial)
+carries_took P k drivers c p addr bytes sends h = record {
+  flow = each_placed _ queued_before c.flow
       (record { place = p; message = record { serial = c.next_serial; addr = addr; bytes = bytes } })
-      → Carries P k d (reply.Took c.next_serial)
-  took d e = record {
-    flow = rw e
-        (each_placed _ queued_before c.flow
-        (record { place = p; message = record { serial = c.next_serial; addr = addr; bytes = bytes } })
-        (inr (refl, sends)) (old P k (reply.Took c.next_serial) c.flow h));
-    got = λ m e. cc;
-  }
+      (inr (refl, sends)) (old P k (reply.Took c.next_serial) c.flow h);
+  got = λ m e. cc;
+}
 
-carries_written : (P : Message → Type 0) (drivers : List DriverSpec) (c : Configuration) (p : Place) (fd addr : ℕ)
-    (bytes : List ℕ) → OfEach P c.flow
-    → IfAccepted (Carries P (command.Write fd addr bytes)) (send_outcome drivers c p addr bytes)
-carries_written P drivers c p fd addr bytes h =
-    carries_sent P (command.Write fd addr bytes) drivers c p addr bytes (inl (fd, refl)) h
-
-carries_injected : (P : Message → Type 0) (drivers : List DriverSpec) (c : Configuration) (p : Place) (name : List ℕ)
-    (minor addr : ℕ) (bytes : List ℕ) → OfEach P c.flow
-    → IfAccepted (Carries P (command.Inject name minor addr bytes)) (send_outcome drivers c p addr bytes)
-carries_injected P drivers c p name minor addr bytes h =
-    carries_sent P (command.Inject name minor addr bytes) drivers c p addr bytes (inr (name, minor, refl)) h
-
-carries_received : (P : Message → Type 0) (k : Command) (drivers : List DriverSpec) (c : Configuration) (p : Place)
-    → OfEach P c.flow → IfAccepted (Carries P k) (receive_outcome drivers c p)
-carries_received P k drivers c p h = search (after_some, at_ok, got, rules) depth 12 where
+carries_got : (P : Message → Type 0) (k : Command) (drivers : List DriverSpec) (c : Configuration) (p : Place)
+    (m : Message) → first_message c.flow p ≡ Some m → OfEach P c.flow
+    → Carries P k (after_leaving drivers c p) (reply.Got m.serial m.addr m.bytes)
+carries_got P k drivers c p m e h = record {
+  flow = old P k _ _ (rest_has P (is_at p) c.flow h);
+  got = λ n f. subst P (same m.serial m.addr n.serial n.addr m.bytes n.bytes f) (first_has P c.flow p m e h);
+} where
   message : ℕ → ℕ → List ℕ → Message
   message a b bs = record { serial = a; addr = b; bytes = bs }
 
@@ -145,75 +104,46 @@ carries_received P k drivers c p h = search (after_some, at_ok, got, rules) dept
   same a b x y bs zs e = let f : a ≡ x = cc in let g : b ≡ y = cc in let i : bs ≡ zs = cc in
       ap (λ (n : ℕ). message n b bs) f ∙ (ap (λ (n : ℕ). message x n bs) g ∙ ap (message x y) i)
 
-  got : (m : Message) → first_message c.flow p ≡ Some m
-      → Carries P k (after_leaving drivers c p) (reply.Got m.serial m.addr m.bytes)
-  got m e = record {
-    flow = old P k _ _ (rest_has P (is_at p) c.flow h);
-    got = λ n f. subst P (same m.serial m.addr n.serial n.addr m.bytes n.bytes f) (first_has P c.flow p m e h);
-  }
-
 carries_accepted : (P : Message → Type 0) (drivers : List DriverSpec) (c : Configuration) (process : ℕ) (k : Command)
     → OfEach P c.flow → IfAccepted (Carries P k) (outcome drivers c process k)
-carries_accepted P drivers c process (command.OpenClone name) h = search (after_ok, at_ok, carries_fd, rules) depth 20
-carries_accepted P drivers c process (command.OpenMinor name minor) h =
-    search (after_test, after_ok, at_ok, carries_fd, rules) depth 20
-carries_accepted P drivers c process (command.Dup fd) h = search (after_ok, at_ok, carries_fd, rules) depth 20
-carries_accepted P drivers c process (command.Close fd) h = search (after_ok, carries_done, rules) depth 20
-carries_accepted P drivers c process command.CloseAll h = search (carries_done, rules) depth 20
-carries_accepted P drivers c process (command.Link fd arg) h = search (carries_linked, rules) depth 20
-carries_accepted P drivers c process (command.Plink fd arg) h = search (carries_linked, rules) depth 20
-carries_accepted P drivers c process (command.Unlink fd w) h = search (after_ok, carries_unlinked, rules) depth 20
-carries_accepted P drivers c process (command.Punlink fd w) h = search (after_ok, carries_unlinked, rules) depth 20
-carries_accepted P drivers c process (command.Bind fd addr) h =
-    search (after_test, after_ok, carries_done, rules) depth 20
-carries_accepted P drivers c process (command.Unbind fd) h = search (after_test, after_ok, carries_done, rules) depth 20
-carries_accepted P drivers c process (command.Route fd addr id) h =
-    search (after_test, after_ok, carries_done, rules) depth 20
-carries_accepted P drivers c process (command.Unroute fd addr) h =
-    search (after_test, after_ok, carries_done, rules) depth 20
-carries_accepted P drivers c process (command.Write fd addr bytes) h =
-    search (after_ok, carries_written, rules) depth 20
-carries_accepted P drivers c process (command.Read fd) h =
-    search (after_ok, after_choice, at_ok, carries_eof, carries_received, rules) depth 20
-carries_accepted P drivers c process (command.Flush fd w) h = search (after_ok, carries_emptied, rules) depth 20
-carries_accepted P drivers c process (command.Inject name minor addr bytes) h =
-    search (after_ok, carries_injected, rules) depth 20
-carries_accepted P drivers c process (command.Transmit name minor) h =
-    search (after_ok, carries_received, rules) depth 20
-carries_accepted P drivers c process (command.Hangup name minor) h = search (after_ok, carries_done, rules) depth 20
+carries_accepted P drivers c process k h = search (
+  of_rows,
+  carries_still,
+  carries_took,
+  carries_got,
+  carries_done,
+  each_filter,
+  written,
+  injected,
+  rules,
+) depth 24 where
+  written : (fd addr : ℕ) (bytes : List ℕ) → k ≡ command.Write fd addr bytes → Sends k addr bytes
+  written fd addr bytes e = inl (fd, e)
+
+  injected : (name : List ℕ) (minor addr : ℕ) (bytes : List ℕ) → k ≡ command.Inject name minor addr bytes
+      → Sends k addr bytes
+  injected name minor addr bytes e = inr (name, minor, e)
 
 -- moves and settling keep messages
 
-moved_has : (P : Message → Type 0) (drivers : List DriverSpec) (c : Configuration) (p : Place) → OfEach P c.flow
-    → OfEach P (after_move drivers c p).flow
-moved_has P drivers c p h = by (next_open_place drivers c p) (first_message c.flow p) refl where
-  by : (o : Option Place) (m : Option Message) → first_message c.flow p ≡ m
-      → OfEach P (after_move_to drivers c p o m).flow
-  by (Some q) (Some m) e = each_placed _ queued_before _ (record { place = q; message = m })
-      (first_has P c.flow p m e h) (rest_has P (is_at p) c.flow h)
-  by (Some q) None e = h
-  by None m e = h
-
-settled_has : (P : Message → Type 0) (drivers : List DriverSpec) (n : ℕ) (c : Configuration) → OfEach P c.flow
-    → OfEach P (after_settling_within drivers n c).flow
-settled_has P drivers zero c h = h
-settled_has P drivers (suc k) c h = elim (least_movable drivers c) as
-    (λ o. OfEach P (elim o as (λ _. Configuration)
-    [ None ↦ c | Some p ↦ after_settling_within drivers k (after_move drivers c p) ]).flow)
-    [ None ↦ h | Some p ↦ settled_has P drivers k (after_move drivers c p) (moved_has P drivers c p h) ]
+moved_has : (P : Message → Type 0) (drivers : List DriverSpec) → MovesKeep (λ d. OfEach P d.flow) drivers
+moved_has P drivers = record {
+  each = λ c p h. moved_by (λ d. OfEach P d.flow) drivers c p h
+      (λ q m e. each_placed _ queued_before _ (record { place = q; message = m }) (first_has P c.flow p m e h)
+      (rest_has P (is_at p) c.flow h));
+}
 
 -- so each step
 
 carries_finished : (P : Message → Type 0) (drivers : List DriverSpec) (c : Configuration) (k : Command) (o : Outcome)
     → OfEach P c.flow → IfAccepted (Carries P k) o
     → Carries P k (after_outcome drivers c o).0 (after_outcome drivers c o).1
-carries_finished P drivers c k
-    (Ok x) h m =
-    record {
-      flow = settled_has (λ m. P m ⊎ ((x.1 ≡ reply.Took m.serial) × Sends k m.addr m.bytes)) drivers _ x.0
-          m.holds.flow;
-      got = m.holds.got;
-    }
+carries_finished P drivers c k (Ok x) h m = record { flow = settled; got = m.holds.got } where
+  Q : Message → Type 0
+  Q m = P m ⊎ ((x.1 ≡ reply.Took m.serial) × Sends k m.addr m.bytes)
+
+  settled : OfEach Q (after_settling drivers x.0).flow
+  settled = settled_by (λ d. OfEach Q d.flow) drivers _ x.0 (moved_has Q drivers) m.holds.flow
 carries_finished P drivers c k (Err f) h m = record { flow = old P k (reply.Fault f) c.flow h; got = λ m e. cc }
 
 -- it was taken in by this entry or known before

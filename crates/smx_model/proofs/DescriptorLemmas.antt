@@ -5,23 +5,19 @@ use Rattle.std.specs.List.{All, Contains, list_any}
 use Rattle.std.proofs.lemmas.Bool.{cases_Bool}
 use Rattle.smx_types.specs.declared.command.Command.{Command}
 use Rattle.smx_types.specs.declared.command.Command.TheVariants as command
-use Rattle.smx_types.specs.declared.command.Which.{Which}
-use Rattle.smx_types.specs.declared.command.Which.TheVariants as which
 use Rattle.smx_types.specs.declared.driver.DriverSpec.{DriverSpec}
-use Rattle.smx_types.specs.declared.link.Link.{Link}
-use Rattle.smx_types.specs.declared.link.LinkKind.{LinkKind}
 use Rattle.smx_types.specs.declared.reply.Fault.TheVariants.{BadDescriptor}
 use Rattle.smx_types.specs.declared.stream.Descriptor.{Descriptor}
-use Rattle.smx_types.specs.declared.stream.Place.{Place}
 use Rattle.smx_types.specs.declared.stream.StreamId.{StreamId}
-use Rattle.smx_model.specs.Commands.{outcome, step, after_outcome, done_outcome, link_outcome, unlink_outcome}
-use Rattle.smx_model.specs.Commands.{send_outcome, receive_outcome, with_fd}
+use Rattle.smx_model.specs.Commands.{outcome, step, after_outcome, done_outcome}
+use Rattle.smx_model.specs.Commands.{with_fd}
 use Rattle.smx_model.specs.Configuration.{Configuration, fd_before, is_fd}
 use Rattle.smx_model.specs.Outcomes.{Outcome, ◌>>=◌, or_fault}
-use Rattle.smx_model.specs.Removal.{after_sweep, without_links}
+use Rattle.smx_model.specs.Removal.{after_sweep}
 use Rattle.smx_model.specs.Settling.{after_settling}
 use Rattle.smx_model.proofs.MemberLemmas.{all_in, filtered_passes, in_filtered, in_placed, none_in}
-use Rattle.smx_model.proofs.OutcomeLemmas.{IfAccepted, at_ok, after_ok, after_test, after_some, after_choice}
+use Rattle.smx_model.proofs.AcceptedLemmas.{of_rows, at_none}
+use Rattle.smx_model.proofs.OutcomeLemmas.{IfAccepted}
 use Rattle.smx_model.proofs.SettledLemmas.{settled_alone}
 
 -- what no search found fails the test
@@ -87,58 +83,11 @@ open_done : (drivers : List DriverSpec) (c d : Configuration) → d.fds ≡ c.fd
     → IfAccepted (λ d r. KeepsDescriptors c d) (done_outcome drivers c d)
 open_done drivers c d e = record { holds = open_same c (after_sweep drivers d) e }
 
-open_unlinked : (drivers : List DriverSpec) (c : Configuration) (w : Which) (mine : Link → Bool)
-    → IfAccepted (λ d r. KeepsDescriptors c d) (unlink_outcome drivers c w mine)
-open_unlinked drivers c which.All mine = open_done drivers c (without_links c mine) refl
-open_unlinked drivers c (which.Id id) mine = search (after_test, open_done, rules) depth 12
-
-open_linked : (drivers : List DriverSpec) (c : Configuration) (process fd arg : ℕ) (k : LinkKind)
-    → IfAccepted (λ d r. KeepsDescriptors c d) (link_outcome drivers c process fd arg k)
-open_linked drivers c process fd arg k = search (after_test, after_ok, at_ok, open_same, rules) depth 24
-
-open_sent : (drivers : List DriverSpec) (c : Configuration) (p : Place) (addr : ℕ) (bytes : List ℕ)
-    → IfAccepted (λ d r. KeepsDescriptors c d) (send_outcome drivers c p addr bytes)
-open_sent drivers c p addr bytes = search (after_test, at_ok, open_same, rules) depth 12
-
-open_received : (drivers : List DriverSpec) (c : Configuration) (p : Place)
-    → IfAccepted (λ d r. KeepsDescriptors c d) (receive_outcome drivers c p)
-open_received drivers c p = search (after_some, at_ok, open_same, rules) depth 12
-
 open_accepted : (drivers : List DriverSpec) (c : Configuration) (process : ℕ) (k : Command)
     → ((fd : ℕ) → k ≡ command.Close fd → ⊥) → (k ≡ command.CloseAll → ⊥)
     → IfAccepted (λ d r. KeepsDescriptors c d) (outcome drivers c process k)
-open_accepted drivers c process (command.OpenClone name) no_close no_exit =
-    search (after_ok, at_ok, open_fd, rules) depth 20
-open_accepted drivers c process (command.OpenMinor name minor) no_close no_exit =
-    search (after_test, after_ok, at_ok, open_fd, rules) depth 20
-open_accepted drivers c process (command.Dup fd) no_close no_exit = search (after_ok, at_ok, open_fd, rules) depth 20
-open_accepted drivers c process (command.Close fd) no_close no_exit = absurd (no_close fd refl)
-open_accepted drivers c process command.CloseAll no_close no_exit = absurd (no_exit refl)
-open_accepted drivers c process (command.Link fd arg) no_close no_exit = search (open_linked, rules) depth 20
-open_accepted drivers c process (command.Plink fd arg) no_close no_exit = search (open_linked, rules) depth 20
-open_accepted drivers c process (command.Unlink fd w) no_close no_exit =
-    search (after_ok, open_unlinked, rules) depth 20
-open_accepted drivers c process (command.Punlink fd w) no_close no_exit =
-    search (after_ok, open_unlinked, rules) depth 20
-open_accepted drivers c process (command.Bind fd addr) no_close no_exit =
-    search (after_test, after_ok, open_done, rules) depth 20
-open_accepted drivers c process (command.Unbind fd) no_close no_exit =
-    search (after_test, after_ok, open_done, rules) depth 20
-open_accepted drivers c process (command.Route fd addr id) no_close no_exit =
-    search (after_test, after_ok, open_done, rules) depth 20
-open_accepted drivers c process (command.Unroute fd addr) no_close no_exit =
-    search (after_test, after_ok, open_done, rules) depth 20
-open_accepted drivers c process (command.Write fd addr bytes) no_close no_exit =
-    search (after_ok, open_sent, rules) depth 20
-open_accepted drivers c process (command.Read fd) no_close no_exit =
-    search (after_ok, after_choice, at_ok, open_same, open_received, rules) depth 20
-open_accepted drivers c process (command.Flush fd w) no_close no_exit = search (after_ok, open_done, rules) depth 20
-open_accepted drivers c process (command.Inject name minor addr bytes) no_close no_exit =
-    search (after_ok, open_sent, rules) depth 20
-open_accepted drivers c process (command.Transmit name minor) no_close no_exit =
-    search (after_ok, open_received, rules) depth 20
-open_accepted drivers c process (command.Hangup name minor) no_close no_exit =
-    search (after_ok, open_done, rules) depth 20
+open_accepted drivers c process k no_close no_exit =
+    search (of_rows, open_fd, open_same, open_done, at_none, no_close, no_exit, rules) depth 24
 
 open_finished : (drivers : List DriverSpec) (c : Configuration) (o : Outcome)
     → IfAccepted (λ d r. KeepsDescriptors c d) o → KeepsDescriptors c (after_outcome drivers c o).0

@@ -1,37 +1,32 @@
 -- Which commands drop messages.
-use Rattle.std.proofs.Common.{◌≡◌, ℕ, Bool, true, false, not, eqb, List, [], ◌∷◌, filter, Result, Ok, Err, refl, rules}
-use Rattle.std.proofs.Common.{sym, ap, ◌∙◌, subst, inl, inr}
+use Rattle.std.proofs.Common.{◌≡◌, ℕ, Bool, true, false, not, eqb, List, [], ◌∷◌, filter, Ok, Err, refl, rules}
+use Rattle.std.proofs.Common.{sym, ap, ◌∙◌, inl, inr}
 use Rattle.std.specs.List.{list_any, list_all}
 use Rattle.std.proofs.lemmas.Bool.{cases_Bool, and_parts, and_from, or_left, or_right, eq-eqb, false≢true}
 use Rattle.smx_types.specs.declared.command.Command.{Command}
-use Rattle.smx_types.specs.declared.command.Command.TheVariants as command
 use Rattle.smx_types.specs.declared.command.Entry.{Entry}
 use Rattle.smx_types.specs.declared.driver.DriverSpec.{DriverSpec}
-use Rattle.smx_types.specs.declared.link.Binding.{Binding}
-use Rattle.smx_types.specs.declared.link.LinkKind.{LinkKind}
-use Rattle.smx_types.specs.declared.link.Route.{Route}
-use Rattle.smx_types.specs.declared.reply.Fault.{Fault}
 use Rattle.smx_types.specs.declared.reply.Fault.TheVariants.{NotMux}
 use Rattle.smx_types.specs.declared.reply.Reply.TheVariants.{Done}
-use Rattle.smx_types.specs.declared.stream.Place.{Place}
 use Rattle.smx_types.specs.declared.stream.StreamId.{StreamId}
-use Rattle.smx_model.specs.Commands.{outcome, step, after_outcome, done_outcome, link_outcome, send_outcome}
-use Rattle.smx_model.specs.Commands.{receive_outcome}
-use Rattle.smx_model.specs.Configuration.{Configuration, QueuedMessage, empty, bind_before, stream_before}
+use Rattle.smx_model.specs.Commands.{outcome, step, after_outcome, done_outcome}
+use Rattle.smx_model.specs.Configuration.{Configuration, QueuedMessage, empty, stream_before}
 use Rattle.smx_model.specs.DriverList.{is_mux}
 use Rattle.smx_model.specs.Histories.{IsLegal, IsLegalFrom}
 use Rattle.smx_model.specs.KeptConfigurations.{IsKept}
 use Rattle.smx_model.specs.LawfulHistories.{dropped_by, may_drop, AreDropsAllowed}
 use Rattle.smx_model.specs.Lookups.{free_stream, mux_stream}
-use Rattle.smx_model.specs.Ordered.{with_inserted, in_rising_order}
-use Rattle.smx_model.specs.Outcomes.{Outcome, ◌>>=◌, refuse}
+use Rattle.smx_model.specs.Ordered.{in_rising_order}
+use Rattle.smx_model.specs.Outcomes.{Outcome}
 use Rattle.smx_model.specs.Removal.{serials_that_left, serials}
 use Rattle.smx_model.specs.Standing.{exists}
 use Rattle.smx_model.specs.Swept.{IsSwept}
 use Rattle.smx_model.proofs.EachLemmas.{Each, all_of_each}
 use Rattle.smx_model.proofs.IdleSweepLemmas.{swept_idle}
 use Rattle.smx_model.proofs.KeptLemmas.{empty_kept, step_keeps}
-use Rattle.smx_model.proofs.OutcomeLemmas.{IfAccepted, at_ok, after_ok, after_test, after_some, after_choice}
+use Rattle.smx_model.proofs.AcceptedLemmas.{of_rows, at_none}
+use Rattle.smx_model.proofs.LookupLemmas.{tested}
+use Rattle.smx_model.proofs.OutcomeLemmas.{IfAccepted, at_ok}
 use Rattle.smx_model.proofs.SweptLemmas.{free_exists, leaf_exists}
 use Rattle.smx_model.proofs.TestLemmas.{all_filter, all_placed}
 use Rattle.smx_model.specs.Hangups.{is_hung, with_hung}
@@ -75,55 +70,8 @@ idle_drops drivers c d clean same = rw (done_idle drivers c d clean same) (at_ok
 -- a multiplexing driver's stream that a descriptor names, and that is not linked below, exists
 pub mux_exists : (drivers : List DriverSpec) (c : Configuration) (process fd : ℕ) (s : StreamId)
     → mux_stream drivers c process fd ≡ Ok s → exists drivers c s ≡ true
-mux_exists drivers c process fd s e = by (free_stream c process fd) refl e where
-  tested : (t : StreamId) (b : Bool) → (refuse NotMux b >>= (λ _. Ok t)) ≡ Ok s → t ≡ s
-  tested t true k = cc
-  tested t false k = cc
-
-  by : (r : Result StreamId Fault) → free_stream c process fd ≡ r
-      → (r >>= (λ t. refuse NotMux (not (is_mux drivers t.driver)) >>= (λ _. Ok t))) ≡ Ok s → exists drivers c s ≡ true
-  by (Err f) e k = cc
-  by (Ok t) e k = subst (λ (x : StreamId). exists drivers c x ≡ true) (tested t (not (is_mux drivers t.driver)) k)
-      (free_exists drivers c process fd t e)
-
--- a binding of a stream that exists, fewer bindings, or other routes
-
-bind_drops : (drivers : List DriverSpec) (c : Configuration) (s : StreamId) (addr : ℕ) → IsSwept drivers c
-    → exists drivers c s ≡ true
-    → DropsNone
-    (done_outcome drivers c
-    (record c {
-      binds = with_inserted bind_before c.binds
-          (record { driver = s.driver; addr = addr; minor = s.minor });
-    }))
-bind_drops drivers c s addr h e = idle_drops drivers c
-    (record c {
-      binds = with_inserted bind_before c.binds
-          (record { driver = s.driver; addr = addr; minor = s.minor });
-    })
-    (record {
-      links = h.links;
-      binds = all_placed _ bind_before c.binds _ e h.binds;
-      flow = h.flow;
-      fulls = h.fulls;
-      hungs = h.hungs;
-    }) refl
-
-unbind_drops : (drivers : List DriverSpec) (c : Configuration) (keep : Binding → Bool) → IsSwept drivers c
-    → DropsNone (done_outcome drivers c (record c { binds = filter keep c.binds }))
-unbind_drops drivers c keep h = idle_drops drivers c (record c { binds = filter keep c.binds })
-    (record {
-      links = h.links;
-      binds = all_filter _ keep c.binds h.binds;
-      flow = h.flow;
-      fulls = h.fulls;
-      hungs = h.hungs;
-    }) refl
-
-route_drops : (drivers : List DriverSpec) (c : Configuration) (routes : List Route) → IsSwept drivers c
-    → DropsNone (done_outcome drivers c (record c { routes = routes }))
-route_drops drivers c routes h = idle_drops drivers c (record c { routes = routes })
-    (record { links = h.links; binds = h.binds; flow = h.flow; fulls = h.fulls; hungs = h.hungs }) refl
+mux_exists drivers c process fd s e = free_exists drivers c process fd s
+    (tested NotMux (free_stream c process fd) (λ t. not (is_mux drivers t.driver)) s e).0
 
 -- a hung-up stream that exists
 
@@ -141,56 +89,24 @@ hung_swept drivers c s h e = record {
   by true t = rw t h.hungs
   by false f = rw f (all_placed _ stream_before c.hungs s e h.hungs)
 
-hangup_drops : (drivers : List DriverSpec) (c : Configuration) (s : StreamId) → IsSwept drivers c
-    → exists drivers c s ≡ true → DropsNone (done_outcome drivers c (record c { hungs = with_hung s c.hungs }))
-hangup_drops drivers c s h e =
-    idle_drops drivers c (record c { hungs = with_hung s c.hungs }) (hung_swept drivers c s h e) refl
-
--- what replies no Done
-
-linked_drops : (drivers : List DriverSpec) (c : Configuration) (process fd arg : ℕ) (k : LinkKind)
-    → DropsNone (link_outcome drivers c process fd arg k)
-linked_drops drivers c process fd arg k = search (after_test, after_ok, at_ok, rules) depth 24
-
-sent_drops : (drivers : List DriverSpec) (c : Configuration) (p : Place) (addr : ℕ) (bytes : List ℕ)
-    → DropsNone (send_outcome drivers c p addr bytes)
-sent_drops drivers c p addr bytes = search (after_test, at_ok, rules) depth 12
-
-received_drops : (drivers : List DriverSpec) (c : Configuration) (p : Place) → DropsNone (receive_outcome drivers c p)
-received_drops drivers c p = search (after_some, at_ok, rules) depth 12
-
 -- each command that may not drop
 
 drops_accepted : (drivers : List DriverSpec) (c : Configuration) (process : ℕ) (k : Command) → may_drop k ≡ false
     → IsSwept drivers c → DropsNone (outcome drivers c process k)
-drops_accepted drivers c process (command.OpenClone name) never h = search (after_ok, at_ok, rules) depth 20
-drops_accepted drivers c process (command.OpenMinor name minor) never h =
-    search (after_test, after_ok, at_ok, rules) depth 20
-drops_accepted drivers c process (command.Dup fd) never h = search (after_ok, at_ok, rules) depth 20
-drops_accepted drivers c process (command.Close fd) never h = absurd (false≢true (sym never))
-drops_accepted drivers c process command.CloseAll never h = absurd (false≢true (sym never))
-drops_accepted drivers c process (command.Link fd arg) never h = search (linked_drops, rules) depth 20
-drops_accepted drivers c process (command.Plink fd arg) never h = search (linked_drops, rules) depth 20
-drops_accepted drivers c process (command.Unlink fd w) never h = absurd (false≢true (sym never))
-drops_accepted drivers c process (command.Punlink fd w) never h = absurd (false≢true (sym never))
-drops_accepted drivers c process (command.Bind fd addr) never h =
-    search (after_test, after_ok, bind_drops, mux_exists, rules) depth 20
-drops_accepted drivers c process (command.Unbind fd) never h =
-    search (after_test, after_ok, unbind_drops, rules) depth 20
-drops_accepted drivers c process (command.Route fd addr id) never h =
-    search (after_test, after_ok, route_drops, rules) depth 20
-drops_accepted drivers c process (command.Unroute fd addr) never h =
-    search (after_test, after_ok, route_drops, rules) depth 20
-drops_accepted drivers c process (command.Write fd addr bytes) never h = search (after_ok, sent_drops, rules) depth 20
-drops_accepted drivers c process (command.Read fd) never h =
-    search (after_ok, after_choice, at_ok, received_drops, rules) depth 20
-drops_accepted drivers c process (command.Flush fd w) never h = absurd (false≢true (sym never))
-drops_accepted drivers c process (command.Inject name minor addr bytes) never h =
-    search (after_ok, sent_drops, rules) depth 20
-drops_accepted drivers c process (command.Transmit name minor) never h =
-    search (after_ok, received_drops, rules) depth 20
-drops_accepted drivers c process (command.Hangup name minor) never h =
-    search (after_ok, hangup_drops, leaf_exists, rules) depth 20
+drops_accepted drivers c process k never h = search (
+  of_rows,
+  idle_drops,
+  all_placed,
+  all_filter,
+  hung_swept,
+  mux_exists,
+  leaf_exists,
+  at_none,
+  drops,
+  rules,
+) depth 24 where
+  drops : (x : Command) → k ≡ x → may_drop x ≡ true → ⊥
+  drops x e may = false≢true (sym never ∙ (ap may_drop e ∙ may))
 
 -- a command whose reply names dropped messages is one of those that may drop
 pub step_drops : (drivers : List DriverSpec) (c : Configuration) (process : ℕ) (k : Command) → IsSwept drivers c

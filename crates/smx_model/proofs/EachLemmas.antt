@@ -1,9 +1,9 @@
 -- What holds of each element of a list, by recursion and by index.
 use Rattle.std.proofs.Common.{◌≡◌, zero, suc, Bool, false, arith, List, [], ◌∷◌, ◌++◌, filter, find, Some, subst, inl}
 use Rattle.std.proofs.Common.{inr, true}
-use Rattle.std.specs.List.{list_any, All, list_all}
+use Rattle.std.specs.List.{list_any, All, AllPairs, list_all}
 use Rattle.std.proofs.lemmas.Bool.{cases_Bool, and_parts, or_parts}
-use Rattle.smx_model.specs.Ordered.{with_inserted}
+use Rattle.smx_model.specs.Ordered.{ComesBefore, IsRising, with_inserted}
 
 -- P of each element
 abbrev pub Each : {X : Type 0} → (X → Type 0) → List X → Type 0
@@ -42,6 +42,11 @@ pub each_map : {X : Type 0} (P Q : X → Type 0) (xs : List X) → ((x : X) → 
 each_map P Q [] f h = tt
 each_map P Q (x ∷ xs) f h = (f x h.0, each_map P Q xs f h.1)
 
+-- where P and Q hold of each element, both hold of each
+pub each_both : {X : Type 0} (P Q : X → Type 0) (xs : List X) → Each P xs → Each Q xs → Each (λ x. P x × Q x) xs
+each_both P Q [] h k = tt
+each_both P Q (x ∷ xs) h k = ((h.0, k.0), each_both P Q xs h.1 k.1)
+
 -- what holds of each element by recursion holds of each by index
 pub all_of_each : {X : Type 0} (P : X → Type 0) (xs : List X) → Each P xs → All P xs
 all_of_each P [] h k d lt = absurd (omega arith)
@@ -72,3 +77,37 @@ pub kept_passes : {X : Type 0} (t : X → Bool) (P : X → Type 0) (xs : List X)
 kept_passes t P [] f = tt
 kept_passes t P (x ∷ xs) f =
     elim (cases_Bool (t x)) [ inl k ↦ rw k (f x k, kept_passes t P xs f) | inr k ↦ rw k (kept_passes t P xs f) ]
+
+-- each element is related so to all later ones
+abbrev pub Apart : {X : Type 0} → (X → X → Type 0) → List X → Type 0
+Apart R [] = Unit {0}
+Apart R (x ∷ xs) = Each (R x) xs × Apart R xs
+
+-- where each element is related so to all later ones, it is so among those that a filter leaves
+pub apart_filter : {X : Type 0} (R : X → X → Type 0) (keep : X → Bool) (xs : List X) → Apart R xs
+    → Apart R (filter keep xs)
+apart_filter R keep [] h = tt
+apart_filter R keep (x ∷ xs) h = elim (cases_Bool (keep x)) [
+  | inl t ↦ rw t (each_filter (R x) keep xs h.0, apart_filter R keep xs h.1)
+  | inr f ↦
+      rw f (apart_filter R keep xs h.1)
+]
+
+each_rising : {X : Type 0} (R : X → X → Type 0) (before : X → X → Bool) → ((x y : X) → before x y ≡ true → R x y)
+    → (x : X) (xs : List X) → ComesBefore before x xs → Each (R x) xs
+each_rising R before f x [] h = tt
+each_rising R before f x (y ∷ ys) h = (f x y h.0, each_rising R before f x ys h.1)
+
+-- where what comes before is related so, elements that rise are related so to all later ones
+pub apart_rising : {X : Type 0} (R : X → X → Type 0) (before : X → X → Bool)
+    → ((x y : X) → before x y ≡ true → R x y) → (xs : List X) → IsRising before xs → Apart R xs
+apart_rising R before f [] h = tt
+apart_rising R before f (x ∷ xs) h = (each_rising R before f x xs h.0, apart_rising R before f xs h.1)
+
+-- what is related in pairs by index is so by recursion
+pub apart_pairs : {X : Type 0} (R : X → X → Type 0) (xs : List X) → AllPairs R xs → Apart R xs
+apart_pairs R [] h = tt
+apart_pairs R (x ∷ xs) h = (
+  each_of_all (R x) xs (λ k d lt. h 0 (suc k) d (omega arith) (omega (arith, lt))),
+  apart_pairs R xs (λ i j d lt within. h (suc i) (suc j) d (omega (arith, lt)) (omega (arith, within))),
+)

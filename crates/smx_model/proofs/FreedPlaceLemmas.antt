@@ -7,24 +7,19 @@ use Rattle.std.specs.List.{list_any}
 use Rattle.std.proofs.lemmas.Bool.{both_ways, cases_Bool, and_parts, false≢true}
 use Rattle.smx_types.specs.declared.command.Command.{Command}
 use Rattle.smx_types.specs.declared.command.Command.TheVariants as command
-use Rattle.smx_types.specs.declared.command.Which.{Which}
-use Rattle.smx_types.specs.declared.command.Which.TheVariants as which
 use Rattle.smx_types.specs.declared.driver.DriverSpec.{DriverSpec}
-use Rattle.smx_types.specs.declared.link.Binding.{Binding}
 use Rattle.smx_types.specs.declared.link.Link.{Link}
 use Rattle.smx_types.specs.declared.link.LinkKind.{LinkKind}
-use Rattle.smx_types.specs.declared.link.Route.{Route}
 use Rattle.smx_types.specs.declared.message.Message.{Message}
 use Rattle.smx_types.specs.declared.reply.Fault.{Fault}
 use Rattle.smx_types.specs.declared.stream.Descriptor.{Descriptor}
 use Rattle.smx_types.specs.declared.stream.Place.{Place}
 use Rattle.smx_types.specs.declared.stream.StreamId.{StreamId}
-use Rattle.smx_model.specs.Commands.{outcome, done_outcome, link_outcome, unlink_outcome, send_outcome, receive_outcome}
+use Rattle.smx_model.specs.Commands.{outcome, done_outcome, link_outcome, send_outcome, receive_outcome}
 use Rattle.smx_model.specs.Commands.{with_fd}
-use Rattle.smx_model.specs.Configuration.{Configuration, QueuedMessage, bind_before, same_place}
+use Rattle.smx_model.specs.Configuration.{Configuration, QueuedMessage, same_place}
 use Rattle.smx_model.specs.FreedPlaces.{FreesOnly, freed_by, is_empty_at, is_side_of}
 use Rattle.smx_model.specs.Lookups.{free_stream, live_stream, live_leaf}
-use Rattle.smx_model.specs.Ordered.{with_inserted}
 use Rattle.smx_model.specs.Outcomes.{Outcome, ◌>>=◌}
 use Rattle.smx_model.specs.Queues.{after_arrival, after_leaving, first_message, is_full, queue}
 use Rattle.smx_model.specs.Removal.{after_sweep, is_read_below, without_links, without_queues_at}
@@ -34,11 +29,11 @@ use Rattle.smx_model.specs.Swept.{IsSwept}
 use Rattle.smx_model.specs.TurnedPlaces.{of_stream, read_side, write_side}
 use Rattle.smx_model.proofs.DropLemmas.{mux_exists, hung_swept}
 use Rattle.smx_model.proofs.IdleSweepLemmas.{swept_idle}
+use Rattle.smx_model.proofs.AcceptedLemmas.{unlinked}
 use Rattle.smx_model.proofs.OutcomeLemmas.{IfAccepted, at_ok, after_ok, after_test, after_some, after_choice}
 use Rattle.smx_model.proofs.QueueLemmas.{emptied_full, emptied_queue, front_is}
 use Rattle.smx_model.proofs.TestLemmas.{all_filter, all_placed}
 use Rattle.smx_model.proofs.TurningLemmas.{arrived_more, left_keeps}
-use Rattle.smx_model.specs.Hangups.{with_hung}
 use Rattle.smx_model.proofs.SweptLemmas.{leaf_exists}
 
 -- ---- what frees which places
@@ -138,61 +133,15 @@ frees_done : (drivers : List DriverSpec) (c new : Configuration) (t : Place → 
 frees_done drivers c new t clean h =
     record { holds = subst (λ (d : Configuration). FreesOnly c d t) (sym (swept_idle drivers new clean)) h }
 
-frees_bind : (drivers : List DriverSpec) (c : Configuration) (s : StreamId) (addr : ℕ) → IsSwept drivers c
-    → exists drivers c s ≡ true
-    → IfAccepted (λ d r. FreesOnly c d nowhere)
-    (done_outcome drivers c
-    (record c {
-      binds = with_inserted bind_before c.binds
-          (record { driver = s.driver; addr = addr; minor = s.minor });
-    }))
-frees_bind drivers c s addr h e = frees_done drivers c new nowhere
-    (record {
-      links = h.links;
-      binds = all_placed _ bind_before c.binds _ e h.binds;
-      flow = h.flow;
-      fulls = h.fulls;
-      hungs = h.hungs;
-    }) (same_frees c new nowhere refl) where
-      new : Configuration
-      new = record c {
-        binds = with_inserted bind_before c.binds
-            (record { driver = s.driver; addr = addr; minor = s.minor });
-      }
-
-frees_unbind : (drivers : List DriverSpec) (c : Configuration) (keep : Binding → Bool) → IsSwept drivers c
-    → IfAccepted (λ d r. FreesOnly c d nowhere) (done_outcome drivers c (record c { binds = filter keep c.binds }))
-frees_unbind drivers c keep h = frees_done drivers c (record c { binds = filter keep c.binds }) nowhere
-    (record {
-      links = h.links;
-      binds = all_filter _ keep c.binds h.binds;
-      flow = h.flow;
-      fulls = h.fulls;
-      hungs = h.hungs;
-    }) (same_frees c (record c { binds = filter keep c.binds }) nowhere refl)
-
-frees_route : (drivers : List DriverSpec) (c : Configuration) (routes : List Route) → IsSwept drivers c
-    → IfAccepted (λ d r. FreesOnly c d nowhere) (done_outcome drivers c (record c { routes = routes }))
-frees_route drivers c routes h = frees_done drivers c (record c { routes = routes }) nowhere
-    (record { links = h.links; binds = h.binds; flow = h.flow; fulls = h.fulls; hungs = h.hungs })
-    (same_frees c (record c { routes = routes }) nowhere refl)
-
-frees_hangup : (drivers : List DriverSpec) (c : Configuration) (s : StreamId) → IsSwept drivers c
-    → exists drivers c s ≡ true
-    → IfAccepted (λ d r. FreesOnly c d nowhere) (done_outcome drivers c (record c { hungs = with_hung s c.hungs }))
-frees_hangup drivers c s h e = frees_done drivers c (record c { hungs = with_hung s c.hungs }) nowhere
-    (hung_swept drivers c s h e) (same_frees c (record c { hungs = with_hung s c.hungs }) nowhere refl)
+-- and no full place changed
+frees_still : (drivers : List DriverSpec) (c new : Configuration) → IsSwept drivers new → new.fulls ≡ c.fulls
+    → IfAccepted (λ d r. FreesOnly c d nowhere) (done_outcome drivers c new)
+frees_still drivers c new clean e = frees_done drivers c new nowhere clean (same_frees c new nowhere e)
 
 frees_flush : (drivers : List DriverSpec) (c : Configuration) (goes : Place → Bool) → IsSwept drivers c
     → IfAccepted (λ d r. FreesOnly c d goes) (done_outcome drivers c (without_queues_at c goes))
-frees_flush drivers c goes h = frees_done drivers c (without_queues_at c goes) goes
-    (record {
-      links = h.links;
-      binds = h.binds;
-      flow = all_filter _ _ c.flow h.flow;
-      fulls = all_filter _ _ c.fulls h.fulls;
-      hungs = h.hungs;
-    }) (frees_emptied c goes)
+frees_flush drivers c goes h = frees_done drivers c (without_queues_at c goes) goes (search (all_filter, rules))
+    (frees_emptied c goes)
 
 -- what is swept frees only places that are empty then
 frees_closed : (drivers : List DriverSpec) (c : Configuration) (fds : List Descriptor)
@@ -209,11 +158,6 @@ frees_removed drivers c goes = record {
       (keeps_then c (without_links c goes) (after_sweep drivers (without_links c goes)) (removed_keeps c goes)
       (swept_keeps drivers (without_links c goes)));
 }
-
-frees_unlinked : (drivers : List DriverSpec) (c : Configuration) (w : Which) (mine : Link → Bool)
-    → IfAccepted (λ d r. FreesOnly c d (is_empty_at d)) (unlink_outcome drivers c w mine)
-frees_unlinked drivers c which.All mine = frees_removed drivers c mine
-frees_unlinked drivers c (which.Id id) mine = search (after_test, frees_removed, rules) depth 12
 
 frees_with_fd : (drivers : List DriverSpec) (c : Configuration) (process fd : ℕ) (s : StreamId)
     → FreesOnly c (with_fd c process fd s) nowhere
@@ -259,12 +203,14 @@ frees drivers c process (command.Close fd) h = search (after_ok, frees_closed, r
 frees drivers c process command.CloseAll h = frees_closed drivers c _
 frees drivers c process (command.Link fd arg) h = search (frees_linked, rules) depth 20
 frees drivers c process (command.Plink fd arg) h = search (frees_linked, rules) depth 20
-frees drivers c process (command.Unlink fd w) h = search (after_ok, frees_unlinked, rules) depth 20
-frees drivers c process (command.Punlink fd w) h = search (after_ok, frees_unlinked, rules) depth 20
-frees drivers c process (command.Bind fd addr) h = search (after_test, after_ok, frees_bind, mux_exists, rules) depth 20
-frees drivers c process (command.Unbind fd) h = search (after_test, after_ok, frees_unbind, rules) depth 20
-frees drivers c process (command.Route fd addr id) h = search (after_test, after_ok, frees_route, rules) depth 20
-frees drivers c process (command.Unroute fd addr) h = search (after_test, after_ok, frees_route, rules) depth 20
+frees drivers c process (command.Unlink fd w) h = search (after_ok, unlinked, frees_removed, rules) depth 20
+frees drivers c process (command.Punlink fd w) h = search (after_ok, unlinked, frees_removed, rules) depth 20
+frees drivers c process (command.Bind fd addr) h =
+    search (after_test, after_ok, frees_still, all_placed, mux_exists, rules) depth 20
+frees drivers c process (command.Unbind fd) h =
+    search (after_test, after_ok, frees_still, all_filter, rules) depth 20
+frees drivers c process (command.Route fd addr id) h = search (after_test, after_ok, frees_still, rules) depth 20
+frees drivers c process (command.Unroute fd addr) h = search (after_test, after_ok, frees_still, rules) depth 20
 frees drivers c process (command.Write fd addr bytes) h = search (after_ok, frees_sent, rules) depth 20
 frees drivers c process (command.Read fd) h = search (
   at_stream c (free_stream c process fd) (λ s. same_place (read_side s)),
@@ -279,4 +225,5 @@ frees drivers c process (command.Flush fd w) h =
 frees drivers c process (command.Inject name minor addr bytes) h = search (after_ok, frees_sent, rules) depth 20
 frees drivers c process (command.Transmit name minor) h = search
     (at_stream c (live_leaf drivers c name minor) (λ s. same_place (write_side s)), frees_received, rules) depth 20
-frees drivers c process (command.Hangup name minor) h = search (after_ok, frees_hangup, leaf_exists, rules) depth 20
+frees drivers c process (command.Hangup name minor) h =
+    search (after_ok, frees_still, hung_swept, leaf_exists, rules) depth 20

@@ -8,17 +8,12 @@ use Rattle.std.proofs.lemmas.Bool.{cases_Bool, both_ways, false_from_ne_true, fa
 use Rattle.smx_types.specs.Versions.{is_hangup}
 use Rattle.smx_types.specs.declared.command.Command.{Command}
 use Rattle.smx_types.specs.declared.command.Command.TheVariants as command
-use Rattle.smx_types.specs.declared.command.Which.{Which}
-use Rattle.smx_types.specs.declared.command.Which.TheVariants as which
 use Rattle.smx_types.specs.declared.driver.DriverSpec.{DriverSpec}
-use Rattle.smx_types.specs.declared.link.Link.{Link}
-use Rattle.smx_types.specs.declared.link.LinkKind.{LinkKind}
 use Rattle.smx_types.specs.declared.reply.Fault.{Fault}
 use Rattle.smx_types.specs.declared.reply.Reply.TheVariants as reply
 use Rattle.smx_types.specs.declared.stream.Place.{Place}
 use Rattle.smx_types.specs.declared.stream.StreamId.{StreamId}
-use Rattle.smx_model.specs.Commands.{outcome, step, after_outcome, done_outcome, link_outcome, unlink_outcome}
-use Rattle.smx_model.specs.Commands.{send_outcome, receive_outcome}
+use Rattle.smx_model.specs.Commands.{outcome, step, after_outcome, done_outcome}
 use Rattle.smx_model.specs.Configuration.{Configuration, same_stream, stream_before}
 use Rattle.smx_model.specs.Hangups.{is_hung, with_hung}
 use Rattle.smx_model.specs.KeptConfigurations.{IsKept}
@@ -30,7 +25,8 @@ use Rattle.smx_model.specs.Settling.{IsSettled}
 use Rattle.smx_model.specs.Standing.{exists}
 use Rattle.smx_model.specs.Swept.{IsSwept}
 use Rattle.smx_model.proofs.DropLemmas.{done_idle, hung_swept}
-use Rattle.smx_model.proofs.OutcomeLemmas.{IfAccepted, after_choice, after_ok, after_some, after_test, at_ok}
+use Rattle.smx_model.proofs.AcceptedLemmas.{of_rows, at_none}
+use Rattle.smx_model.proofs.OutcomeLemmas.{IfAccepted}
 use Rattle.smx_model.proofs.SettledLemmas.{settled_alone}
 use Rattle.smx_model.proofs.SettlingByMarksLemmas.{none_is_least, settling_stays}
 use Rattle.smx_model.proofs.SweptLemmas.{leaf_exists, swept_accepted}
@@ -57,50 +53,12 @@ hungs_done : (drivers : List DriverSpec) (c d : Configuration) → d.hungs ≡ c
 hungs_done drivers c d e =
     record { holds = record { either = inr (ap (filter (λ s. exists drivers (without_links d _) s)) e) } }
 
-hungs_unlinked : (drivers : List DriverSpec) (c : Configuration) (w : Which) (mine : Link → Bool)
-    → IfAccepted (λ d r. LeavesHungs drivers c d) (unlink_outcome drivers c w mine)
-hungs_unlinked drivers c which.All mine = hungs_done drivers c (without_links c mine) refl
-hungs_unlinked drivers c (which.Id id) mine = search (after_test, hungs_done, rules) depth 12
-
-hungs_linked : (drivers : List DriverSpec) (c : Configuration) (process fd arg : ℕ) (k : LinkKind)
-    → IfAccepted (λ d r. LeavesHungs drivers c d) (link_outcome drivers c process fd arg k)
-hungs_linked drivers c process fd arg k = search (after_test, after_ok, at_ok, hungs_same, rules) depth 24
-
-hungs_sent : (drivers : List DriverSpec) (c : Configuration) (p : Place) (addr : ℕ) (bytes : List ℕ)
-    → IfAccepted (λ d r. LeavesHungs drivers c d) (send_outcome drivers c p addr bytes)
-hungs_sent drivers c p addr bytes = search (after_test, at_ok, hungs_same, rules) depth 12
-
-hungs_received : (drivers : List DriverSpec) (c : Configuration) (p : Place)
-    → IfAccepted (λ d r. LeavesHungs drivers c d) (receive_outcome drivers c p)
-hungs_received drivers c p = search (after_some, at_ok, hungs_same, rules) depth 12
-
 hungs_accepted : (drivers : List DriverSpec) (c : Configuration) (process : ℕ) (k : Command) → is_hangup k ≡ false
     → IfAccepted (λ d r. LeavesHungs drivers c d) (outcome drivers c process k)
-hungs_accepted drivers c process (command.OpenClone name) other = search (after_ok, at_ok, hungs_same, rules) depth 20
-hungs_accepted drivers c process (command.OpenMinor name minor) other =
-    search (after_test, after_ok, at_ok, hungs_same, rules) depth 20
-hungs_accepted drivers c process (command.Dup fd) other = search (after_ok, at_ok, hungs_same, rules) depth 20
-hungs_accepted drivers c process (command.Close fd) other = search (after_ok, hungs_done, rules) depth 20
-hungs_accepted drivers c process command.CloseAll other = search (hungs_done, rules) depth 20
-hungs_accepted drivers c process (command.Link fd arg) other = search (hungs_linked, rules) depth 20
-hungs_accepted drivers c process (command.Plink fd arg) other = search (hungs_linked, rules) depth 20
-hungs_accepted drivers c process (command.Unlink fd w) other = search (after_ok, hungs_unlinked, rules) depth 20
-hungs_accepted drivers c process (command.Punlink fd w) other = search (after_ok, hungs_unlinked, rules) depth 20
-hungs_accepted drivers c process (command.Bind fd addr) other =
-    search (after_test, after_ok, hungs_done, rules) depth 20
-hungs_accepted drivers c process (command.Unbind fd) other = search (after_test, after_ok, hungs_done, rules) depth 20
-hungs_accepted drivers c process (command.Route fd addr id) other =
-    search (after_test, after_ok, hungs_done, rules) depth 20
-hungs_accepted drivers c process (command.Unroute fd addr) other =
-    search (after_test, after_ok, hungs_done, rules) depth 20
-hungs_accepted drivers c process (command.Write fd addr bytes) other = search (after_ok, hungs_sent, rules) depth 20
-hungs_accepted drivers c process (command.Read fd) other =
-    search (after_ok, after_choice, at_ok, hungs_same, hungs_received, rules) depth 20
-hungs_accepted drivers c process (command.Flush fd w) other = search (after_ok, hungs_done, rules) depth 20
-hungs_accepted drivers c process (command.Inject name minor addr bytes) other =
-    search (after_ok, hungs_sent, rules) depth 20
-hungs_accepted drivers c process (command.Transmit name minor) other = search (after_ok, hungs_received, rules) depth 20
-hungs_accepted drivers c process (command.Hangup name minor) other = absurd (false≢true (sym other))
+hungs_accepted drivers c process k other =
+    search (of_rows, hungs_same, hungs_done, at_none, never, rules) depth 24 where
+      never : (name : List ℕ) (minor : ℕ) → k ≡ command.Hangup name minor → ⊥
+      never name minor e = false≢true (sym other ∙ ap is_hangup e)
 
 -- of some streams those that exist
 abbrev existing : List DriverSpec → Configuration → List StreamId → List StreamId
@@ -178,25 +136,8 @@ record IsHangup (k : Command) : Type 0 where
   is : k ≡ command.Hangup name minor
 
 hangup_of : (k : Command) → is_hangup k ≡ true → IsHangup k
-hangup_of (command.OpenClone name) h = absurd (false≢true h)
-hangup_of (command.OpenMinor name minor) h = absurd (false≢true h)
-hangup_of (command.Dup fd) h = absurd (false≢true h)
-hangup_of (command.Close fd) h = absurd (false≢true h)
-hangup_of command.CloseAll h = absurd (false≢true h)
-hangup_of (command.Link fd arg) h = absurd (false≢true h)
-hangup_of (command.Plink fd arg) h = absurd (false≢true h)
-hangup_of (command.Unlink fd w) h = absurd (false≢true h)
-hangup_of (command.Punlink fd w) h = absurd (false≢true h)
-hangup_of (command.Bind fd addr) h = absurd (false≢true h)
-hangup_of (command.Unbind fd) h = absurd (false≢true h)
-hangup_of (command.Route fd addr id) h = absurd (false≢true h)
-hangup_of (command.Unroute fd addr) h = absurd (false≢true h)
-hangup_of (command.Write fd addr bytes) h = absurd (false≢true h)
-hangup_of (command.Read fd) h = absurd (false≢true h)
-hangup_of (command.Flush fd w) h = absurd (false≢true h)
-hangup_of (command.Inject name minor addr bytes) h = absurd (false≢true h)
-hangup_of (command.Transmit name minor) h = absurd (false≢true h)
 hangup_of (command.Hangup name minor) h = record { name = name; minor = minor; is = refl }
+hangup_of k h = absurd (false≢true h)
 
 -- after it the same have hung up, or one more that exists
 record HangsUp (drivers : List DriverSpec) (c d : Configuration) : Type 0 where

@@ -1,5 +1,5 @@
 -- What every configuration is, is kept by each command.
-use Rattle.std.proofs.Common.{◌≡◌, ◌↔◌, ℕ, zero, suc, ◌+◌, ◌*◌, ◌<◌, Some, None, Ok, Err, true, ◌≤◌, ltb, List, [], ◌∷◌}
+use Rattle.std.proofs.Common.{◌≡◌, ◌↔◌, ℕ, zero, suc, ◌+◌, ◌<◌, Ok, Err, true, ◌≤◌, ltb, List, [], ◌∷◌}
 use Rattle.std.proofs.Common.{length, get_or, refl, sym, ◌∙◌, subst, arith, inl, inr}
 use Rattle.std.specs.Prelude.{IfOk}
 use Rattle.std.specs.List.{All, AllPairs}
@@ -7,30 +7,28 @@ use Rattle.std.proofs.lemmas.Bool.{cases_eq, cases_lt, eq-eqb, ltb-true, ne_eqb}
 use Rattle.smx_types.specs.declared.command.Command.{Command}
 use Rattle.smx_types.specs.declared.command.Entry.{Entry}
 use Rattle.smx_types.specs.declared.driver.DriverSpec.{DriverSpec}
-use Rattle.smx_types.specs.declared.link.Link.{Link}
 use Rattle.smx_model.specs.Commands.{outcome, step, after_outcome}
 use Rattle.smx_model.specs.Configuration.{Configuration, empty}
 use Rattle.smx_model.specs.DriverList.{IsDriverList}
-use Rattle.smx_model.specs.FlowOrder.{IsInOrder}
 use Rattle.smx_model.specs.Histories.{after, after_from}
 use Rattle.smx_model.specs.KeptConfigurations.{IsKept, IsSound}
 use Rattle.smx_model.specs.KnownStreams.{AreStreamsKnown, IsKnown}
-use Rattle.smx_model.specs.Ordered.{ComesBefore, IsRising}
 use Rattle.smx_model.specs.Outcomes.{Outcome}
 use Rattle.smx_model.specs.Removal.{serials}
-use Rattle.smx_model.specs.Settling.{least_movable, after_move, after_settling, after_settling_within}
+use Rattle.smx_model.specs.Settling.{after_move, after_settling}
 use Rattle.smx_model.specs.SoundLinks.{AreIdsRising, AreRoutesSound, AreLinksSound}
 use Rattle.smx_model.specs.Standing.{exists, Stands}
 use Rattle.smx_model.specs.Swept.{IsSwept}
 use Rattle.smx_model.specs.Views.{view}
+use Rattle.smx_model.proofs.SettledLemmas.{settled_by}
 use Rattle.smx_model.proofs.ConservationLemmas.{IsNumbered, Goes, goes_accepted, moved_same, moved_next, numbered_empty}
 use Rattle.smx_model.proofs.ConservationLemmas.{numbered_goes}
 use Rattle.smx_model.proofs.CountLemmas.{times}
-use Rattle.smx_model.proofs.FlowLemmas.{order_accepted, order_moved}
 use Rattle.smx_model.proofs.OutcomeLemmas.{IfAccepted}
 use Rattle.smx_model.proofs.RangeLemmas.{AreNamed, named_accepted, named_moved}
-use Rattle.smx_model.proofs.RisingLemmas.{AreRising, rising_accepted, rising_empty, rising_moved}
-use Rattle.smx_model.proofs.RouteLemmas.{AreRouted, Rising, rising_ids, routed_accepted, routed_empty, routed_moved}
+use Rattle.smx_model.specs.OrderedParts.{AreListsOrdered}
+use Rattle.smx_model.proofs.RisingLemmas.{rising_accepted, rising_empty, rising_moved}
+use Rattle.smx_model.proofs.RouteLemmas.{AreRouted, rising_ids, routed_accepted, routed_empty, routed_moved}
 use Rattle.smx_model.proofs.RouteLemmas.{sound_routes}
 use Rattle.smx_model.proofs.SettlingLemmas.{settled_is}
 use Rattle.smx_model.proofs.SoundLemmas.{sound_accepted, sound_empty, sound_moved}
@@ -38,7 +36,8 @@ use Rattle.smx_model.proofs.SweptLemmas.{stands_exists, swept_accepted, swept_mo
 use Rattle.smx_model.proofs.ViewLemmas.{EachKnown, each_known, known_of_each, one_configuration}
 use Rattle.smx_types.specs.declared.stream.Place.{Place}
 use Rattle.smx_types.specs.declared.stream.StreamId.{StreamId}
-use Rattle.smx_model.proofs.EachLemmas.{Each, each_map, each_of_all}
+use Rattle.smx_model.proofs.EachLemmas.{apart_rising, each_both}
+use Rattle.smx_model.proofs.EachLemmas.{each_map, each_of_all}
 
 -- a number that is in a list is there at least once
 
@@ -101,45 +100,24 @@ all_below xs next h k d lt = elim (cases_lt (get_or xs k d) next)
 named_of : (drivers : List DriverSpec) (c : Configuration) → AreStreamsKnown drivers c → AreNamed drivers c
 named_of drivers c h = record {
   fds = each_of_all _ c.fds h.fds;
-  links = both c.links (each_of_all _ c.links h.controlling) (each_of_all _ c.links h.lowers);
-} where
-  both : (ls : List Link) → Each (λ l. IsKnown drivers l.ctl) ls → Each (λ l. IsKnown drivers l.lower) ls
-      → Each (λ l. IsKnown drivers l.ctl × IsKnown drivers l.lower) ls
-  both [] h k = tt
-  both (l ∷ ls) h k = ((h.0, k.0), both ls h.1 k.1)
+  links = each_both _ _ c.links (each_of_all _ c.links h.controlling) (each_of_all _ c.links h.lowers);
+}
 
 routed_of : (drivers : List DriverSpec) (c : Configuration) → AreIdsRising c.links c.next_id → AreRoutesSound drivers c
     → AreRouted drivers c
 routed_of drivers c h k = record {
-  rise = rises c.links h.rise;
-  ids = both c.links (each_of_all _ c.links h.from_one) (each_of_all _ c.links h.below_next);
+  rise = apart_rising _ (λ l k. ltb l.id k.id) (λ l k. ltb-true l.id k.id) c.links h.rise;
+  ids = each_both _ _ c.links (each_of_all _ c.links h.from_one) (each_of_all _ c.links h.below_next);
   start = h.next;
-  routes = pairs _ _ c.routes (each_of_all _ c.routes k.mux) (each_of_all _ c.routes k.lead);
-} where
-  befores : (l : Link) (ls : List Link) → ComesBefore (λ l k. ltb l.id k.id) l ls → Each (λ k. l.id < k.id) ls
-  befores l [] h = tt
-  befores l (k ∷ ls) h = (ltb-true l.id k.id h.0, befores l ls h.1)
-
-  rises : (ls : List Link) → IsRising (λ l k. ltb l.id k.id) ls → Rising ls
-  rises [] h = tt
-  rises (l ∷ ls) h = (befores l ls h.0, rises ls h.1)
-
-  both : (ls : List Link) → Each (λ l. 1 ≤ l.id) ls → Each (λ l. l.id < c.next_id) ls
-      → Each (λ l. (1 ≤ l.id) × (l.id < c.next_id)) ls
-  both [] h k = tt
-  both (l ∷ ls) h k = ((h.0, k.0), both ls h.1 k.1)
-
-  pairs : {X : Type 0} (P Q : X → Type 0) (xs : List X) → Each P xs → Each Q xs → Each (λ x. P x × Q x) xs
-  pairs P Q [] h k = tt
-  pairs P Q (x ∷ xs) h k = ((h.0, k.0), pairs P Q xs h.1 k.1)
+  routes = each_both _ _ c.routes (each_of_all _ c.routes k.mux) (each_of_all _ c.routes k.lead);
+}
 
 -- all that is kept, as the lemmas take it
 record Parts (drivers : List DriverSpec) (c : Configuration) : Type 0 where
   links : AreLinksSound c.links
   named : AreNamed drivers c
   routed : AreRouted drivers c
-  rising : AreRising c
-  flow : IsInOrder c.flow
+  ordered : AreListsOrdered c
   numbered : IsNumbered c
   swept_ : IsSwept drivers c
 
@@ -148,14 +126,7 @@ parts_of drivers c h = record {
   links = h.links;
   named = named_of drivers c h.known;
   routed = routed_of drivers c h.ids h.routes;
-  rising = record {
-    fds = h.ordered.fds;
-    binds = h.ordered.binds;
-    routes = h.ordered.routes;
-    fulls = h.ordered.fulls;
-    hungs = h.ordered.hungs;
-  };
-  flow = h.ordered.flow;
+  ordered = h.ordered;
   numbered = record {
     once = apart_once (serials c.flow) h.serials.apart;
     below = none_from (serials c.flow) c.next_serial h.serials.below_next;
@@ -169,14 +140,7 @@ of_parts drivers c h = record {
   ids = rising_ids drivers c h.routed;
   routes = sound_routes drivers c h.routed;
   known = known_of_each drivers c (each_known drivers c h.named h.routed h.swept_);
-  ordered = record {
-    fds = h.rising.fds;
-    binds = h.rising.binds;
-    routes = h.rising.routes;
-    fulls = h.rising.fulls;
-    hungs = h.rising.hungs;
-    flow = h.flow;
-  };
+  ordered = h.ordered;
   serials = record {
     apart = once_apart (serials c.flow) h.numbered.once;
     below_next = all_below (serials c.flow) c.next_serial h.numbered.below;
@@ -190,24 +154,22 @@ parts_accepted : (drivers : List DriverSpec) (c : Configuration) (process : ℕ)
     → IfAccepted (λ d r. Parts drivers d) (outcome drivers c process k)
 parts_accepted drivers c process k h = by (outcome drivers c process k) (sound_accepted drivers c process k h.links)
     (named_accepted drivers c process k h.named) (routed_accepted drivers c process k h.routed)
-    (rising_accepted drivers c process k h.rising) (order_accepted drivers c process k h.flow)
-    (goes_accepted drivers c process k h.numbered) (swept_accepted drivers c process k h.swept_) where
+    (rising_accepted drivers c process k h.ordered) (goes_accepted drivers c process k h.numbered)
+    (swept_accepted drivers c process k h.swept_) where
       by : (o : Outcome) → IfAccepted (λ d r. AreLinksSound d.links) o → IfAccepted (λ d r. AreNamed drivers d) o
-          → IfAccepted (λ d r. AreRouted drivers d) o → IfAccepted (λ d r. AreRising d) o
-          → IfAccepted (λ d r. IsInOrder d.flow) o → IfAccepted (Goes c) o → IfAccepted (λ d r. IsSwept drivers d) o
-          → IfAccepted (λ d r. Parts drivers d) o
-      by (Ok x) e1 e2 e3 e4 e5 e6 e7 = record {
+          → IfAccepted (λ d r. AreRouted drivers d) o → IfAccepted (λ d r. AreListsOrdered d) o
+          → IfAccepted (Goes c) o → IfAccepted (λ d r. IsSwept drivers d) o → IfAccepted (λ d r. Parts drivers d) o
+      by (Ok x) e1 e2 e3 e4 e5 e6 = record {
         holds = record {
           links = e1.holds;
           named = e2.holds;
           routed = e3.holds;
-          rising = e4.holds;
-          flow = e5.holds;
-          numbered = numbered_goes c x.0 x.1 h.numbered e6.holds;
-          swept_ = e7.holds;
+          ordered = e4.holds;
+          numbered = numbered_goes c x.0 x.1 h.numbered e5.holds;
+          swept_ = e6.holds;
         };
       }
-      by (Err f) e1 e2 e3 e4 e5 e6 e7 = record { holds = tt }
+      by (Err f) e1 e2 e3 e4 e5 e6 = record { holds = tt }
 
 -- what an accepted command leaves of a sound configuration, before it is settled, is sound
 pub outcome_sound : (drivers : List DriverSpec) (c : Configuration) (process : ℕ) (k : Command) → IsSound drivers c
@@ -233,8 +195,7 @@ parts_moved drivers c p h = record {
   links = sound_moved drivers c p h.links;
   named = named_moved drivers c p h.named;
   routed = routed_moved drivers c p h.routed;
-  rising = rising_moved drivers c p h.rising;
-  flow = order_moved drivers c p h.flow;
+  ordered = rising_moved drivers c p h.ordered;
   numbered = numbered_moved drivers c p h.numbered;
   swept_ = swept_moved drivers c p (record { none = h.links.no_cycle; named = h.named; swept_ = h.swept_ });
 }
@@ -246,19 +207,12 @@ moved_sound drivers c p h = of_parts drivers (after_move drivers c p) (parts_mov
 
 -- and so settling
 
-parts_settled : (drivers : List DriverSpec) (n : ℕ) (c : Configuration) → Parts drivers c
-    → Parts drivers (after_settling_within drivers n c)
-parts_settled drivers zero c h = h
-parts_settled drivers (suc k) c h = elim (least_movable drivers c) as
-    (λ o. Parts drivers
-    (elim o as (λ _. Configuration) [ None ↦ c | Some p ↦ after_settling_within drivers k (after_move drivers c p) ]))
-    [ None ↦ h | Some p ↦ parts_settled drivers k (after_move drivers c p) (parts_moved drivers c p h) ]
-
 -- a sound configuration that is settled stays sound, and no message can move on
 pub settled_kept : (drivers : List DriverSpec) (c : Configuration) → IsSound drivers c
     → IsKept drivers (after_settling drivers c)
 settled_kept drivers c h = let p = parts_of drivers c h in record {
-  sound = of_parts drivers (after_settling drivers c) (parts_settled drivers (length c.flow * length drivers) c p);
+  sound = of_parts drivers (after_settling drivers c)
+      (settled_by (Parts drivers) drivers _ c (record { each = parts_moved drivers }) p);
   settled = settled_is drivers c p.links p.named p.routed;
 }
 
@@ -283,8 +237,7 @@ empty_kept drivers = record {
         links = sound_empty;
         named = record { fds = tt; links = tt };
         routed = routed_empty drivers;
-        rising = rising_empty;
-        flow = tt;
+        ordered = rising_empty;
         numbered = numbered_empty;
         swept_ = record { links = refl; binds = refl; flow = refl; fulls = refl; hungs = refl };
       });

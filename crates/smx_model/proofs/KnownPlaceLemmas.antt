@@ -20,7 +20,7 @@ use Rattle.smx_model.proofs.EachLemmas.{Each, each_of_all, each_find}
 use Rattle.smx_model.proofs.SettlingLemmas.{same_place_is}
 use Rattle.smx_model.specs.RunMarks.{next_of_first, next_of}
 use Rattle.smx_model.proofs.TurningLemmas.{lower_side, down_by, bound_side, up_by}
-use Rattle.smx_model.proofs.HangupLemmas.{live_is_side}
+use Rattle.smx_model.proofs.LookupLemmas.{live_is_side}
 
 held_by_known : (drivers : List DriverSpec) (hs : List QueuedMessage) (p : Place)
     → Each (λ h. IsKnown drivers h.place.stream) hs → first_message hs p ≢ None → IsKnown drivers p.stream

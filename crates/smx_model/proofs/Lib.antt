@@ -2,13 +2,13 @@ pub mod EachLemmas
 pub mod TestLemmas
 pub mod PathLemmas
 pub mod OutcomeLemmas
-pub mod HangupLemmas
+pub mod AcceptedLemmas
+pub mod LookupLemmas
 pub mod SoundLemmas
 pub mod RangeLemmas
 pub mod RouteLemmas
 pub mod SettlingLemmas
 pub mod OrderLemmas
-pub mod FlowLemmas
 pub mod QueueLemmas
 pub mod RisingLemmas
 pub mod StandingLemmas

@@ -1,38 +1,31 @@
 -- Limits: few links, few descriptors of each process, and numbers that end.
-use Rattle.std.proofs.Common.{◌≡◌, ℕ, zero, suc, ◌+◌, ◌<◌, ◌≤◌, Bool, true, false, ◌||◌, not, leb, eqb, arith, List, []}
-use Rattle.std.proofs.Common.{◌∷◌, ◌++◌, length, filter, find, Option, Some, None, Ok, Err, refl, rules, subst, inl}
+use Rattle.std.proofs.Common.{◌≡◌, ℕ, ◌+◌, ◌<◌, ◌≤◌, Bool, true, false, ◌||◌, not, leb, eqb, arith, List, []}
+use Rattle.std.proofs.Common.{◌∷◌, ◌++◌, length, filter, Ok, rules, subst, inl}
 use Rattle.std.proofs.Common.{inr}
-use Rattle.std.specs.List.{count_by, list_any, range_with_len}
+use Rattle.std.specs.List.{count_by, list_any}
 use Rattle.std.proofs.lemmas.Bool.{cases_Bool, eqb-true, leb-false, or_parts}
+use Rattle.std.proofs.lemmas.List.{length_push}
 use Rattle.std.proofs.lemmas.List.Sums.{length-filter}
 use Rattle.std.proofs.lemmas.Bool.Decides.{nat_tests}
 use Rattle.smx_types.specs.declared.command.Command.{Command}
-use Rattle.smx_types.specs.declared.command.Command.TheVariants as command
 use Rattle.smx_types.specs.declared.command.Entry.{Entry}
-use Rattle.smx_types.specs.declared.command.Which.{Which}
-use Rattle.smx_types.specs.declared.command.Which.TheVariants as which
 use Rattle.smx_types.specs.declared.driver.DriverSpec.{DriverSpec}
 use Rattle.smx_types.specs.declared.limits.TheConstants.{MAX_DESCRIPTORS, MAX_LINKS, NUMBER_END}
 use Rattle.smx_types.specs.declared.link.Link.{Link}
-use Rattle.smx_types.specs.declared.link.LinkKind.{LinkKind}
-use Rattle.smx_types.specs.declared.message.Message.{Message}
 use Rattle.smx_types.specs.declared.reply.Fault.TheVariants.{TooManyDescriptors}
 use Rattle.smx_types.specs.declared.stream.Descriptor.{Descriptor}
-use Rattle.smx_types.specs.declared.stream.Place.{Place}
-use Rattle.smx_types.specs.declared.stream.StreamId.{StreamId}
-use Rattle.smx_model.specs.Commands.{outcome, step, after_outcome, done_outcome, link_outcome, unlink_outcome}
-use Rattle.smx_model.specs.Commands.{send_outcome, receive_outcome, with_fd}
+use Rattle.smx_model.specs.Commands.{outcome}
 use Rattle.smx_model.specs.Configuration.{Configuration, empty, fd_before, is_fd, pair_before}
-use Rattle.smx_model.specs.Histories.{after, after_from}
+use Rattle.smx_model.specs.Histories.{after}
 use Rattle.smx_model.specs.Lookups.{free_fd}
 use Rattle.smx_model.specs.Ordered.{ComesBefore, IsRising}
-use Rattle.smx_model.specs.Outcomes.{Outcome, or_fault}
-use Rattle.smx_model.specs.Queues.{first_message}
-use Rattle.smx_model.specs.Removal.{without_links}
-use Rattle.smx_model.specs.Settling.{after_move, after_move_to, after_settling_within, least_movable, next_open_place}
+use Rattle.smx_model.proofs.SettledLemmas.{MovesKeep, after_by, moved_by}
 use Rattle.smx_model.proofs.EachLemmas.{Each, each_filter, each_placed}
 use Rattle.smx_model.proofs.KeptLemmas.{always_is_kept}
-use Rattle.smx_model.proofs.OutcomeLemmas.{IfAccepted, at_ok, after_ok, after_test, after_some, after_choice}
+use Rattle.smx_model.proofs.AcceptedLemmas.{of_rows}
+use Rattle.smx_model.proofs.LookupLemmas.{there_is}
+use Rattle.smx_model.proofs.RangeLemmas.{range_below}
+use Rattle.smx_model.proofs.OutcomeLemmas.{IfAccepted}
 
 -- it keeps to the limits
 pub record IsWithin (c : Configuration) : Type 0 where
@@ -41,44 +34,11 @@ pub record IsWithin (c : Configuration) : Type 0 where
   pub ids : c.next_id ≤ NUMBER_END
   pub serials : c.next_serial ≤ NUMBER_END
 
--- descriptors, links and next numbers as they were
-within_same : (c d : Configuration) → IsWithin c → d.fds ≡ c.fds → d.links ≡ c.links → d.next_id ≡ c.next_id
-    → d.next_serial ≡ c.next_serial → IsWithin d
-within_same c d h e f g k =
-    record { links = rw f h.links; numbers = rw e h.numbers; ids = rw g h.ids; serials = rw k h.serials }
-
 -- a free number is below the limit
-
-range_below : (test : ℕ → Bool) (a n m : ℕ) → find test (range_with_len a n) ≡ Some m → m < a + n
-range_below test a zero m e = cc
-range_below test a (suc n) m e = elim (cases_Bool (test a)) [
-  | inl t ↦ let k : Some a ≡ Some m = rw t at e in let same : a ≡ m = cc in omega (arith, same)
-  | inr f ↦ omega (arith, range_below test (a + 1) n m (rw f at e))
-]
 
 free_below : (c : Configuration) (process fd : ℕ) → free_fd c process ≡ Ok fd → fd < MAX_DESCRIPTORS
 free_below c process fd e =
-    by (find (λ n. not (list_any (is_fd process n) c.fds)) (range_with_len 0 MAX_DESCRIPTORS)) refl e where
-      by : (o : Option ℕ) → find (λ n. not (list_any (is_fd process n) c.fds)) (range_with_len 0 MAX_DESCRIPTORS) ≡ o
-          → or_fault TooManyDescriptors o ≡ Ok fd → fd < MAX_DESCRIPTORS
-      by None f k = cc
-      by (Some n) f k = let same : n ≡ fd = cc in
-          omega (arith, same, range_below (λ n. not (list_any (is_fd process n) c.fds)) 0 MAX_DESCRIPTORS n f)
-
-within_fd : (c : Configuration) (process fd : ℕ) (s : StreamId) → IsWithin c → free_fd c process ≡ Ok fd
-    → IsWithin (with_fd c process fd s)
-within_fd c process fd s h e = record {
-  links = h.links;
-  numbers = each_placed _ fd_before c.fds (record { process = process; fd = fd; stream = s })
-      (free_below c process fd e) h.numbers;
-  ids = h.ids;
-  serials = h.serials;
-}
-
-within_closed : (c : Configuration) (test : Descriptor → Bool) → IsWithin c
-    → IsWithin (record c { fds = filter test c.fds })
-within_closed c test h =
-    record { links = h.links; numbers = each_filter _ test c.fds h.numbers; ids = h.ids; serials = h.serials }
+    range_below (λ n. not (list_any (is_fd process n) c.fds)) 0 MAX_DESCRIPTORS fd (there_is TooManyDescriptors _ fd e)
 
 -- links, one more and fewer
 
@@ -87,125 +47,36 @@ fewer test [] = omega arith
 fewer test (x ∷ xs) = elim (cases_Bool (test x))
     [ inl t ↦ rw t (omega (arith, fewer test xs)) | inr f ↦ rw f (omega (arith, fewer test xs)) ]
 
-one_more : {X : Type 0} (xs : List X) (x : X) → length (xs ++ x ∷ []) ≡ length xs + 1
-one_more [] x = refl
-one_more (y ∷ ys) x = omega (arith, one_more ys x)
+fewer_fit : (test : Link → Bool) (ls : List Link) → length ls ≤ MAX_LINKS → length (filter test ls) ≤ MAX_LINKS
+fewer_fit test ls h = omega (arith, h, fewer test ls)
 
-within_link : (c : Configuration) (l : Link) → IsWithin c → (leb MAX_LINKS (length c.links) || leb NUMBER_END c.next_id)
-    ≡ false → IsWithin (record c { links = c.links ++ l ∷ []; next_id = c.next_id + 1 })
-within_link c l h room = let p = or_parts (leb MAX_LINKS (length c.links)) (leb NUMBER_END c.next_id) room in record {
-  links = omega (arith, one_more c.links l, leb-false MAX_LINKS (length c.links) p.0);
-  numbers = h.numbers;
-  ids = omega (arith, leb-false NUMBER_END c.next_id p.1);
-  serials = h.serials;
-}
+link_fits : (ls : List Link) (l : Link) (b : Bool) → (leb MAX_LINKS (length ls) || b) ≡ false
+    → length (ls ++ l ∷ []) ≤ MAX_LINKS
+link_fits ls l b room =
+    omega (arith, length_push ls l, leb-false MAX_LINKS (length ls) (or_parts (leb MAX_LINKS (length ls)) b room).0)
 
-within_removed : (c : Configuration) (goes : Link → Bool) → IsWithin c → IsWithin (without_links c goes)
-within_removed c goes h = record {
-  links = omega (arith, h.links, fewer (λ l. not (goes l)) c.links);
-  numbers = h.numbers;
-  ids = h.ids;
-  serials = h.serials;
-}
+-- the next number, below its end
 
-within_done : (drivers : List DriverSpec) (c d : Configuration) → IsWithin d
-    → IfAccepted (λ d r. IsWithin d) (done_outcome drivers c d)
-within_done drivers c d h = let k = within_removed d _ h in
-    record { holds = record { links = k.links; numbers = k.numbers; ids = k.ids; serials = k.serials } }
-
-within_unlinked : (drivers : List DriverSpec) (c : Configuration) (w : Which) (mine : Link → Bool) → IsWithin c
-    → IfAccepted (λ d r. IsWithin d) (unlink_outcome drivers c w mine)
-within_unlinked drivers c which.All mine h = within_done drivers c (without_links c mine) (within_removed c mine h)
-within_unlinked drivers c (which.Id id) mine h = search (after_test, within_done, within_removed, rules) depth 12
-
-within_linked : (drivers : List DriverSpec) (c : Configuration) (process fd arg : ℕ) (k : LinkKind) → IsWithin c
-    → IfAccepted (λ d r. IsWithin d) (link_outcome drivers c process fd arg k)
-within_linked drivers c process fd arg k h = search (after_test, after_ok, at_ok, within_link, rules) depth 24
-
--- a message that is sent takes a serial
-
-within_took : (c d : Configuration) (full : Bool) → IsWithin c → d.fds ≡ c.fds → d.links ≡ c.links
-    → d.next_id ≡ c.next_id → d.next_serial ≡ c.next_serial + 1 → (full || leb NUMBER_END c.next_serial) ≡ false
-    → IsWithin d
-within_took c d full h e f g k room = record {
-  links = rw f h.links;
-  numbers = rw e h.numbers;
-  ids = rw g h.ids;
-  serials = rw k (omega (arith, leb-false NUMBER_END c.next_serial (or_parts full _ room).1));
-}
-
-within_sent : (drivers : List DriverSpec) (c : Configuration) (p : Place) (addr : ℕ) (bytes : List ℕ) → IsWithin c
-    → IfAccepted (λ d r. IsWithin d) (send_outcome drivers c p addr bytes)
-within_sent drivers c p addr bytes h = search (after_test, at_ok, within_took, rules) depth 16
-
-within_received : (drivers : List DriverSpec) (c : Configuration) (p : Place) → IsWithin c
-    → IfAccepted (λ d r. IsWithin d) (receive_outcome drivers c p)
-within_received drivers c p h = search (after_some, at_ok, within_same, rules) depth 16
+number_fits : (b : Bool) (n : ℕ) → (b || leb NUMBER_END n) ≡ false → n + 1 ≤ NUMBER_END
+number_fits b n room = omega (arith, leb-false NUMBER_END n (or_parts b (leb NUMBER_END n) room).1)
 
 within_accepted : (drivers : List DriverSpec) (c : Configuration) (process : ℕ) (k : Command) → IsWithin c
     → IfAccepted (λ d r. IsWithin d) (outcome drivers c process k)
-within_accepted drivers c process (command.OpenClone name) h = search (after_ok, at_ok, within_fd, rules) depth 20
-within_accepted drivers c process (command.OpenMinor name minor) h =
-    search (after_test, after_ok, at_ok, within_fd, rules) depth 20
-within_accepted drivers c process (command.Dup fd) h = search (after_ok, at_ok, within_fd, rules) depth 20
-within_accepted drivers c process (command.Close fd) h = search (after_ok, within_done, within_closed, rules) depth 20
-within_accepted drivers c process command.CloseAll h = search (within_done, within_closed, rules) depth 20
-within_accepted drivers c process (command.Link fd arg) h = search (within_linked, rules) depth 20
-within_accepted drivers c process (command.Plink fd arg) h = search (within_linked, rules) depth 20
-within_accepted drivers c process (command.Unlink fd w) h = search (after_ok, within_unlinked, rules) depth 20
-within_accepted drivers c process (command.Punlink fd w) h = search (after_ok, within_unlinked, rules) depth 20
-within_accepted drivers c process (command.Bind fd addr) h =
-    search (after_test, after_ok, within_done, within_same, rules) depth 20
-within_accepted drivers c process (command.Unbind fd) h =
-    search (after_test, after_ok, within_done, within_same, rules) depth 20
-within_accepted drivers c process (command.Route fd addr id) h =
-    search (after_test, after_ok, within_done, within_same, rules) depth 20
-within_accepted drivers c process (command.Unroute fd addr) h =
-    search (after_test, after_ok, within_done, within_same, rules) depth 20
-within_accepted drivers c process (command.Write fd addr bytes) h = search (after_ok, within_sent, rules) depth 20
-within_accepted drivers c process (command.Read fd) h =
-    search (after_ok, after_choice, at_ok, within_received, rules) depth 20
-within_accepted drivers c process (command.Flush fd w) h = search (after_ok, within_done, within_same, rules) depth 20
-within_accepted drivers c process (command.Inject name minor addr bytes) h =
-    search (after_ok, within_sent, rules) depth 20
-within_accepted drivers c process (command.Transmit name minor) h = search (after_ok, within_received, rules) depth 20
-within_accepted drivers c process (command.Hangup name minor) h =
-    search (after_ok, within_done, within_same, rules) depth 20
+within_accepted drivers c process k h = of_rows _ drivers c process k
+    (search (each_placed, each_filter, free_below, fewer_fit, link_fits, number_fits, rules) depth 24)
 
 -- moves, settling, histories
 
-within_moved : (drivers : List DriverSpec) (c : Configuration) (p : Place) → IsWithin c
-    → IsWithin (after_move drivers c p)
-within_moved drivers c p h = by (next_open_place drivers c p) (first_message c.flow p) where
-  by : (o : Option Place) (m : Option Message) → IsWithin (after_move_to drivers c p o m)
-  by (Some q) (Some m) = record { links = h.links; numbers = h.numbers; ids = h.ids; serials = h.serials }
-  by (Some q) None = h
-  by None m = h
-
-within_settled : (drivers : List DriverSpec) (n : ℕ) (c : Configuration) → IsWithin c
-    → IsWithin (after_settling_within drivers n c)
-within_settled drivers zero c h = h
-within_settled drivers (suc k) c h = elim (least_movable drivers c) as
-    (λ o. IsWithin (elim o as (λ _. Configuration)
-    [ None ↦ c | Some p ↦ after_settling_within drivers k (after_move drivers c p) ]))
-    [ None ↦ h | Some p ↦ within_settled drivers k (after_move drivers c p) (within_moved drivers c p h) ]
-
-within_finished : (drivers : List DriverSpec) (c : Configuration) (o : Outcome) → IsWithin c
-    → IfAccepted (λ d r. IsWithin d) o → IsWithin (after_outcome drivers c o).0
-within_finished drivers c (Ok x) h k = within_settled drivers _ x.0 k.holds
-within_finished drivers c (Err f) h k = h
-
-within_from : (drivers : List DriverSpec) (c : Configuration) (es : List Entry) → IsWithin c
-    → IsWithin (after_from drivers c es)
-within_from drivers c [] h = h
-within_from drivers c (e ∷ es) h = within_from drivers (step drivers c e.process e.command).0 es
-    (within_finished drivers c (outcome drivers c e.process e.command) h
-    (within_accepted drivers c e.process e.command h))
+within_moved : (drivers : List DriverSpec) → MovesKeep IsWithin drivers
+within_moved drivers = record {
+  each = λ c p h. moved_by IsWithin drivers c p h
+      (λ q m e. record { links = h.links; numbers = h.numbers; ids = h.ids; serials = h.serials });
+}
 
 -- after any history there are no more links, and no higher numbers, ids and serials, than there may be
 pub always_within : (drivers : List DriverSpec) (history : List Entry) → IsWithin (after drivers history)
-always_within drivers history = within_from drivers empty history
-    (record { links = omega arith; numbers = tt; ids = omega arith; serials = omega arith })
+always_within drivers history = after_by IsWithin drivers empty history (within_moved drivers)
+    (within_accepted drivers) (record { links = omega arith; numbers = tt; ids = omega arith; serials = omega arith })
 
 -- of a process there are as many descriptors as numbers
 

@@ -34,7 +34,7 @@ use Rattle.smx_model.proofs.KeptLemmas.{moved_sound}
 use Rattle.smx_model.proofs.KnownPlaceLemmas.{next_known}
 use Rattle.smx_model.proofs.OrderLemmas.{order_without, same_not_before, same_self}
 use Rattle.smx_model.proofs.PathLemmas.{reaches_path, reaches_trans}
-use Rattle.smx_model.proofs.QueueLemmas.{arrived_queue, front_is, left_queue, marked_full}
+use Rattle.smx_model.proofs.QueueLemmas.{arrived_queue, front_is, left_queue, marked_full, not_same_turned}
 use Rattle.smx_model.proofs.SettlingByMarksLemmas.{marked_is_least, none_is_least, settling_moves, settling_stays}
 use Rattle.smx_model.proofs.SettlingLemmas.{same_place_is}
 use Rattle.smx_model.proofs.TurningCommandLemmas.{keyed}
@@ -107,10 +107,6 @@ none_there drivers c p q m o e apart one = rw (moved_is drivers c p q m e)
       gone = arrived_queue (after_leaving drivers c p).flow q p m (order_without (is_at p) c.flow o)
           ∙ rw (apart, left_queue c.flow p p, same_self p, dropped_one (queue c.flow p) one) refl
 
-same_turned : (p q : Place) → same_place p q ≡ false → same_place q p ≡ false
-same_turned p q f = false_from_ne_true _ (λ t. both_ways (same_place p q) f
-    (subst (λ (x : Place). same_place p x ≡ true) (sym (same_place_is q p t)) (same_self p)))
-
 -- a full place stays full, where the one that is left is not full
 pub full_stays : (drivers : List DriverSpec) (c : Configuration) (p q r : Place) (m : Message)
     → first_message c.flow p ≡ Some m → is_full c p ≡ false → is_full c r ≡ true
@@ -135,7 +131,7 @@ pub left_next : (drivers : List DriverSpec) (c : Configuration) (p q : Place) (m
     → first_message c.flow p ≡ Some m → same_place p q ≡ false → length (queue c.flow p) ≡ 1
     → next_of_first drivers (moved drivers c p q) p ≡ None
 left_next drivers c p q m o e apart one = ap (next_of drivers (moved drivers c p q) p)
-    (none_there drivers c p q m o e (same_turned p q apart) one)
+    (none_there drivers c p q m o e (not_same_turned p q apart) one)
 
 -- where a message goes next is not changed by moves
 same_next : (drivers : List DriverSpec) (c : Configuration) (p q r : Place) (m : Message) (addr : ℕ)

@@ -1,6 +1,6 @@
 -- A full place has more bytes than its low water mark, and one that is not full fewer than its high one.
 use Rattle.std.proofs.Common.{◌≡◌, ℕ, zero, suc, ◌<◌, ◌≤◌, Bool, true, false, ◌&&◌, ◌||◌, not, cond, leb, ltb, arith}
-use Rattle.std.proofs.Common.{List, [], ◌∷◌, drop, length, filter, Option, Some, None, Result, Ok, Err, refl, rules}
+use Rattle.std.proofs.Common.{List, [], ◌∷◌, drop, length, filter, Result, Ok, Err, refl, rules}
 use Rattle.std.proofs.Common.{sym, ap, ◌∙◌, subst, inl, inr}
 use Rattle.std.specs.List.{list_any, sum_by}
 use Rattle.std.proofs.lemmas.Bool.{and_cases, and_parts, cases_Bool, false≢true, leb-false, leb-true, ltb-false}
@@ -8,33 +8,28 @@ use Rattle.std.proofs.lemmas.Bool.{ltb-true, or_cases, or_parts}
 use Rattle.std.proofs.lemmas.List.Sums.{sum_by-cons}
 use Rattle.smx_types.specs.Drivers.{spec_check}
 use Rattle.smx_types.specs.declared.command.Command.{Command}
-use Rattle.smx_types.specs.declared.command.Command.TheVariants as command
 use Rattle.smx_types.specs.declared.command.Entry.{Entry}
-use Rattle.smx_types.specs.declared.command.Which.{Which}
-use Rattle.smx_types.specs.declared.command.Which.TheVariants as which
 use Rattle.smx_types.specs.declared.driver.DriverSpec.{DriverSpec}
 use Rattle.smx_types.specs.declared.driver.SpecFault.{SpecFault}
 use Rattle.smx_types.specs.declared.driver.SpecFault.TheVariants.{BadMarks, BadMax, BadMinors}
 use Rattle.smx_types.specs.declared.limits.TheConstants.{MAX_HIGH, MAX_MESSAGE, MAX_MINORS}
 use Rattle.smx_types.specs.declared.link.Link.{Link}
-use Rattle.smx_types.specs.declared.link.LinkKind.{LinkKind}
 use Rattle.smx_types.specs.declared.message.Message.{Message}
 use Rattle.smx_types.specs.declared.stream.Place.{Place}
-use Rattle.smx_model.specs.Commands.{outcome, step, after_outcome, done_outcome, link_outcome, unlink_outcome}
-use Rattle.smx_model.specs.Commands.{send_outcome, receive_outcome}
+use Rattle.smx_model.specs.Commands.{outcome, done_outcome}
 use Rattle.smx_model.specs.Configuration.{Configuration, QueuedMessage, empty, is_at, queued_before, same_place}
 use Rattle.smx_model.specs.DriverList.{high_of, IsDriverList, low_of}
 use Rattle.smx_model.specs.Histories.{after, after_from}
 use Rattle.smx_model.specs.KnownStreams.{IsKnown}
 use Rattle.smx_model.specs.Ordered.{with_inserted, without_first}
-use Rattle.smx_model.specs.Outcomes.{Outcome}
-use Rattle.smx_model.specs.Queues.{after_arrival, after_leaving, bytes_at, first_message, is_full, queue}
+use Rattle.smx_model.specs.Queues.{after_arrival, after_leaving, bytes_at, is_full, queue}
 use Rattle.smx_model.specs.Removal.{without_links, without_queues_at}
-use Rattle.smx_model.specs.Settling.{after_move, after_move_to, after_settling_within, least_movable, next_open_place}
+use Rattle.smx_model.proofs.SettledLemmas.{MovesKeep, after_by, moved_by}
 use Rattle.smx_model.proofs.EachLemmas.{Each, each_of_all}
 use Rattle.smx_model.proofs.KeptLemmas.{always_is_kept}
 use Rattle.smx_model.proofs.OrderLemmas.{same_self}
-use Rattle.smx_model.proofs.OutcomeLemmas.{IfAccepted, at_ok, after_ok, after_test, after_some, after_choice}
+use Rattle.smx_model.proofs.AcceptedLemmas.{of_rows}
+use Rattle.smx_model.proofs.OutcomeLemmas.{IfAccepted}
 use Rattle.smx_model.proofs.QueueLemmas.{emptied_full, emptied_queue, left_queue, marked_full}
 use Rattle.smx_model.proofs.SettlingLemmas.{same_place_is}
 
@@ -217,90 +212,35 @@ marked_took : (drivers : List DriverSpec) (p : Place) (c : Configuration) (q : P
 marked_took drivers p c q m n a h = marked_same drivers p (after_arrival drivers c q m)
     (record (after_arrival drivers c q m) { next_serial = n }) (marked_arrived drivers p c q m a h) refl refl
 
-marked_sent : (drivers : List DriverSpec) (p : Place) (c : Configuration) (q : Place) (addr : ℕ) (bytes : List ℕ)
-    → IsApart drivers p → IsMarked drivers p c
-    → IfAccepted (λ d r. IsMarked drivers p d) (send_outcome drivers c q addr bytes)
-marked_sent drivers p c q addr bytes a h = search (after_test, at_ok, marked_took, rules) depth 12
-
-marked_received : (drivers : List DriverSpec) (p : Place) (c : Configuration) (q : Place) → IsApart drivers p
-    → IsMarked drivers p c → IfAccepted (λ d r. IsMarked drivers p d) (receive_outcome drivers c q)
-marked_received drivers p c q a h = search (after_some, at_ok, marked_left, rules) depth 12
-
-marked_unlinked : (drivers : List DriverSpec) (p : Place) (c : Configuration) (w : Which) (mine : Link → Bool)
-    → IsApart drivers p → IsMarked drivers p c
-    → IfAccepted (λ d r. IsMarked drivers p d) (unlink_outcome drivers c w mine)
-marked_unlinked drivers p c which.All mine a h =
-    marked_done drivers p c (without_links c mine) a (marked_removed drivers p c mine a h)
-marked_unlinked drivers p c (which.Id id) mine a h = search (after_test, marked_done, marked_removed, rules) depth 12
-
-marked_linked : (drivers : List DriverSpec) (p : Place) (c : Configuration) (process fd arg : ℕ) (k : LinkKind)
-    → IsMarked drivers p c → IfAccepted (λ d r. IsMarked drivers p d) (link_outcome drivers c process fd arg k)
-marked_linked drivers p c process fd arg k h = search (after_test, after_ok, at_ok, marked_same, rules) depth 24
-
 marked_flushed : (drivers : List DriverSpec) (p : Place) (c : Configuration) (goes : Place → Bool) → IsApart drivers p
     → IsMarked drivers p c → IsMarked drivers p (without_queues_at c goes)
 marked_flushed drivers p c goes a h = marked_emptied drivers p c (without_queues_at c goes) goes a h refl refl
 
 marked_accepted : (drivers : List DriverSpec) (p : Place) (c : Configuration) (process : ℕ) (k : Command)
     → IsApart drivers p → IsMarked drivers p c → IfAccepted (λ d r. IsMarked drivers p d) (outcome drivers c process k)
-marked_accepted drivers p c process (command.OpenClone name) a h = search (after_ok, at_ok, marked_same, rules) depth 20
-marked_accepted drivers p c process (command.OpenMinor name minor) a h =
-    search (after_test, after_ok, at_ok, marked_same, rules) depth 20
-marked_accepted drivers p c process (command.Dup fd) a h = search (after_ok, at_ok, marked_same, rules) depth 20
-marked_accepted drivers p c process (command.Close fd) a h = search (after_ok, marked_like, rules) depth 20
-marked_accepted drivers p c process command.CloseAll a h = search (marked_like, rules) depth 20
-marked_accepted drivers p c process (command.Link fd arg) a h = search (marked_linked, rules) depth 20
-marked_accepted drivers p c process (command.Plink fd arg) a h = search (marked_linked, rules) depth 20
-marked_accepted drivers p c process (command.Unlink fd w) a h = search (after_ok, marked_unlinked, rules) depth 20
-marked_accepted drivers p c process (command.Punlink fd w) a h = search (after_ok, marked_unlinked, rules) depth 20
-marked_accepted drivers p c process (command.Bind fd addr) a h =
-    search (after_test, after_ok, marked_like, rules) depth 20
-marked_accepted drivers p c process (command.Unbind fd) a h = search (after_test, after_ok, marked_like, rules) depth 20
-marked_accepted drivers p c process (command.Route fd addr id) a h =
-    search (after_test, after_ok, marked_like, rules) depth 20
-marked_accepted drivers p c process (command.Unroute fd addr) a h =
-    search (after_test, after_ok, marked_like, rules) depth 20
-marked_accepted drivers p c process (command.Write fd addr bytes) a h = search (after_ok, marked_sent, rules) depth 20
-marked_accepted drivers p c process (command.Read fd) a h =
-    search (after_ok, after_choice, at_ok, marked_received, rules) depth 20
-marked_accepted drivers p c process (command.Flush fd w) a h =
-    search (after_ok, marked_done, marked_flushed, rules) depth 20
-marked_accepted drivers p c process (command.Inject name minor addr bytes) a h =
-    search (after_ok, marked_sent, rules) depth 20
-marked_accepted drivers p c process (command.Transmit name minor) a h =
-    search (after_ok, marked_received, rules) depth 20
-marked_accepted drivers p c process (command.Hangup name minor) a h = search (after_ok, marked_like, rules) depth 20
+marked_accepted drivers p c process k a h = of_rows _ drivers c process k (search (
+  marked_left,
+  marked_took,
+  marked_like,
+  marked_done,
+  marked_removed,
+  marked_flushed,
+  marked_same drivers p c,
+  rules,
+) depth 24)
 
 -- moves, settling, histories
 
-marked_moved : (drivers : List DriverSpec) (p : Place) (c : Configuration) (q : Place) → IsApart drivers p
-    → IsMarked drivers p c → IsMarked drivers p (after_move drivers c q)
-marked_moved drivers p c q a h = by (next_open_place drivers c q) (first_message c.flow q) where
-  by : (o : Option Place) (m : Option Message) → IsMarked drivers p (after_move_to drivers c q o m)
-  by (Some r) (Some m) = marked_arrived drivers p (after_leaving drivers c q) r m a (marked_left drivers p c q a h)
-  by (Some r) None = h
-  by None m = h
-
-marked_settled : (drivers : List DriverSpec) (p : Place) (n : ℕ) (c : Configuration) → IsApart drivers p
-    → IsMarked drivers p c → IsMarked drivers p (after_settling_within drivers n c)
-marked_settled drivers p zero c a h = h
-marked_settled drivers p (suc k) c a h = elim (least_movable drivers c) as
-    (λ o. IsMarked drivers p
-    (elim o as (λ _. Configuration) [ None ↦ c | Some q ↦ after_settling_within drivers k (after_move drivers c q) ]))
-    [ None ↦ h | Some q ↦ marked_settled drivers p k (after_move drivers c q) a (marked_moved drivers p c q a h) ]
-
-marked_finished : (drivers : List DriverSpec) (p : Place) (c : Configuration) (o : Outcome) → IsApart drivers p
-    → IsMarked drivers p c → IfAccepted (λ d r. IsMarked drivers p d) o
-    → IsMarked drivers p (after_outcome drivers c o).0
-marked_finished drivers p c (Ok x) a h k = marked_settled drivers p _ x.0 a k.holds
-marked_finished drivers p c (Err f) a h k = h
+marked_moved : (drivers : List DriverSpec) (p : Place) → IsApart drivers p → MovesKeep (IsMarked drivers p) drivers
+marked_moved drivers p a = record {
+  each = λ c q h. moved_by (IsMarked drivers p) drivers c q h
+      (λ r m e. marked_arrived drivers p (after_leaving drivers c q) r m a (marked_left drivers p c q a h));
+}
 
 marked_from : (drivers : List DriverSpec) (p : Place) (c : Configuration) (es : List Entry) → IsApart drivers p
     → IsMarked drivers p c → IsMarked drivers p (after_from drivers c es)
-marked_from drivers p c [] a h = h
-marked_from drivers p c (e ∷ es) a h = marked_from drivers p (step drivers c e.process e.command).0 es a
-    (marked_finished drivers p c (outcome drivers c e.process e.command) a h
-    (marked_accepted drivers p c e.process e.command a h))
+marked_from drivers p c es a h = after_by (IsMarked drivers p) drivers c es (marked_moved drivers p a)
+    (λ d process k. marked_accepted drivers p d process k a) h
 
 -- drivers that can be had
 

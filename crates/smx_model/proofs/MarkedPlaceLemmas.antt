@@ -20,7 +20,7 @@ use Rattle.smx_model.specs.Settling.{next_open_place}
 use Rattle.smx_model.specs.SettlingByMarks.{CanSettleByMarks, HasItsMarks, IsCleared, IsLeastMarked, IsMovedOn}
 use Rattle.smx_model.specs.SettlingByMarks.{MarkedConfiguration, clears_mark, is_first_there, is_settled, moves_on}
 use Rattle.smx_model.specs.SettlingByMarks.{turned_by_move}
-use Rattle.smx_model.proofs.FlowLemmas.{order_moved}
+use Rattle.smx_model.proofs.OrderLemmas.{order_moved}
 use Rattle.smx_model.proofs.KeptLemmas.{settled_kept}
 use Rattle.smx_model.proofs.MemberLemmas.{first_or_later, in_none}
 use Rattle.smx_model.proofs.OrderLemmas.{order_placed, same_not_before, same_self}

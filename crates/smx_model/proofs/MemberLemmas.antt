@@ -2,7 +2,8 @@
 use Rattle.std.proofs.Common.{◌≡◌, ◌⊎◌, ℕ, zero, suc, ◌<◌, Bool, true, false, ◌||◌, not, arith, List, [], ◌∷◌, length}
 use Rattle.std.proofs.Common.{get_or, filter, refl, sym, ap, ◌∙◌, subst, inl, inr}
 use Rattle.std.specs.List.{All, Contains, list_all, list_any}
-use Rattle.std.proofs.lemmas.Bool.{cases_Bool, and_parts, false≢true, or_cases, or_left, or_parts, or_right}
+use Rattle.std.proofs.lemmas.Bool.{cases_Bool, and_parts, or_cases, or_left, or_parts, or_right}
+use Rattle.std.proofs.lemmas.Bool.{not-true}
 use Rattle.std.proofs.lemmas.List.Elements.{All-contains, All-contains_itself, All-filter, Contains-get_or}
 use Rattle.std.proofs.lemmas.List.Elements.{filter_passes}
 use Rattle.smx_model.specs.Ordered.{with_inserted}
@@ -77,11 +78,7 @@ all_in P xs f k d lt = f (get_or xs k d) (Contains-get_or xs k d lt)
 
 -- and where none passes, it does not
 pub none_in : {X : Type 0} (t : X → Bool) (xs : List X) → list_any t xs ≡ false → (x : X) → Contains xs x → t x ≡ false
-none_in t xs e x h = not_true (t x) (in_all (λ y. not (t y)) xs x (all_not xs e) h) where
-  not_true : (b : Bool) → not b ≡ true → b ≡ false
-  not_true true h = absurd (false≢true h)
-  not_true false h = refl
-
+none_in t xs e x h = not-true (t x) (in_all (λ y. not (t y)) xs x (all_not xs e) h) where
   all_not : (ys : List _) → list_any t ys ≡ false → list_all (λ y. not (t y)) ys ≡ true
   all_not [] e = refl
   all_not (y ∷ ys) e = let p = or_parts (t y) (list_any t ys) e in rw p.0 (all_not ys p.1)

@@ -5,10 +5,13 @@ use Rattle.std.proofs.lemmas.Bool.{both_ways, cases_Bool}
 use Rattle.std.proofs.lemmas.Bool.Decides.{nat_tests}
 use Rattle.smx_types.specs.declared.message.Message.{Message}
 use Rattle.smx_types.specs.declared.stream.Place.{Place}
-use Rattle.smx_model.specs.Configuration.{QueuedMessage, is_at, queued_before, place_before, same_place}
+use Rattle.smx_types.specs.declared.driver.DriverSpec.{DriverSpec}
+use Rattle.smx_model.specs.Configuration.{Configuration, QueuedMessage, is_at, queued_before, place_before, same_place}
 use Rattle.smx_model.specs.FlowOrder.{NoneBefore, IsInOrder}
 use Rattle.smx_model.specs.Ordered.{with_inserted, without_first}
 use Rattle.smx_model.specs.Queues.{queue}
+use Rattle.smx_model.specs.Settling.{after_move}
+use Rattle.smx_model.proofs.SettledLemmas.{moved_by}
 use Rattle.smx_model.proofs.SettlingLemmas.{same_place_is}
 
 -- of two places that differ, one comes before the other
@@ -172,3 +175,9 @@ one_flow (h ∷ xs) (k ∷ ys) o u same = elim (cases_Bool (same_place h.place k
   rest head p = let s = subst (λ (x : QueuedMessage). queue (x ∷ xs) p ≡ queue (k ∷ ys) p) head (same p) in
       elim (cases_Bool (is_at p k))
       [ inl t ↦ tail_queue k.message k.message (queue xs p) (queue ys p) (rw t at s) | inr f ↦ rw f at s ]
+
+-- a move keeps the flow in order of places
+pub order_moved : (drivers : List DriverSpec) (c : Configuration) (p : Place) → IsInOrder c.flow
+    → IsInOrder (after_move drivers c p).flow
+order_moved drivers c p h = moved_by (λ d. IsInOrder d.flow) drivers c p h
+    (λ q m e. order_placed _ (record { place = q; message = m }) (order_without (is_at p) c.flow h))

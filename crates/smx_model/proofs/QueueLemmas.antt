@@ -1,6 +1,6 @@
 -- How single queues and full marks change, which place is the least movable one, and which serials are dropped.
-use Rattle.std.proofs.Common.{◌≡◌, ℕ, suc, ◌<◌, Bool, true, false, ◌||◌, not, cond, eqb, List, [], ◌∷◌, ◌++◌, length}
-use Rattle.std.proofs.Common.{get_or, filter, find, drop, Option, Some, None, refl, sym, ap, ◌∙◌, subst, arith, inl}
+use Rattle.std.proofs.Common.{◌≡◌, ℕ, Bool, true, false, ◌||◌, not, cond, eqb, List, [], ◌∷◌, ◌++◌}
+use Rattle.std.proofs.Common.{filter, find, drop, Option, Some, None, refl, sym, ap, ◌∙◌, subst, inl}
 use Rattle.std.proofs.Common.{inr}
 use Rattle.std.specs.Prelude.{slice_get}
 use Rattle.std.specs.List.{AllPairs, list_any}
@@ -17,7 +17,7 @@ use Rattle.smx_model.specs.Removal.{serials_that_left, serials}
 use Rattle.smx_model.specs.Settling.{is_movable, least_movable}
 use Rattle.smx_model.proofs.OrderLemmas.{queue_elsewhere, queue_placed, same_self, same_not_before}
 use Rattle.smx_model.proofs.SettlingLemmas.{no_front, none_least, same_place_is, some_least}
-use Rattle.smx_model.proofs.EachLemmas.{Each}
+use Rattle.smx_model.proofs.EachLemmas.{Apart, apart_pairs, Each}
 use Rattle.smx_model.proofs.TestLemmas.{find_passes, any_of_placed}
 
 -- where places are the same, either may stand for the other
@@ -27,7 +27,8 @@ same_places p q r h = ap (λ (x : Place). same_place x r) (same_place_is p q h)
 same_turned : (p q : Place) → same_place p q ≡ true → same_place q p ≡ true
 same_turned p q h = subst (λ (x : Place). same_place x p ≡ true) (same_place_is p q h) (same_self p)
 
-not_same_turned : (p q : Place) → same_place p q ≡ false → same_place q p ≡ false
+-- two places that differ do so the other way round
+pub not_same_turned : (p q : Place) → same_place p q ≡ false → same_place q p ≡ false
 not_same_turned p q h = false_from_ne_true _ (λ t. both_ways (same_place p q) h (same_turned q p t))
 
 -- a message arrives
@@ -191,24 +192,6 @@ least_is drivers c o = by (least_movable drivers c) refl where
 
 -- the serials that are dropped
 
--- none is there twice
-abbrev Apart : List ℕ → Type 0
-Apart [] = Unit {0}
-Apart (n ∷ ns) = Each (λ m. eqb n m ≡ false) ns × Apart ns
-
-apart_each : (n : ℕ) (ns : List ℕ) → ((k d : ℕ) → k < length ns → n ≡ get_or ns k d → ⊥)
-    → Each (λ m. eqb n m ≡ false) ns
-apart_each n [] h = tt
-apart_each n (m ∷ ms) h =
-    (ne_eqb n m (λ e. h 0 0 (omega arith) e), apart_each n ms (λ k d lt. h (suc k) d (omega (arith, lt))))
-
-apart_of : (ns : List ℕ) → AllPairs (λ m n. m ≡ n → ⊥) ns → Apart ns
-apart_of [] h = tt
-apart_of (n ∷ ns) h = (
-  apart_each n ns (λ k d lt. h 0 (suc k) d (omega arith) (omega (arith, lt))),
-  apart_of ns (λ i j d lt within. h (suc i) (suc j) d (omega (arith, lt)) (omega (arith, within))),
-)
-
 -- a serial that differs from all is not kept
 not_kept : (n : ℕ) (keep : QueuedMessage → Bool) (hs : List QueuedMessage) → Each (λ m. eqb n m ≡ false) (serials hs)
     → list_any (λ m. eqb n m) (serials (filter keep hs)) ≡ false
@@ -220,7 +203,7 @@ turned_eqb : (m n : ℕ) → eqb m n ≡ false → eqb n m ≡ false
 turned_eqb m n h = false_from_ne_true _ (λ t. both_ways (eqb m n) h (eq-eqb m n (sym (eqb-true n m t))))
 
 -- a serial is kept exactly where its message is
-kept_or_not : (keep : QueuedMessage → Bool) (hs : List QueuedMessage) → Apart (serials hs)
+kept_or_not : (keep : QueuedMessage → Bool) (hs : List QueuedMessage) → Apart (λ m n. eqb m n ≡ false) (serials hs)
     → Each (λ h. list_any (λ m. eqb h.message.serial m) (serials (filter keep hs)) ≡ keep h) hs
 kept_or_not keep [] a = tt
 kept_or_not keep (k ∷ ks) a = elim (cases_Bool (keep k)) [
@@ -252,5 +235,6 @@ those_gone keep new (k ∷ ks) h = elim (cases_Bool (keep k)) [
 -- the serials that leave a filtered flow are those of the messages that don't pass, rising
 pub gone_is : (flow : List QueuedMessage) (keep : QueuedMessage → Bool) → AllPairs (λ m n. m ≡ n → ⊥) (serials flow)
     → serials_that_left flow (filter keep flow) ≡ in_rising_order (serials (filter (λ h. not (keep h)) flow))
-gone_is flow keep apart = ap in_rising_order
-    (those_gone keep (serials (filter keep flow)) flow (kept_or_not keep flow (apart_of (serials flow) apart)))
+gone_is flow keep apart =
+    ap in_rising_order (those_gone keep (serials (filter keep flow)) flow (kept_or_not keep flow
+    (apart_pairs _ (serials flow) (λ i j d lt within. ne_eqb _ _ (apart i j d lt within)))))

@@ -1,36 +1,29 @@
 -- Descriptors and links name streams that the drivers have.
-use Rattle.std.proofs.Common.{◌≡◌, ℕ, zero, suc, ◌+◌, ◌<◌, Bool, false, not, leb, arith, List, [], ◌∷◌, ◌++◌, length}
-use Rattle.std.proofs.Common.{filter, find, Option, Some, None, Ok, refl, rules, subst, inl, inr}
+use Rattle.std.proofs.Common.{◌≡◌, ℕ, zero, suc, ◌+◌, ◌<◌, Bool, false, not, leb, arith, List, [], ◌∷◌, length}
+use Rattle.std.proofs.Common.{find, Some, Ok, rules, subst, inl, inr}
 use Rattle.std.specs.Prelude.{position}
 use Rattle.std.specs.Str.{bytes_eq}
 use Rattle.std.specs.List.{range_with_len}
 use Rattle.std.proofs.lemmas.Bool.{cases_Bool, leb-false}
 use Rattle.std.proofs.lemmas.List.Quantifiers.{position-Some}
-use Rattle.std.specs.Option.{option_map}
 use Rattle.smx_types.specs.declared.command.Command.{Command}
-use Rattle.smx_types.specs.declared.command.Command.TheVariants as command
-use Rattle.smx_types.specs.declared.reply.Fault.TheVariants.{BadDescriptor, NoDriver, NoMinor}
-use Rattle.smx_types.specs.declared.command.Which.{Which}
-use Rattle.smx_types.specs.declared.command.Which.TheVariants as which
-use Rattle.smx_types.specs.declared.stream.Descriptor.{Descriptor}
+use Rattle.smx_types.specs.declared.reply.Fault.TheVariants.{NoDriver, NoMinor}
 use Rattle.smx_types.specs.declared.driver.DriverSpec.{DriverSpec}
 use Rattle.smx_types.specs.declared.link.Link.{Link}
-use Rattle.smx_types.specs.declared.link.LinkKind.{LinkKind}
-use Rattle.smx_types.specs.declared.message.Message.{Message}
 use Rattle.smx_types.specs.declared.stream.Place.{Place}
 use Rattle.smx_types.specs.declared.stream.StreamId.{StreamId}
-use Rattle.smx_model.specs.Commands.{outcome, done_outcome, link_outcome, unlink_outcome, with_fd}
-use Rattle.smx_model.specs.Configuration.{Configuration, fd_before, is_fd}
+use Rattle.smx_model.specs.Commands.{outcome}
+use Rattle.smx_model.specs.Configuration.{Configuration, is_fd}
 use Rattle.smx_model.specs.DriverList.{minors_of}
 use Rattle.smx_model.specs.KnownStreams.{IsKnown}
 use Rattle.smx_model.specs.Lookups.{driver_of, stream_of, free_minor}
-use Rattle.smx_model.specs.Outcomes.{or_fault}
-use Rattle.smx_model.specs.Queues.{first_message}
-use Rattle.smx_model.specs.Removal.{without_links}
-use Rattle.smx_model.specs.Settling.{after_move, after_move_to, next_open_place}
+use Rattle.smx_model.specs.Settling.{after_move}
 use Rattle.smx_model.specs.Standing.{exists}
-use Rattle.smx_model.proofs.OutcomeLemmas.{IfAccepted, at_ok, after_ok, after_test, after_some, after_choice}
-use Rattle.smx_model.proofs.EachLemmas.{Each, each_filter, each_placed, each_push, each_find}
+use Rattle.smx_model.proofs.SettledLemmas.{moved_by}
+use Rattle.smx_model.proofs.AcceptedLemmas.{of_rows}
+use Rattle.smx_model.proofs.LookupLemmas.{descriptor_of, there_is}
+use Rattle.smx_model.proofs.OutcomeLemmas.{IfAccepted}
+use Rattle.smx_model.proofs.EachLemmas.{Each, each_filter, each_placed, each_push, each_find, each_map}
 
 -- each descriptor has a stream, and each link a controlling and a lower one, that the drivers have
 pub record AreNamed (drivers : List DriverSpec) (c : Configuration) : Type 0 where
@@ -41,8 +34,7 @@ pub record AreNamed (drivers : List DriverSpec) (c : Configuration) : Type 0 whe
 pub links_below : (drivers : List DriverSpec) (links : List Link)
     → Each (λ l. IsKnown drivers l.ctl × IsKnown drivers l.lower) links
     → Each (λ l. (l.ctl.driver < length drivers) × (l.lower.driver < length drivers)) links
-links_below drivers [] h = tt
-links_below drivers (l ∷ ls) h = ((h.0.0.0, h.0.1.0), links_below drivers ls h.1)
+links_below drivers links h = each_map _ _ links (λ l p. (p.0.0, p.1.0)) h
 
 position_below : (drivers : List DriverSpec) (test : DriverSpec → Bool) (k : ℕ) → position test drivers ≡ Some k
     → k < length drivers
@@ -50,33 +42,25 @@ position_below [] test k e = cc
 position_below (d ∷ ds) test k e = (position-Some test (d ∷ ds) k d e).0
 
 driver_below : (drivers : List DriverSpec) (name : List ℕ) (n : ℕ) → driver_of drivers name ≡ Ok n → n < length drivers
-driver_below drivers name n e = by (position (λ d. bytes_eq d.name name) drivers) refl e where
-  by : (o : Option ℕ) → position (λ d. bytes_eq d.name name) drivers ≡ o → or_fault NoDriver o ≡ Ok n
-      → n < length drivers
-  by None e h = cc
-  by (Some k) e h = let same : k ≡ n = cc in
-      subst (λ (x : ℕ). x < length drivers) same (position_below drivers (λ d. bytes_eq d.name name) k e)
+driver_below drivers name n e = position_below drivers (λ d. bytes_eq d.name name) n (there_is NoDriver _ n e)
 
--- a minor that is found free is one of the driver's
-range_below : (test : ℕ → Bool) (a n m : ℕ) → find test (range_with_len a n) ≡ Some m → m < a + n
+-- what is found in a range is below its end
+pub range_below : (test : ℕ → Bool) (a n m : ℕ) → find test (range_with_len a n) ≡ Some m → m < a + n
 range_below test a zero m e = cc
 range_below test a (suc n) m e = elim (cases_Bool (test a)) [
   | inl t ↦ let k : Some a ≡ Some m = rw t at e in let same : a ≡ m = cc in omega (arith, same)
   | inr f ↦ omega (arith, range_below test (a + 1) n m (rw f at e))
 ]
 
+-- a minor that is found free is one of the driver's
 minor_free : (drivers : List DriverSpec) (c : Configuration) (n m : ℕ) → free_minor drivers c n ≡ Ok m
     → m < minors_of drivers n
-minor_free drivers c n m e = by
-    (find (λ m. not (exists drivers c (record { driver = n; minor = m }))) (range_with_len 0 (minors_of drivers n)))
-    refl e where
-      by : (o : Option ℕ) → find (λ m. not (exists drivers c (record { driver = n; minor = m })))
-          (range_with_len 0 (minors_of drivers n)) ≡ o → or_fault NoMinor o ≡ Ok m → m < minors_of drivers n
-      by None e k = cc
-      by (Some x) e k = let same : x ≡ m = cc in
-          let lt : x < 0 + minors_of drivers n = range_below
-          (λ m. not (exists drivers c (record { driver = n; minor = m }))) 0 (minors_of drivers n) x e in
-          subst (λ (y : ℕ). y < minors_of drivers n) same (omega (arith, lt))
+minor_free drivers c n m e =
+    omega (
+      arith,
+      range_below (λ m. not (exists drivers c (record { driver = n; minor = m }))) 0 (minors_of drivers n) m
+          (there_is NoMinor _ m e),
+    )
 
 minor_in : (drivers : List DriverSpec) (n m : ℕ) → leb (minors_of drivers n) m ≡ false → m < minors_of drivers n
 minor_in drivers n m e = leb-false (minors_of drivers n) m e
@@ -87,96 +71,27 @@ known_made drivers n m lt lt2 = (lt, lt2)
 
 stream_known : (drivers : List DriverSpec) (c : Configuration) (process fd : ℕ) (s : StreamId) → AreNamed drivers c
     → stream_of c process fd ≡ Ok s → IsKnown drivers s
-stream_known drivers c process fd s h e = by (find (is_fd process fd) c.fds) refl e where
-  by : (o : Option Descriptor) → find (is_fd process fd) c.fds ≡ o
-      → or_fault BadDescriptor (option_map (λ d. d.stream) o) ≡ Ok s → IsKnown drivers s
-  by None e k = cc
-  by (Some d) e k = let same : d.stream ≡ s = cc in
-      subst (IsKnown drivers) same (each_find (λ d. IsKnown drivers d.stream) (is_fd process fd) c.fds d e h.fds)
-
-named_fd : (drivers : List DriverSpec) (c : Configuration) (process fd : ℕ) (s : StreamId) → AreNamed drivers c
-    → IsKnown drivers s → AreNamed drivers (with_fd c process fd s)
-named_fd drivers c process fd s h
-    k = record {
-      fds = each_placed (λ d. IsKnown drivers d.stream) fd_before c.fds
-          (record { process = process; fd = fd; stream = s }) k h.fds;
-      links = h.links;
-    }
-
-named_link : (drivers : List DriverSpec) (c : Configuration) (l : Link) (next : ℕ) → AreNamed drivers c
-    → IsKnown drivers l.ctl → IsKnown drivers l.lower
-    → AreNamed drivers (record c { links = c.links ++ l ∷ []; next_id = next })
-named_link drivers c l next h a b = record {
-  fds = h.fds;
-  links = each_push (λ l. IsKnown drivers l.ctl × IsKnown drivers l.lower) c.links l (a, b) h.links;
-}
-
-named_done : (drivers : List DriverSpec) (c d : Configuration) → AreNamed drivers d
-    → IfAccepted (λ d r. AreNamed drivers d) (done_outcome drivers c d)
-named_done drivers c d h = record { holds = record { fds = h.fds; links = each_filter _ _ d.links h.links } }
-
--- descriptors, links as they were or fewer
-named_same : (drivers : List DriverSpec) (c d : Configuration) → AreNamed drivers c → d.fds ≡ c.fds → d.links ≡ c.links
-    → AreNamed drivers d
-named_same drivers c d h e f = record { fds = rw e h.fds; links = rw f h.links }
-
-named_closed : (drivers : List DriverSpec) (c : Configuration) (test : Descriptor → Bool) → AreNamed drivers c
-    → AreNamed drivers (record c { fds = filter test c.fds })
-named_closed drivers c test h = record { fds = each_filter _ test c.fds h.fds; links = h.links }
-
-named_removed : (drivers : List DriverSpec) (c : Configuration) (goes : Link → Bool) → AreNamed drivers c
-    → AreNamed drivers (without_links c goes)
-named_removed drivers c goes h = record { fds = h.fds; links = each_filter _ _ c.links h.links }
-
-named_unlinked : (drivers : List DriverSpec) (c : Configuration) (w : Which) (mine : Link → Bool) → AreNamed drivers c
-    → IfAccepted (λ d r. AreNamed drivers d) (unlink_outcome drivers c w mine)
-named_unlinked drivers c which.All mine h = named_done drivers c (without_links c mine) (named_removed drivers c mine h)
-named_unlinked drivers c (which.Id id) mine h = search (after_test, named_done, named_removed, rules) depth 12
-
-named_linked : (drivers : List DriverSpec) (c : Configuration) (process fd arg : ℕ) (k : LinkKind) → AreNamed drivers c
-    → IfAccepted (λ d r. AreNamed drivers d) (link_outcome drivers c process fd arg k)
-named_linked drivers c process fd arg k h =
-    search (after_test, after_ok, at_ok, named_link, stream_known, rules) depth 24
+stream_known drivers c process fd s h e =
+    let d = descriptor_of c process fd s e in
+    subst (IsKnown drivers) d.2 (each_find (λ d. IsKnown drivers d.stream) (is_fd process fd) c.fds d.0 d.1 h.fds)
 
 -- an accepted command leaves descriptors and links with streams that the drivers have
 pub named_accepted : (drivers : List DriverSpec) (c : Configuration) (process : ℕ) (k : Command) → AreNamed drivers c
     → IfAccepted (λ d r. AreNamed drivers d) (outcome drivers c process k)
-named_accepted drivers c process (command.OpenClone name) h =
-    search (after_ok, at_ok, named_fd, known_made, minor_free, driver_below, rules) depth 20
-named_accepted drivers c process (command.OpenMinor name minor) h =
-    search (after_test, after_ok, at_ok, named_fd, known_made, minor_in, driver_below, rules) depth 20
-named_accepted drivers c process (command.Dup fd) h = search (after_ok, at_ok, named_fd, stream_known, rules) depth 20
-named_accepted drivers c process (command.Close fd) h = search (after_ok, named_done, named_closed, rules) depth 20
-named_accepted drivers c process command.CloseAll h = search (at_ok, named_done, named_closed, rules) depth 20
-named_accepted drivers c process (command.Link fd arg) h = search (named_linked, rules) depth 20
-named_accepted drivers c process (command.Plink fd arg) h = search (named_linked, rules) depth 20
-named_accepted drivers c process (command.Unlink fd w) h = search (after_ok, named_unlinked, rules) depth 20
-named_accepted drivers c process (command.Punlink fd w) h = search (after_ok, named_unlinked, rules) depth 20
-named_accepted drivers c process (command.Bind fd addr) h =
-    search (after_test, after_ok, named_done, named_same, rules) depth 20
-named_accepted drivers c process (command.Unbind fd) h =
-    search (after_test, after_ok, named_done, named_same, rules) depth 20
-named_accepted drivers c process (command.Route fd addr id) h =
-    search (after_test, after_ok, named_done, named_same, rules) depth 20
-named_accepted drivers c process (command.Unroute fd addr) h =
-    search (after_test, after_ok, named_done, named_same, rules) depth 20
-named_accepted drivers c process (command.Write fd addr bytes) h =
-    search (after_test, after_ok, at_ok, named_same, rules) depth 20
-named_accepted drivers c process (command.Read fd) h =
-    search (after_ok, after_choice, after_some, at_ok, named_same, rules) depth 20
-named_accepted drivers c process (command.Flush fd w) h = search (after_ok, named_done, named_same, rules) depth 20
-named_accepted drivers c process (command.Inject name minor addr bytes) h =
-    search (after_test, after_ok, at_ok, named_same, rules) depth 20
-named_accepted drivers c process (command.Transmit name minor) h =
-    search (after_some, after_ok, at_ok, named_same, rules) depth 20
-named_accepted drivers c process (command.Hangup name minor) h =
-    search (after_ok, named_done, named_same, rules) depth 20
+named_accepted drivers c process k h = of_rows _ drivers c process k (search (
+  each_placed,
+  each_push,
+  each_filter,
+  known_made,
+  minor_free,
+  minor_in,
+  driver_below,
+  stream_known,
+  rules,
+) depth 24)
 
 -- a move leaves descriptors and links with streams that the drivers have
 pub named_moved : (drivers : List DriverSpec) (c : Configuration) (p : Place) → AreNamed drivers c
     → AreNamed drivers (after_move drivers c p)
-named_moved drivers c p h = by (next_open_place drivers c p) (first_message c.flow p) where
-  by : (o : Option Place) (m : Option Message) → AreNamed drivers (after_move_to drivers c p o m)
-  by (Some q) (Some m) = record { fds = h.fds; links = h.links }
-  by (Some q) None = h
-  by None m = h
+named_moved drivers c p h =
+    moved_by (AreNamed drivers) drivers c p h (λ q m e. record { fds = h.fds; links = h.links })

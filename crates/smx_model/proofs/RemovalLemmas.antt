@@ -1,5 +1,5 @@
 -- Which links a command removes, and which it leaves.
-use Rattle.std.proofs.Common.{◌≡◌, ◌↔◌, ◌⊎◌, ℕ, zero, suc, ◌+◌, Bool, true, false, ◌&&◌, ◌||◌, not, eqb, List, [], ◌∷◌}
+use Rattle.std.proofs.Common.{◌≡◌, ◌↔◌, ◌⊎◌, ℕ, zero, suc, Bool, true, false, ◌&&◌, ◌||◌, not, eqb, List, [], ◌∷◌}
 use Rattle.std.proofs.Common.{◌++◌, length, filter, Result, Ok, Err, refl, rules, sym, ap, subst, inl, inr}
 use Rattle.std.specs.List.{All, Contains, list_any}
 use Rattle.std.proofs.lemmas.Bool.{and_from, and_parts, or_cases, or_left, or_right, false≢true}
@@ -10,16 +10,13 @@ use Rattle.smx_types.specs.declared.command.Which.{Which}
 use Rattle.smx_types.specs.declared.command.Which.TheVariants as which
 use Rattle.smx_types.specs.declared.driver.DriverSpec.{DriverSpec}
 use Rattle.smx_types.specs.declared.link.Link.{Link}
-use Rattle.smx_types.specs.declared.link.LinkKind.{LinkKind}
 use Rattle.smx_types.specs.declared.reply.Fault.{Fault}
 use Rattle.smx_types.specs.declared.reply.Fault.TheVariants.{NoLink}
 use Rattle.smx_types.specs.declared.reply.Reply.{Reply}
 use Rattle.smx_types.specs.declared.reply.Reply.TheVariants as reply
 use Rattle.smx_types.specs.declared.stream.Descriptor.{Descriptor}
-use Rattle.smx_types.specs.declared.stream.Place.{Place}
 use Rattle.smx_types.specs.declared.stream.StreamId.{StreamId}
-use Rattle.smx_model.specs.Commands.{outcome, step, after_outcome, done_outcome, link_outcome, unlink_outcome}
-use Rattle.smx_model.specs.Commands.{send_outcome, receive_outcome}
+use Rattle.smx_model.specs.Commands.{outcome, step, after_outcome, done_outcome, unlink_outcome}
 use Rattle.smx_model.specs.Configuration.{Configuration, same_stream, is_fd}
 use Rattle.smx_model.specs.Lookups.{mux_stream, stream_of}
 use Rattle.smx_model.specs.MeantLinks.{is_meant}
@@ -30,7 +27,8 @@ use Rattle.smx_model.specs.Standing.{exists, is_named, is_persistent, stands_wit
 use Rattle.smx_model.specs.Swept.{IsSwept}
 use Rattle.smx_model.proofs.MemberLemmas.{all_in, any_filtered, filtered_passes, in_all, in_filtered, none_in}
 use Rattle.smx_model.proofs.MemberLemmas.{of_filtered}
-use Rattle.smx_model.proofs.OutcomeLemmas.{IfAccepted, at_ok, after_ok, after_test, after_some, after_choice}
+use Rattle.smx_model.proofs.AcceptedLemmas.{of_rows, at_none}
+use Rattle.smx_model.proofs.OutcomeLemmas.{IfAccepted}
 use Rattle.smx_model.proofs.SettledLemmas.{settled_alone}
 use Rattle.smx_model.proofs.StandingLemmas.{swept_is}
 use Rattle.smx_model.proofs.TestLemmas.{any_more}
@@ -206,18 +204,6 @@ keeps_done drivers c d h e f = record {
   alive false true h = refl
   alive false false h = h
 
-keeps_linked : (drivers : List DriverSpec) (c : Configuration) (process fd arg : ℕ) (k : LinkKind)
-    → IfAccepted (λ d r. KeepsLinks c d) (link_outcome drivers c process fd arg k)
-keeps_linked drivers c process fd arg k = search (after_test, after_ok, at_ok, keeps_push, rules) depth 24
-
-keeps_sent : (drivers : List DriverSpec) (c : Configuration) (p : Place) (addr : ℕ) (bytes : List ℕ)
-    → IfAccepted (λ d r. KeepsLinks c d) (send_outcome drivers c p addr bytes)
-keeps_sent drivers c p addr bytes = search (after_test, at_ok, keeps_same, rules) depth 12
-
-keeps_received : (drivers : List DriverSpec) (c : Configuration) (p : Place)
-    → IfAccepted (λ d r. KeepsLinks c d) (receive_outcome drivers c p)
-keeps_received drivers c p = search (after_some, at_ok, keeps_same, rules) depth 12
-
 -- it is neither close, exit, unlink nor punlink
 record IsOther (k : Command) : Type 0 where
   close : (fd : ℕ) → k ≡ command.Close fd → ⊥
@@ -227,32 +213,18 @@ record IsOther (k : Command) : Type 0 where
 
 keeps_accepted : (drivers : List DriverSpec) (c : Configuration) (process : ℕ) (k : Command) → IsOther k
     → IsSwept drivers c → IfAccepted (λ d r. KeepsLinks c d) (outcome drivers c process k)
-keeps_accepted drivers c process (command.OpenClone name) other h = search (after_ok, at_ok, keeps_same, rules) depth 20
-keeps_accepted drivers c process (command.OpenMinor name minor) other h =
-    search (after_test, after_ok, at_ok, keeps_same, rules) depth 20
-keeps_accepted drivers c process (command.Dup fd) other h = search (after_ok, at_ok, keeps_same, rules) depth 20
-keeps_accepted drivers c process (command.Close fd) other h = absurd (other.close fd refl)
-keeps_accepted drivers c process command.CloseAll other h = absurd (other.exit refl)
-keeps_accepted drivers c process (command.Link fd arg) other h = search (keeps_linked, rules) depth 20
-keeps_accepted drivers c process (command.Plink fd arg) other h = search (keeps_linked, rules) depth 20
-keeps_accepted drivers c process (command.Unlink fd w) other h = absurd (other.unlink fd w refl)
-keeps_accepted drivers c process (command.Punlink fd w) other h = absurd (other.punlink fd w refl)
-keeps_accepted drivers c process (command.Bind fd addr) other h =
-    search (after_test, after_ok, keeps_done, rules) depth 20
-keeps_accepted drivers c process (command.Unbind fd) other h = search (after_test, after_ok, keeps_done, rules) depth 20
-keeps_accepted drivers c process (command.Route fd addr id) other h =
-    search (after_test, after_ok, keeps_done, rules) depth 20
-keeps_accepted drivers c process (command.Unroute fd addr) other h =
-    search (after_test, after_ok, keeps_done, rules) depth 20
-keeps_accepted drivers c process (command.Write fd addr bytes) other h = search (after_ok, keeps_sent, rules) depth 20
-keeps_accepted drivers c process (command.Read fd) other h =
-    search (after_ok, after_choice, at_ok, keeps_same, keeps_received, rules) depth 20
-keeps_accepted drivers c process (command.Flush fd w) other h = search (after_ok, keeps_done, rules) depth 20
-keeps_accepted drivers c process (command.Inject name minor addr bytes) other h =
-    search (after_ok, keeps_sent, rules) depth 20
-keeps_accepted drivers c process (command.Transmit name minor) other h =
-    search (after_ok, keeps_received, rules) depth 20
-keeps_accepted drivers c process (command.Hangup name minor) other h = search (after_ok, keeps_done, rules) depth 20
+keeps_accepted drivers c process k other h = search (
+  of_rows,
+  keeps_same,
+  keeps_push,
+  keeps_done,
+  at_none,
+  other.close,
+  other.exit,
+  other.unlink,
+  other.punlink,
+  rules,
+) depth 24
 
 keeps_finished : (drivers : List DriverSpec) (c : Configuration) (o : Outcome) → IfAccepted (λ d r. KeepsLinks c d) o
     → KeepsLinks c (after_outcome drivers c o).0
@@ -333,53 +305,10 @@ came_like : (drivers : List DriverSpec) (c d : Configuration) → d.links ≡ c.
     → IfAccepted (HasCome c) (done_outcome drivers c d)
 came_like drivers c d e = came_done drivers c d (λ l h. subst (λ (ls : List Link). Contains ls l) e h)
 
-came_unlinked : (drivers : List DriverSpec) (c : Configuration) (w : Which) (mine : Link → Bool)
-    → IfAccepted (HasCome c) (unlink_outcome drivers c w mine)
-came_unlinked drivers c which.All mine = came_removed drivers c mine
-came_unlinked drivers c (which.Id id) mine = search (after_test, came_removed, rules) depth 12
-
-came_linked : (drivers : List DriverSpec) (c : Configuration) (process fd arg : ℕ) (k : LinkKind)
-    → IfAccepted (HasCome c) (link_outcome drivers c process fd arg k)
-came_linked drivers c process fd arg k = search (after_test, after_ok, at_ok, made, rules) depth 24 where
-  made : (ctl lower : StreamId)
-      → HasCome c
-      (record c {
-        links = c.links ++ record { id = c.next_id; ctl = ctl; lower = lower; kind = k } ∷ [];
-        next_id = c.next_id + 1;
-      }) (reply.Id c.next_id)
-  made ctl lower = came_link c (record { id = c.next_id; ctl = ctl; lower = lower; kind = k }) (c.next_id + 1)
-
-came_sent : (drivers : List DriverSpec) (c : Configuration) (p : Place) (addr : ℕ) (bytes : List ℕ)
-    → IfAccepted (HasCome c) (send_outcome drivers c p addr bytes)
-came_sent drivers c p addr bytes = search (after_test, at_ok, came_same, rules) depth 12
-
-came_received : (drivers : List DriverSpec) (c : Configuration) (p : Place)
-    → IfAccepted (HasCome c) (receive_outcome drivers c p)
-came_received drivers c p = search (after_some, at_ok, came_same, rules) depth 12
-
 came_accepted : (drivers : List DriverSpec) (c : Configuration) (process : ℕ) (k : Command)
     → IfAccepted (HasCome c) (outcome drivers c process k)
-came_accepted drivers c process (command.OpenClone name) = search (after_ok, at_ok, came_same, rules) depth 20
-came_accepted drivers c process (command.OpenMinor name minor) =
-    search (after_test, after_ok, at_ok, came_same, rules) depth 20
-came_accepted drivers c process (command.Dup fd) = search (after_ok, at_ok, came_same, rules) depth 20
-came_accepted drivers c process (command.Close fd) = search (after_ok, came_like, rules) depth 20
-came_accepted drivers c process command.CloseAll = search (came_like, rules) depth 20
-came_accepted drivers c process (command.Link fd arg) = search (came_linked, rules) depth 20
-came_accepted drivers c process (command.Plink fd arg) = search (came_linked, rules) depth 20
-came_accepted drivers c process (command.Unlink fd w) = search (after_ok, came_unlinked, rules) depth 20
-came_accepted drivers c process (command.Punlink fd w) = search (after_ok, came_unlinked, rules) depth 20
-came_accepted drivers c process (command.Bind fd addr) = search (after_test, after_ok, came_like, rules) depth 20
-came_accepted drivers c process (command.Unbind fd) = search (after_test, after_ok, came_like, rules) depth 20
-came_accepted drivers c process (command.Route fd addr id) = search (after_test, after_ok, came_like, rules) depth 20
-came_accepted drivers c process (command.Unroute fd addr) = search (after_test, after_ok, came_like, rules) depth 20
-came_accepted drivers c process (command.Write fd addr bytes) = search (after_ok, came_sent, rules) depth 20
-came_accepted drivers c process (command.Read fd) =
-    search (after_ok, after_choice, at_ok, came_same, came_received, rules) depth 20
-came_accepted drivers c process (command.Flush fd w) = search (after_ok, came_like, rules) depth 20
-came_accepted drivers c process (command.Inject name minor addr bytes) = search (after_ok, came_sent, rules) depth 20
-came_accepted drivers c process (command.Transmit name minor) = search (after_ok, came_received, rules) depth 20
-came_accepted drivers c process (command.Hangup name minor) = search (after_ok, came_like, rules) depth 20
+came_accepted drivers c process k =
+    search (of_rows, came_same, came_link, came_removed, came_like, rules) depth 24
 
 came_finished : (drivers : List DriverSpec) (c : Configuration) (o : Outcome) → IfAccepted (HasCome c) o
     → HasCome c (after_outcome drivers c o).0 (after_outcome drivers c o).1

@@ -1,37 +1,31 @@
 -- Descriptors, bindings, routes, full places and hung-up streams stay in their order.
-use Rattle.std.proofs.Common.{◌≡◌, ℕ, Bool, true, false, ◌&&◌, ◌||◌, not, eqb, List, [], ◌∷◌, filter, find, Option}
-use Rattle.std.proofs.Common.{Some, None, Ok, refl, rules, sym, ap, ◌∙◌, arith, inl, inr}
+use Rattle.std.proofs.Common.{◌≡◌, ℕ, Bool, true, false, ◌&&◌, ◌||◌, not, eqb, List, [], ◌∷◌, filter}
+use Rattle.std.proofs.Common.{Ok, refl, rules, arith, inl, inr}
 use Rattle.std.specs.List.{list_any, range_with_len}
-use Rattle.std.proofs.lemmas.Bool.{cases_Bool, false≢true}
+use Rattle.std.proofs.lemmas.Bool.{cases_Bool, not-true}
 use Rattle.std.proofs.lemmas.Bool.Decides.{nat_tests}
 use Rattle.smx_types.specs.declared.command.Command.{Command}
-use Rattle.smx_types.specs.declared.command.Command.TheVariants as command
-use Rattle.smx_types.specs.declared.command.Which.{Which}
-use Rattle.smx_types.specs.declared.command.Which.TheVariants as which
 use Rattle.smx_types.specs.declared.driver.DriverSpec.{DriverSpec}
 use Rattle.smx_types.specs.declared.limits.TheConstants.{MAX_DESCRIPTORS}
-use Rattle.smx_types.specs.declared.link.Binding.{Binding}
-use Rattle.smx_types.specs.declared.link.Link.{Link}
-use Rattle.smx_types.specs.declared.link.LinkKind.{LinkKind}
-use Rattle.smx_types.specs.declared.link.Route.{Route}
-use Rattle.smx_types.specs.declared.message.Message.{Message}
 use Rattle.smx_types.specs.declared.reply.Fault.TheVariants.{TooManyDescriptors}
-use Rattle.smx_types.specs.declared.stream.Descriptor.{Descriptor}
 use Rattle.smx_types.specs.declared.stream.Place.{Place}
 use Rattle.smx_types.specs.declared.stream.StreamId.{StreamId}
-use Rattle.smx_model.specs.Commands.{outcome, done_outcome, link_outcome, receive_outcome, send_outcome, unlink_outcome}
+use Rattle.smx_model.specs.Commands.{outcome}
 use Rattle.smx_model.specs.Commands.{with_fd}
 use Rattle.smx_model.specs.Configuration.{Configuration, empty, is_fd, fd_before, bind_before, route_before}
 use Rattle.smx_model.specs.Configuration.{place_before, pair_before, same_place, same_stream, stream_before}
 use Rattle.smx_model.specs.Hangups.{is_hung, with_hung}
 use Rattle.smx_model.specs.Lookups.{free_fd}
 use Rattle.smx_model.specs.Ordered.{with_inserted, ComesBefore, IsRising}
-use Rattle.smx_model.specs.Outcomes.{or_fault}
-use Rattle.smx_model.specs.Queues.{first_message, with_mark, after_arrival, after_leaving}
-use Rattle.smx_model.specs.Removal.{without_queues_at, without_links}
-use Rattle.smx_model.specs.Settling.{after_move, after_move_to, next_open_place}
+use Rattle.smx_model.specs.Queues.{with_mark}
+use Rattle.smx_model.specs.Settling.{after_move}
+use Rattle.smx_model.specs.OrderedParts.{AreListsOrdered}
+use Rattle.smx_model.proofs.SettledLemmas.{ChangesQueuesAlone, moved_alone, moved_by}
+use Rattle.smx_model.proofs.OrderLemmas.{order_filter, order_moved, order_placed, order_without}
 use Rattle.smx_model.proofs.OrderLemmas.{place_before_trans, place_either}
-use Rattle.smx_model.proofs.OutcomeLemmas.{IfAccepted, after_ok, after_some, after_test, at_ok, after_choice}
+use Rattle.smx_model.proofs.AcceptedLemmas.{of_rows}
+use Rattle.smx_model.proofs.LookupLemmas.{there_is}
+use Rattle.smx_model.proofs.OutcomeLemmas.{IfAccepted}
 use Rattle.smx_model.proofs.EachLemmas.{Each, none_passes, kept_passes}
 use Rattle.smx_model.proofs.TestLemmas.{find_passes}
 
@@ -98,10 +92,6 @@ route_trans x y z h k = pair_trans x.driver x.addr y.driver y.addr z.driver z.ad
 stream_trans : IsTransitive stream_before
 stream_trans x y z h k = pair_trans x.driver x.minor y.driver y.minor z.driver z.minor h k
 
-not_true : (b : Bool) → not b ≡ true → b ≡ false
-not_true true h = absurd (false≢true h)
-not_true false h = refl
-
 -- a bound address or a bound stream differs from both
 bind_other : (a b c d e m : ℕ) → (eqb c a && (eqb d b || eqb e m)) ≡ false → (eqb c a && eqb d b) ≡ false
 bind_other a b c d e m h = by (eqb c a) (eqb d b) (eqb e m) h where
@@ -112,130 +102,37 @@ bind_other a b c d e m h = by (eqb c a) (eqb d b) (eqb e m) h where
 
 -- of each accepted outcome
 
--- descriptors, bindings, routes, full places and hung-up streams
-pub record AreRising (c : Configuration) : Type 0 where
-  pub fds : IsRising fd_before c.fds
-  pub binds : IsRising bind_before c.binds
-  pub routes : IsRising route_before c.routes
-  pub fulls : IsRising place_before c.fulls
-  pub hungs : IsRising stream_before c.hungs
-
-rising_same : (c d : Configuration) → AreRising c → d.fds ≡ c.fds → d.binds ≡ c.binds → d.routes ≡ c.routes
-    → d.fulls ≡ c.fulls → d.hungs ≡ c.hungs → AreRising d
-rising_same c d h e f g k u = record {
-  fds = rw e h.fds;
-  binds = rw f h.binds;
-  routes = rw g h.routes;
-  fulls = rw k h.fulls;
-  hungs = rw u h.hungs;
-}
-
-rising_closed : (c : Configuration) (test : Descriptor → Bool) → AreRising c
-    → AreRising (record c { fds = filter test c.fds })
-rising_closed c test h = record {
-  fds = rising_filter fd_before test c.fds h.fds;
-  binds = h.binds;
-  routes = h.routes;
-  fulls = h.fulls;
-  hungs = h.hungs;
-}
-
-rising_emptied : (c : Configuration) (goes : Place → Bool) → AreRising c → AreRising (without_queues_at c goes)
-rising_emptied c goes h = record {
-  fds = h.fds;
-  binds = h.binds;
-  routes = h.routes;
-  fulls = rising_filter place_before _ c.fulls h.fulls;
-  hungs = h.hungs;
-}
-
-rising_removed : (c : Configuration) (goes : Link → Bool) → AreRising c → AreRising (without_links c goes)
-rising_removed c goes h = record {
-  fds = h.fds;
-  binds = h.binds;
-  routes = rising_filter route_before _ c.routes h.routes;
-  fulls = rising_filter place_before _ c.fulls h.fulls;
-  hungs = h.hungs;
-}
-
-rising_done : (drivers : List DriverSpec) (c d : Configuration) → AreRising d
-    → IfAccepted (λ d r. AreRising d) (done_outcome drivers c d)
-rising_done drivers c d h = record {
-  holds = record {
-    fds = h.fds;
-    binds = rising_filter bind_before _ d.binds h.binds;
-    routes = rising_filter route_before _ d.routes h.routes;
-    fulls = rising_filter place_before _ _ (rising_filter place_before _ d.fulls h.fulls);
-    hungs = rising_filter stream_before _ d.hungs h.hungs;
-  };
-}
-
 -- the number that is free is not there
 free_is_free : (c : Configuration) (process fd : ℕ) → free_fd c process ≡ Ok fd
     → list_any (is_fd process fd) c.fds ≡ false
 free_is_free c process fd e =
-    by (find (λ n. not (list_any (is_fd process n) c.fds)) (range_with_len 0 MAX_DESCRIPTORS)) refl e where
-      by : (o : Option ℕ) → find (λ n. not (list_any (is_fd process n) c.fds)) (range_with_len 0 MAX_DESCRIPTORS) ≡ o
-          → or_fault TooManyDescriptors o ≡ Ok fd → list_any (is_fd process fd) c.fds ≡ false
-      by None f k = cc
-      by (Some n) f k = let same : n ≡ fd = cc in ap (λ (x : ℕ). list_any (is_fd process x) c.fds) (sym same)
-          ∙ not_true _ (find_passes (λ n. not (list_any (is_fd process n) c.fds))
-          (range_with_len 0 MAX_DESCRIPTORS) n f)
+    not-true _ (find_passes (λ n. not (list_any (is_fd process n) c.fds)) (range_with_len 0 MAX_DESCRIPTORS) fd
+    (there_is TooManyDescriptors _ fd e))
 
-rising_fd : (c : Configuration) (process fd : ℕ) (s : StreamId) → AreRising c → free_fd c process ≡ Ok fd
-    → AreRising (with_fd c process fd s)
-rising_fd c process fd s h e = record {
-  fds = rising_placed fd_before fd_trans (record { process = process; fd = fd; stream = s }) c.fds
-      (none_passes (is_fd process fd) _ c.fds (λ d f k. pair_other process fd d.process d.fd f k)
-      (free_is_free c process fd e)) h.fds;
-  binds = h.binds;
-  routes = h.routes;
-  fulls = h.fulls;
-  hungs = h.hungs;
-}
+fds_rise : (c : Configuration) (process fd : ℕ) (s : StreamId) → AreListsOrdered c → free_fd c process ≡ Ok fd
+    → IsRising fd_before (with_fd c process fd s).fds
+fds_rise c process fd s h e = rising_placed fd_before fd_trans (record { process = process; fd = fd; stream = s }) c.fds
+    (none_passes (is_fd process fd) _ c.fds (λ d f k. pair_other process fd d.process d.fd f k)
+    (free_is_free c process fd e)) h.fds
 
-rising_bind : (c : Configuration) (driver addr minor : ℕ) → AreRising c
+binds_rise : (c : Configuration) (driver addr minor : ℕ) → AreListsOrdered c
     → list_any (λ b. eqb b.driver driver && (eqb b.addr addr || eqb b.minor minor)) c.binds ≡ false
-    → AreRising
-    (record c { binds = with_inserted bind_before c.binds (record { driver = driver; addr = addr; minor = minor }) })
-rising_bind c driver addr minor h e = record {
-  fds = h.fds;
-  binds = rising_placed bind_before bind_trans (record { driver = driver; addr = addr; minor = minor }) c.binds
-      (none_passes (λ b. eqb b.driver driver && (eqb b.addr addr || eqb b.minor minor)) _ c.binds
-      (λ b f k. pair_other driver addr b.driver b.addr (bind_other driver addr b.driver b.addr b.minor minor f) k) e)
-      h.binds;
-  routes = h.routes;
-  fulls = h.fulls;
-  hungs = h.hungs;
-}
+    → IsRising bind_before
+    (with_inserted bind_before c.binds (record { driver = driver; addr = addr; minor = minor }))
+binds_rise c driver addr minor h e =
+    rising_placed bind_before bind_trans (record { driver = driver; addr = addr; minor = minor }) c.binds
+    (none_passes (λ b. eqb b.driver driver && (eqb b.addr addr || eqb b.minor minor)) _ c.binds
+    (λ b f k. pair_other driver addr b.driver b.addr (bind_other driver addr b.driver b.addr b.minor minor f) k) e)
+    h.binds
 
-rising_unbind : (c : Configuration) (test : Binding → Bool) → AreRising c
-    → AreRising (record c { binds = filter test c.binds })
-rising_unbind c test h = record {
-  fds = h.fds;
-  binds = rising_filter bind_before test c.binds h.binds;
-  routes = h.routes;
-  fulls = h.fulls;
-  hungs = h.hungs;
-}
-
-rising_route : (c : Configuration) (driver addr id : ℕ) → AreRising c
-    → AreRising
-    (record c {
-      routes = with_inserted route_before
-          (filter (λ r. not (eqb r.driver driver && eqb r.addr addr)) c.routes)
-          (record { driver = driver; addr = addr; id = id });
-    })
-rising_route c driver addr id h = record {
-  fds = h.fds;
-  binds = h.binds;
-  routes = rising_placed route_before route_trans (record { driver = driver; addr = addr; id = id }) _
-      (kept_passes (λ r. not (eqb r.driver driver && eqb r.addr addr)) _ c.routes
-      (λ r t k. pair_other driver addr r.driver r.addr (not_true _ t) k))
-      (rising_filter route_before _ c.routes h.routes);
-  fulls = h.fulls;
-  hungs = h.hungs;
-}
+routes_rise : (c : Configuration) (driver addr id : ℕ) → AreListsOrdered c
+    → IsRising route_before
+    (with_inserted route_before (filter (λ r. not (eqb r.driver driver && eqb r.addr addr)) c.routes)
+    (record { driver = driver; addr = addr; id = id }))
+routes_rise c driver addr id h =
+    rising_placed route_before route_trans (record { driver = driver; addr = addr; id = id }) _
+    (kept_passes (λ r. not (eqb r.driver driver && eqb r.addr addr)) _ c.routes
+    (λ r t k. pair_other driver addr r.driver r.addr (not-true _ t) k)) (rising_filter route_before _ c.routes h.routes)
 
 -- hung-up streams that rise do so with one more
 pub rising_with_hung : (s : StreamId) (hungs : List StreamId) → IsRising stream_before hungs
@@ -246,116 +143,44 @@ rising_with_hung s hungs h = by (is_hung hungs s) refl where
   by false e = rw e (rising_placed stream_before stream_trans s hungs
       (none_passes (λ t. same_stream t s) _ hungs (λ t f k. pair_other s.driver s.minor t.driver t.minor f k) e) h)
 
-rising_hung : (c : Configuration) (s : StreamId) → AreRising c → AreRising (record c { hungs = with_hung s c.hungs })
-rising_hung c s h = record {
-  fds = h.fds;
-  binds = h.binds;
-  routes = h.routes;
-  fulls = h.fulls;
-  hungs = rising_with_hung s c.hungs h.hungs;
-}
-
-rising_unroute : (c : Configuration) (test : Route → Bool) → AreRising c
-    → AreRising (record c { routes = filter test c.routes })
-rising_unroute c test h = record {
-  fds = h.fds;
-  binds = h.binds;
-  routes = rising_filter route_before test c.routes h.routes;
-  fulls = h.fulls;
-  hungs = h.hungs;
-}
-
 rising_marked : (p : Place) (b : Bool) (ps : List Place) → IsRising place_before ps
     → IsRising place_before (with_mark p b ps)
 rising_marked p true ps h = rising_placed place_before place_before_trans p _
-    (kept_passes (λ q. not (same_place p q)) _ ps (λ q t k. place_either p q (not_true _ t) k))
+    (kept_passes (λ q. not (same_place p q)) _ ps (λ q t k. place_either p q (not-true _ t) k))
     (rising_filter place_before _ ps h)
 rising_marked p false ps h = rising_filter place_before _ ps h
 
-rising_arrived : (drivers : List DriverSpec) (c : Configuration) (p : Place) (m : Message) → AreRising c
-    → AreRising (after_arrival drivers c p m)
-rising_arrived drivers c p m h = record {
-  fds = h.fds;
-  binds = h.binds;
-  routes = h.routes;
-  fulls = rising_marked p _ c.fulls h.fulls;
-  hungs = h.hungs;
-}
+-- an accepted command keeps all lists in order
+pub rising_accepted : (drivers : List DriverSpec) (c : Configuration) (process : ℕ) (k : Command) → AreListsOrdered c
+    → IfAccepted (λ d r. AreListsOrdered d) (outcome drivers c process k)
+rising_accepted drivers c process k h = of_rows _ drivers c process k (search (
+  rising_filter,
+  rising_marked,
+  rising_with_hung,
+  order_filter,
+  order_placed,
+  order_without,
+  fds_rise,
+  binds_rise,
+  routes_rise,
+  rules,
+) depth 24)
 
-rising_left : (drivers : List DriverSpec) (c : Configuration) (p : Place) → AreRising c
-    → AreRising (after_leaving drivers c p)
-rising_left drivers c p h = record {
-  fds = h.fds;
-  binds = h.binds;
-  routes = h.routes;
-  fulls = rising_marked p _ c.fulls h.fulls;
-  hungs = h.hungs;
-}
+-- a move keeps all lists in order
+pub rising_moved : (drivers : List DriverSpec) (c : Configuration) (p : Place) → AreListsOrdered c
+    → AreListsOrdered (after_move drivers c p)
+rising_moved drivers c p h = record {
+  fds = rw m.fds h.fds;
+  binds = rw m.binds h.binds;
+  routes = rw m.routes h.routes;
+  fulls = moved_by (λ d. IsRising place_before d.fulls) drivers c p h.fulls
+      (λ q m e. rising_marked q _ _ (rising_marked p _ c.fulls h.fulls));
+  hungs = rw m.hungs h.hungs;
+  flow = order_moved drivers c p h.flow;
+} where
+  m : ChangesQueuesAlone c (after_move drivers c p)
+  m = moved_alone drivers c p
 
-rising_took : (drivers : List DriverSpec) (c : Configuration) (p : Place) (m : Message) (n : ℕ) → AreRising c
-    → AreRising (record (after_arrival drivers c p m) { next_serial = n })
-rising_took drivers c p m n h = let a = rising_arrived drivers c p m h in
-    record { fds = a.fds; binds = a.binds; routes = a.routes; fulls = a.fulls; hungs = a.hungs }
-
-rising_sent : (drivers : List DriverSpec) (c : Configuration) (p : Place) (addr : ℕ) (bytes : List ℕ) → AreRising c
-    → IfAccepted (λ d r. AreRising d) (send_outcome drivers c p addr bytes)
-rising_sent drivers c p addr bytes h = search (after_test, at_ok, rising_took, rules) depth 12
-
-rising_received : (drivers : List DriverSpec) (c : Configuration) (p : Place) → AreRising c
-    → IfAccepted (λ d r. AreRising d) (receive_outcome drivers c p)
-rising_received drivers c p h = search (after_some, at_ok, rising_left, rules) depth 12
-
-rising_unlinked : (drivers : List DriverSpec) (c : Configuration) (w : Which) (mine : Link → Bool) → AreRising c
-    → IfAccepted (λ d r. AreRising d) (unlink_outcome drivers c w mine)
-rising_unlinked drivers c which.All mine h = rising_done drivers c (without_links c mine) (rising_removed c mine h)
-rising_unlinked drivers c (which.Id id) mine h = search (after_test, rising_done, rising_removed, rules) depth 12
-
-rising_linked : (drivers : List DriverSpec) (c : Configuration) (process fd arg : ℕ) (k : LinkKind) → AreRising c
-    → IfAccepted (λ d r. AreRising d) (link_outcome drivers c process fd arg k)
-rising_linked drivers c process fd arg k h = search (after_test, after_ok, at_ok, rising_same, rules) depth 24
-
--- an accepted command keeps descriptors, bindings, routes, full places and hung-up streams rising
-pub rising_accepted : (drivers : List DriverSpec) (c : Configuration) (process : ℕ) (k : Command) → AreRising c
-    → IfAccepted (λ d r. AreRising d) (outcome drivers c process k)
-rising_accepted drivers c process (command.OpenClone name) h = search (after_ok, at_ok, rising_fd, rules) depth 20
-rising_accepted drivers c process (command.OpenMinor name minor) h =
-    search (after_test, after_ok, at_ok, rising_fd, rules) depth 20
-rising_accepted drivers c process (command.Dup fd) h = search (after_ok, at_ok, rising_fd, rules) depth 20
-rising_accepted drivers c process (command.Close fd) h = search (after_ok, rising_done, rising_closed, rules) depth 20
-rising_accepted drivers c process command.CloseAll h = search (rising_done, rising_closed, rules) depth 20
-rising_accepted drivers c process (command.Link fd arg) h = search (after_ok, rising_linked, rules) depth 20
-rising_accepted drivers c process (command.Plink fd arg) h = search (after_ok, rising_linked, rules) depth 20
-rising_accepted drivers c process (command.Unlink fd w) h = search (after_ok, rising_unlinked, rules) depth 20
-rising_accepted drivers c process (command.Punlink fd w) h = search (after_ok, rising_unlinked, rules) depth 20
-rising_accepted drivers c process (command.Bind fd addr) h =
-    search (after_test, after_ok, rising_done, rising_bind, rules) depth 20
-rising_accepted drivers c process (command.Unbind fd) h =
-    search (after_test, after_ok, rising_done, rising_unbind, rules) depth 20
-rising_accepted drivers c process (command.Route fd addr id) h =
-    search (after_test, after_ok, rising_done, rising_route, rules) depth 20
-rising_accepted drivers c process (command.Unroute fd addr) h =
-    search (after_test, after_ok, rising_done, rising_unroute, rules) depth 20
-rising_accepted drivers c process (command.Write fd addr bytes) h =
-    search (after_test, after_ok, rising_sent, rules) depth 20
-rising_accepted drivers c process (command.Read fd) h =
-    search (after_ok, after_choice, at_ok, rising_received, rules) depth 20
-rising_accepted drivers c process (command.Flush fd w) h =
-    search (after_ok, rising_done, rising_emptied, rules) depth 20
-rising_accepted drivers c process (command.Inject name minor addr bytes) h =
-    search (after_test, after_ok, rising_sent, rules) depth 20
-rising_accepted drivers c process (command.Transmit name minor) h = search (after_ok, rising_received, rules) depth 20
-rising_accepted drivers c process (command.Hangup name minor) h =
-    search (after_ok, rising_done, rising_hung, rules) depth 20
-
--- a move keeps descriptors, bindings, routes, full places and hung-up streams rising
-pub rising_moved : (drivers : List DriverSpec) (c : Configuration) (p : Place) → AreRising c
-    → AreRising (after_move drivers c p)
-rising_moved drivers c p h = by (next_open_place drivers c p) (first_message c.flow p) where
-  by : (o : Option Place) (m : Option Message) → AreRising (after_move_to drivers c p o m)
-  by (Some q) (Some m) = rising_arrived drivers (after_leaving drivers c p) q m (rising_left drivers c p h)
-  by (Some q) None = h
-  by None m = h
-
--- the lists of the empty configuration rise
-pub rising_empty : AreRising empty
-rising_empty = record { fds = tt; binds = tt; routes = tt; fulls = tt; hungs = tt }
+-- the lists of the empty configuration are in order
+pub rising_empty : AreListsOrdered empty
+rising_empty = record { fds = tt; binds = tt; routes = tt; fulls = tt; hungs = tt; flow = tt }

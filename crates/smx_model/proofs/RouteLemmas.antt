@@ -1,39 +1,35 @@
 -- Ids of links rise, and routes name links of their own upper driver.
 use Rattle.std.proofs.Common.{◌≡◌, ℕ, ◌+◌, ◌<◌, ◌≤◌, Bool, true, false, ◌&&◌, ◌||◌, not, eqb, ltb, List, [], ◌∷◌, ◌++◌}
-use Rattle.std.proofs.Common.{filter, Option, Some, None, Ok, Err, refl, rules, sym, ◌∙◌, subst, arith, inl, inr}
-use Rattle.std.specs.Prelude.{Result}
+use Rattle.std.proofs.Common.{filter, Ok, refl, rules, sym, ◌∙◌, subst, arith, inl, inr}
 use Rattle.std.specs.List.{list_any}
-use Rattle.std.proofs.lemmas.Bool.{lt-ltb, cases_Bool, eqb-true, and_parts, or_cases, or_left, or_right, false≢true}
+use Rattle.std.proofs.lemmas.Bool.{lt-ltb, cases_Bool, eqb-true, and_parts, not-false, or_cases, or_left, or_right}
+use Rattle.std.proofs.lemmas.Bool.{false≢true}
 use Rattle.smx_types.specs.declared.command.Command.{Command}
-use Rattle.smx_types.specs.declared.command.Command.TheVariants as command
-use Rattle.smx_types.specs.declared.command.Which.{Which}
-use Rattle.smx_types.specs.declared.command.Which.TheVariants as which
 use Rattle.smx_types.specs.declared.driver.DriverSpec.{DriverSpec}
 use Rattle.smx_types.specs.declared.link.Link.{Link}
 use Rattle.smx_types.specs.declared.link.LinkKind.{LinkKind}
 use Rattle.smx_types.specs.declared.link.Route.{Route}
-use Rattle.smx_types.specs.declared.message.Message.{Message}
-use Rattle.smx_types.specs.declared.reply.Fault.{Fault}
 use Rattle.smx_types.specs.declared.reply.Fault.TheVariants.{NotMux}
 use Rattle.smx_types.specs.declared.stream.Place.{Place}
 use Rattle.smx_types.specs.declared.stream.StreamId.{StreamId}
-use Rattle.smx_model.specs.Commands.{outcome, done_outcome, link_outcome, unlink_outcome}
+use Rattle.smx_model.specs.Commands.{outcome, done_outcome}
 use Rattle.smx_model.specs.Configuration.{Configuration, empty, route_before}
 use Rattle.smx_model.specs.DriverList.{is_mux}
 use Rattle.smx_model.specs.Lookups.{free_stream, mux_stream}
 use Rattle.smx_model.specs.Ordered.{with_inserted, ComesBefore, IsRising}
-use Rattle.smx_model.specs.Outcomes.{◌>>=◌, refuse}
-use Rattle.smx_model.specs.Queues.{first_message}
 use Rattle.smx_model.specs.Removal.{without_links}
-use Rattle.smx_model.specs.Settling.{after_move, after_move_to, next_open_place}
+use Rattle.smx_model.specs.Settling.{after_move}
 use Rattle.smx_model.specs.SoundLinks.{AreIdsRising, AreRoutesSound}
-use Rattle.smx_model.proofs.OutcomeLemmas.{IfAccepted, after_ok, after_some, after_test, at_ok, after_choice}
-use Rattle.smx_model.proofs.EachLemmas.{Each, each_filter, each_placed, each_push, each_map, all_of_each}
+use Rattle.smx_model.proofs.SettledLemmas.{moved_by}
+use Rattle.smx_model.proofs.AcceptedLemmas.{of_rows}
+use Rattle.smx_model.proofs.LookupLemmas.{tested}
+use Rattle.smx_model.proofs.OutcomeLemmas.{IfAccepted}
+use Rattle.smx_model.proofs.EachLemmas.{Apart, apart_filter, Each, each_filter, each_placed, each_push, each_map}
+use Rattle.smx_model.proofs.EachLemmas.{all_of_each}
 
 -- each id is below those of the later links
 abbrev pub Rising : List Link → Type 0
-Rising [] = Unit {0}
-Rising (l ∷ ls) = Each (λ k. l.id < k.id) ls × Rising ls
+Rising links = Apart (λ l k. l.id < k.id) links
 
 -- the id is that of a link with this upper driver
 abbrev pub leads_from : List Link → ℕ → ℕ → Bool
@@ -85,11 +81,6 @@ routes_lead drivers c h = each_map _ _ c.routes (λ r p. one_driver c.links r.id
 
 -- the lists as they change
 
-rising_filter : (test : Link → Bool) (ls : List Link) → Rising ls → Rising (filter test ls)
-rising_filter test [] h = tt
-rising_filter test (l ∷ ls) h = elim (cases_Bool (test l))
-    [ inl t ↦ rw t (each_filter _ test ls h.0, rising_filter test ls h.1) | inr f ↦ rw f (rising_filter test ls h.1) ]
-
 rising_push : (ls : List Link) (l : Link) → Each (λ k. k.id < l.id) ls → Rising ls → Rising (ls ++ l ∷ [])
 rising_push [] l h r = (tt, tt)
 rising_push (k ∷ ls) l h r = (each_push _ ls l h.0 r.0, rising_push ls l h.1 r.1)
@@ -122,22 +113,10 @@ leads_kept goes (l ∷ ls) id driver e h = elim (cases_Bool (goes l)) [
 
 -- of each accepted outcome
 
--- links, routes and next id as they were
-routed_same : (drivers : List DriverSpec) (c d : Configuration) → AreRouted drivers c → d.links ≡ c.links
-    → d.routes ≡ c.routes → d.next_id ≡ c.next_id → AreRouted drivers d
-routed_same drivers c d h e f g =
-    record { rise = rw e h.rise; ids = rw (e, g) h.ids; start = rw g h.start; routes = rw (e, f) h.routes }
-
--- fewer routes
-routed_fewer : (drivers : List DriverSpec) (c : Configuration) (test : Route → Bool) → AreRouted drivers c
-    → AreRouted drivers (record c { routes = filter test c.routes })
-routed_fewer drivers c test h =
-    record { rise = h.rise; ids = h.ids; start = h.start; routes = each_filter _ test c.routes h.routes }
-
 routed_removed : (drivers : List DriverSpec) (c : Configuration) (goes : Link → Bool) → AreRouted drivers c
     → AreRouted drivers (without_links c goes)
 routed_removed drivers c goes h = record {
-  rise = rising_filter _ c.links h.rise;
+  rise = apart_filter _ _ c.links h.rise;
   ids = each_filter _ _ c.links h.ids;
   start = h.start;
   routes = kept c.routes h.routes;
@@ -158,12 +137,6 @@ routed_done : (drivers : List DriverSpec) (c d : Configuration) → AreRouted dr
 routed_done drivers c d h = let k = routed_removed drivers d _ h in
     record { holds = record { rise = k.rise; ids = k.ids; start = k.start; routes = k.routes } }
 
-routed_unlinked : (drivers : List DriverSpec) (c : Configuration) (w : Which) (mine : Link → Bool) → AreRouted drivers c
-    → IfAccepted (λ d r. AreRouted drivers d) (unlink_outcome drivers c w mine)
-routed_unlinked drivers c which.All mine h =
-    routed_done drivers c (without_links c mine) (routed_removed drivers c mine h)
-routed_unlinked drivers c (which.Id id) mine h = search (after_test, routed_done, routed_removed, rules) depth 12
-
 routed_link : (drivers : List DriverSpec) (c : Configuration) (ctl lower : StreamId) (k : LinkKind)
     → AreRouted drivers c
     → AreRouted drivers
@@ -180,10 +153,6 @@ routed_link drivers c ctl lower k h = record {
   l : Link
   l = record { id = c.next_id; ctl = ctl; lower = lower; kind = k }
 
-routed_linked : (drivers : List DriverSpec) (c : Configuration) (process fd arg : ℕ) (k : LinkKind)
-    → AreRouted drivers c → IfAccepted (λ d r. AreRouted drivers d) (link_outcome drivers c process fd arg k)
-routed_linked drivers c process fd arg k h = search (after_test, after_ok, at_ok, routed_link, rules) depth 24
-
 routed_route : (drivers : List DriverSpec) (c : Configuration) (test : Route → Bool) (driver addr id : ℕ)
     → AreRouted drivers c → is_mux drivers driver ≡ true → not (leads_from c.links id driver) ≡ false
     → AreRouted drivers
@@ -196,67 +165,26 @@ routed_route drivers c test driver addr id h mux there = record {
   ids = h.ids;
   start = h.start;
   routes = each_placed _ route_before (filter test c.routes) (record { driver = driver; addr = addr; id = id })
-      (mux, not_false _ there) (each_filter _ test c.routes h.routes);
-} where
-  not_false : (b : Bool) → not b ≡ false → b ≡ true
-  not_false true e = refl
-  not_false false e = absurd (false≢true (sym e))
+      (mux, not-false _ there) (each_filter _ test c.routes h.routes);
+}
 
 -- the stream's driver is a multiplexing one
 mux_is : (drivers : List DriverSpec) (c : Configuration) (process fd : ℕ) (s : StreamId)
     → mux_stream drivers c process fd ≡ Ok s → is_mux drivers s.driver ≡ true
-mux_is drivers c process fd s e = by (free_stream c process fd) e where
-  tested : (t : StreamId) (b : Bool) → is_mux drivers t.driver ≡ b → (refuse NotMux (not b) >>= (λ _. Ok t)) ≡ Ok s
-      → is_mux drivers s.driver ≡ true
-  tested t true h k = let same : t ≡ s = cc in subst (λ (x : StreamId). is_mux drivers x.driver ≡ true) same h
-  tested t false h k = cc
-
-  by : (r : Result StreamId Fault) → (r >>= (λ t. refuse NotMux (not (is_mux drivers t.driver)) >>= (λ _. Ok t))) ≡ Ok s
-      → is_mux drivers s.driver ≡ true
-  by (Err f) k = cc
-  by (Ok t) k = tested t (is_mux drivers t.driver) refl k
+mux_is drivers c process fd s e =
+    not-false _ (tested NotMux (free_stream c process fd) (λ t. not (is_mux drivers t.driver)) s e).1
 
 -- an accepted command keeps ids of links rising, and each route with a link of its own driver
 pub routed_accepted : (drivers : List DriverSpec) (c : Configuration) (process : ℕ) (k : Command) → AreRouted drivers c
     → IfAccepted (λ d r. AreRouted drivers d) (outcome drivers c process k)
-routed_accepted drivers c process (command.OpenClone name) h = search (after_ok, at_ok, routed_same, rules) depth 20
-routed_accepted drivers c process (command.OpenMinor name minor) h =
-    search (after_test, after_ok, at_ok, routed_same, rules) depth 20
-routed_accepted drivers c process (command.Dup fd) h = search (after_ok, at_ok, routed_same, rules) depth 20
-routed_accepted drivers c process (command.Close fd) h = search (after_ok, routed_done, routed_same, rules) depth 20
-routed_accepted drivers c process command.CloseAll h = search (routed_done, routed_same, rules) depth 20
-routed_accepted drivers c process (command.Link fd arg) h = search (routed_linked, rules) depth 20
-routed_accepted drivers c process (command.Plink fd arg) h = search (routed_linked, rules) depth 20
-routed_accepted drivers c process (command.Unlink fd w) h = search (after_ok, routed_unlinked, rules) depth 20
-routed_accepted drivers c process (command.Punlink fd w) h = search (after_ok, routed_unlinked, rules) depth 20
-routed_accepted drivers c process (command.Bind fd addr) h =
-    search (after_test, after_ok, routed_done, routed_same, rules) depth 20
-routed_accepted drivers c process (command.Unbind fd) h =
-    search (after_test, after_ok, routed_done, routed_same, rules) depth 20
-routed_accepted drivers c process (command.Route fd addr id) h =
-    search (after_test, after_ok, routed_done, routed_route, mux_is, routed_same, rules) depth 20
-routed_accepted drivers c process (command.Unroute fd addr) h =
-    search (after_test, after_ok, routed_done, routed_fewer, rules) depth 20
-routed_accepted drivers c process (command.Write fd addr bytes) h =
-    search (after_test, after_ok, at_ok, routed_same, rules) depth 20
-routed_accepted drivers c process (command.Read fd) h =
-    search (after_ok, after_choice, after_some, at_ok, routed_same, rules) depth 20
-routed_accepted drivers c process (command.Flush fd w) h = search (after_ok, routed_done, routed_same, rules) depth 20
-routed_accepted drivers c process (command.Inject name minor addr bytes) h =
-    search (after_test, after_ok, at_ok, routed_same, rules) depth 20
-routed_accepted drivers c process (command.Transmit name minor) h =
-    search (after_some, after_ok, at_ok, routed_same, rules) depth 20
-routed_accepted drivers c process (command.Hangup name minor) h =
-    search (after_ok, routed_done, routed_same, rules) depth 20
+routed_accepted drivers c process k h = of_rows _ drivers c process k
+    (search (routed_link, routed_done, routed_removed, routed_route, mux_is, each_filter, rules) depth 24)
 
 -- a move keeps ids of links rising, and each route with a link of its own driver
 pub routed_moved : (drivers : List DriverSpec) (c : Configuration) (p : Place) → AreRouted drivers c
     → AreRouted drivers (after_move drivers c p)
-routed_moved drivers c p h = by (next_open_place drivers c p) (first_message c.flow p) where
-  by : (o : Option Place) (m : Option Message) → AreRouted drivers (after_move_to drivers c p o m)
-  by (Some q) (Some m) = record { rise = h.rise; ids = h.ids; start = h.start; routes = h.routes }
-  by (Some q) None = h
-  by None m = h
+routed_moved drivers c p h = moved_by (AreRouted drivers) drivers c p h
+    (λ q m e. record { rise = h.rise; ids = h.ids; start = h.start; routes = h.routes })
 
 -- in the empty configuration, without links and routes, ids rise and no route lacks its link
 pub routed_empty : (drivers : List DriverSpec) → AreRouted drivers empty

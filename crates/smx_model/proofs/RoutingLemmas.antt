@@ -8,19 +8,14 @@ use Rattle.std.proofs.lemmas.Bool.{or_from, or_cases}
 use Rattle.std.proofs.lemmas.List.Elements.{All-contains}
 use Rattle.smx_types.specs.declared.command.Command.{Command}
 use Rattle.smx_types.specs.declared.command.Command.TheVariants as command
-use Rattle.smx_types.specs.declared.command.Which.{Which}
-use Rattle.smx_types.specs.declared.command.Which.TheVariants as which
 use Rattle.smx_types.specs.declared.driver.DriverSpec.{DriverSpec}
 use Rattle.smx_types.specs.declared.link.Link.{Link}
-use Rattle.smx_types.specs.declared.link.LinkKind.{LinkKind}
 use Rattle.smx_types.specs.declared.link.Route.{Route}
 use Rattle.smx_types.specs.declared.reply.Fault.{Fault}
 use Rattle.smx_types.specs.declared.reply.Fault.TheVariants.{NoLink, Unrouted}
 use Rattle.smx_types.specs.declared.reply.Reply.TheVariants as reply
-use Rattle.smx_types.specs.declared.stream.Place.{Place}
 use Rattle.smx_types.specs.declared.stream.StreamId.{StreamId}
-use Rattle.smx_model.specs.Commands.{outcome, step, after_outcome, done_outcome, link_outcome, unlink_outcome}
-use Rattle.smx_model.specs.Commands.{send_outcome, receive_outcome}
+use Rattle.smx_model.specs.Commands.{outcome, step, after_outcome, done_outcome}
 use Rattle.smx_model.specs.Configuration.{Configuration, route_before}
 use Rattle.smx_model.specs.KeptConfigurations.{IsSound}
 use Rattle.smx_model.specs.Lookups.{mux_stream}
@@ -32,7 +27,8 @@ use Rattle.smx_model.specs.Swept.{IsSwept}
 use Rattle.smx_model.proofs.DropLemmas.{done_idle}
 use Rattle.smx_model.proofs.KeptLemmas.{outcome_sound}
 use Rattle.smx_model.proofs.MemberLemmas.{all_in, any_filtered, filtered_passes, in_filtered, in_placed, none_in}
-use Rattle.smx_model.proofs.OutcomeLemmas.{IfAccepted, at_ok, after_ok, after_test, after_some, after_choice}
+use Rattle.smx_model.proofs.AcceptedLemmas.{of_rows, at_none}
+use Rattle.smx_model.proofs.OutcomeLemmas.{IfAccepted}
 use Rattle.smx_model.proofs.RisingLemmas.{rising_filter}
 use Rattle.smx_model.proofs.SettledLemmas.{settled_alone}
 use Rattle.smx_model.proofs.TestLemmas.{any_more}
@@ -182,63 +178,16 @@ led_like : (drivers : List DriverSpec) (c d : Configuration) → AreApart c → 
     → IfAccepted (λ d r. KeepsRoutes c d) (done_outcome drivers c d)
 led_like drivers c d a e f = led_done drivers c d (record { rise = rw f a.rise }) (led_same c d e)
 
-led_unlinked : (drivers : List DriverSpec) (c : Configuration) (w : Which) (mine : Link → Bool) → AreApart c
-    → IfAccepted (λ d r. KeepsRoutes c d) (unlink_outcome drivers c w mine)
-led_unlinked drivers c w mine a = by w where
-  gone : (goes : Link → Bool) → IfAccepted (λ d r. KeepsRoutes c d) (done_outcome drivers c (without_links c goes))
-  gone goes = led_done drivers c (without_links c goes) (record { rise = rising_filter _ _ c.links a.rise })
-      (led_removed c c goes a (led_same c c refl))
-
-  by : (w : Which) → IfAccepted (λ d r. KeepsRoutes c d) (unlink_outcome drivers c w mine)
-  by which.All = gone mine
-  by (which.Id id) = search (after_test, gone, rules) depth 12
-
-led_linked : (drivers : List DriverSpec) (c : Configuration) (process fd arg : ℕ) (k : LinkKind)
-    → IfAccepted (λ d r. KeepsRoutes c d) (link_outcome drivers c process fd arg k)
-led_linked drivers c process fd arg k = search (after_test, after_ok, at_ok, led_same, rules) depth 24
-
-led_sent : (drivers : List DriverSpec) (c : Configuration) (p : Place) (addr : ℕ) (bytes : List ℕ)
-    → IfAccepted (λ d r. KeepsRoutes c d) (send_outcome drivers c p addr bytes)
-led_sent drivers c p addr bytes = search (after_test, at_ok, led_same, rules) depth 12
-
-led_received : (drivers : List DriverSpec) (c : Configuration) (p : Place)
-    → IfAccepted (λ d r. KeepsRoutes c d) (receive_outcome drivers c p)
-led_received drivers c p = search (after_some, at_ok, led_same, rules) depth 12
+led_gone : (drivers : List DriverSpec) (c : Configuration) (goes : Link → Bool) → AreApart c
+    → IfAccepted (λ d r. KeepsRoutes c d) (done_outcome drivers c (without_links c goes))
+led_gone drivers c goes a = led_done drivers c (without_links c goes)
+    (record { rise = rising_filter _ _ c.links a.rise }) (led_removed c c goes a (led_same c c refl))
 
 led_accepted : (drivers : List DriverSpec) (c : Configuration) (process : ℕ) (k : Command) → AreApart c
     → ((fd addr id : ℕ) → k ≡ command.Route fd addr id → ⊥) → ((fd addr : ℕ) → k ≡ command.Unroute fd addr → ⊥)
     → IfAccepted (λ d r. KeepsRoutes c d) (outcome drivers c process k)
-led_accepted drivers c process (command.OpenClone name) a no_route no_unroute =
-    search (after_ok, at_ok, led_same, rules) depth 20
-led_accepted drivers c process (command.OpenMinor name minor) a no_route no_unroute =
-    search (after_test, after_ok, at_ok, led_same, rules) depth 20
-led_accepted drivers c process (command.Dup fd) a no_route no_unroute =
-    search (after_ok, at_ok, led_same, rules) depth 20
-led_accepted drivers c process (command.Close fd) a no_route no_unroute = search (after_ok, led_like, rules) depth 20
-led_accepted drivers c process command.CloseAll a no_route no_unroute = search (led_like, rules) depth 20
-led_accepted drivers c process (command.Link fd arg) a no_route no_unroute = search (led_linked, rules) depth 20
-led_accepted drivers c process (command.Plink fd arg) a no_route no_unroute = search (led_linked, rules) depth 20
-led_accepted drivers c process (command.Unlink fd w) a no_route no_unroute =
-    search (after_ok, led_unlinked, rules) depth 20
-led_accepted drivers c process (command.Punlink fd w) a no_route no_unroute =
-    search (after_ok, led_unlinked, rules) depth 20
-led_accepted drivers c process (command.Bind fd addr) a no_route no_unroute =
-    search (after_test, after_ok, led_like, rules) depth 20
-led_accepted drivers c process (command.Unbind fd) a no_route no_unroute =
-    search (after_test, after_ok, led_like, rules) depth 20
-led_accepted drivers c process (command.Route fd addr id) a no_route no_unroute = absurd (no_route fd addr id refl)
-led_accepted drivers c process (command.Unroute fd addr) a no_route no_unroute = absurd (no_unroute fd addr refl)
-led_accepted drivers c process (command.Write fd addr bytes) a no_route no_unroute =
-    search (after_ok, led_sent, rules) depth 20
-led_accepted drivers c process (command.Read fd) a no_route no_unroute =
-    search (after_ok, after_choice, at_ok, led_same, led_received, rules) depth 20
-led_accepted drivers c process (command.Flush fd w) a no_route no_unroute = search (after_ok, led_like, rules) depth 20
-led_accepted drivers c process (command.Inject name minor addr bytes) a no_route no_unroute =
-    search (after_ok, led_sent, rules) depth 20
-led_accepted drivers c process (command.Transmit name minor) a no_route no_unroute =
-    search (after_ok, led_received, rules) depth 20
-led_accepted drivers c process (command.Hangup name minor) a no_route no_unroute =
-    search (after_ok, led_like, rules) depth 20
+led_accepted drivers c process k a no_route no_unroute =
+    search (of_rows, led_same, led_like, led_gone, at_none, no_route, no_unroute, rules) depth 24
 
 -- and no others
 

@@ -1,11 +1,53 @@
--- What settling leaves as it was.
-use Rattle.std.proofs.Common.{◌≡◌, ℕ, zero, suc, List, Option, Some, None, refl, ◌∙◌}
+-- What moves and settling keep, and what they leave as it was.
+use Rattle.std.proofs.Common.{◌≡◌, ℕ, zero, suc, List, [], ◌∷◌, Option, Some, None, Ok, Err, refl, ◌∙◌}
+use Rattle.smx_types.specs.declared.command.Command.{Command}
+use Rattle.smx_types.specs.declared.command.Entry.{Entry}
 use Rattle.smx_types.specs.declared.driver.DriverSpec.{DriverSpec}
 use Rattle.smx_types.specs.declared.message.Message.{Message}
 use Rattle.smx_types.specs.declared.stream.Place.{Place}
 use Rattle.smx_model.specs.Configuration.{Configuration}
-use Rattle.smx_model.specs.Queues.{first_message}
+use Rattle.smx_model.specs.Queues.{after_arrival, after_leaving, first_message}
+use Rattle.smx_model.specs.Commands.{after_outcome, outcome, step}
+use Rattle.smx_model.specs.Histories.{after_from}
+use Rattle.smx_model.specs.Outcomes.{Outcome}
 use Rattle.smx_model.specs.Settling.{after_move, after_move_to, after_settling_within, least_movable, next_open_place}
+
+use Rattle.smx_model.proofs.OutcomeLemmas.{IfAccepted}
+
+-- what holds before a move, and once a first message has left and arrived at another place, holds after the move
+pub moved_by : (P : Configuration → Type 0) (drivers : List DriverSpec) (c : Configuration) (p : Place) → P c
+    → ((q : Place) (m : Message) → first_message c.flow p ≡ Some m
+    → P (after_arrival drivers (after_leaving drivers c p) q m)) → P (after_move drivers c p)
+moved_by P drivers c p h f = by (next_open_place drivers c p) (first_message c.flow p) refl where
+  by : (o : Option Place) (m : Option Message) → first_message c.flow p ≡ m → P (after_move_to drivers c p o m)
+  by (Some q) (Some m) e = f q m e
+  by (Some q) None e = h
+  by None m e = h
+
+-- each move keeps it
+pub record MovesKeep (P : Configuration → Type 0) (drivers : List DriverSpec) : Type 0 where
+  pub each : (c : Configuration) (p : Place) → P c → P (after_move drivers c p)
+
+-- what each move keeps, settling keeps
+pub settled_by : (P : Configuration → Type 0) (drivers : List DriverSpec) (n : ℕ) (c : Configuration)
+    → MovesKeep P drivers → P c → P (after_settling_within drivers n c)
+settled_by P drivers zero c k h = h
+settled_by P drivers (suc n) c k h = elim (least_movable drivers c) as
+    (λ o. P (elim o as (λ _. Configuration)
+    [ None ↦ c | Some p ↦ after_settling_within drivers n (after_move drivers c p) ]))
+    [ None ↦ h | Some p ↦ settled_by P drivers n (after_move drivers c p) k (k.each c p h) ]
+
+-- what each accepted outcome and each move keep, a history keeps
+pub after_by : (P : Configuration → Type 0) (drivers : List DriverSpec) (c : Configuration) (es : List Entry)
+    → MovesKeep P drivers
+    → ((c : Configuration) (process : ℕ) (k : Command) → P c → IfAccepted (λ d r. P d) (outcome drivers c process k))
+    → P c → P (after_from drivers c es)
+after_by P drivers c [] k f h = h
+after_by P drivers c (e ∷ es) k f h = after_by P drivers (step drivers c e.process e.command).0 es k f
+    (by (outcome drivers c e.process e.command) (f c e.process e.command h)) where
+      by : (o : Outcome) → IfAccepted (λ d r. P d) o → P (after_outcome drivers c o).0
+      by (Ok x) m = settled_by P drivers _ x.0 k m.holds
+      by (Err g) m = h
 
 -- only messages and full marks change
 pub record ChangesQueuesAlone (c d : Configuration) : Type 0 where
@@ -15,29 +57,22 @@ pub record ChangesQueuesAlone (c d : Configuration) : Type 0 where
   pub routes : d.routes ≡ c.routes
   pub hungs : d.hungs ≡ c.hungs
 
-moved_alone : (drivers : List DriverSpec) (c : Configuration) (p : Place)
+-- a move changes only the messages and the full marks
+pub moved_alone : (drivers : List DriverSpec) (c : Configuration) (p : Place)
     → ChangesQueuesAlone c (after_move drivers c p)
-moved_alone drivers c p = by (next_open_place drivers c p) (first_message c.flow p) where
-  by : (o : Option Place) (m : Option Message) → ChangesQueuesAlone c (after_move_to drivers c p o m)
-  by (Some q) (Some m) = record { fds = refl; links = refl; binds = refl; routes = refl; hungs = refl }
-  by (Some q) None = record { fds = refl; links = refl; binds = refl; routes = refl; hungs = refl }
-  by None m = record { fds = refl; links = refl; binds = refl; routes = refl; hungs = refl }
+moved_alone drivers c p = moved_by (ChangesQueuesAlone c) drivers c p
+    (record { fds = refl; links = refl; binds = refl; routes = refl; hungs = refl })
+    (λ q m e. record { fds = refl; links = refl; binds = refl; routes = refl; hungs = refl })
 
 -- settling changes only the messages and the full marks
 pub settled_alone : (drivers : List DriverSpec) (n : ℕ) (c : Configuration)
     → ChangesQueuesAlone c (after_settling_within drivers n c)
-settled_alone drivers zero c = record { fds = refl; links = refl; binds = refl; routes = refl; hungs = refl }
-settled_alone drivers (suc k) c = elim (least_movable drivers c) as
-    (λ o. ChangesQueuesAlone c
-    (elim o as (λ _. Configuration) [ None ↦ c | Some p ↦ after_settling_within drivers k (after_move drivers c p) ])) [
-      | None ↦ record { fds = refl; links = refl; binds = refl; routes = refl; hungs = refl }
-      | Some p ↦ let r = settled_alone drivers k (after_move drivers c p) in let m = moved_alone drivers c p in
-          record {
-            fds = r.fds ∙ m.fds;
-            links = r.links ∙ m.links;
-            binds = r.binds ∙ m.binds;
-            routes = r.routes
-                ∙ m.routes;
-            hungs = r.hungs ∙ m.hungs;
-          }
-    ]
+settled_alone drivers n c = settled_by (ChangesQueuesAlone c) drivers n c (record {
+  each = λ d p r. let m = moved_alone drivers d p in record {
+    fds = m.fds ∙ r.fds;
+    links = m.links ∙ r.links;
+    binds = m.binds ∙ r.binds;
+    routes = m.routes ∙ r.routes;
+    hungs = m.hungs ∙ r.hungs;
+  };
+}) (record { fds = refl; links = refl; binds = refl; routes = refl; hungs = refl })

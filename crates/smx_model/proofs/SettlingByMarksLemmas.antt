@@ -16,7 +16,7 @@ use Rattle.smx_model.specs.Settling.{least_movable, next_open_place}
 use Rattle.smx_model.specs.SettlingByMarks.{HasItsMarks, HasNoRunMark, IsAtRest, IsCleared, IsLeastMarked}
 use Rattle.smx_model.specs.SettlingByMarks.{IsMarkedAfter, MarkedConfiguration, SettlesByMarks, clears_mark}
 use Rattle.smx_model.specs.SettlingByMarks.{is_first_there, is_settled, moves_on, moves_within, turned_by_move}
-use Rattle.smx_model.proofs.FlowLemmas.{order_moved}
+use Rattle.smx_model.proofs.OrderLemmas.{order_moved}
 use Rattle.smx_model.proofs.KeptLemmas.{settled_kept}
 use Rattle.smx_model.proofs.OrderLemmas.{place_either}
 use Rattle.smx_model.proofs.QueueLemmas.{least_is}

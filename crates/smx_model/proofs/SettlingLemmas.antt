@@ -19,9 +19,10 @@ use Rattle.smx_model.specs.Ordered.{with_inserted, without_first}
 use Rattle.smx_model.specs.Paths.{HasNoCycle, reaches}
 use Rattle.smx_model.specs.Queues.{first_message, after_leaving, is_full}
 use Rattle.smx_model.specs.Settling.{◌>>=◌, after_settling, after_settling_within, least_movable, after_move}
-use Rattle.smx_model.specs.Settling.{after_move_to, next_open_place, is_movable, next_place, live_write_side}
+use Rattle.smx_model.specs.Settling.{next_open_place, is_movable, next_place, live_write_side}
 use Rattle.smx_model.specs.Settling.{place_below, place_above, IsSettled}
-use Rattle.smx_model.proofs.HangupLemmas.{live_is_side}
+use Rattle.smx_model.proofs.SettledLemmas.{moved_by}
+use Rattle.smx_model.proofs.LookupLemmas.{live_is_side}
 use Rattle.smx_model.specs.SoundLinks.{AreLinksSound}
 use Rattle.smx_model.proofs.PathLemmas.{reaches_path, reaches_trans, reaches_link}
 use Rattle.smx_model.proofs.RangeLemmas.{links_below, AreNamed}
@@ -289,11 +290,7 @@ least_way drivers c p e =
 
 -- a move leaves the links as they are
 pub moved_links : (drivers : List DriverSpec) (c : Configuration) (p : Place) → (after_move drivers c p).links ≡ c.links
-moved_links drivers c p = by (next_open_place drivers c p) (first_message c.flow p) where
-  by : (o : Option Place) (m : Option Message) → (after_move_to drivers c p o m).links ≡ c.links
-  by (Some q) (Some m) = refl
-  by (Some q) None = refl
-  by None m = refl
+moved_links drivers c p = moved_by (λ d. d.links ≡ c.links) drivers c p refl (λ q m e. refl)
 
 can_move : (drivers : List DriverSpec) (c : Configuration) (p : Place) → CanSettle drivers c
     → CanSettle drivers (after_move drivers c p)

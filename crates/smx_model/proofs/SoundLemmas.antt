@@ -1,49 +1,31 @@
 -- Links stay sound.
-use Rattle.std.proofs.Common.{◌≡◌, ℕ, Bool, false, ◌||◌, eqb, List, [], ◌∷◌, ◌++◌, filter, Option, Some, None, rules}
-use Rattle.std.proofs.Common.{arith, inl, inr}
-use Rattle.std.specs.List.{Contains}
-use Rattle.std.proofs.lemmas.Bool.{false≢true, cases_Bool, both_ways, false_from_ne_true}
+use Rattle.std.proofs.Common.{◌≡◌, ℕ, Bool, false, ◌||◌, eqb, List, [], ◌∷◌, ◌++◌, filter, rules}
+use Rattle.std.proofs.Common.{arith}
+use Rattle.std.proofs.lemmas.Bool.{false≢true, both_ways, false_from_ne_true}
 use Rattle.std.proofs.lemmas.List.Kept.{AllPairs-filter}
 use Rattle.std.proofs.lemmas.List.Quantifiers.{all_pairs_push}
 use Rattle.std.proofs.lemmas.List.Folds.{list_any_at}
 use Rattle.smx_types.specs.declared.command.Command.{Command}
-use Rattle.smx_types.specs.declared.command.Command.TheVariants as command
 use Rattle.smx_types.specs.declared.reply.Reply.{Reply}
-use Rattle.smx_types.specs.declared.command.Which.{Which}
-use Rattle.smx_types.specs.declared.command.Which.TheVariants as which
 use Rattle.smx_types.specs.declared.driver.DriverSpec.{DriverSpec}
 use Rattle.smx_types.specs.declared.link.Link.{Link}
-use Rattle.smx_types.specs.declared.link.LinkKind.{LinkKind}
-use Rattle.std.proofs.lemmas.List.Elements.{Contains-append_cases, Contains-append_left, Contains-append_right}
-use Rattle.smx_model.specs.Commands.{outcome, done_outcome, link_outcome, unlink_outcome}
+use Rattle.smx_model.specs.Commands.{outcome}
 use Rattle.smx_model.specs.Configuration.{Configuration, same_stream}
 use Rattle.smx_model.specs.Paths.{reaches}
-use Rattle.smx_model.specs.Queues.{first_message}
-use Rattle.smx_model.specs.Removal.{without_links}
-use Rattle.smx_model.specs.Settling.{after_move, after_move_to, next_open_place}
+use Rattle.smx_model.specs.Settling.{after_move}
 use Rattle.smx_model.specs.SoundLinks.{AreLinksSound}
 use Rattle.smx_model.specs.Standing.{is_below}
-use Rattle.smx_model.proofs.OutcomeLemmas.{IfAccepted, at_ok, after_ok, after_test, after_some, after_choice}
+use Rattle.smx_model.proofs.SettledLemmas.{moved_by}
+use Rattle.smx_model.proofs.AcceptedLemmas.{of_rows}
+use Rattle.smx_model.proofs.MemberLemmas.{of_filtered}
+use Rattle.smx_model.proofs.OutcomeLemmas.{IfAccepted}
 use Rattle.smx_model.proofs.PathLemmas.{path_reaches, no_cycle_push, no_cycle_fewer}
-use Rattle.smx_types.specs.declared.message.Message.{Message}
 use Rattle.smx_types.specs.declared.stream.Place.{Place}
-
-kept_or_deeper : (m : Link) (ls ms : List Link) (l : Link) → ((k : Link) → Contains ms k → Contains ls k)
-    → Contains (m ∷ ms) l → Contains (m ∷ ls) l
-kept_or_deeper m ls ms l more h = elim (Contains-append_cases (m ∷ []) ms l h)
-    [ inl c ↦ Contains-append_left (m ∷ []) ls l c | inr c ↦ Contains-append_right (m ∷ []) ls l (more l c) ]
-
-in_filter : (test : Link → Bool) (ls : List Link) (l : Link) → Contains (filter test ls) l → Contains ls l
-in_filter test [] l h = h
-in_filter test (m ∷ ls) l h = elim (cases_Bool (test m)) [
-  | inl t ↦ kept_or_deeper m ls (filter test ls) l (in_filter test ls) (rw t at h)
-  | inr f ↦ Contains-append_right (m ∷ []) ls l (in_filter test ls l (rw f at h))
-]
 
 -- sound links stay so when they are filtered
 pub sound_filter : (test : Link → Bool) (ls : List Link) → AreLinksSound ls → AreLinksSound (filter test ls)
 sound_filter test ls h = record {
-  no_cycle = no_cycle_fewer ls (filter test ls) (in_filter test ls) h.no_cycle;
+  no_cycle = no_cycle_fewer ls (filter test ls) (of_filtered test ls) h.no_cycle;
   lowers = AllPairs-filter (λ l k. same_stream l.lower k.lower ≡ false) test ls h.lowers;
 }
 
@@ -60,57 +42,16 @@ sound_push ls l h free apart = record {
 abbrev Sound : Configuration → Reply → Type 0
 Sound d r = AreLinksSound d.links
 
-sound_done : (drivers : List DriverSpec) (c d : Configuration) → AreLinksSound d.links
-    → IfAccepted Sound (done_outcome drivers c d)
-sound_done drivers c d h = record { holds = sound_filter _ d.links h }
-
-sound_unlinked : (drivers : List DriverSpec) (c : Configuration) (w : Which) (mine : Link → Bool)
-    → AreLinksSound c.links → IfAccepted Sound (unlink_outcome drivers c w mine)
-sound_unlinked drivers c which.All mine h = sound_done drivers c (without_links c mine) (sound_filter _ c.links h)
-sound_unlinked drivers c (which.Id id) mine h = search (after_test, sound_done, sound_filter, rules) depth 12
-
-sound_linked : (drivers : List DriverSpec) (c : Configuration) (process fd arg : ℕ) (k : LinkKind)
-    → AreLinksSound c.links → IfAccepted Sound (link_outcome drivers c process fd arg k)
-sound_linked drivers c process fd arg k h = search (after_test, after_ok, at_ok, sound_push, rules) depth 20
-
 -- an accepted command leaves sound links sound
 pub sound_accepted : (drivers : List DriverSpec) (c : Configuration) (process : ℕ) (k : Command) → AreLinksSound c.links
     → IfAccepted Sound (outcome drivers c process k)
-sound_accepted drivers c process (command.OpenClone name) h = search (after_some, after_ok, at_ok, rules) depth 20
-sound_accepted drivers c process (command.OpenMinor name minor) h =
-    search (after_test, after_some, after_ok, at_ok, rules) depth 20
-sound_accepted drivers c process (command.Dup fd) h = search (after_some, after_ok, at_ok, rules) depth 20
-sound_accepted drivers c process (command.Close fd) h = search (after_some, after_ok, at_ok, sound_done, rules) depth 20
-sound_accepted drivers c process command.CloseAll h = search (at_ok, sound_done, rules) depth 20
-sound_accepted drivers c process (command.Link fd arg) h = search (after_some, after_ok, sound_linked, rules) depth 20
-sound_accepted drivers c process (command.Plink fd arg) h = search (after_some, after_ok, sound_linked, rules) depth 20
-sound_accepted drivers c process (command.Unlink fd w) h = search (after_ok, sound_unlinked, rules) depth 20
-sound_accepted drivers c process (command.Punlink fd w) h = search (after_ok, sound_unlinked, rules) depth 20
-sound_accepted drivers c process (command.Bind fd addr) h =
-    search (after_test, after_ok, at_ok, sound_done, rules) depth 20
-sound_accepted drivers c process (command.Unbind fd) h =
-    search (after_test, after_ok, at_ok, sound_done, rules) depth 20
-sound_accepted drivers c process (command.Route fd addr id) h =
-    search (after_test, after_ok, at_ok, sound_done, rules) depth 20
-sound_accepted drivers c process (command.Unroute fd addr) h =
-    search (after_test, after_ok, at_ok, sound_done, rules) depth 20
-sound_accepted drivers c process (command.Write fd addr bytes) h = search (after_test, after_ok, at_ok, rules) depth 20
-sound_accepted drivers c process (command.Read fd) h =
-    search (after_ok, after_choice, after_some, at_ok, rules) depth 20
-sound_accepted drivers c process (command.Flush fd w) h = search (after_ok, at_ok, sound_done, rules) depth 20
-sound_accepted drivers c process (command.Inject name minor addr bytes) h =
-    search (after_test, after_ok, at_ok, rules) depth 20
-sound_accepted drivers c process (command.Transmit name minor) h = search (after_some, after_ok, at_ok, rules) depth 20
-sound_accepted drivers c process (command.Hangup name minor) h = search (after_ok, sound_done, rules) depth 20
+sound_accepted drivers c process k h =
+    search (of_rows, sound_filter, sound_push, rules) depth 24
 
 -- a move leaves sound links sound
 pub sound_moved : (drivers : List DriverSpec) (c : Configuration) (p : Place) → AreLinksSound c.links
     → AreLinksSound (after_move drivers c p).links
-sound_moved drivers c p h = onto (next_open_place drivers c p) (first_message c.flow p) where
-  onto : (o : Option Place) (m : Option Message) → AreLinksSound (after_move_to drivers c p o m).links
-  onto (Some q) (Some m) = h
-  onto (Some q) None = h
-  onto None m = h
+sound_moved drivers c p h = moved_by (λ d. AreLinksSound d.links) drivers c p h (λ q m e. h)
 
 -- where there are no links, they are sound
 pub sound_empty : AreLinksSound []

@@ -3,38 +3,36 @@ use Rattle.std.proofs.Common.{◌≡◌, ℕ, zero, suc, ◌<◌, Bool, true, fa
 use Rattle.std.proofs.Common.{length, find, Option, Some, None, Ok, Err, refl, rules, sym, ap, ◌∙◌, subst, arith, inl}
 use Rattle.std.proofs.Common.{inr}
 use Rattle.std.specs.Prelude.{Result, IfOk}
-use Rattle.smx_model.specs.Commands.{outcome, done_outcome, link_outcome, unlink_outcome, send_outcome, receive_outcome}
+use Rattle.smx_model.specs.Commands.{outcome, done_outcome}
 use Rattle.smx_model.specs.Commands.{with_fd}
 use Rattle.smx_model.specs.Configuration.{Configuration, QueuedMessage, is_at, queued_before, fd_before, same_stream}
 use Rattle.smx_model.specs.Configuration.{place_before, is_fd}
 use Rattle.smx_model.specs.DriverList.{is_mux}
 use Rattle.smx_model.specs.Lookups.{driver_of, stream_of, free_stream, leaf_stream, live_leaf, live_stream}
-use Rattle.smx_model.specs.Outcomes.{Outcome, or_fault, ◌>>=◌, refuse}
+use Rattle.smx_model.specs.Outcomes.{Outcome}
 use Rattle.smx_model.specs.Paths.{HasNoCycle}
-use Rattle.smx_model.specs.Queues.{first_message, after_leaving, after_arrival, with_mark}
-use Rattle.smx_model.specs.Removal.{after_sweep, without_links}
+use Rattle.smx_model.specs.Ordered.{without_first}
+use Rattle.smx_model.specs.Queues.{first_message, with_mark}
+use Rattle.smx_model.specs.Removal.{after_sweep}
 use Rattle.smx_model.specs.Settling.{after_move, after_move_to, next_open_place, next_place}
 use Rattle.smx_model.specs.Standing.{is_persistent, is_named, stands_within, exists, is_below, Stands}
 use Rattle.smx_model.specs.Swept.{IsSwept}
 use Rattle.smx_model.proofs.IdleSweepLemmas.{swept_idle}
-use Rattle.smx_model.proofs.OutcomeLemmas.{IfAccepted, at_ok, after_choice, after_ok, after_test, after_some}
-use Rattle.smx_model.proofs.HangupLemmas.{live_is, live_leaf_is}
+use Rattle.smx_model.proofs.AcceptedLemmas.{of_rows}
+use Rattle.smx_model.proofs.OutcomeLemmas.{IfAccepted}
+use Rattle.smx_model.proofs.LookupLemmas.{descriptor_of, live_is, live_leaf_is, looked_up, passed, tested}
 use Rattle.smx_model.proofs.PathLemmas.{reaches_at}
 use Rattle.smx_model.proofs.RangeLemmas.{AreNamed}
 use Rattle.smx_model.proofs.SettlingLemmas.{same_place_is, below_link, above_binding, open_next}
 use Rattle.smx_model.proofs.StandingLemmas.{swept_is, stands_more, IsLinkIn, climbs_suffice}
 use Rattle.std.specs.List.{list_any}
-use Rattle.std.proofs.lemmas.Bool.{cases_Bool, eq-eqb, and_parts, or_cases, or_left, or_right, and_from}
+use Rattle.std.proofs.lemmas.Bool.{cases_Bool, not-false, eq-eqb, and_parts, or_cases, or_left, or_right, and_from}
 use Rattle.smx_types.specs.declared.command.Command.{Command}
-use Rattle.smx_types.specs.declared.command.Command.TheVariants as command
 use Rattle.smx_types.specs.declared.reply.Fault.{Fault}
-use Rattle.smx_types.specs.declared.reply.Fault.TheVariants.{BadDescriptor, NoDriver}
-use Rattle.smx_types.specs.declared.command.Which.{Which}
-use Rattle.smx_types.specs.declared.command.Which.TheVariants as which
+use Rattle.smx_types.specs.declared.reply.Fault.TheVariants.{NoDriver}
 use Rattle.smx_types.specs.declared.stream.Descriptor.{Descriptor}
 use Rattle.smx_types.specs.declared.driver.DriverSpec.{DriverSpec}
 use Rattle.smx_types.specs.declared.link.Link.{Link}
-use Rattle.smx_types.specs.declared.link.LinkKind.{LinkKind}
 use Rattle.smx_types.specs.declared.message.Message.{Message}
 use Rattle.smx_types.specs.declared.stream.Place.{Place}
 use Rattle.smx_types.specs.declared.stream.Side.{Side}
@@ -114,70 +112,36 @@ swept_link drivers c l next h e = grown drivers c (record c { links = c.links ++
       more = stands_grow c.fds c.fds c.links (c.links ++ l ∷ []) (λ t e. e) (λ t e. any_push t c.links l e)
           (length drivers)
 
--- a process' stream exists
-named_found : (test : Descriptor → Bool) (ds : List Descriptor) (d : Descriptor) → find test ds ≡ Some d
-    → is_named ds d.stream ≡ true
-named_found test [] d e = cc
-named_found test (x ∷ ds) d e = elim (cases_Bool (test x)) [
-  | inl t ↦ let k : Some x ≡ Some d = rw t at e in let same : x ≡ d = cc in
-      or_left _ _ (subst (λ (y : Descriptor). same_stream y.stream d.stream ≡ true) (sym same) (self d.stream))
-  | inr f ↦ or_right _ _ (named_found test ds d (rw f at e))
-] where
-  self : (t : StreamId) → same_stream t t ≡ true
-  self t = and_from _ _ (eq-eqb t.driver t.driver refl) (eq-eqb t.minor t.minor refl)
+-- a stream is the same as itself
+pub stream_self : (t : StreamId) → same_stream t t ≡ true
+stream_self t = and_from _ _ (eq-eqb t.driver t.driver refl) (eq-eqb t.minor t.minor refl)
 
+-- a process' stream exists
 stream_exists : (drivers : List DriverSpec) (c : Configuration) (process fd : ℕ) (s : StreamId)
     → stream_of c process fd ≡ Ok s → exists drivers c s ≡ true
-stream_exists drivers c process fd s e = stands_more c.fds c.links 0 (length drivers) s (omega arith)
-    (or_left _ _ (by (find (is_fd process fd) c.fds) refl e)) where
-      found : Option Descriptor → Option StreamId
-      found None = None
-      found (Some d) = Some d.stream
-
-      by : (o : Option Descriptor) → find (is_fd process fd) c.fds ≡ o → or_fault BadDescriptor (found o) ≡ Ok s
-          → is_named c.fds s ≡ true
-      by None e k = cc
-      by (Some d) e k = let same : d.stream ≡ s = cc in
-          subst (λ (t : StreamId). is_named c.fds t ≡ true) same (named_found (is_fd process fd) c.fds d e)
+stream_exists drivers c process fd s e =
+    let d = descriptor_of c process fd s e in
+    stands_more c.fds c.links 0 (length drivers) s (omega arith)
+    (or_left _ _ (found_any (is_fd process fd) (λ x. same_stream x.stream s) c.fds d.0 d.1 (rw d.2 (stream_self s))))
 
 -- the stream of a descriptor that is not linked below exists
 pub free_exists : (drivers : List DriverSpec) (c : Configuration) (process fd : ℕ) (s : StreamId)
     → free_stream c process fd ≡ Ok s → exists drivers c s ≡ true
-free_exists drivers c process fd s e = by (stream_of c process fd) refl e where
-  tested : (t : StreamId) (b : Bool) → (refuse Below b >>= (λ _. Ok t)) ≡ Ok s → t ≡ s
-  tested t true k = cc
-  tested t false k = cc
-
-  by : (r : Result StreamId Fault) → stream_of c process fd ≡ r
-      → (r >>= (λ t. refuse Below (is_below c.links t) >>= (λ _. Ok t))) ≡ Ok s → exists drivers c s ≡ true
-  by (Err f) e k = cc
-  by (Ok t) e k = subst (λ (x : StreamId). exists drivers c x ≡ true) (tested t (is_below c.links t) k)
-      (stream_exists drivers c process fd t e)
+free_exists drivers c process fd s e = stream_exists drivers c process fd s
+    (tested Below (stream_of c process fd) (is_below c.links) s e).0
 
 -- the stream of a leaf driver and its minor that a lookup finds exists
 pub leaf_exists : (drivers : List DriverSpec) (c : Configuration) (name : List ℕ) (minor : ℕ) (s : StreamId)
     → leaf_stream drivers c name minor ≡ Ok s → exists drivers c s ≡ true
-leaf_exists drivers c name minor s e = by (driver_of drivers name) e where
-  there : (n : ℕ) (b : Bool) → exists drivers c (record { driver = n; minor = minor }) ≡ b
-      → (refuse NoMinor (not b) >>= (λ _. Ok (record { driver = n; minor = minor }))) ≡ Ok s → exists drivers c s ≡ true
-  there n true h k = let same : record { driver = n; minor = minor } ≡ s =
-      cc in subst (λ (x : StreamId). exists drivers c x ≡ true) same h
-  there n false h k = cc
+leaf_exists drivers c name minor s e =
+    let n = looked_up (driver_of drivers name) _ s e in
+    let there = passed NoMinor _ _ s (passed NoDriver (is_mux drivers n.0) _ s n.2).1 in
+    subst (λ (x : StreamId). exists drivers c x ≡ true) (same n.0 there.1) (not-false _ there.0) where
+      stream : ℕ → Result StreamId Fault
+      stream n = Ok (record { driver = n; minor = minor })
 
-  leaf : (n : ℕ) (b : Bool)
-      → (refuse NoDriver
-      b >>= (λ _. refuse NoMinor (not (exists drivers c (record { driver = n; minor = minor }))) >>= (λ _.
-      Ok (record { driver = n; minor = minor })))) ≡ Ok s → exists drivers c s ≡ true
-  leaf n true k = cc
-  leaf n false k = there n (exists drivers c (record { driver = n; minor = minor })) refl k
-
-  by : (r : Result ℕ Fault)
-      → (r >>= (λ n. refuse NoDriver
-      (is_mux drivers n) >>= (λ _. refuse NoMinor
-      (not (exists drivers c (record { driver = n; minor = minor }))) >>= (λ _.
-      Ok (record { driver = n; minor = minor }))))) ≡ Ok s → exists drivers c s ≡ true
-  by (Err f) k = cc
-  by (Ok n) k = leaf n (is_mux drivers n) k
+      same : (n : ℕ) → stream n ≡ Ok s → record { driver = n; minor = minor } ≡ s
+      same n e = cc
 
 live_exists : (drivers : List DriverSpec) (c : Configuration) (process fd : ℕ) (s : StreamId)
     → live_stream c process fd ≡ Ok s → exists drivers c s ≡ true
@@ -192,83 +156,26 @@ all_marked : (t : Place → Bool) (p : Place) (b : Bool) (ps : List Place) → t
 all_marked t p true ps h e = all_placed t place_before _ p h (all_filter t _ ps e)
 all_marked t p false ps h e = all_filter t _ ps e
 
-swept_arrived : (drivers : List DriverSpec) (c : Configuration) (p : Place) (m : Message)
-    → exists drivers c p.stream ≡ true → IsSwept drivers c → IsSwept drivers (after_arrival drivers c p m)
-swept_arrived drivers c p m e h = record {
-  links = h.links;
-  binds = h.binds;
-  flow = all_placed _ queued_before c.flow (record { place = p; message = m }) e h.flow;
-  fulls = all_marked _ p _ c.fulls e h.fulls;
-  hungs = h.hungs;
-}
-
-swept_left : (drivers : List DriverSpec) (c : Configuration) (p : Place) → exists drivers c p.stream ≡ true
-    → IsSwept drivers c → IsSwept drivers (after_leaving drivers c p)
-swept_left drivers c p e h = record {
-  links = h.links;
-  binds = h.binds;
-  flow = all_without _ _ c.flow h.flow;
-  fulls = all_marked _ p _ c.fulls e h.fulls;
-  hungs = h.hungs;
-}
-
-swept_took : (drivers : List DriverSpec) (c : Configuration) (p : Place) (m : Message) (n : ℕ)
-    → exists drivers c p.stream ≡ true → IsSwept drivers c
-    → IsSwept drivers (record (after_arrival drivers c p m) { next_serial = n })
-swept_took drivers c p m n e h = let a = swept_arrived drivers c p m e h in
-    record { links = a.links; binds = a.binds; flow = a.flow; fulls = a.fulls; hungs = a.hungs }
-
-swept_sent : (drivers : List DriverSpec) (c : Configuration) (p : Place) (addr : ℕ) (bytes : List ℕ)
-    → exists drivers c p.stream ≡ true → IsSwept drivers c
-    → IfAccepted (λ d r. IsSwept drivers d) (send_outcome drivers c p addr bytes)
-swept_sent drivers c p addr bytes e h = search (after_test, at_ok, swept_took, rules) depth 12
-
-swept_received : (drivers : List DriverSpec) (c : Configuration) (p : Place) → exists drivers c p.stream ≡ true
-    → IsSwept drivers c → IfAccepted (λ d r. IsSwept drivers d) (receive_outcome drivers c p)
-swept_received drivers c p e h = search (after_some, at_ok, swept_left, rules) depth 12
-
 swept_done : (drivers : List DriverSpec) (c d : Configuration)
     → IfAccepted (λ d r. IsSwept drivers d) (done_outcome drivers c d)
 swept_done drivers c d = record { holds = swept_is drivers d }
 
-swept_unlinked : (drivers : List DriverSpec) (c : Configuration) (w : Which) (mine : Link → Bool)
-    → IfAccepted (λ d r. IsSwept drivers d) (unlink_outcome drivers c w mine)
-swept_unlinked drivers c which.All mine = swept_done drivers c (without_links c mine)
-swept_unlinked drivers c (which.Id id) mine = search (after_test, swept_done, rules) depth 12
-
-swept_linked : (drivers : List DriverSpec) (c : Configuration) (process fd arg : ℕ) (k : LinkKind) → IsSwept drivers c
-    → IfAccepted (λ d r. IsSwept drivers d) (link_outcome drivers c process fd arg k)
-swept_linked drivers c process fd arg k h =
-    search (after_test, after_ok, at_ok, swept_link, stream_exists, rules) depth 24
-
 -- an accepted command leaves a swept configuration swept
 pub swept_accepted : (drivers : List DriverSpec) (c : Configuration) (process : ℕ) (k : Command) → IsSwept drivers c
     → IfAccepted (λ d r. IsSwept drivers d) (outcome drivers c process k)
-swept_accepted drivers c process (command.OpenClone name) h = search (after_ok, at_ok, swept_fd, rules) depth 20
-swept_accepted drivers c process (command.OpenMinor name minor) h =
-    search (after_test, after_ok, at_ok, swept_fd, rules) depth 20
-swept_accepted drivers c process (command.Dup fd) h = search (after_ok, at_ok, swept_fd, rules) depth 20
-swept_accepted drivers c process (command.Close fd) h = search (after_ok, swept_done, rules) depth 20
-swept_accepted drivers c process command.CloseAll h = search (swept_done, rules) depth 20
-swept_accepted drivers c process (command.Link fd arg) h = search (after_ok, swept_linked, rules) depth 20
-swept_accepted drivers c process (command.Plink fd arg) h = search (after_ok, swept_linked, rules) depth 20
-swept_accepted drivers c process (command.Unlink fd w) h = search (after_ok, swept_unlinked, rules) depth 20
-swept_accepted drivers c process (command.Punlink fd w) h = search (after_ok, swept_unlinked, rules) depth 20
-swept_accepted drivers c process (command.Bind fd addr) h = search (after_test, after_ok, swept_done, rules) depth 20
-swept_accepted drivers c process (command.Unbind fd) h = search (after_test, after_ok, swept_done, rules) depth 20
-swept_accepted drivers c process (command.Route fd addr id) h =
-    search (after_test, after_ok, swept_done, rules) depth 20
-swept_accepted drivers c process (command.Unroute fd addr) h = search (after_test, after_ok, swept_done, rules) depth 20
-swept_accepted drivers c process (command.Write fd addr bytes) h =
-    search (after_test, after_ok, at_ok, swept_sent, live_exists, rules) depth 20
-swept_accepted drivers c process (command.Read fd) h =
-    search (after_ok, after_choice, at_ok, swept_received, free_exists, rules) depth 20
-swept_accepted drivers c process (command.Flush fd w) h = search (after_ok, swept_done, rules) depth 20
-swept_accepted drivers c process (command.Inject name minor addr bytes) h =
-    search (after_test, after_ok, at_ok, swept_sent, live_leaf_exists, rules) depth 20
-swept_accepted drivers c process (command.Transmit name minor) h =
-    search (after_ok, at_ok, swept_received, live_leaf_exists, rules) depth 20
-swept_accepted drivers c process (command.Hangup name minor) h = search (after_ok, swept_done, rules) depth 20
+swept_accepted drivers c process k h = of_rows _ drivers c process k (search (
+  swept_fd,
+  swept_link,
+  swept_done,
+  all_placed,
+  all_without,
+  all_marked,
+  stream_exists,
+  free_exists,
+  live_exists,
+  live_leaf_exists,
+  rules,
+) depth 24)
 
 -- a move goes to a stream that exists
 
@@ -287,10 +194,6 @@ pub record IsWhole (drivers : List DriverSpec) (c : Configuration) : Type 0 wher
   pub none : HasNoCycle c.links
   pub named : AreNamed drivers c
   pub swept_ : IsSwept drivers c
-
--- a stream is the same as itself
-pub stream_self : (t : StreamId) → same_stream t t ≡ true
-stream_self t = and_from _ _ (eq-eqb t.driver t.driver refl) (eq-eqb t.minor t.minor refl)
 
 -- what keeps the lower streams of links
 pub record AreKeepingLowers (drivers : List DriverSpec) (c : Configuration) : Type 0 where
@@ -349,9 +252,16 @@ swept_moved drivers c p h = by (next_open_place drivers c p) (first_message c.fl
   by : (o : Option Place) (m : Option Message) → next_open_place drivers c p ≡ o → first_message c.flow p ≡ m
       → IsSwept drivers (after_move_to drivers c p o m)
   by (Some q) (Some m) e f =
+      let here = front_exists (λ x. exists drivers c x.stream) c.flow p m f h.swept_.flow in
       let w = open_next drivers c p q e in
-      swept_arrived drivers (after_leaving drivers c p) q m (next_exists drivers c p.stream w.0.addr p.side q h w.2)
-      (swept_left drivers c p (front_exists (λ x. exists drivers c x.stream) c.flow p m f h.swept_.flow) h.swept_)
+      let there = next_exists drivers c p.stream w.0.addr p.side q h w.2 in record {
+        links = h.swept_.links;
+        binds = h.swept_.binds;
+        flow = all_placed _ queued_before (without_first (is_at p) c.flow) (record { place = q; message = m }) there
+            (all_without _ (is_at p) c.flow h.swept_.flow);
+        fulls = all_marked _ q _ _ there (all_marked _ p _ c.fulls here h.swept_.fulls);
+        hungs = h.swept_.hungs;
+      }
   by (Some q) None e f = h.swept_
   by None m e f = h.swept_
 

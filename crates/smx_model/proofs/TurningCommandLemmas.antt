@@ -1,17 +1,14 @@
 -- Which places the commands turn.
-use Rattle.std.proofs.Common.{◌≡◌, ℕ, suc, ◌<◌, ◌+◌, Bool, true, false, ◌&&◌, ◌||◌, not, eqb, List, [], ◌∷◌, ◌++◌}
-use Rattle.std.proofs.Common.{length, get_or, filter, Result, Ok, Err, refl, rules, sym, inl, inr, arith}
+use Rattle.std.proofs.Common.{◌≡◌, ℕ, ◌+◌, Bool, true, false, ◌&&◌, ◌||◌, not, eqb, List, [], ◌∷◌, ◌++◌}
+use Rattle.std.proofs.Common.{filter, Result, Ok, Err, refl, rules, inl, inr, arith}
 use Rattle.std.specs.Prelude.{nat_lt, IfOk}
-use Rattle.std.specs.List.{list_any, AllPairs}
-use Rattle.std.proofs.lemmas.Bool.{both_ways, cases_Bool, and_parts, and_from, or_cases, false_from_ne_true, eqb-true}
-use Rattle.std.proofs.lemmas.Bool.{eq-eqb, ltb-true}
+use Rattle.std.specs.List.{list_any}
+use Rattle.std.proofs.lemmas.Bool.{cases_Bool, and_parts, or_cases, false_from_ne_true, eqb-true}
+use Rattle.std.proofs.lemmas.Bool.{ltb-true, not-true}
 use Rattle.smx_types.specs.declared.command.Command.{Command}
 use Rattle.smx_types.specs.declared.command.Command.TheVariants as command
-use Rattle.smx_types.specs.declared.command.Which.{Which}
-use Rattle.smx_types.specs.declared.command.Which.TheVariants as which
 use Rattle.smx_types.specs.declared.driver.DriverSpec.{DriverSpec}
 use Rattle.smx_types.specs.declared.link.Binding.{Binding}
-use Rattle.smx_types.specs.declared.link.Link.{Link}
 use Rattle.smx_types.specs.declared.link.LinkKind.{LinkKind}
 use Rattle.smx_types.specs.declared.link.LinkKind.TheVariants as kind
 use Rattle.smx_types.specs.declared.link.Route.{Route}
@@ -20,51 +17,31 @@ use Rattle.smx_types.specs.declared.reply.Fault.{Fault}
 use Rattle.smx_types.specs.declared.stream.Descriptor.{Descriptor}
 use Rattle.smx_types.specs.declared.stream.Place.{Place}
 use Rattle.smx_types.specs.declared.stream.StreamId.{StreamId}
-use Rattle.smx_model.specs.Commands.{outcome, done_outcome, link_outcome, unlink_outcome, send_outcome, receive_outcome}
+use Rattle.smx_model.specs.Commands.{outcome, done_outcome, link_outcome, send_outcome, receive_outcome}
 use Rattle.smx_model.specs.Commands.{with_fd}
 use Rattle.smx_model.specs.Configuration.{Configuration, same_place, pair_before, bind_before, route_before}
 use Rattle.smx_model.specs.Configuration.{same_stream, stream_before}
 use Rattle.smx_model.specs.KeptConfigurations.{IsSound}
 use Rattle.smx_model.specs.Lookups.{stream_of, free_stream, mux_stream, live_stream, live_leaf}
-use Rattle.smx_model.specs.Ordered.{with_inserted, IsRising, ComesBefore}
+use Rattle.smx_model.specs.Ordered.{with_inserted}
 use Rattle.smx_model.specs.Outcomes.{Outcome, ◌>>=◌}
 use Rattle.smx_model.specs.Queues.{after_arrival}
-use Rattle.smx_model.specs.Removal.{without_queues_at, without_links, after_sweep}
+use Rattle.smx_model.specs.Removal.{after_sweep}
+use Rattle.smx_model.proofs.EachLemmas.{Apart, apart_filter, apart_pairs, apart_rising}
 use Rattle.smx_model.proofs.EachLemmas.{Each, none_passes, kept_passes, each_map, each_of_all}
+use Rattle.smx_model.proofs.AcceptedLemmas.{unlinked}
 use Rattle.smx_model.proofs.OutcomeLemmas.{IfAccepted, at_ok, after_ok, after_test, after_some, after_choice}
 use Rattle.smx_model.specs.RunMarks.{asks_down, asks_up, nowhere, is_first_at, TurnsOnly}
 use Rattle.smx_model.specs.TurnedPlaces.{of_stream, read_side, write_side, turned_by}
-use Rattle.smx_model.proofs.TurningLemmas.{Apart, apart_filter, next_of_others, bound, routed, binds_find, fewer_turns}
+use Rattle.smx_model.proofs.TurningLemmas.{next_of_others, bound, routed, binds_find, fewer_turns}
 use Rattle.smx_model.proofs.TurningLemmas.{keyed_removed, routes_find, turns_arrived, turns_bound, turns_emptied}
 use Rattle.smx_model.proofs.TurningLemmas.{turns_left, turns_linked, turns_removed, turns_routed, turns_swept}
-use Rattle.smx_model.proofs.TurningLemmas.{turns_then, IsKeyed, AreRooted, rooted_filter}
+use Rattle.smx_model.proofs.TurningLemmas.{turns_then, other, same_finds, IsKeyed, AreRooted, rooted_filter}
 use Rattle.smx_model.specs.Hangups.{is_hung, with_hung}
 use Rattle.smx_model.proofs.TestLemmas.{any_placed}
 use Rattle.smx_model.specs.KnownStreams.{IsKnown}
 
 -- ---- each key is there once
-
-each_rising : {X : Type 0} (R : X → X → Type 0) (before : X → X → Bool) → ((x y : X) → before x y ≡ true → R x y)
-    → (x : X) (xs : List X) → ComesBefore before x xs → Each (R x) xs
-each_rising R before f x [] h = tt
-each_rising R before f x (y ∷ ys) h = (f x y h.0, each_rising R before f x ys h.1)
-
-apart_rising : {X : Type 0} (R : X → X → Type 0) (before : X → X → Bool) → ((x y : X) → before x y ≡ true → R x y)
-    → (xs : List X) → IsRising before xs → Apart R xs
-apart_rising R before f [] h = tt
-apart_rising R before f (x ∷ xs) h = (each_rising R before f x xs h.0, apart_rising R before f xs h.1)
-
-each_at : {X : Type 0} (P : X → Type 0) (xs : List X) → ((k : ℕ) (d : X) → k < length xs → P (get_or xs k d))
-    → Each P xs
-each_at P [] h = tt
-each_at P (x ∷ xs) h = (h 0 x (omega arith), each_at P xs (λ k d lt. h (suc k) d (omega (arith, lt))))
-
-apart_pairs : {X : Type 0} (R : X → X → Type 0) (xs : List X) → AllPairs R xs → Apart R xs
-apart_pairs R [] h = tt
-apart_pairs R (x ∷ xs) h = (
-  each_at (R x) xs (λ k d lt. h 0 (suc k) d (omega arith) (omega (arith, lt))),
-  apart_pairs R xs (λ i j d lt within. h (suc i) (suc j) d (omega (arith, lt)) (omega (arith, within))),
-)
 
 less_other : (a b : ℕ) → nat_lt a b ≡ true → eqb a b ≡ false
 less_other a b h = false_from_ne_true _ (λ t. absurd (omega (arith, ltb-true a b h, eqb-true a b t)))
@@ -103,36 +80,28 @@ apart_placed R before s x (y ∷ ys) e h = elim (cases_Bool (before x y)) [
   more y r [] g = (r, tt)
   more y r (z ∷ zs) g = elim (cases_Bool (before x z)) [ inl t ↦ rw t (r, g) | inr f ↦ rw f (g.0, more y r zs g.1) ]
 
-turned_key : (a b c d : ℕ) → (eqb a c && eqb b d) ≡ false → (eqb c a && eqb d b) ≡ false
-turned_key a b c d h = false_from_ne_true _ (λ t. let p = and_parts (eqb c a) (eqb d b) t in
-    both_ways (eqb a c && eqb b d) h
-    (and_from _ _ (eq-eqb a c (sym (eqb-true c a p.0))) (eq-eqb b d (sym (eqb-true d b p.1)))))
-
 keyed_routed : (c : Configuration) (driver addr id : ℕ) → IsKeyed c → IsKeyed (routed c driver addr id)
 keyed_routed c driver addr id h = record {
   routes = apart_placed (λ r s. (eqb r.driver s.driver && eqb r.addr s.addr) ≡ false) route_before
-      (λ r s. turned_key r.driver r.addr s.driver s.addr) (record { driver = driver; addr = addr; id = id })
+      (λ r s. other s.driver s.addr r.driver r.addr) (record { driver = driver; addr = addr; id = id })
       (filter (λ r. not (eqb r.driver driver && eqb r.addr addr)) c.routes)
       (kept_passes (λ r. not (eqb r.driver driver && eqb r.addr addr)) _ c.routes
-      (λ r t. turned_key r.driver r.addr driver addr (by (eqb r.driver driver && eqb r.addr addr) t)))
+      (λ r t. other driver addr r.driver r.addr (not-true (eqb r.driver driver && eqb r.addr addr) t)))
       (apart_filter _ _ c.routes h.routes);
   ids = h.ids;
   lowers = h.lowers;
   binds = h.binds;
-} where
-  by : (b : Bool) → not b ≡ true → b ≡ false
-  by true e = sym e
-  by false e = refl
+}
 
 keyed_bound : (c : Configuration) (driver addr minor : ℕ)
     → list_any (λ b. eqb b.driver driver && (eqb b.addr addr || eqb b.minor minor)) c.binds ≡ false → IsKeyed c
     → IsKeyed (bound c driver addr minor)
 keyed_bound c driver addr minor free h = record {
   binds = apart_placed (λ b e. (eqb b.driver e.driver && eqb b.addr e.addr) ≡ false) bind_before
-      (λ b e. turned_key b.driver b.addr e.driver e.addr)
+      (λ b e. other e.driver e.addr b.driver b.addr)
       (record { driver = driver; addr = addr; minor = minor }) c.binds
       (none_passes (λ b. eqb b.driver driver && (eqb b.addr addr || eqb b.minor minor)) _ c.binds
-      (λ b f. turned_key b.driver b.addr driver addr (by (eqb b.driver driver) (eqb b.addr addr) (eqb b.minor minor) f))
+      (λ b f. other driver addr b.driver b.addr (by (eqb b.driver driver) (eqb b.addr addr) (eqb b.minor minor) f))
       free)
       h.binds;
   ids = h.ids;
@@ -174,62 +143,28 @@ turns_received : (drivers : List DriverSpec) (c : Configuration) (p : Place)
     → IfAccepted (λ d r. TurnsOnly drivers c d (same_place p)) (receive_outcome drivers c p)
 turns_received drivers c p = search (after_some, at_ok, turns_left, rules) depth 12
 
+-- where nothing is turned before the sweep
+turns_still : (drivers : List DriverSpec) (c new : Configuration) → TurnsOnly drivers c new nowhere → IsKeyed new
+    → AreRooted drivers new.links → IfAccepted (λ d r. TurnsOnly drivers c d nowhere) (done_outcome drivers c new)
+turns_still drivers c new h k x = turns_done drivers c new nowhere h k x
+
 turns_with_fd : (drivers : List DriverSpec) (c : Configuration) (process fd : ℕ) (s : StreamId)
     → TurnsOnly drivers c (with_fd c process fd s) nowhere
 turns_with_fd drivers c process fd s = next_of_others drivers c (with_fd c process fd s) refl refl refl refl refl
 
-turns_closed : (drivers : List DriverSpec) (c : Configuration) (fds : List Descriptor) → IsKeyed c
-    → AreRooted drivers c.links
-    → IfAccepted (λ d r. TurnsOnly drivers c d nowhere) (done_outcome drivers c (record c { fds = fds }))
-turns_closed drivers c fds k x = turns_done drivers c (record c { fds = fds }) nowhere
-    (next_of_others drivers c (record c { fds = fds }) refl refl refl refl refl)
-    (record { routes = k.routes; ids = k.ids; lowers = k.lowers; binds = k.binds }) x
-
-turns_gone : (drivers : List DriverSpec) (c : Configuration) (mine : Link → Bool) → IsKeyed c
-    → AreRooted drivers c.links
-    → IfAccepted (λ d r. TurnsOnly drivers c d nowhere) (done_outcome drivers c (without_links c mine))
-turns_gone drivers c mine k x = turns_done drivers c (without_links c mine) nowhere (turns_removed drivers c mine k)
-    (keyed_removed c mine k) (rooted_filter drivers c.links (λ l. not (mine l)) x)
-
-turns_unlinked : (drivers : List DriverSpec) (c : Configuration) (w : Which) (mine : Link → Bool) → IsKeyed c
-    → AreRooted drivers c.links → IfAccepted (λ d r. TurnsOnly drivers c d nowhere) (unlink_outcome drivers c w mine)
-turns_unlinked drivers c which.All mine k x = turns_gone drivers c mine k x
-turns_unlinked drivers c (which.Id id) mine k x =
-    search (after_test, turns_gone drivers c (λ l. eqb l.id id && mine l) k x, rules) depth 12
+turns_closed : (drivers : List DriverSpec) (c : Configuration) (fds : List Descriptor)
+    → TurnsOnly drivers c (record c { fds = fds }) nowhere
+turns_closed drivers c fds = next_of_others drivers c (record c { fds = fds }) refl refl refl refl refl
 
 turns_unbound : (drivers : List DriverSpec) (c : Configuration) (keep : Binding → Bool) → IsKeyed c
-    → AreRooted drivers c.links → IfAccepted (λ d r. TurnsOnly drivers c d nowhere)
-    (done_outcome drivers c (record c { binds = filter keep c.binds }))
-turns_unbound drivers c keep k x = turns_done drivers c (record c { binds = filter keep c.binds }) nowhere
-    (fewer_turns drivers c (record c { binds = filter keep c.binds })
-    (record {
-      routes = λ d a. inl refl;
-      ids = λ i. inl refl;
-      lowers = λ x. inl refl;
-      binds = λ d a. binds_find keep c d a k;
-      hungs = λ i l e h. h;
-    }) (λ r. inl refl))
-    (record { routes = k.routes; ids = k.ids; lowers = k.lowers; binds = apart_filter _ keep c.binds k.binds }) x
+    → TurnsOnly drivers c (record c { binds = filter keep c.binds }) nowhere
+turns_unbound drivers c keep k = fewer_turns drivers c (record c { binds = filter keep c.binds })
+    (search (binds_find, same_finds, rules)) (λ r. inl refl)
 
 turns_unrouted : (drivers : List DriverSpec) (c : Configuration) (keep : Route → Bool) → IsKeyed c
-    → AreRooted drivers c.links → IfAccepted (λ d r. TurnsOnly drivers c d nowhere)
-    (done_outcome drivers c (record c { routes = filter keep c.routes }))
-turns_unrouted drivers c keep k x = turns_done drivers c (record c { routes = filter keep c.routes }) nowhere
-    (fewer_turns drivers c (record c { routes = filter keep c.routes })
-    (record {
-      routes = λ d a. routes_find keep c d a k;
-      ids = λ i. inl refl;
-      lowers = λ x. inl refl;
-      binds = λ d a. inl refl;
-      hungs = λ i l e h. h;
-    }) (λ r. inl refl))
-    (record { routes = apart_filter _ keep c.routes k.routes; ids = k.ids; lowers = k.lowers; binds = k.binds }) x
-
-turns_flushed : (drivers : List DriverSpec) (c : Configuration) (goes : Place → Bool) → IsKeyed c
-    → AreRooted drivers c.links
-    → IfAccepted (λ d r. TurnsOnly drivers c d nowhere) (done_outcome drivers c (without_queues_at c goes))
-turns_flushed drivers c goes k x = turns_done drivers c (without_queues_at c goes) nowhere
-    (turns_emptied drivers c goes) (record { routes = k.routes; ids = k.ids; lowers = k.lowers; binds = k.binds }) x
+    → TurnsOnly drivers c (record c { routes = filter keep c.routes }) nowhere
+turns_unrouted drivers c keep k = fewer_turns drivers c (record c { routes = filter keep c.routes })
+    (search (routes_find, same_finds, rules)) (λ r. inl refl)
 
 turns_route : (drivers : List DriverSpec) (c : Configuration) (driver addr id : ℕ) → IsKeyed c
     → AreRooted drivers c.links → IfAccepted (λ d r. TurnsOnly drivers c d (asks_down c driver addr))
@@ -254,20 +189,7 @@ hung_more s t hungs h = elim (cases_Bool (is_hung hungs s))
 pub more_hung_turn_none : (drivers : List DriverSpec) (c : Configuration) (s : StreamId)
     → TurnsOnly drivers c (record c { hungs = with_hung s c.hungs }) nowhere
 more_hung_turn_none drivers c s = fewer_turns drivers c (record c { hungs = with_hung s c.hungs })
-    (record {
-      routes = λ d a. inl refl;
-      ids = λ i. inl refl;
-      lowers = λ x. inl refl;
-      binds = λ d a. inl refl;
-      hungs = λ i l e h. hung_more s l.lower c.hungs h;
-    }) (λ r. inl refl)
-
-turns_hangup : (drivers : List DriverSpec) (c : Configuration) (s : StreamId) → IsKeyed c → AreRooted drivers c.links
-    → IfAccepted (λ d r. TurnsOnly drivers c d nowhere)
-    (done_outcome drivers c (record c { hungs = with_hung s c.hungs }))
-turns_hangup drivers c s k x =
-    turns_done drivers c (record c { hungs = with_hung s c.hungs }) nowhere (more_hung_turn_none drivers c s)
-    (record { routes = k.routes; ids = k.ids; lowers = k.lowers; binds = k.binds }) x
+    (search (hung_more, same_finds, rules)) (λ r. inl refl)
 
 -- what changes nothing turns none
 turns_none : (drivers : List DriverSpec) (c : Configuration) (t : Place → Bool) → TurnsOnly drivers c c t
@@ -311,15 +233,16 @@ turns drivers c process (command.OpenMinor name minor) h =
     search (after_test, after_ok, at_ok, turns_with_fd, rules) depth 20
 turns drivers c process (command.Dup fd) h = search (after_ok, at_ok, turns_with_fd, rules) depth 20
 turns drivers c process (command.Close fd) h =
-    let k = keyed drivers c h in let x = rooted drivers c h in search (after_ok, turns_closed, rules) depth 20
+    let k = keyed drivers c h in let x = rooted drivers c h in
+    search (after_ok, turns_still, turns_closed, rules) depth 20
 turns drivers c process command.CloseAll h =
-    turns_closed drivers c (filter (λ d. not (eqb d.process process)) c.fds) (keyed drivers c h) (rooted drivers c h)
+    let k = keyed drivers c h in let x = rooted drivers c h in search (turns_still, turns_closed, rules) depth 20
 turns drivers c process (command.Link fd arg) h = turns_link drivers c process fd arg kind.Ordinary h
 turns drivers c process (command.Plink fd arg) h = turns_link drivers c process fd arg kind.Persistent h
-turns drivers c process (command.Unlink fd w) h =
-    let k = keyed drivers c h in let x = rooted drivers c h in search (after_ok, turns_unlinked, rules) depth 20
-turns drivers c process (command.Punlink fd w) h =
-    let k = keyed drivers c h in let x = rooted drivers c h in search (after_ok, turns_unlinked, rules) depth 20
+turns drivers c process (command.Unlink fd w) h = let k = keyed drivers c h in let x = rooted drivers c h in
+    search (after_ok, unlinked, turns_still, turns_removed, keyed_removed, rooted_filter, rules) depth 20
+turns drivers c process (command.Punlink fd w) h = let k = keyed drivers c h in let x = rooted drivers c h in
+    search (after_ok, unlinked, turns_still, turns_removed, keyed_removed, rooted_filter, rules) depth 20
 turns drivers c process (command.Bind fd addr) h = let k = keyed drivers c h in let x = rooted drivers c h in
     search (
       at_stream drivers c (mux_stream drivers c process fd) (λ s. asks_up c s.driver addr),
@@ -328,7 +251,7 @@ turns drivers c process (command.Bind fd addr) h = let k = keyed drivers c h in 
       rules,
     ) depth 20
 turns drivers c process (command.Unbind fd) h = let k = keyed drivers c h in let x = rooted drivers c h in
-    search (after_test, after_ok, turns_unbound, rules) depth 20
+    search (after_test, after_ok, turns_still, turns_unbound, apart_filter, rules) depth 20
 turns drivers c process (command.Route fd addr id) h = let k = keyed drivers c h in let x = rooted drivers c h in
     search (
       at_stream drivers c (mux_stream drivers c process fd) (λ s. asks_down c s.driver addr),
@@ -337,7 +260,7 @@ turns drivers c process (command.Route fd addr id) h = let k = keyed drivers c h
       rules,
     ) depth 20
 turns drivers c process (command.Unroute fd addr) h = let k = keyed drivers c h in let x = rooted drivers c h in
-    search (after_test, after_ok, turns_unrouted, rules) depth 20
+    search (after_test, after_ok, turns_still, turns_unrouted, apart_filter, rules) depth 20
 turns drivers c process (command.Write fd addr bytes) h = search
     (at_stream drivers c (live_stream c process fd) (λ s. is_first_at c (write_side s)), turns_sent, rules) depth 20
 turns drivers c process (command.Read fd) h = search (
@@ -348,16 +271,16 @@ turns drivers c process (command.Read fd) h = search (
   turns_received,
   rules,
 ) depth 20
-turns drivers c process (command.Flush fd w) h =
-    let k = keyed drivers c h in let x = rooted drivers c h in search (after_ok, turns_flushed, rules) depth 20
+turns drivers c process (command.Flush fd w) h = let k = keyed drivers c h in let x = rooted drivers c h in
+    search (after_ok, turns_still, turns_emptied, rules) depth 20
 turns drivers c process (command.Inject name minor addr bytes) h = search
     (at_stream drivers c (live_leaf drivers c name minor) (λ s. is_first_at c (read_side s)), turns_sent, rules) depth
     20
 turns drivers c process (command.Transmit name minor) h = search
     (at_stream drivers c (live_leaf drivers c name minor) (λ s. same_place (write_side s)), turns_received, rules) depth
     20
-turns drivers c process (command.Hangup name minor) h =
-    let k = keyed drivers c h in let x = rooted drivers c h in search (after_ok, turns_hangup, rules) depth 20
+turns drivers c process (command.Hangup name minor) h = let k = keyed drivers c h in let x = rooted drivers c h in
+    search (after_ok, turns_still, more_hung_turn_none, rules) depth 20
 
 -- what `IfAccepted` says of the configuration of an accepted outcome, `IfOk` says of it too
 pub if_ok : (P : Configuration → Type 0) (o : Outcome) → IfAccepted (λ d r. P d) o → IfOk o (λ x. P x.0)

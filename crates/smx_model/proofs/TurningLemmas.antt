@@ -1,6 +1,6 @@
 -- Which changes turn which places.
 use Rattle.std.proofs.Common.{◌≡◌, ℕ, Bool, true, false, ◌&&◌, not, eqb, List, [], ◌∷◌, ◌++◌, filter, find, Option}
-use Rattle.std.proofs.Common.{Some, None, refl, sym, ap, ◌∙◌, subst, inl, inr, ◌<◌, length}
+use Rattle.std.proofs.Common.{Some, None, refl, sym, ap, ◌∙◌, subst, inl, inr, rules, ◌<◌, length}
 use mathlib.Core.Logic.{◌⊎◌}
 use Rattle.std.specs.Prelude.{slice_get}
 use Rattle.std.specs.List.{list_any}
@@ -26,7 +26,7 @@ use Rattle.smx_model.proofs.OrderLemmas.{order_without}
 use Rattle.smx_model.specs.Settling.{◌>>=◌, after_move, after_move_to, next_open_place, next_place, live_write_side}
 use Rattle.smx_model.specs.Standing.{is_persistent, exists}
 use Rattle.smx_model.specs.SoundLinks.{AreRoutesSound, AreLinksSound}
-use Rattle.smx_model.proofs.EachLemmas.{Each, each_filter, each_of_all, each_find}
+use Rattle.smx_model.proofs.EachLemmas.{Apart, apart_filter, Each, each_filter, each_map, each_of_all, each_find}
 use Rattle.smx_model.proofs.TestLemmas.{found_any, find_passes, any_more, any_filter}
 use Rattle.smx_model.proofs.QueueLemmas.{emptied_queue, front_is, marked_full}
 use Rattle.smx_model.proofs.SettlingLemmas.{open_next, same_place_is}
@@ -94,28 +94,13 @@ stays_by drivers c d p addr h =
 abbrev pub Finds : {X : Type 0} → Option X → Option X → Type 0
 Finds {X} o n = (n ≡ o) ⊎ (n ≡ None)
 
--- no element is related to a later one but so
-abbrev pub Apart : {X : Type 0} → (X → X → Type 0) → List X → Type 0
-Apart R [] = Unit {0}
-Apart R (x ∷ xs) = Each (R x) xs × Apart R xs
-
--- where each element is related so to all later ones, it is so among those that a filter leaves
-pub apart_filter : {X : Type 0} (R : X → X → Type 0) (keep : X → Bool) (xs : List X) → Apart R xs
-    → Apart R (filter keep xs)
-apart_filter R keep [] h = tt
-apart_filter R keep (x ∷ xs) h = elim (cases_Bool (keep x)) [
-  | inl t ↦ rw t (each_filter (R x) keep xs h.0, apart_filter R keep xs h.1)
-  | inr f ↦
-      rw f (apart_filter R keep xs h.1)
-]
+-- what finds as before finds so
+pub same_finds : {X : Type 0} (o : Option X) → Finds o o
+same_finds o = inl refl
 
 none_finds : {X : Type 0} (t : X → Bool) (xs : List X) → Each (λ y. t y ≡ false) xs → find t xs ≡ None
 none_finds t [] h = refl
 none_finds t (x ∷ xs) h = rw h.0 (none_finds t xs h.1)
-
-each_then : {X : Type 0} (P Q : X → Type 0) (xs : List X) → ((x : X) → P x → Q x) → Each P xs → Each Q xs
-each_then P Q [] f h = tt
-each_then P Q (x ∷ xs) f h = (f x h.0, each_then P Q xs f h.1)
 
 -- where no two elements pass a test, a search by it finds the same after a filter, or nothing
 pub finds_kept : {X : Type 0} (R : X → X → Type 0) (t keep : X → Bool) (xs : List X)
@@ -127,7 +112,7 @@ finds_kept R t keep (x ∷ xs) f h = elim (cases_Bool (t x)) [
     | inr k ↦
         rw (k, y)
         (inr (none_finds t (filter keep xs)
-        (each_filter (λ z. t z ≡ false) keep xs (each_then (R x) (λ z. t z ≡ false) xs (λ z r. f x z y r) h.0))))
+        (each_filter (λ z. t z ≡ false) keep xs (each_map (R x) (λ z. t z ≡ false) xs (λ z r. f x z y r) h.0))))
   ]
   | inr n ↦ elim (cases_Bool (keep x)) [
     | inl k ↦ rw (k, n) (finds_kept R t keep xs f h.1)
@@ -259,26 +244,14 @@ first_emptied flow goes r = elim (cases_Bool (goes r)) [
 -- places that are emptied turn none
 pub turns_emptied : (drivers : List DriverSpec) (c : Configuration) (goes : Place → Bool)
     → TurnsOnly drivers c (without_queues_at c goes) nowhere
-turns_emptied drivers c goes = fewer_turns drivers c (without_queues_at c goes)
-    (record {
-      routes = λ d a. inl refl;
-      ids = λ i. inl refl;
-      lowers = λ s. inl refl;
-      binds = λ d a. inl refl;
-      hungs = λ i l e k. k;
-    }) (first_emptied c.flow goes)
+turns_emptied drivers c goes = fewer_turns drivers c (without_queues_at c goes) (search (same_finds, rules))
+    (first_emptied c.flow goes)
 
 -- links that are removed, with their routes and their lower streams' read sides, turn no place
 pub turns_removed : (drivers : List DriverSpec) (c : Configuration) (goes : Link → Bool) → IsKeyed c
     → TurnsOnly drivers c (without_links c goes) nowhere
 turns_removed drivers c goes h = fewer_turns drivers c (without_links c goes)
-    (record {
-      routes = λ d a. routes_find _ c d a h;
-      ids = λ i. ids_find _ c i h;
-      lowers = λ s. lowers_find _ c s h;
-      binds = λ d a. inl refl;
-      hungs = λ i l e k. k;
-    }) (first_emptied c.flow _)
+    (search (routes_find, ids_find, lowers_find, same_finds, rules)) (first_emptied c.flow _)
 
 abbrev stream_of_parts : ℕ → ℕ → StreamId
 stream_of_parts driver minor = record { driver = driver; minor = minor }
@@ -398,8 +371,8 @@ routed c driver addr id =
           (record { driver = driver; addr = addr; id = id });
     }
 
--- another key
-other : (driver addr d a : ℕ) → (eqb d driver && eqb a addr) ≡ false → (eqb driver d && eqb addr a) ≡ false
+-- two keys that differ do so the other way round
+pub other : (driver addr d a : ℕ) → (eqb d driver && eqb a addr) ≡ false → (eqb driver d && eqb addr a) ≡ false
 other driver addr d a h = false_from_ne_true _ (λ t. let p = and_parts (eqb driver d) (eqb addr a) t in
     both_ways (eqb d driver && eqb a addr) h
     (and_from _ _ (eq-eqb d driver (sym (eqb-true driver d p.0))) (eq-eqb a addr (sym (eqb-true addr a p.1)))))
@@ -565,7 +538,7 @@ one_driver (k ∷ ks) id driver l h e a = elim (cases_Bool (eqb k.id id)) [
         | inr b ↦
             absurd (both_ways _
             (none_both (λ l. eqb l.id id) (λ l. eqb l.ctl.driver driver) ks
-            (each_then (λ y. eqb k.id y.id ≡ false) (λ y. eqb y.id id ≡ false) ks (λ y r. one k.id y.id id t r) h.0)) b)
+            (each_map (λ y. eqb k.id y.id ≡ false) (λ y. eqb y.id id ≡ false) ks (λ y r. one k.id y.id id t r) h.0)) b)
       ]
   | inr f ↦ one_driver ks id driver l h.1 (rw f at e) (rw f at a)
 ]

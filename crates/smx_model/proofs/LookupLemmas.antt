@@ -1,0 +1,74 @@
+-- What a lookup names, where it is not refused.
+use Rattle.std.proofs.Common.{◌≡◌, ℕ, Bool, true, false, List, Option, Some, None, Result, Ok, Err, refl, sym, ap, ◌∙◌}
+use Rattle.std.specs.List.{find}
+use Rattle.std.specs.Option.{option_map}
+use Rattle.smx_types.specs.declared.driver.DriverSpec.{DriverSpec}
+use Rattle.smx_types.specs.declared.reply.Fault.{Fault}
+use Rattle.smx_types.specs.declared.reply.Fault.TheVariants.{BadDescriptor, HungUp}
+use Rattle.smx_types.specs.declared.stream.Place.{Place}
+use Rattle.smx_types.specs.declared.stream.Side.TheVariants as side
+use Rattle.smx_types.specs.declared.stream.StreamId.{StreamId}
+use Rattle.smx_types.specs.declared.stream.Descriptor.{Descriptor}
+use Rattle.smx_model.specs.Configuration.{Configuration, is_fd}
+use Rattle.smx_model.specs.Hangups.{is_hung}
+use Rattle.smx_model.specs.Lookups.{free_stream, leaf_stream, live_leaf, live_stream, stream_of}
+use Rattle.smx_model.specs.Outcomes.{◌>>=◌, or_fault, refuse}
+use Rattle.smx_model.specs.Settling.{live_write_side}
+
+-- what is there or else a fault, and is no fault, is there
+pub there_is : {A : Type 0} (f : Fault) (o : Option A) (x : A) → or_fault f o ≡ Ok x → o ≡ Some x
+there_is f None x e = cc
+there_is f (Some y) x e = let same : y ≡ x = cc in ap Some same
+
+-- what comes after a lookup comes after what that names
+pub looked_up : {A B : Type 0} (r : Result A Fault) (g : A → Result B Fault) (x : B) → (r >>= g) ≡ Ok x
+    → (y : A) × (r ≡ Ok y) × (g y ≡ Ok x)
+looked_up (Ok y) g x e = (y, refl, e)
+looked_up (Err f) g x e = cc
+
+-- what comes after a refusal comes where the test of that fails
+pub passed : {A : Type 0} (f : Fault) (b : Bool) (g : Unit {0} → Result A Fault) (x : A) → (refuse f b >>= g) ≡ Ok x
+    → (b ≡ false) × (g tt ≡ Ok x)
+passed f true g x e = cc
+passed f false g x e = (refl, e)
+
+-- a lookup that is tested names what it named, and that passed the test
+pub tested : (f : Fault) (r : Result StreamId Fault) (t : StreamId → Bool) (x : StreamId)
+    → (r >>= (λ y. refuse f (t y) >>= (λ _. Ok y))) ≡ Ok x → (r ≡ Ok x) × (t x ≡ false)
+tested f r t x e =
+    let y = looked_up r _ x e in
+    let p = passed f (t y.0) _ x y.2 in
+    let same : y.0 ≡ x = by y.0 p.1 in (y.1 ∙ p.1, ap t (sym same) ∙ p.0) where
+      named : StreamId → Result StreamId Fault
+      named z = Ok z
+
+      by : (y : StreamId) → named y ≡ named x → y ≡ x
+      by y e = cc
+
+-- the stream of a descriptor is that of the first with its process and its number
+pub descriptor_of : (c : Configuration) (process fd : ℕ) (s : StreamId) → stream_of c process fd ≡ Ok s
+    → (d : Descriptor) × (find (is_fd process fd) c.fds ≡ Some d) × (d.stream ≡ s)
+descriptor_of c process fd s e = by (find (is_fd process fd) c.fds) (there_is BadDescriptor _ s e) where
+  by : (o : Option Descriptor) → option_map (λ d. d.stream) o ≡ Some s
+      → (d : Descriptor) × (o ≡ Some d) × (d.stream ≡ s)
+  by None k = cc
+  by (Some d) k = (d, refl, cc)
+
+-- a descriptor's stream that is looked up as live is found as one not linked below, and has not hung up
+pub live_is : (c : Configuration) (process fd : ℕ) (s : StreamId) → live_stream c process fd ≡ Ok s
+    → (free_stream c process fd ≡ Ok s) × (is_hung c.hungs s ≡ false)
+live_is c process fd s e = tested HungUp (free_stream c process fd) (is_hung c.hungs) s e
+
+-- a device's stream that is looked up as live is found as a leaf driver's, and has not hung up
+pub live_leaf_is : (drivers : List DriverSpec) (c : Configuration) (name : List ℕ) (minor : ℕ) (s : StreamId)
+    → live_leaf drivers c name minor ≡ Ok s → (leaf_stream drivers c name minor ≡ Ok s) × (is_hung c.hungs s ≡ false)
+live_leaf_is drivers c name minor s e = tested HungUp (leaf_stream drivers c name minor) (is_hung c.hungs) s e
+
+-- a write side that isn't hung up is that of the stream
+pub live_is_side : (hungs : List StreamId) (s : StreamId) (q : Place) → live_write_side hungs s ≡ Some q
+    → record { stream = s; side = side.Write } ≡ q
+live_is_side hungs s q e = by (is_hung hungs s) refl e where
+  by : (b : Bool) → is_hung hungs s ≡ b → live_write_side hungs s ≡ Some q
+      → record { stream = s; side = side.Write } ≡ q
+  by true t k = let z : None ≡ Some q = rw t at k in cc
+  by false f k = let z : Some (record { stream = s; side = side.Write }) ≡ Some q = rw f at k in cc
