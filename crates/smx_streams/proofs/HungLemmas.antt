@@ -205,7 +205,7 @@ exists_before old new p n x less h = elim (or_cases (is_named new.fds x) (nat_lt
 ]
 
 -- a test that is stricter than the one before it keeps the same alone
-twice : (p q : StreamId → Bool) (xs : List StreamId) → ((x : StreamId) → p x ≡ true → q x ≡ true)
+pub twice : (p q : StreamId → Bool) (xs : List StreamId) → ((x : StreamId) → p x ≡ true → q x ≡ true)
     → filter p (filter q xs) ≡ filter p xs
 twice p q [] h = refl
 twice p q (x ∷ xs) h = elim (cases_Bool (p x)) [
