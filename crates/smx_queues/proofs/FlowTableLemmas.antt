@@ -6,6 +6,7 @@ use Rattle.std.specs.List.{list_any}
 use Rattle.std.proofs.lemmas.Bool.{cases_Bool, false≢true, or_parts}
 use Rattle.std.proofs.lemmas.List.Elements.{filter_agree}
 use Rattle.std.proofs.lemmas.List.{get_or-set_same, get_or-set_other}
+use Rattle.std.proofs.lemmas.Option.{same_Some}
 use Rattle.smx_types.specs.declared.driver.DriverSpec.{DriverSpec}
 use Rattle.smx_types.specs.declared.message.Message.{Message}
 use Rattle.smx_types.specs.declared.stream.Place.{Place}
@@ -29,9 +30,6 @@ pub record IsFound (drivers : List DriverSpec) (queues : List (Option Queue)) (p
   pub high : q.high ≡ high_of drivers p.stream.driver
   pub low : q.low ≡ low_of drivers p.stream.driver
 
-some_is : {X : Type 0} (x y : X) → Some x ≡ Some y → x ≡ y
-some_is x y e = cc
-
 -- the number of a place has a queue, with the water marks of the place's driver
 pub found : (drivers : List DriverSpec) (places : List Place) (queues : List (Option Queue)) (p : Place) (i : ℕ)
     → AreQueuesOf drivers places queues → slice_get places i ≡ Some p → IsFound drivers queues p i
@@ -39,7 +37,7 @@ found drivers [] queues p i h at = absurd cc
 found drivers (r ∷ places) [] p i h at = absurd h
 found drivers (r ∷ places) (None ∷ queues) p i h at = absurd h
 found drivers (r ∷ places) (Some q ∷ queues) p zero h at =
-    let e = some_is r p at in
+    let e = same_Some r p at in
     record {
       q = q;
       slot = refl;
@@ -70,7 +68,7 @@ still_queues drivers [] (x ∷ queues) i q new h at high low = absurd h
 still_queues drivers (r ∷ places) [] i q new h at high low = absurd h
 still_queues drivers (r ∷ places) (None ∷ queues) i q new h at high low = absurd h
 still_queues drivers (r ∷ places) (Some x ∷ queues) zero q new h at high low =
-    let e = some_is x q at in
+    let e = same_Some x q at in
     (high ∙ ap (λ (y : Queue). y.high) (sym e) ∙ h.0, low ∙ ap (λ (y : Queue). y.low) (sym e) ∙ h.1, h.2)
 still_queues drivers (r ∷ places) (Some x ∷ queues) (suc i) q new h at high low =
     (h.0, h.1, still_queues drivers places queues i q new h.2 at high low)
@@ -91,7 +89,7 @@ seen_now p all t n h = rw (h.drivers, h.flow, h.fulls) refl
 
 first_is : (ms : List Message) (m : Message) → slice_get ms 0 ≡ Some m → ms ≡ m ∷ drop 1 ms
 first_is [] m e = absurd cc
-first_is (x ∷ ms) m e = ap (λ (y : Message). y ∷ ms) (some_is x m e)
+first_is (x ∷ ms) m e = ap (λ (y : Message). y ∷ ms) (same_Some x m e)
 
 new_slot : (queues : List (Option Queue)) (i : ℕ) (q : Queue) → i < length queues
     → messages_in (get_or (set queues i (Some q)) i None) ≡ q.messages
@@ -190,7 +188,7 @@ pub numbers_differ : (places : List Place) (p q : Place) (i j : ℕ) → slice_g
     → slice_get places j ≡ Some q → same_place p q ≡ false → j ≢ i
 numbers_differ places p q i j at there differ same =
     let e : Some p ≡ Some q = sym at ∙ (ap (slice_get places) (sym same) ∙ there) in
-    let k : same_place p p ≡ false = subst (λ (x : Place). same_place p x ≡ false) (sym (some_is p q e)) differ in
+    let k : same_place p p ≡ false = subst (λ (x : Place). same_place p x ≡ false) (sym (same_Some p q e)) differ in
     false≢true (sym k ∙ place_self p)
 
 -- where a front went from the queue of one number to another's, the lists are those after both

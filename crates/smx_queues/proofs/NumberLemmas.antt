@@ -1,13 +1,14 @@
 -- The places of some drivers, and of one driver more.
-use Rattle.std.proofs.Common.{◌≡◌, ℕ, zero, suc, ◌+◌, ◌*◌, ◌<◌, ◌≤◌, true, false, ◌&&◌, eqb, ltb, List, [], ◌∷◌, ◌++◌}
-use Rattle.std.proofs.Common.{length, get_or, Option, Some, refl, sym, ap, ◌∙◌, subst, arith, length-append, inl, inr}
+use Rattle.std.proofs.Common.{◌≡◌, ℕ, zero, suc, ◌+◌, ◌*◌, ◌<◌, ◌≤◌, true, false, ◌&&◌, eqb, List, [], ◌∷◌, ◌++◌}
+use Rattle.std.proofs.Common.{length, Option, Some, refl, sym, ap, ◌∙◌, subst, arith, length-append, inl, inr}
 use Rattle.std.specs.Prelude.{slice_get}
 use Rattle.std.specs.List.{list_any}
 use Rattle.std.specs.Option.{option_map_or}
-use Rattle.std.proofs.lemmas.Bool.{cases_eq, cases_lt, or_from, ne_eqb}
+use Rattle.std.proofs.lemmas.Bool.{cases_eq, cases_lt, lt-ltb, or_from, ne_eqb}
 use Rattle.std.proofs.lemmas.Bool.Decides.{nat_tests}
 use Rattle.std.proofs.lemmas.List.Folds.{list_any-append}
 use Rattle.std.proofs.lemmas.Option.{slice_get_past}
+use Rattle.std.proofs.lemmas.List.{get_or_append_left, get_or_push}
 use Rattle.smx_types.specs.declared.driver.DriverSpec.{DriverSpec}
 use Rattle.smx_types.specs.declared.stream.Place.{Place}
 use Rattle.smx_types.specs.declared.stream.Side.{Side}
@@ -16,10 +17,7 @@ use Rattle.smx_model.specs.Configuration.{place_before, same_place, side_number}
 use Rattle.smx_model.specs.DriverList.{minors_of}
 use Rattle.smx_model.specs.Ordered.{ComesBefore, IsRising}
 use Rattle.smx_queues.specs.PlaceLists.{ArePlaces, HaveDriversBelow, number_of, sides_of}
-use Rattle.smx_queues.proofs.PlaceLemmas.{lower_driver, lower_minor}
-
-abbrev place_at : ℕ → ℕ → Side → Place
-place_at driver minor s = record { stream = record { driver = driver; minor = minor }; side = s }
+use Rattle.smx_queues.proofs.PlaceLemmas.{lower_driver, lower_minor, place_at}
 
 -- ---- elements of two lists
 
@@ -40,17 +38,6 @@ pub left_only : {X : Type 0} (xs ys : List X) (i : ℕ) → i < length xs → sl
 left_only [] ys i lt = absurd (omega arith)
 left_only (x ∷ xs) ys zero lt = refl
 left_only (x ∷ xs) ys (suc i) lt = left_only xs ys i (omega arith)
-
-first_left : (xs ys : List ℕ) (i : ℕ) → i < length xs → get_or (xs ++ ys) i 0 ≡ get_or xs i 0
-first_left [] ys i lt = absurd (omega arith)
-first_left (x ∷ xs) ys zero lt = refl
-first_left (x ∷ xs) ys (suc i) lt = first_left xs ys i (omega arith)
-
-first_last : (xs : List ℕ) (x i : ℕ) → i ≡ length xs → get_or (xs ++ x ∷ []) i 0 ≡ x
-first_last [] x zero e = refl
-first_last [] x (suc i) e = absurd (omega arith)
-first_last (y ∷ xs) x zero e = absurd (omega arith)
-first_last (y ∷ xs) x (suc i) e = first_last xs x i (omega arith)
 
 -- ---- both sides of some minors
 
@@ -127,14 +114,11 @@ all_before_more : (xs zs ys : List Place) → AllBefore xs ys → AllBefore zs y
 all_before_more [] zs ys h k = k
 all_before_more (x ∷ xs) zs ys h k = (h.0, all_before_more xs zs ys h.1 k)
 
-less : (a b : ℕ) → a < b → ltb a b ≡ true
-less a b lt = grind (arith, nat_tests)
-
 sides_before : (driver n m : ℕ) → n ≤ m
     → AllBefore (sides_of driver n) (place_at driver m side.Write ∷ place_at driver m side.Read ∷ [])
 sides_before driver zero m le = tt
 sides_before driver (suc n) m le =
-    let lt = less n m (omega arith) in
+    let lt = lt-ltb n m (omega arith) in
     all_before_more (sides_of driver n) (place_at driver n side.Write ∷ place_at driver n side.Read ∷ [])
     (place_at driver m side.Write ∷ place_at driver m side.Read ∷ [])
     (sides_before driver n m (omega arith)) (
@@ -156,7 +140,7 @@ sides_rise driver (suc n) = rising_more (sides_of driver n)
 before_sides : (p : Place) (driver n : ℕ) → p.stream.driver < driver → ComesBefore place_before p (sides_of driver n)
 before_sides p driver zero lt = tt
 before_sides p driver (suc n) lt =
-    let h = less p.stream.driver driver lt in
+    let h = lt-ltb p.stream.driver driver lt in
     before_more p (sides_of driver n) (place_at driver n side.Write ∷ place_at driver n side.Read ∷ [])
     (before_sides p driver n lt)
     (lower_driver p (place_at driver n side.Write) h, (lower_driver p (place_at driver n side.Read) h, tt))
@@ -199,12 +183,12 @@ one_driver_more ds firsts places d h = record {
       → slice_get (places ++ sides_of (length ds) d.minors) (number_of (firsts ++ length places ∷ []) p) ≡ Some p
   numbered p lt = elim (cases_lt p.stream.driver (length ds)) [
     | inl before ↦
-        let e = first_left firsts (length places ∷ []) p.stream.driver (omega (arith, h.one_each)) in
+        let e = get_or_append_left firsts (length places ∷ []) 0 p.stream.driver (omega (arith, h.one_each)) in
         rw e (get_left places (sides_of (length ds) d.minors) (number_of firsts p) p
         (h.numbered p (omega (arith, minors_left ds d p.stream.driver before))))
     | inr past ↦ elim (cases_eq p.stream.driver (length ds)) [
       | inl is ↦
-          let e = first_last firsts (length places) p.stream.driver (omega (arith, h.one_each)) in
+          let e = get_or_push firsts (length places) 0 p.stream.driver (omega (arith, h.one_each)) in
           rw e (get_right places (sides_of (length ds) d.minors)
           (length places + 2 * p.stream.minor + side_number p.side) (2 * p.stream.minor + side_number p.side)
           (omega arith)

@@ -1,11 +1,11 @@
 -- Places that wait, by place and by slot.
-use Rattle.std.proofs.Common.{◌≡◌, ℕ, zero, suc, ◌+◌, ◌-◌, ◌<◌, ◌≤◌, Bool, true, false, ◌==◌, ◌||◌, add-one, cond, List}
+use Rattle.std.proofs.Common.{◌≡◌, ℕ, zero, suc, ◌+◌, ◌-◌, ◌<◌, ◌≤◌, Bool, true, false, ◌==◌, add-one, cond, List}
 use Rattle.std.proofs.Common.{[], ◌∷◌, ◌++◌, length, find, set, get_or, Option, Some, None, refl, sym, ap, ◌∙◌, subst}
 use Rattle.std.proofs.Common.{arith, inl, inr}
 use Rattle.std.specs.Prelude.{count_by, slice_get}
 use Rattle.std.specs.List.{list_any}
 use Rattle.std.specs.Option.{option_map}
-use Rattle.std.proofs.lemmas.Bool.{cases_Bool, cases_eq, cases_lt, false≢true, ne_eqb}
+use Rattle.std.proofs.lemmas.Bool.{cases_Bool, cases_eq, cases_lt, false≢true, ne_eqb, or_right}
 use Rattle.std.proofs.lemmas.List.{get_or-set_other, get_or-set_same, get_or_default, get_or_past, length-append}
 use Rattle.std.proofs.lemmas.List.{length-set}
 use Rattle.std.proofs.lemmas.List.Sums.{get_or-le-sum_by, sum_by-set}
@@ -24,10 +24,7 @@ use Rattle.smx_queues.proofs.PlaceLemmas.{none_behind, place_is, place_self}
 stands : (p : Place) (places : List Place) (i : ℕ) → slice_get places i ≡ Some p → list_any (same_place p) places ≡ true
 stands p [] i e = absurd cc
 stands p (x ∷ places) zero e = let same : x ≡ p = same_Some x p e in rw same (rw (place_self p) refl)
-stands p (x ∷ places) (suc i) e = or_right (same_place p x) _ (stands p places i e) where
-  or_right : (a b : Bool) → b ≡ true → (a || b) ≡ true
-  or_right true b h = refl
-  or_right false b h = h
+stands p (x ∷ places) (suc i) e = or_right (same_place p x) _ (stands p places i e)
 
 -- and one that is found in it has a number
 where_is : (p : Place) (places : List Place) → list_any (same_place p) places ≡ true

@@ -58,7 +58,8 @@ key_set grid s key x driver minor = elim (cases_eq x.driver s.driver) [
             ∙ ap (λ n. get_or (set (get_or grid s.driver []) s.minor key) n None) m
             ∙ get_or-set_same (get_or grid s.driver []) s.minor key None minor)
         | inr m ↦
-            rw (eq-eqb x.driver s.driver d, ne_eqb x.minor s.minor m) (ap (λ (r : List (Option ℕ)). get_or r x.minor None) row
+            rw (eq-eqb x.driver s.driver d, ne_eqb x.minor s.minor m)
+            (ap (λ (r : List (Option ℕ)). get_or r x.minor None) row
             ∙ get_or-set_other (get_or grid s.driver []) s.minor x.minor key None m
             ∙ ap (λ n. get_or (get_or grid n []) x.minor None) (sym d))
       ]
