@@ -21,7 +21,7 @@ before l k = nat_lt l.id k.id
 -- one less
 
 -- two tests may come in either order
-pub filters_swap : (p q : Link → Bool) (ls : List Link) → filter p (filter q ls) ≡ filter q (filter p ls)
+pub filters_swap : {X : Type 0} (p q : X → Bool) (ls : List X) → filter p (filter q ls) ≡ filter q (filter p ls)
 filters_swap p q [] = refl
 filters_swap p q (l ∷ ls) = elim (cases_Bool (p l)) [
   | inl t ↦ elim (cases_Bool (q l)) [

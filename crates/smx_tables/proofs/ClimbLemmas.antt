@@ -1,6 +1,7 @@
 -- A stream stands by a descriptor, or by the one link above it.
 use Rattle.std.proofs.Common.{◌≡◌, ℕ, zero, suc, Bool, true, false, ◌&&◌, ◌||◌, not, List, find, Option, Some, None}
 use Rattle.std.proofs.Common.{refl, sym}
+use Rattle.std.proofs.Math.Bool.{and_comm, or-false}
 use Rattle.std.specs.Option.{option_map_or}
 use Rattle.std.proofs.lemmas.Bool.{or_left}
 use Rattle.smx_types.specs.declared.link.Link.{Link}
@@ -17,12 +18,6 @@ abbrev pub stands_by : List Descriptor → List Link → ℕ → Option Link →
 stands_by fds links n None = false
 stands_by fds links zero (Some l) = is_persistent l
 stands_by fds links (suc n) (Some l) = is_persistent l || stands_within fds links n l.ctl
-
-swapped : (a b : Bool) → (a && b) ≡ (b && a)
-swapped true true = refl
-swapped true false = refl
-swapped false true = refl
-swapped false false = refl
 
 between : (a b c : Bool) → (a && (b && c)) ≡ (b && (a && c))
 between true true c = refl
@@ -48,15 +43,11 @@ first_climb true persistent above = refl
 first_climb false true above = refl
 first_climb false false above = refl
 
-none_above : (named : Bool) → ((named || false) || false) ≡ (named || false)
-none_above true = refl
-none_above false = refl
-
 by_more : (fds : List Descriptor) (links : List Link) (n : ℕ) (named : Bool) (o : Option Link)
     → ((named || stands_by fds links n o)
     || option_map_or (λ l. not (is_persistent l) && stands_within fds links n l.ctl) o false)
     ≡ (named || stands_by fds links (suc n) o)
-by_more fds links n named None = none_above named
+by_more fds links n named None = or-false (named || false)
 by_more fds links zero named (Some l) = first_climb named (is_persistent l) (stands_within fds links 0 l.ctl)
 by_more fds links (suc n) named (Some l) = climbed named (is_persistent l) (stands_within fds links n l.ctl)
     (stands_within fds links (suc n) l.ctl) (more fds links n l.ctl)
@@ -72,7 +63,7 @@ pub stands_is : (fds : List Descriptor) (links : List Link) (n : ℕ) (s : Strea
 stands_is fds links zero s h =
     rw (
       any_once (λ l. same_stream l.lower s) is_persistent (λ l. is_persistent l && same_stream l.lower s) links
-          (once_below s links h) (λ l. swapped (is_persistent l) (same_stream l.lower s)),
+          (once_below s links h) (λ l. and_comm (is_persistent l) (same_stream l.lower s)),
       by_held fds links (find (λ l. same_stream l.lower s) links),
     ) refl
 stands_is fds links (suc n) s h =

@@ -1,6 +1,7 @@
 -- What dead streams hold goes, stream by stream.
 use Rattle.std.proofs.Common.{◌≡◌, ℕ, ◌+◌, Bool, true, false, ◌&&◌, ◌||◌, not, List, [], ◌∷◌, ◌++◌, filter, take, refl}
 use Rattle.std.proofs.Common.{sym, ap, ◌∙◌, inl, inr}
+use Rattle.std.proofs.Math.Bool.{and-false, or-false}
 use Rattle.std.specs.List.{list_all, list_any}
 use Rattle.std.proofs.lemmas.Bool.{and_parts, cases_Bool, false≢true}
 use Rattle.std.proofs.lemmas.List.Elements.{filter_agree}
@@ -13,10 +14,6 @@ use Rattle.smx_tables.proofs.BelowLemmas.{tests_less}
 use Rattle.smx_tables.proofs.WatchLemmas.{listed_more}
 
 -- ---- one stream
-
-or_false : (b : Bool) → (b || false) ≡ b
-or_false true = refl
-or_false false = refl
 
 -- a stream that is not there goes, by whichever test finds it
 pub one_dead : {X : Type 0} (stream : X → StreamId) (test : X → Bool) (t : StreamTable) (s : StreamId) (xs ys : List X)
@@ -61,7 +58,7 @@ stream_less stream t seen i s xs ys zs taken_one e f =
     (λ x. is_dead t (take (i + 1) seen) (stream x)) xs ys zs (λ x. more (stream x)) e f where
       parts : (gone a b : Bool) → (gone && (a || b)) ≡ ((gone && a) || (gone && (b || false)))
       parts true true b = refl
-      parts true false b = sym (or_false b)
+      parts true false b = sym (or-false b)
       parts false a b = refl
 
       more : (x : StreamId) → is_dead t (take (i + 1) seen) x ≡ (is_dead t (take i seen) x || is_dead t (s ∷ []) x)
@@ -74,10 +71,7 @@ pub none_dead : {X : Type 0} (stream : X → StreamId) (t : StreamTable) (xs : L
     → xs ≡ filter (λ x. not (is_dead t [] (stream x))) xs
 none_dead stream t [] = refl
 none_dead stream t (x ∷ xs) =
-    rw (and_false (not (is_there t (stream x)))) (ap (λ (ys : List _). x ∷ ys) (none_dead stream t xs)) where
-      and_false : (b : Bool) → (b && false) ≡ false
-      and_false true = refl
-      and_false false = refl
+    rw (and-false (not (is_there t (stream x)))) (ap (λ (ys : List _). x ∷ ys) (none_dead stream t xs))
 
 -- ---- all that went were seen
 

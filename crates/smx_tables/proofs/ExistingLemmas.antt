@@ -2,11 +2,15 @@
 use Rattle.std.proofs.Common.{◌≡◌, ℕ, zero, suc, ◌+◌, ◌<◌, ◌≤◌, Bool, true, false, ◌&&◌, ◌||◌, not, List, [], ◌∷◌}
 use Rattle.std.proofs.Common.{length, filter, find, get_or, Option, Some, None, Ok, Err, ◌++◌, if◌then◌else◌, refl, sym}
 use Rattle.std.proofs.Common.{ap, subst, ◌∙◌, arith, inl, inr}
+use Rattle.std.proofs.Math.Bool.{or-false}
 use Rattle.std.specs.Prelude.{IsTrue, ◌↔◌, nat_lt}
 use Rattle.std.specs.Option.{option_map}
 use Rattle.std.specs.List.{All, AllByRecursion, list_any, list_all}
 use Rattle.std.proofs.lemmas.Bool.{cases_Bool, and_parts, and_from, or_cases, or_left, or_right, false_from_ne_true}
 use Rattle.std.proofs.lemmas.Bool.{false≢true}
+use Rattle.std.proofs.lemmas.Bool.Decides.{nat_tests}
+use Rattle.std.proofs.lemmas.List.Folds.{list_any-append}
+use Rattle.std.proofs.lemmas.Option.{same_Some}
 use Rattle.std.proofs.lemmas.List.Elements.{recursion_from_All, Contains-get_or}
 use Rattle.smx_types.specs.declared.driver.DriverSpec.{DriverSpec}
 use Rattle.smx_types.specs.declared.link.Link.{Link}
@@ -27,31 +31,17 @@ use Rattle.smx_links.specs.declared.link_fault.LinkFault.TheVariants as link_fau
 use Rattle.smx_tables.proofs.AboveLemmas.{stream_is, stream_self}
 use Rattle.smx_tables.proofs.ClimbLemmas.{named_stands}
 
+-- one, or all, that pass a test pass any test that follows from it; and fewer items pass what all did
+pub use Rattle.smx_model.proofs.TestLemmas.{all_filter as all_fewer, all_more as all_weaker, any_more as any_weaker}
+
 -- ---- tests
 
--- where one passes a test, one passes any test that follows from it
-pub any_weaker : {X : Type 0} (t u : X → Bool) (xs : List X) → ((x : X) → t x ≡ true → u x ≡ true)
-    → list_any t xs ≡ true → list_any u xs ≡ true
-any_weaker {X = X} t u [] f h = h
-any_weaker {X = X} t u (x ∷ xs) f h = elim (or_cases (t x) (list_any t xs) h)
-    [ inl a ↦ or_left _ _ (f x a) | inr b ↦ or_right _ _ (any_weaker t u xs f b) ]
-
--- where all pass a test, all pass any test that follows from it
-pub all_weaker : {X : Type 0} (t u : X → Bool) (xs : List X) → ((x : X) → t x ≡ true → u x ≡ true)
-    → list_all t xs ≡ true → list_all u xs ≡ true
-all_weaker {X = X} t u [] f h = h
-all_weaker {X = X} t u (x ∷ xs) f h =
-    let p = and_parts (t x) (list_all t xs) h in and_from _ _ (f x p.0) (all_weaker t u xs f p.1)
-
--- fewer items pass what all did
-pub all_fewer : {X : Type 0} (t u : X → Bool) (xs : List X) → list_all t xs ≡ true → list_all t (filter u xs) ≡ true
-all_fewer t u [] h = refl
-all_fewer t u (x ∷ xs) h = let p = and_parts (t x) (list_all t xs) h in
-    elim (cases_Bool (u x)) [
-      | inl a ↦ rw a (and_from _ _ p.0 (all_fewer t u xs p.1))
-      | inr b ↦
-          rw b (all_fewer t u xs p.1)
-    ]
+-- where the controlling stream of each ordinary link passes a test, it passes any test that follows from it
+pub linked_weaker : (f g : StreamId → Bool) (ls : List Link) → ((s : StreamId) → f s ≡ true → g s ≡ true)
+    → list_all (λ l. is_persistent l || f l.ctl) ls ≡ true → list_all (λ l. is_persistent l || g l.ctl) ls ≡ true
+linked_weaker f g ls on = all_weaker (λ l. is_persistent l || f l.ctl) (λ l. is_persistent l || g l.ctl) ls
+    (λ l e. elim (or_cases (is_persistent l) (f l.ctl) e)
+    [ inl p ↦ or_left _ _ p | inr o ↦ or_right _ _ (on l.ctl o) ])
 
 -- two tests that follow from one another
 pub same_test : (a b : Bool) → (a ≡ true → b ≡ true) → (b ≡ true → a ≡ true) → a ≡ b
@@ -66,8 +56,7 @@ pub named_stream : (process fd : ℕ) (fds : List Descriptor) (s : StreamId)
     → option_map (λ (d : Descriptor). d.stream) (find (is_fd process fd) fds) ≡ Some s → is_named fds s ≡ true
 named_stream process fd [] s h = absurd cc
 named_stream process fd (d ∷ ds) s h = elim (cases_Bool (is_fd process fd d)) [
-  | inl t ↦ let k : Some d.stream ≡ Some s = rw t at h in let same : d.stream ≡ s = cc in
-      or_left _ _ (ap (λ (x : StreamId). same_stream x s) same ∙ stream_self s)
+  | inl t ↦ or_left _ _ (ap (λ (x : StreamId). same_stream x s) (same_Some d.stream s (rw t at h)) ∙ stream_self s)
   | inr f ↦ or_right _ _ (named_stream process fd ds s (rw f at h))
 ]
 
@@ -315,15 +304,10 @@ pub swept_is_linked : (drivers : List DriverSpec) (c : Configuration) (t : Strea
     → AreHeld c.links t → list_all (λ l. is_persistent l || exists drivers c l.ctl) c.links ≡ true
     → list_all (λ l. is_persistent l || is_there t l.ctl) c.links ≡ true
 swept_is_linked drivers c t same held h =
-    all_weaker (λ l. is_persistent l || exists drivers c l.ctl) (λ l. is_persistent l || is_there t l.ctl) c.links
-    (λ l e. elim (or_cases (is_persistent l) (exists drivers c l.ctl) e) [
-      | inl p ↦ or_left _ _ p
-      | inr o ↦
-          or_right _ _
-          (there_is c.links t l.ctl held
-          ∙ subst (λ (fds : List Descriptor). (is_named fds l.ctl || is_below c.links l.ctl) ≡ true) (sym same)
-          (stands_there c.fds c.links (length drivers) l.ctl o))
-    ]) h
+    linked_weaker (exists drivers c) (is_there t) c.links
+    (λ s o. there_is c.links t s held
+    ∙ subst (λ (fds : List Descriptor). (is_named fds s || is_below c.links s) ≡ true) (sym same)
+    (stands_there c.fds c.links (length drivers) s o)) h
 
 -- ---- one link more
 
@@ -336,12 +320,8 @@ holds_few links s = one (is_below links s) where
 
 below_more : (links : List Link) (l : Link) (s : StreamId)
     → is_below (links ++ l ∷ []) s ≡ (is_below links s || same_stream l.lower s)
-below_more [] l s = or_none (same_stream l.lower s) where
-  or_none : (b : Bool) → (b || false) ≡ b
-  or_none true = refl
-  or_none false = refl
-below_more (k ∷ ks) l s =
-    elim (cases_Bool (same_stream k.lower s)) [ inl t ↦ rw t refl | inr f ↦ rw f (below_more ks l s) ]
+below_more links l s = list_any-append (λ k. same_stream k.lower s) links (l ∷ [])
+    ∙ ap (λ (b : Bool). is_below links s || b) (or-false (same_stream l.lower s))
 
 -- a link is refused above a stream that is below one
 pub not_below_yet : (t : LinkList) (ctl lower : StreamId) (id : ℕ) → IsLinked (refusal t ctl lower) t (Ok id)
@@ -360,9 +340,7 @@ held_by_one_more old new ctl lower kind t u free is held h = λ s.
     ∙ ap (λ (b : Bool). is_below old.links s || b) (turned lower s) in
     h.holds s ∙ by s (same_stream s lower) ∙ ap (λ (b : Bool). if b then 1 else 0) (sym more) where
       turned : (x y : StreamId) → same_stream x y ≡ same_stream y x
-      turned x y = same_test (same_stream x y) (same_stream y x)
-          (λ e. ap (λ (z : StreamId). same_stream z x) (sym (stream_is x y e)) ∙ stream_self x)
-          (λ e. ap (λ (z : StreamId). same_stream z y) (sym (stream_is y x e)) ∙ stream_self y)
+      turned x y = grind (arith, nat_tests)
 
       none : number_at t.holds lower ≡ 0
       none = held lower ∙ ap (λ (b : Bool). if b then 1 else 0) free

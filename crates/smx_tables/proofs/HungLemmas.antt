@@ -14,23 +14,10 @@ use Rattle.smx_streams.specs.StreamTables.{StreamTable, AreHungsSound, HasHolds,
 use Rattle.smx_streams.specs.StreamTables.{exists as is_there}
 use Rattle.smx_tables.proofs.AboveLemmas.{stream_is, stream_self}
 
+-- a test that each passes keeps all, and a stricter test after another keeps what it keeps alone
+pub use Rattle.smx_streams.proofs.HungLemmas.{all_pass, twice as stricter}
+
 -- ---- tests of streams
-
--- a stricter test after another keeps what it keeps alone
-pub stricter : (p q : StreamId → Bool) (xs : List StreamId) → ((x : StreamId) → p x ≡ true → q x ≡ true)
-    → filter p (filter q xs) ≡ filter p xs
-stricter p q [] h = refl
-stricter p q (x ∷ xs) h = elim (cases_Bool (p x)) [
-  | inl t ↦ rw (h x t, t) (ap (λ (ys : List StreamId). x ∷ ys) (stricter p q xs h))
-  | inr f ↦ elim (cases_Bool (q x)) [ inl u ↦ rw (u, f) (stricter p q xs h) | inr u ↦ rw (u, f) (stricter p q xs h) ]
-]
-
--- a test that each passes keeps all
-pub all_pass : (p : StreamId → Bool) (xs : List StreamId) → ((x : StreamId) → is_hung xs x ≡ true → p x ≡ true)
-    → xs ≡ filter p xs
-all_pass p [] h = refl
-all_pass p (x ∷ xs) h = rw (h x (or_left _ _ (stream_self x)))
-    (ap (λ (ys : List StreamId). x ∷ ys) (all_pass p xs (λ y t. h y (or_right (same_stream x y) _ t))))
 
 -- where each stream that has hung up passes a test, the whole list does
 pub pass_all : (p : StreamId → Bool) (xs : List StreamId) → ((x : StreamId) → is_hung xs x ≡ true → p x ≡ true)

@@ -1,11 +1,12 @@
 -- Once no link is loose, the links whose lower streams are not held are those that are orphaned.
 use Rattle.std.proofs.Common.{◌≡◌, ℕ, zero, suc, ◌≤◌, Bool, true, false, ◌&&◌, ◌||◌, not, List, [], ◌∷◌, length, filter}
 use Rattle.std.proofs.Common.{if◌then◌else◌, refl, sym, ap, subst, ◌∙◌, arith, inl, inr}
+use Rattle.std.proofs.Math.Bool.{not-not}
 use Rattle.std.specs.Prelude.{nat_lt}
 use Rattle.std.specs.List.{All, AllByRecursion, list_any, list_all}
 use Rattle.std.proofs.lemmas.Bool.{cases_Bool, and_from, or_parts}
 use Rattle.std.proofs.lemmas.Bool.Decides.{nat_tests}
-use Rattle.std.proofs.lemmas.List.Elements.{recursion_from_All}
+use Rattle.std.proofs.lemmas.List.Elements.{filter_agree, recursion_from_All}
 use Rattle.smx_types.specs.declared.driver.DriverSpec.{DriverSpec}
 use Rattle.smx_types.specs.declared.link.Link.{Link}
 use Rattle.smx_types.specs.declared.stream.Descriptor.{Descriptor}
@@ -71,14 +72,6 @@ released_are_orphaned drivers c t climbs path join sound known same h none =
         each ls a.1 b.1,
       )
 
--- two tests that agree on each link keep the same
-pub kept_alike : (f g : Link → Bool) (ls : List Link) → AllByRecursion (λ l. f l ≡ g l) ls → filter f ls ≡ filter g ls
-kept_alike f g [] h = refl
-kept_alike f g (l ∷ ls) h = elim (cases_Bool (g l)) [
-  | inl t ↦ rw (h.0, t) (ap (λ (ks : List Link). l ∷ ks) (kept_alike f g ls h.1))
-  | inr n ↦ rw (h.0, n) (kept_alike f g ls h.1)
-]
-
 -- below the links that are held
 below_held : (t : StreamTable) (s : StreamId) (ls : List Link)
     → is_below (filter (is_held t) ls) s ≡ (is_below ls s && nat_lt 0 (number_at t.holds s))
@@ -132,11 +125,4 @@ pub left_links : (links : List Link) (ids : List ℕ) (t : StreamTable) → IsId
     → AreIdsOf (λ l. not (is_held t l)) links ids → filter (λ l. not (is_one_of ids l)) links ≡ filter (is_held t) links
 left_links links ids t rise h =
     links_stay (is_one_of ids) (λ l. not (is_held t l)) links (listed_any (λ l. not (is_held t l)) links ids rise h)
-    ∙ kept_alike (λ l. not (not (is_held t l))) (is_held t) links (twice links) where
-      no_no : (b : Bool) → not (not b) ≡ b
-      no_no true = refl
-      no_no false = refl
-
-      twice : (ls : List Link) → AllByRecursion (λ l. not (not (is_held t l)) ≡ is_held t l) ls
-      twice [] = tt
-      twice (l ∷ ls) = (no_no (is_held t l), twice ls)
+    ∙ filter_agree (λ l. not (not (is_held t l))) (is_held t) (λ l. not-not (is_held t l)) links

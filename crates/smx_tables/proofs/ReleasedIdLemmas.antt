@@ -2,9 +2,12 @@
 use Rattle.std.proofs.Common.{◌≡◌, ℕ, ◌-◌, ◌<◌, ◌≤◌, Bool, true, false, ◌&&◌, ◌||◌, not, eqb, List, [], ◌∷◌, ◌++◌}
 use Rattle.std.proofs.Common.{get_or, find, Option, Some, None, if◌then◌else◌, refl, sym, ap, subst, ◌∙◌, arith}
 use Rattle.std.proofs.Common.{inl, inr}
+use Rattle.std.proofs.Math.Bool.{or-false}
 use Rattle.std.specs.List.{All, AllByRecursion, list_any}
 use Rattle.std.proofs.lemmas.Bool.{cases_Bool}
 use Rattle.std.proofs.lemmas.List.Elements.{recursion_from_All}
+use Rattle.std.proofs.lemmas.List.Folds.{list_any-append}
+use Rattle.std.proofs.lemmas.Option.{same_Some}
 use Rattle.smx_types.specs.declared.link.Link.{Link}
 use Rattle.smx_types.specs.declared.stream.StreamId.{StreamId}
 use Rattle.smx_model.specs.Configuration.{same_stream}
@@ -14,6 +17,7 @@ use Rattle.smx_streams.specs.StreamTables.{StreamTable, AreHungsSound, HasHolds,
 use Rattle.smx_tables.specs.ExistingStreams.{AreHeld}
 use Rattle.smx_tables.specs.ListedLinks.{is_listed}
 use Rattle.smx_links.specs.LinkLists.{is_one_of, others_of}
+use Rattle.smx_links.proofs.IdLemmas.{none_of_none}
 use Rattle.smx_tables.proofs.AboveLemmas.{once_below, once_id, stream_is, stream_self}
 use Rattle.smx_tables.proofs.ExistingLemmas.{same_test}
 use Rattle.smx_tables.proofs.HungLemmas.{none_went}
@@ -44,12 +48,8 @@ released_already t s sound none =
 
 -- with one id more, just that one is listed beside those that were
 pub listed_one_more : (ids : List ℕ) (id x : ℕ) → is_listed (ids ++ id ∷ []) x ≡ (is_listed ids x || eqb x id)
-listed_one_more [] id x = or_none (eqb x id) where
-  or_none : (b : Bool) → (b || false) ≡ b
-  or_none true = refl
-  or_none false = refl
-listed_one_more (i ∷ ids) id x =
-    elim (cases_Bool (eqb x i)) [ inl t ↦ rw t refl | inr f ↦ rw f (listed_one_more ids id x) ]
+listed_one_more ids id x = list_any-append (λ i. eqb x i) ids (id ∷ [])
+    ∙ ap (λ (b : Bool). is_listed ids x || b) (or-false (eqb x id))
 
 one_of_more : (ids : List ℕ) (id : ℕ) (l : Link) → is_one_of (ids ++ id ∷ []) l ≡ (is_one_of ids l || eqb l.id id)
 one_of_more ids id l = listed_one_more ids id l.id
@@ -97,7 +97,7 @@ pub found_by : (links : List Link) (id : ℕ) (l : Link) → AreLowersApart link
 found_by links id l apart rise found = λ i d lt.
     let k = get_or links i d in
     let by_id : eqb k.id id ≡ true → k ≡ l = λ t.
-    same_found k (sym (found_itself (λ m. eqb m.id id) links i d (once_id id links rise) lt t) ∙ found) in
+    same_Some k l (sym (found_itself (λ m. eqb m.id id) links i d (once_id id links rise) lt t) ∙ found) in
     let has = found_has (λ m. find (λ n. same_stream n.lower m.lower) links ≡ Some m) (λ m. eqb m.id id) links l
     (recursion_from_All (λ m. find (λ n. same_stream n.lower m.lower) links ≡ Some m) links
     (λ j e in_range. found_itself (λ n. same_stream n.lower (get_or links j e).lower) links j e
@@ -105,10 +105,8 @@ found_by links id l apart rise found = λ i d lt.
     same_test (eqb k.id id) (same_stream k.lower l.lower)
     (λ t. ap (λ (m : Link). same_stream m.lower l.lower) (by_id t) ∙ stream_self l.lower)
     (λ t. ap (λ (m : Link). eqb m.id id)
-    (same_found k (sym (found_itself (λ n. same_stream n.lower l.lower) links i d (once_below l.lower links apart) lt t)
-    ∙ has.1)) ∙ has.0) where
-      same_found : (k : Link) → ◌≡◌ {A = Option Link} (Some k) (Some l) → k ≡ l
-      same_found k e = cc
+    (same_Some k l (sym (found_itself (λ n. same_stream n.lower l.lower) links i d (once_below l.lower links apart) lt t)
+    ∙ has.1)) ∙ has.0)
 
 -- one id more, whose link's lower stream is released
 pub released_more : (links : List Link) (ids : List ℕ) (id : ℕ) (l : Link) (t new : StreamTable) → AreLowersApart links
@@ -147,7 +145,4 @@ released_none links ids id t none held = subst (λ (ls : List Link). AreHeld ls 
 
 -- none yet
 pub released_at_first : (links : List Link) (t : StreamTable) → AreHeld links t → AreHeld (others_of [] links) t
-released_at_first links t h = subst (λ (ls : List Link). AreHeld ls t) (sym (all links)) h where
-  all : (ls : List Link) → others_of [] ls ≡ ls
-  all [] = refl
-  all (l ∷ ls) = ap (λ (ks : List Link). l ∷ ks) (all ls)
+released_at_first links t h = subst (λ (ls : List Link). AreHeld ls t) (sym (none_of_none links)) h

@@ -65,13 +65,6 @@ fewer_left fds d next h = let e = ap length (left_is fds d.process (d.fd + 1) ne
 -- what a walk says
 pub ruleset walk_of_fds = (all_left, left_all, numbered, lines_more, fewer_left)
 
--- all of them
-pub taken_all : {Y : Type 0} (lines : List Y) (i : ℕ) → length lines ≤ i → take i lines ≡ lines
-taken_all {Y = Y} [] zero le = refl
-taken_all {Y = Y} [] (suc j) le = refl
-taken_all {Y = Y} (l ∷ ls) zero le = absurd (omega arith)
-taken_all {Y = Y} (l ∷ ls) (suc j) le = ap (λ (zs : List Y). l ∷ zs) (taken_all ls j (omega arith))
-
 -- one line more that is the right one
 pub shown_more : {Y : Type 0} (f : Descriptor → Y) (fds : List Descriptor) (lines : List Y) (i : ℕ) (d : Descriptor)
     (y : Y) (next : Option Descriptor) → i < length lines → y ≡ get_or lines i y → y ≡ f d
