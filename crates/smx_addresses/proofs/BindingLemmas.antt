@@ -73,11 +73,7 @@ either_any d a m (b ∷ bs) = rw (either_any d a m bs)
     (by (b.driver == d) (b.addr == a) (b.minor == m) (list_any (λ c. is_key (address_of c) (d, a)) bs)
     (list_any (λ c. is_key (stream_of c) (d, m)) bs)) where
       by : (p q r x y : Bool) → ((p && (q || r)) || (x || y)) ≡ (((p && q) || x) || ((p && r) || y))
-      by true true r x y = refl
-      by true false true true y = refl
-      by true false true false y = refl
-      by true false false x y = refl
-      by false q r x y = refl
+      by p q r x y = grind (arith, nat_tests)
 
 -- the test of both, by the two tables
 pub taken_either : (xs ys : Entries) (bs : List Binding) (d a m : ℕ) → bindings_of xs ≡ bs → AreBindings xs ys

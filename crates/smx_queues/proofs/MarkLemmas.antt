@@ -11,6 +11,7 @@ use Rattle.std.proofs.lemmas.List.{get_or-set_other, get_or-take, get_or_default
 use Rattle.std.proofs.lemmas.List.{length-drop, length-map, length-set, length-take, map-set}
 use Rattle.std.proofs.lemmas.Option.{slice_get_within}
 use Rattle.std.proofs.lemmas.List.{drop-map, get_or-drop}
+use Rattle.std.proofs.lemmas.Bool.Decides.{nat_tests}
 use Rattle.memchr.specs.Find.{IsFirstByte, is_byte}
 use Rattle.smx_types.specs.declared.stream.Place.{Place}
 use Rattle.smx_model.specs.Configuration.{place_before, same_place}
@@ -117,8 +118,7 @@ pub marked_still : (p : Place) (places : List Place) (bytes : List ℕ) (i : ℕ
 marked_still p places bytes i t q law rise at many seen h = looks p places bytes i 1 t q law rise at many seen
     ∙ (ap (cond (same_place p q) true) h ∙ either (same_place p q)) where
       either : (s : Bool) → cond s true true ≡ true
-      either true = refl
-      either false = refl
+      either s = grind (arith, nat_tests)
 
 -- where a byte is set to 0, all marks but that of its place are there
 pub cleared_at : (p : Place) (places : List Place) (bytes : List ℕ) (i : ℕ) (t : MarkList) (q : Place) → AreOfOnePlace
@@ -128,10 +128,7 @@ pub cleared_at : (p : Place) (places : List Place) (bytes : List ℕ) (i : ℕ) 
 cleared_at p places bytes i t q law rise at many seen =
     looks p places bytes i 0 t q law rise at many seen ∙ but (same_place p q) (has_mark t q) where
       but : (s h : Bool) → cond s false h ≡ (h && not s)
-      but true true = refl
-      but true false = refl
-      but false true = refl
-      but false false = refl
+      but s h = grind (arith, nat_tests)
 
 -- a place that the drivers don't have has no mark to clear
 pub nothing_cleared : (p : Place) (places : List Place) (bytes : List ℕ) (t : MarkList) (q : Place)

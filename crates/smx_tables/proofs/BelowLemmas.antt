@@ -1,6 +1,6 @@
 -- What the read sides below listed links hold goes, link by link.
 use Rattle.std.proofs.Common.{◌≡◌, ℕ, Bool, true, false, ◌&&◌, ◌||◌, not, eqb, List, [], ◌∷◌, ◌++◌, filter, find}
-use Rattle.std.proofs.Common.{Option, Some, None, refl, sym, ap, ◌∙◌, inl, inr}
+use Rattle.std.proofs.Common.{arith, Option, Some, None, refl, sym, ap, ◌∙◌, inl, inr}
 use Rattle.std.proofs.Math.Bool.{and-false, or-false}
 use Rattle.std.specs.Prelude.{Vec}
 use Rattle.std.specs.List.{AllByRecursion}
@@ -8,6 +8,7 @@ use Rattle.std.specs.Option.{option_map_or}
 use Rattle.std.proofs.lemmas.Bool.{cases_Bool, or_left, or_right}
 use Rattle.std.proofs.lemmas.List.Elements.{filter_agree, recursion_from_All}
 use Rattle.std.proofs.lemmas.Option.{same_Some}
+use Rattle.std.proofs.lemmas.Bool.Decides.{nat_tests}
 use Rattle.smx_types.specs.declared.link.Link.{Link}
 use Rattle.smx_types.specs.declared.stream.Place.{Place}
 use Rattle.smx_types.specs.declared.stream.Side.TheVariants as side
@@ -103,8 +104,7 @@ none_listed_yet place links (x ∷ xs) =
 -- ---- lists without them
 
 not_either : (a b : Bool) → (not a && not b) ≡ not (a || b)
-not_either true b = refl
-not_either false b = refl
+not_either a b = grind (arith, nat_tests)
 
 -- without what passes one test more
 pub tests_less : {X : Type 0} (goes one more : X → Bool) (xs ys zs : List X) → ((x : X) → more x ≡ (goes x || one x))

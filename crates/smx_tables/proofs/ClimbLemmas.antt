@@ -1,9 +1,10 @@
 -- A stream stands by a descriptor, or by the one link above it.
 use Rattle.std.proofs.Common.{◌≡◌, ℕ, zero, suc, Bool, true, false, ◌&&◌, ◌||◌, not, List, find, Option, Some, None}
-use Rattle.std.proofs.Common.{refl, sym}
+use Rattle.std.proofs.Common.{arith, refl, sym}
 use Rattle.std.proofs.Math.Bool.{and_comm, or-false}
 use Rattle.std.specs.Option.{option_map_or}
 use Rattle.std.proofs.lemmas.Bool.{or_left}
+use Rattle.std.proofs.lemmas.Bool.Decides.{nat_tests}
 use Rattle.smx_types.specs.declared.link.Link.{Link}
 use Rattle.smx_types.specs.declared.stream.Descriptor.{Descriptor}
 use Rattle.smx_types.specs.declared.stream.StreamId.{StreamId}
@@ -20,10 +21,7 @@ stands_by fds links zero (Some l) = is_persistent l
 stands_by fds links (suc n) (Some l) = is_persistent l || stands_within fds links n l.ctl
 
 between : (a b c : Bool) → (a && (b && c)) ≡ (b && (a && c))
-between true true c = refl
-between true false c = refl
-between false true c = refl
-between false false c = refl
+between a b c = grind (arith, nat_tests)
 
 -- one climb more finds what fewer find
 pub more : (fds : List Descriptor) (links : List Link) (n : ℕ) (s : StreamId) → stands_within fds links n s ≡ true
@@ -39,9 +37,7 @@ climbed false false false above h = refl
 
 first_climb : (named persistent above : Bool)
     → ((named || persistent) || (not persistent && above)) ≡ (named || (persistent || above))
-first_climb true persistent above = refl
-first_climb false true above = refl
-first_climb false false above = refl
+first_climb named persistent above = grind (arith, nat_tests)
 
 by_more : (fds : List Descriptor) (links : List Link) (n : ℕ) (named : Bool) (o : Option Link)
     → ((named || stands_by fds links n o)

@@ -1,10 +1,11 @@
 -- What dead streams hold goes, stream by stream.
 use Rattle.std.proofs.Common.{◌≡◌, ℕ, ◌+◌, Bool, true, false, ◌&&◌, ◌||◌, not, List, [], ◌∷◌, ◌++◌, filter, take, refl}
-use Rattle.std.proofs.Common.{sym, ap, ◌∙◌, inl, inr}
+use Rattle.std.proofs.Common.{arith, sym, ap, ◌∙◌, inl, inr}
 use Rattle.std.proofs.Math.Bool.{and-false, or-false}
 use Rattle.std.specs.List.{list_all, list_any}
 use Rattle.std.proofs.lemmas.Bool.{and_parts, cases_Bool, false≢true}
 use Rattle.std.proofs.lemmas.List.Elements.{filter_agree}
+use Rattle.std.proofs.lemmas.Bool.Decides.{nat_tests}
 use Rattle.smx_types.specs.declared.stream.StreamId.{StreamId}
 use Rattle.smx_model.specs.Configuration.{same_stream}
 use Rattle.smx_streams.specs.StreamTables.{StreamTable, exists as is_there}
@@ -57,9 +58,7 @@ stream_less stream t seen i s xs ys zs taken_one e f =
     tests_less (λ x. is_dead t (take i seen) (stream x)) (λ x. is_dead t (s ∷ []) (stream x))
     (λ x. is_dead t (take (i + 1) seen) (stream x)) xs ys zs (λ x. more (stream x)) e f where
       parts : (gone a b : Bool) → (gone && (a || b)) ≡ ((gone && a) || (gone && (b || false)))
-      parts true true b = refl
-      parts true false b = sym (or-false b)
-      parts false a b = refl
+      parts gone a b = grind (arith, nat_tests)
 
       more : (x : StreamId) → is_dead t (take (i + 1) seen) x ≡ (is_dead t (take i seen) x || is_dead t (s ∷ []) x)
       more x = ap (λ (ss : List StreamId). is_dead t ss x) taken_one
@@ -79,8 +78,7 @@ dead_is_gone : (t : StreamTable) (seen : List StreamId) (s : StreamId) → is_th
     → is_dead t seen s ≡ not (is_there t s)
 dead_is_gone t seen s h = table (is_there t s) (list_any (same_stream s) seen) h where
   table : (there listed : Bool) → (there || listed) ≡ true → (not there && listed) ≡ not there
-  table true listed e = refl
-  table false listed e = e
+  table there listed e = grind (arith, nat_tests)
 
 -- where each stream is there or was seen, leaving out the dead ones seen leaves out all that are not there
 pub dead_are_gone : {X : Type 0} (stream : X → StreamId) (t : StreamTable) (seen : List StreamId) (xs : List X)

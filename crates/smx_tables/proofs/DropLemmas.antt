@@ -144,17 +144,7 @@ on_both_sides stream sides s side.Write =
     table (same_stream s stream) (is_side sides side.Write) (is_side sides side.Read) where
       table : (a v r : Bool) → (a && v) ≡ ((v && (a && true)) || (r && (a && false)))
       table a v r = grind (arith, nat_tests)
-on_both_sides stream sides s side.Read =
-    table (same_stream s stream) (is_side sides side.Write) (is_side sides side.Read) where
-      table : (a v r : Bool) → (a && r) ≡ ((v && (a && false)) || (r && (a && true)))
-      table true true true = refl
-      table true true false = refl
-      table true false true = refl
-      table true false false = refl
-      table false true true = refl
-      table false true false = refl
-      table false false true = refl
-      table false false false = refl
+on_both_sides stream sides s side.Read = grind (arith, nat_tests)
 
 -- ---- sorted numbers
 

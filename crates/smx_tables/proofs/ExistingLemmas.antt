@@ -174,12 +174,7 @@ by_link t s (l ∷ ls) h b = elim (cases_Bool (same_stream l.lower s)) [
   climbed k = not (is_persistent k) && (same_stream k.lower s && t k)
 
   one_less : (a b c d : Bool) → (a || b) ≡ true → ((c || a) || (d || b)) ≡ true
-  one_less true b true d e = refl
-  one_less true b false d e = refl
-  one_less false b true d e = refl
-  one_less false true false true e = refl
-  one_less false true false false e = refl
-  one_less false false c d e = absurd cc
+  one_less a b c d e = grind (arith, nat_tests)
 
 -- the controlling stream of each ordinary link that holds its lower stream is there
 abbrev pub IsTight : StreamTable → Link → Type 0
@@ -268,8 +263,7 @@ pub held_is_below : (links : List Link) (t : StreamTable) (s : StreamId) → Are
     → nat_lt 0 (number_at t.holds s) ≡ is_below links s
 held_is_below links t s h = rw (h s) (one (is_below links s)) where
   one : (b : Bool) → nat_lt 0 (if b then 1 else 0) ≡ b
-  one true = refl
-  one false = refl
+  one b = grind (arith, nat_tests)
 
 -- where each stream below a link has a hold, a stream is there if a descriptor names it or a link is above it
 pub there_is : (links : List Link) (t : StreamTable) (s : StreamId) → AreHeld links t
@@ -315,8 +309,7 @@ swept_is_linked drivers c t same held h =
 pub holds_few : (links : List Link) (s : StreamId) → holds_of links s ≤ 1
 holds_few links s = one (is_below links s) where
   one : (b : Bool) → (if b then 1 else 0) ≤ 1
-  one true = let k : 1 ≤ 1 = omega arith in k
-  one false = let k : 0 ≤ 1 = omega arith in k
+  one b = grind (arith, nat_tests)
 
 below_more : (links : List Link) (l : Link) (s : StreamId)
     → is_below (links ++ l ∷ []) s ≡ (is_below links s || same_stream l.lower s)
@@ -346,12 +339,10 @@ held_by_one_more old new ctl lower kind t u free is held h = λ s.
       none = held lower ∙ ap (λ (b : Bool). if b then 1 else 0) free
 
       one : (b : Bool) → ◌≡◌ {A = ℕ} (0 + 1) (if (b || true) then 1 else 0)
-      one true = refl
-      one false = refl
+      one b = grind (arith, nat_tests)
 
       as_before : (b : Bool) → ◌≡◌ {A = ℕ} (if b then 1 else 0) (if (b || false) then 1 else 0)
-      as_before true = refl
-      as_before false = refl
+      as_before b = grind (arith, nat_tests)
 
       by : (s : StreamId) (v : Bool) → (if v then number_at t.holds lower + 1 else number_at t.holds s)
           ≡ (if (is_below old.links s || v) then 1 else 0)

@@ -27,12 +27,7 @@ all_tight : (t : StreamTable) (ls : List Link) → list_any (is_loose t) ls ≡ 
 all_tight t [] h = tt
 all_tight t (l ∷ ls) h =
     let p = or_parts (is_loose t l) (list_any (is_loose t) ls) h in
-    ((λ held o. tight (is_persistent l) (is_held t l) (is_there t l.ctl) p.0 held o), all_tight t ls p.1) where
-      tight : (a b c : Bool) → (not a && (b && not c)) ≡ false → b ≡ true → a ≡ false → c ≡ true
-      tight true b c h u o = absurd cc
-      tight false false c h u o = absurd cc
-      tight false true true h u o = refl
-      tight false true false h u o = absurd cc
+    ((λ held o. grind (arith, nat_tests, p.0)), all_tight t ls p.1)
 
 held_below : (links : List Link) (n : ℕ) (t : StreamTable) (s : StreamId) → IsReleasing links n t
     → nat_lt 0 (number_at t.holds s) ≡ true → is_below links s ≡ true
@@ -77,9 +72,7 @@ below_held : (t : StreamTable) (s : StreamId) (ls : List Link)
     → is_below (filter (is_held t) ls) s ≡ (is_below ls s && nat_lt 0 (number_at t.holds s))
 below_held t s ls = any_kept (λ l. same_stream l.lower s) (is_held t) ls ∙ both ls where
   twice : (u b : Bool) → (u || (b && u)) ≡ u
-  twice true b = refl
-  twice false true = refl
-  twice false false = refl
+  twice u b = grind (arith, nat_tests)
 
   join : (a g u b r : Bool) → (a ≡ true → g ≡ u) → r ≡ (b && u) → ((a && g) || r) ≡ ((a || b) && u)
   join true g u b r f e = ap (λ (x : Bool). x || r) (f refl) ∙ ap (λ (x : Bool). u || x) e ∙ twice u b
@@ -116,9 +109,7 @@ left_is_linked t (l ∷ ls) h =
       | inr n ↦ rw n rest
     ] where
       tight : (a c : Bool) → (not a && not c) ≡ false → (a || c) ≡ true
-      tight true c h = refl
-      tight false true h = refl
-      tight false false h = absurd cc
+      tight a c h = grind (arith, nat_tests)
 
 -- the links that are left, by the ids of the others
 pub left_links : (links : List Link) (ids : List ℕ) (t : StreamTable) → IsIdsRising links

@@ -8,6 +8,7 @@ use Rattle.std.proofs.lemmas.Bool.{cases_Bool}
 use Rattle.std.proofs.lemmas.List.Elements.{recursion_from_All}
 use Rattle.std.proofs.lemmas.List.Folds.{list_any-append}
 use Rattle.std.proofs.lemmas.Option.{same_Some}
+use Rattle.std.proofs.lemmas.Bool.Decides.{nat_tests}
 use Rattle.smx_types.specs.declared.link.Link.{Link}
 use Rattle.smx_types.specs.declared.stream.StreamId.{StreamId}
 use Rattle.smx_model.specs.Configuration.{same_stream}
@@ -64,14 +65,7 @@ drop_one false o p g v r less e f h = h
 drop_one true o p g v r less e f h = ap (λ (x : Bool). not x || less) (e ∙ ap (λ (x : Bool). o || x) (f refl))
     ∙ ap (λ (x : Bool). not (o || v) || x) h ∙ table o v r where
       table : (x y z : Bool) → (not (x || y) || (z && not y)) ≡ ((not x || z) && not y)
-      table true true true = refl
-      table true true false = refl
-      table true false true = refl
-      table true false false = refl
-      table false true true = refl
-      table false true false = refl
-      table false false true = refl
-      table false false false = refl
+      table x y z = grind (arith, nat_tests)
 
 below_one_less : (ids : List ℕ) (id : ℕ) (s x : StreamId) (ls : List Link) → AllByRecursion (IsFoundBy id s) ls
     → is_below (others_of (ids ++ id ∷ []) ls) x ≡ (is_below (others_of ids ls) x && not (same_stream x s))
@@ -117,12 +111,10 @@ released_more links ids id l t new apart rise found held h = λ x.
     (recursion_from_All (IsFoundBy id l.lower) links (found_by links id l apart rise found)) in
     h.holds x ∙ by x (same_stream x l.lower) ∙ ap (λ (b : Bool). if b then 1 else 0) (sym less) where
       none_of : (b : Bool) → ◌≡◌ {A = ℕ} 0 (if (b && false) then 1 else 0)
-      none_of true = refl
-      none_of false = refl
+      none_of b = grind (arith, nat_tests)
 
       all_of : (b : Bool) → ◌≡◌ {A = ℕ} (if b then 1 else 0) (if (b && true) then 1 else 0)
-      all_of true = refl
-      all_of false = refl
+      all_of b = grind (arith, nat_tests)
 
       by : (x : StreamId) (v : Bool) → (if v then 0 else number_at t.holds x)
           ≡ (if (is_below (others_of ids links) x && not v) then 1 else 0)

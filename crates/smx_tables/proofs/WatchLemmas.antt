@@ -184,9 +184,7 @@ none_by t ss ctl (l ∷ ls) none h =
     (none_by t ss ctl ls (fewer (not (is_there t ctl)) (eqb l.ctl.driver ctl.driver) (is_upper ls ctl.driver) none)
     p.1) where
       fewer : (g x r : Bool) → (g && (x || r)) ≡ false → (g && r) ≡ false
-      fewer true true r e = absurd cc
-      fewer true false r e = e
-      fewer false x r e = refl
+      fewer g x r e = grind (arith, nat_tests)
 
       not_by : (it loose : Bool) → same_stream l.ctl ctl ≡ it → is_loose t l ≡ loose → (it && loose) ≡ false
       not_by true true a b =
