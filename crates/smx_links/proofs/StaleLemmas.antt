@@ -190,11 +190,7 @@ cleared_masks trans ws vs lost stale old links fits m alike which cleared a b =
           ∙ sym (led_alike keep links closed a b (ap not e))
 
       at_first : (k : Link) → keep k.ctl.driver ≡ is_before (is_done stale 0) 0 0 k
-      at_first k = first (is_set stale k.ctl.driver) where
-        first : (s : Bool)
-            → not s ≡ ((not s || nat_lt k.ctl.driver 0) || ((eqb k.ctl.driver 0) && nat_lt k.lower.driver 0))
-        first true = grind (arith, nat_tests)
-        first false = refl
+      at_first k = grind (arith, nat_tests)
 
       same : filter (λ k. keep k.ctl.driver) links ≡ filter (is_before (is_done stale 0) 0 0) links
       same = filter_agree (λ k. keep k.ctl.driver) (is_before (is_done stale 0) 0 0) at_first links
