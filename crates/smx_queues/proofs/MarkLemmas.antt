@@ -116,9 +116,7 @@ pub marked_still : (p : Place) (places : List Place) (bytes : List ℕ) (i : ℕ
     → marked_of places bytes ≡ t.marked → has_mark t q ≡ true
     → list_any (same_place q) (marked_of places (set bytes i 1)) ≡ true
 marked_still p places bytes i t q law rise at many seen h = looks p places bytes i 1 t q law rise at many seen
-    ∙ (ap (cond (same_place p q) true) h ∙ either (same_place p q)) where
-      either : (s : Bool) → cond s true true ≡ true
-      either s = grind (arith, nat_tests)
+    ∙ (ap (cond (same_place p q) true) h ∙ grind (arith, nat_tests))
 
 -- where a byte is set to 0, all marks but that of its place are there
 pub cleared_at : (p : Place) (places : List Place) (bytes : List ℕ) (i : ℕ) (t : MarkList) (q : Place) → AreOfOnePlace
@@ -126,9 +124,7 @@ pub cleared_at : (p : Place) (places : List Place) (bytes : List ℕ) (i : ℕ) 
     → marked_of places bytes ≡ t.marked → list_any (same_place q) (marked_of places (set bytes i 0))
     ≡ all_but (has_mark t) p q
 cleared_at p places bytes i t q law rise at many seen =
-    looks p places bytes i 0 t q law rise at many seen ∙ but (same_place p q) (has_mark t q) where
-      but : (s h : Bool) → cond s false h ≡ (h && not s)
-      but s h = grind (arith, nat_tests)
+    looks p places bytes i 0 t q law rise at many seen ∙ grind (arith, nat_tests)
 
 -- a place that the drivers don't have has no mark to clear
 pub nothing_cleared : (p : Place) (places : List Place) (bytes : List ℕ) (t : MarkList) (q : Place)

@@ -127,9 +127,7 @@ sides_before driver (suc n) m le =
     )
 
 two_rise : (driver n : ℕ) → IsRising place_before (place_at driver n side.Write ∷ place_at driver n side.Read ∷ [])
-two_rise driver n = ((write_first driver n, tt), (tt, tt)) where
-  write_first : (d m : ℕ) → place_before (place_at d m side.Write) (place_at d m side.Read) ≡ true
-  write_first d m = grind (arith, nat_tests)
+two_rise driver n = ((grind (arith, nat_tests), tt), (tt, tt))
 
 sides_rise : (driver n : ℕ) → IsRising place_before (sides_of driver n)
 sides_rise driver zero = tt

@@ -85,9 +85,7 @@ names_some s p n (d ∷ ds) h = elim (cases_Bool (is_fd p n d)) [
 -- a stream with a record exists
 pub used_exists : (t : StreamTable) (s : StreamId) (opens : ℕ) → opens ≡ names_of s t.fds
     → nat_lt 0 (opens + number_at t.holds s) ≡ exists t s
-used_exists t s opens e = rw (e, named_is_some s t.fds) (either (names_of s t.fds) (number_at t.holds s)) where
-  either : (x y : ℕ) → nat_lt 0 (x + y) ≡ (nat_lt 0 x || nat_lt 0 y)
-  either x y = grind (arith, nat_tests)
+used_exists t s opens e = rw (e, named_is_some s t.fds) (grind (arith, nat_tests))
 
 -- minors
 

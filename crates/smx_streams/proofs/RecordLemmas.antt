@@ -315,10 +315,7 @@ pub key_tells : (grid : Grid) (records : Slab Record) (s : StreamId) → AreReco
     → is_some (key_at grid s)
     ≡ nat_lt 0 (number_at (uses_of grid records).opens s + number_at (uses_of grid records).holds s)
 key_tells grid records s whole = rw (opens_at grid records s, holds_at grid records s) (by (key_at grid s) refl) where
-  some_used : (opens holds : ℕ) → 0 < opens + holds → true ≡ nat_lt 0 (opens + holds)
-  some_used opens holds used = grind (arith, nat_tests)
-
   by : (o : Option ℕ) → key_at grid s ≡ o → is_some o
       ≡ nat_lt 0 (opens_of (record_of_key records o) + holds_of (record_of_key records o))
   by None e = refl
-  by (Some key) e = let there = whole.listed s key e in rw there.1 (some_used there.0.opens there.0.holds there.2.used)
+  by (Some key) e = let there = whole.listed s key e in rw there.1 (grind (arith, nat_tests, there.2.used))

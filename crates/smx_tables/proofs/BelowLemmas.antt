@@ -47,13 +47,8 @@ below_found id (k ∷ ks) l e = elim (cases_Bool (eqb k.id id)) [
 ]
 
 table : (r old b v : Bool) → (v ≡ true → b ≡ true) → (r && (old || (b && v))) ≡ ((r && old) || (v && r))
-table true true b v h = refl
-table true false true true h = refl
-table true false false true h = h refl
-table true false true false h = refl
-table true false false false h = refl
-table false old b true h = refl
-table false old b false h = refl
+table r old b true h = let below = h refl in grind (arith, nat_tests)
+table r old b false h = grind (arith, nat_tests)
 
 abbrev read_side : StreamId → Place
 read_side s = record { stream = s; side = side.Read }

@@ -30,10 +30,8 @@ more fds links n s h = or_left _ _ h
 
 climbed : (named persistent less above : Bool) → (less ≡ true → above ≡ true)
     → ((named || (persistent || less)) || (not persistent && above)) ≡ (named || (persistent || above))
-climbed true persistent less above h = refl
-climbed false true less above h = refl
-climbed false false true above h = sym (h refl)
-climbed false false false above h = refl
+climbed named persistent true above h = let stands = h refl in grind (arith, nat_tests)
+climbed named persistent false above h = grind (arith, nat_tests)
 
 first_climb : (named persistent above : Bool)
     → ((named || persistent) || (not persistent && above)) ≡ (named || (persistent || above))

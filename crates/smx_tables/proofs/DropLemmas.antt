@@ -140,10 +140,7 @@ place_and_rest (h ∷ hs) p = elim (cases_Bool (is_at p h))
 pub on_both_sides : (stream : StreamId) (sides : Sides) (s : StreamId) (x : Side)
     → (same_stream s stream && is_side sides x)
     ≡ (is_flushed_at stream sides side.Write (at s x) || is_flushed_at stream sides side.Read (at s x))
-on_both_sides stream sides s side.Write =
-    table (same_stream s stream) (is_side sides side.Write) (is_side sides side.Read) where
-      table : (a v r : Bool) → (a && v) ≡ ((v && (a && true)) || (r && (a && false)))
-      table a v r = grind (arith, nat_tests)
+on_both_sides stream sides s side.Write = grind (arith, nat_tests)
 on_both_sides stream sides s side.Read = grind (arith, nat_tests)
 
 -- ---- sorted numbers

@@ -261,9 +261,7 @@ there_exists drivers c t s climbs path join sound known same up h there =
 -- a stream is held exactly where it is below a link
 pub held_is_below : (links : List Link) (t : StreamTable) (s : StreamId) → AreHeld links t
     → nat_lt 0 (number_at t.holds s) ≡ is_below links s
-held_is_below links t s h = rw (h s) (one (is_below links s)) where
-  one : (b : Bool) → nat_lt 0 (if b then 1 else 0) ≡ b
-  one b = grind (arith, nat_tests)
+held_is_below links t s h = rw (h s) (grind (arith, nat_tests))
 
 -- where each stream below a link has a hold, a stream is there if a descriptor names it or a link is above it
 pub there_is : (links : List Link) (t : StreamTable) (s : StreamId) → AreHeld links t
@@ -307,9 +305,7 @@ swept_is_linked drivers c t same held h =
 
 -- a stream has one hold at most
 pub holds_few : (links : List Link) (s : StreamId) → holds_of links s ≤ 1
-holds_few links s = one (is_below links s) where
-  one : (b : Bool) → (if b then 1 else 0) ≤ 1
-  one b = grind (arith, nat_tests)
+holds_few links s = grind (arith, nat_tests)
 
 below_more : (links : List Link) (l : Link) (s : StreamId)
     → is_below (links ++ l ∷ []) s ≡ (is_below links s || same_stream l.lower s)
@@ -338,16 +334,10 @@ held_by_one_more old new ctl lower kind t u free is held h = λ s.
       none : number_at t.holds lower ≡ 0
       none = held lower ∙ ap (λ (b : Bool). if b then 1 else 0) free
 
-      one : (b : Bool) → ◌≡◌ {A = ℕ} (0 + 1) (if (b || true) then 1 else 0)
-      one b = grind (arith, nat_tests)
-
-      as_before : (b : Bool) → ◌≡◌ {A = ℕ} (if b then 1 else 0) (if (b || false) then 1 else 0)
-      as_before b = grind (arith, nat_tests)
-
       by : (s : StreamId) (v : Bool) → (if v then number_at t.holds lower + 1 else number_at t.holds s)
           ≡ (if (is_below old.links s || v) then 1 else 0)
-      by s true = ap (λ (n : ℕ). n + 1) none ∙ one (is_below old.links s)
-      by s false = held s ∙ as_before (is_below old.links s)
+      by s true = ap (λ (n : ℕ). n + 1) none ∙ grind (arith, nat_tests)
+      by s false = held s ∙ grind (arith, nat_tests)
 
 -- the stream of a descriptor is there
 pub fd_is_there : (t : StreamTable) (process fd : ℕ) (s : StreamId)

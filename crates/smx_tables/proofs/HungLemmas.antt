@@ -42,11 +42,8 @@ pub there_before : (t u : StreamTable) (s x : StreamId) (n : ℕ) → HasHolds t
     → is_there u x ≡ true → is_there t x ≡ true
 there_before t u s x n h few there = elim (or_cases (is_named u.fds x) (nat_lt 0 (number_at u.holds x)) there) [
   | inl a ↦ or_left _ _ (ap (λ (fds : List Descriptor). is_named fds x) (sym h.fds) ∙ a)
-  | inr b ↦ or_right _ _ (some (number_at u.holds x) (number_at t.holds x) (not_more (same_stream x s) refl) b)
+  | inr b ↦ or_right (is_named t.fds x) _ (grind (arith, nat_tests, not_more (same_stream x s) refl))
 ] where
-  some : (m k : ℕ) → m ≤ k → nat_lt 0 m ≡ true → nat_lt 0 k ≡ true
-  some m k le lt = grind (arith, nat_tests)
-
   not_more : (b : Bool) → same_stream x s ≡ b → number_at u.holds x ≤ number_at t.holds x
   not_more true e =
       let now : number_at u.holds x ≡ n = h.holds x ∙ rw e refl in

@@ -31,10 +31,7 @@ all_tight t (l ∷ ls) h =
 
 held_below : (links : List Link) (n : ℕ) (t : StreamTable) (s : StreamId) → IsReleasing links n t
     → nat_lt 0 (number_at t.holds s) ≡ true → is_below links s ≡ true
-held_below links n t s h up = let few = h.once s in below (is_below links s) few up where
-  below : (b : Bool) → number_at t.holds s ≤ (if b then 1 else 0) → nat_lt 0 (number_at t.holds s) ≡ true → b ≡ true
-  below true few up = refl
-  below false few up = let none : number_at t.holds s ≤ 0 = few in absurd (grind (arith, nat_tests))
+held_below links n t s h up = grind (arith, nat_tests, h.once s)
 
 -- the links whose lower streams were released are those that are orphaned
 pub released_are_orphaned : (drivers : List DriverSpec) (c : Configuration) (t : StreamTable) → DoClimbsSuffice
@@ -88,14 +85,7 @@ below_held t s ls = any_kept (λ l. same_stream l.lower s) (is_held t) ls ∙ bo
 -- what is left is held
 pub held_is_left : (links : List Link) (n : ℕ) (t : StreamTable) → IsReleasing links n t
     → AreHeld (filter (is_held t) links) t
-held_is_left links n t h = λ s. at_once (is_below links s) (number_at t.holds s) (h.once s)
-    ∙ ap (λ (b : Bool). if b then 1 else 0) (sym (below_held t s links)) where
-      at_once : (b : Bool) (m : ℕ) → m ≤ (if b then 1 else 0) → m ≡ (if (b && nat_lt 0 m) then 1 else 0)
-      at_once true zero few = refl
-      at_once true (suc zero) few = refl
-      at_once true (suc (suc m)) few = absurd (omega arith)
-      at_once false zero few = refl
-      at_once false (suc m) few = absurd (omega arith)
+held_is_left links n t h = λ s. rw (below_held t s links) (grind (arith, nat_tests, h.once s))
 
 -- and none of it is orphaned
 pub left_is_linked : (t : StreamTable) (ls : List Link) → list_any (is_loose t) ls ≡ false
@@ -105,11 +95,9 @@ left_is_linked t (l ∷ ls) h =
     let p = or_parts (is_loose t l) (list_any (is_loose t) ls) h in
     let rest = left_is_linked t ls p.1 in
     elim (cases_Bool (is_held t l)) [
-      | inl u ↦ rw u (and_from _ _ (tight (is_persistent l) (is_there t l.ctl) (rw u at p.0)) rest)
+      | inl u ↦ rw u (and_from (is_persistent l || is_there t l.ctl) _ (grind (arith, nat_tests, p.0)) rest)
       | inr n ↦ rw n rest
-    ] where
-      tight : (a c : Bool) → (not a && not c) ≡ false → (a || c) ≡ true
-      tight a c h = grind (arith, nat_tests)
+    ]
 
 -- the links that are left, by the ids of the others
 pub left_links : (links : List Link) (ids : List ℕ) (t : StreamTable) → IsIdsRising links

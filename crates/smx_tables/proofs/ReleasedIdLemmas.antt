@@ -63,9 +63,7 @@ drop_one : (a o p g v r less : Bool) → p ≡ (o || g) → (a ≡ true → g �
     → ((a && not p) || less) ≡ (((a && not o) || r) && not v)
 drop_one false o p g v r less e f h = h
 drop_one true o p g v r less e f h = ap (λ (x : Bool). not x || less) (e ∙ ap (λ (x : Bool). o || x) (f refl))
-    ∙ ap (λ (x : Bool). not (o || v) || x) h ∙ table o v r where
-      table : (x y z : Bool) → (not (x || y) || (z && not y)) ≡ ((not x || z) && not y)
-      table x y z = grind (arith, nat_tests)
+    ∙ ap (λ (x : Bool). not (o || v) || x) h ∙ grind (arith, nat_tests)
 
 below_one_less : (ids : List ℕ) (id : ℕ) (s x : StreamId) (ls : List Link) → AllByRecursion (IsFoundBy id s) ls
     → is_below (others_of (ids ++ id ∷ []) ls) x ≡ (is_below (others_of ids ls) x && not (same_stream x s))
@@ -110,16 +108,10 @@ released_more links ids id l t new apart rise found held h = λ x.
     let less = below_one_less ids id l.lower x links
     (recursion_from_All (IsFoundBy id l.lower) links (found_by links id l apart rise found)) in
     h.holds x ∙ by x (same_stream x l.lower) ∙ ap (λ (b : Bool). if b then 1 else 0) (sym less) where
-      none_of : (b : Bool) → ◌≡◌ {A = ℕ} 0 (if (b && false) then 1 else 0)
-      none_of b = grind (arith, nat_tests)
-
-      all_of : (b : Bool) → ◌≡◌ {A = ℕ} (if b then 1 else 0) (if (b && true) then 1 else 0)
-      all_of b = grind (arith, nat_tests)
-
       by : (x : StreamId) (v : Bool) → (if v then 0 else number_at t.holds x)
           ≡ (if (is_below (others_of ids links) x && not v) then 1 else 0)
-      by x true = none_of (is_below (others_of ids links) x)
-      by x false = held x ∙ all_of (is_below (others_of ids links) x)
+      by x true = grind (arith, nat_tests)
+      by x false = held x ∙ grind (arith, nat_tests)
 
 -- one id more, which no link has
 pub released_none : (links : List Link) (ids : List ℕ) (id : ℕ) (t : StreamTable) → find (λ k. eqb k.id id) links ≡ None

@@ -144,11 +144,7 @@ released_is_watched links t u vs l once h =
     let here : number_at u.holds l.lower ≡ number_at t.holds l.lower - 1 = h.holds l.lower
     ∙ rw (stream_self l.lower) refl in
     let none : number_at u.holds l.lower ≡ 0 = omega (arith, few, one, here) in
-    or_left _ _
-    (ap not (free (not (is_persistent l)) (is_held u l) (not (is_there u l.ctl)) (ap (nat_lt 0) none))) where
-      free : (p held gone : Bool) → held ≡ false → (p && (held && gone)) ≡ false
-      free true held gone e = rw e refl
-      free false held gone e = refl
+    or_left (not (is_loose u l)) _ (grind (arith, nat_tests))
 
 -- ---- one stream less that may have gone
 
