@@ -95,6 +95,21 @@ new_slot : (queues : List (Option Queue)) (i : ℕ) (q : Queue) → i < length q
     → messages_in (get_or (set queues i (Some q)) i None) ≡ q.messages
 new_slot queues i q below = rw (get_or-set_same queues i (Some q) None below) refl
 
+-- where a place's number has another queue, the lists are those that it makes
+queue_now : (p : PlaceList) (all : List (Option Queue)) (place : Place) (i : ℕ) (t : FlowLists) → IsFlow p all
+    → slice_get p.places i ≡ Some place → (f : IsFound p.drivers all place i) (new : Queue) → new.high ≡ f.q.high
+    → new.low ≡ f.q.low → p.drivers ≡ t.drivers → flow_of p.places (set all i (Some new)) ≡ t.flow
+    → with_mark place new.full (fulls_of p.places all) ≡ t.fulls → IsNow p (set all i (Some new)) t
+queue_now p all place i t h at f new high low drivers flow fulls = record {
+  sound = record {
+    rising = h.rising;
+    queues = still_queues p.drivers p.places all i f.q new h.queues f.slot high low;
+  };
+  drivers = drivers;
+  flow = flow;
+  fulls = fulls_marked place p.places all i new h.rising at f.below ∙ fulls;
+}
+
 -- where the front left the queue of a place's number, the lists are those without its first message
 pub left_now : (p : PlaceList) (all : List (Option Queue)) (n : ℕ) (place : Place) (i : ℕ) (m : Message) → IsFlow p all
     → slice_get p.places i ≡ Some place → slice_get (queue_at all i).messages 0 ≡ Some m
@@ -113,17 +128,8 @@ left_now p all n place i m h at first =
           let bytes : bytes_at (flow_of p.places (set all i (Some (without_front f.q)))) place
           ≡ bytes_of (drop 1 f.q.messages) = ap bytes_of here in
           let mark = mark_found place p.places all i h.rising at ∙ ap is_marked f.slot in
-          record {
-            sound = record {
-              rising = h.rising;
-              queues = still_queues p.drivers p.places all i f.q
-                  (without_front f.q) h.queues f.slot refl refl;
-            };
-            drivers = refl;
-            flow = flow;
-            fulls = fulls_marked place p.places all i (without_front f.q) h.rising at f.below
-                ∙ ap (λ (b : Bool). with_mark place b (fulls_of p.places all)) (rw (mark, ← flow, bytes, ← f.low) refl);
-          }
+          queue_now p all place i _ h at f (without_front f.q) refl refl refl flow
+          (ap (λ (b : Bool). with_mark place b (fulls_of p.places all)) (rw (mark, ← flow, bytes, ← f.low) refl))
 
 -- where a message came to the queue of a place's number, the lists are those with it
 pub arrived_now : (p : PlaceList) (all : List (Option Queue)) (n : ℕ) (place : Place) (i : ℕ) (m : Message)
@@ -142,18 +148,8 @@ arrived_now p all n place i m h at =
           let bytes : bytes_at (flow_of p.places (set all i (Some (with_arrival f.q m)))) place
           ≡ bytes_of (f.q.messages ++ m ∷ []) = ap bytes_of here in
           let mark = mark_found place p.places all i h.rising at ∙ ap is_marked f.slot in
-          record {
-            sound = record {
-              rising = h.rising;
-              queues = still_queues p.drivers p.places all i f.q
-                  (with_arrival f.q m) h.queues f.slot refl refl;
-            };
-            drivers = refl;
-            flow = flow;
-            fulls = fulls_marked place p.places all i (with_arrival f.q m) h.rising at f.below
-                ∙ ap (λ (b : Bool). with_mark place b (fulls_of p.places all))
-                (rw (mark, ← flow, bytes, ← f.high) refl);
-          }
+          queue_now p all place i _ h at f (with_arrival f.q m) refl refl refl flow
+          (ap (λ (b : Bool). with_mark place b (fulls_of p.places all)) (rw (mark, ← flow, bytes, ← f.high) refl))
 
 -- where the queue of a place's number was emptied, the lists are those without the place
 pub emptied_now : (p : PlaceList) (all : List (Option Queue)) (n : ℕ) (place : Place) (i : ℕ) → IsFlow p all
@@ -164,18 +160,10 @@ emptied_now p all n place i h at =
     rw (found_at p.drivers all place i f) (now f) where
       now : (f : IsFound p.drivers all place i)
           → IsNow p (with_queue all i (emptied f.q)) (without_place (lists_of p all n) place)
-      now f = record {
-        sound = record {
-          rising = h.rising;
-          queues = still_queues p.drivers p.places all i f.q
-              (emptied f.q) h.queues f.slot refl refl;
-        };
-        drivers = refl;
-        flow = flow_emptied place p.places all i (emptied f.q) h.rising at f.below refl;
-        fulls = fulls_marked place p.places all i (emptied f.q) h.rising at f.below
-            ∙ filter_agree (λ q. not (same_place place q)) (λ q. not (same_place q place))
-            (λ q. ap not (same_turned place q)) (fulls_of p.places all);
-      }
+      now f = queue_now p all place i _ h at f (emptied f.q) refl refl refl
+          (flow_emptied place p.places all i (emptied f.q) h.rising at f.below refl)
+          (filter_agree (λ q. not (same_place place q)) (λ q. not (same_place q place))
+          (λ q. ap not (same_turned place q)) (fulls_of p.places all))
 
 -- ---- a message moves on
 

@@ -42,7 +42,9 @@ below_found : (id : ℕ) (links : List Link) (l : Link) → find (λ k. eqb k.id
     → is_below links l.lower ≡ true
 below_found id [] l e = absurd cc
 below_found id (k ∷ ks) l e = elim (cases_Bool (eqb k.id id)) [
-  | inl t ↦ or_left _ _ (ap (λ (m : Link). same_stream m.lower l.lower) (same_Some k l (rw t at e)) ∙ stream_self l.lower)
+  | inl t ↦
+      let same = same_Some k l (rw t at e) in
+      or_left _ _ (ap (λ (m : Link). same_stream m.lower l.lower) same ∙ stream_self l.lower)
   | inr f ↦ or_right (same_stream k.lower l.lower) _ (below_found id ks l (rw f at e))
 ]
 
@@ -77,7 +79,8 @@ read_none links ids id none p = ap (λ (b : Bool). same_side p.side side.Read &&
     | inl t ↦ let k : ◌≡◌ {A = Option Link} (Some l) None = rw t at e in absurd cc
     | inr f ↦ elim (cases_Bool (same_stream l.lower p.stream)) [
       | inl a ↦
-          rw a (listed_one_more ids id l.id ∙ (ap (λ (b : Bool). is_listed ids l.id || b) f ∙ or-false (is_listed ids l.id)))
+          rw a (listed_one_more ids id l.id
+          ∙ (ap (λ (b : Bool). is_listed ids l.id || b) f ∙ or-false (is_listed ids l.id)))
       | inr b ↦ rw b (same ls (rw f at e))
     ]
   ]

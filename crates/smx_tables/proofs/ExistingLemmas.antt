@@ -30,7 +30,6 @@ use Rattle.smx_links.specs.LinkLists.{LinkList, IsLinked, refusal, with_link}
 use Rattle.smx_links.specs.declared.link_fault.LinkFault.TheVariants as link_fault
 use Rattle.smx_tables.proofs.AboveLemmas.{stream_is, stream_self}
 use Rattle.smx_tables.proofs.ClimbLemmas.{named_stands}
-
 -- one, or all, that pass a test pass any test that follows from it; and fewer items pass what all did
 pub use Rattle.smx_model.proofs.TestLemmas.{all_filter as all_fewer, all_more as all_weaker, any_more as any_weaker}
 

@@ -3,7 +3,7 @@ use Rattle.std.proofs.Common.{◌≡◌, ℕ, ◌≤◌, Bool, true, false, List
 use Rattle.std.proofs.Common.{inr}
 use Rattle.std.specs.Prelude.{nat_lt}
 use Rattle.std.specs.List.{list_all}
-use Rattle.std.proofs.lemmas.Bool.{and_from, cases_Bool, or_cases, or_left, or_right}
+use Rattle.std.proofs.lemmas.Bool.{and_from, or_cases, or_left, or_right}
 use Rattle.std.proofs.lemmas.Bool.Decides.{nat_tests}
 use Rattle.smx_types.specs.declared.stream.Descriptor.{Descriptor}
 use Rattle.smx_types.specs.declared.stream.StreamId.{StreamId}
@@ -13,7 +13,6 @@ use Rattle.smx_model.specs.Standing.{is_named}
 use Rattle.smx_streams.specs.StreamTables.{StreamTable, AreHungsSound, HasHolds, LeavesHungs, number_at}
 use Rattle.smx_streams.specs.StreamTables.{exists as is_there}
 use Rattle.smx_tables.proofs.AboveLemmas.{stream_is, stream_self}
-
 -- a test that each passes keeps all, and a stricter test after another keeps what it keeps alone
 pub use Rattle.smx_streams.proofs.HungLemmas.{all_pass, twice as stricter}
 

@@ -1,7 +1,5 @@
 -- How long changed lists are.
-use Rattle.std.proofs.Common.{◌≡◌, ◌+◌, ◌≤◌, Bool, List, [], ◌∷◌, length, filter, arith, inl}
-use Rattle.std.proofs.Common.{inr}
-use Rattle.std.proofs.lemmas.Bool.{cases_Bool}
+use Rattle.std.proofs.Common.{◌≡◌, ◌+◌, ◌≤◌, Bool, List, length, filter}
 use Rattle.smx_model.specs.Ordered.{with_inserted}
 use Rattle.smx_addresses.proofs.ListedTableLemmas.{length_inserted}
 use Rattle.smx_links.proofs.CountLemmas.{fewer}

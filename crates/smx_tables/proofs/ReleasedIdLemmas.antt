@@ -1,6 +1,6 @@
 -- The lower streams of links are released by the links' ids.
 use Rattle.std.proofs.Common.{◌≡◌, ℕ, ◌-◌, ◌<◌, ◌≤◌, Bool, true, false, ◌&&◌, ◌||◌, not, eqb, List, [], ◌∷◌, ◌++◌}
-use Rattle.std.proofs.Common.{get_or, find, Option, Some, None, if◌then◌else◌, refl, sym, ap, subst, ◌∙◌, arith}
+use Rattle.std.proofs.Common.{get_or, find, Some, None, if◌then◌else◌, refl, sym, ap, subst, ◌∙◌, arith}
 use Rattle.std.proofs.Common.{inl, inr}
 use Rattle.std.proofs.Math.Bool.{or-false}
 use Rattle.std.specs.List.{All, AllByRecursion, list_any}
@@ -97,8 +97,9 @@ found_by links id l apart rise found = λ i d lt.
     same_test (eqb k.id id) (same_stream k.lower l.lower)
     (λ t. ap (λ (m : Link). same_stream m.lower l.lower) (by_id t) ∙ stream_self l.lower)
     (λ t. ap (λ (m : Link). eqb m.id id)
-    (same_Some k l (sym (found_itself (λ n. same_stream n.lower l.lower) links i d (once_below l.lower links apart) lt t)
-    ∙ has.1)) ∙ has.0)
+    (same_Some k l
+    (sym (found_itself (λ n. same_stream n.lower l.lower) links i d (once_below l.lower links apart) lt t) ∙ has.1))
+    ∙ has.0)
 
 -- one id more, whose link's lower stream is released
 pub released_more : (links : List Link) (ids : List ℕ) (id : ℕ) (l : Link) (t new : StreamTable) → AreLowersApart links
