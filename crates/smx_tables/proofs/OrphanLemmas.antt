@@ -68,19 +68,16 @@ released_are_orphaned drivers c t climbs path join sound known same h none =
 below_held : (t : StreamTable) (s : StreamId) (ls : List Link)
     → is_below (filter (is_held t) ls) s ≡ (is_below ls s && nat_lt 0 (number_at t.holds s))
 below_held t s ls = any_kept (λ l. same_stream l.lower s) (is_held t) ls ∙ both ls where
-  twice : (u b : Bool) → (u || (b && u)) ≡ u
-  twice u b = grind (arith, nat_tests)
-
-  join : (a g u b r : Bool) → (a ≡ true → g ≡ u) → r ≡ (b && u) → ((a && g) || r) ≡ ((a || b) && u)
-  join true g u b r f e = ap (λ (x : Bool). x || r) (f refl) ∙ ap (λ (x : Bool). u || x) e ∙ twice u b
-  join false g u b r f e = e
-
   both : (ks : List Link) → list_any (λ l. same_stream l.lower s && is_held t l) ks
       ≡ (is_below ks s && nat_lt 0 (number_at t.holds s))
   both [] = refl
-  both (k ∷ ks) = join (same_stream k.lower s) (is_held t k) (nat_lt 0 (number_at t.holds s)) (is_below ks s)
-      (list_any (λ l. same_stream l.lower s && is_held t l) ks)
-      (λ here. ap (λ (x : StreamId). nat_lt 0 (number_at t.holds x)) (stream_is k.lower s here)) (both ks)
+  both (k ∷ ks) = elim (cases_Bool (same_stream k.lower s)) [
+    | inl here ↦
+        let held : is_held t k ≡ nat_lt 0 (number_at t.holds s) =
+        ap (λ (x : StreamId). nat_lt 0 (number_at t.holds x)) (stream_is k.lower s here) in
+        rw (here, held, both ks) (grind (arith, nat_tests))
+    | inr other ↦ rw other (both ks)
+  ]
 
 -- what is left is held
 pub held_is_left : (links : List Link) (n : ℕ) (t : StreamTable) → IsReleasing links n t

@@ -157,10 +157,7 @@ pub removed_is : (c : Configuration) (ids : List ℕ) → AreLowersApart c.links
 removed_is c ids apart rise goes h =
     let gone = filter goes c.links in
     let here = listed_any goes c.links ids rise h in
-    same_parts c _ (filter (λ l. not (goes l)) c.links) _
-    (filter (λ r. not (list_any (λ l. eqb l.id r.id) gone)) c.routes) _
-    (filter (λ h. not (is_read_below gone h.place)) c.flow) _ (filter (λ p. not (is_read_below gone p)) c.fulls)
-    (links_stay (is_one_of ids) goes c.links here)
+    same_parts c _ _ _ _ _ _ _ _ (links_stay (is_one_of ids) goes c.links here)
     (same_kept (λ (r : Route). is_listed ids r.id) (λ r. list_any (λ l. eqb l.id r.id) gone) c.routes (λ r. h r.id))
     (same_kept (λ (h : QueuedMessage). is_read_below_listed c.links ids h.place)
     (λ h. is_read_below gone h.place) c.flow (λ h. read_listed goes ids c.links h.place apart here))
@@ -204,7 +201,7 @@ pub none_listed : (ids : List ℕ) (ls : List Link) → ids ≡ [] → ls ≡ fi
 none_listed ids ls none = sym (none_passes (is_one_of ids) ls (λ l. ap (λ (xs : List ℕ). is_one_of xs l) none))
 
 no_read : (p : Place) → is_read_below [] p ≡ false
-no_read p = elim (cases_Bool (same_side p.side side.Read)) [ inl t ↦ rw t refl | inr f ↦ rw f refl ]
+no_read p = and-false (same_side p.side side.Read)
 
 -- where the list of ids is empty, removing those that go changes nothing
 pub nothing_removed : (c : Configuration) (ids : List ℕ) → ids ≡ [] → (goes : Link → Bool) → AreIdsOf goes c.links ids
@@ -212,11 +209,7 @@ pub nothing_removed : (c : Configuration) (ids : List ℕ) → ids ≡ [] → (g
 nothing_removed c ids none goes h =
     let gone = filter goes c.links in
     let no_link : gone ≡ [] = none_goes goes c.links (subst (AreIdsOf goes c.links) none h) in
-    sym (same_parts c (filter (λ l. not (goes l)) c.links) c.links
-    (filter (λ r. not (list_any (λ l. eqb l.id r.id) gone)) c.routes) c.routes
-    (filter (λ h. not (is_read_below gone h.place)) c.flow) c.flow
-    (filter (λ p. not (is_read_below gone p)) c.fulls) c.fulls
-    (all_stay goes c.links no_link)
+    sym (same_parts c _ c.links _ c.routes _ c.flow _ c.fulls (all_stay goes c.links no_link)
     (none_passes (λ (r : Route). list_any (λ l. eqb l.id r.id) gone) c.routes
     (λ r. ap (list_any (λ l. eqb l.id r.id)) no_link))
     (none_passes (λ (h : QueuedMessage). is_read_below gone h.place) c.flow
