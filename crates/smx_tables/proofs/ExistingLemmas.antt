@@ -163,17 +163,8 @@ by_link t s (l ∷ ls) h b = elim (cases_Bool (same_stream l.lower s)) [
     | inl p ↦ or_left _ _ (or_left _ _ (and_from _ _ p here))
     | inr o ↦ or_right _ _ (or_left _ _ (and_from _ _ (ap not o) (and_from _ _ here (h.0 here o))))
   ]
-  | inr other ↦ one_less (list_any held_by ls) (list_any climbed ls) (held_by l) (climbed l)
-      (by_link t s ls h.1 (rw other at b))
-] where
-  held_by : Link → Bool
-  held_by k = is_persistent k && same_stream k.lower s
-
-  climbed : Link → Bool
-  climbed k = not (is_persistent k) && (same_stream k.lower s && t k)
-
-  one_less : (a b c d : Bool) → (a || b) ≡ true → ((c || a) || (d || b)) ≡ true
-  one_less a b c d e = grind (arith, nat_tests)
+  | inr other ↦ let rest = by_link t s ls h.1 (rw other at b) in rw other (grind (arith, nat_tests))
+]
 
 -- the controlling stream of each ordinary link that holds its lower stream is there
 abbrev pub IsTight : StreamTable → Link → Type 0

@@ -59,12 +59,6 @@ one_of_more ids id l = listed_one_more ids id l.id
 abbrev pub IsFoundBy : ℕ → StreamId → Link → Type 0
 IsFoundBy id s l = eqb l.id id ≡ same_stream l.lower s
 
-drop_one : (a o p g v r less : Bool) → p ≡ (o || g) → (a ≡ true → g ≡ v) → less ≡ (r && not v)
-    → ((a && not p) || less) ≡ (((a && not o) || r) && not v)
-drop_one false o p g v r less e f h = h
-drop_one true o p g v r less e f h = ap (λ (x : Bool). not x || less) (e ∙ ap (λ (x : Bool). o || x) (f refl))
-    ∙ ap (λ (x : Bool). not (o || v) || x) h ∙ grind (arith, nat_tests)
-
 below_one_less : (ids : List ℕ) (id : ℕ) (s x : StreamId) (ls : List Link) → AllByRecursion (IsFoundBy id s) ls
     → is_below (others_of (ids ++ id ∷ []) ls) x ≡ (is_below (others_of ids ls) x && not (same_stream x s))
 below_one_less ids id s x ls h =
@@ -76,12 +70,12 @@ below_one_less ids id s x ls h =
           → list_any (λ l. same_stream l.lower x && not (is_one_of (ids ++ id ∷ []) l)) ks
           ≡ (list_any (λ l. same_stream l.lower x && not (is_one_of ids l)) ks && not (same_stream x s))
       each [] k = refl
-      each (l ∷ ks) k = drop_one (same_stream l.lower x) (is_one_of ids l) (is_one_of (ids ++ id ∷ []) l) (eqb l.id id)
-          (same_stream x s)
-          (list_any (λ m. same_stream m.lower x && not (is_one_of ids m)) ks)
-          (list_any (λ m. same_stream m.lower x && not (is_one_of (ids ++ id ∷ []) m)) ks)
-          (one_of_more ids id l) (λ here. k.0 ∙ ap (λ (y : StreamId). same_stream y s) (stream_is l.lower x here))
-          (each ks k.1)
+      each (l ∷ ks) k = elim (cases_Bool (same_stream l.lower x)) [
+        | inl here ↦
+            let own = k.0 ∙ ap (λ (y : StreamId). same_stream y s) (stream_is l.lower x here) in
+            rw (here, one_of_more ids id l, own, each ks k.1) (grind (arith, nat_tests))
+        | inr other ↦ rw other (each ks k.1)
+      ]
 
 -- a link that is found by its id, in links whose ids rise and whose lower streams are apart
 pub found_by : (links : List Link) (id : ℕ) (l : Link) → AreLowersApart links → IsIdsRising links

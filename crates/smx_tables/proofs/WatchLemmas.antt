@@ -177,11 +177,7 @@ none_by t ss ctl [] none h = refl
 none_by t ss ctl (l ∷ ls) none h =
     let p = and_parts (is_watched t (ss ++ ctl ∷ []) l) (list_all (is_watched t (ss ++ ctl ∷ [])) ls) h in
     and_from _ _ (watched_less t ss ctl l (not_by (same_stream l.ctl ctl) (is_loose t l) refl refl) p.0)
-    (none_by t ss ctl ls (fewer (not (is_there t ctl)) (eqb l.ctl.driver ctl.driver) (is_upper ls ctl.driver) none)
-    p.1) where
-      fewer : (g x r : Bool) → (g && (x || r)) ≡ false → (g && r) ≡ false
-      fewer g x r e = grind (arith, nat_tests)
-
+    (none_by t ss ctl ls (grind (arith, nat_tests, none)) p.1) where
       not_by : (it loose : Bool) → same_stream l.ctl ctl ≡ it → is_loose t l ≡ loose → (it && loose) ≡ false
       not_by true true a b =
           let same = stream_is l.ctl ctl a in
