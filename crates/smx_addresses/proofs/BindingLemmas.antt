@@ -6,6 +6,7 @@ use Rattle.std.specs.Map.{lookup, keys_of}
 use Rattle.std.specs.Option.{option_map}
 use Rattle.std.proofs.lemmas.Bool.{cases_Bool, false≢true}
 use Rattle.std.proofs.lemmas.Bool.Decides.{nat_tests}
+use Rattle.std.proofs.lemmas.Option.{same_Some}
 use Rattle.smx_types.specs.declared.link.Binding.{Binding}
 use Rattle.smx_model.specs.Configuration.{bind_before}
 use Rattle.smx_model.specs.Ordered.{with_inserted}
@@ -70,14 +71,7 @@ either_any : (d a m : ℕ) (bs : List Binding)
     ≡ (list_any (λ b. is_key (address_of b) (d, a)) bs || list_any (λ b. is_key (stream_of b) (d, m)) bs)
 either_any d a m [] = refl
 either_any d a m (b ∷ bs) = rw (either_any d a m bs)
-    (by (b.driver == d) (b.addr == a) (b.minor == m) (list_any (λ c. is_key (address_of c) (d, a)) bs)
-    (list_any (λ c. is_key (stream_of c) (d, m)) bs)) where
-      by : (p q r x y : Bool) → ((p && (q || r)) || (x || y)) ≡ (((p && q) || x) || ((p && r) || y))
-      by true true r x y = refl
-      by true false true true y = refl
-      by true false true false y = refl
-      by true false false x y = refl
-      by false q r x y = refl
+    (grind (arith, nat_tests))
 
 -- the test of both, by the two tables
 pub taken_either : (xs ys : Entries) (bs : List Binding) (d a m : ℕ) → bindings_of xs ≡ bs → AreBindings xs ys
@@ -142,14 +136,11 @@ has_address : (bs : List Binding) (d a m : ℕ) → found stream_of (λ b. b.add
 has_address [] d a m h = cc
 has_address (b ∷ bs) d a m h = elim (cases_Bool (is_key (d, m) (stream_of b))) [
   | inl t ↦
-      let at : found stream_of (λ c. c.addr) (b ∷ bs) (d, m) ≡ Some b.addr = rw t refl in
-      let some : Some b.addr ≡ Some a = sym at ∙ h in
-      let same : b.addr ≡ a = cc in
+      let same = same_Some b.addr a (rw t at h) in
       let here : is_key (address_of b) (d, a) ≡ true = grind (arith, nat_tests) in
       rw here refl
   | inr f ↦
-      let off : found stream_of (λ c. c.addr) (b ∷ bs) (d, m) ≡ found stream_of (λ c. c.addr) bs (d, m) = rw f refl in
-      let rest = has_address bs d a m (sym off ∙ h) in
+      let rest = has_address bs d a m (rw f at h) in
       elim (cases_Bool (is_key (address_of b) (d, a))) [ inl t ↦ rw t refl | inr g ↦ rw g rest ]
 ]
 
@@ -160,9 +151,7 @@ same_taken : (bs : List Binding) (d a m : ℕ) → AreApart address_of bs → Ar
 same_taken [] d a m u v h = refl
 same_taken (b ∷ bs) d a m u v h = elim (cases_Bool (is_key (d, m) (stream_of b))) [
   | inl t ↦
-      let at : found stream_of (λ c. c.addr) (b ∷ bs) (d, m) ≡ Some b.addr = rw t refl in
-      let some : Some b.addr ≡ Some a = sym at ∙ h in
-      let same : b.addr ≡ a = cc in
+      let same = same_Some b.addr a (rw t at h) in
       let x : is_key (stream_of b) (d, m) ≡ true = is_key_sym (stream_of b) (d, m) ∙ t in
       let y : is_key (address_of b) (d, a) ≡ true = grind (arith, nat_tests) in
       let i : list_any (λ c. is_key (stream_of c) (d, m)) bs
@@ -171,8 +160,7 @@ same_taken (b ∷ bs) d a m u v h = elim (cases_Bool (is_key (d, m) (stream_of b
       ≡ false = ap (λ (k : Key). list_any (λ c. is_key (address_of c) k) bs) (sym (key_same _ _ y)) ∙ u.0 in
       rw (x, y) (filter_all _ bs i ∙ sym (filter_all _ bs j))
   | inr f ↦
-      let off : found stream_of (λ c. c.addr) (b ∷ bs) (d, m) ≡ found stream_of (λ c. c.addr) bs (d, m) = rw f refl in
-      let tail = sym off ∙ h in
+      let tail : found stream_of (λ c. c.addr) bs (d, m) ≡ Some a = rw f at h in
       let x : is_key (stream_of b) (d, m) ≡ false = is_key_sym (stream_of b) (d, m) ∙ f in
       elim (cases_Bool (is_key (address_of b) (d, a))) [
         | inl t ↦

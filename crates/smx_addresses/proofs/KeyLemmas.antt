@@ -4,9 +4,10 @@ use Rattle.std.proofs.Common.{None, refl, sym, ap, ◌∙◌, arith, inl, inr}
 use Rattle.std.specs.Cmp.{IsEquivalence}
 use Rattle.std.specs.List.{list_any}
 use Rattle.std.specs.Option.{option_map}
-use Rattle.std.proofs.lemmas.Bool.{cases_Bool, false≢true}
+use Rattle.std.proofs.lemmas.Bool.{cases_Bool, false_from_ne_true, false≢true, or_from, or_parts}
 use Rattle.std.proofs.lemmas.Bool.Decides.{nat_tests}
 use Rattle.smx_model.specs.Ordered.{with_inserted}
+use Rattle.smx_model.proofs.TestLemmas.{any_of_placed}
 use Rattle.smx_addresses.specs.Keys.{Key, is_key, found, AreApart}
 
 -- equal keys
@@ -63,11 +64,9 @@ module _ {X : Type 0} (key : X → Key) (value : X → ℕ) where
   -- where no element has the key nothing is found
   pub found_none : (xs : List X) (k : Key) → list_any (λ x. is_key (key x) k) xs ≡ false → found key value xs k ≡ None
   found_none [] k h = refl
-  found_none (x ∷ xs) k h = elim (cases_Bool (is_key (key x) k)) [
-    | inl t ↦ absurd (false≢true (sym h ∙ ap (λ b. b || list_any (λ x. is_key (key x) k) xs) t))
-    | inr f ↦
-        rw (is_key_sym k (key x), f) (found_none xs k (sym (ap (λ b. b || list_any (λ x. is_key (key x) k) xs) f) ∙ h))
-  ]
+  found_none (x ∷ xs) k h =
+      let p = or_parts (is_key (key x) k) (list_any (λ x. is_key (key x) k) xs) h in
+      rw (is_key_sym k (key x), p.0) (found_none xs k p.1)
 
   -- one more, whose key is new
   pub found_inserted : (before : X → X → Bool) (xs : List X) (x : X) (q : Key)
@@ -76,18 +75,15 @@ module _ {X : Type 0} (key : X → Key) (value : X → ℕ) where
   found_inserted before [] x q h = rw (is_key_sym q (key x)) refl
   found_inserted before (y ∷ ys) x q h = elim (cases_Bool (before x y)) [
     | inl t ↦ rw (t, is_key_sym q (key x)) refl
-    | inr f ↦ rw f (elim (cases_Bool (is_key (key y) (key x))) [
-      | inl s ↦ absurd (false≢true (sym h ∙ ap (λ b. b || list_any (λ z. is_key (key z) (key x)) ys) s))
-      | inr d ↦
-          let e = found_inserted before ys x q (sym (ap (λ b. b || list_any (λ z. is_key (key z) (key x)) ys) d) ∙ h) in
-          elim (cases_Bool (is_key q (key y))) [
-            | inl a ↦ elim (cases_Bool (is_key (key x) q)) [
-              | inl b ↦ absurd (false≢true (sym d ∙ is_key_sym (key y) (key x) ∙ is_key_trans (key x) q (key y) b a))
-              | inr b ↦ rw (a, b) refl
-            ]
-            | inr a ↦ rw a e
+    | inr f ↦
+        let p = or_parts (is_key (key y) (key x)) (list_any (λ z. is_key (key z) (key x)) ys) h in
+        rw f (elim (cases_Bool (is_key q (key y))) [
+          | inl a ↦ elim (cases_Bool (is_key (key x) q)) [
+            | inl b ↦ absurd (false≢true (sym p.0 ∙ is_key_sym (key y) (key x) ∙ is_key_trans (key x) q (key y) b a))
+            | inr b ↦ rw (a, b) refl
           ]
-    ])
+          | inr a ↦ rw a (found_inserted before ys x q p.1)
+        ])
   ]
 
   -- without those that have the key
@@ -112,20 +108,17 @@ module _ {X : Type 0} where
   pub any_filter : (test keep : X → Bool) (xs : List X) → list_any test xs ≡ false
       → list_any test (filter keep xs) ≡ false
   any_filter test keep [] h = refl
-  any_filter test keep (x ∷ xs) h = elim (cases_Bool (test x)) [
-    | inl t ↦ absurd (false≢true (sym h ∙ ap (λ b. b || list_any test xs) t))
-    | inr f ↦
-        let rest = any_filter test keep xs (sym (ap (λ b. b || list_any test xs) f) ∙ h) in
-        elim (cases_Bool (keep x)) [ inl k ↦ rw (k, f) rest | inr k ↦ rw k rest ]
-  ]
+  any_filter test keep (x ∷ xs) h =
+      let p = or_parts (test x) (list_any test xs) h in
+      let rest = any_filter test keep xs p.1 in
+      elim (cases_Bool (keep x)) [ inl k ↦ rw (k, p.0) rest | inr k ↦ rw k rest ]
 
   -- where none passes none is taken out
   pub filter_all : (test : X → Bool) (xs : List X) → list_any test xs ≡ false → filter (λ x. not (test x)) xs ≡ xs
   filter_all test [] h = refl
-  filter_all test (x ∷ xs) h = elim (cases_Bool (test x)) [
-    | inl t ↦ absurd (false≢true (sym h ∙ ap (λ b. b || list_any test xs) t))
-    | inr f ↦ rw f (ap (λ (ys : List X). x ∷ ys) (filter_all test xs (sym (ap (λ b. b || list_any test xs) f) ∙ h)))
-  ]
+  filter_all test (x ∷ xs) h =
+      let p = or_parts (test x) (list_any test xs) h in
+      rw p.0 (ap (λ (ys : List X). x ∷ ys) (filter_all test xs p.1))
 
   -- tests that answer the same
   pub any_same : (p q : X → Bool) → ((x : X) → p x ≡ q x) → (xs : List X) → list_any p xs ≡ list_any q xs
@@ -136,13 +129,9 @@ module _ {X : Type 0} where
   pub none_of : (p q : X → Bool) → ((x : X) → p x ≡ true → q x ≡ true) → (xs : List X) → list_any q xs ≡ false
       → list_any p xs ≡ false
   none_of p q h [] e = refl
-  none_of p q h (x ∷ xs) e = elim (cases_Bool (q x)) [
-    | inl t ↦ absurd (false≢true (sym e ∙ ap (λ b. b || list_any q xs) t))
-    | inr f ↦ elim (cases_Bool (p x)) [
-      | inl t ↦ absurd (false≢true (sym f ∙ h x t))
-      | inr g ↦ rw g (none_of p q h xs (sym (ap (λ b. b || list_any q xs) f) ∙ e))
-    ]
-  ]
+  none_of p q h (x ∷ xs) e =
+      let s = or_parts (q x) (list_any q xs) e in
+      or_from _ _ (false_from_ne_true (p x) (λ t. false≢true (sym s.0 ∙ h x t))) (none_of p q h xs s.1)
 
 -- lists where no key comes twice
 
@@ -157,14 +146,7 @@ module _ {X : Type 0} (key : X → Key) where
 
   any_inserted : (before : X → X → Bool) (test : X → Bool) (xs : List X) (x : X) → test x ≡ false
       → list_any test xs ≡ false → list_any test (with_inserted before xs x) ≡ false
-  any_inserted before test [] x f h = rw f refl
-  any_inserted before test (y ∷ ys) x f h = elim (cases_Bool (before x y)) [
-    | inl t ↦ rw (t, f) h
-    | inr n ↦ rw n (elim (cases_Bool (test y)) [
-      | inl s ↦ absurd (false≢true (sym h ∙ ap (λ b. b || list_any test ys) s))
-      | inr d ↦ rw d (any_inserted before test ys x f (sym (ap (λ b. b || list_any test ys) d) ∙ h))
-    ])
-  ]
+  any_inserted before test xs x f h = any_of_placed test before xs x ∙ or_from _ _ f h
 
   -- one more, whose key is new
   pub apart_inserted : (before : X → X → Bool) (xs : List X) (x : X) → list_any (λ y. is_key (key y) (key x)) xs ≡ false
@@ -172,11 +154,10 @@ module _ {X : Type 0} (key : X → Key) where
   apart_inserted before [] x new h = (refl, tt)
   apart_inserted before (y ∷ ys) x new h = elim (cases_Bool (before x y)) [
     | inl t ↦ rw t (new, h)
-    | inr n ↦ rw n (elim (cases_Bool (is_key (key y) (key x))) [
-      | inl s ↦ absurd (false≢true (sym new ∙ ap (λ b. b || list_any (λ z. is_key (key z) (key x)) ys) s))
-      | inr d ↦ (
-        any_inserted before (λ z. is_key (key z) (key y)) ys x (is_key_sym (key x) (key y) ∙ d) h.0,
-        apart_inserted before ys x (sym (ap (λ b. b || list_any (λ z. is_key (key z) (key x)) ys) d) ∙ new) h.1,
-      )
-    ])
+    | inr n ↦
+        let p = or_parts (is_key (key y) (key x)) (list_any (λ z. is_key (key z) (key x)) ys) new in
+        rw n (
+          any_inserted before (λ z. is_key (key z) (key y)) ys x (is_key_sym (key x) (key y) ∙ p.0) h.0,
+          apart_inserted before ys x p.1 h.1,
+        )
   ]

@@ -16,7 +16,8 @@ absent : (k : Key) (es : Entries) → AllByRecursion (λ y. is_key k y ≡ false
 absent k [] h = refl
 absent k (e ∷ es) h = rw h.0 (absent k es h.1)
 
-length_inserted : {X : Type 0} (before : X → X → Bool) (xs : List X) (x : X)
+-- a list with one inserted is longer by one
+pub length_inserted : {X : Type 0} (before : X → X → Bool) (xs : List X) (x : X)
     → length (with_inserted before xs x) ≡ length xs + 1
 length_inserted before [] x = refl
 length_inserted before (y ∷ ys) x = elim (cases_Bool (before x y))

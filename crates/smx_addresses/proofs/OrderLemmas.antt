@@ -6,6 +6,7 @@ use Rattle.std.specs.Option.{option_map}
 use Rattle.std.proofs.lemmas.Bool.{cases_Bool}
 use Rattle.std.proofs.lemmas.Bool.Decides.{nat_tests}
 use Rattle.std.proofs.lemmas.List.Elements.{All-head, All-tail}
+use Rattle.std.proofs.lemmas.Option.{same_Some}
 use Rattle.smx_model.specs.Configuration.{pair_before}
 use Rattle.smx_model.specs.Ordered.{with_inserted, ComesBefore, IsRising}
 use Rattle.smx_addresses.specs.Keys.{Key, is_key, found, by_key, AreApart}
@@ -124,8 +125,7 @@ module _ {X : Type 0} (key : X → Key) (value : X → ℕ) where
             let same : key x ≡ key y = key_same (key x) (key y) (before_else (key x) (key y) f g) in
             let a : found key value (x ∷ xs) (key x) ≡ Some (value x) = rw (is_key_refl (key x)) refl in
             let b : found key value (y ∷ ys) (key x) ≡ Some (value y) = rw (before_else (key x) (key y) f g) refl in
-            let some : Some (value x) ≡ Some (value y) = sym a ∙ h (key x) ∙ b in
-            let one : value x ≡ value y = cc in
+            let one = same_Some (value x) (value y) (sym a ∙ h (key x) ∙ b) in
             let first : x ≡ y = exact x y same one in
             let rest : xs ≡ ys = rising_same xs ys r.1 s.1 (λ k. elim (cases_Bool (is_key k (key x))) [
               | inl at ↦
@@ -161,9 +161,7 @@ module _ {X : Type 0} (key : X → Key) (value : X → ℕ) where
     first_or_past x y xs ys r s h = elim (cases_Bool (is_key (key x) (key y))) [
       | inl t ↦
           let at : found key value (y ∷ ys) (key x) ≡ Some (value y) = rw t refl in
-          let some : Some (value x) ≡ Some (value y) = sym h.0 ∙ at in
-          let one : value x ≡ value y = cc in
-          inl (exact x y (key_same (key x) (key y) t) one)
+          inl (exact x y (key_same (key x) (key y) t) (same_Some (value x) (value y) (sym h.0 ∙ at)))
       | inr f ↦ elim (cases_Bool (by_key key y x)) [
         | inl t ↦ inr (t, before_all key y x xs t r.0)
         | inr g ↦

@@ -2,6 +2,7 @@
 use Rattle.std.proofs.Common.{◌≡◌, ℕ, zero, suc, ◌<◌, ◌≤◌, ◌^◌, Bool, true, false, ◌&&◌, ◌||◌, eqb, cond, List, length}
 use Rattle.std.proofs.Common.{◌+◌, ◌*◌, ◌/◌, ◌%◌, get_or, max, min, bit_and, bit_or, not, refl, sym, ap, ◌∙◌, arith}
 use Rattle.std.proofs.Common.{inl, inr}
+use Rattle.std.proofs.Math.Bool.{or-false, or_comm}
 use Rattle.std.specs.Int.{bit_at}
 use Rattle.std.proofs.lemmas.Bool.{eqb-true, eq-eqb, cases_eq, cases_lt, false_from_ne_true, ne_eqb}
 use Rattle.std.proofs.lemmas.List.{get_or_past}
@@ -50,16 +51,8 @@ joined_bits : (c : Bool) (w x k b : ℕ) → is_set (cond c (bit_or w (bit_or x 
     ≡ (is_set w b || (c && (eqb k b || is_set x b)))
 joined_bits true w x k b = is_set_or w (bit_or x (2 ^ k)) b
     ∙ ap (λ y. is_set w b || y) (is_set_or x (2 ^ k) b ∙ ap (λ y. is_set x b || y) (is_set_pow k b)
-    ∙ or_comm (is_set x b) (eqb k b)) where
-      or_comm : (p q : Bool) → (p || q) ≡ (q || p)
-      or_comm true true = refl
-      or_comm true false = refl
-      or_comm false true = refl
-      or_comm false false = refl
-joined_bits false w x k b = or_false (is_set w b) where
-  or_false : (p : Bool) → p ≡ (p || false)
-  or_false true = refl
-  or_false false = refl
+    ∙ or_comm (is_set x b) (eqb k b))
+joined_bits false w x k b = sym (or-false (is_set w b))
 
 -- there are no bits past the last word
 pub past_bits : (ws : List ℕ) (a b : ℕ) → length ws ≤ a → has_bit ws a b ≡ false

@@ -1,10 +1,11 @@
 -- How many links are between two drivers, with one more and with one less.
 use Rattle.std.proofs.Common.{◌≡◌, ℕ, ◌+◌, ◌-◌, ◌*◌, ◌<◌, ◌≤◌, ◌≢◌, Bool, true, false, cond, not, eqb, List, [], ◌∷◌}
-use Rattle.std.proofs.Common.{◌++◌, length, filter, find, get_or, set, Option, Some, refl, sym, ◌∙◌, arith, inl, inr}
+use Rattle.std.proofs.Common.{◌++◌, length, filter, find, get_or, set, Some, refl, sym, ◌∙◌, arith, inl, inr}
 use Rattle.std.specs.Prelude.{nat_lt}
 use Rattle.std.proofs.lemmas.Bool.{cases_Bool, and_parts, eq-eqb, eqb-true, false≢true}
 use Rattle.std.proofs.lemmas.List.{get_or-set_same, get_or-set_other, length-set}
 use Rattle.std.proofs.lemmas.Nat.{mul-add-lt, same_from_place}
+use Rattle.std.proofs.lemmas.Option.{same_Some}
 use Rattle.smx_types.specs.declared.link.Link.{Link}
 use Rattle.smx_model.specs.Ordered.{IsRising}
 use Rattle.smx_links.specs.Masks.{IsWithin}
@@ -95,8 +96,7 @@ count_less : (ls : List Link) (l : Link) (id u k : ℕ) → IsRising (λ l k. na
 count_less [] l id u k rise h = absurd cc
 count_less (j ∷ js) l id u k rise h = elim (cases_Bool (eqb j.id id)) [
   | inl t ↦
-      let found : ◌≡◌ {A = Option Link} (Some j) (Some l) = rw t at h in
-      let is : j ≡ l = cc in
+      let is : j ≡ l = same_Some j l (rw t at h) in
       rw (t, later_stay j js id (eqb-true j.id id t) rise.0, is) (count_front l js u k)
   | inr f ↦
       let kept = filter (λ l. not (eqb l.id id)) js in

@@ -1,6 +1,6 @@
 -- Links by their ids.
 use Rattle.std.proofs.Common.{◌≡◌, ℕ, zero, suc, ◌<◌, Bool, true, false, not, ◌||◌, eqb, List, [], ◌∷◌, ◌++◌, length}
-use Rattle.std.proofs.Common.{get_or, filter, take, ◌+◌, find, slice_get, Option, Some, None, refl, sym, ap, ◌∙◌, arith}
+use Rattle.std.proofs.Common.{get_or, filter, take, ◌+◌, find, slice_get, Some, None, refl, sym, ap, ◌∙◌, arith}
 use Rattle.std.proofs.Common.{inl, inr}
 use Rattle.std.specs.Prelude.{nat_lt}
 use Rattle.std.proofs.lemmas.List.{take_more}
@@ -8,7 +8,8 @@ use Rattle.std.specs.Ordering.{nat_cmp}
 use Rattle.std.specs.declared.cmp.Ordering.TheVariants.{Less, Equal, Greater}
 use Rattle.std.specs.List.{remove, HoldsAt}
 use Rattle.std.proofs.lemmas.Bool.{cases_Bool, eq-eqb, eqb-true, false_from_ne_true, ltb-true}
-use Rattle.std.proofs.lemmas.Option.{slice_get-get_or}
+use Rattle.std.proofs.lemmas.Bool.Decides.{nat_tests}
+use Rattle.std.proofs.lemmas.Option.{same_Some, slice_get-get_or}
 use Rattle.smx_types.specs.declared.link.Link.{Link}
 use Rattle.smx_model.specs.Ordered.{ComesBefore, IsRising}
 use Rattle.smx_links.specs.LinkLists.{is_one_of}
@@ -20,7 +21,7 @@ before l k = nat_lt l.id k.id
 -- one less
 
 -- two tests may come in either order
-pub filters_swap : (p q : Link → Bool) (ls : List Link) → filter p (filter q ls) ≡ filter q (filter p ls)
+pub filters_swap : {X : Type 0} (p q : X → Bool) (ls : List X) → filter p (filter q ls) ≡ filter q (filter p ls)
 filters_swap p q [] = refl
 filters_swap p q (l ∷ ls) = elim (cases_Bool (p l)) [
   | inl t ↦ elim (cases_Bool (q l)) [
@@ -77,9 +78,7 @@ pub later_stay : (l : Link) (ls : List Link) (id : ℕ) → l.id ≡ id → Come
     → filter (λ l. not (eqb l.id id)) ls ≡ ls
 later_stay l [] id e h = refl
 later_stay l (k ∷ ls) id e h =
-    let up : l.id < k.id = ltb-true l.id k.id h.0 in
-    let f : eqb k.id id ≡ false = false_from_ne_true (eqb k.id id)
-    (λ t. let same = eqb-true k.id id t in absurd (omega arith)) in
+    let f : eqb k.id id ≡ false = grind (arith, nat_tests, h.0, e) in
     rw f (ap (λ x. k ∷ x) (later_stay l ls id e h.1))
 
 -- what is found among them has another id
@@ -88,10 +87,8 @@ pub before_found : (test : Link → Bool) (k : Link) (ls : List Link) (l : Link)
 before_found test k [] l h some = absurd cc
 before_found test k (j ∷ ls) l h some = elim (cases_Bool (test j)) [
   | inl t ↦
-      let found : ◌≡◌ {A = Option Link} (Some j) (Some l) = rw t at some in
-      let is : j ≡ l = cc in
-      let up : k.id < j.id = ltb-true k.id j.id h.0 in
-      rw (← is) (false_from_ne_true (eqb k.id j.id) (λ same. let e = eqb-true k.id j.id same in absurd (omega arith)))
+      let other : eqb k.id j.id ≡ false = grind (arith, nat_tests, h.0) in
+      rw (← same_Some j l (rw t at some)) other
   | inr f ↦ before_found test k ls l h.1 (rw f at some)
 ]
 
@@ -108,9 +105,7 @@ pub remove_id : (ls : List Link) (i id : ℕ) (d : Link) → IsRising (λ l k. n
 remove_id [] i id d r lt e = absurd (omega arith)
 remove_id (l ∷ ls) zero id d r lt e = rw (eq-eqb l.id id e) (sym (later_stay l ls id e r.0))
 remove_id (l ∷ ls) (suc i) id d r lt e =
-    let up : l.id < (get_or ls i d).id = ltb-true l.id (get_or ls i d).id (before_at l ls i d r.0 (omega arith)) in
-    let f : eqb l.id id ≡ false = false_from_ne_true (eqb l.id id)
-    (λ t. let same = eqb-true l.id id t in absurd (omega arith)) in
+    let f : eqb l.id id ≡ false = grind (arith, nat_tests, before_at l ls i d r.0 (omega arith), e) in
     rw f (ap (λ x. l ∷ x) (remove_id ls i id d r.1 (omega arith) e))
 
 -- where the link with the id is
@@ -127,9 +122,7 @@ pub found_id : (ls : List Link) (i id : ℕ) (d : Link) → IsRising (λ l k. na
 found_id [] i id d r lt e = absurd (omega arith)
 found_id (l ∷ ls) zero id d r lt e = rw (eq-eqb l.id id e) refl
 found_id (l ∷ ls) (suc i) id d r lt e =
-    let up : l.id < (get_or ls i d).id = ltb-true l.id (get_or ls i d).id (before_at l ls i d r.0 (omega arith)) in
-    let f : eqb l.id id ≡ false = false_from_ne_true (eqb l.id id)
-    (λ t. let same = eqb-true l.id id t in absurd (omega arith)) in
+    let f : eqb l.id id ≡ false = grind (arith, nat_tests, before_at l ls i d r.0 (omega arith), e) in
     rw f (found_id ls i id d r.1 (omega arith) e)
 
 -- and what stands there is what is found by the id

@@ -7,6 +7,7 @@ use Rattle.std.specs.Option.{option_map, is_some}
 use Rattle.std.proofs.lemmas.Bool.{cases_Bool, eq-eqb, eqb-true, false≢true}
 use Rattle.std.proofs.lemmas.Bool.Decides.{nat_tests}
 use Rattle.std.proofs.lemmas.List.Elements.{All-head, All-tail, All-weaker}
+use Rattle.std.proofs.lemmas.Option.{same_Some}
 use Rattle.smx_types.specs.declared.link.Link.{Link}
 use Rattle.smx_types.specs.declared.stream.StreamId.{StreamId}
 use Rattle.smx_model.specs.Configuration.{same_stream}
@@ -49,8 +50,7 @@ pub found_has : {X : Type 0} (P : X → Type 0) (test : X → Bool) (xs : List X
     → P x
 found_has P test [] x all h = absurd cc
 found_has {X} P test (y ∷ ys) x all h = elim (cases_Bool (test y)) [
-  | inl t ↦ let k : ◌≡◌ {A = Option X} (Some y) (Some x) = rw t at h in let e : y
-      ≡ x = cc in subst P e (All-head P y ys all)
+  | inl t ↦ subst P (same_Some y x (rw t at h)) (All-head P y ys all)
   | inr f ↦ found_has P test ys x (All-tail P y ys all) (rw f at h)
 ]
 
@@ -102,8 +102,7 @@ above_less : (ls : List Link) (l : Link) (id : ℕ) (s : StreamId) → AreLowers
 above_less [] l id s apart rise h = absurd cc
 above_less (k ∷ ks) l id s apart rise h = elim (cases_Bool (eqb k.id id)) [
   | inl t ↦
-      let found : ◌≡◌ {A = Option Link} (Some k) (Some l) = rw t at h in
-      let is : k ≡ l = cc in
+      let is : k ≡ l = same_Some k l (rw t at h) in
       rw (t, later_stay k ks id (eqb-true k.id id t) rise.0, ← is) (elim (cases_Bool (same_stream k.lower s)) [
         | inl same ↦ rw same (none_above s ks
             (All-weaker (λ (j : Link). same_stream k.lower j.lower ≡ false)
@@ -145,8 +144,7 @@ found_by_id : (test : Link → Bool) (ls : List Link) (l : Link) → IsRising (�
     → find test ls ≡ Some l → find (λ k. eqb k.id l.id) ls ≡ Some l
 found_by_id test [] l rise h = absurd cc
 found_by_id test (k ∷ ks) l rise h = elim (cases_Bool (test k)) [
-  | inl t ↦ let found : ◌≡◌ {A = Option Link} (Some k) (Some l) = rw t at h in let is : k
-      ≡ l = cc in rw (is, eq-eqb l.id l.id refl) refl
+  | inl t ↦ rw (same_Some k l (rw t at h), eq-eqb l.id l.id refl) refl
   | inr f ↦
       let rest : find test ks ≡ Some l = rw f at h in
       rw (before_found test k ks l rise.0 rest) (found_by_id test ks l rise.1 rest)
@@ -161,8 +159,7 @@ above_found es ls s id rise h at = by (find (λ l. same_stream l.lower s) ls) re
   by None none = let k : ◌≡◌ {A = Option ℕ} (Some id) None = sym at ∙ h s
       ∙ ap (option_map (λ (l : Link). l.id)) none in absurd cc
   by (Some l) some =
-      let k : ◌≡◌ {A = Option ℕ} (Some id) (Some l.id) = sym at ∙ h s ∙ ap (option_map (λ (l : Link). l.id)) some in
-      let e : id ≡ l.id = cc in
+      let e = same_Some id l.id (sym at ∙ h s ∙ ap (option_map (λ (l : Link). l.id)) some) in
       rw e (found_by_id (λ l. same_stream l.lower s) ls l rise some)
 
 -- and where it finds nothing there is none
@@ -182,9 +179,7 @@ id_of_found es ls l id apart h found = h l.lower ∙ above ls apart found where
   above [] apart found = absurd cc
   above (k ∷ ks) apart found = elim (cases_Bool (eqb k.id id)) [
     | inl t ↦
-        let some : ◌≡◌ {A = Option Link} (Some k) (Some l) = rw t at found in
-        let is : k ≡ l = cc in
-        rw (is, same_self l.lower) refl
+        rw (same_Some k l (rw t at found), same_self l.lower) refl
     | inr f ↦
         let rest : find (λ k. eqb k.id id) ks ≡ Some l = rw f at found in
         rw (found_has (λ (j : Link). same_stream k.lower j.lower ≡ false) _ ks l (apart_head k ks apart) rest)

@@ -94,11 +94,7 @@ none_found p q u l each (k ∷ ks) h = elim (cases_Bool (is_between u l k)) [
 -- what comes before the next entry
 before_next : (done : ℕ → Bool) (u l : ℕ) (k : Link)
     → is_before done u (l + 1) k ≡ (is_before done u l k || is_between u l k)
-before_next done u l k = by (done k.ctl.driver) where
-  by : (d : Bool) → (d || ((eqb k.ctl.driver u) && nat_lt k.lower.driver (l + 1)))
-      ≡ ((d || ((eqb k.ctl.driver u) && nat_lt k.lower.driver l)) || is_between u l k)
-  by true = refl
-  by false = grind (arith, nat_tests)
+before_next done u l k = grind (arith, nat_tests)
 
 -- the masks with what is between two drivers, where their link joins
 pub pair_joins : Joins → PathsJoin → (done : ℕ → Bool) (ls : List Link) (u l : ℕ) (old new : List ℕ)
@@ -149,12 +145,7 @@ row_end stale n u ls h = kept_alike (is_before (is_done stale u) u n) (is_before
       each : (ks : List Link) → AllByRecursion (IsWithin n) ks
           → AllByRecursion (λ k. is_before (is_done stale u) u n k ≡ is_before (is_done stale (u + 1)) (u + 1) 0 k) ks
       each [] w = tt
-      each (k ∷ ks) w = (at_end (is_set stale k.ctl.driver) k.ctl.driver k.lower.driver w.0.1, each ks w.1) where
-        at_end : (s : Bool) (d l : ℕ) → l < n
-            → ((not s || nat_lt d u) || ((eqb d u) && nat_lt l n))
-            ≡ ((not s || nat_lt d (u + 1)) || ((eqb d (u + 1)) && nat_lt l 0))
-        at_end true d l low = grind (arith, nat_tests)
-        at_end false d l low = refl
+      each (k ∷ ks) w = (grind (arith, nat_tests, w.0.1), each ks w.1)
 
 -- and so where the word of its driver stayed
 pub row_stays : (stale u : ℕ) (ls : List Link) → is_set stale u ≡ false
@@ -165,12 +156,8 @@ row_stays stale u ls h = filter_agree (is_before (is_done stale u) u 0) (is_befo
           ≡ (is_done stale (u + 1) d || ((eqb d (u + 1)) && nat_lt l 0))
       at_row d l = elim (cases_eq d u) [
         | inl same ↦ rw (same, h) refl
-        | inr other ↦ by (is_set stale d) other
-      ] where
-        by : (s : Bool) → (d ≡ u → ⊥) → ((not s || nat_lt d u) || ((eqb d u) && nat_lt l 0))
-            ≡ ((not s || nat_lt d (u + 1)) || ((eqb d (u + 1)) && nat_lt l 0))
-        by true other = grind (arith, nat_tests)
-        by false other = refl
+        | inr other ↦ grind (arith, nat_tests)
+      ]
 
 -- all comes before the end of the last row
 pub all_done : (stale n : ℕ) (ls : List Link) → All (IsWithin n) ls
@@ -178,12 +165,8 @@ pub all_done : (stale n : ℕ) (ls : List Link) → All (IsWithin n) ls
 all_done stale n [] h = refl
 all_done stale n (k ∷ ks) h =
     let low = All-head (IsWithin n) k ks h in
-    let yes : is_before (is_done stale n) n 0 k ≡ true = by (is_set stale k.ctl.driver) low.0 in
-    rw yes (ap (λ x. k ∷ x) (all_done stale n ks (All-tail (IsWithin n) k ks h))) where
-      by : (s : Bool) → k.ctl.driver < n
-          → ((not s || nat_lt k.ctl.driver n) || ((eqb k.ctl.driver n) && nat_lt k.lower.driver 0)) ≡ true
-      by true low = grind (arith, nat_tests)
-      by false low = refl
+    let yes : is_before (is_done stale n) n 0 k ≡ true = grind (arith, nat_tests, low.0) in
+    rw yes (ap (λ x. k ∷ x) (all_done stale n ks (All-tail (IsWithin n) k ks h)))
 
 -- a row of the counts is that of its driver
 pub row_of : (n u : ℕ) (ls : List Link) (ps : List ℕ) → AreCounts n ls ps → u < n

@@ -2,10 +2,12 @@
 use Rattle.std.proofs.Common.{◌≡◌, ℕ, ◌<◌, ◌≤◌, ◌^◌, Bool, true, false, ◌&&◌, ◌||◌, ◌+◌, not, cond, eqb, List, [], ◌∷◌}
 use Rattle.std.proofs.Common.{length, filter, find, set}
 use Rattle.std.proofs.Common.{get_or, bit_and, bit_or, Some, refl, sym, ap, subst, ◌∙◌, arith, inl, inr, if◌then◌else◌}
+use Rattle.std.proofs.Math.Bool.{and-false, or-false}
 use Rattle.std.specs.Prelude.{nat_lt}
 use Rattle.std.specs.Int.Bits.{and_le_r, and_zero_l}
 use Rattle.std.proofs.lemmas.Bool.{cases_Bool, cases_eq, cases_lt, and_parts, and_from, eqb-true, eq-eqb}
-use Rattle.std.proofs.lemmas.Bool.{false_from_ne_true, false≢true, ne_eqb, or_left, or_parts, or_right}
+use Rattle.std.proofs.lemmas.Bool.{false_from_ne_true, false≢true, ne_eqb, not-false, not-true, or_left, or_parts}
+use Rattle.std.proofs.lemmas.Bool.{or_right}
 use Rattle.std.proofs.lemmas.Bool.Decides.{nat_tests}
 use Rattle.std.proofs.lemmas.List.{get_or_past, get_or-set_other, get_or-set_same}
 use Rattle.std.proofs.lemmas.List.Elements.{filter_agree}
@@ -36,22 +38,16 @@ stale_more ws lost stale i h so_far k lt = is_set_with stale i k ∙ elim (cases
       (subst (λ (j : ℕ). not (eqb (bit_and (get_or ws j 0) lost) 0) ≡ true) same (ap not (ne_eqb _ 0 h))))
   | inr other ↦
       let less : k < i = grind (arith, nat_tests) in
-      ap (λ (x : Bool). is_set stale k || x) other ∙ or_false (is_set stale k) ∙ so_far k less
-] where
-  or_false : (b : Bool) → (b || false) ≡ b
-  or_false true = refl
-  or_false false = refl
+      ap (λ (x : Bool). is_set stale k || x) other ∙ or-false (is_set stale k) ∙ so_far k less
+]
 
 -- the bits of later drivers are as before
 pub stale_rest : (lost stale i : ℕ) → ((k : ℕ) → i ≤ k → is_set stale k ≡ is_set lost k) → (k : ℕ) → i + 1 ≤ k
     → is_set (bit_or stale (2 ^ i)) k ≡ is_set lost k
 stale_rest lost stale i rest k le =
     let other : eqb i k ≡ false = grind (arith, nat_tests) in
-    is_set_with stale i k ∙ ap (λ (x : Bool). is_set stale k || x) other ∙ or_false (is_set stale k)
-    ∙ rest k (omega (arith, le)) where
-      or_false : (b : Bool) → (b || false) ≡ b
-      or_false true = refl
-      or_false false = refl
+    is_set_with stale i k ∙ ap (λ (x : Bool). is_set stale k || x) other ∙ or-false (is_set stale k)
+    ∙ rest k (omega (arith, le))
 
 -- a driver that leads to none of those that lost links
 pub stale_same : (ws : List ℕ) (lost stale i : ℕ) → bit_and (get_or ws i 0) lost ≡ 0
@@ -59,33 +55,22 @@ pub stale_same : (ws : List ℕ) (lost stale i : ℕ) → bit_and (get_or ws i 0
     → (k : ℕ) → k < i + 1 → is_set stale k ≡ is_stale ws lost k
 stale_same ws lost stale i h so_far here k lt = elim (cases_eq k i) [
   | inl same ↦
-      rw same (here ∙ sym (ap (λ (x : Bool). is_set lost i || not x) (eq-eqb _ 0 h) ∙ or_false (is_set lost i)))
+      rw same (here ∙ sym (ap (λ (x : Bool). is_set lost i || not x) (eq-eqb _ 0 h) ∙ or-false (is_set lost i)))
   | inr other ↦ so_far k (grind (arith, nat_tests))
-] where
-  or_false : (b : Bool) → (b || false) ≡ b
-  or_false true = refl
-  or_false false = refl
+]
 
 -- a driver past the last word leads nowhere
 pub past_stale : (ws : List ℕ) (lost k : ℕ) → length ws ≤ k → is_stale ws lost k ≡ is_set lost k
 past_stale ws lost k past =
     ap (λ (w : ℕ). is_set lost k || not (eqb (bit_and w lost) 0)) (get_or_past ws k 0 past)
-    ∙ ap (λ (w : ℕ). is_set lost k || not (eqb w 0)) (and_zero_l lost) ∙ or_false (is_set lost k) where
-      or_false : (b : Bool) → (b || false) ≡ b
-      or_false true = refl
-      or_false false = refl
-
--- what isn't so is not so
-not_not : (x : Bool) → not x ≡ false → x ≡ true
-not_not true e = refl
-not_not false e = absurd cc
+    ∙ ap (λ (w : ℕ). is_set lost k || not (eqb w 0)) (and_zero_l lost) ∙ or-false (is_set lost k)
 
 -- a driver that isn't stale is clear
 clear_of : (ws : List ℕ) (lost a : ℕ) (old : List Link) → AreMasks old ws → is_stale ws lost a ≡ false
     → IsClear lost old a
 clear_of ws lost a old m h =
     let p = or_parts (is_set lost a) _ h in
-    record { own = p.0; led = λ b path. none b (m a b ∙ path) (not_not _ p.1) } where
+    record { own = p.0; led = λ b path. none b (m a b ∙ path) (not-false _ p.1) } where
       none : (b : ℕ) → has_bit ws a b ≡ true → eqb (bit_and (get_or ws a 0) lost) 0 ≡ true → is_set lost b ≡ false
       none b there zero =
           let no : (has_bit ws a b && is_set lost b) ≡ false = sym (is_set_and (get_or ws a 0) lost b)
@@ -137,11 +122,8 @@ pub cleared_words : (old new : List ℕ) (stale : ℕ) → length new ≡ length
 cleared_words old new stale long each a b = elim (cases_lt a (length old)) [
   | inl lt ↦ ap (λ (w : ℕ). is_set w b) (each a lt) ∙ cleared_bit (is_set stale a) (get_or old a 0) b
   | inr past ↦ past_bits new a b (omega arith)
-      ∙ sym (ap (λ (x : Bool). not (is_set stale a) && x) (past_bits old a b past) ∙ and_false (not (is_set stale a)))
-] where
-  and_false : (x : Bool) → (x && false) ≡ false
-  and_false true = refl
-  and_false false = refl
+      ∙ sym (ap (λ (x : Bool). not (is_set stale a) && x) (past_bits old a b past) ∙ and-false (not (is_set stale a)))
+]
 
 -- ---- the links of some drivers alone
 
@@ -166,11 +148,8 @@ led_alike keep (k ∷ ks) closed a b h =
           (λ e. false≢true (sym f ∙ subst (λ (x : ℕ). keep x ≡ true) (eqb-true a k.ctl.driver e) h)) in
           let none : reaches ks a k.ctl.driver ≡ false = false_from_ne_true (reaches ks a k.ctl.driver)
           (λ e. false≢true (sym f ∙ still a k.ctl.driver h e)) in
-          rw (f, other, none, rest a b h) (or_none (reaches ks a b))
-    ] where
-      or_none : (x : Bool) → x ≡ (x || false)
-      or_none true = refl
-      or_none false = refl
+          rw (f, other, none, rest a b h) (sym (or-false (reaches ks a b)))
+    ]
 
 -- and from any other driver to none
 pub led_nowhere : (keep : ℕ → Bool) (ls : List Link) (a b : ℕ) → keep a ≡ false
@@ -199,10 +178,7 @@ cleared_masks trans ws vs lost stale old links fits m alike which cleared a b =
       keep d = not (is_set stale d)
 
       fresh : (x : ℕ) → keep x ≡ true → is_stale ws lost x ≡ false
-      fresh x t = sym (which x) ∙ no (is_set stale x) t where
-        no : (s : Bool) → not s ≡ true → s ≡ false
-        no true e = absurd cc
-        no false e = refl
+      fresh x t = sym (which x) ∙ not-true (is_set stale x) t
 
       closed : (x y : ℕ) → keep x ≡ true → reaches links x y ≡ true → keep y ≡ true
       closed x y t path = ap not (which y ∙ fresh_led trans ws lost x y old fits m (fresh x t) (alike.fewer x y path))
@@ -214,11 +190,7 @@ cleared_masks trans ws vs lost stale old links fits m alike which cleared a b =
           ∙ sym (led_alike keep links closed a b (ap not e))
 
       at_first : (k : Link) → keep k.ctl.driver ≡ is_before (is_done stale 0) 0 0 k
-      at_first k = first (is_set stale k.ctl.driver) where
-        first : (s : Bool)
-            → not s ≡ ((not s || nat_lt k.ctl.driver 0) || ((eqb k.ctl.driver 0) && nat_lt k.lower.driver 0))
-        first true = grind (arith, nat_tests)
-        first false = refl
+      at_first k = grind (arith, nat_tests)
 
       same : filter (λ k. keep k.ctl.driver) links ≡ filter (is_before (is_done stale 0) 0 0) links
       same = filter_agree (λ k. keep k.ctl.driver) (is_before (is_done stale 0) 0 0) at_first links
@@ -257,10 +229,7 @@ one_lost joins more ls ks l id rise found rest bit = record { fewer = fewer; sam
       (sym clear.own ∙ subst (λ (x : ℕ). is_set more x ≡ true) (sym (eqb-true a l.ctl.driver e)) bit)) in
       let none : reaches ks a l.ctl.driver ≡ false = false_from_ne_true (reaches ks a l.ctl.driver)
       (λ e. false≢true (sym (clear.led l.ctl.driver (fewer a l.ctl.driver e)) ∙ bit)) in
-      or_none (reaches ks a b) ∙ sym (rw (other, none) at (sym (front a b))) where
-        or_none : (x : Bool) → x ≡ (x || false)
-        or_none true = refl
-        or_none false = refl
+      sym (or-false (reaches ks a b)) ∙ sym (rw (other, none) at (sym (front a b)))
 
 -- links that lead alike, but for drivers that lost some
 pub lost_more : Joins → PathsJoin → (n lost : ℕ) (first ls ks : List Link) (ps : List ℕ) (l : Link) (id : ℕ)

@@ -1,9 +1,10 @@
 -- What links lead to, without one of two that are between the same drivers.
-use Rattle.std.proofs.Common.{◌≡◌, ℕ, ◌<◌, true, not, eqb, List, [], ◌∷◌, ◌++◌, filter, find, Option, Some}
+use Rattle.std.proofs.Common.{◌≡◌, ℕ, ◌<◌, true, not, eqb, List, [], ◌∷◌, ◌++◌, filter, find, Some}
 use Rattle.std.proofs.Common.{refl, sym, ap, ◌∙◌, arith, inl, inr}
 use Rattle.std.specs.Prelude.{nat_lt}
 use Rattle.std.proofs.lemmas.Bool.{cases_Bool, and_parts, eq-eqb, eqb-true, or_left, or_right}
 use Rattle.std.proofs.lemmas.Bool.Decides.{nat_tests}
+use Rattle.std.proofs.lemmas.Option.{same_Some}
 use Rattle.smx_types.specs.declared.link.Link.{Link}
 use Rattle.smx_model.specs.Ordered.{IsRising}
 use Rattle.smx_model.specs.Paths.{reaches}
@@ -28,8 +29,7 @@ pub in_front : Joins → (ls : List Link) (l : Link) (id : ℕ) → IsRising (λ
 in_front joins [] l id rise h = absurd cc
 in_front joins (k ∷ ks) l id rise h = elim (cases_Bool (eqb k.id id)) [
   | inl t ↦
-      let found : ◌≡◌ {A = Option Link} (Some k) (Some l) = rw t at h in
-      let is : k ≡ l = cc in
+      let is : k ≡ l = same_Some k l (rw t at h) in
       rw (t, later_stay k ks id (eqb-true k.id id t) rise.0, is) (λ a b. refl)
   | inr f ↦
       rw f (λ a b. swapped joins k l (filter (λ l. not (eqb l.id id)) ks) a b

@@ -4,19 +4,14 @@ use Rattle.std.proofs.Common.{get_or, set, Option, Some, None, refl, sym, ap, �
 use Rattle.std.specs.Prelude.{IsSome, slice_get}
 use Rattle.std.proofs.lemmas.Bool.{cases_Bool, cases_lt}
 use Rattle.std.proofs.lemmas.List.{get_or-drop, get_or-map, get_or-set_other, get_or-set_same, get_or_past, length-drop}
-use Rattle.std.proofs.lemmas.List.{length-map, length-set, map-set}
+use Rattle.std.proofs.lemmas.List.{length-map, length-set, map-set, take_rest}
 use Rattle.memchr.specs.Find.{IsFirstByte, is_byte}
 use Rattle.smx_types.specs.declared.message.Message.{Message}
 use Rattle.smx_queues.specs.QueueTable.{IsPlace, Queue, QueueTable, queue_at, with_arrival, with_queue}
 use Rattle.smx_queues.specs.QueueTable.{without_front}
 use Rattle.smx_queues.specs.Slots.{IsLeastFrom, busy_byte, has_messages}
-
 -- a place that is there has a number below their count
-pub place_below : (queues : List (Option Queue)) (p : ℕ) → IsPlace queues p → p < length queues
-place_below queues p there = elim (cases_lt p (length queues)) [
-  | inl lt ↦ lt
-  | inr past ↦ let bad = subst (λ (o : Option Queue). IsSome o) (get_or_past queues p None past) there in absurd cc
-]
+pub use Rattle.smx_queues.proofs.QueueTableLemmas.{place_below}
 
 -- as the table is seen, so it is inside
 pub place_inside : (inside seen : QueueTable) (p : ℕ) → inside ≡ seen → IsPlace seen.queues p → IsPlace inside.queues p
@@ -106,18 +101,22 @@ byte_at : (queues : List (Option Queue)) (busy : List ℕ) (start k : ℕ) → b
 byte_at queues busy start k is = ap (λ (n : ℕ). eqb n 1)
     (get_or-drop start busy k 0 ∙ byte_is queues busy (start + k) is) ∙ is_one (get_or queues (start + k) None)
 
+byte_before : (queues : List (Option Queue)) (busy : List ℕ) (start k : ℕ) → busy ≡ map busy_byte queues → start ≤ k
+    → eqb (get_or (drop start busy) (k - start) 0) 1 ≡ has_messages (get_or queues k None)
+byte_before queues busy start k is le =
+    byte_at queues busy start (k - start) is ∙ ap (λ (n : ℕ). has_messages (get_or queues n None)) (omega arith)
+
 -- where no byte from a number on is 1, no place from there on has messages
 pub none_found : (queues : List (Option Queue)) (busy : List ℕ) (start : ℕ) → busy ≡ map busy_byte queues
     → IsFirstByte (is_byte 1) (drop start busy) None → IsLeastFrom has_messages queues start None
 none_found queues busy start is none = λ k le. elim (cases_lt k (length busy)) [
   | inl lt ↦ elim (cases_Bool (has_messages (get_or queues k None))) [
-    | inl t ↦ absurd (none (k - start) (omega arith) (omega (arith, le, lt, length-drop start busy)) (at k le ∙ t))
+    | inl t ↦ absurd (none (k - start) (omega arith) (omega (arith, le, lt, length-drop start busy))
+        (byte_before queues busy start k is le ∙ t))
     | inr f ↦ f
   ]
   | inr past ↦ rw (get_or_past queues k None (omega (arith, past, ap length is, length-map queues busy_byte))) refl
-] where
-  at : (k : ℕ) → start ≤ k → eqb (get_or (drop start busy) (k - start) 0) 1 ≡ has_messages (get_or queues k None)
-  at k le = byte_at queues busy start (k - start) is ∙ ap (λ (n : ℕ). has_messages (get_or queues n None)) (omega arith)
+]
 
 -- the first byte from a number on that is 1 is that of the least place from there on that has messages
 pub one_found : (queues : List (Option Queue)) (busy : List ℕ) (start i : ℕ) → busy ≡ map busy_byte queues
@@ -127,18 +126,13 @@ one_found queues busy start i is found = (
   omega (arith, found.0.high, length-drop start busy, ap length is, length-map queues busy_byte),
   sym (byte_at queues busy start i is) ∙ found.1,
   λ k le lt. elim (cases_Bool (has_messages (get_or queues k None))) [
-    | inl t ↦ absurd (found.0.before (k - start) (omega arith) (omega arith) (at k le ∙ t))
+    | inl t ↦ absurd (found.0.before (k - start) (omega arith) (omega arith)
+        (byte_before queues busy start k is le ∙ t))
     | inr f ↦ f
   ],
-) where
-  at : (k : ℕ) → start ≤ k → eqb (get_or (drop start busy) (k - start) 0) 1 ≡ has_messages (get_or queues k None)
-  at k le = byte_at queues busy start (k - start) is ∙ ap (λ (n : ℕ). has_messages (get_or queues n None)) (omega arith)
+)
 
 -- the bytes from the start on
 pub from_start : (busy given : List ℕ) (start : ℕ) → given ≡ busy
     → take (length given - start) (drop start given) ≡ drop start busy
-from_start busy given start same = ap (λ (n : ℕ). take n (drop start given)) (sym (length-drop start given))
-    ∙ (all_taken (drop start given) ∙ ap (drop start) same) where
-      all_taken : (xs : List ℕ) → take (length xs) xs ≡ xs
-      all_taken [] = refl
-      all_taken (x ∷ xs) = ap (λ (ys : List ℕ). x ∷ ys) (all_taken xs)
+from_start busy given start same = take_rest given start ∙ ap (drop start) same

@@ -2,7 +2,7 @@
 use Rattle.std.proofs.Common.{◌≡◌, ℕ, zero, suc, ◌+◌, add-one, ◌<◌, ◌^◌, Bool, true, List, [], ◌∷◌, ◌++◌, length}
 use Rattle.std.proofs.Common.{get_or, set, Option, Some, None, refl, sym, ap, ◌∙◌, arith, append_assoc}
 use Rattle.std.specs.List.{repeat}
-use Rattle.std.proofs.lemmas.List.{set-set}
+use Rattle.std.proofs.lemmas.List.{get_or_push, set-set}
 use Rattle.std.proofs.lemmas.List.Sums.{sum_by-append, sum_by-cons}
 use Rattle.smx_types.specs.declared.message.Message.{Message}
 use Rattle.smx_model.specs.Queues.{bytes_of}
@@ -93,12 +93,6 @@ pub set_last : (queues : List (Option Queue)) (a b : Option Queue) (n : ℕ) →
 set_last [] a b n e = rw e refl
 set_last (x ∷ queues) a b n e = rw e (ap (λ rest. x ∷ rest) (set_last queues a b (length queues) refl))
 
--- what was added behind all queues stands at the number of how many there were
-pub last_is : (queues : List (Option Queue)) (a : Option Queue) (n : ℕ) → n ≡ length queues
-    → get_or (queues ++ a ∷ []) n None ≡ a
-last_is [] a n e = rw e refl
-last_is (x ∷ queues) a n e = rw e (last_is queues a (length queues) refl)
-
 -- behind all others a place has come with these messages
 pub record IsCopied (old new : List (Option Queue)) (to : ℕ) (q : Queue) : Type 0 where
   pub there : IsPlace new to
@@ -118,14 +112,14 @@ copied_is old mid new to q all last pushed copied =
     let now : queue_at new to ≡ record q { messages = all } =
     ap (λ qs. queue_at qs to) new_is ∙ queue_last old _ to last in
     record {
-      there = rw (new_is, last_is old (Some (record q { messages = all })) to last) refl;
+      there = rw (new_is, get_or_push old (Some (record q { messages = all })) None to (sym last)) refl;
       at = now;
       marked = λ full. same_set new _ to _ _ new_is (ap (λ (x : Queue). record x { full = full }) now)
           ∙ set_last old _ _ to last;
     }
   where
     queue_last : (old : List (Option Queue)) (q : Queue) (n : ℕ) → n ≡ length old → queue_at (old ++ Some q ∷ []) n ≡ q
-    queue_last old q n last = rw (last_is old (Some q) n last) refl
+    queue_last old q n last = rw (get_or_push old (Some q) None n (sym last)) refl
 
 -- a place that is there is in the table
 pub there_is : (queues : List (Option Queue)) (p : ℕ) → IsPlace queues p

@@ -121,8 +121,7 @@ pub put_is : (p : PlaceList) (all new : List (Option Queue)) (n : ℕ) (t : Flow
     → new ≡ with_queue all i (with_arrival (queue_at all i) m) → IsAfter p new (after_arrival t place m)
 put_is p all new n t place i m h seen at is =
     after_now p all new n t (λ x. after_arrival x place m) seen
-    (subst (λ (qs : List (Option Queue)). IsNow p qs (after_arrival (lists_of p all n) place m)) (sym is)
-    (arrived_now p all n place i m h at))
+    (rw is (arrived_now p all n place i m h at))
 
 -- where the front leaves the queue of a place's number, the first message leaves the place
 pub take_is : (p : PlaceList) (all new : List (Option Queue)) (n : ℕ) (t : FlowLists) (place : Place) (i : ℕ)
@@ -131,8 +130,7 @@ pub take_is : (p : PlaceList) (all new : List (Option Queue)) (n : ℕ) (t : Flo
     → IsAfter p new (after_leaving t place)
 take_is p all new n t place i m h seen at first is =
     after_now p all new n t (λ x. after_leaving x place) seen
-    (subst (λ (qs : List (Option Queue)). IsNow p qs (after_leaving (lists_of p all n) place)) (sym is)
-    (left_now p all n place i m h at first))
+    (rw is (left_now p all n place i m h at first))
 
 -- where the front of one number's queue goes to another's, the first message goes from place to place
 pub move_is : (p : PlaceList) (all new : List (Option Queue)) (n : ℕ) (t : FlowLists) (from to : Place) (i j : ℕ)
@@ -143,8 +141,7 @@ pub move_is : (p : PlaceList) (all new : List (Option Queue)) (n : ℕ) (t : Flo
     → IsAfter p new (after_arrival (after_leaving t from) to m)
 move_is p all new n t from to i j m h seen at there differ first is =
     after_now p all new n t (λ x. after_arrival (after_leaving x from) to m) seen
-    (subst (λ (qs : List (Option Queue)). IsNow p qs (after_arrival (after_leaving (lists_of p all n) from) to m))
-    (sym is) (moved_now p all n from to i j m h at there differ first))
+    (rw is (moved_now p all n from to i j m h at there differ first))
 
 -- where the queue of a place's number is emptied, the flow and the full places are without the place
 pub drop_is : (p : PlaceList) (all new : List (Option Queue)) (n : ℕ) (t : FlowLists) (place : Place) (i : ℕ)
@@ -152,8 +149,7 @@ pub drop_is : (p : PlaceList) (all new : List (Option Queue)) (n : ℕ) (t : Flo
     → new ≡ with_queue all i (emptied (queue_at all i)) → IsAfter p new (without_place t place)
 drop_is p all new n t place i h seen at is =
     after_now p all new n t (λ x. without_place x place) seen
-    (subst (λ (qs : List (Option Queue)). IsNow p qs (without_place (lists_of p all n) place)) (sym is)
-    (emptied_now p all n place i h at))
+    (rw is (emptied_now p all n place i h at))
 
 -- all queues have as many messages as the flow
 pub total_is : (p : PlaceList) (all : List (Option Queue)) (n : ℕ) (t : FlowLists) → IsFlow p all → lists_of p all n ≡ t

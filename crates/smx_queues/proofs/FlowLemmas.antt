@@ -1,9 +1,10 @@
 -- The flow and the full places that the queues of rising places make, where one queue changes.
 use Rattle.std.proofs.Common.{◌≡◌, ℕ, zero, suc, ◌<◌, Bool, true, false, not, List, [], ◌∷◌, ◌++◌, length, filter, set}
-use Rattle.std.proofs.Common.{get_or, Option, Some, None, refl, sym, ap, ◌∙◌, subst, arith}
+use Rattle.std.proofs.Common.{get_or, Option, Some, None, refl, sym, ap, ◌∙◌, subst, arith, append-nil}
 use Rattle.std.specs.Prelude.{slice_get}
 use Rattle.std.specs.List.{list_any}
 use Rattle.std.proofs.lemmas.Bool.{or_parts}
+use Rattle.std.proofs.lemmas.Option.{same_Some}
 use Rattle.smx_types.specs.declared.message.Message.{Message}
 use Rattle.smx_types.specs.declared.stream.Place.{Place}
 use Rattle.smx_model.specs.Configuration.{QueuedMessage, is_at, place_before, queued_before, same_place}
@@ -20,14 +21,11 @@ Queues = List (Option Queue)
 abbrev placed : Place → Message → QueuedMessage
 placed p m = record { place = p; message = m }
 
-some_is : {X : Type 0} (x y : X) → Some x ≡ Some y → x ≡ y
-some_is x y e = cc
-
 -- a place of a list that rises comes behind the first one
 pub first_before : (p q : Place) (places : List Place) (i : ℕ) → ComesBefore place_before p places
     → slice_get places i ≡ Some q → place_before p q ≡ true
 first_before p q [] i h at = absurd cc
-first_before p q (r ∷ places) zero h at = subst (λ (x : Place). place_before p x ≡ true) (some_is r q at) h.0
+first_before p q (r ∷ places) zero h at = subst (λ (x : Place). place_before p x ≡ true) (same_Some r q at) h.0
 first_before p q (r ∷ places) (suc i) h at = first_before p q places i h.1 at
 
 -- ---- a message arrives
@@ -64,7 +62,7 @@ pub flow_arrived : (p : Place) (m : Message) (places : List Place) (queues : Que
 flow_arrived p m [] queues i q rise at below is = absurd cc
 flow_arrived p m (r ∷ places) [] i q rise at below is = absurd (omega arith)
 flow_arrived p m (r ∷ places) (old ∷ queues) zero q rise at below is =
-    let e = some_is r p at in
+    let e = same_Some r p at in
     let first : ComesBefore place_before p places = subst (λ (x : Place). ComesBefore place_before x places) e rise.0 in
     rw (is, e) (one_more p m (messages_in old) (flow_of places queues)
     ∙ (ap (λ (xs : List QueuedMessage). messages_at p (messages_in old) ++ xs)
@@ -91,7 +89,7 @@ pub flow_left : (p : Place) (m : Message) (places : List Place) (queues : Queues
 flow_left p m [] queues i q rise at below is = absurd cc
 flow_left p m (r ∷ places) [] i q rise at below is = absurd (omega arith)
 flow_left p m (r ∷ places) (old ∷ queues) zero q rise at below is =
-    let e = some_is r p at in
+    let e = same_Some r p at in
     subst (λ (x : Place). flow_of (x ∷ places) (Some q ∷ queues)
     ≡ without_first (is_at p) (flow_of (x ∷ places) (old ∷ queues))) (sym e) (rw (is, place_self p) refl)
 flow_left p m (r ∷ places) (old ∷ queues) (suc i) q rise at below is =
@@ -132,7 +130,7 @@ pub flow_emptied : (p : Place) (places : List Place) (queues : Queues) (i : ℕ)
 flow_emptied p [] queues i q rise at below is = absurd cc
 flow_emptied p (r ∷ places) [] i q rise at below is = absurd (omega arith)
 flow_emptied p (r ∷ places) (old ∷ queues) zero q rise at below is =
-    let e = some_is r p at in
+    let e = same_Some r p at in
     let first : ComesBefore place_before p places = subst (λ (x : Place). ComesBefore place_before x places) e rise.0 in
     rw (is, e) (sym (drop_same p (messages_in old) (flow_of places queues) ∙ keep_behind p places queues first))
 flow_emptied p (r ∷ places) (old ∷ queues) (suc i) q rise at below is =
@@ -159,21 +157,17 @@ queue_behind p (r ∷ places) [] h = refl
 queue_behind p (r ∷ places) (q ∷ queues) h =
     at_other p r (messages_in q) (flow_of places queues) (behind p r h.0) ∙ queue_behind p places queues h.1
 
-append_nil : {X : Type 0} (xs : List X) → xs ++ [] ≡ xs
-append_nil [] = refl
-append_nil (x ∷ xs) = ap (λ (ys : List _). x ∷ ys) (append_nil xs)
-
 -- what the flow has at a place is the messages of the queue at its number
 pub queue_found : (p : Place) (places : List Place) (queues : Queues) (i : ℕ) → IsRising place_before places
     → slice_get places i ≡ Some p → queue (flow_of places queues) p ≡ messages_in (get_or queues i None)
 queue_found p [] queues i rise at = absurd cc
 queue_found p (r ∷ places) [] i rise at = refl
 queue_found p (r ∷ places) (q ∷ queues) zero rise at =
-    let e = some_is r p at in
+    let e = same_Some r p at in
     let first : ComesBefore place_before p places = subst (λ (x : Place). ComesBefore place_before x places) e rise.0 in
     rw e (at_same p (messages_in q) (flow_of places queues)
     ∙ (ap (λ (xs : List Message). messages_in q ++ xs) (queue_behind p places queues first)
-    ∙ append_nil (messages_in q)))
+    ∙ append-nil (messages_in q)))
 queue_found p (r ∷ places) (q ∷ queues) (suc i) rise at =
     at_other p r (messages_in q) (flow_of places queues) (apart r p (first_before r p places i rise.0 at))
     ∙ queue_found p places queues i rise.1 at

@@ -6,6 +6,7 @@ use Rattle.std.specs.List.{list_any}
 use Rattle.std.proofs.lemmas.Bool.{cases_Bool, false≢true, or_parts}
 use Rattle.std.proofs.lemmas.List.Elements.{filter_agree}
 use Rattle.std.proofs.lemmas.List.{get_or-set_same, get_or-set_other}
+use Rattle.std.proofs.lemmas.Option.{same_Some}
 use Rattle.smx_types.specs.declared.driver.DriverSpec.{DriverSpec}
 use Rattle.smx_types.specs.declared.message.Message.{Message}
 use Rattle.smx_types.specs.declared.stream.Place.{Place}
@@ -29,9 +30,6 @@ pub record IsFound (drivers : List DriverSpec) (queues : List (Option Queue)) (p
   pub high : q.high ≡ high_of drivers p.stream.driver
   pub low : q.low ≡ low_of drivers p.stream.driver
 
-some_is : {X : Type 0} (x y : X) → Some x ≡ Some y → x ≡ y
-some_is x y e = cc
-
 -- the number of a place has a queue, with the water marks of the place's driver
 pub found : (drivers : List DriverSpec) (places : List Place) (queues : List (Option Queue)) (p : Place) (i : ℕ)
     → AreQueuesOf drivers places queues → slice_get places i ≡ Some p → IsFound drivers queues p i
@@ -39,7 +37,7 @@ found drivers [] queues p i h at = absurd cc
 found drivers (r ∷ places) [] p i h at = absurd h
 found drivers (r ∷ places) (None ∷ queues) p i h at = absurd h
 found drivers (r ∷ places) (Some q ∷ queues) p zero h at =
-    let e = some_is r p at in
+    let e = same_Some r p at in
     record {
       q = q;
       slot = refl;
@@ -70,7 +68,7 @@ still_queues drivers [] (x ∷ queues) i q new h at high low = absurd h
 still_queues drivers (r ∷ places) [] i q new h at high low = absurd h
 still_queues drivers (r ∷ places) (None ∷ queues) i q new h at high low = absurd h
 still_queues drivers (r ∷ places) (Some x ∷ queues) zero q new h at high low =
-    let e = some_is x q at in
+    let e = same_Some x q at in
     (high ∙ ap (λ (y : Queue). y.high) (sym e) ∙ h.0, low ∙ ap (λ (y : Queue). y.low) (sym e) ∙ h.1, h.2)
 still_queues drivers (r ∷ places) (Some x ∷ queues) (suc i) q new h at high low =
     (h.0, h.1, still_queues drivers places queues i q new h.2 at high low)
@@ -91,11 +89,26 @@ seen_now p all t n h = rw (h.drivers, h.flow, h.fulls) refl
 
 first_is : (ms : List Message) (m : Message) → slice_get ms 0 ≡ Some m → ms ≡ m ∷ drop 1 ms
 first_is [] m e = absurd cc
-first_is (x ∷ ms) m e = ap (λ (y : Message). y ∷ ms) (some_is x m e)
+first_is (x ∷ ms) m e = ap (λ (y : Message). y ∷ ms) (same_Some x m e)
 
 new_slot : (queues : List (Option Queue)) (i : ℕ) (q : Queue) → i < length queues
     → messages_in (get_or (set queues i (Some q)) i None) ≡ q.messages
 new_slot queues i q below = rw (get_or-set_same queues i (Some q) None below) refl
+
+-- where a place's number has another queue, the lists are those that it makes
+queue_now : (p : PlaceList) (all : List (Option Queue)) (place : Place) (i : ℕ) (t : FlowLists) → IsFlow p all
+    → slice_get p.places i ≡ Some place → (f : IsFound p.drivers all place i) (new : Queue) → new.high ≡ f.q.high
+    → new.low ≡ f.q.low → p.drivers ≡ t.drivers → flow_of p.places (set all i (Some new)) ≡ t.flow
+    → with_mark place new.full (fulls_of p.places all) ≡ t.fulls → IsNow p (set all i (Some new)) t
+queue_now p all place i t h at f new high low drivers flow fulls = record {
+  sound = record {
+    rising = h.rising;
+    queues = still_queues p.drivers p.places all i f.q new h.queues f.slot high low;
+  };
+  drivers = drivers;
+  flow = flow;
+  fulls = fulls_marked place p.places all i new h.rising at f.below ∙ fulls;
+}
 
 -- where the front left the queue of a place's number, the lists are those without its first message
 pub left_now : (p : PlaceList) (all : List (Option Queue)) (n : ℕ) (place : Place) (i : ℕ) (m : Message) → IsFlow p all
@@ -115,17 +128,8 @@ left_now p all n place i m h at first =
           let bytes : bytes_at (flow_of p.places (set all i (Some (without_front f.q)))) place
           ≡ bytes_of (drop 1 f.q.messages) = ap bytes_of here in
           let mark = mark_found place p.places all i h.rising at ∙ ap is_marked f.slot in
-          record {
-            sound = record {
-              rising = h.rising;
-              queues = still_queues p.drivers p.places all i f.q
-                  (without_front f.q) h.queues f.slot refl refl;
-            };
-            drivers = refl;
-            flow = flow;
-            fulls = fulls_marked place p.places all i (without_front f.q) h.rising at f.below
-                ∙ ap (λ (b : Bool). with_mark place b (fulls_of p.places all)) (rw (mark, ← flow, bytes, ← f.low) refl);
-          }
+          queue_now p all place i _ h at f (without_front f.q) refl refl refl flow
+          (ap (λ (b : Bool). with_mark place b (fulls_of p.places all)) (rw (mark, ← flow, bytes, ← f.low) refl))
 
 -- where a message came to the queue of a place's number, the lists are those with it
 pub arrived_now : (p : PlaceList) (all : List (Option Queue)) (n : ℕ) (place : Place) (i : ℕ) (m : Message)
@@ -144,18 +148,8 @@ arrived_now p all n place i m h at =
           let bytes : bytes_at (flow_of p.places (set all i (Some (with_arrival f.q m)))) place
           ≡ bytes_of (f.q.messages ++ m ∷ []) = ap bytes_of here in
           let mark = mark_found place p.places all i h.rising at ∙ ap is_marked f.slot in
-          record {
-            sound = record {
-              rising = h.rising;
-              queues = still_queues p.drivers p.places all i f.q
-                  (with_arrival f.q m) h.queues f.slot refl refl;
-            };
-            drivers = refl;
-            flow = flow;
-            fulls = fulls_marked place p.places all i (with_arrival f.q m) h.rising at f.below
-                ∙ ap (λ (b : Bool). with_mark place b (fulls_of p.places all))
-                (rw (mark, ← flow, bytes, ← f.high) refl);
-          }
+          queue_now p all place i _ h at f (with_arrival f.q m) refl refl refl flow
+          (ap (λ (b : Bool). with_mark place b (fulls_of p.places all)) (rw (mark, ← flow, bytes, ← f.high) refl))
 
 -- where the queue of a place's number was emptied, the lists are those without the place
 pub emptied_now : (p : PlaceList) (all : List (Option Queue)) (n : ℕ) (place : Place) (i : ℕ) → IsFlow p all
@@ -166,18 +160,10 @@ emptied_now p all n place i h at =
     rw (found_at p.drivers all place i f) (now f) where
       now : (f : IsFound p.drivers all place i)
           → IsNow p (with_queue all i (emptied f.q)) (without_place (lists_of p all n) place)
-      now f = record {
-        sound = record {
-          rising = h.rising;
-          queues = still_queues p.drivers p.places all i f.q
-              (emptied f.q) h.queues f.slot refl refl;
-        };
-        drivers = refl;
-        flow = flow_emptied place p.places all i (emptied f.q) h.rising at f.below refl;
-        fulls = fulls_marked place p.places all i (emptied f.q) h.rising at f.below
-            ∙ filter_agree (λ q. not (same_place place q)) (λ q. not (same_place q place))
-            (λ q. ap not (same_turned place q)) (fulls_of p.places all);
-      }
+      now f = queue_now p all place i _ h at f (emptied f.q) refl refl refl
+          (flow_emptied place p.places all i (emptied f.q) h.rising at f.below refl)
+          (filter_agree (λ q. not (same_place place q)) (λ q. not (same_place q place))
+          (λ q. ap not (same_turned place q)) (fulls_of p.places all))
 
 -- ---- a message moves on
 
@@ -190,7 +176,7 @@ pub numbers_differ : (places : List Place) (p q : Place) (i j : ℕ) → slice_g
     → slice_get places j ≡ Some q → same_place p q ≡ false → j ≢ i
 numbers_differ places p q i j at there differ same =
     let e : Some p ≡ Some q = sym at ∙ (ap (slice_get places) (sym same) ∙ there) in
-    let k : same_place p p ≡ false = subst (λ (x : Place). same_place p x ≡ false) (sym (some_is p q e)) differ in
+    let k : same_place p p ≡ false = subst (λ (x : Place). same_place p x ≡ false) (sym (same_Some p q e)) differ in
     false≢true (sym k ∙ place_self p)
 
 -- where a front went from the queue of one number to another's, the lists are those after both

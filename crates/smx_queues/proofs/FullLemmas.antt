@@ -4,6 +4,7 @@ use Rattle.std.proofs.Common.{get_or, Option, Some, None, refl, sym, ap, ◌∙�
 use Rattle.std.specs.Prelude.{slice_get}
 use Rattle.std.specs.List.{list_any}
 use Rattle.std.proofs.lemmas.Bool.{cases_Bool, or_parts, or_from}
+use Rattle.std.proofs.lemmas.Option.{same_Some}
 use Rattle.smx_types.specs.declared.stream.Place.{Place}
 use Rattle.smx_model.specs.Configuration.{place_before, same_place}
 use Rattle.smx_model.specs.Ordered.{ComesBefore, IsRising, with_inserted}
@@ -19,9 +20,6 @@ Queues = List (Option Queue)
 
 abbrev others : Place → List Place → List Place
 others p places = filter (λ q. not (same_place p q)) places
-
-some_is : {X : Type 0} (x y : X) → Some x ≡ Some y → x ≡ y
-some_is x y e = cc
 
 keep_behind : (p : Place) (places : List Place) (queues : Queues) → ComesBefore place_before p places
     → others p (fulls_of places queues) ≡ fulls_of places queues
@@ -75,7 +73,7 @@ pub fulls_marked : (p : Place) (places : List Place) (queues : Queues) (i : ℕ)
 fulls_marked p [] queues i q rise at below = absurd cc
 fulls_marked p (r ∷ places) [] i q rise at below = absurd (omega arith)
 fulls_marked p (r ∷ places) (old ∷ queues) zero q rise at below =
-    let e = some_is r p at in
+    let e = same_Some r p at in
     let first : ComesBefore place_before p places = subst (λ (x : Place). ComesBefore place_before x places) e rise.0 in
     rw e (sym (marked_here p (is_marked old) q.full places queues first))
 fulls_marked p (r ∷ places) (old ∷ queues) (suc i) q rise at below =
@@ -112,7 +110,7 @@ pub mark_found : (p : Place) (places : List Place) (queues : Queues) (i : ℕ) �
 mark_found p [] queues i rise at = absurd cc
 mark_found p (r ∷ places) [] i rise at = refl
 mark_found p (r ∷ places) (q ∷ queues) zero rise at =
-    let e = some_is r p at in
+    let e = same_Some r p at in
     let first : ComesBefore place_before p places = subst (λ (x : Place). ComesBefore place_before x places) e rise.0 in
     rw e (at_front p (is_marked q) (fulls_of places queues) (mark_none p places queues (none_behind p places first)))
 mark_found p (r ∷ places) (q ∷ queues) (suc i) rise at =

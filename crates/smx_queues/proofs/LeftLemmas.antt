@@ -77,12 +77,9 @@ first_left shown places queues i p below at =
     let there : drop i queues ≡ get_or queues i None ∷ drop (i + 1) queues = drop_more queues i None below in
     ap (λ (ps : List Place). shown ps (drop i queues)) here ∙ ap (shown (p ∷ drop (i + 1) places)) there
 
-some_messages : (n : ℕ) → ltb 0 (suc n) ≡ false → ⊥
-some_messages n e = grind (arith, nat_tests)
-
 none_of : (ms : List Message) → ltb 0 (length ms) ≡ false → ms ≡ []
 none_of [] e = refl
-none_of (m ∷ ms) e = absurd (some_messages (length ms) e)
+none_of (m ∷ ms) e = absurd (grind (arith, nat_tests))
 
 no_messages : (q : Option Queue) → has_messages q ≡ false → messages_in q ≡ []
 no_messages q h = none_of (messages_in q) h

@@ -2,6 +2,7 @@
 use Rattle.std.proofs.Common.{◌≡◌, ℕ, zero, suc, ◌+◌, ◌-◌, ◌<◌, ◌≤◌, Bool, true, false, not, cond, ◌&&◌, eqb, List, []}
 use Rattle.std.proofs.Common.{◌∷◌, length, map, filter, drop, take, set, replicate, get_or, Option, Some, None, refl}
 use Rattle.std.proofs.Common.{sym, ap, ◌∙◌, subst, arith, inl, inr}
+use Rattle.std.proofs.Math.Bool.{and-true}
 use Rattle.std.specs.Prelude.{slice_get}
 use Rattle.std.specs.Iterator.{YieldsFirstBy}
 use Rattle.std.specs.List.{list_any}
@@ -9,6 +10,8 @@ use Rattle.std.proofs.lemmas.Bool.{cases_Bool, cases_lt, false≢true, or_from}
 use Rattle.std.proofs.lemmas.List.{get_or-set_other, get_or-take, get_or_default}
 use Rattle.std.proofs.lemmas.List.{length-drop, length-map, length-set, length-take, map-set}
 use Rattle.std.proofs.lemmas.Option.{slice_get_within}
+use Rattle.std.proofs.lemmas.List.{drop-map, get_or-drop}
+use Rattle.std.proofs.lemmas.Bool.Decides.{nat_tests}
 use Rattle.memchr.specs.Find.{IsFirstByte, is_byte}
 use Rattle.smx_types.specs.declared.stream.Place.{Place}
 use Rattle.smx_model.specs.Configuration.{place_before, same_place}
@@ -34,15 +37,10 @@ marked_as [] bytes = refl
 marked_as (p ∷ places) [] = refl
 marked_as (p ∷ places) (b ∷ bytes) = ap (λ (xs : List Place). cond (eqb b 1) (p ∷ xs) xs) (marked_as places bytes)
 
-drop_slots : (n : ℕ) (bytes : List ℕ) → drop n (map slot bytes) ≡ map slot (drop n bytes)
-drop_slots zero bytes = refl
-drop_slots (suc n) [] = refl
-drop_slots (suc n) (b ∷ bytes) = drop_slots n bytes
-
 marked_left : (places : List Place) (bytes : List ℕ) (n : ℕ)
     → marked_of (drop n places) (drop n bytes) ≡ fulls_of (drop n places) (drop n (map slot bytes))
 marked_left places bytes n =
-    marked_as (drop n places) (drop n bytes) ∙ ap (fulls_of (drop n places)) (sym (drop_slots n bytes))
+    marked_as (drop n places) (drop n bytes) ∙ ap (fulls_of (drop n places)) (sym (drop-map slot n bytes))
 
 byte_slot : (bytes : List ℕ) (i : ℕ) → is_marked (get_or (map slot bytes) i None) ≡ eqb (get_or bytes i 0) 1
 byte_slot [] i = refl
@@ -118,10 +116,7 @@ pub marked_still : (p : Place) (places : List Place) (bytes : List ℕ) (i : ℕ
     → marked_of places bytes ≡ t.marked → has_mark t q ≡ true
     → list_any (same_place q) (marked_of places (set bytes i 1)) ≡ true
 marked_still p places bytes i t q law rise at many seen h = looks p places bytes i 1 t q law rise at many seen
-    ∙ (ap (cond (same_place p q) true) h ∙ either (same_place p q)) where
-      either : (s : Bool) → cond s true true ≡ true
-      either true = refl
-      either false = refl
+    ∙ (ap (cond (same_place p q) true) h ∙ grind (arith, nat_tests))
 
 -- where a byte is set to 0, all marks but that of its place are there
 pub cleared_at : (p : Place) (places : List Place) (bytes : List ℕ) (i : ℕ) (t : MarkList) (q : Place) → AreOfOnePlace
@@ -129,12 +124,7 @@ pub cleared_at : (p : Place) (places : List Place) (bytes : List ℕ) (i : ℕ) 
     → marked_of places bytes ≡ t.marked → list_any (same_place q) (marked_of places (set bytes i 0))
     ≡ all_but (has_mark t) p q
 cleared_at p places bytes i t q law rise at many seen =
-    looks p places bytes i 0 t q law rise at many seen ∙ but (same_place p q) (has_mark t q) where
-      but : (s h : Bool) → cond s false h ≡ (h && not s)
-      but true true = refl
-      but true false = refl
-      but false true = refl
-      but false false = refl
+    looks p places bytes i 0 t q law rise at many seen ∙ grind (arith, nat_tests)
 
 -- a place that the drivers don't have has no mark to clear
 pub nothing_cleared : (p : Place) (places : List Place) (bytes : List ℕ) (t : MarkList) (q : Place)
@@ -146,10 +136,7 @@ nothing_cleared p places bytes t q none seen = by (same_place p q) refl where
       let gone : has_mark t q ≡ false = subst (λ (x : Place). has_mark t x ≡ false) (place_is p q e)
       (ap (list_any (same_place p)) (sym seen) ∙ marked_none p places bytes none) in
       rw gone refl
-  by false e = same (has_mark t q) where
-    same : (h : Bool) → h ≡ (h && true)
-    same true = refl
-    same false = refl
+  by false e = sym (and-true (has_mark t q))
 
 -- ---- a mark goes
 
@@ -233,17 +220,10 @@ marks_step places bytes n i p now many seen one at =
 
 -- ---- the first byte that is 1
 
-byte_from : (bytes : List ℕ) (start k : ℕ) → get_or (drop start bytes) k 0 ≡ get_or bytes (start + k) 0
-byte_from bytes zero k = ap (λ (n : ℕ). get_or bytes n 0) (omega arith)
-byte_from [] (suc start) k = refl
-byte_from (b ∷ bytes) (suc start) k = byte_from bytes start k ∙ next (start + k) (suc start + k) (omega arith) where
-  next : (n m : ℕ) → suc n ≡ m → get_or bytes n 0 ≡ get_or (b ∷ bytes) m 0
-  next n m e = ap (λ (x : ℕ). get_or (b ∷ bytes) x 0) e
-
 byte_here : (bytes : List ℕ) (start k : ℕ) → start ≤ k
     → eqb (get_or (drop start bytes) (k - start) 0) 1 ≡ eqb (get_or bytes k 0) 1
 byte_here bytes start k le =
-    ap (λ (b : ℕ). eqb b 1) (byte_from bytes start (k - start) ∙ ap (λ (n : ℕ). get_or bytes n 0) (omega arith))
+    ap (λ (b : ℕ). eqb b 1) (get_or-drop start bytes (k - start) 0 ∙ ap (λ (n : ℕ). get_or bytes n 0) (omega arith))
 
 -- the bytes from the start on, up to the end
 byte_between : (bytes : List ℕ) (start end k : ℕ) → start ≤ k → k < end

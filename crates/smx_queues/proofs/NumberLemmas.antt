@@ -1,10 +1,10 @@
 -- The places of some drivers, and of one driver more.
-use Rattle.std.proofs.Common.{◌≡◌, ℕ, zero, suc, ◌+◌, ◌*◌, ◌<◌, ◌≤◌, true, false, ◌&&◌, eqb, ltb, List, [], ◌∷◌, ◌++◌}
+use Rattle.std.proofs.Common.{◌≡◌, ℕ, zero, suc, ◌+◌, ◌*◌, ◌<◌, ◌≤◌, true, false, ◌&&◌, eqb, List, [], ◌∷◌, ◌++◌}
 use Rattle.std.proofs.Common.{length, ◌⊎◌, Option, Some, None, refl, sym, ap, ◌∙◌, subst, arith, length-append, inl, inr}
 use Rattle.std.specs.Prelude.{slice_get}
 use Rattle.std.specs.List.{list_any}
 use Rattle.std.specs.Option.{option_map_or}
-use Rattle.std.proofs.lemmas.Bool.{cases_eq, cases_lt, or_from, ne_eqb}
+use Rattle.std.proofs.lemmas.Bool.{cases_eq, cases_lt, lt-ltb, or_from, ne_eqb}
 use Rattle.std.proofs.lemmas.Bool.Decides.{nat_tests}
 use Rattle.std.proofs.lemmas.List.Folds.{list_any-append}
 use Rattle.std.proofs.lemmas.Option.{same_Some, slice_get_past, slice_get_within}
@@ -17,10 +17,7 @@ use Rattle.smx_model.specs.DriverList.{minors_of}
 use Rattle.smx_model.specs.Ordered.{ComesBefore, IsRising}
 use Rattle.smx_queues.specs.PlaceLists.{ArePlaces, HaveDriversBelow, number_in, sides_of}
 use Rattle.smx_queues.specs.declared.places.DriverRow.{DriverRow}
-use Rattle.smx_queues.proofs.PlaceLemmas.{lower_driver, lower_minor}
-
-abbrev place_at : ℕ → ℕ → Side → Place
-place_at driver minor s = record { stream = record { driver = driver; minor = minor }; side = s }
+use Rattle.smx_queues.proofs.PlaceLemmas.{lower_driver, lower_minor, place_at}
 
 -- ---- elements of two lists
 
@@ -117,14 +114,11 @@ all_before_more : (xs zs ys : List Place) → AllBefore xs ys → AllBefore zs y
 all_before_more [] zs ys h k = k
 all_before_more (x ∷ xs) zs ys h k = (h.0, all_before_more xs zs ys h.1 k)
 
-less : (a b : ℕ) → a < b → ltb a b ≡ true
-less a b lt = grind (arith, nat_tests)
-
 sides_before : (driver n m : ℕ) → n ≤ m
     → AllBefore (sides_of driver n) (place_at driver m side.Write ∷ place_at driver m side.Read ∷ [])
 sides_before driver zero m le = tt
 sides_before driver (suc n) m le =
-    let lt = less n m (omega arith) in
+    let lt = lt-ltb n m (omega arith) in
     all_before_more (sides_of driver n) (place_at driver n side.Write ∷ place_at driver n side.Read ∷ [])
     (place_at driver m side.Write ∷ place_at driver m side.Read ∷ [])
     (sides_before driver n m (omega arith)) (
@@ -133,9 +127,7 @@ sides_before driver (suc n) m le =
     )
 
 two_rise : (driver n : ℕ) → IsRising place_before (place_at driver n side.Write ∷ place_at driver n side.Read ∷ [])
-two_rise driver n = ((write_first driver n, tt), (tt, tt)) where
-  write_first : (d m : ℕ) → place_before (place_at d m side.Write) (place_at d m side.Read) ≡ true
-  write_first d m = grind (arith, nat_tests)
+two_rise driver n = ((grind (arith, nat_tests), tt), (tt, tt))
 
 sides_rise : (driver n : ℕ) → IsRising place_before (sides_of driver n)
 sides_rise driver zero = tt
@@ -146,7 +138,7 @@ sides_rise driver (suc n) = rising_more (sides_of driver n)
 before_sides : (p : Place) (driver n : ℕ) → p.stream.driver < driver → ComesBefore place_before p (sides_of driver n)
 before_sides p driver zero lt = tt
 before_sides p driver (suc n) lt =
-    let h = less p.stream.driver driver lt in
+    let h = lt-ltb p.stream.driver driver lt in
     before_more p (sides_of driver n) (place_at driver n side.Write ∷ place_at driver n side.Read ∷ [])
     (before_sides p driver n lt)
     (lower_driver p (place_at driver n side.Write) h, (lower_driver p (place_at driver n side.Read) h, tt))

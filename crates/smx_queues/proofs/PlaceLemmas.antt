@@ -1,39 +1,19 @@
 -- Places that are the same, and places of which one comes first.
-use Rattle.std.proofs.Common.{◌≡◌, ℕ, true, false, ltb, List, [], ◌∷◌, refl, ap, ◌∙◌, arith}
+use Rattle.std.proofs.Common.{◌≡◌, ℕ, true, false, ltb, List, [], ◌∷◌, refl, arith}
 use Rattle.std.specs.List.{list_any}
-use Rattle.std.proofs.lemmas.Bool.{and_parts, eqb-true, or_from}
+use Rattle.std.proofs.lemmas.Bool.{or_from}
 use Rattle.std.proofs.lemmas.Bool.Decides.{nat_tests}
 use Rattle.smx_types.specs.declared.stream.Place.{Place}
 use Rattle.smx_types.specs.declared.stream.Side.{Side}
-use Rattle.smx_types.specs.declared.stream.Side.TheVariants as side
-use Rattle.smx_model.specs.Configuration.{place_before, same_place, same_side, same_stream}
+use Rattle.smx_model.specs.Configuration.{place_before, same_place}
 use Rattle.smx_model.specs.Ordered.{ComesBefore}
+-- places that the test says are the same are one; each is the same as itself, and doesn't come before itself
+pub use Rattle.smx_model.proofs.OrderLemmas.{same_self as place_self, same_not_before as not_before}
+pub use Rattle.smx_model.proofs.SettlingLemmas.{same_place_is as place_is}
 
-side_is : (a b : Side) → same_side a b ≡ true → a ≡ b
-side_is side.Write side.Write h = refl
-side_is side.Write side.Read h = absurd cc
-side_is side.Read side.Write h = absurd cc
-side_is side.Read side.Read h = refl
-
-abbrev place_at : ℕ → ℕ → Side → Place
+-- a place of a driver
+abbrev pub place_at : ℕ → ℕ → Side → Place
 place_at driver minor s = record { stream = record { driver = driver; minor = minor }; side = s }
-
--- the same place is one
-pub place_is : (p q : Place) → same_place p q ≡ true → p ≡ q
-place_is p q h =
-    let a = and_parts (same_stream p.stream q.stream) (same_side p.side q.side) h in
-    let b = and_parts _ _ a.0 in
-    ap (λ (x : ℕ). place_at x p.stream.minor p.side) (eqb-true p.stream.driver q.stream.driver b.0)
-    ∙ ap (λ (x : ℕ). place_at q.stream.driver x p.side) (eqb-true p.stream.minor q.stream.minor b.1)
-    ∙ ap (place_at q.stream.driver q.stream.minor) (side_is p.side q.side a.1)
-
--- each place is the same as itself
-pub place_self : (p : Place) → same_place p p ≡ true
-place_self p = grind (arith, nat_tests)
-
--- no place comes before itself
-pub not_before : (p : Place) → place_before p p ≡ false
-not_before p = grind (arith, nat_tests)
 
 -- of two places, not each comes before the other
 pub not_after : (p q : Place) → place_before p q ≡ true → place_before q p ≡ false

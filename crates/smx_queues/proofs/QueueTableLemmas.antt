@@ -6,6 +6,7 @@ use Rattle.std.proofs.lemmas.Bool.Decides.{nat_tests}
 use Rattle.std.proofs.lemmas.List.Sums.{prefix_len_passes}
 use Rattle.std.proofs.lemmas.List.Quantifiers.{position-Some}
 use Rattle.std.proofs.lemmas.List.{get_or-set_same, set-set, length-drop}
+use Rattle.std.proofs.lemmas.Bool.{not-false, not-true}
 use Rattle.smx_types.specs.declared.message.Message.{Message}
 use Rattle.smx_model.specs.Queues.{bytes_of, full_after_leaving}
 use Rattle.smx_queues.specs.declared.chain.Chain.{Chain}
@@ -130,18 +131,6 @@ none_vacant (chain ∷ chains) (q ∷ queues) many there =
       added = λ new. rw here (ap (λ rest. Some q ∷ rest) (r.added new));
     }
 
-is_there : (b : Bool) → not (not b) ≡ true → b ≡ true
-is_there true e = refl
-is_there false e = absurd (cc)
-
-is_gone : (b : Bool) → not b ≡ true → b ≡ false
-is_gone true e = absurd (cc)
-is_gone false e = refl
-
-still_there : (b : Bool) → not b ≡ false → b ≡ true
-still_there true e = refl
-still_there false e = absurd (cc)
-
 -- the place of the chain is gone
 abbrev pub goes : Chain → Bool
 goes chain = not chain.there
@@ -152,16 +141,16 @@ pub vacant_found : (chains : List Chain) (queues : List Queue) (p : ℕ) → len
     × IsVacant chains queues p
 vacant_found chains queues p many found =
     let f = position-Some goes chains p no_chain (sym found) in
-    let gone = is_gone _ f.1 in
-    (f.0, gone, vacant_at chains queues p many f.0 gone (λ k less. still_there _ (f.2 k less)))
+    let gone = not-true _ f.1 in
+    (f.0, gone, vacant_at chains queues p many f.0 gone (λ k less. not-false _ (f.2 k less)))
 
 -- where no chain was found whose place is gone, the next number is the least without a queue
 pub vacant_not_found : (chains : List Chain) (queues : List Queue) → length queues ≡ length chains
     → None ≡ position goes chains → IsFull chains queues
 vacant_not_found chains queues many none =
     none_vacant chains queues many
-    (λ k less. is_there _ (prefix_len_passes (λ (c : Chain). not (goes c)) chains k no_chain
-    (omega (arith, less, far (nat_lt (position_or_len goes chains) (length chains)) refl none))))
+    (λ k less. not-false _ (not-true _ (prefix_len_passes (λ (c : Chain). not (goes c)) chains k no_chain
+    (omega (arith, less, far (nat_lt (position_or_len goes chains) (length chains)) refl none)))))
   where
     far : (b : Bool) → nat_lt (position_or_len goes chains) (length chains) ≡ b
         → None ≡ cond b (Some (position_or_len goes chains)) None → length chains ≤ position_or_len goes chains

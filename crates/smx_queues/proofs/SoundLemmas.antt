@@ -5,6 +5,7 @@ use Rattle.std.proofs.Common.{append_assoc, append-nil}
 use Rattle.std.specs.List.{sum_by, slice_get, repeat}
 use Rattle.std.proofs.lemmas.List.{get_or-set_other, get_or_default, length-map, length-set}
 use Rattle.std.proofs.lemmas.List.Sums.{sum_by-set, sum_by-cons}
+use Rattle.std.proofs.lemmas.Option.{same_Some}
 use Rattle.slab.specs.Slab.{Slab, get, ContainsKey, slab_len, Updates}
 use Rattle.smx_types.specs.declared.message.Message.{Message}
 use Rattle.smx_model.specs.Queues.{bytes_of}
@@ -146,14 +147,10 @@ first_of own s p chain q l some = by q.messages refl
           few = have.1;
         }
 
--- where the same node is found twice, both are one
-pub some_is : (x y : Node) → Some x ≡ Some y → x ≡ y
-some_is x y e = cc
-
 -- the node that was found is the first
 pub first_is : (s : Slab Node) (chain : Chain) (q : Queue) (node : Node) (f : IsFirst s chain q)
     → get s chain.first ≡ Some node → node_from f.message f.next ≡ node
-first_is s chain q node f found = some_is _ _ (sym f.found ∙ found)
+first_is s chain q node f found = same_Some _ _ (sym f.found ∙ found)
 
 -- the bytes of the first message are no more than those of its chain
 pub first_within : (s : Slab Node) (chain : Chain) (q : Queue) (node : Node) (bytes : List ℕ) → IsFirst s chain q
@@ -285,7 +282,7 @@ leaving s chains sound view is p there chain read some node found =
     let n = first_is s chain _ node f found in
     let d = store_detach sound.own s chains sound.queues 0 p f.message f.rest sound.store a.below f.was in
     let first : chain.first ≡ (get_or chains p no_chain).first = ap (λ (c : Chain). c.first) a.read in
-    let next : d.0 ≡ node.next = ap (λ (x : Node). x.next) (some_is _ _ (sym d.1 ∙ ap (get s) (sym first) ∙ found)) in
+    let next : d.0 ≡ node.next = ap (λ (x : Node). x.next) (same_Some _ _ (sym d.1 ∙ ap (get s) (sym first) ∙ found)) in
     let message : f.message ≡ node.message = ap (λ (x : Node). x.message) n in
     let chain_is : chain_without_first (get_or chains p no_chain) d.0 (size f.message)
     ≡ chain_without_first chain node.next (size node.message) = same_left _ _ _ _ _ _ (sym a.read) next message in
@@ -368,10 +365,6 @@ seen_move s s2 chains sound view is from to from_there to_there differ source af
     moved_chains : (chains : List Chain) (from to : ℕ) (after left last last' : Chain) → after ≡ left → last ≡ last'
         → set (set chains from after) to last ≡ set (set chains from left) to last'
     moved_chains chains from to after left last last' e f = rw (e, f) refl
-
--- where the same message is found twice, both are one
-pub message_is : (x y : Message) → Some x ≡ Some y → x ≡ y
-message_is x y e = cc
 
 -- more room changes nothing
 pub seen_grown : (s s' : Slab Node) (chains : List Chain) (view : List (Option Queue)) → s'.slots ≡ s.slots

@@ -1,6 +1,6 @@
 -- What a walk over places meets next, in lists as which the tables are seen.
 use Rattle.std.proofs.Common.{◌≡◌, ℕ, zero, suc, ◌+◌, ◌<◌, Bool, true, List, [], ◌∷◌, ◌++◌, length, map, drop, get_or}
-use Rattle.std.proofs.Common.{Option, Some, None, refl, sym, ap, ◌∙◌, subst, arith}
+use Rattle.std.proofs.Common.{Option, Some, None, refl, sym, ap, ◌∙◌, subst, arith, append-nil}
 use Rattle.std.specs.Prelude.{nat_lt, slice_get}
 use Rattle.std.specs.List.{All}
 use Rattle.std.proofs.lemmas.List.Elements.{All-from_recursion}
@@ -74,10 +74,7 @@ first_fronts p all n t h seen =
 
 -- the serials of no messages, behind others, add none
 pub nothing_added : (xs : List ℕ) (ms : List Message) → [] ≡ ms → xs ≡ xs ++ map (λ m. m.serial) ms
-nothing_added xs ms e = subst (λ (ns : List Message). xs ≡ xs ++ map (λ m. m.serial) ns) e (sym (append_nil xs)) where
-  append_nil : (ys : List ℕ) → ys ++ [] ≡ ys
-  append_nil [] = refl
-  append_nil (y ∷ ys) = ap (λ (zs : List ℕ). y ∷ zs) (append_nil ys)
+nothing_added xs ms e = subst (λ (ns : List Message). xs ≡ xs ++ map (λ m. m.serial) ns) e (sym (append-nil xs))
 
 -- the place of a number is of one of so many drivers
 pub driver_at : (n : ℕ) (places : List Place) (i : ℕ) (d : Place) → HaveDriversBelow n places → i < length places

@@ -1,11 +1,11 @@
 -- Places that wait, by place and by slot.
-use Rattle.std.proofs.Common.{◌≡◌, ℕ, zero, suc, ◌+◌, ◌-◌, ◌<◌, ◌≤◌, Bool, true, false, ◌==◌, ◌||◌, add-one, cond, List}
+use Rattle.std.proofs.Common.{◌≡◌, ℕ, zero, suc, ◌+◌, ◌-◌, ◌<◌, ◌≤◌, Bool, true, false, ◌==◌, add-one, cond, List}
 use Rattle.std.proofs.Common.{[], ◌∷◌, ◌++◌, length, find, set, get_or, Option, Some, None, refl, sym, ap, ◌∙◌, subst}
 use Rattle.std.proofs.Common.{arith, inl, inr}
 use Rattle.std.specs.Prelude.{count_by, slice_get}
 use Rattle.std.specs.List.{list_any}
 use Rattle.std.specs.Option.{option_map}
-use Rattle.std.proofs.lemmas.Bool.{cases_Bool, cases_eq, cases_lt, false≢true, ne_eqb}
+use Rattle.std.proofs.lemmas.Bool.{cases_Bool, cases_eq, cases_lt, false≢true, ne_eqb, or_right}
 use Rattle.std.proofs.lemmas.List.{get_or-set_other, get_or-set_same, get_or_default, get_or_past, length-append}
 use Rattle.std.proofs.lemmas.List.{length-set}
 use Rattle.std.proofs.lemmas.List.Sums.{get_or-le-sum_by, sum_by-set}
@@ -24,10 +24,7 @@ use Rattle.smx_queues.proofs.PlaceLemmas.{none_behind, place_is, place_self}
 stands : (p : Place) (places : List Place) (i : ℕ) → slice_get places i ≡ Some p → list_any (same_place p) places ≡ true
 stands p [] i e = absurd cc
 stands p (x ∷ places) zero e = let same : x ≡ p = same_Some x p e in rw same (rw (place_self p) refl)
-stands p (x ∷ places) (suc i) e = or_right (same_place p x) _ (stands p places i e) where
-  or_right : (a b : Bool) → b ≡ true → (a || b) ≡ true
-  or_right true b h = refl
-  or_right false b h = h
+stands p (x ∷ places) (suc i) e = or_right (same_place p x) _ (stands p places i e)
 
 -- and one that is found in it has a number
 where_is : (p : Place) (places : List Place) → list_any (same_place p) places ≡ true
@@ -256,7 +253,7 @@ one_more places slots waits p target i n h there e last = record {
         let by = h.known k (omega (arith, length-append waits (wait_for p target ∷ []))) in (
           by.0,
           get_or-set_other slots i by.0 n 0
-              (λ same. absurd (zero_not k (sym e ∙ (ap (λ (m : ℕ). get_or slots m 0) (sym same) ∙ by.1)))) ∙ by.1,
+              (λ same. omega (arith, sym e ∙ (ap (λ (m : ℕ). get_or slots m 0) (sym same) ∙ by.1))) ∙ by.1,
         )
   ];
   counted =
@@ -266,9 +263,6 @@ one_more places slots waits p target i n h there e last = record {
 } where
   below : i < length slots
   below = has_slot places slots waits p i h there
-
-  zero_not : (k : ℕ) → 0 ≡ k + 1 → ⊥
-  zero_not k f = omega arith
 
   counts : (s m : ℕ) → s ≡ 0 → m ≡ length waits + 1 → count_by is_free (set slots i n) + weight s
       ≡ count_by is_free slots + weight m → count_by is_free (set slots i n) + 1 ≡ count_by is_free slots + 0
@@ -435,29 +429,20 @@ one_less places slots now waits waits_now i k h e out m = record {
         let by = h.known (length waits - 1) (omega (arith, out.fewer)) in (
           by.0,
           m.moved by.0
-              (λ same. not_last n is within (sym e ∙ (ap (λ (x : ℕ). get_or slots x 0) (sym same) ∙ by.1)))
+              (λ same. omega (arith, out.fewer, sym e ∙ (ap (λ (x : ℕ). get_or slots x 0) (sym same) ∙ by.1)))
               (by.1 ∙ omega (arith, out.fewer)) ∙ omega arith,
         )
     | inr other ↦
         let by = h.known n (omega (arith, out.fewer)) in (
           by.0,
-          m.others by.0 (λ same. other (not_own_index n (sym by.1 ∙ (ap (λ (x : ℕ). get_or slots x 0) same ∙ e))))
-              (λ same. absurd (too_far n within (sym by.1 ∙ same))) ∙ by.1,
+          m.others by.0 (λ same. other (omega (arith, sym by.1 ∙ (ap (λ (x : ℕ). get_or slots x 0) same ∙ e))))
+              (λ same. omega (arith, out.fewer, sym by.1 ∙ same)) ∙ by.1,
         )
   ];
   counted = omega (arith, h.counted, m.one_free, m.as_many, out.fewer);
 } where
   not_own : (j n : ℕ) → get_or now j 0 ≡ n + 1 → j ≡ i → ⊥
   not_own j n f same = let z : 0 ≡ n + 1 = sym m.own ∙ (ap (λ (x : ℕ). get_or now x 0) (sym same) ∙ f) in omega arith
-
-  not_last : (n : ℕ) → n ≡ k → n < length waits_now → k + 1 ≡ length waits - 1 + 1 → ⊥
-  not_last n is within f = omega (arith, out.fewer)
-
-  not_own_index : (n : ℕ) → n + 1 ≡ k + 1 → n ≡ k
-  not_own_index n f = omega arith
-
-  too_far : (n : ℕ) → n < length waits_now → n + 1 ≡ length waits → ⊥
-  too_far n within f = omega (arith, out.fewer)
 
   told_before : (j : ℕ) → (j ≡ i → ⊥) → (n : ℕ) → get_or now j 0 ≡ n + 1 → (b : ℕ) × (get_or slots j 0 ≡ b + 1)
   told_before j other n f = elim (cases_eq (get_or slots j 0) (length waits)) [

@@ -3,7 +3,7 @@ use Rattle.std.proofs.Common.{◌≡◌, ℕ, suc, ◌+◌, ◌-◌, ◌<◌, Li
 use Rattle.std.proofs.Common.{sym, ap, ◌∙◌, arith}
 use Rattle.std.specs.List.{slice_get}
 use Rattle.std.proofs.lemmas.List.{drop_more}
-use Rattle.std.proofs.lemmas.Option.{slice_get-get_or}
+use Rattle.std.proofs.lemmas.Option.{same_Some, slice_get-get_or}
 use Rattle.slab.specs.Slab.{Slab, get, ContainsKey}
 use Rattle.smx_types.specs.declared.message.Message.{Message}
 use Rattle.smx_queues.specs.declared.node.Node.{Node}
@@ -11,7 +11,6 @@ use Rattle.smx_queues.specs.declared.chain.Chain.{Chain}
 use Rattle.smx_queues.specs.QueueTable.{Queue}
 use Rattle.smx_queues.specs.Chains.{walk, walk_on, IsQueue}
 use Rattle.smx_queues.proofs.ChainLemmas.{walk_chain}
-use Rattle.smx_queues.proofs.SoundLemmas.{some_is}
 
 -- a walk along the whole chain of a place meets all its messages
 pub walk_all : (own : ℕ → ℕ × ℕ) (s : Slab Node) (p : ℕ) (chain : Chain) (q : Queue) → IsQueue own s p chain q
@@ -75,10 +74,10 @@ walk_start own s p chain q l =
 pub step_next : (s : Slab Node) (key k : ℕ) (ms : List Message) (node : Node) → Step s key k ms → get s key ≡ Some node
     → walk s (length ms - (k + 1)) node.next ≡ drop (k + 1) ms
 step_next s key k ms node step found =
-    ap (λ (x : Node). walk s (length ms - (k + 1)) x.next) (some_is _ _ (sym found ∙ step.found)) ∙ step.later
+    ap (λ (x : Node). walk s (length ms - (k + 1)) x.next) (same_Some _ _ (sym found ∙ step.found)) ∙ step.later
 
 -- the message of the node that a walk is at is the next of the queue
 pub step_is : (s : Slab Node) (key k i : ℕ) (ms : List Message) (node : Node) → Step s key k ms → get s key ≡ Some node
     → k ≡ i → Some node.message ≡ slice_get ms i
 step_is s key k i ms node step found same =
-    ap (λ (x : Node). Some x.message) (some_is _ _ (sym found ∙ step.found)) ∙ sym step.is ∙ ap (slice_get ms) same
+    ap (λ (x : Node). Some x.message) (same_Some _ _ (sym found ∙ step.found)) ∙ sym step.is ∙ ap (slice_get ms) same

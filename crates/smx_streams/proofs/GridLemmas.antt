@@ -1,9 +1,9 @@
 -- Numbers and keys by driver and minor.
-use Rattle.std.proofs.Common.{◌≡◌, ℕ, zero, suc, ◌<◌, Bool, true, false, eqb, List, [], ◌∷◌, length, map, get_or, set}
+use Rattle.std.proofs.Common.{◌≡◌, ℕ, zero, suc, ◌<◌, true, List, [], ◌∷◌, length, map, get_or, set}
 use Rattle.std.proofs.Common.{replicate, Option, Some, None, if◌then◌else◌, refl, sym, ap, ◌∙◌, inl, inr}
 use Rattle.std.specs.Prelude.{nat_lt}
 use Rattle.std.proofs.Math.ListN.{get_or-map}
-use Rattle.std.proofs.lemmas.Bool.{cases_eq, cases_lt, eq-eqb, eqb-true, false_from_ne_true, and_parts, lt-ltb}
+use Rattle.std.proofs.lemmas.Bool.{cases_eq, cases_lt, eq-eqb, lt-ltb, ne_eqb}
 use Rattle.std.proofs.lemmas.List.{get_or-set_same, get_or-set_other, get_or_past, length-set, length-replicate}
 use Rattle.slab.specs.Slab.{Slab}
 use Rattle.smx_types.specs.declared.stream.StreamId.{StreamId}
@@ -12,49 +12,34 @@ use Rattle.smx_streams.specs.declared.records.Record.{Record}
 use Rattle.smx_streams.specs.RecordGrids.{Grid, key_at, with_key, record_of_key, opens_of, holds_of, hung_of}
 use Rattle.smx_streams.specs.StreamTables.{number_at, is_in_range}
 use Rattle.smx_streams.specs.HungRows.{flag_at}
-
--- streams that the test says are the same are equal
-pub same_is : (s t : StreamId) → same_stream s t ≡ true → s ≡ t
-same_is s t h =
-    let both = and_parts (eqb s.driver t.driver) (eqb s.minor t.minor) h in
-    let d : s.driver ≡ t.driver = eqb-true s.driver t.driver both.0 in
-    let m : s.minor ≡ t.minor = eqb-true s.minor t.minor both.1 in
-    ap (λ (x : ℕ). record_of x s.minor) d ∙ ap (record_of t.driver) m where
-      record_of : ℕ → ℕ → StreamId
-      record_of x y = record { driver = x; minor = y }
-
--- a stream is the same as itself
-pub same_self : (s : StreamId) → same_stream s s ≡ true
-same_self s = rw (eq-eqb s.driver s.driver refl, eq-eqb s.minor s.minor refl) refl
+-- streams that the test says are the same are equal, and each is the same as itself
+pub use Rattle.smx_model.proofs.SweptLemmas.{stream_self as same_self}
+pub use Rattle.smx_model.proofs.TurningLemmas.{same_stream_is as same_is}
 
 -- what is read at a stream is what its key leads to
+
+read_at : {X : Type 0} (f : Option ℕ → X) (grid : Grid) (s : StreamId)
+    → get_or (get_or (map (map f) grid) s.driver []) s.minor (f None) ≡ f (key_at grid s)
+read_at {X} f grid s = ap (λ (row : List X). get_or row s.minor (f None)) (get_or-map (map f) grid s.driver [])
+    ∙ get_or-map f (get_or grid s.driver []) s.minor None
 
 -- a stream has as many descriptors as the record has to which its key leads, or none
 pub opens_at : (grid : Grid) (records : Slab Record) (s : StreamId)
     → number_at (map (map (λ key. opens_of (record_of_key records key))) grid) s
     ≡ opens_of (record_of_key records (key_at grid s))
-opens_at grid records s =
-    let f : Option ℕ → ℕ = λ key. opens_of (record_of_key records key) in
-    ap (λ (row : List ℕ). get_or row s.minor 0) (get_or-map (map f) grid s.driver [])
-    ∙ get_or-map f (get_or grid s.driver []) s.minor None
+opens_at grid records s = read_at (λ key. opens_of (record_of_key records key)) grid s
 
 -- a stream has as many holds as the record has to which its key leads, or none
 pub holds_at : (grid : Grid) (records : Slab Record) (s : StreamId)
     → number_at (map (map (λ key. holds_of (record_of_key records key))) grid) s
     ≡ holds_of (record_of_key records (key_at grid s))
-holds_at grid records s =
-    let f : Option ℕ → ℕ = λ key. holds_of (record_of_key records key) in
-    ap (λ (row : List ℕ). get_or row s.minor 0) (get_or-map (map f) grid s.driver [])
-    ∙ get_or-map f (get_or grid s.driver []) s.minor None
+holds_at grid records s = read_at (λ key. holds_of (record_of_key records key)) grid s
 
 -- a stream has hung up just where the record has to which its key leads
 pub hungs_at : (grid : Grid) (records : Slab Record) (s : StreamId)
     → flag_at (map (map (λ key. hung_of (record_of_key records key))) grid) s
     ≡ hung_of (record_of_key records (key_at grid s))
-hungs_at grid records s =
-    let f : Option ℕ → Bool = λ key. hung_of (record_of_key records key) in
-    ap (λ (row : List Bool). get_or row s.minor false) (get_or-map (map f) grid s.driver [])
-    ∙ get_or-map f (get_or grid s.driver []) s.minor None
+hungs_at grid records s = read_at (λ key. hung_of (record_of_key records key)) grid s
 
 -- a key that is set
 
@@ -73,15 +58,12 @@ key_set grid s key x driver minor = elim (cases_eq x.driver s.driver) [
             ∙ ap (λ n. get_or (set (get_or grid s.driver []) s.minor key) n None) m
             ∙ get_or-set_same (get_or grid s.driver []) s.minor key None minor)
         | inr m ↦
-            rw (
-              eq-eqb x.driver s.driver d,
-              false_from_ne_true (eqb x.minor s.minor)
-                  (λ t. m (eqb-true x.minor s.minor t)),
-            ) (ap (λ (r : List (Option ℕ)). get_or r x.minor None) row
+            rw (eq-eqb x.driver s.driver d, ne_eqb x.minor s.minor m)
+            (ap (λ (r : List (Option ℕ)). get_or r x.minor None) row
             ∙ get_or-set_other (get_or grid s.driver []) s.minor x.minor key None m
             ∙ ap (λ n. get_or (get_or grid n []) x.minor None) (sym d))
       ]
-  | inr d ↦ rw (false_from_ne_true (eqb x.driver s.driver) (λ t. d (eqb-true x.driver s.driver t)))
+  | inr d ↦ rw (ne_eqb x.driver s.driver d)
       (ap (λ (r : List (Option ℕ)). get_or r x.minor None)
       (get_or-set_other grid s.driver x.driver (set (get_or grid s.driver []) s.minor key) [] d))
 ]
@@ -112,14 +94,10 @@ has_minor grid s key h = elim (cases_lt s.minor (length (get_or grid s.driver []
   | inr past ↦ let none : key_at grid s ≡ None = get_or_past (get_or grid s.driver []) s.minor None past in absurd cc
 ]
 
--- a driver has as many minors as its row is long, and none if there is no row
-pub length_at : (grid : Grid) (d : ℕ) → get_or (map length grid) d 0 ≡ length (get_or grid d [])
-length_at grid d = get_or-map length grid d []
-
 -- a stream that has a key is in range, as its driver's minors say
 pub in_range_of_key : (grid : Grid) (s : StreamId) (key : ℕ) → key_at grid s ≡ Some key
     → is_in_range (map length grid) s.driver s.minor ≡ true
-in_range_of_key grid s key h = ap (λ n. nat_lt s.minor n) (length_at grid s.driver)
+in_range_of_key grid s key h = ap (λ n. nat_lt s.minor n) (get_or-map length grid s.driver [])
     ∙ lt-ltb s.minor (length (get_or grid s.driver [])) (has_minor grid s key h)
 
 -- no keys

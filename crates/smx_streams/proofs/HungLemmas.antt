@@ -205,11 +205,11 @@ exists_before old new p n x less h = elim (or_cases (is_named new.fds x) (nat_lt
 ]
 
 -- a test that is stricter than the one before it keeps the same alone
-twice : (p q : StreamId → Bool) (xs : List StreamId) → ((x : StreamId) → p x ≡ true → q x ≡ true)
+pub twice : {X : Type 0} (p q : X → Bool) (xs : List X) → ((x : X) → p x ≡ true → q x ≡ true)
     → filter p (filter q xs) ≡ filter p xs
 twice p q [] h = refl
 twice p q (x ∷ xs) h = elim (cases_Bool (p x)) [
-  | inl t ↦ rw (h x t, t) (ap (λ (ys : List StreamId). x ∷ ys) (twice p q xs h))
+  | inl t ↦ rw (h x t, t) (ap (λ (ys : List _). x ∷ ys) (twice p q xs h))
   | inr f ↦ elim (cases_Bool (q x)) [ inl u ↦ rw (u, f) (twice p q xs h) | inr u ↦ rw (u, f) (twice p q xs h) ]
 ]
 

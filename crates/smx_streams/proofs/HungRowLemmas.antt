@@ -1,8 +1,10 @@
 -- Rows of flags and the list of the streams that have hung up.
 use Rattle.std.proofs.Common.{◌≡◌, ℕ, zero, suc, ◌+◌, ◌<◌, Bool, true, false, ◌&&◌, ◌||◌, eqb, List, [], ◌∷◌, ◌++◌}
 use Rattle.std.proofs.Common.{get_or, refl, ap, ◌∙◌, arith}
+use Rattle.std.proofs.Math.Bool.{or-false}
 use Rattle.std.proofs.lemmas.Bool.{or_from, or_left}
 use Rattle.std.proofs.lemmas.Bool.Decides.{nat_tests}
+use Rattle.std.proofs.lemmas.List.Folds.{list_any-append}
 use Rattle.smx_types.specs.declared.stream.StreamId.{StreamId}
 use Rattle.smx_model.specs.Configuration.{same_stream, stream_before}
 use Rattle.smx_model.specs.Hangups.{is_hung}
@@ -15,12 +17,7 @@ abbrev pub stream : ℕ → ℕ → StreamId
 stream d m = record { driver = d; minor = m }
 
 hung_both : (xs ys : List StreamId) (s : StreamId) → is_hung (xs ++ ys) s ≡ (is_hung xs s || is_hung ys s)
-hung_both [] ys s = refl
-hung_both (x ∷ xs) ys s = ap (λ (b : Bool). same_stream x s || b) (hung_both xs ys s)
-    ∙ assoc (same_stream x s) (is_hung xs s) (is_hung ys s) where
-      assoc : (a b c : Bool) → (a || (b || c)) ≡ ((a || b) || c)
-      assoc true b c = refl
-      assoc false b c = refl
+hung_both xs ys s = list_any-append (λ t. same_stream t s) xs ys
 
 -- a row has no stream of another driver, and none of an earlier minor
 
@@ -33,25 +30,19 @@ earlier_minor : (d n e m : ℕ) (flags : List Bool) → m < n → is_hung (hung_
 earlier_minor d n e m [] h = refl
 earlier_minor d n e m (false ∷ flags) h = earlier_minor d (n + 1) e m flags (omega arith)
 earlier_minor d n e m (true ∷ flags) h =
-    or_from _ _ (other d n e m h) (earlier_minor d (n + 1) e m flags (omega arith)) where
-      other : (d n e m : ℕ) → m < n → (eqb d e && eqb n m) ≡ false
-      other d n e m h = grind (arith, nat_tests)
+    or_from _ _ (grind (arith, nat_tests)) (earlier_minor d (n + 1) e m flags (omega arith))
+
+more : (n k : ℕ) → n + suc k ≡ (n + 1) + k
+more n k = omega arith
 
 in_row : (d n k : ℕ) (flags : List Bool) → is_hung (hung_from d n flags) (stream d (n + k)) ≡ get_or flags k false
 in_row d n k [] = refl
 in_row d n zero (false ∷ flags) = earlier_minor d (n + 1) d (n + 0) flags (omega arith)
-in_row d n zero (true ∷ flags) = or_left _ _ (here d n) where
-  here : (d n : ℕ) → (eqb d d && eqb n (n + 0)) ≡ true
-  here d n = grind (arith, nat_tests)
+in_row d n zero (true ∷ flags) = or_left (eqb d d && eqb n (n + 0)) _ (grind (arith, nat_tests))
 in_row d n (suc k) (false ∷ flags) =
-    ap (λ (m : ℕ). is_hung (hung_from d (n + 1) flags) (stream d m)) (more n k) ∙ in_row d (n + 1) k flags where
-      more : (n k : ℕ) → n + suc k ≡ (n + 1) + k
-      more n k = omega arith
+    ap (λ (m : ℕ). is_hung (hung_from d (n + 1) flags) (stream d m)) (more n k) ∙ in_row d (n + 1) k flags
 in_row d n (suc k) (true ∷ flags) = rw (other d n k)
     (ap (λ (m : ℕ). is_hung (hung_from d (n + 1) flags) (stream d m)) (more n k) ∙ in_row d (n + 1) k flags) where
-      more : (n k : ℕ) → n + suc k ≡ (n + 1) + k
-      more n k = omega arith
-
       other : (d n k : ℕ) → (eqb d d && eqb n (n + suc k)) ≡ false
       other d n k = grind (arith, nat_tests)
 
@@ -60,9 +51,7 @@ in_row d n (suc k) (true ∷ flags) = rw (other d n k)
 earlier_driver : (d e m : ℕ) (rows : List (List Bool)) → e < d → is_hung (hungs_from d rows) (stream e m) ≡ false
 earlier_driver d e m [] h = refl
 earlier_driver d e m (row ∷ rows) h = hung_both (hung_from d 0 row) (hungs_from (d + 1) rows) (stream e m)
-    ∙ or_from _ _ (other_driver d 0 e m row (other d e h)) (earlier_driver (d + 1) e m rows (omega arith)) where
-      other : (d e : ℕ) → e < d → eqb d e ≡ false
-      other d e h = grind (arith, nat_tests)
+    ∙ or_from _ _ (other_driver d 0 e m row (grind (arith, nat_tests))) (earlier_driver (d + 1) e m rows (omega arith))
 
 in_rows : (d j m : ℕ) (rows : List (List Bool))
     → is_hung (hungs_from d rows) (stream (d + j) m) ≡ get_or (get_or rows j []) m false
@@ -70,12 +59,8 @@ in_rows d j m [] = refl
 in_rows d zero m (row ∷ rows) = hung_both (hung_from d 0 row) (hungs_from (d + 1) rows) (stream (d + 0) m)
     ∙ (ap (λ (b : Bool). is_hung (hung_from d 0 row) (stream (d + 0) m) || b)
     (earlier_driver (d + 1) (d + 0) m rows (omega arith))
-    ∙ (or_false _ ∙ (ap (λ (e : ℕ). is_hung (hung_from d 0 row) (stream e m)) (plus_zero d)
+    ∙ (or-false _ ∙ (ap (λ (e : ℕ). is_hung (hung_from d 0 row) (stream e m)) (plus_zero d)
     ∙ (ap (λ (k : ℕ). is_hung (hung_from d 0 row) (stream d k)) (zero_plus m) ∙ in_row d 0 m row)))) where
-      or_false : (b : Bool) → (b || false) ≡ b
-      or_false true = refl
-      or_false false = refl
-
       plus_zero : (d : ℕ) → d + 0 ≡ d
       plus_zero d = omega arith
 
@@ -83,13 +68,8 @@ in_rows d zero m (row ∷ rows) = hung_both (hung_from d 0 row) (hungs_from (d +
       zero_plus k = omega arith
 in_rows d (suc j) m (row ∷ rows) = hung_both (hung_from d 0 row) (hungs_from (d + 1) rows) (stream (d + suc j) m)
     ∙ (ap (λ (b : Bool). b || is_hung (hungs_from (d + 1) rows) (stream (d + suc j) m))
-    (other_driver d 0 (d + suc j) m row (other d j))
-    ∙ (ap (λ (e : ℕ). is_hung (hungs_from (d + 1) rows) (stream e m)) (more d j) ∙ in_rows (d + 1) j m rows)) where
-      other : (d j : ℕ) → eqb d (d + suc j) ≡ false
-      other d j = grind (arith, nat_tests)
-
-      more : (d j : ℕ) → d + suc j ≡ (d + 1) + j
-      more d j = omega arith
+    (other_driver d 0 (d + suc j) m row (grind (arith, nat_tests)))
+    ∙ (ap (λ (e : ℕ). is_hung (hungs_from (d + 1) rows) (stream e m)) (more d j) ∙ in_rows (d + 1) j m rows))
 
 -- those are hung up whose flag is set
 pub flag_tells : (rows : List (List Bool)) (s : StreamId) → is_hung (hungs_from 0 rows) s ≡ flag_at rows s
@@ -103,21 +83,13 @@ flag_tells rows s = ap (λ (d : ℕ). is_hung (hungs_from 0 rows) (stream d s.mi
 later_row : (d m e n : ℕ) (flags : List Bool) → stream_before (stream d m) (stream e n) ≡ true
     → ComesBefore stream_before (stream d m) (hung_from e n flags)
 later_row d m e n [] h = tt
-later_row d m e n (false ∷ flags) h = later_row d m e (n + 1) flags (up d m e n h) where
-  up : (d m e n : ℕ) → stream_before (stream d m) (stream e n) ≡ true
-      → stream_before (stream d m) (stream e (n + 1)) ≡ true
-  up d m e n h = grind (arith, nat_tests)
-later_row d m e n (true ∷ flags) h = (h, later_row d m e (n + 1) flags (up d m e n h)) where
-  up : (d m e n : ℕ) → stream_before (stream d m) (stream e n) ≡ true
-      → stream_before (stream d m) (stream e (n + 1)) ≡ true
-  up d m e n h = grind (arith, nat_tests)
+later_row d m e n (false ∷ flags) h = later_row d m e (n + 1) flags (grind (arith, nat_tests))
+later_row d m e n (true ∷ flags) h = (h, later_row d m e (n + 1) flags (grind (arith, nat_tests)))
 
 later_rows : (d m e : ℕ) (rows : List (List Bool)) → d < e → ComesBefore stream_before (stream d m) (hungs_from e rows)
 later_rows d m e [] h = tt
 later_rows d m e (row ∷ rows) h = comes_both stream_before (stream d m) (hung_from e 0 row) (hungs_from (e + 1) rows)
-    (later_row d m e 0 row (up d m e h)) (later_rows d m (e + 1) rows (omega arith)) where
-      up : (d m e : ℕ) → d < e → stream_before (stream d m) (stream e 0) ≡ true
-      up d m e h = grind (arith, nat_tests)
+    (later_row d m e 0 row (grind (arith, nat_tests))) (later_rows d m (e + 1) rows (omega arith))
 
 rising_row : (d n : ℕ) (flags : List Bool) (rest : List StreamId) → IsRising stream_before rest
     → ((m : ℕ) → ComesBefore stream_before (stream d m) rest) → IsRising stream_before (hung_from d n flags ++ rest)
@@ -126,11 +98,9 @@ rising_row d n (false ∷ flags) rest h after = rising_row d (n + 1) flags rest 
 rising_row d n (true ∷ flags) rest h
     after = (
       comes_both stream_before (stream d n) (hung_from d (n + 1) flags) rest
-          (later_row d n d (n + 1) flags (next d n)) (after n),
+          (later_row d n d (n + 1) flags (grind (arith, nat_tests))) (after n),
       rising_row d (n + 1) flags rest h after,
-    ) where
-      next : (d n : ℕ) → stream_before (stream d n) (stream d (n + 1)) ≡ true
-      next d n = grind (arith, nat_tests)
+    )
 
 -- the streams whose flags are set are in order
 pub hungs_rise : (d : ℕ) (rows : List (List Bool)) → IsRising stream_before (hungs_from d rows)

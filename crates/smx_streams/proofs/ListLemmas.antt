@@ -35,13 +35,6 @@ none_goes test (x ∷ xs) h = elim (cases_Bool (test x)) [
   | inr f ↦ rw f (ap (λ ys. x ∷ ys) (none_goes test xs (rw f at h)))
 ]
 
--- a filter of two lists, one after the other, leaves what it leaves of each
-pub filter_both : {X : Type 0} (test : X → Bool) (xs ys : List X)
-    → filter test (xs ++ ys) ≡ filter test xs ++ filter test ys
-filter_both test [] ys = refl
-filter_both test (x ∷ xs) ys = elim (cases_Bool (test x))
-    [ inl t ↦ rw t (ap (λ zs. x ∷ zs) (filter_both test xs ys)) | inr f ↦ rw f (filter_both test xs ys) ]
-
 -- what comes before both parts
 pub comes_both : {X : Type 0} (before : X → X → Bool) (x : X) (xs ys : List X) → ComesBefore before x xs
     → ComesBefore before x ys → ComesBefore before x (xs ++ ys)

@@ -1,11 +1,12 @@
 -- How many descriptors name a stream.
 use Rattle.std.proofs.Common.{◌≡◌, ℕ, zero, suc, ◌+◌, ◌-◌, ◌<◌, ◌≤◌, Bool, true, false, ◌||◌, not, eqb, List, [], ◌∷◌}
-use Rattle.std.proofs.Common.{length, find, filter, get_or, slice_get, Option, Some, None, if◌then◌else◌, refl, sym, ap}
+use Rattle.std.proofs.Common.{length, find, filter, get_or, slice_get, Some, None, if◌then◌else◌, refl, sym, ap}
 use Rattle.std.proofs.Common.{arith, inl, inr}
 use Rattle.std.specs.Prelude.{nat_lt}
 use Rattle.std.specs.List.{list_any, range_with_len}
-use Rattle.std.proofs.lemmas.Bool.{cases_Bool, and_parts, both_ways, eqb-true}
+use Rattle.std.proofs.lemmas.Bool.{cases_Bool, and_parts, eqb-true}
 use Rattle.std.proofs.lemmas.Bool.Decides.{nat_tests}
+use Rattle.std.proofs.lemmas.Option.{get_or_from_slice_get, same_Some}
 use Rattle.smx_types.specs.declared.stream.Descriptor.{Descriptor}
 use Rattle.smx_types.specs.declared.stream.StreamId.{StreamId}
 use Rattle.smx_model.specs.Configuration.{same_stream, is_fd, fd_before}
@@ -52,8 +53,7 @@ pub names_taken : (s t : StreamId) (p n : ℕ) (ds : List Descriptor) → IsRisi
 names_taken s t p n [] r h = absurd cc
 names_taken s t p n (d ∷ ds) r h = elim (cases_Bool (is_fd p n d)) [
   | inl here ↦
-      let at : ◌≡◌ {A = Option StreamId} (Some d.stream) (Some t) = rw here at h in
-      let e : d.stream ≡ t = cc in
+      let e : d.stream ≡ t = same_Some d.stream t (rw here at h) in
       rw (here, none_goes (is_fd p n) ds (later_is_other p n d ds here r.0), e) refl
   | inr other ↦ rw other (let rest = names_taken s t p n ds r.1 (rw other at h) in omega (arith, rest))
 ]
@@ -77,8 +77,7 @@ pub names_some : (s : StreamId) (p n : ℕ) (ds : List Descriptor) → stream_at
 names_some s p n [] h = absurd cc
 names_some s p n (d ∷ ds) h = elim (cases_Bool (is_fd p n d)) [
   | inl here ↦
-      let at : ◌≡◌ {A = Option StreamId} (Some d.stream) (Some s) = rw here at h in
-      let e : d.stream ≡ s = cc in
+      let e : d.stream ≡ s = same_Some d.stream s (rw here at h) in
       rw (e, same_self s) (omega arith)
   | inr other ↦ let rest = names_some s p n ds (rw other at h) in omega (arith, rest)
 ]
@@ -86,9 +85,7 @@ names_some s p n (d ∷ ds) h = elim (cases_Bool (is_fd p n d)) [
 -- a stream with a record exists
 pub used_exists : (t : StreamTable) (s : StreamId) (opens : ℕ) → opens ≡ names_of s t.fds
     → nat_lt 0 (opens + number_at t.holds s) ≡ exists t s
-used_exists t s opens e = rw (e, named_is_some s t.fds) (either (names_of s t.fds) (number_at t.holds s)) where
-  either : (x y : ℕ) → nat_lt 0 (x + y) ≡ (nat_lt 0 x || nat_lt 0 y)
-  either x y = grind (arith, nat_tests)
+used_exists t s opens e = rw (e, named_is_some s t.fds) (grind (arith, nat_tests))
 
 -- minors
 
@@ -96,7 +93,7 @@ used_exists t s opens e = rw (e, named_is_some s t.fds) (either (names_of s t.fd
 pub find_below : (test : ℕ → Bool) (k n m : ℕ) → find test (range_with_len k n) ≡ Some m → m < k + n
 find_below test k zero m h = absurd cc
 find_below test k (suc n) m h = elim (cases_Bool (test k)) [
-  | inl t ↦ let same : ◌≡◌ {A = Option ℕ} (Some k) (Some m) = rw t at h in let e : k ≡ m = cc in omega (arith, e)
+  | inl t ↦ omega (arith, same_Some k m (rw t at h))
   | inr f ↦ let rest = find_below test (k + 1) n m (rw f at h) in omega (arith, rest)
 ]
 
@@ -108,18 +105,12 @@ no_driver (n ∷ ns) (suc d) m h = no_driver ns d m h
 
 -- a driver that is there has as many minors as a lookup says that gives 0 for any other
 pub minors_at : (minors : List ℕ) (d n : ℕ) → Some n ≡ slice_get minors d → n ≡ get_or minors d 0
-minors_at [] d n h = absurd cc
-minors_at (x ∷ xs) zero n h = cc
-minors_at (x ∷ xs) (suc d) n h = minors_at xs d n h
+minors_at minors d n h = sym (get_or_from_slice_get minors d n 0 (sym h))
 
 -- a descriptor more or less, and the number of the stream that it names
 
 same_sym : (s t : StreamId) → same_stream s t ≡ false → same_stream t s ≡ false
-same_sym s t f = elim (cases_Bool (same_stream t s)) [
-  | inl e ↦ let k : same_stream s t ≡ true = rw (same_is t s e) (same_self s) in
-      absurd (both_ways (same_stream s t) f k)
-  | inr g ↦ g
-]
+same_sym s t f = grind (arith, nat_tests)
 
 -- with one more for the stream of a new descriptor, the numbers are again how often streams are named
 pub names_after_put : (opens : List (List ℕ)) (s t : StreamId) (p n : ℕ) (fds : List Descriptor)

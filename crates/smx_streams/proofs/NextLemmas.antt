@@ -1,10 +1,11 @@
 -- The descriptors from a number of a process on, and those of one process.
 use Rattle.std.proofs.Common.{◌≡◌, ℕ, suc, ◌+◌, ◌<◌, ◌≤◌, Bool, true, false, ◌&&◌, not, eqb, List, [], ◌∷◌, find}
-use Rattle.std.proofs.Common.{filter, Option, Some, None, refl, ap, ◌∙◌, arith, inl, inr}
+use Rattle.std.proofs.Common.{filter, Some, None, refl, ap, arith, inl, inr}
 use Rattle.std.specs.Prelude.{nat_lt}
 use Rattle.std.specs.List.{All}
 use Rattle.std.proofs.lemmas.Bool.{cases_Bool, and_parts, eqb-true}
 use Rattle.std.proofs.lemmas.Bool.Decides.{nat_tests}
+use Rattle.std.proofs.lemmas.Option.{same_Some}
 use Rattle.smx_types.specs.declared.limits.TheConstants.{MAX_DESCRIPTORS, MAX_PROCESSES}
 use Rattle.smx_types.specs.declared.stream.Descriptor.{Descriptor}
 use Rattle.smx_types.specs.declared.stream.StreamId.{StreamId}
@@ -59,24 +60,16 @@ none_behind p n d (e ∷ ds) t h =
     let f : is_fd p n e ≡ false = grind (arith, nat_tests) in
     rw f (none_behind p n d ds t h.1)
 
-fd_is : (d : Descriptor) (p n : ℕ) (s : StreamId) → d.process ≡ p → d.fd ≡ n → d.stream ≡ s → d ≡ fd_of p n s
-fd_is d p n s a b e =
-    ap (λ (x : ℕ). record { process = x; fd = d.fd; stream = d.stream }) a
-    ∙ ap (λ (x : ℕ). record { process = p; fd = x; stream = d.stream }) b
-    ∙ ap (λ (x : StreamId). record { process = p; fd = n; stream = x }) e
-
 -- a number with a descriptor comes first
 pub found : (p n : ℕ) (s : StreamId) (ds : List Descriptor) → IsRising fd_before ds → stream_at ds p n ≡ Some s
     → fds_from p n ds ≡ fd_of p n s ∷ fds_from p (n + 1) ds
 found p n s [] r h = absurd cc
 found p n s (d ∷ ds) r h = elim (cases_Bool (is_fd p n d)) [
   | inl t ↦
-      let k : ◌≡◌ {A = Option StreamId} (Some d.stream) (Some s) = rw t at h in
       let both = and_parts (eqb d.process p) (eqb d.fd n) t in
       let at_p = eqb-true d.process p both.0 in
       let at_n = eqb-true d.fd n both.1 in
-      let same : d.stream ≡ s = cc in
-      let here = fd_is d p n s at_p at_n same in
+      let here : d ≡ fd_of p n s = rw (← at_p, ← at_n, ← same_Some d.stream s (rw t at h)) refl in
       let x : not (pair_before p n p n) ≡ true = grind (arith, nat_tests) in
       let y : not (pair_before p n p (n + 1)) ≡ false = grind (arith, nat_tests) in
       let rest = later_stays p n s ds (rw here at r.0) in

@@ -7,6 +7,7 @@ use Rattle.std.specs.List.{AllZip}
 use Rattle.std.specs.Option.{is_some}
 use Rattle.std.proofs.lemmas.Bool.Decides.{nat_tests}
 use Rattle.std.proofs.lemmas.List.{length-map}
+use Rattle.std.proofs.lemmas.Option.{same_Some}
 use Rattle.slab.specs.Slab.{Slab, get, IsSlotClone, Updates}
 use Rattle.smx_types.specs.declared.limits.TheConstants.{MAX_DRIVERS}
 use Rattle.smx_types.specs.declared.stream.StreamId.{StreamId}
@@ -65,9 +66,7 @@ is_set_some grid old key r new_grid new whole few used h =
       listed : (x : StreamId) (k : ℕ) → key_at new_grid x ≡ Some k → (q : Record) × (get new k ≡ Some q) × IsRecord x q
       listed x k is = elim (cases_Bool (same_stream x r.stream)) [
         | inl t ↦
-            let same : ◌≡◌ {A = Option ℕ} (Some key) (Some k) =
-            sym (same_keys grid r.stream x (Some key) new_grid h.keys t) ∙ is in
-            let e : key ≡ k = cc in
+            let e = same_Some key k (sym (same_keys grid r.stream x (Some key) new_grid h.keys t) ∙ is) in
             (r, ap (get new) (sym e) ∙ h.slots.changed, record { stream = sym (same_is x r.stream t); used = used })
         | inr f ↦
             let was = sym (other_keys grid r.stream x (Some key) None new_grid h.keys f) ∙ is in
@@ -79,8 +78,7 @@ is_set_some grid old key r new_grid new whole few used h =
       recorded : (k : ℕ) (q : Record) → get new k ≡ Some q → key_at new_grid q.stream ≡ Some k
       recorded k q is = elim (cases_eq k key) [
         | inl e ↦
-            let same : ◌≡◌ {A = Option Record} (Some r) (Some q) = sym h.slots.changed ∙ ap (get new) (sym e) ∙ is in
-            let eq : r ≡ q = cc in
+            let eq = same_Some r q (sym h.slots.changed ∙ ap (get new) (sym e) ∙ is) in
             ap (λ (x : Record). key_at new_grid x.stream) (sym eq)
             ∙ same_keys grid r.stream r.stream (Some key) new_grid h.keys (same_self r.stream) ∙ ap Some (sym e)
         | inr differs ↦
@@ -123,25 +121,17 @@ numbers_set : (grid : Grid) (old : Slab Record) (r : Record) (key : ℕ) (new_ke
     → AreSet (uses_of grid old) r.stream r.opens r.holds (is_used_and_hung r) (uses_of new_grid new)
 numbers_set grid old r key new_key slot new_grid new h opens holds hung minors = record {
   minors = minors;
-  opens_now = λ x. opens_at new_grid new x ∙ elim (cases_Bool (same_stream x r.stream)) [
-    | inl t ↦ rw t (ap (λ o. opens_of (record_of_key new o)) (same_keys grid r.stream x new_key new_grid h.keys t)
-        ∙ opens)
-    | inr f ↦ rw f (ap opens_of (other_record grid old r.stream x key new_key slot new_grid new h f)
-        ∙ sym (opens_at grid old x))
-  ];
-  holds_now = λ x. holds_at new_grid new x ∙ elim (cases_Bool (same_stream x r.stream)) [
-    | inl t ↦ rw t (ap (λ o. holds_of (record_of_key new o)) (same_keys grid r.stream x new_key new_grid h.keys t)
-        ∙ holds)
-    | inr f ↦ rw f (ap holds_of (other_record grid old r.stream x key new_key slot new_grid new h f)
-        ∙ sym (holds_at grid old x))
-  ];
-  hungs_now = λ x. hungs_at new_grid new x ∙ elim (cases_Bool (same_stream x r.stream)) [
-    | inl t ↦ rw t (ap (λ o. hung_of (record_of_key new o)) (same_keys grid r.stream x new_key new_grid h.keys t)
-        ∙ hung)
-    | inr f ↦ rw f (ap hung_of (other_record grid old r.stream x key new_key slot new_grid new h f)
-        ∙ sym (hungs_at grid old x))
-  ];
-}
+  opens_now = λ x. rw (opens_at new_grid new x, opens_at grid old x) (now opens_of r.opens opens x);
+  holds_now = λ x. rw (holds_at new_grid new x, holds_at grid old x) (now holds_of r.holds holds x);
+  hungs_now = λ x. rw (hungs_at new_grid new x, hungs_at grid old x) (now hung_of (is_used_and_hung r) hung x);
+} where
+  now : {X : Type 0} (f : Option Record → X) (v : X) → f (record_of_key new new_key) ≡ v → (x : StreamId)
+      → f (record_of_key new (key_at new_grid x))
+      ≡ (if same_stream x r.stream then v else f (record_of_key old (key_at grid x)))
+  now f v is x = elim (cases_Bool (same_stream x r.stream)) [
+    | inl t ↦ rw t (ap (λ o. f (record_of_key new o)) (same_keys grid r.stream x new_key new_grid h.keys t) ∙ is)
+    | inr n ↦ rw n (ap f (other_record grid old r.stream x key new_key slot new_grid new h n))
+  ]
 
 -- the flag of a record that counts some, and of one that counts nothing
 flag_of_used : (r : Record) → 0 < r.opens + r.holds → r.hung ≡ is_used_and_hung r
@@ -157,19 +147,15 @@ known_apart : (grid : Grid) (old : Slab Record) (s : StreamId) (key : ℕ) → A
 known_apart grid old s key whole there x is =
     let one = whole.listed s key there in
     let other = whole.listed x key is in
-    let same : ◌≡◌ {A = Option Record} (Some one.0) (Some other.0) = sym one.1 ∙ other.1 in
-    let eq : one.0 ≡ other.0 = cc in
+    let eq = same_Some one.0 other.0 (sym one.1 ∙ other.1) in
     let e : x ≡ s = sym other.2.stream ∙ ap (λ (q : Record). q.stream) (sym eq) ∙ one.2.stream in
     rw e (same_self s)
 
 known_alone : (grid : Grid) (old : Slab Record) (s : StreamId) (key : ℕ) → AreRecords grid old
     → key_at grid s ≡ Some key → (k : ℕ) (q : Record) → k ≢ key → get old k ≡ Some q → same_stream q.stream s ≡ false
 known_alone grid old s key whole there k q differs is = elim (cases_Bool (same_stream q.stream s)) [
-  | inl t ↦
-      let same : ◌≡◌ {A = Option ℕ} (Some k) (Some key) =
-      sym (whole.recorded k q is) ∙ ap (key_at grid) (same_is q.stream s t) ∙ there in
-      let e : k ≡ key = cc in
-      absurd (differs e)
+  | inl t ↦ absurd (differs
+      (same_Some k key (sym (whole.recorded k q is) ∙ ap (key_at grid) (same_is q.stream s t) ∙ there)))
   | inr f ↦ f
 ]
 
@@ -329,10 +315,7 @@ pub key_tells : (grid : Grid) (records : Slab Record) (s : StreamId) → AreReco
     → is_some (key_at grid s)
     ≡ nat_lt 0 (number_at (uses_of grid records).opens s + number_at (uses_of grid records).holds s)
 key_tells grid records s whole = rw (opens_at grid records s, holds_at grid records s) (by (key_at grid s) refl) where
-  some_used : (opens holds : ℕ) → 0 < opens + holds → true ≡ nat_lt 0 (opens + holds)
-  some_used opens holds used = grind (arith, nat_tests)
-
   by : (o : Option ℕ) → key_at grid s ≡ o → is_some o
       ≡ nat_lt 0 (opens_of (record_of_key records o) + holds_of (record_of_key records o))
   by None e = refl
-  by (Some key) e = let there = whole.listed s key e in rw there.1 (some_used there.0.opens there.0.holds there.2.used)
+  by (Some key) e = let there = whole.listed s key e in rw there.1 (grind (arith, nat_tests, there.2.used))

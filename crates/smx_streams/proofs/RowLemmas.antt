@@ -4,23 +4,20 @@ use Rattle.std.proofs.Common.{filter, get_or, set, Option, Some, None, refl, sym
 use Rattle.std.specs.List.{list_any}
 use Rattle.std.specs.Option.{is_some, option_map}
 use Rattle.std.proofs.lemmas.Bool.Decides.{nat_tests}
-use Rattle.std.proofs.lemmas.Bool.{eq-eqb, eqb-true, false_from_ne_true}
+use Rattle.std.proofs.lemmas.Bool.{eq-eqb, ne_eqb}
+use Rattle.std.proofs.lemmas.List.Elements.{filter-append}
 use Rattle.smx_types.specs.declared.stream.Descriptor.{Descriptor}
 use Rattle.smx_types.specs.declared.stream.StreamId.{StreamId}
 use Rattle.smx_model.specs.Configuration.{is_fd, fd_before, pair_before}
 use Rattle.smx_model.specs.Ordered.{ComesBefore, with_inserted}
 use Rattle.smx_streams.specs.DescriptorRows.{Rows, cell_at, with_cell, row_from, rows_from}
 use Rattle.smx_streams.specs.StreamTables.{stream_at}
-use Rattle.smx_streams.proofs.ListLemmas.{find_front, find_past, any_found, none_goes, filter_both, comes_both}
+use Rattle.smx_streams.proofs.ListLemmas.{find_front, find_past, any_found, none_goes, comes_both}
 use Rattle.smx_streams.proofs.ListLemmas.{inserted_first}
 
 -- the descriptor of this process, with this number and this stream
 abbrev pub fd_of : ℕ → ℕ → StreamId → Descriptor
 fd_of p n s = record { process = p; fd = n; stream = s }
-
--- numbers that differ fail the test for being equal
-pub other_number : (m n : ℕ) → (m ≡ n → ⊥) → eqb m n ≡ false
-other_number m n h = false_from_ne_true (eqb m n) (λ t. h (eqb-true m n t))
 
 same_fd : (p n k : ℕ) (s : StreamId) → k ≡ n → is_fd p n (fd_of p k s) ≡ true
 same_fd p n k s e = rw (eq-eqb p p refl, eq-eqb k n e) refl
@@ -43,7 +40,7 @@ find_lower : (p n k : ℕ) (cells : List (Option StreamId)) → n < k → find (
 find_lower p n k [] h = refl
 find_lower p n k (None ∷ cells) h = find_lower p n (k + 1) cells (omega arith)
 find_lower p n k (Some s ∷ cells) h =
-    rw (other_fd p n k s (other_number k n (λ e. absurd (omega arith)))) (find_lower p n (k + 1) cells (omega arith))
+    rw (other_fd p n k s (ne_eqb k n (λ e. absurd (omega arith)))) (find_lower p n (k + 1) cells (omega arith))
 
 -- a descriptor where there is a stream
 abbrev pub found : ℕ → ℕ → Option StreamId → Option Descriptor
@@ -58,13 +55,13 @@ find_in_row p n k zero (Some s ∷ cells) e =
     let same : k ≡ n = omega (arith, e) in rw (same_fd p n k s same) (ap (λ m. Some (fd_of p m s)) same)
 find_in_row p n k (suc i) (None ∷ cells) e = find_in_row p n (k + 1) i cells (omega (arith, e))
 find_in_row p n k (suc i) (Some s ∷ cells)
-    e = rw (other_fd p n k s (other_number k n (λ same. absurd (omega (arith, e, same)))))
+    e = rw (other_fd p n k s (ne_eqb k n (λ same. absurd (omega (arith, e, same)))))
     (find_in_row p n (k + 1) i cells (omega (arith, e)))
 
 find_later_rows : (p n q : ℕ) (rows : Rows) → p < q → find (is_fd p n) (rows_from q rows) ≡ None
 find_later_rows p n q [] h = refl
 find_later_rows p n q (row ∷ rows) h = find_past (is_fd p n) (row_from q 0 row) (rows_from (q + 1) rows)
-    (find_other_row p n q 0 row (other_number q p (λ e. absurd (omega arith))))
+    (find_other_row p n q 0 row (ne_eqb q p (λ e. absurd (omega arith))))
     ∙ find_later_rows p n (q + 1) rows (omega arith)
 
 find_rows : (p n q i : ℕ) (rows : Rows) → p ≡ q + i
@@ -80,7 +77,7 @@ find_rows p n q zero (row ∷ rows) e =
       here (Some s) is = find_front (is_fd p n) (row_from p 0 row) (rows_from (p + 1) rows) (fd_of p n s)
           (find_in_row p n 0 n row (omega arith) ∙ ap (found p n) is) ∙ sym (ap (found p n) is)
 find_rows p n q (suc i) (row ∷ rows) e = find_past (is_fd p n) (row_from q 0 row) (rows_from (q + 1) rows)
-    (find_other_row p n q 0 row (other_number q p (λ same. absurd (omega (arith, e, same)))))
+    (find_other_row p n q 0 row (ne_eqb q p (λ same. absurd (omega (arith, e, same)))))
     ∙ find_rows p n (q + 1) i rows (omega (arith, e))
 
 -- the descriptor that a search in the rows finds has the stream of its cell, or there is none
@@ -112,7 +109,7 @@ take_in_row p n k zero (Some s ∷ cells) e = rw (same_fd p n k s (omega (arith,
     (none_goes (is_fd p n) (row_from p (k + 1) cells) (find_lower p n (k + 1) cells (omega (arith, e))))
 take_in_row p n k (suc i) (None ∷ cells) e = take_in_row p n (k + 1) i cells (omega (arith, e))
 take_in_row p n k (suc i) (Some s ∷ cells)
-    e = rw (other_fd p n k s (other_number k n (λ same. absurd (omega (arith, e, same)))))
+    e = rw (other_fd p n k s (ne_eqb k n (λ same. absurd (omega (arith, e, same)))))
     (ap (λ ds. fd_of p k s ∷ ds) (take_in_row p n (k + 1) i cells (omega (arith, e))))
 
 take_in_rows : (p n q i : ℕ) (rows : Rows) → p ≡ q + i
@@ -120,16 +117,16 @@ take_in_rows : (p n q i : ℕ) (rows : Rows) → p ≡ q + i
 take_in_rows p n q i [] e = refl
 take_in_rows p n q zero (row ∷ rows) e =
     let same : q ≡ p = omega (arith, e) in
-    rw same (filter_both _ (row_from p 0 row) (rows_from (p + 1) rows)
+    rw same (filter-append _ (row_from p 0 row) (rows_from (p + 1) rows)
     ∙ rw (
       take_in_row p n 0 n row (omega arith),
       none_goes (is_fd p n) _ (find_later_rows p n (p + 1) rows (omega arith)),
     ) refl)
 take_in_rows p n q (suc i) (row ∷ rows) e =
-    filter_both _ (row_from q 0 row) (rows_from (q + 1) rows)
+    filter-append _ (row_from q 0 row) (rows_from (q + 1) rows)
     ∙ rw (
       none_goes (is_fd p n) _
-          (find_other_row p n q 0 row (other_number q p (λ same. absurd (omega (arith, e, same))))),
+          (find_other_row p n q 0 row (ne_eqb q p (λ same. absurd (omega (arith, e, same))))),
       take_in_rows p n (q + 1) i rows (omega (arith, e)),
     ) refl
 

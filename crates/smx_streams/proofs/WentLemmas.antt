@@ -64,7 +64,4 @@ pub last_is : (t : StreamTable) (s : StreamId) (p n opens : ℕ) → IsRising fd
 last_is t s p n opens rise e same =
     let rest = filter (λ (d : Descriptor). not (is_fd p n d)) t.fds in
     let taken : names_of s t.fds ≡ 1 + names_of s rest = rw (same_self s) at (names_taken s s p n t.fds rise e) in
-    rw (e, named_is_some s rest) (one_left (names_of s rest) opens (number_at t.holds s) (same ∙ taken)) where
-      one_left : (less opens holds : ℕ) → opens ≡ 1 + less
-          → (eqb opens 1 && eqb holds 0) ≡ not (nat_lt 0 less || nat_lt 0 holds)
-      one_left less opens holds h = grind (arith, nat_tests)
+    rw (e, named_is_some s rest) (grind (arith, nat_tests, same ∙ taken))

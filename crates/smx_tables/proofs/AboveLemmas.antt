@@ -4,32 +4,19 @@ use Rattle.std.proofs.Common.{get_or, find, Some, None, refl, sym, ap, ◌∙◌
 use Rattle.std.specs.Prelude.{nat_lt}
 use Rattle.std.specs.List.{list_any}
 use Rattle.std.specs.Option.{option_map_or}
-use Rattle.std.proofs.lemmas.Bool.{cases_Bool, cases_eq, and_parts, and_from, eqb-true, eq-eqb, ltb-true, false≢true}
-use Rattle.std.proofs.lemmas.Bool.{false_from_ne_true}
+use Rattle.std.proofs.lemmas.Bool.{cases_Bool, eqb-true, false≢true}
+use Rattle.std.proofs.lemmas.Bool.Decides.{nat_tests}
 use Rattle.smx_types.specs.declared.link.Link.{Link}
 use Rattle.smx_types.specs.declared.stream.StreamId.{StreamId}
 use Rattle.smx_model.specs.Configuration.{same_stream}
 use Rattle.smx_model.specs.Ordered.{ComesBefore, IsRising}
 use Rattle.smx_model.specs.Paths.{AreLowersApart}
-
--- streams that pass as the same are one
-pub stream_is : (s t : StreamId) → same_stream s t ≡ true → s ≡ t
-stream_is s t h =
-    let b = and_parts _ _ h in
-    ap (λ (x : ℕ). record { driver = x; minor = s.minor }) (eqb-true s.driver t.driver b.0)
-    ∙ ap (λ (x : ℕ). record { driver = t.driver; minor = x }) (eqb-true s.minor t.minor b.1)
-
--- each stream is the same as itself
-pub stream_self : (s : StreamId) → same_stream s s ≡ true
-stream_self s = and_from _ _ (eq-eqb s.driver s.driver refl) (eq-eqb s.minor s.minor refl)
+-- streams that pass as the same are one, and each is the same as itself
+pub use Rattle.smx_streams.proofs.GridLemmas.{same_is as stream_is, same_self as stream_self}
 
 -- whether two numbers are equal is told in either order
 pub eqb_swap : (x y : ℕ) → eqb x y ≡ eqb y x
-eqb_swap x y = elim (cases_eq x y) [
-  | inl same ↦ eq-eqb x y same ∙ sym (eq-eqb y x (sym same))
-  | inr other ↦ false_from_ne_true (eqb x y) (λ t. other (eqb-true x y t))
-      ∙ sym (false_from_ne_true (eqb y x) (λ t. other (sym (eqb-true y x t))))
-]
+eqb_swap x y = grind (arith, nat_tests)
 
 -- no two links pass the test
 abbrev pub IsOnce : (Link → Bool) → List Link → Type 0
@@ -58,8 +45,7 @@ any_once key t u (l ∷ ls) o e = elim (cases_Bool (key l)) [
 
 -- streams below links are apart
 other_lower : (s t : StreamId) → same_stream s t ≡ false → same_stream t s ≡ false
-other_lower s t h = false_from_ne_true _
-    (λ k. false≢true (sym h ∙ ap (λ (x : StreamId). same_stream x t) (sym (stream_is t s k)) ∙ stream_self t))
+other_lower s t h = grind (arith, nat_tests)
 
 none_below : (s : StreamId) (ls : List Link)
     → ((j : ℕ) (d : Link) → j < length ls → same_stream s (get_or ls j d).lower ≡ false)
@@ -82,9 +68,7 @@ none_later : (l : Link) (ls : List Link) → ComesBefore (λ l k. nat_lt l.id k.
     → list_any (λ k. eqb k.id l.id) ls ≡ false
 none_later l [] h = refl
 none_later l (k ∷ ls) h =
-    let up : l.id < k.id = ltb-true l.id k.id h.0 in
-    let f : eqb k.id l.id ≡ false = false_from_ne_true (eqb k.id l.id)
-    (λ t. let same = eqb-true k.id l.id t in absurd (omega arith)) in
+    let f : eqb k.id l.id ≡ false = grind (arith, nat_tests, h.0) in
     rw f (none_later l ls h.1)
 
 -- where the ids of links rise, at most one link has an id

@@ -1,11 +1,14 @@
 -- What the read sides below listed links hold goes, link by link.
 use Rattle.std.proofs.Common.{◌≡◌, ℕ, Bool, true, false, ◌&&◌, ◌||◌, not, eqb, List, [], ◌∷◌, ◌++◌, filter, find}
-use Rattle.std.proofs.Common.{Option, Some, None, refl, sym, ap, ◌∙◌, inl, inr}
+use Rattle.std.proofs.Common.{arith, Option, Some, None, refl, sym, ap, ◌∙◌, inl, inr}
+use Rattle.std.proofs.Math.Bool.{and-false, or-false}
 use Rattle.std.specs.Prelude.{Vec}
 use Rattle.std.specs.List.{AllByRecursion}
 use Rattle.std.specs.Option.{option_map_or}
-use Rattle.std.proofs.lemmas.Bool.{cases_Bool}
+use Rattle.std.proofs.lemmas.Bool.{cases_Bool, or_left, or_right}
 use Rattle.std.proofs.lemmas.List.Elements.{filter_agree, recursion_from_All}
+use Rattle.std.proofs.lemmas.Option.{same_Some}
+use Rattle.std.proofs.lemmas.Bool.Decides.{nat_tests}
 use Rattle.smx_types.specs.declared.link.Link.{Link}
 use Rattle.smx_types.specs.declared.stream.Place.{Place}
 use Rattle.smx_types.specs.declared.stream.Side.TheVariants as side
@@ -18,15 +21,8 @@ use Rattle.smx_tables.specs.DroppedMessages.{EmptiesPlaces, HasRoom}
 use Rattle.smx_tables.specs.ListedLinks.{is_listed, is_read_below_listed}
 use Rattle.smx_tables.proofs.AboveLemmas.{stream_is, stream_self}
 use Rattle.smx_tables.proofs.DropLemmas.{filter_twice}
-use Rattle.smx_tables.proofs.ReleasedIdLemmas.{IsFoundBy, found_by}
+use Rattle.smx_tables.proofs.ReleasedIdLemmas.{IsFoundBy, found_by, listed_one_more}
 use Rattle.smx_tables.proofs.RemovalLemmas.{IsIdsRising}
-
-listed_more : (ids : List ℕ) (id x : ℕ) → is_listed (ids ++ id ∷ []) x ≡ (is_listed ids x || eqb x id)
-listed_more [] id x = or_none (eqb x id) where
-  or_none : (b : Bool) → (b || false) ≡ b
-  or_none true = refl
-  or_none false = refl
-listed_more (i ∷ ids) id x = elim (cases_Bool (eqb x i)) [ inl t ↦ rw t refl | inr f ↦ rw f (listed_more ids id x) ]
 
 abbrev at_link : List ℕ → List Link → StreamId → Bool
 at_link ids links x = option_map_or (λ l. is_listed ids l.id) (find (λ l. same_stream l.lower x) links) false
@@ -37,7 +33,7 @@ link_more : (ids : List ℕ) (id : ℕ) (s x : StreamId) (links : List Link) →
 link_more ids id s x [] h = refl
 link_more ids id s x (l ∷ ls) h = elim (cases_Bool (same_stream l.lower x)) [
   | inl t ↦
-      rw t (listed_more ids id l.id ∙ ap (λ (b : Bool). is_listed ids l.id || b)
+      rw t (listed_one_more ids id l.id ∙ ap (λ (b : Bool). is_listed ids l.id || b)
       (h.0 ∙ ap (λ (y : StreamId). same_stream y s) (stream_is l.lower x t)))
   | inr f ↦ rw f (link_more ids id s x ls h.1)
 ]
@@ -46,22 +42,15 @@ below_found : (id : ℕ) (links : List Link) (l : Link) → find (λ k. eqb k.id
     → is_below links l.lower ≡ true
 below_found id [] l e = absurd cc
 below_found id (k ∷ ks) l e = elim (cases_Bool (eqb k.id id)) [
-  | inl t ↦ let f : ◌≡◌ {A = Option Link} (Some k) (Some l) = rw t at e in let same : k ≡ l = cc in
-      rw (ap (λ (m : Link). same_stream m.lower l.lower) same ∙ stream_self l.lower) refl
-  | inr f ↦ or_right' (same_stream k.lower l.lower) (below_found id ks l (rw f at e))
-] where
-  or_right' : (b : Bool) {c : Bool} → c ≡ true → (b || c) ≡ true
-  or_right' true e2 = refl
-  or_right' false e2 = e2
+  | inl t ↦
+      let same = same_Some k l (rw t at e) in
+      or_left _ _ (ap (λ (m : Link). same_stream m.lower l.lower) same ∙ stream_self l.lower)
+  | inr f ↦ or_right (same_stream k.lower l.lower) _ (below_found id ks l (rw f at e))
+]
 
 table : (r old b v : Bool) → (v ≡ true → b ≡ true) → (r && (old || (b && v))) ≡ ((r && old) || (v && r))
-table true true b v h = refl
-table true false true true h = refl
-table true false false true h = h refl
-table true false true false h = refl
-table true false false false h = refl
-table false old b true h = refl
-table false old b false h = refl
+table r old b true h = let below = h refl in grind (arith, nat_tests)
+table r old b false h = grind (arith, nat_tests)
 
 abbrev read_side : StreamId → Place
 read_side s = record { stream = s; side = side.Read }
@@ -90,13 +79,11 @@ read_none links ids id none p = ap (λ (b : Bool). same_side p.side side.Read &&
     | inl t ↦ let k : ◌≡◌ {A = Option Link} (Some l) None = rw t at e in absurd cc
     | inr f ↦ elim (cases_Bool (same_stream l.lower p.stream)) [
       | inl a ↦
-          rw a (listed_more ids id l.id ∙ (ap (λ (b : Bool). is_listed ids l.id || b) f ∙ or_none (is_listed ids l.id)))
+          rw a (listed_one_more ids id l.id
+          ∙ (ap (λ (b : Bool). is_listed ids l.id || b) f ∙ or-false (is_listed ids l.id)))
       | inr b ↦ rw b (same ls (rw f at e))
     ]
-  ] where
-    or_none : (b : Bool) → (b || false) ≡ b
-    or_none true = refl
-    or_none false = refl
+  ]
 
 -- no id takes none
 pub none_listed_yet : {X : Type 0} (place : X → Place) (links : List Link) (xs : List X)
@@ -108,19 +95,14 @@ none_listed_yet place links (x ∷ xs) =
       by None = refl
       by (Some l) = refl
 
-      and_false : (b : Bool) → (b && false) ≡ false
-      and_false true = refl
-      and_false false = refl
-
       none : (p : Place) → is_read_below_listed links [] p ≡ false
       none p = ap (λ (b : Bool). same_side p.side side.Read && b) (by (find (λ l. same_stream l.lower p.stream) links))
-          ∙ and_false (same_side p.side side.Read)
+          ∙ and-false (same_side p.side side.Read)
 
 -- ---- lists without them
 
 not_either : (a b : Bool) → (not a && not b) ≡ not (a || b)
-not_either true b = refl
-not_either false b = refl
+not_either a b = grind (arith, nat_tests)
 
 -- without what passes one test more
 pub tests_less : {X : Type 0} (goes one more : X → Bool) (xs ys zs : List X) → ((x : X) → more x ≡ (goes x || one x))

@@ -1,8 +1,10 @@
 -- A stream stands by a descriptor, or by the one link above it.
 use Rattle.std.proofs.Common.{◌≡◌, ℕ, zero, suc, Bool, true, false, ◌&&◌, ◌||◌, not, List, find, Option, Some, None}
-use Rattle.std.proofs.Common.{refl, sym}
+use Rattle.std.proofs.Common.{arith, refl}
+use Rattle.std.proofs.Math.Bool.{and_comm, or-false}
 use Rattle.std.specs.Option.{option_map_or}
 use Rattle.std.proofs.lemmas.Bool.{or_left}
+use Rattle.std.proofs.lemmas.Bool.Decides.{nat_tests}
 use Rattle.smx_types.specs.declared.link.Link.{Link}
 use Rattle.smx_types.specs.declared.stream.Descriptor.{Descriptor}
 use Rattle.smx_types.specs.declared.stream.StreamId.{StreamId}
@@ -18,17 +20,8 @@ stands_by fds links n None = false
 stands_by fds links zero (Some l) = is_persistent l
 stands_by fds links (suc n) (Some l) = is_persistent l || stands_within fds links n l.ctl
 
-swapped : (a b : Bool) → (a && b) ≡ (b && a)
-swapped true true = refl
-swapped true false = refl
-swapped false true = refl
-swapped false false = refl
-
 between : (a b c : Bool) → (a && (b && c)) ≡ (b && (a && c))
-between true true c = refl
-between true false c = refl
-between false true c = refl
-between false false c = refl
+between a b c = grind (arith, nat_tests)
 
 -- one climb more finds what fewer find
 pub more : (fds : List Descriptor) (links : List Link) (n : ℕ) (s : StreamId) → stands_within fds links n s ≡ true
@@ -37,26 +30,18 @@ more fds links n s h = or_left _ _ h
 
 climbed : (named persistent less above : Bool) → (less ≡ true → above ≡ true)
     → ((named || (persistent || less)) || (not persistent && above)) ≡ (named || (persistent || above))
-climbed true persistent less above h = refl
-climbed false true less above h = refl
-climbed false false true above h = sym (h refl)
-climbed false false false above h = refl
+climbed named persistent true above h = let stands = h refl in grind (arith, nat_tests)
+climbed named persistent false above h = grind (arith, nat_tests)
 
 first_climb : (named persistent above : Bool)
     → ((named || persistent) || (not persistent && above)) ≡ (named || (persistent || above))
-first_climb true persistent above = refl
-first_climb false true above = refl
-first_climb false false above = refl
-
-none_above : (named : Bool) → ((named || false) || false) ≡ (named || false)
-none_above true = refl
-none_above false = refl
+first_climb named persistent above = grind (arith, nat_tests)
 
 by_more : (fds : List Descriptor) (links : List Link) (n : ℕ) (named : Bool) (o : Option Link)
     → ((named || stands_by fds links n o)
     || option_map_or (λ l. not (is_persistent l) && stands_within fds links n l.ctl) o false)
     ≡ (named || stands_by fds links (suc n) o)
-by_more fds links n named None = none_above named
+by_more fds links n named None = or-false (named || false)
 by_more fds links zero named (Some l) = first_climb named (is_persistent l) (stands_within fds links 0 l.ctl)
 by_more fds links (suc n) named (Some l) = climbed named (is_persistent l) (stands_within fds links n l.ctl)
     (stands_within fds links (suc n) l.ctl) (more fds links n l.ctl)
@@ -72,7 +57,7 @@ pub stands_is : (fds : List Descriptor) (links : List Link) (n : ℕ) (s : Strea
 stands_is fds links zero s h =
     rw (
       any_once (λ l. same_stream l.lower s) is_persistent (λ l. is_persistent l && same_stream l.lower s) links
-          (once_below s links h) (λ l. swapped (is_persistent l) (same_stream l.lower s)),
+          (once_below s links h) (λ l. and_comm (is_persistent l) (same_stream l.lower s)),
       by_held fds links (find (λ l. same_stream l.lower s) links),
     ) refl
 stands_is fds links (suc n) s h =

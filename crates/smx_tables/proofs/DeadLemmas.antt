@@ -1,9 +1,11 @@
 -- What dead streams hold goes, stream by stream.
 use Rattle.std.proofs.Common.{◌≡◌, ℕ, ◌+◌, Bool, true, false, ◌&&◌, ◌||◌, not, List, [], ◌∷◌, ◌++◌, filter, take, refl}
-use Rattle.std.proofs.Common.{sym, ap, ◌∙◌, inl, inr}
-use Rattle.std.specs.List.{list_all, list_any}
+use Rattle.std.proofs.Common.{arith, sym, ap, ◌∙◌, inl, inr}
+use Rattle.std.proofs.Math.Bool.{and-false}
+use Rattle.std.specs.List.{list_all}
 use Rattle.std.proofs.lemmas.Bool.{and_parts, cases_Bool, false≢true}
 use Rattle.std.proofs.lemmas.List.Elements.{filter_agree}
+use Rattle.std.proofs.lemmas.Bool.Decides.{nat_tests}
 use Rattle.smx_types.specs.declared.stream.StreamId.{StreamId}
 use Rattle.smx_model.specs.Configuration.{same_stream}
 use Rattle.smx_streams.specs.StreamTables.{StreamTable, exists as is_there}
@@ -14,10 +16,6 @@ use Rattle.smx_tables.proofs.WatchLemmas.{listed_more}
 
 -- ---- one stream
 
-or_false : (b : Bool) → (b || false) ≡ b
-or_false true = refl
-or_false false = refl
-
 -- a stream that is not there goes, by whichever test finds it
 pub one_dead : {X : Type 0} (stream : X → StreamId) (test : X → Bool) (t : StreamTable) (s : StreamId) (xs ys : List X)
     → is_there t s ≡ false → ((x : X) → test x ≡ same_stream (stream x) s) → ys ≡ filter (λ x. not (test x)) xs
@@ -25,14 +23,11 @@ pub one_dead : {X : Type 0} (stream : X → StreamId) (test : X → Bool) (t : S
 one_dead stream test t s xs ys gone finds e =
     e ∙ filter_agree (λ x. not (test x)) (λ x. not (is_dead t (s ∷ []) (stream x)))
     (λ x. ap not (finds x ∙ dead (stream x))) xs where
-      table : (there same : Bool) → (same ≡ true → there ≡ false) → same ≡ (not there && (same || false))
-      table false true h = refl
-      table false false h = refl
-      table true true h = absurd (false≢true (sym (h refl)))
-      table true false h = refl
-
       dead : (x : StreamId) → same_stream x s ≡ is_dead t (s ∷ []) x
-      dead x = table (is_there t x) (same_stream x s) (λ same. ap (is_there t) (stream_is x s same) ∙ gone)
+      dead x = elim (cases_Bool (same_stream x s)) [
+        | inl same ↦ rw (same, ap (is_there t) (stream_is x s same) ∙ gone) refl
+        | inr other ↦ rw other (sym (and-false (not (is_there t x))))
+      ]
 
 -- one that is there stays
 pub none_of_one : {X : Type 0} (stream : X → StreamId) (t : StreamTable) (s : StreamId) (xs : List X)
@@ -59,34 +54,23 @@ pub stream_less : {X : Type 0} (stream : X → StreamId) (t : StreamTable) (seen
 stream_less stream t seen i s xs ys zs taken_one e f =
     tests_less (λ x. is_dead t (take i seen) (stream x)) (λ x. is_dead t (s ∷ []) (stream x))
     (λ x. is_dead t (take (i + 1) seen) (stream x)) xs ys zs (λ x. more (stream x)) e f where
-      parts : (gone a b : Bool) → (gone && (a || b)) ≡ ((gone && a) || (gone && (b || false)))
-      parts true true b = refl
-      parts true false b = sym (or_false b)
-      parts false a b = refl
-
       more : (x : StreamId) → is_dead t (take (i + 1) seen) x ≡ (is_dead t (take i seen) x || is_dead t (s ∷ []) x)
       more x = ap (λ (ss : List StreamId). is_dead t ss x) taken_one
           ∙ (ap (λ (b : Bool). not (is_there t x) && b) (listed_more x (take i seen) s)
-          ∙ parts (not (is_there t x)) (list_any (same_stream x) (take i seen)) (same_stream x s))
+          ∙ grind (arith, nat_tests))
 
 -- none at first
 pub none_dead : {X : Type 0} (stream : X → StreamId) (t : StreamTable) (xs : List X)
     → xs ≡ filter (λ x. not (is_dead t [] (stream x))) xs
 none_dead stream t [] = refl
 none_dead stream t (x ∷ xs) =
-    rw (and_false (not (is_there t (stream x)))) (ap (λ (ys : List _). x ∷ ys) (none_dead stream t xs)) where
-      and_false : (b : Bool) → (b && false) ≡ false
-      and_false true = refl
-      and_false false = refl
+    rw (and-false (not (is_there t (stream x)))) (ap (λ (ys : List _). x ∷ ys) (none_dead stream t xs))
 
 -- ---- all that went were seen
 
 dead_is_gone : (t : StreamTable) (seen : List StreamId) (s : StreamId) → is_there_or_touched t seen s ≡ true
     → is_dead t seen s ≡ not (is_there t s)
-dead_is_gone t seen s h = table (is_there t s) (list_any (same_stream s) seen) h where
-  table : (there listed : Bool) → (there || listed) ≡ true → (not there && listed) ≡ not there
-  table true listed e = refl
-  table false listed e = e
+dead_is_gone t seen s h = grind (arith, nat_tests)
 
 -- where each stream is there or was seen, leaving out the dead ones seen leaves out all that are not there
 pub dead_are_gone : {X : Type 0} (stream : X → StreamId) (t : StreamTable) (seen : List StreamId) (xs : List X)

@@ -1,7 +1,8 @@
 -- What dead streams hold goes with them, stream by stream.
 use Rattle.std.proofs.Common.{◌≡◌, ℕ, ◌+◌, Bool, true, false, ◌&&◌, not, eqb, List, [], ◌∷◌, ◌++◌, filter, take, refl}
-use Rattle.std.proofs.Common.{sym, ap, ◌∙◌, inl, inr}
-use Rattle.std.proofs.lemmas.Bool.{cases_Bool}
+use Rattle.std.proofs.Common.{sym, ap, ◌∙◌}
+use Rattle.std.proofs.Math.Bool.{and-true, not-not}
+use Rattle.std.proofs.lemmas.List.Elements.{filter_agree}
 use Rattle.smx_types.specs.declared.driver.DriverSpec.{DriverSpec}
 use Rattle.smx_types.specs.declared.link.Binding.{Binding}
 use Rattle.smx_types.specs.declared.stream.Place.{Place}
@@ -15,14 +16,6 @@ use Rattle.smx_tables.specs.ExistingStreams.{TellsExisting}
 use Rattle.smx_tables.specs.TouchedStreams.{is_dead, without_streams, IsTouched}
 use Rattle.smx_tables.proofs.DeadLemmas.{dead_are_gone, none_dead, none_of_one, one_dead, stream_less}
 use Rattle.smx_tables.proofs.HungLemmas.{all_pass}
-
--- tests that agree keep the same
-filter_alike : {X : Type 0} (f g : X → Bool) (xs : List X) → ((x : X) → f x ≡ g x) → filter f xs ≡ filter g xs
-filter_alike {X = X} f g [] h = refl
-filter_alike {X = X} f g (x ∷ xs) h = elim (cases_Bool (g x)) [
-  | inl t ↦ rw (h x, t) (ap (λ (zs : List X). x ∷ zs) (filter_alike f g xs h))
-  | inr n ↦ rw (h x, n) (filter_alike f g xs h)
-]
 
 -- ---- the streams of each list
 
@@ -45,10 +38,6 @@ same_parts : (c : Configuration) (xs bs : List Binding) (hs gs : List QueuedMess
     → xs ≡ bs → hs ≡ gs → ps ≡ qs → parts c xs hs ps ≡ parts c bs gs qs
 same_parts c xs bs hs gs ps qs a b d = cc
 
-and_true : (b : Bool) → (b && true) ≡ b
-and_true true = refl
-and_true false = refl
-
 -- a stream that is not there goes, with its binding and both its sides
 pub one_gone : (c : Configuration) (t : StreamTable) (s : StreamId)
     (binds : List Binding) (flow : List QueuedMessage) (fulls : List Place)
@@ -59,9 +48,9 @@ pub one_gone : (c : Configuration) (t : StreamTable) (s : StreamId)
 one_gone c t s binds flow fulls gone no_bind no_message no_mark = same_parts c _ _ _ _ _ _
     (one_dead bound (λ b. same_stream (bound b) s) t s c.binds binds gone (λ b. refl) no_bind)
     (one_dead queued (λ h. same_stream (queued h) s && true) t s c.flow flow gone
-    (λ h. and_true (same_stream (queued h) s)) no_message)
+    (λ h. and-true (same_stream (queued h) s)) no_message)
     (one_dead marked (λ p. same_stream (marked p) s && true) t s c.fulls fulls gone
-    (λ p. and_true (same_stream (marked p) s)) no_mark)
+    (λ p. and-true (same_stream (marked p) s)) no_mark)
 
 -- one that is there stays, with all that it has
 pub none_gone : (c : Configuration) (t : StreamTable) (s : StreamId) → is_there t s ≡ true
@@ -85,23 +74,19 @@ one_more_gone old c new t u seen i s here taken_one e f =
     (stream_less queued t seen i s old.flow _ _ taken_one refl refl)
     (stream_less marked t seen i s old.fulls _ _ taken_one refl refl)
 
-not_not : (b : Bool) → not (not b) ≡ b
-not_not true = refl
-not_not false = refl
-
 -- where all that went were seen, what is not there goes with what does not exist
 pub all_gone : (drivers : List DriverSpec) (c : Configuration) (t : StreamTable) (seen : List StreamId)
     → TellsExisting drivers c t → IsTouched t seen c → ((x : StreamId) → is_hung c.hungs x ≡ true → is_there t x ≡ true)
     → without_streams c (is_dead t seen) ≡ without_dead_streams drivers c
 all_gone drivers c t seen told touched hung = same_parts c _ _ _ _ _ _
     (dead_are_gone bound t seen c.binds touched.binds
-    ∙ filter_alike (λ b. not (not (is_there t (bound b)))) (λ b. exists drivers c (bound b)) c.binds
-    (λ b. not_not _ ∙ told (bound b)))
+    ∙ filter_agree (λ b. not (not (is_there t (bound b)))) (λ b. exists drivers c (bound b))
+    (λ b. not-not _ ∙ told (bound b)) c.binds)
     (dead_are_gone queued t seen c.flow touched.flow
-    ∙ filter_alike (λ h. not (not (is_there t (queued h)))) (λ h. not (not (exists drivers c (queued h)))) c.flow
-    (λ h. ap (λ (b : Bool). not (not b)) (told (queued h))))
+    ∙ filter_agree (λ h. not (not (is_there t (queued h)))) (λ h. not (not (exists drivers c (queued h))))
+    (λ h. ap (λ (b : Bool). not (not b)) (told (queued h))) c.flow)
     (dead_are_gone marked t seen c.fulls touched.fulls
-    ∙ filter_alike (λ p. not (not (is_there t (marked p)))) (λ p. not (not (exists drivers c (marked p)))) c.fulls
-    (λ p. ap (λ (b : Bool). not (not b)) (told (marked p))))
+    ∙ filter_agree (λ p. not (not (is_there t (marked p)))) (λ p. not (not (exists drivers c (marked p))))
+    (λ p. ap (λ (b : Bool). not (not b)) (told (marked p))) c.fulls)
     ∙ ap (λ (hs : List StreamId). record (without_dead_streams drivers c) { hungs = hs })
     (all_pass (exists drivers c) c.hungs (λ x up. sym (told x) ∙ hung x up))

@@ -22,6 +22,8 @@ use Rattle.smx_model.specs.Configuration.{QueuedMessage, is_at, same_place, same
 use Rattle.smx_model.specs.Ordered.{in_rising_order, with_inserted}
 use Rattle.smx_model.specs.Queues.{first_message, queue}
 use Rattle.smx_model.specs.Removal.{serials, serials_that_left}
+use Rattle.smx_model.proofs.CountLemmas.{times, times_rising}
+use Rattle.smx_queues.proofs.PlaceLemmas.{same_turned}
 use Rattle.smx_tables.specs.DroppedMessages.{AreDropped, is_flushed_at}
 
 abbrev at : StreamId → Side → Place
@@ -116,10 +118,6 @@ no_message_goes (h ∷ hs) p none = elim (cases_Bool (is_at p h)) [
   | inr f ↦ rw f (ap (λ (xs : List QueuedMessage). h ∷ xs) (no_message_goes hs p (rw f at none)))
 ]
 
--- whether two places are the same is told in either order
-same_turned : (p q : Place) → same_place p q ≡ same_place q p
-same_turned p q = grind (arith, nat_tests)
-
 -- of a place without a full mark none goes
 pub no_mark_goes : (fulls : List Place) (p : Place) → list_any (same_place p) fulls ≡ false
     → fulls ≡ filter (λ q. not (same_place q p)) fulls
@@ -142,27 +140,8 @@ place_and_rest (h ∷ hs) p = elim (cases_Bool (is_at p h))
 pub on_both_sides : (stream : StreamId) (sides : Sides) (s : StreamId) (x : Side)
     → (same_stream s stream && is_side sides x)
     ≡ (is_flushed_at stream sides side.Write (at s x) || is_flushed_at stream sides side.Read (at s x))
-on_both_sides stream sides s side.Write =
-    table (same_stream s stream) (is_side sides side.Write) (is_side sides side.Read) where
-      table : (a v r : Bool) → (a && v) ≡ ((v && (a && true)) || (r && (a && false)))
-      table true true r = refl
-      table true false true = refl
-      table true false false = refl
-      table false true true = refl
-      table false true false = refl
-      table false false true = refl
-      table false false false = refl
-on_both_sides stream sides s side.Read =
-    table (same_stream s stream) (is_side sides side.Write) (is_side sides side.Read) where
-      table : (a v r : Bool) → (a && r) ≡ ((v && (a && false)) || (r && (a && true)))
-      table true true true = refl
-      table true true false = refl
-      table true false true = refl
-      table true false false = refl
-      table false true true = refl
-      table false true false = refl
-      table false false true = refl
-      table false false false = refl
+on_both_sides stream sides s side.Write = grind (arith, nat_tests)
+on_both_sides stream sides s side.Read = grind (arith, nat_tests)
 
 -- ---- sorted numbers
 
@@ -193,19 +172,6 @@ up_placed (k ∷ ns) n h = elim (cases_Bool (ltb n k)) [
 rising_up : (ns : List ℕ) → IsUp (in_rising_order ns)
 rising_up [] = tt
 rising_up (n ∷ ns) = up_placed (in_rising_order ns) n (rising_up ns)
-
-abbrev times : ℕ → List ℕ → ℕ
-times n [] = 0
-times n (m ∷ ms) = cond (eqb m n) 1 0 + times n ms
-
-times_placed : (k n : ℕ) (ns : List ℕ) → times k (with_inserted ltb ns n) ≡ cond (eqb n k) 1 0 + times k ns
-times_placed k n [] = refl
-times_placed k n (m ∷ ns) =
-    elim (cases_Bool (ltb n m)) [ inl t ↦ rw t refl | inr f ↦ rw f (omega (arith, times_placed k n ns)) ]
-
-times_rising : (k : ℕ) (ns : List ℕ) → times k (in_rising_order ns) ≡ times k ns
-times_rising k [] = refl
-times_rising k (n ∷ ns) = times_placed k n (in_rising_order ns) ∙ omega (arith, times_rising k ns)
 
 times_sum : (k : ℕ) (ns : List ℕ) → times k ns ≡ sum_by (λ m. cond (eqb m k) 1 0) ns
 times_sum k [] = refl

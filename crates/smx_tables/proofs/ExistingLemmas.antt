@@ -2,11 +2,15 @@
 use Rattle.std.proofs.Common.{◌≡◌, ℕ, zero, suc, ◌+◌, ◌<◌, ◌≤◌, Bool, true, false, ◌&&◌, ◌||◌, not, List, [], ◌∷◌}
 use Rattle.std.proofs.Common.{length, filter, find, get_or, Option, Some, None, Ok, Err, ◌++◌, if◌then◌else◌, refl, sym}
 use Rattle.std.proofs.Common.{ap, subst, ◌∙◌, arith, inl, inr}
+use Rattle.std.proofs.Math.Bool.{or-false}
 use Rattle.std.specs.Prelude.{IsTrue, ◌↔◌, nat_lt}
 use Rattle.std.specs.Option.{option_map}
 use Rattle.std.specs.List.{All, AllByRecursion, list_any, list_all}
 use Rattle.std.proofs.lemmas.Bool.{cases_Bool, and_parts, and_from, or_cases, or_left, or_right, false_from_ne_true}
 use Rattle.std.proofs.lemmas.Bool.{false≢true}
+use Rattle.std.proofs.lemmas.Bool.Decides.{nat_tests}
+use Rattle.std.proofs.lemmas.List.Folds.{list_any-append}
+use Rattle.std.proofs.lemmas.Option.{same_Some}
 use Rattle.std.proofs.lemmas.List.Elements.{recursion_from_All, Contains-get_or}
 use Rattle.smx_types.specs.declared.driver.DriverSpec.{DriverSpec}
 use Rattle.smx_types.specs.declared.link.Link.{Link}
@@ -26,32 +30,17 @@ use Rattle.smx_links.specs.LinkLists.{LinkList, IsLinked, refusal, with_link}
 use Rattle.smx_links.specs.declared.link_fault.LinkFault.TheVariants as link_fault
 use Rattle.smx_tables.proofs.AboveLemmas.{stream_is, stream_self}
 use Rattle.smx_tables.proofs.ClimbLemmas.{named_stands}
+-- one, or all, that pass a test pass any test that follows from it; and fewer items pass what all did
+pub use Rattle.smx_model.proofs.TestLemmas.{all_filter as all_fewer, all_more as all_weaker, any_more as any_weaker}
 
 -- ---- tests
 
--- where one passes a test, one passes any test that follows from it
-pub any_weaker : {X : Type 0} (t u : X → Bool) (xs : List X) → ((x : X) → t x ≡ true → u x ≡ true)
-    → list_any t xs ≡ true → list_any u xs ≡ true
-any_weaker {X = X} t u [] f h = h
-any_weaker {X = X} t u (x ∷ xs) f h = elim (or_cases (t x) (list_any t xs) h)
-    [ inl a ↦ or_left _ _ (f x a) | inr b ↦ or_right _ _ (any_weaker t u xs f b) ]
-
--- where all pass a test, all pass any test that follows from it
-pub all_weaker : {X : Type 0} (t u : X → Bool) (xs : List X) → ((x : X) → t x ≡ true → u x ≡ true)
-    → list_all t xs ≡ true → list_all u xs ≡ true
-all_weaker {X = X} t u [] f h = h
-all_weaker {X = X} t u (x ∷ xs) f h =
-    let p = and_parts (t x) (list_all t xs) h in and_from _ _ (f x p.0) (all_weaker t u xs f p.1)
-
--- fewer items pass what all did
-pub all_fewer : {X : Type 0} (t u : X → Bool) (xs : List X) → list_all t xs ≡ true → list_all t (filter u xs) ≡ true
-all_fewer t u [] h = refl
-all_fewer t u (x ∷ xs) h = let p = and_parts (t x) (list_all t xs) h in
-    elim (cases_Bool (u x)) [
-      | inl a ↦ rw a (and_from _ _ p.0 (all_fewer t u xs p.1))
-      | inr b ↦
-          rw b (all_fewer t u xs p.1)
-    ]
+-- where the controlling stream of each ordinary link passes a test, it passes any test that follows from it
+pub linked_weaker : (f g : StreamId → Bool) (ls : List Link) → ((s : StreamId) → f s ≡ true → g s ≡ true)
+    → list_all (λ l. is_persistent l || f l.ctl) ls ≡ true → list_all (λ l. is_persistent l || g l.ctl) ls ≡ true
+linked_weaker f g ls on = all_weaker (λ l. is_persistent l || f l.ctl) (λ l. is_persistent l || g l.ctl) ls
+    (λ l e. elim (or_cases (is_persistent l) (f l.ctl) e)
+    [ inl p ↦ or_left _ _ p | inr o ↦ or_right _ _ (on l.ctl o) ])
 
 -- two tests that follow from one another
 pub same_test : (a b : Bool) → (a ≡ true → b ≡ true) → (b ≡ true → a ≡ true) → a ≡ b
@@ -66,8 +55,7 @@ pub named_stream : (process fd : ℕ) (fds : List Descriptor) (s : StreamId)
     → option_map (λ (d : Descriptor). d.stream) (find (is_fd process fd) fds) ≡ Some s → is_named fds s ≡ true
 named_stream process fd [] s h = absurd cc
 named_stream process fd (d ∷ ds) s h = elim (cases_Bool (is_fd process fd d)) [
-  | inl t ↦ let k : Some d.stream ≡ Some s = rw t at h in let same : d.stream ≡ s = cc in
-      or_left _ _ (ap (λ (x : StreamId). same_stream x s) same ∙ stream_self s)
+  | inl t ↦ or_left _ _ (ap (λ (x : StreamId). same_stream x s) (same_Some d.stream s (rw t at h)) ∙ stream_self s)
   | inr f ↦ or_right _ _ (named_stream process fd ds s (rw f at h))
 ]
 
@@ -175,22 +163,8 @@ by_link t s (l ∷ ls) h b = elim (cases_Bool (same_stream l.lower s)) [
     | inl p ↦ or_left _ _ (or_left _ _ (and_from _ _ p here))
     | inr o ↦ or_right _ _ (or_left _ _ (and_from _ _ (ap not o) (and_from _ _ here (h.0 here o))))
   ]
-  | inr other ↦ one_less (list_any held_by ls) (list_any climbed ls) (held_by l) (climbed l)
-      (by_link t s ls h.1 (rw other at b))
-] where
-  held_by : Link → Bool
-  held_by k = is_persistent k && same_stream k.lower s
-
-  climbed : Link → Bool
-  climbed k = not (is_persistent k) && (same_stream k.lower s && t k)
-
-  one_less : (a b c d : Bool) → (a || b) ≡ true → ((c || a) || (d || b)) ≡ true
-  one_less true b true d e = refl
-  one_less true b false d e = refl
-  one_less false b true d e = refl
-  one_less false true false true e = refl
-  one_less false true false false e = refl
-  one_less false false c d e = absurd cc
+  | inr other ↦ let rest = by_link t s ls h.1 (rw other at b) in rw other (grind (arith, nat_tests))
+]
 
 -- the controlling stream of each ordinary link that holds its lower stream is there
 abbrev pub IsTight : StreamTable → Link → Type 0
@@ -277,10 +251,7 @@ there_exists drivers c t s climbs path join sound known same up h there =
 -- a stream is held exactly where it is below a link
 pub held_is_below : (links : List Link) (t : StreamTable) (s : StreamId) → AreHeld links t
     → nat_lt 0 (number_at t.holds s) ≡ is_below links s
-held_is_below links t s h = rw (h s) (one (is_below links s)) where
-  one : (b : Bool) → nat_lt 0 (if b then 1 else 0) ≡ b
-  one true = refl
-  one false = refl
+held_is_below links t s h = rw (h s) (grind (arith, nat_tests))
 
 -- where each stream below a link has a hold, a stream is there if a descriptor names it or a link is above it
 pub there_is : (links : List Link) (t : StreamTable) (s : StreamId) → AreHeld links t
@@ -315,33 +286,21 @@ pub swept_is_linked : (drivers : List DriverSpec) (c : Configuration) (t : Strea
     → AreHeld c.links t → list_all (λ l. is_persistent l || exists drivers c l.ctl) c.links ≡ true
     → list_all (λ l. is_persistent l || is_there t l.ctl) c.links ≡ true
 swept_is_linked drivers c t same held h =
-    all_weaker (λ l. is_persistent l || exists drivers c l.ctl) (λ l. is_persistent l || is_there t l.ctl) c.links
-    (λ l e. elim (or_cases (is_persistent l) (exists drivers c l.ctl) e) [
-      | inl p ↦ or_left _ _ p
-      | inr o ↦
-          or_right _ _
-          (there_is c.links t l.ctl held
-          ∙ subst (λ (fds : List Descriptor). (is_named fds l.ctl || is_below c.links l.ctl) ≡ true) (sym same)
-          (stands_there c.fds c.links (length drivers) l.ctl o))
-    ]) h
+    linked_weaker (exists drivers c) (is_there t) c.links
+    (λ s o. there_is c.links t s held
+    ∙ subst (λ (fds : List Descriptor). (is_named fds s || is_below c.links s) ≡ true) (sym same)
+    (stands_there c.fds c.links (length drivers) s o)) h
 
 -- ---- one link more
 
 -- a stream has one hold at most
 pub holds_few : (links : List Link) (s : StreamId) → holds_of links s ≤ 1
-holds_few links s = one (is_below links s) where
-  one : (b : Bool) → (if b then 1 else 0) ≤ 1
-  one true = let k : 1 ≤ 1 = omega arith in k
-  one false = let k : 0 ≤ 1 = omega arith in k
+holds_few links s = grind (arith, nat_tests)
 
 below_more : (links : List Link) (l : Link) (s : StreamId)
     → is_below (links ++ l ∷ []) s ≡ (is_below links s || same_stream l.lower s)
-below_more [] l s = or_none (same_stream l.lower s) where
-  or_none : (b : Bool) → (b || false) ≡ b
-  or_none true = refl
-  or_none false = refl
-below_more (k ∷ ks) l s =
-    elim (cases_Bool (same_stream k.lower s)) [ inl t ↦ rw t refl | inr f ↦ rw f (below_more ks l s) ]
+below_more links l s = list_any-append (λ k. same_stream k.lower s) links (l ∷ [])
+    ∙ ap (λ (b : Bool). is_below links s || b) (or-false (same_stream l.lower s))
 
 -- a link is refused above a stream that is below one
 pub not_below_yet : (t : LinkList) (ctl lower : StreamId) (id : ℕ) → IsLinked (refusal t ctl lower) t (Ok id)
@@ -360,25 +319,15 @@ held_by_one_more old new ctl lower kind t u free is held h = λ s.
     ∙ ap (λ (b : Bool). is_below old.links s || b) (turned lower s) in
     h.holds s ∙ by s (same_stream s lower) ∙ ap (λ (b : Bool). if b then 1 else 0) (sym more) where
       turned : (x y : StreamId) → same_stream x y ≡ same_stream y x
-      turned x y = same_test (same_stream x y) (same_stream y x)
-          (λ e. ap (λ (z : StreamId). same_stream z x) (sym (stream_is x y e)) ∙ stream_self x)
-          (λ e. ap (λ (z : StreamId). same_stream z y) (sym (stream_is y x e)) ∙ stream_self y)
+      turned x y = grind (arith, nat_tests)
 
       none : number_at t.holds lower ≡ 0
       none = held lower ∙ ap (λ (b : Bool). if b then 1 else 0) free
 
-      one : (b : Bool) → ◌≡◌ {A = ℕ} (0 + 1) (if (b || true) then 1 else 0)
-      one true = refl
-      one false = refl
-
-      as_before : (b : Bool) → ◌≡◌ {A = ℕ} (if b then 1 else 0) (if (b || false) then 1 else 0)
-      as_before true = refl
-      as_before false = refl
-
       by : (s : StreamId) (v : Bool) → (if v then number_at t.holds lower + 1 else number_at t.holds s)
           ≡ (if (is_below old.links s || v) then 1 else 0)
-      by s true = ap (λ (n : ℕ). n + 1) none ∙ one (is_below old.links s)
-      by s false = held s ∙ as_before (is_below old.links s)
+      by s true = ap (λ (n : ℕ). n + 1) none ∙ grind (arith, nat_tests)
+      by s false = held s ∙ grind (arith, nat_tests)
 
 -- the stream of a descriptor is there
 pub fd_is_there : (t : StreamTable) (process fd : ℕ) (s : StreamId)

@@ -1,19 +1,15 @@
 -- Links that are found.
-use Rattle.std.proofs.Common.{◌≡◌, ℕ, zero, suc, ◌<◌, Bool, true, List, [], ◌∷◌, length, get_or, find, Option, Some}
+use Rattle.std.proofs.Common.{◌≡◌, ℕ, zero, suc, ◌<◌, Bool, true, List, [], ◌∷◌, length, get_or, find, Some}
 use Rattle.std.proofs.Common.{refl, sym, subst, ◌∙◌, arith, inl, inr}
-use Rattle.std.specs.List.{AllByRecursion, list_any}
-use Rattle.std.proofs.lemmas.Bool.{cases_Bool, or_left, or_right, false≢true}
+use Rattle.std.specs.List.{AllByRecursion}
+use Rattle.std.proofs.lemmas.Bool.{cases_Bool, false≢true}
+use Rattle.std.proofs.lemmas.List.Folds.{list_any_at}
+use Rattle.std.proofs.lemmas.Option.{same_Some}
 use Rattle.smx_types.specs.declared.link.Link.{Link}
 use Rattle.smx_model.specs.Configuration.{same_stream}
 use Rattle.smx_model.specs.Paths.{AreLowersApart}
 use Rattle.smx_model.specs.Standing.{is_below}
 use Rattle.smx_tables.proofs.AboveLemmas.{IsOnce, once_below, stream_self}
-
-any_at : (test : Link → Bool) (ls : List Link) (i : ℕ) (d : Link) → i < length ls → test (get_or ls i d) ≡ true
-    → list_any test ls ≡ true
-any_at test [] i d lt h = absurd (omega arith)
-any_at test (l ∷ ls) zero d lt h = or_left _ _ h
-any_at test (l ∷ ls) (suc i) d lt h = or_right _ _ (any_at test ls i d (omega arith) h)
 
 -- where one link at most passes, each that passes is the one that is found
 pub found_itself : (test : Link → Bool) (ls : List Link) (i : ℕ) (d : Link) → IsOnce test ls → i < length ls
@@ -21,7 +17,7 @@ pub found_itself : (test : Link → Bool) (ls : List Link) (i : ℕ) (d : Link) 
 found_itself test [] i d o lt h = absurd (omega arith)
 found_itself test (l ∷ ls) zero d o lt h = rw h refl
 found_itself test (l ∷ ls) (suc i) d o lt h = elim (cases_Bool (test l)) [
-  | inl t ↦ absurd (false≢true (sym (o.0 t) ∙ any_at test ls i d (omega arith) h))
+  | inl t ↦ absurd (false≢true (sym (o.0 t) ∙ list_any_at test ls i d (omega arith) h))
   | inr f ↦ rw f (found_itself test ls i d o.1 (omega arith) h)
 ]
 
@@ -30,15 +26,14 @@ pub found_has : (P : Link → Type 0) (test : Link → Bool) (ls : List Link) (l
     → find test ls ≡ Some l → (test l ≡ true) × P l
 found_has P test [] l h e = absurd cc
 found_has P test (k ∷ ks) l h e = elim (cases_Bool (test k)) [
-  | inl t ↦ let x : ◌≡◌ {A = Option Link} (Some k) (Some l) =
-      rw t at e in let same : k ≡ l = cc in (subst (λ (y : Link). test y ≡ true) same t, subst P same h.0)
+  | inl t ↦ let same = same_Some k l (rw t at e) in (subst (λ (y : Link). test y ≡ true) same t, subst P same h.0)
   | inr f ↦ found_has P test ks l h.1 (rw f at e)
 ]
 
 -- the lower stream of each link is below a link
 pub below_at : (ls : List Link) (i : ℕ) (d : Link) → i < length ls → is_below ls (get_or ls i d).lower ≡ true
 below_at ls i d lt =
-    any_at (λ l. same_stream l.lower (get_or ls i d).lower) ls i d lt (stream_self (get_or ls i d).lower)
+    list_any_at (λ l. same_stream l.lower (get_or ls i d).lower) ls i d lt (stream_self (get_or ls i d).lower)
 
 -- two links with one lower stream are one
 pub one_link : (ls : List Link) (i j : ℕ) (d : Link) → AreLowersApart ls → i < length ls → j < length ls
@@ -48,5 +43,4 @@ one_link ls i j d apart lt in_range same =
     let once = once_below s ls apart in
     let a = found_itself (λ l. same_stream l.lower s) ls i d once lt (stream_self s) in
     let b = found_itself (λ l. same_stream l.lower s) ls j d once in_range same in
-    let e : ◌≡◌ {A = Option Link} (Some (get_or ls j d)) (Some (get_or ls i d)) = sym b ∙ a in
-    cc
+    same_Some _ _ (sym b ∙ a)

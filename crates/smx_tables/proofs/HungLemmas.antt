@@ -3,7 +3,7 @@ use Rattle.std.proofs.Common.{◌≡◌, ℕ, ◌≤◌, Bool, true, false, List
 use Rattle.std.proofs.Common.{inr}
 use Rattle.std.specs.Prelude.{nat_lt}
 use Rattle.std.specs.List.{list_all}
-use Rattle.std.proofs.lemmas.Bool.{and_from, cases_Bool, or_cases, or_left, or_right}
+use Rattle.std.proofs.lemmas.Bool.{and_from, or_cases, or_left, or_right}
 use Rattle.std.proofs.lemmas.Bool.Decides.{nat_tests}
 use Rattle.smx_types.specs.declared.stream.Descriptor.{Descriptor}
 use Rattle.smx_types.specs.declared.stream.StreamId.{StreamId}
@@ -13,24 +13,10 @@ use Rattle.smx_model.specs.Standing.{is_named}
 use Rattle.smx_streams.specs.StreamTables.{StreamTable, AreHungsSound, HasHolds, LeavesHungs, number_at}
 use Rattle.smx_streams.specs.StreamTables.{exists as is_there}
 use Rattle.smx_tables.proofs.AboveLemmas.{stream_is, stream_self}
+-- a test that each passes keeps all, and a stricter test after another keeps what it keeps alone
+pub use Rattle.smx_streams.proofs.HungLemmas.{all_pass, twice as stricter}
 
 -- ---- tests of streams
-
--- a stricter test after another keeps what it keeps alone
-pub stricter : (p q : StreamId → Bool) (xs : List StreamId) → ((x : StreamId) → p x ≡ true → q x ≡ true)
-    → filter p (filter q xs) ≡ filter p xs
-stricter p q [] h = refl
-stricter p q (x ∷ xs) h = elim (cases_Bool (p x)) [
-  | inl t ↦ rw (h x t, t) (ap (λ (ys : List StreamId). x ∷ ys) (stricter p q xs h))
-  | inr f ↦ elim (cases_Bool (q x)) [ inl u ↦ rw (u, f) (stricter p q xs h) | inr u ↦ rw (u, f) (stricter p q xs h) ]
-]
-
--- a test that each passes keeps all
-pub all_pass : (p : StreamId → Bool) (xs : List StreamId) → ((x : StreamId) → is_hung xs x ≡ true → p x ≡ true)
-    → xs ≡ filter p xs
-all_pass p [] h = refl
-all_pass p (x ∷ xs) h = rw (h x (or_left _ _ (stream_self x)))
-    (ap (λ (ys : List StreamId). x ∷ ys) (all_pass p xs (λ y t. h y (or_right (same_stream x y) _ t))))
 
 -- where each stream that has hung up passes a test, the whole list does
 pub pass_all : (p : StreamId → Bool) (xs : List StreamId) → ((x : StreamId) → is_hung xs x ≡ true → p x ≡ true)
@@ -55,11 +41,8 @@ pub there_before : (t u : StreamTable) (s x : StreamId) (n : ℕ) → HasHolds t
     → is_there u x ≡ true → is_there t x ≡ true
 there_before t u s x n h few there = elim (or_cases (is_named u.fds x) (nat_lt 0 (number_at u.holds x)) there) [
   | inl a ↦ or_left _ _ (ap (λ (fds : List Descriptor). is_named fds x) (sym h.fds) ∙ a)
-  | inr b ↦ or_right _ _ (some (number_at u.holds x) (number_at t.holds x) (not_more (same_stream x s) refl) b)
+  | inr b ↦ or_right (is_named t.fds x) _ (grind (arith, nat_tests, not_more (same_stream x s) refl))
 ] where
-  some : (m k : ℕ) → m ≤ k → nat_lt 0 m ≡ true → nat_lt 0 k ≡ true
-  some m k le lt = grind (arith, nat_tests)
-
   not_more : (b : Bool) → same_stream x s ≡ b → number_at u.holds x ≤ number_at t.holds x
   not_more true e =
       let now : number_at u.holds x ≡ n = h.holds x ∙ rw e refl in

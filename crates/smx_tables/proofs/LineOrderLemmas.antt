@@ -1,11 +1,11 @@
 -- Lines each of which shows an item, in order, and whether they are all lines of a list.
 use Rattle.std.proofs.Common.{◌≡◌, ℕ, ◌+◌, ◌<◌, ◌≤◌, Bool, true, false, ◌&&◌, List, [], ◌∷◌, length, map, drop, get_or}
-use Rattle.std.proofs.Common.{Option, Some, None, refl, sym, ap, ◌∙◌, add-one, drop-cons}
+use Rattle.std.proofs.Common.{Option, Some, None, refl, sym, ap, ◌∙◌}
 use Rattle.std.specs.Prelude.{◌↔◌}
 use Rattle.std.specs.List.{All, AllByRecursion}
 use Rattle.std.specs.Option.{option_map_or}
 use Rattle.std.proofs.lemmas.Bool.{and_from, and_parts}
-use Rattle.std.proofs.lemmas.List.{drop_all, length-map}
+use Rattle.std.proofs.lemmas.List.{drop_all, drop_more, length-map}
 use Rattle.std.proofs.lemmas.List.Elements.{All-from_recursion}
 use Rattle.smx_model.specs.Ordered.{ComesBefore, IsRising}
 use Rattle.smx_tables.specs.ShownAddresses.{are_shown_in_order}
@@ -20,17 +20,13 @@ module _ {X Y : Type 0} (shown : Y → Option X) (before : X → X → Bool) whe
 
   -- ---- line by line
 
-  -- the lines that are left are one line and the others
-  split : (i : ℕ) (ys : List Y) (y : Y) → i < length ys → drop i ys ≡ get_or ys i y ∷ drop (i + 1) ys
-  split i ys y lt = rw add-one (drop-cons ys i y lt)
-
   -- what the next line shows decides, and then the others
   at_line : (last : Option X) (ys : List Y) (i : ℕ) (y : Y) (all : Bool) → i < length ys → y ≡ get_or ys i y
       → in_order last (drop i ys) ≡ all
       → option_map_or (λ x. follows last x && in_order (Some x) (drop (i + 1) ys)) (shown y) false ≡ all
   at_line last ys i y all lt at e =
       ap (λ z. option_map_or (λ x. follows last x && in_order (Some x) (drop (i + 1) ys)) (shown z) false) at
-      ∙ (ap (in_order last) (sym (split i ys y lt)) ∙ e)
+      ∙ (ap (in_order last) (sym (drop_more ys i y lt)) ∙ e)
 
   -- a line that shows nothing
   pub line_of_none : (last : Option X) (ys : List Y) (i : ℕ) (y : Y) (all : Bool) → i < length ys → y ≡ get_or ys i y

@@ -4,6 +4,7 @@ use Rattle.std.proofs.Common.{length, length-append, find, Some, if◌then◌els
 use Rattle.std.specs.Prelude.{nat_lt, slice_get}
 use Rattle.std.specs.List.{list_any}
 use Rattle.std.proofs.lemmas.Option.{slice_get_within}
+use Rattle.std.proofs.lemmas.Bool.Decides.{nat_tests}
 use Rattle.smx_types.specs.declared.link.Link.{Link}
 use Rattle.smx_types.specs.declared.stream.StreamId.{StreamId}
 use Rattle.smx_model.specs.Configuration.{same_stream}
@@ -56,18 +57,10 @@ own_id links i l id apart at =
 held_less : (t new : StreamTable) (s : StreamId) (k : Link) → HasHolds t s 0 new
     → not (is_held new k) ≡ (not (is_held t k) || same_stream k.lower s)
 held_less t new s k h = by (same_stream k.lower s) (h.holds k.lower) where
-  or_true : (b : Bool) → true ≡ (b || true)
-  or_true true = refl
-  or_true false = refl
-
-  or_false : (b : Bool) → b ≡ (b || false)
-  or_false true = refl
-  or_false false = refl
-
   by : (b : Bool) → number_at new.holds k.lower ≡ (if b then 0 else number_at t.holds k.lower)
       → not (is_held new k) ≡ (not (is_held t k) || b)
-  by true e = ap (λ (n : ℕ). not (nat_lt 0 n)) e ∙ or_true (not (is_held t k))
-  by false e = ap (λ (n : ℕ). not (nat_lt 0 n)) e ∙ or_false (not (is_held t k))
+  by true e = ap (λ (n : ℕ). not (nat_lt 0 n)) e ∙ grind (arith, nat_tests)
+  by false e = ap (λ (n : ℕ). not (nat_lt 0 n)) e ∙ grind (arith, nat_tests)
 
 -- ids of either kind
 either_id : (t new : StreamTable) (s : StreamId) (id : ℕ) (ls : List Link) → HasHolds t s 0 new
@@ -77,19 +70,7 @@ either_id t new s id [] h = refl
 either_id t new s id (k ∷ ks) h = ap (λ (b : Bool). (eqb k.id id && b)
     || list_any (λ k. eqb k.id id && not (is_held new k)) ks) (held_less t new s k h)
     ∙ ap (λ (b : Bool). (eqb k.id id && (not (is_held t k) || same_stream k.lower s)) || b) (either_id t new s id ks h)
-    ∙ table (eqb k.id id) (not (is_held t k)) (same_stream k.lower s)
-    (list_any (λ k. eqb k.id id && not (is_held t k)) ks)
-    (list_any (λ k. same_stream k.lower s && eqb k.id id) ks) where
-      table : (e f g x y : Bool) → ((e && (f || g)) || (x || y)) ≡ (((e && f) || x) || ((g && e) || y))
-      table true true g x y = refl
-      table true false true true y = refl
-      table true false true false y = refl
-      table true false false true y = refl
-      table true false false false y = refl
-      table false f true true y = refl
-      table false f true false y = refl
-      table false f false true y = refl
-      table false f false false y = refl
+    ∙ grind (arith, nat_tests)
 
 id_more : (links : List Link) (t new : StreamTable) (ids : List ℕ) (i : ℕ) (l : Link) → AreLowersApart links
     → Some l ≡ slice_get links i → HasHolds t l.lower 0 new

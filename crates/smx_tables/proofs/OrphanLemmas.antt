@@ -1,11 +1,12 @@
 -- Once no link is loose, the links whose lower streams are not held are those that are orphaned.
-use Rattle.std.proofs.Common.{◌≡◌, ℕ, zero, suc, ◌≤◌, Bool, true, false, ◌&&◌, ◌||◌, not, List, [], ◌∷◌, length, filter}
-use Rattle.std.proofs.Common.{if◌then◌else◌, refl, sym, ap, subst, ◌∙◌, arith, inl, inr}
+use Rattle.std.proofs.Common.{◌≡◌, ℕ, Bool, true, false, ◌&&◌, ◌||◌, not, List, [], ◌∷◌, length, filter}
+use Rattle.std.proofs.Common.{refl, sym, ap, subst, ◌∙◌, arith, inl, inr}
+use Rattle.std.proofs.Math.Bool.{not-not}
 use Rattle.std.specs.Prelude.{nat_lt}
 use Rattle.std.specs.List.{All, AllByRecursion, list_any, list_all}
 use Rattle.std.proofs.lemmas.Bool.{cases_Bool, and_from, or_parts}
 use Rattle.std.proofs.lemmas.Bool.Decides.{nat_tests}
-use Rattle.std.proofs.lemmas.List.Elements.{recursion_from_All}
+use Rattle.std.proofs.lemmas.List.Elements.{filter_agree, recursion_from_All}
 use Rattle.smx_types.specs.declared.driver.DriverSpec.{DriverSpec}
 use Rattle.smx_types.specs.declared.link.Link.{Link}
 use Rattle.smx_types.specs.declared.stream.Descriptor.{Descriptor}
@@ -26,19 +27,11 @@ all_tight : (t : StreamTable) (ls : List Link) → list_any (is_loose t) ls ≡ 
 all_tight t [] h = tt
 all_tight t (l ∷ ls) h =
     let p = or_parts (is_loose t l) (list_any (is_loose t) ls) h in
-    ((λ held o. tight (is_persistent l) (is_held t l) (is_there t l.ctl) p.0 held o), all_tight t ls p.1) where
-      tight : (a b c : Bool) → (not a && (b && not c)) ≡ false → b ≡ true → a ≡ false → c ≡ true
-      tight true b c h u o = absurd cc
-      tight false false c h u o = absurd cc
-      tight false true true h u o = refl
-      tight false true false h u o = absurd cc
+    ((λ held o. grind (arith, nat_tests, p.0)), all_tight t ls p.1)
 
 held_below : (links : List Link) (n : ℕ) (t : StreamTable) (s : StreamId) → IsReleasing links n t
     → nat_lt 0 (number_at t.holds s) ≡ true → is_below links s ≡ true
-held_below links n t s h up = let few = h.once s in below (is_below links s) few up where
-  below : (b : Bool) → number_at t.holds s ≤ (if b then 1 else 0) → nat_lt 0 (number_at t.holds s) ≡ true → b ≡ true
-  below true few up = refl
-  below false few up = let none : number_at t.holds s ≤ 0 = few in absurd (grind (arith, nat_tests))
+held_below links n t s h up = grind (arith, nat_tests, h.once s)
 
 -- the links whose lower streams were released are those that are orphaned
 pub released_are_orphaned : (drivers : List DriverSpec) (c : Configuration) (t : StreamTable) → DoClimbsSuffice
@@ -71,45 +64,25 @@ released_are_orphaned drivers c t climbs path join sound known same h none =
         each ls a.1 b.1,
       )
 
--- two tests that agree on each link keep the same
-pub kept_alike : (f g : Link → Bool) (ls : List Link) → AllByRecursion (λ l. f l ≡ g l) ls → filter f ls ≡ filter g ls
-kept_alike f g [] h = refl
-kept_alike f g (l ∷ ls) h = elim (cases_Bool (g l)) [
-  | inl t ↦ rw (h.0, t) (ap (λ (ks : List Link). l ∷ ks) (kept_alike f g ls h.1))
-  | inr n ↦ rw (h.0, n) (kept_alike f g ls h.1)
-]
-
 -- below the links that are held
 below_held : (t : StreamTable) (s : StreamId) (ls : List Link)
     → is_below (filter (is_held t) ls) s ≡ (is_below ls s && nat_lt 0 (number_at t.holds s))
 below_held t s ls = any_kept (λ l. same_stream l.lower s) (is_held t) ls ∙ both ls where
-  twice : (u b : Bool) → (u || (b && u)) ≡ u
-  twice true b = refl
-  twice false true = refl
-  twice false false = refl
-
-  join : (a g u b r : Bool) → (a ≡ true → g ≡ u) → r ≡ (b && u) → ((a && g) || r) ≡ ((a || b) && u)
-  join true g u b r f e = ap (λ (x : Bool). x || r) (f refl) ∙ ap (λ (x : Bool). u || x) e ∙ twice u b
-  join false g u b r f e = e
-
   both : (ks : List Link) → list_any (λ l. same_stream l.lower s && is_held t l) ks
       ≡ (is_below ks s && nat_lt 0 (number_at t.holds s))
   both [] = refl
-  both (k ∷ ks) = join (same_stream k.lower s) (is_held t k) (nat_lt 0 (number_at t.holds s)) (is_below ks s)
-      (list_any (λ l. same_stream l.lower s && is_held t l) ks)
-      (λ here. ap (λ (x : StreamId). nat_lt 0 (number_at t.holds x)) (stream_is k.lower s here)) (both ks)
+  both (k ∷ ks) = elim (cases_Bool (same_stream k.lower s)) [
+    | inl here ↦
+        let held : is_held t k ≡ nat_lt 0 (number_at t.holds s) =
+        ap (λ (x : StreamId). nat_lt 0 (number_at t.holds x)) (stream_is k.lower s here) in
+        rw (here, held, both ks) (grind (arith, nat_tests))
+    | inr other ↦ rw other (both ks)
+  ]
 
 -- what is left is held
 pub held_is_left : (links : List Link) (n : ℕ) (t : StreamTable) → IsReleasing links n t
     → AreHeld (filter (is_held t) links) t
-held_is_left links n t h = λ s. at_once (is_below links s) (number_at t.holds s) (h.once s)
-    ∙ ap (λ (b : Bool). if b then 1 else 0) (sym (below_held t s links)) where
-      at_once : (b : Bool) (m : ℕ) → m ≤ (if b then 1 else 0) → m ≡ (if (b && nat_lt 0 m) then 1 else 0)
-      at_once true zero few = refl
-      at_once true (suc zero) few = refl
-      at_once true (suc (suc m)) few = absurd (omega arith)
-      at_once false zero few = refl
-      at_once false (suc m) few = absurd (omega arith)
+held_is_left links n t h = λ s. rw (below_held t s links) (grind (arith, nat_tests, h.once s))
 
 -- and none of it is orphaned
 pub left_is_linked : (t : StreamTable) (ls : List Link) → list_any (is_loose t) ls ≡ false
@@ -119,24 +92,13 @@ left_is_linked t (l ∷ ls) h =
     let p = or_parts (is_loose t l) (list_any (is_loose t) ls) h in
     let rest = left_is_linked t ls p.1 in
     elim (cases_Bool (is_held t l)) [
-      | inl u ↦ rw u (and_from _ _ (tight (is_persistent l) (is_there t l.ctl) (rw u at p.0)) rest)
+      | inl u ↦ rw u (and_from (is_persistent l || is_there t l.ctl) _ (grind (arith, nat_tests, p.0)) rest)
       | inr n ↦ rw n rest
-    ] where
-      tight : (a c : Bool) → (not a && not c) ≡ false → (a || c) ≡ true
-      tight true c h = refl
-      tight false true h = refl
-      tight false false h = absurd cc
+    ]
 
 -- the links that are left, by the ids of the others
 pub left_links : (links : List Link) (ids : List ℕ) (t : StreamTable) → IsIdsRising links
     → AreIdsOf (λ l. not (is_held t l)) links ids → filter (λ l. not (is_one_of ids l)) links ≡ filter (is_held t) links
 left_links links ids t rise h =
     links_stay (is_one_of ids) (λ l. not (is_held t l)) links (listed_any (λ l. not (is_held t l)) links ids rise h)
-    ∙ kept_alike (λ l. not (not (is_held t l))) (is_held t) links (twice links) where
-      no_no : (b : Bool) → not (not b) ≡ b
-      no_no true = refl
-      no_no false = refl
-
-      twice : (ls : List Link) → AllByRecursion (λ l. not (not (is_held t l)) ≡ is_held t l) ls
-      twice [] = tt
-      twice (l ∷ ls) = (no_no (is_held t l), twice ls)
+    ∙ filter_agree (λ l. not (not (is_held t l))) (is_held t) (λ l. not-not (is_held t l)) links

@@ -3,10 +3,11 @@ use Rattle.std.proofs.Common.{◌≡◌, ℕ, zero, suc, ◌-◌, ◌<◌, ◌�
 use Rattle.std.proofs.Common.{get_or, find, Option, Some, None, if◌then◌else◌, refl, sym, ap, subst, ◌∙◌, arith, inl}
 use Rattle.std.proofs.Common.{inr}
 use Rattle.std.specs.Prelude.{nat_lt, slice_get}
-use Rattle.std.proofs.lemmas.Bool.{cases_Bool, and_parts, and_from, or_parts, false_from_ne_true, false≢true}
+use Rattle.std.proofs.lemmas.Bool.{cases_Bool, and_parts, and_from, or_parts, false_from_ne_true, false≢true, not-true}
 use Rattle.std.proofs.lemmas.Bool.Decides.{nat_tests}
 use Rattle.std.proofs.lemmas.List.Elements.{recursion_from_All}
 use Rattle.std.proofs.lemmas.Option.{get_or_from_slice_get, slice_get_within}
+use Rattle.std.proofs.lemmas.List.{get_or_default}
 use Rattle.smx_types.specs.declared.link.Link.{Link}
 use Rattle.smx_types.specs.declared.stream.Descriptor.{Descriptor}
 use Rattle.smx_types.specs.declared.stream.StreamId.{StreamId}
@@ -33,11 +34,6 @@ starts links climbs t h = record {
 
 -- ---- one loose link more
 
--- what is not so
-pub not_true : (b : Bool) → not b ≡ true → b ≡ false
-not_true true e = absurd cc
-not_true false e = refl
-
 -- a stream that is not there doesn't stand, as long as what is released was orphaned
 gone_stands_not : (links : List Link) (n : ℕ) (t : StreamTable) (s : StreamId) → AreLowersApart links
     → IsReleasing links n t → is_there t s ≡ false → stands_within t.fds links n s ≡ false
@@ -62,7 +58,7 @@ gone_stands_not links n t s apart h gone =
           let free : is_held t l ≡ false = ap (λ (x : StreamId). nat_lt 0 (number_at t.holds x))
           (stream_is l.lower s found.0) ∙ parts.1 in
           let two = and_parts (not (is_persistent l)) (not (stands_within t.fds links n l.ctl)) (found.1 free) in
-          above_goes m l (not_true _ two.0) (not_true _ two.1) k
+          above_goes m l (not-true _ two.0) (not-true _ two.1) k
 
 -- a loose link is orphaned
 loose_orphaned : (links : List Link) (n : ℕ) (t : StreamTable) (l : Link) → AreLowersApart links → IsReleasing links n t
@@ -70,7 +66,7 @@ loose_orphaned : (links : List Link) (n : ℕ) (t : StreamTable) (l : Link) → 
 loose_orphaned links n t l apart h loose =
     let a = and_parts (not (is_persistent l)) (is_held t l && not (is_there t l.ctl)) loose in
     let b = and_parts (is_held t l) (not (is_there t l.ctl)) a.1 in
-    and_from _ _ a.0 (ap not (gone_stands_not links n t l.ctl apart h (not_true _ b.1)))
+    and_from _ _ a.0 (ap not (gone_stands_not links n t l.ctl apart h (not-true _ b.1)))
 
 -- one less, or as many
 less_held : (a : Bool) (x y z : ℕ) → z ≡ (if a then x - 1 else y) → (a ≡ true → x ≡ y) → z ≤ y
@@ -103,18 +99,14 @@ releases_one links n i d t new apart lt loose h was =
             | inl same ↦ subst (λ (k : Link). is_orphaned t.fds links n k ≡ true)
                 (sym (one_link links i j e apart lt in_range same))
                 (loose_orphaned links n t (get_or links i e) apart was
-                (subst (λ (k : Link). is_loose t k ≡ true) (defaults links i d e lt) loose))
+                (subst (λ (k : Link). is_loose t k ≡ true) (get_or_default links i d e lt) loose))
             | inr other ↦ was.orphaned j e in_range
                 (ap (nat_lt 0)
                 (sym (other_held t new l.lower (get_or links j e).lower h
                 (subst (λ (k : Link). same_stream (get_or links j e).lower k.lower ≡ false)
-                (sym (defaults links i d e lt)) other))) ∙ free)
+                (sym (get_or_default links i d e lt)) other))) ∙ free)
           ]);
-    } where
-      defaults : (ls : List Link) (i : ℕ) (d e : Link) → i < length ls → get_or ls i d ≡ get_or ls i e
-      defaults [] i d e lt = absurd (omega arith)
-      defaults (l ∷ ls) zero d e lt = refl
-      defaults (l ∷ ls) (suc i) d e lt = defaults ls i d e (omega arith)
+    }
 
 not_more_below : (ls : List Link) (t new : StreamTable) → ((x : StreamId) → number_at new.holds x ≤ number_at t.holds x)
     → holds_below ls new ≤ holds_below ls t

@@ -1,10 +1,14 @@
 -- The lower streams of links are released by the links' ids.
 use Rattle.std.proofs.Common.{◌≡◌, ℕ, ◌-◌, ◌<◌, ◌≤◌, Bool, true, false, ◌&&◌, ◌||◌, not, eqb, List, [], ◌∷◌, ◌++◌}
-use Rattle.std.proofs.Common.{get_or, find, Option, Some, None, if◌then◌else◌, refl, sym, ap, subst, ◌∙◌, arith}
+use Rattle.std.proofs.Common.{get_or, find, Some, None, if◌then◌else◌, refl, sym, ap, subst, ◌∙◌, arith}
 use Rattle.std.proofs.Common.{inl, inr}
+use Rattle.std.proofs.Math.Bool.{or-false}
 use Rattle.std.specs.List.{All, AllByRecursion, list_any}
 use Rattle.std.proofs.lemmas.Bool.{cases_Bool}
 use Rattle.std.proofs.lemmas.List.Elements.{recursion_from_All}
+use Rattle.std.proofs.lemmas.List.Folds.{list_any-append}
+use Rattle.std.proofs.lemmas.Option.{same_Some}
+use Rattle.std.proofs.lemmas.Bool.Decides.{nat_tests}
 use Rattle.smx_types.specs.declared.link.Link.{Link}
 use Rattle.smx_types.specs.declared.stream.StreamId.{StreamId}
 use Rattle.smx_model.specs.Configuration.{same_stream}
@@ -14,6 +18,7 @@ use Rattle.smx_streams.specs.StreamTables.{StreamTable, AreHungsSound, HasHolds,
 use Rattle.smx_tables.specs.ExistingStreams.{AreHeld}
 use Rattle.smx_tables.specs.ListedLinks.{is_listed}
 use Rattle.smx_links.specs.LinkLists.{is_one_of, others_of}
+use Rattle.smx_links.proofs.IdLemmas.{none_of_none}
 use Rattle.smx_tables.proofs.AboveLemmas.{once_below, once_id, stream_is, stream_self}
 use Rattle.smx_tables.proofs.ExistingLemmas.{same_test}
 use Rattle.smx_tables.proofs.HungLemmas.{none_went}
@@ -44,12 +49,8 @@ released_already t s sound none =
 
 -- with one id more, just that one is listed beside those that were
 pub listed_one_more : (ids : List ℕ) (id x : ℕ) → is_listed (ids ++ id ∷ []) x ≡ (is_listed ids x || eqb x id)
-listed_one_more [] id x = or_none (eqb x id) where
-  or_none : (b : Bool) → (b || false) ≡ b
-  or_none true = refl
-  or_none false = refl
-listed_one_more (i ∷ ids) id x =
-    elim (cases_Bool (eqb x i)) [ inl t ↦ rw t refl | inr f ↦ rw f (listed_one_more ids id x) ]
+listed_one_more ids id x = list_any-append (λ i. eqb x i) ids (id ∷ [])
+    ∙ ap (λ (b : Bool). is_listed ids x || b) (or-false (eqb x id))
 
 one_of_more : (ids : List ℕ) (id : ℕ) (l : Link) → is_one_of (ids ++ id ∷ []) l ≡ (is_one_of ids l || eqb l.id id)
 one_of_more ids id l = listed_one_more ids id l.id
@@ -57,21 +58,6 @@ one_of_more ids id l = listed_one_more ids id l.id
 -- by id and by lower stream the same link is found
 abbrev pub IsFoundBy : ℕ → StreamId → Link → Type 0
 IsFoundBy id s l = eqb l.id id ≡ same_stream l.lower s
-
-drop_one : (a o p g v r less : Bool) → p ≡ (o || g) → (a ≡ true → g ≡ v) → less ≡ (r && not v)
-    → ((a && not p) || less) ≡ (((a && not o) || r) && not v)
-drop_one false o p g v r less e f h = h
-drop_one true o p g v r less e f h = ap (λ (x : Bool). not x || less) (e ∙ ap (λ (x : Bool). o || x) (f refl))
-    ∙ ap (λ (x : Bool). not (o || v) || x) h ∙ table o v r where
-      table : (x y z : Bool) → (not (x || y) || (z && not y)) ≡ ((not x || z) && not y)
-      table true true true = refl
-      table true true false = refl
-      table true false true = refl
-      table true false false = refl
-      table false true true = refl
-      table false true false = refl
-      table false false true = refl
-      table false false false = refl
 
 below_one_less : (ids : List ℕ) (id : ℕ) (s x : StreamId) (ls : List Link) → AllByRecursion (IsFoundBy id s) ls
     → is_below (others_of (ids ++ id ∷ []) ls) x ≡ (is_below (others_of ids ls) x && not (same_stream x s))
@@ -84,12 +70,12 @@ below_one_less ids id s x ls h =
           → list_any (λ l. same_stream l.lower x && not (is_one_of (ids ++ id ∷ []) l)) ks
           ≡ (list_any (λ l. same_stream l.lower x && not (is_one_of ids l)) ks && not (same_stream x s))
       each [] k = refl
-      each (l ∷ ks) k = drop_one (same_stream l.lower x) (is_one_of ids l) (is_one_of (ids ++ id ∷ []) l) (eqb l.id id)
-          (same_stream x s)
-          (list_any (λ m. same_stream m.lower x && not (is_one_of ids m)) ks)
-          (list_any (λ m. same_stream m.lower x && not (is_one_of (ids ++ id ∷ []) m)) ks)
-          (one_of_more ids id l) (λ here. k.0 ∙ ap (λ (y : StreamId). same_stream y s) (stream_is l.lower x here))
-          (each ks k.1)
+      each (l ∷ ks) k = elim (cases_Bool (same_stream l.lower x)) [
+        | inl here ↦
+            let own = k.0 ∙ ap (λ (y : StreamId). same_stream y s) (stream_is l.lower x here) in
+            rw (here, one_of_more ids id l, own, each ks k.1) (grind (arith, nat_tests))
+        | inr other ↦ rw other (each ks k.1)
+      ]
 
 -- a link that is found by its id, in links whose ids rise and whose lower streams are apart
 pub found_by : (links : List Link) (id : ℕ) (l : Link) → AreLowersApart links → IsIdsRising links
@@ -97,7 +83,7 @@ pub found_by : (links : List Link) (id : ℕ) (l : Link) → AreLowersApart link
 found_by links id l apart rise found = λ i d lt.
     let k = get_or links i d in
     let by_id : eqb k.id id ≡ true → k ≡ l = λ t.
-    same_found k (sym (found_itself (λ m. eqb m.id id) links i d (once_id id links rise) lt t) ∙ found) in
+    same_Some k l (sym (found_itself (λ m. eqb m.id id) links i d (once_id id links rise) lt t) ∙ found) in
     let has = found_has (λ m. find (λ n. same_stream n.lower m.lower) links ≡ Some m) (λ m. eqb m.id id) links l
     (recursion_from_All (λ m. find (λ n. same_stream n.lower m.lower) links ≡ Some m) links
     (λ j e in_range. found_itself (λ n. same_stream n.lower (get_or links j e).lower) links j e
@@ -105,10 +91,9 @@ found_by links id l apart rise found = λ i d lt.
     same_test (eqb k.id id) (same_stream k.lower l.lower)
     (λ t. ap (λ (m : Link). same_stream m.lower l.lower) (by_id t) ∙ stream_self l.lower)
     (λ t. ap (λ (m : Link). eqb m.id id)
-    (same_found k (sym (found_itself (λ n. same_stream n.lower l.lower) links i d (once_below l.lower links apart) lt t)
-    ∙ has.1)) ∙ has.0) where
-      same_found : (k : Link) → ◌≡◌ {A = Option Link} (Some k) (Some l) → k ≡ l
-      same_found k e = cc
+    (same_Some k l
+    (sym (found_itself (λ n. same_stream n.lower l.lower) links i d (once_below l.lower links apart) lt t) ∙ has.1))
+    ∙ has.0)
 
 -- one id more, whose link's lower stream is released
 pub released_more : (links : List Link) (ids : List ℕ) (id : ℕ) (l : Link) (t new : StreamTable) → AreLowersApart links
@@ -118,18 +103,10 @@ released_more links ids id l t new apart rise found held h = λ x.
     let less = below_one_less ids id l.lower x links
     (recursion_from_All (IsFoundBy id l.lower) links (found_by links id l apart rise found)) in
     h.holds x ∙ by x (same_stream x l.lower) ∙ ap (λ (b : Bool). if b then 1 else 0) (sym less) where
-      none_of : (b : Bool) → ◌≡◌ {A = ℕ} 0 (if (b && false) then 1 else 0)
-      none_of true = refl
-      none_of false = refl
-
-      all_of : (b : Bool) → ◌≡◌ {A = ℕ} (if b then 1 else 0) (if (b && true) then 1 else 0)
-      all_of true = refl
-      all_of false = refl
-
       by : (x : StreamId) (v : Bool) → (if v then 0 else number_at t.holds x)
           ≡ (if (is_below (others_of ids links) x && not v) then 1 else 0)
-      by x true = none_of (is_below (others_of ids links) x)
-      by x false = held x ∙ all_of (is_below (others_of ids links) x)
+      by x true = grind (arith, nat_tests)
+      by x false = held x ∙ grind (arith, nat_tests)
 
 -- one id more, which no link has
 pub released_none : (links : List Link) (ids : List ℕ) (id : ℕ) (t : StreamTable) → find (λ k. eqb k.id id) links ≡ None
@@ -147,7 +124,4 @@ released_none links ids id t none held = subst (λ (ls : List Link). AreHeld ls 
 
 -- none yet
 pub released_at_first : (links : List Link) (t : StreamTable) → AreHeld links t → AreHeld (others_of [] links) t
-released_at_first links t h = subst (λ (ls : List Link). AreHeld ls t) (sym (all links)) h where
-  all : (ls : List Link) → others_of [] ls ≡ ls
-  all [] = refl
-  all (l ∷ ls) = ap (λ (ks : List Link). l ∷ ks) (all ls)
+released_at_first links t h = subst (λ (ls : List Link). AreHeld ls t) (sym (none_of_none links)) h

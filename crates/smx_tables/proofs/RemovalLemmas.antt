@@ -1,10 +1,14 @@
 -- Removing links by their ids removes those that pass the test by which the ids were listed.
-use Rattle.std.proofs.Common.{◌≡◌, ℕ, ◌<◌, ◌≤◌, Bool, true, false, ◌&&◌, not, eqb, List, [], ◌∷◌, length, map, filter}
+use Rattle.std.proofs.Common.{◌≡◌, ℕ, ◌≤◌, Bool, true, false, ◌&&◌, ◌||◌, not, eqb, List, [], ◌∷◌, length, map, filter}
 use Rattle.std.proofs.Common.{find, refl, sym, ap, subst, ◌∙◌, arith, inl, inr}
+use Rattle.std.proofs.Math.Bool.{and-false, and-true}
 use Rattle.std.specs.Prelude.{nat_lt}
 use Rattle.std.specs.List.{list_any, AllByRecursion}
 use Rattle.std.specs.Option.{option_map_or}
-use Rattle.std.proofs.lemmas.Bool.{cases_Bool, eqb-true, eq-eqb, ltb-true, false_from_ne_true}
+use Rattle.std.proofs.lemmas.Bool.{cases_Bool, eqb-true, eq-eqb, false≢true, true_from_ne_false}
+use Rattle.std.proofs.lemmas.Bool.Decides.{nat_tests}
+use Rattle.std.proofs.lemmas.List.{nil_from_length}
+use Rattle.std.proofs.lemmas.List.Elements.{filter_agree}
 use Rattle.smx_types.specs.declared.link.Link.{Link}
 use Rattle.smx_types.specs.declared.link.Route.{Route}
 use Rattle.smx_types.specs.declared.stream.Place.{Place}
@@ -16,6 +20,9 @@ use Rattle.smx_model.specs.Paths.{AreLowersApart}
 use Rattle.smx_model.specs.Removal.{without_links, is_read_below}
 use Rattle.smx_model.specs.Standing.{is_below}
 use Rattle.smx_links.specs.LinkLists.{is_one_of}
+use Rattle.smx_links.proofs.CountLemmas.{fewer}
+use Rattle.smx_links.proofs.IdLemmas.{filters_swap}
+use Rattle.smx_streams.proofs.HungLemmas.{twice as stricter}
 use Rattle.smx_tables.specs.ListedLinks.{is_listed, is_read_below_listed, AreIdsOf}
 use Rattle.smx_tables.proofs.AboveLemmas.{any_once, eqb_swap, once_below}
 
@@ -32,9 +39,7 @@ not_later : (goes : Link → Bool) (l : Link) (ls : List Link) → ComesBefore (
     → is_listed (ids_of goes ls) l.id ≡ false
 not_later goes l [] h = refl
 not_later goes l (k ∷ ls) h =
-    let up : l.id < k.id = ltb-true l.id k.id h.0 in
-    let f : eqb l.id k.id ≡ false = false_from_ne_true (eqb l.id k.id)
-    (λ t. let same = eqb-true l.id k.id t in absurd (omega arith)) in
+    let f : eqb l.id k.id ≡ false = grind (arith, nat_tests, h.0) in
     elim (cases_Bool (goes k)) [ inl t ↦ rw (t, f) (not_later goes l ls h.1) | inr n ↦ rw n (not_later goes l ls h.1) ]
 
 -- the ids list those links that go, and no others
@@ -45,9 +50,7 @@ list_more : (goes : Link → Bool) (l : Link) (ids : List ℕ) (ls : List Link) 
     → IsListOf goes ids ls → IsListOf goes (l.id ∷ ids) ls
 list_more goes l ids [] h a = tt
 list_more goes l ids (k ∷ ls) h a =
-    let up : l.id < k.id = ltb-true l.id k.id h.0 in
-    let f : eqb k.id l.id ≡ false = false_from_ne_true (eqb k.id l.id)
-    (λ t. let same = eqb-true k.id l.id t in absurd (omega arith)) in
+    let f : eqb k.id l.id ≡ false = grind (arith, nat_tests, h.0) in
     (rw f a.0, list_more goes l ids ls h.1 a.1)
 
 goes_first : (goes : Link → Bool) (l : Link) (ls : List Link) → goes l ≡ true
@@ -98,12 +101,8 @@ pub any_kept : (key goes : Link → Bool) (ls : List Link)
     → list_any key (filter goes ls) ≡ list_any (λ l. key l && goes l) ls
 any_kept key goes [] = refl
 any_kept key goes (l ∷ ls) = elim (cases_Bool (goes l)) [
-  | inl t ↦ elim (cases_Bool (key l)) [ inl k ↦ rw (t, k) refl | inr k ↦ rw (t, k) (any_kept key goes ls) ]
-  | inr n ↦ elim (cases_Bool (key l)) [
-    | inl k ↦ rw (n, k) (any_kept key goes ls)
-    | inr k ↦
-        rw (n, k) (any_kept key goes ls)
-  ]
+  | inl t ↦ rw (t, and-true (key l)) (ap (λ (b : Bool). key l || b) (any_kept key goes ls))
+  | inr n ↦ rw (n, and-false (key l)) (any_kept key goes ls)
 ]
 
 below_listed : (goes : Link → Bool) (ids : List ℕ) (ls : List Link) (s : StreamId) → AreLowersApart ls
@@ -122,11 +121,7 @@ read_listed goes ids ls p apart h =
 
 same_kept : {X : Type 0} (f g : X → Bool) (xs : List X) → ((x : X) → f x ≡ g x)
     → filter (λ x. not (f x)) xs ≡ filter (λ x. not (g x)) xs
-same_kept {X = X} f g [] h = refl
-same_kept {X = X} f g (x ∷ xs) h = elim (cases_Bool (g x)) [
-  | inl t ↦ rw (h x, t) (same_kept f g xs h)
-  | inr n ↦ rw (h x, n) (ap (λ (zs : List X). x ∷ zs) (same_kept f g xs h))
-]
+same_kept f g xs h = filter_agree (λ x. not (f x)) (λ x. not (g x)) (λ x. ap not (h x)) xs
 
 -- the ids of the links that go, in their order, are theirs
 pub ids_in_order : (goes : Link → Bool) (ls : List Link) (ids : List ℕ) → ids ≡ ids_of goes ls → AreIdsOf goes ls ids
@@ -162,10 +157,7 @@ pub removed_is : (c : Configuration) (ids : List ℕ) → AreLowersApart c.links
 removed_is c ids apart rise goes h =
     let gone = filter goes c.links in
     let here = listed_any goes c.links ids rise h in
-    same_parts c _ (filter (λ l. not (goes l)) c.links) _
-    (filter (λ r. not (list_any (λ l. eqb l.id r.id) gone)) c.routes) _
-    (filter (λ h. not (is_read_below gone h.place)) c.flow) _ (filter (λ p. not (is_read_below gone p)) c.fulls)
-    (links_stay (is_one_of ids) goes c.links here)
+    same_parts c _ _ _ _ _ _ _ _ (links_stay (is_one_of ids) goes c.links here)
     (same_kept (λ (r : Route). is_listed ids r.id) (λ r. list_any (λ l. eqb l.id r.id) gone) c.routes (λ r. h r.id))
     (same_kept (λ (h : QueuedMessage). is_read_below_listed c.links ids h.place)
     (λ h. is_read_below gone h.place) c.flow (λ h. read_listed goes ids c.links h.place apart here))
@@ -174,8 +166,7 @@ removed_is c ids apart rise goes h =
 
 -- where no link goes, all stays
 pub is_nothing : (ids : List ℕ) → eqb (length ids) 0 ≡ true → ids ≡ []
-is_nothing [] h = refl
-is_nothing (n ∷ ns) h = let k = eqb-true (length (n ∷ ns)) 0 h in absurd (omega arith)
+is_nothing ids h = nil_from_length ids (eqb-true (length ids) 0 h)
 
 none_goes : (goes : Link → Bool) (ls : List Link) → AreIdsOf goes ls [] → filter goes ls ≡ []
 none_goes goes ls h = no_ids (filter goes ls) h where
@@ -197,36 +188,20 @@ none_passes {X = X} t (x ∷ xs) h = rw (h x) (ap (λ (zs : List X). x ∷ zs) (
 
 -- some less are no more of those that pass a test
 pub few_kept : {X : Type 0} (t u : X → Bool) (xs : List X) → length (filter t (filter u xs)) ≤ length (filter t xs)
-few_kept {X = X} t u [] = omega arith
-few_kept {X = X} t u (x ∷ xs) = elim (cases_Bool (u x)) [
-  | inl k ↦ elim (cases_Bool (t x)) [
-    | inl y ↦ rw k (rw y (omega (arith, few_kept t u xs)))
-    | inr n ↦ rw k (rw n (few_kept t u xs))
-  ]
-  | inr g ↦ elim (cases_Bool (t x)) [
-    | inl y ↦ rw g (rw y (omega (arith, few_kept t u xs)))
-    | inr n ↦ rw g (rw n (few_kept t u xs))
-  ]
-]
+few_kept t u xs = rw (filters_swap t u xs) (fewer u (filter t xs))
 
 -- those that pass a test are among those that pass a wider one
 pub kept_among : {X : Type 0} (t u : X → Bool) (xs : List X) → ((x : X) → u x ≡ false → t x ≡ false)
     → filter t (filter u xs) ≡ filter t xs
-kept_among {X = X} t u [] h = refl
-kept_among {X = X} t u (x ∷ xs) h = elim (cases_Bool (u x)) [
-  | inl k ↦ elim (cases_Bool (t x)) [
-    | inl y ↦ rw k (rw y (ap (λ (zs : List X). x ∷ zs) (kept_among t u xs h)))
-    | inr n ↦ rw k (rw n (kept_among t u xs h))
-  ]
-  | inr g ↦ rw (g, h x g) (kept_among t u xs h)
-]
+kept_among t u xs h =
+    stricter t u xs (λ x e. true_from_ne_false (u x) (λ f. false≢true (sym (h x f) ∙ e)))
 
 -- no ids list no link
 pub none_listed : (ids : List ℕ) (ls : List Link) → ids ≡ [] → ls ≡ filter (λ l. not (is_one_of ids l)) ls
 none_listed ids ls none = sym (none_passes (is_one_of ids) ls (λ l. ap (λ (xs : List ℕ). is_one_of xs l) none))
 
 no_read : (p : Place) → is_read_below [] p ≡ false
-no_read p = elim (cases_Bool (same_side p.side side.Read)) [ inl t ↦ rw t refl | inr f ↦ rw f refl ]
+no_read p = and-false (same_side p.side side.Read)
 
 -- where the list of ids is empty, removing those that go changes nothing
 pub nothing_removed : (c : Configuration) (ids : List ℕ) → ids ≡ [] → (goes : Link → Bool) → AreIdsOf goes c.links ids
@@ -234,11 +209,7 @@ pub nothing_removed : (c : Configuration) (ids : List ℕ) → ids ≡ [] → (g
 nothing_removed c ids none goes h =
     let gone = filter goes c.links in
     let no_link : gone ≡ [] = none_goes goes c.links (subst (AreIdsOf goes c.links) none h) in
-    sym (same_parts c (filter (λ l. not (goes l)) c.links) c.links
-    (filter (λ r. not (list_any (λ l. eqb l.id r.id) gone)) c.routes) c.routes
-    (filter (λ h. not (is_read_below gone h.place)) c.flow) c.flow
-    (filter (λ p. not (is_read_below gone p)) c.fulls) c.fulls
-    (all_stay goes c.links no_link)
+    sym (same_parts c _ c.links _ c.routes _ c.flow _ c.fulls (all_stay goes c.links no_link)
     (none_passes (λ (r : Route). list_any (λ l. eqb l.id r.id) gone) c.routes
     (λ r. ap (list_any (λ l. eqb l.id r.id)) no_link))
     (none_passes (λ (h : QueuedMessage). is_read_below gone h.place) c.flow

@@ -9,7 +9,7 @@ use Rattle.std.proofs.lemmas.Bool.{and_from, and_parts, eqb-true, eq-eqb, false_
 use Rattle.std.proofs.lemmas.Bool.Decides.{nat_tests}
 use Rattle.std.proofs.lemmas.List.Quantifiers.{position-Some}
 use Rattle.std.proofs.lemmas.List.Sums.{position_or_len_is}
-use Rattle.std.proofs.lemmas.Option.{slice_get-get_or}
+use Rattle.std.proofs.lemmas.Option.{cond_some, slice_get-get_or}
 use Rattle.std.proofs.lemmas.Slice.Eq.{bytes_eq-Decides}
 use Rattle.smx_types.specs.declared.driver.DriverKind.TheVariants.{Leaf}
 use Rattle.smx_types.specs.declared.driver.DriverSpec.{DriverSpec}
@@ -80,18 +80,13 @@ module _ {X : Type 0} (driver addr value : X → ℕ) where
     pub has : value x ≡ v
     pub under : IsUnder xs x
 
-  -- what passes the test is what was tested
-  only_kept : (b : Bool) (y x : X) → cond b (Some y) None ≡ Some x → (b ≡ true) × (y ≡ x)
-  only_kept true y x e = let same : y ≡ x = cc in (refl, same)
-  only_kept false y x e = absurd cc
-
   -- so it is with what is shown
   pub shown_is : (drivers : List DriverSpec) (xs : List X) (name : List ℕ) (a v : ℕ) (x : X)
       → shown_by drivers xs name a v ≡ Some x → IsShown drivers xs name a v x
   shown_is drivers xs name a v x e =
       let n = bound (number_of drivers name) (λ n. item_at xs n a >>= with_value v) x e in
       let y = bound (item_at xs n.0 a) (with_value v) x n.2 in
-      let kept = only_kept (eqb (value y.0) v) y.0 x y.2 in
+      let kept = cond_some (eqb (value y.0) v) y.0 x y.2 in
       let keys = and_parts _ _ (found_passes (λ z. eqb (driver z) n.0 && eqb (addr z) a) xs y.0 y.1) in
       let own = eqb-true (driver y.0) n.0 keys.0 in
       let at = eqb-true (addr y.0) a keys.1 in

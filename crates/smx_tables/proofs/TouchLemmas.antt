@@ -2,15 +2,14 @@
 use Rattle.std.proofs.Common.{◌≡◌, ℕ, suc, ◌+◌, ◌≤◌, Bool, true, ◌&&◌, ◌||◌, not, List, [], ◌∷◌, ◌++◌, length, map}
 use Rattle.std.proofs.Common.{filter, get_or, refl, sym, ap, ◌∙◌, arith, inl, inr}
 use Rattle.std.specs.List.{All, list_any, list_all}
-use Rattle.std.proofs.lemmas.Bool.{cases_Bool, and_parts, or_cases, or_left, or_right, false≢true}
+use Rattle.std.proofs.lemmas.Bool.{cases_Bool, and_parts, or_cases, not-true, or_left, or_right, false≢true}
 use Rattle.std.proofs.lemmas.List.{length-map}
 use Rattle.smx_types.specs.declared.driver.DriverSpec.{DriverSpec}
-use Rattle.smx_types.specs.declared.link.Binding.{Binding}
 use Rattle.smx_types.specs.declared.link.Link.{Link}
 use Rattle.smx_types.specs.declared.stream.Descriptor.{Descriptor}
 use Rattle.smx_types.specs.declared.stream.Place.{Place}
 use Rattle.smx_types.specs.declared.stream.StreamId.{StreamId}
-use Rattle.smx_model.specs.Configuration.{Configuration, QueuedMessage, same_stream}
+use Rattle.smx_model.specs.Configuration.{Configuration, same_stream}
 use Rattle.smx_model.specs.Hangups.{is_hung}
 use Rattle.smx_model.specs.Removal.{without_links, without_queues_at}
 use Rattle.smx_model.specs.Standing.{exists, is_persistent}
@@ -20,11 +19,11 @@ use Rattle.smx_streams.specs.StreamTables.{StreamTable, HasHolds, exists as is_t
 use Rattle.smx_tables.specs.ExistingStreams.{AreHeld, TellsExisting, holds_below, is_held, is_loose}
 use Rattle.smx_tables.specs.TouchedStreams.{IsCascade, IsTouched, is_there_or_touched, is_watched}
 use Rattle.smx_tables.proofs.AboveLemmas.{stream_is}
-use Rattle.smx_tables.proofs.ExistingLemmas.{all_fewer, all_weaker, held_is_below, holds_few}
+use Rattle.smx_tables.proofs.ExistingLemmas.{all_fewer, all_weaker, held_is_below, holds_few, linked_weaker}
 use Rattle.smx_tables.proofs.FoundLinkLemmas.{below_at}
 use Rattle.smx_tables.proofs.HungLemmas.{pass_all}
 use Rattle.smx_tables.proofs.LengthLemmas.{not_more}
-use Rattle.smx_tables.proofs.ReleaseLemmas.{not_true, starts}
+use Rattle.smx_tables.proofs.ReleaseLemmas.{starts}
 use Rattle.smx_tables.proofs.WatchLemmas.{listed_last, listed_more, still_listed, there_same}
 
 -- ---- where all that were touched are there
@@ -45,27 +44,18 @@ touched_there t ss s all h =
 -- the controlling stream of each ordinary link is there
 pub linked_still : (t : StreamTable) (ss : List StreamId) (c : Configuration) → list_all (is_there t) ss ≡ true
     → IsTouched t ss c → list_all (λ l. is_persistent l || is_there t l.ctl) c.links ≡ true
-linked_still t ss c all h = all_weaker (λ l. is_persistent l || is_there_or_touched t ss l.ctl)
-    (λ l. is_persistent l || is_there t l.ctl) c.links
-    (λ l e. elim (or_cases (is_persistent l) (is_there_or_touched t ss l.ctl) e)
-    [ inl p ↦ or_left _ _ p | inr o ↦ or_right _ _ (touched_there t ss l.ctl all o) ]) h.links
+linked_still t ss c all h =
+    linked_weaker (is_there_or_touched t ss) (is_there t) c.links (λ s o. touched_there t ss s all o) h.links
 
 -- nothing is left to sweep
 pub swept_still : (drivers : List DriverSpec) (c : Configuration) (t : StreamTable) (ss : List StreamId)
     → TellsExisting drivers c t → list_all (is_there t) ss ≡ true → IsTouched t ss c
     → ((x : StreamId) → is_hung c.hungs x ≡ true → is_there t x ≡ true) → IsSwept drivers c
 swept_still drivers c t ss told all h hung = record {
-  links = all_weaker (λ l. is_persistent l || is_there_or_touched t ss l.ctl)
-      (λ l. is_persistent l || exists drivers c l.ctl) c.links
-      (λ l e. elim (or_cases (is_persistent l) (is_there_or_touched t ss l.ctl) e)
-      [ inl p ↦ or_left _ _ p | inr o ↦ or_right _ _ (there l.ctl o) ]) h.links;
-  binds = all_weaker (λ (b : Binding). is_there_or_touched t ss (record { driver = b.driver; minor = b.minor }))
-      (λ b. exists drivers c (record { driver = b.driver; minor = b.minor })) c.binds
-      (λ b. there (record { driver = b.driver; minor = b.minor })) h.binds;
-  flow = all_weaker (λ (m : QueuedMessage). is_there_or_touched t ss m.place.stream)
-      (λ m. exists drivers c m.place.stream) c.flow (λ m. there m.place.stream) h.flow;
-  fulls = all_weaker (λ (p : Place). is_there_or_touched t ss p.stream) (λ p. exists drivers c p.stream) c.fulls
-      (λ p. there p.stream) h.fulls;
+  links = linked_weaker (is_there_or_touched t ss) (exists drivers c) c.links there h.links;
+  binds = all_weaker _ _ c.binds (λ b. there (record { driver = b.driver; minor = b.minor })) h.binds;
+  flow = all_weaker _ _ c.flow (λ m. there m.place.stream) h.flow;
+  fulls = all_weaker _ _ c.fulls (λ p. there p.stream) h.fulls;
   hungs = pass_all (exists drivers c) c.hungs (λ x up. sym (told x) ∙ hung x up);
 } where
   there : (s : StreamId) → is_there_or_touched t ss s ≡ true → exists drivers c s ≡ true
@@ -78,17 +68,10 @@ pub touched_by : (drivers : List DriverSpec) (c : Configuration) (t u : StreamTa
     → TellsExisting drivers c t → IsSwept drivers c
     → ((s : StreamId) → is_there t s ≡ true → is_there_or_touched u ss s ≡ true) → IsTouched u ss c
 touched_by drivers c t u ss told h stays = record {
-  links = all_weaker (λ l. is_persistent l || exists drivers c l.ctl)
-      (λ l. is_persistent l || is_there_or_touched u ss l.ctl) c.links
-      (λ l e. elim (or_cases (is_persistent l) (exists drivers c l.ctl) e)
-      [ inl p ↦ or_left _ _ p | inr o ↦ or_right _ _ (now l.ctl o) ]) h.links;
-  binds = all_weaker (λ (b : Binding). exists drivers c (record { driver = b.driver; minor = b.minor }))
-      (λ b. is_there_or_touched u ss (record { driver = b.driver; minor = b.minor })) c.binds
-      (λ b. now (record { driver = b.driver; minor = b.minor })) h.binds;
-  flow = all_weaker (λ (m : QueuedMessage). exists drivers c m.place.stream)
-      (λ m. is_there_or_touched u ss m.place.stream) c.flow (λ m. now m.place.stream) h.flow;
-  fulls = all_weaker (λ (p : Place). exists drivers c p.stream) (λ p. is_there_or_touched u ss p.stream) c.fulls
-      (λ p. now p.stream) h.fulls;
+  links = linked_weaker (exists drivers c) (is_there_or_touched u ss) c.links now h.links;
+  binds = all_weaker _ _ c.binds (λ b. now (record { driver = b.driver; minor = b.minor })) h.binds;
+  flow = all_weaker _ _ c.flow (λ m. now m.place.stream) h.flow;
+  fulls = all_weaker _ _ c.fulls (λ p. now p.stream) h.fulls;
 } where
   now : (s : StreamId) → exists drivers c s ≡ true → is_there_or_touched u ss s ≡ true
   now s e = stays s (told s ∙ e)
@@ -127,46 +110,23 @@ touched_emptied t ss c goes h = record {
 pub touched_on : (t u : StreamTable) (ss vs : List StreamId) (c : Configuration) → IsTouched t ss c
     → ((s : StreamId) → is_there_or_touched t ss s ≡ true → is_there_or_touched u vs s ≡ true) → IsTouched u vs c
 touched_on t u ss vs c h on = record {
-  links = all_weaker (λ l. is_persistent l || is_there_or_touched t ss l.ctl)
-      (λ l. is_persistent l || is_there_or_touched u vs l.ctl) c.links
-      (λ l e. elim (or_cases (is_persistent l) (is_there_or_touched t ss l.ctl) e)
-      [ inl p ↦ or_left _ _ p | inr o ↦ or_right _ _ (on l.ctl o) ]) h.links;
-  binds = all_weaker (λ (b : Binding). is_there_or_touched t ss (record { driver = b.driver; minor = b.minor }))
-      (λ b. is_there_or_touched u vs (record { driver = b.driver; minor = b.minor })) c.binds
-      (λ b. on (record { driver = b.driver; minor = b.minor })) h.binds;
-  flow = all_weaker (λ (m : QueuedMessage). is_there_or_touched t ss m.place.stream)
-      (λ m. is_there_or_touched u vs m.place.stream) c.flow (λ m. on m.place.stream) h.flow;
-  fulls = all_weaker (λ (p : Place). is_there_or_touched t ss p.stream) (λ p. is_there_or_touched u vs p.stream) c.fulls
-      (λ p. on p.stream) h.fulls;
+  links = linked_weaker (is_there_or_touched t ss) (is_there_or_touched u vs) c.links on h.links;
+  binds = all_weaker _ _ c.binds (λ b. on (record { driver = b.driver; minor = b.minor })) h.binds;
+  flow = all_weaker _ _ c.flow (λ m. on m.place.stream) h.flow;
+  fulls = all_weaker _ _ c.fulls (λ p. on p.stream) h.fulls;
 }
 
--- a stream is released and touched
-pub release_touches : (t u v : StreamTable) (ss : List StreamId) (s : StreamId) (n : ℕ) → HasHolds u s n v
-    → ((x : StreamId) → is_there t x ≡ true → is_there_or_touched u ss x ≡ true)
-    → (x : StreamId) → is_there t x ≡ true → is_there_or_touched v (ss ++ s ∷ []) x ≡ true
-release_touches t u v ss s n h so_far x there =
-    elim (or_cases (is_there u x) (list_any (same_stream x) ss) (so_far x there)) [
-      | inl still ↦ elim (cases_Bool (same_stream x s)) [
-        | inl it ↦ or_right _ _ (ap (λ (y : StreamId). list_any (same_stream y) (ss ++ s ∷ [])) (stream_is x s it)
-            ∙ listed_last ss s)
-        | inr other ↦ or_left _ _ (there_same u v s x n h other ∙ still)
-      ]
-      | inr earlier ↦ or_right _ _ (still_listed x ss s earlier)
-    ]
-
--- the same of what was there or touched, and of one stream more that is put aside
-pub release_touches_on : (t u v : StreamTable) (first ss : List StreamId) (s : StreamId) (n : ℕ) → HasHolds u s n v
-    → ((x : StreamId) → is_there_or_touched t first x ≡ true → is_there_or_touched u ss x ≡ true)
-    → (x : StreamId) → is_there_or_touched t first x ≡ true → is_there_or_touched v (ss ++ s ∷ []) x ≡ true
-release_touches_on t u v first ss s n h so_far x there =
-    elim (or_cases (is_there u x) (list_any (same_stream x) ss) (so_far x there)) [
-      | inl still ↦ elim (cases_Bool (same_stream x s)) [
-        | inl it ↦ or_right _ _ (ap (λ (y : StreamId). list_any (same_stream y) (ss ++ s ∷ [])) (stream_is x s it)
-            ∙ listed_last ss s)
-        | inr other ↦ or_left _ _ (there_same u v s x n h other ∙ still)
-      ]
-      | inr earlier ↦ or_right _ _ (still_listed x ss s earlier)
-    ]
+-- where one stream more is released and touched, what was there or touched still is
+pub still_touched : (u v : StreamTable) (ss : List StreamId) (s : StreamId) (n : ℕ) → HasHolds u s n v
+    → (x : StreamId) → is_there_or_touched u ss x ≡ true → is_there_or_touched v (ss ++ s ∷ []) x ≡ true
+still_touched u v ss s n h x there = elim (or_cases (is_there u x) (list_any (same_stream x) ss) there) [
+  | inl still ↦ elim (cases_Bool (same_stream x s)) [
+    | inl it ↦ or_right _ _ (ap (λ (y : StreamId). list_any (same_stream y) (ss ++ s ∷ [])) (stream_is x s it)
+        ∙ listed_last ss s)
+    | inr other ↦ or_left _ _ (there_same u v s x n h other ∙ still)
+  ]
+  | inr earlier ↦ or_right _ _ (still_listed x ss s earlier)
+]
 
 -- a stream that may have gone is put to those that were seen
 pub seen_more : (u v : StreamTable) (left rest now seen : List StreamId) (s x : StreamId) → left ≡ rest ++ s ∷ []
@@ -222,10 +182,10 @@ cascade_at_first links t ss room held h enough = record {
     | inr tight ↦ or_left (not (is_loose t l)) (list_any (same_stream l.ctl) ss) (ap not tight)
     | inl loose ↦
         let a = and_parts (not (is_persistent l)) (is_held t l && not (is_there t l.ctl)) loose in
-        let gone = not_true _ (and_parts (is_held t l) (not (is_there t l.ctl)) a.1).1 in
+        let gone = not-true _ (and_parts (is_held t l) (not (is_there t l.ctl)) a.1).1 in
         or_right (not (is_loose t l)) (list_any (same_stream l.ctl) ss)
         (elim (or_cases (is_persistent l) (is_there_or_touched t ss l.ctl) e) [
-          | inl p ↦ absurd (false≢true (sym (not_true _ a.0) ∙ p))
+          | inl p ↦ absurd (false≢true (sym (not-true _ a.0) ∙ p))
           | inr o ↦ elim (or_cases (is_there t l.ctl) (list_any (same_stream l.ctl) ss) o)
               [ inl there ↦ absurd (false≢true (sym gone ∙ there)) | inr one ↦ one ]
         ])

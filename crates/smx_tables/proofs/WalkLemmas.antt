@@ -1,6 +1,6 @@
 -- A walk over the descriptors of a table, from the first on.
-use Rattle.std.proofs.Common.{◌≡◌, ℕ, suc, ◌+◌, ◌<◌, ◌≤◌, true, not, List, [], ◌∷◌, ◌++◌, length, map, take, get_or}
-use Rattle.std.proofs.Common.{Option, Some, None, zero, refl, sym, ap, subst, ◌∙◌, arith, append_assoc}
+use Rattle.std.proofs.Common.{◌≡◌, ℕ, ◌+◌, ◌<◌, true, not, List, [], ◌∷◌, ◌++◌, length, map, take, get_or}
+use Rattle.std.proofs.Common.{Option, Some, None, refl, sym, ap, subst, ◌∙◌, arith, append_assoc}
 use Rattle.std.specs.List.{All}
 use Rattle.std.proofs.lemmas.Bool.Decides.{nat_tests}
 use Rattle.std.proofs.lemmas.List.{take_more}
@@ -64,13 +64,6 @@ fewer_left fds d next h = let e = ap length (left_is fds d.process (d.fd + 1) ne
 
 -- what a walk says
 pub ruleset walk_of_fds = (all_left, left_all, numbered, lines_more, fewer_left)
-
--- all of them
-pub taken_all : {Y : Type 0} (lines : List Y) (i : ℕ) → length lines ≤ i → take i lines ≡ lines
-taken_all {Y = Y} [] zero le = refl
-taken_all {Y = Y} [] (suc j) le = refl
-taken_all {Y = Y} (l ∷ ls) zero le = absurd (omega arith)
-taken_all {Y = Y} (l ∷ ls) (suc j) le = ap (λ (zs : List Y). l ∷ zs) (taken_all ls j (omega arith))
 
 -- one line more that is the right one
 pub shown_more : {Y : Type 0} (f : Descriptor → Y) (fds : List Descriptor) (lines : List Y) (i : ℕ) (d : Descriptor)

@@ -1,9 +1,13 @@
 -- Loose links, and the streams that may have gone.
 use Rattle.std.proofs.Common.{◌≡◌, ℕ, zero, suc, ◌+◌, ◌-◌, ◌<◌, ◌≤◌, Bool, true, false, ◌&&◌, ◌||◌, not, eqb, List, []}
 use Rattle.std.proofs.Common.{◌∷◌, ◌++◌, length, take, get_or, Some, refl, sym, ap, subst, ◌∙◌, arith, inl, inr}
+use Rattle.std.proofs.Math.Bool.{or-false}
 use Rattle.std.specs.Prelude.{nat_lt, slice_get}
 use Rattle.std.specs.List.{list_any, list_all}
 use Rattle.std.proofs.lemmas.Bool.{cases_Bool, and_parts, and_from, or_cases, or_left, or_right, eq-eqb, false≢true}
+use Rattle.std.proofs.lemmas.Bool.{not-true}
+use Rattle.std.proofs.lemmas.List.{take_all}
+use Rattle.std.proofs.lemmas.List.Folds.{list_any-append}
 use Rattle.std.proofs.lemmas.Bool.Decides.{nat_tests}
 use Rattle.std.proofs.lemmas.Option.{slice_get_within}
 use Rattle.smx_types.specs.declared.link.Link.{Link}
@@ -11,13 +15,14 @@ use Rattle.smx_types.specs.declared.stream.Descriptor.{Descriptor}
 use Rattle.smx_types.specs.declared.stream.StreamId.{StreamId}
 use Rattle.smx_model.specs.Configuration.{same_stream}
 use Rattle.smx_model.specs.Standing.{is_named, is_persistent}
+use Rattle.smx_model.proofs.TestLemmas.{all_push}
 use Rattle.smx_links.specs.LinkLists.{is_upper, ordinary_of}
 use Rattle.smx_streams.specs.StreamTables.{StreamTable, HasHolds, number_at, exists as is_there}
 use Rattle.smx_tables.specs.ExistingStreams.{holds_of, is_held, is_loose}
 use Rattle.smx_tables.specs.TouchedStreams.{is_watched}
 use Rattle.smx_tables.proofs.AboveLemmas.{stream_is, stream_self}
 use Rattle.smx_tables.proofs.ExistingLemmas.{all_weaker, holds_few}
-use Rattle.smx_tables.proofs.ReleaseLemmas.{not_more_held, not_true, this_one}
+use Rattle.smx_tables.proofs.ReleaseLemmas.{not_more_held, this_one}
 use Rattle.smx_tables.proofs.LinkWalkLemmas.{take_one_more}
 
 -- ---- streams in a list
@@ -25,11 +30,8 @@ use Rattle.smx_tables.proofs.LinkWalkLemmas.{take_one_more}
 -- with one stream more, just that one is listed beside those that were
 pub listed_more : (x : StreamId) (ss : List StreamId) (s : StreamId)
     → list_any (same_stream x) (ss ++ s ∷ []) ≡ (list_any (same_stream x) ss || same_stream x s)
-listed_more x [] s = or_none (same_stream x s) where
-  or_none : (b : Bool) → (b || false) ≡ b
-  or_none true = refl
-  or_none false = refl
-listed_more x (y ∷ ys) s = elim (cases_Bool (same_stream x y)) [ inl t ↦ rw t refl | inr f ↦ rw f (listed_more x ys s) ]
+listed_more x ss s = list_any-append (same_stream x) ss (s ∷ [])
+    ∙ ap (λ (b : Bool). list_any (same_stream x) ss || b) (or-false (same_stream x s))
 
 -- with one stream more, each that was listed still is
 pub still_listed : (x : StreamId) (ss : List StreamId) (s : StreamId) → list_any (same_stream x) ss ≡ true
@@ -63,26 +65,15 @@ pub all_at : (test : Link → Bool) (ls : List Link) (i : ℕ) (l : Link) → So
 all_at test ls i l at h =
     subst (λ (k : Link). test k ≡ true) (this_one ls i l at) (all_get test ls i l (slice_get_within ls i l (sym at)) h)
 
-all_last : (test : Link → Bool) (ls : List Link) (l : Link) → list_all test ls ≡ true → test l ≡ true
-    → list_all test (ls ++ l ∷ []) ≡ true
-all_last test [] l h t = and_from _ _ t refl
-all_last test (k ∷ ks) l h t =
-    let p = and_parts (test k) (list_all test ks) h in and_from _ _ p.0 (all_last test ks l p.1 t)
-
 -- where the links before an index pass a test, and the one there does, all up to it do
 pub all_more : (test : Link → Bool) (ls : List Link) (i : ℕ) (l : Link) → Some l ≡ slice_get ls i
     → list_all test (take i ls) ≡ true → test l ≡ true → list_all test (take (i + 1) ls) ≡ true
-all_more test ls i l at h t = ap (list_all test) (take_one_more ls i l at) ∙ all_last test (take i ls) l h t
+all_more test ls i l at h t = ap (list_all test) (take_one_more ls i l at) ∙ all_push test (take i ls) l t h
 
 -- where the links before an index pass a test, and no link is behind it, all links do
 pub all_in_all : (test : Link → Bool) (ls : List Link) (i : ℕ) → length ls ≤ i → list_all test (take i ls) ≡ true
     → list_all test ls ≡ true
-all_in_all test ls i past h = ap (list_all test) (sym (take_past ls i past)) ∙ h where
-  take_past : (ks : List Link) (j : ℕ) → length ks ≤ j → take j ks ≡ ks
-  take_past [] zero le = refl
-  take_past [] (suc j) le = refl
-  take_past (k ∷ ks) zero le = absurd (omega arith)
-  take_past (k ∷ ks) (suc j) le = ap (λ (xs : List Link). k ∷ xs) (take_past ks j (omega arith))
+all_in_all test ls i past h = ap (list_all test) (sym (take_all i ls past)) ∙ h
 
 -- ---- a stream that is released
 
@@ -104,9 +95,7 @@ went_is_released t u s x n h there gone = elim (cases_Bool (same_stream x s))
 held_before : (t u : StreamTable) (s : StreamId) (l : Link) → HasHolds t s (number_at t.holds s - 1) u
     → is_held u l ≡ true → is_held t l ≡ true
 held_before t u s l h up = let few = not_more_held t u s l.lower h in
-    more_held (number_at u.holds l.lower) (number_at t.holds l.lower) few up where
-      more_held : (x y : ℕ) → x ≤ y → nat_lt 0 x ≡ true → nat_lt 0 y ≡ true
-      more_held x y few some = grind (arith, nat_tests)
+    grind (arith, nat_tests)
 
 -- the controlling stream of a held ordinary link that isn't loose is there
 there_if : (t : StreamTable) (l : Link) → not (is_persistent l) ≡ true → is_held t l ≡ true → is_loose t l ≡ false
@@ -130,8 +119,8 @@ watch_on t u s ss vs l h further last was = elim (cases_Bool (is_loose u l))
           let b = and_parts (is_held u l) (not (is_there u l.ctl)) a.1 in
           elim (or_cases (not (is_loose t l)) (list_any (same_stream l.ctl) ss) was) [
             | inl tight ↦
-                let there = there_if t l a.0 (held_before t u s l h b.0) (not_true _ tight) in
-                let it = went_is_released t u s l.ctl (number_at t.holds s - 1) h there (not_true _ b.1) in
+                let there = there_if t l a.0 (held_before t u s l h b.0) (not-true _ tight) in
+                let it = went_is_released t u s l.ctl (number_at t.holds s - 1) h there (not-true _ b.1) in
                 ap (λ (x : StreamId). list_any (same_stream x) vs) (stream_is l.ctl s it) ∙ last
             | inr one ↦ further l.ctl one
           ]
@@ -155,11 +144,7 @@ released_is_watched links t u vs l once h =
     let here : number_at u.holds l.lower ≡ number_at t.holds l.lower - 1 = h.holds l.lower
     ∙ rw (stream_self l.lower) refl in
     let none : number_at u.holds l.lower ≡ 0 = omega (arith, few, one, here) in
-    or_left _ _
-    (ap not (free (not (is_persistent l)) (is_held u l) (not (is_there u l.ctl)) (ap (nat_lt 0) none))) where
-      free : (p held gone : Bool) → held ≡ false → (p && (held && gone)) ≡ false
-      free true held gone e = rw e refl
-      free false held gone e = refl
+    or_left (not (is_loose u l)) _ (grind (arith, nat_tests))
 
 -- ---- one stream less that may have gone
 
@@ -192,13 +177,7 @@ none_by t ss ctl [] none h = refl
 none_by t ss ctl (l ∷ ls) none h =
     let p = and_parts (is_watched t (ss ++ ctl ∷ []) l) (list_all (is_watched t (ss ++ ctl ∷ [])) ls) h in
     and_from _ _ (watched_less t ss ctl l (not_by (same_stream l.ctl ctl) (is_loose t l) refl refl) p.0)
-    (none_by t ss ctl ls (fewer (not (is_there t ctl)) (eqb l.ctl.driver ctl.driver) (is_upper ls ctl.driver) none)
-    p.1) where
-      fewer : (g x r : Bool) → (g && (x || r)) ≡ false → (g && r) ≡ false
-      fewer true true r e = absurd cc
-      fewer true false r e = e
-      fewer false x r e = refl
-
+    (none_by t ss ctl ls (grind (arith, nat_tests, none)) p.1) where
       not_by : (it loose : Bool) → same_stream l.ctl ctl ≡ it → is_loose t l ≡ loose → (it && loose) ≡ false
       not_by true true a b =
           let same = stream_is l.ctl ctl a in
@@ -229,10 +208,5 @@ none_loose t [] h = refl
 none_loose t (l ∷ ls) h =
     let p = and_parts (is_watched t [] l) (list_all (is_watched t []) ls) h in
     let tight : is_loose t l ≡ false = elim (or_cases (not (is_loose t l)) false p.0)
-    [ inl a ↦ not_true _ a | inr b ↦ absurd (false≢true b) ] in
+    [ inl a ↦ not-true _ a | inr b ↦ absurd (false≢true b) ] in
     rw tight (none_loose t ls p.1)
-
--- where no stream is left of those that may have gone, the list is empty
-pub nothing_left : (ss : List StreamId) → length ss ≡ 0 → ss ≡ []
-nothing_left [] h = refl
-nothing_left (s ∷ ss) h = absurd (omega (arith, h))

@@ -2,7 +2,7 @@
 
 ghost use Rattle.std.specs.Prelude.{◌≡◌, ◌<◌, position, length, IfOk};
 ghost use Rattle.std.specs.Str.{bytes_eq};
-ghost use Rattle.smx_model.specs.DriverList.{kind_is_mux, is_mux, minors_of, high_of, low_of, max_of};
+ghost use Rattle.smx_model.specs.DriverList.{kind_is_mux, is_mux, minors_of, max_of};
 ghost use Rattle.smx_model.specs.Lookups.{driver_of};
 
 use smx_types::{DriverKind, DriverSpec, Fault, Name};
@@ -49,26 +49,6 @@ pub fn minors_of(drivers: &[DriverSpec], driver: usize) -> u32
 {
     match drivers.get(driver) {
         Some(d) => d.minors,
-        None => 0,
-    }
-}
-
-/// The high water mark of the driver's queues, in bytes; 0 where there is no such driver.
-pub fn high_of(drivers: &[DriverSpec], driver: usize) -> u32
-    ensures { result ≡ high_of drivers.now driver }
-{
-    match drivers.get(driver) {
-        Some(d) => d.high,
-        None => 0,
-    }
-}
-
-/// The low water mark of the driver's queues, in bytes; 0 where there is no such driver.
-pub fn low_of(drivers: &[DriverSpec], driver: usize) -> u32
-    ensures { result ≡ low_of drivers.now driver }
-{
-    match drivers.get(driver) {
-        Some(d) => d.low,
         None => 0,
     }
 }

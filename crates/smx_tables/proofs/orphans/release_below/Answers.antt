@@ -9,7 +9,7 @@ use Rattle.smx_tables.proofs.HungLemmas.{left_twice, none_went, there_before}
 use Rattle.smx_tables.proofs.OrphanIdLemmas.{one_released}
 use Rattle.smx_tables.proofs.ReleaseLemmas.{less_this, loose_held, releases_this}
 use Rattle.smx_tables.proofs.LinkWalkLemmas.{among_all, link_at, one_at}
-use Rattle.smx_tables.proofs.TouchLemmas.{release_touches_on}
+use Rattle.smx_tables.proofs.TouchLemmas.{still_touched}
 use Rattle.smx_tables.proofs.WatchLemmas.{all_at, all_in_all, all_more, all_watch_on, listed_last, none_by}
 use Rattle.smx_tables.proofs.WatchLemmas.{released_is_watched, still_listed, still_listed_before, watched_in_all}
 use Rattle.smx_tables.proofs.WatchLemmas.{watched_less}
@@ -122,9 +122,8 @@ loop-link-preserved c =
                 omega (arith, less, longer, one_more, c.loop-link.invariant.enough, w.push_reserved.ensures.capacity);
             less = omega (arith, less, longer, one_more, c.loop-link.invariant.less);
             touched = rw pushed
-                (release_touches_on c.args.streams.now c.loop-link.streams w.release-gone.new.self
-                c.args.touched.now.items
-                c.loop-link.touched.items link.lower _ w.release-gone.ensures.rest c.loop-link.invariant.touched);
+                (λ x there. still_touched c.loop-link.streams w.release-gone.new.self c.loop-link.touched.items
+                link.lower _ w.release-gone.ensures.rest x (c.loop-link.invariant.touched x there));
             gone = subst
                 (AreReleased c.args.links.now.links w.release-gone.new.self
                 w.push_reserved-then-is_loose_by.new.self.items)

@@ -3,11 +3,12 @@ use Rattle.std.proofs.Common.{rules}
 use Rattle.std.proofs.lemmas.Bool.{or_left}
 use Rattle.std.specs.List.{list_all}
 use Rattle.std.specs.Prelude.{vec_capacity}
+use Rattle.std.proofs.lemmas.List.{nil_from_length}
 use Rattle.smx_types.specs.declared.stream.StreamId.{StreamId}
 use Rattle.smx_tables.specs.TouchedStreams.{IsCascade, is_watched}
 use Rattle.smx_tables.proofs.HungLemmas.{left_twice, none_went}
 use Rattle.smx_tables.proofs.TouchLemmas.{all_seen, seen_more}
-use Rattle.smx_tables.proofs.WatchLemmas.{none_loose, nothing_left}
+use Rattle.smx_tables.proofs.WatchLemmas.{none_loose}
 use Rattle.smx_tables.proofs.orphans.release_orphans.Goals as goal
 
 pub release_below-requires-clause-cascade : goal.release_below-requires-clause-cascade
@@ -72,11 +73,11 @@ pub returns-clause-seen : goal.returns-clause-seen
 returns-clause-seen c = λ s h.
     let none : length c.loop-stream.touched.items ≡ 0 = search rules in
     all_seen c.loop-stream.streams c.loop-stream.touched.items c.loop-stream.seen.items s
-    (nothing_left c.loop-stream.touched.items none) (c.loop-stream.invariant.seen s h)
+    (nil_from_length c.loop-stream.touched.items none) (c.loop-stream.invariant.seen s h)
 
 pub returns-clause-none : goal.returns-clause-none
 returns-clause-none c =
     let none : length c.loop-stream.touched.items ≡ 0 = search rules in
     none_loose c.loop-stream.streams c.args.links.now.links
     (subst (λ (ss : List StreamId). list_all (is_watched c.loop-stream.streams ss) c.args.links.now.links ≡ true)
-    (nothing_left c.loop-stream.touched.items none) c.loop-stream.invariant.cascade.watched)
+    (nil_from_length c.loop-stream.touched.items none) c.loop-stream.invariant.cascade.watched)

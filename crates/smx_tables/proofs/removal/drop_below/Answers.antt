@@ -1,5 +1,6 @@
 use Rattle.std.proofs.Common.{◌∙◌, ◌+◌, List, ℕ, ap, subst, sym, take, arith}
 use Rattle.std.proofs.lemmas.List.{take_more}
+use Rattle.std.proofs.lemmas.List.{take_all}
 use Rattle.smx_types.specs.declared.stream.Place.{Place}
 use Rattle.smx_types.specs.declared.stream.Side.TheVariants as side
 use Rattle.smx_model.specs.Configuration.{QueuedMessage, same_place}
@@ -7,7 +8,6 @@ use Rattle.smx_tables.specs.DroppedMessages.{EmptiesPlaces}
 use Rattle.smx_tables.specs.ListedLinks.{is_read_below_listed}
 use Rattle.smx_tables.proofs.BelowLemmas.{empties_alike, empties_more, empties_none, none_listed_yet, read_more}
 use Rattle.smx_tables.proofs.BelowLemmas.{read_none}
-use Rattle.smx_tables.proofs.WalkLemmas.{taken_all}
 use Rattle.smx_tables.proofs.removal.drop_below.Goals as goal
 use Rattle.smx_tables.proofs.removal.drop_below.Goals.{in-Some, in_default}
 
@@ -40,4 +40,4 @@ pub returns : goal.returns
 returns c =
     subst (λ (ids : List ℕ). EmptiesPlaces (is_read_below_listed c.args.links.now.links ids) c.args.queues.now
     c.args.dropped.now c.loop-id.queues c.loop-id.dropped)
-    (taken_all c.args.gone.now c.loop-id.id-index (omega arith)) c.loop-id.invariant
+    (take_all c.loop-id.id-index c.args.gone.now (omega arith)) c.loop-id.invariant

@@ -2,11 +2,11 @@ use Rattle.std.proofs.Common.{List, ℕ, [], ◌∷◌, ap, length, length-appen
 use Rattle.std.proofs.lemmas.List.{take_more}
 use Rattle.smx_tables.specs.ExistingStreams.{AreHeld}
 use Rattle.std.proofs.lemmas.Bool.{or_left}
+use Rattle.std.proofs.lemmas.List.{take_all}
 use Rattle.smx_tables.proofs.HungLemmas.{left_twice, none_went, there_before}
-use Rattle.smx_tables.proofs.TouchLemmas.{release_touches}
+use Rattle.smx_tables.proofs.TouchLemmas.{still_touched}
 use Rattle.smx_links.specs.LinkLists.{others_of}
 use Rattle.smx_tables.proofs.ReleasedIdLemmas.{released_at_first, released_more, released_none}
-use Rattle.smx_tables.proofs.WalkLemmas.{taken_all}
 use Rattle.smx_tables.proofs.removal.release_each.Goals as goal
 use Rattle.smx_tables.proofs.removal.release_each.Goals.{in-Some, in_default}
 
@@ -40,8 +40,8 @@ loop-id-preserved c = elim c.match-get.branch [
             (λ x. there_before c.loop-id.streams w.release_held.new.streams w.in-Some.link.now.lower x 0
             w.release_held.ensures (omega arith));
         touched = rw pushed
-            (release_touches c.args.streams.now c.loop-id.streams w.release_held.new.streams c.loop-id.touched.items
-            w.in-Some.link.now.lower 0 w.release_held.ensures c.loop-id.invariant.touched);
+            (λ x there. still_touched c.loop-id.streams w.release_held.new.streams c.loop-id.touched.items
+            w.in-Some.link.now.lower 0 w.release_held.ensures x (c.loop-id.invariant.touched x there));
         few = omega (arith, longer, one_more, c.loop-id.invariant.few);
         capacity = w.push_reserved.ensures.capacity ∙ c.loop-id.invariant.capacity;
       })
@@ -64,4 +64,4 @@ push_reserved-requires c = omega (arith, c.loop-id.invariant.few, c.loop-id.inva
 
 pub returns-clause-held : goal.returns-clause-held
 returns-clause-held c = subst (λ (ids : List ℕ). AreHeld (others_of ids c.args.links.now.links) c.loop-id.streams)
-    (taken_all c.args.gone.now c.loop-id.id-index (omega arith)) c.loop-id.invariant.held
+    (take_all c.loop-id.id-index c.args.gone.now (omega arith)) c.loop-id.invariant.held

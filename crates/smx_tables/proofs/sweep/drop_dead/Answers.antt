@@ -1,12 +1,12 @@
 use Rattle.std.proofs.Common.{◌∙◌, List, ap, refl, arith}
 use Rattle.std.proofs.lemmas.List.{take_more}
+use Rattle.std.proofs.lemmas.List.{take_all}
 use Rattle.smx_types.specs.declared.stream.StreamId.{StreamId}
 use Rattle.smx_model.specs.Configuration.{Configuration}
 use Rattle.smx_tables.specs.ModelOfLists.{configuration_of}
 use Rattle.smx_tables.specs.TouchedStreams.{is_dead, without_streams}
 use Rattle.smx_tables.proofs.DeadStreamLemmas.{all_gone, none_gone_yet, one_more_gone}
 use Rattle.smx_tables.proofs.KeptLemmas.{held_again}
-use Rattle.smx_tables.proofs.WalkLemmas.{taken_all}
 use Rattle.smx_tables.proofs.sweep.drop_dead.Goals as goal
 
 pub loop-stream-init : goal.loop-stream-init
@@ -37,7 +37,7 @@ loop-stream-preserved c =
 pub returns-clause-value : goal.returns-clause-value
 returns-clause-value c = λ drivers told.
     let old = c.args.lists.now in
-    let seen = taken_all c.args.seen.now c.loop-stream.stream-index (omega arith) in
+    let seen = take_all c.loop-stream.stream-index c.args.seen.now (omega arith) in
     c.loop-stream.invariant.value
     ∙ ap (λ (ss : List StreamId). without_streams (configuration_of old) (is_dead old.streams ss)) seen
     ∙ all_gone drivers (configuration_of old) old.streams c.args.seen.now told c.requires.seen

@@ -1,11 +1,12 @@
 use Rattle.std.proofs.Common.{◌≡◌, ◌<◌, ap, arith, length, ◌∙◌, Some, set}
+use Rattle.std.proofs.lemmas.Option.{same_Some}
 use Rattle.smx_queues.specs.declared.chain.Chain.{Chain}
 use Rattle.smx_queues.specs.Chains.{chain_with_last, chain_without_first}
 use Rattle.smx_queues.specs.QueueTable.{queue_at, with_arrival, without_front}
 use Rattle.smx_queues.proofs.FollowLemmas.{follower_spare}
 use Rattle.smx_queues.proofs.SoundLemmas.{IsAt, IsFirst, IsSeen, place_at, first_of, first_within, first_few}
 use Rattle.smx_queues.proofs.SoundLemmas.{first_message_is, filled, last_there, counts_fit, read_other, seen_move}
-use Rattle.smx_queues.proofs.SoundLemmas.{queues_of, spare_of, message_is, read_twice, second_below}
+use Rattle.smx_queues.proofs.SoundLemmas.{queues_of, spare_of, read_twice, second_below}
 use Rattle.smx_queues.proofs.queues.Queues.move_front.Goals as goal
 use Rattle.smx_queues.proofs.queues.Queues.move_front.Goals.{After-index-source, After-index_mut, After-index-target}
 use Rattle.smx_queues.proofs.queues.Queues.move_front.Goals.{After-index_mut-2, After-add_last}
@@ -100,7 +101,7 @@ invariant_of-self c =
 pub returns-clause-moved : goal.returns-clause-moved
 returns-clause-moved c m is =
     let g = goal.at.returns-clause-moved c in
-    let same = message_is _ m (first_message_is _ _ _ c.index-node.result.now (first g.After-index-source)
+    let same = same_Some _ m (first_message_is _ _ _ c.index-node.result.now (first g.After-index-source)
     c.index-node.ensures ∙ is) in
     (moved g.After-add_last (some g.After-index-source) (same_source g.After-index_mut)
     (same_target g.After-index_mut-2)).is
