@@ -3,7 +3,7 @@ use Rattle.std.proofs.Common.{◌≡◌, ◌≢◌, ℕ, zero, suc, ◌+◌, ◌
 use Rattle.std.proofs.Common.{Ok, Err, refl, sym, ap, subst, ◌∙◌, append_assoc, arith, inl, inr, rules}
 use Rattle.std.specs.List.{AllByRecursion}
 use Rattle.std.specs.Prelude.{IfErr, slice_get}
-use Rattle.std.proofs.lemmas.List.{append-nil, length-append, length-map}
+use Rattle.std.proofs.lemmas.List.{append-nil, length-append, length-map, map-append}
 use Rattle.smx_types.specs.declared.command.Entry.{Entry}
 use Rattle.smx_types.specs.declared.driver.DriverSpec.{DriverSpec}
 use Rattle.smx_types.specs.declared.transcript.Transcript.{Transcript}
@@ -19,6 +19,8 @@ use Rattle.smx_text.specs.TranscriptText.{IsAllowed, IsSpellable, SpellsTranscri
 use Rattle.smx_text.specs.TranscriptText.{transcript_text, view_body}
 use Rattle.smx_text.specs.declared.text_fault.Cause.TheVariants.{NoMemory, Trailing}
 use Rattle.smx_text.specs.declared.text_fault.TextFault.{TextFault}
+use Rattle.smx_text.proofs.EachLemmas.{all_append, all_left, all_right}
+use Rattle.smx_text.proofs.LineWordLemmas.{one_line_of}
 use Rattle.smx_model.specs.DriverList.{IsDriverList}
 use Rattle.smx_model.specs.Configuration.{empty}
 use Rattle.smx_model.specs.Histories.{after, call_of, IsLegal}
@@ -32,7 +34,7 @@ use Rattle.smx_explain.specs.Differences.{AreAlike, IsFirstDifference, whole_lin
 use Rattle.smx_explain.specs.Explanations.{IsExplanation, difference_text}
 use Rattle.smx_explain.proofs.HistoryLemmas.{stands_in}
 use Rattle.smx_explain.proofs.LineLemmas.{no_difference, no_rest, one_difference, past_front}
-use Rattle.smx_explain.proofs.TextLemmas.{are_lines, lines_before, text_at, text_behind, text_ends, words_line}
+use Rattle.smx_explain.proofs.TextLemmas.{are_lines, lines_before, text_at, text_behind, text_ends}
 
 -- ---- what the laws of other crates say
 
@@ -174,29 +176,12 @@ IsLine k = IsOneLine (line_of ((transcript_grammar V2).line_words k))
 driver_lines : DriversAreWords → (ds : List DriverSpec) → AllByRecursion FitsDriver ds
     → AllByRecursion IsLine (map line.Driver ds)
 driver_lines words [] all = tt
-driver_lines words (d ∷ ds) all = (words_line (driver_words d) (words d all.0).0, driver_lines words ds all.1)
+driver_lines words (d ∷ ds) all = (one_line_of (driver_words d) (words d all.0), driver_lines words ds all.1)
 
 entry_lines : EntriesAreWords → (es : List Entry) → AllByRecursion FitsEntry es
     → AllByRecursion IsLine (map line.Entry es)
 entry_lines words [] all = tt
-entry_lines words (e ∷ es) all = (words_line (entry_words e) (words e all.0).0, entry_lines words es all.1)
-
-all_both : {A : Type 0} (P : A → Type 0) (xs ys : List A) → AllByRecursion P xs → AllByRecursion P ys
-    → AllByRecursion P (xs ++ ys)
-all_both P [] ys h k = k
-all_both P (x ∷ xs) ys h k = (h.0, all_both P xs ys h.1 k)
-
-all_front : {A : Type 0} (P : A → Type 0) (xs ys : List A) → AllByRecursion P (xs ++ ys) → AllByRecursion P xs
-all_front P [] ys h = tt
-all_front P (x ∷ xs) ys h = (h.0, all_front P xs ys h.1)
-
-all_here : {A : Type 0} (P : A → Type 0) (xs : List A) (y : A) (ys : List A) → AllByRecursion P (xs ++ y ∷ ys) → P y
-all_here P [] y ys h = h.0
-all_here P (x ∷ xs) y ys h = all_here P xs y ys h.1
-
-map_both : {A B : Type 0} (f : A → B) (xs ys : List A) → map f (xs ++ ys) ≡ map f xs ++ map f ys
-map_both f [] ys = refl
-map_both {A} {B} f (x ∷ xs) ys = ap (λ (zs : List B). f x ∷ zs) (map_both f xs ys)
+entry_lines words (e ∷ es) all = (one_line_of (entry_words e) (words e all.0), entry_lines words es all.1)
 
 -- the lines before an entry, and what the body then is
 abbrev lines_to : List DriverSpec → List Entry → List TranscriptLine
@@ -208,7 +193,7 @@ body_at t front e more is =
     let rest = line.Config ∷ view_body t.view in
     ap (λ (es : List Entry). map line.Driver t.drivers ++ (map line.Entry es ++ rest)) is
     ∙ ap (λ (ks : List TranscriptLine). map line.Driver t.drivers ++ (ks ++ rest))
-    (map_both line.Entry front (e ∷ more))
+    (map-append line.Entry front (e ∷ more))
     ∙ ap (λ (ks : List TranscriptLine). map line.Driver t.drivers ++ ks)
     (append_assoc (map line.Entry front) (line.Entry e ∷ map line.Entry more) rest)
     ∙ sym (append_assoc (map line.Driver t.drivers) (map line.Entry front) (line.Entry e ∷ map line.Entry more ++ rest))
@@ -235,7 +220,7 @@ lines_are : DriversAreWords → EntriesAreWords → (version : Version) (drivers
     → AllByRecursion IsOneLine (lines_before (transcript_grammar version) (lines_to drivers front))
 lines_are driver entry version drivers front fit fit_too =
     are_lines (transcript_grammar version) (header_line version) (lines_to drivers front)
-    (all_both IsLine (map line.Driver drivers) (map line.Entry front) (driver_lines driver drivers fit)
+    (all_append IsLine (map line.Driver drivers) (map line.Entry front) (driver_lines driver drivers fit)
     (entry_lines entry front fit_too))
 
 -- ---- below `illegal`
@@ -260,8 +245,8 @@ module _ (driver : DriversAreWords) (entry : EntriesAreWords) (t : Transcript) (
       h.replays.calls first.legal_before first.here in
       let fit = subst (λ (es : List Entry). AllByRecursion FitsEntry es) s.it allowed.spellable.entries in
       let fit_too = subst (λ (es : List Entry). AllByRecursion FitsEntry es) s.its_replay h.spellable.entries in
-      let fits = all_here FitsEntry front first.entry s.more fit in
-      let fits_too = all_here FitsEntry front there s.more_too fit_too in
+      let fits = (all_right FitsEntry front (first.entry ∷ s.more) fit).0 in
+      let fits_too = (all_right FitsEntry front (there ∷ s.more_too) fit_too).0 in
       let at = text_at (transcript_grammar t.version) t (lines_to t.drivers front) (line.Entry first.entry) _
       (body_at t front first.entry s.more s.it) in
       let at_too = text_at (transcript_grammar h.replay.version) h.replay (lines_to h.replay.drivers front)
@@ -282,13 +267,13 @@ module _ (driver : DriversAreWords) (entry : EntriesAreWords) (t : Transcript) (
           count_to t.version t.drivers front,
           front_long t.entries first.before first.entry first.here,
         );
-        told_is_one = words_line (entry_words first.entry) (entry first.entry fits).0;
-        has_is_one = words_line (entry_words there) (entry there fits_too).0;
+        told_is_one = one_line_of (entry_words first.entry) (entry first.entry fits);
+        has_is_one = one_line_of (entry_words there) (entry there fits_too);
         more = at.0;
         rest = at_too.0;
         begin = record {
           are_lines = lines_are driver entry t.version t.drivers front allowed.spellable.drivers
-              (all_front FitsEntry front (first.entry ∷ s.more) fit);
+              (all_left FitsEntry front (first.entry ∷ s.more) fit);
           one_is = at.1;
           other_is = as_it;
         };
@@ -344,8 +329,8 @@ module _ (driver : DriversAreWords) (entry : EntriesAreWords) (t : Transcript) (
   above_are : AllByRecursion IsOneLine (lines_before (transcript_grammar t.version) (lines_above t.drivers t.entries))
   above_are =
       are_lines (transcript_grammar t.version) (header_line t.version) (lines_above t.drivers t.entries)
-      (all_both IsLine (lines_to t.drivers t.entries) (line.Config ∷ [])
-      (all_both IsLine (map line.Driver t.drivers) (map line.Entry t.entries)
+      (all_append IsLine (lines_to t.drivers t.entries) (line.Config ∷ [])
+      (all_append IsLine (map line.Driver t.drivers) (map line.Entry t.entries)
       (driver_lines driver t.drivers allowed.spellable.drivers) (entry_lines entry t.entries allowed.spellable.entries))
       (config_line, tt))
 

@@ -1,30 +1,15 @@
 -- Texts that are made of lines: they have one first difference.
 use Rattle.std.proofs.Common.{◌≡◌, ◌≢◌, ℕ, ◌+◌, ◌<◌, ◌≤◌, List, [], ◌∷◌, ◌++◌, length, map, refl, sym, ap, subst, ◌∙◌}
 use Rattle.std.proofs.Common.{append_assoc, arith, inl, inr}
+use Rattle.std.proofs.lemmas.List.{append_cancel_left}
 use Rattle.std.specs.Prelude.{◌⊎◌}
 use Rattle.std.specs.List.{AllByRecursion, flat_map}
 use Rattle.smx_words.specs.Words.{LINE_FEED}
 use Rattle.smx_text.specs.Grammar.{IsOneLine}
+use Rattle.smx_text.proofs.LineLemmas.{not_one, one_cut}
 use Rattle.smx_explain.specs.Differences.{AreAlike, IsFirstDifference, IsFirstLine, whole_lines}
 
 -- ---- bytes
-
--- bytes with a line feed in them are not one line
-not_one : (xs after : List ℕ) → IsOneLine (xs ++ LINE_FEED ∷ after) → ⊥
-not_one [] after h = h.0 refl
-not_one (x ∷ xs) after h = not_one xs after h.1
-
--- the first line of some bytes, and what follows it, are what they are
-one_cut : (xs ys cs ds : List ℕ) → IsOneLine xs → IsOneLine ys → xs ++ LINE_FEED ∷ cs ≡ ys ++ LINE_FEED ∷ ds
-    → (xs ≡ ys) × (cs ≡ ds)
-one_cut [] [] cs ds h k e = (refl, cc)
-one_cut [] (y ∷ ys) cs ds h k e = let first : LINE_FEED ≡ y = cc in absurd (k.0 (sym first))
-one_cut (x ∷ xs) [] cs ds h k e = let first : x ≡ LINE_FEED = cc in absurd (h.0 first)
-one_cut (x ∷ xs) (y ∷ ys) cs ds h k e =
-    let first : x ≡ y = cc in
-    let rest : xs ++ LINE_FEED ∷ cs ≡ ys ++ LINE_FEED ∷ ds = cc in
-    let t = one_cut xs ys cs ds h.1 k.1 rest in
-    (ap (λ (z : ℕ). z ∷ xs) first ∙ ap (λ (zs : List ℕ). y ∷ zs) t.0, t.1)
 
 -- of nothing both parts are nothing
 no_part : (xs ys : List ℕ) → xs ++ ys ≡ [] → ys ≡ []
@@ -113,16 +98,11 @@ one_difference one other n m told has told_too has_too h k =
     (sym h.begin.other_is ∙ k.begin.other_is) in
     (omega (arith, h.counted, k.counted, t.0), t.1, t.2)
 
--- behind the same front the same rest stands
-same_rest : (xs ys zs : List ℕ) → xs ++ ys ≡ xs ++ zs → ys ≡ zs
-same_rest [] ys zs e = e
-same_rest (x ∷ xs) ys zs e = let more : xs ++ ys ≡ xs ++ zs = cc in same_rest xs ys zs more
-
 -- a text does not differ from itself
 pub no_difference : (one other : List ℕ) (n : ℕ) (told has : List ℕ) → IsFirstDifference one other n told has
     → one ≡ other → ⊥
 no_difference one other n told has h same =
-    let rests = same_rest (whole_lines h.before) _ _ (sym h.begin.one_is ∙ same ∙ h.begin.other_is) in
+    let rests = append_cancel_left (whole_lines h.before) _ _ (sym h.begin.one_is ∙ same ∙ h.begin.other_is) in
     h.differ (one_cut told has h.more h.rest h.told_is_one h.has_is_one rests).0
 
 -- behind lines where one of both has no whole line more, none differs

@@ -3,6 +3,7 @@ use Rattle.std.proofs.Common.{◌≡◌, ◌≢◌, ℕ, ◌+◌, ◌-◌, ◌<�
 use Rattle.std.proofs.Common.{sym, ap, subst, ◌∙◌, append_assoc, take-append-drop, length-drop, arith}
 use Rattle.std.proofs.Math.Seq.{take-append-add, take-append_seam}
 use Rattle.std.proofs.lemmas.List.{append-nil, drop-append-le, length-append, length-take-le, take-append-le, take_all}
+use Rattle.std.proofs.lemmas.List.{take_rest}
 use Rattle.std.specs.Prelude.{Bool, Option, Result, Ok, Err, IfOk, IfErr, OnOk}
 use Rattle.smx_words.specs.Words.{LINE_FEED}
 use Rattle.smx_text.specs.Grammar.{IsOneLine}
@@ -39,11 +40,7 @@ found_behind held seen n within none line =
           ∙ ap (λ (b : List ℕ). take (seen + n) held ++ LINE_FEED ∷ b) back;
     }
 
--- the part of a slice from a place on is what stands there
-rest_is : (view : List ℕ) (seen : ℕ) → take (length view - seen) (drop seen view) ≡ drop seen view
-rest_is view seen = take_all (length view - seen) (drop seen view) (omega (arith, length-drop seen view))
-
--- a line that was found in that part
+-- a line that was found in the part from a place on
 pub found_in : (held view : List ℕ) (seen n : ℕ) → view ≡ held → seen ≤ length held → IsOneLine (take seen held)
     → (n < length (take (length view - seen) (drop seen view)))
     × IsOneLine (take n (take (length view - seen) (drop seen view)))
@@ -52,7 +49,7 @@ pub found_in : (held view : List ℕ) (seen n : ℕ) → view ≡ held → seen 
     → HasLine (seen + n) held
 found_in held view seen n is within none line =
     let part : List ℕ = take (length view - seen) (drop seen view) in
-    let same : part ≡ drop seen held = rest_is view seen ∙ ap (drop seen) is in
+    let same : part ≡ drop seen held = take_rest view seen ∙ ap (drop seen) is in
     let there : HasLine n part = record { within = line.0; one = line.1; parts = line.2 } in
     found_behind held seen n within none (subst (HasLine n) same there)
 
@@ -60,7 +57,7 @@ found_in held view seen n is within none line =
 pub none_in : (held view : List ℕ) (seen : ℕ) → view ≡ held → IsOneLine (take seen held)
     → IsOneLine (take (length view - seen) (drop seen view)) → IsOneLine held
 none_in held view seen is none rest =
-    none_in_all held seen none (subst IsOneLine (rest_is view seen ∙ ap (drop seen) is) rest)
+    none_in_all held seen none (subst IsOneLine (take_rest view seen ∙ ap (drop seen) is) rest)
 
 -- none stands in what was held before more was read
 pub none_before : (held piece longer : List ℕ) (k : ℕ) → k ≡ length held → longer ≡ held ++ piece → IsOneLine held

@@ -1,6 +1,7 @@
 -- What was written of a live session is a legal transcript, but for what is no entry.
-use Rattle.std.proofs.Common.{◌≡◌, ℕ, ◌≤◌, Bool, true, false, ◌||◌, List, [], ◌∷◌, ◌++◌, length, map, refl, sym, ap}
+use Rattle.std.proofs.Common.{◌≡◌, ℕ, ◌≤◌, Bool, false, List, [], ◌∷◌, ◌++◌, length, map, refl, sym, ap}
 use Rattle.std.proofs.Common.{subst, ◌∙◌, append_assoc, rules}
+use Rattle.std.proofs.lemmas.Bool.{or_from, or_parts}
 use Rattle.std.proofs.lemmas.List.{append-nil}
 use Rattle.std.specs.List.{AllByRecursion, list_any}
 use Rattle.std.specs.Prelude.{codes, nat_lt}
@@ -65,14 +66,6 @@ all_fit v ds h (t ∷ ts) was = one t.answer was.1 (all_fit v ds (h ++ entries_i
   one (Shown s) is behind = behind
   one (NotDone w) is behind = behind
 
--- where neither holds
-neither : (a b : Bool) → (a || b) ≡ false → (a ≡ false) × (b ≡ false)
-neither true b h = absurd cc
-neither false b h = (refl, h)
-
-nor : (a b : Bool) → a ≡ false → b ≡ false → (a || b) ≡ false
-nor a b p q = rw (p, q) refl
-
 -- in version 1 no command is a hangup
 quiet : (ds : List DriverSpec) (h : List Entry) (ts : List Turn) → AreAnswered V1 ds h ts
     → list_any (λ e. is_hangup e.command) (entries_of ts) ≡ false
@@ -81,9 +74,9 @@ quiet ds h (t ∷ ts) was = one t.answer was.1 (quiet ds (h ++ entries_in t.answ
   one : (a : Answer) → IsAnswer V1 ds h t.line a → list_any (λ e. is_hangup e.command) (entries_of ts) ≡ false
       → list_any (λ e. is_hangup e.command) (entries_in a ++ entries_of ts) ≡ false
   one (Entered e) is behind =
-      let asked = (neither (is_hangup is.asked.command) (tells_of_hangup is.asked.reply) is.told.1).0 in
+      let asked = (or_parts (is_hangup is.asked.command) (tells_of_hangup is.asked.reply) is.told.1).0 in
       let same = ap (λ (c : ℕ × Command). is_hangup c.1) is.call in
-      nor (is_hangup e.command) _ (same ∙ asked) behind
+      or_from (is_hangup e.command) _ (same ∙ asked) behind
   one (Shown s) is behind = behind
   one (NotDone w) is behind = behind
 
@@ -132,7 +125,7 @@ module _ (stays : StaysLegal) (tells : TellsOfNone) (leaves : LeavesNone)
       few_drivers (length o.s.drivers)
       (subst (λ (v : Version). length o.s.drivers ≤ most_drivers v) first drivers_few) in
       let shown_none : nat_lt 0 (length shown.hungs) ≡ false = none_shown o.s.drivers o.s.configuration hung in
-      ap version_2_where (nor _ _ few (nor _ _ (tells o.s.drivers es legal none) shown_none)) where
+      ap version_2_where (or_from _ _ few (or_from _ _ (tells o.s.drivers es legal none) shown_none)) where
         drivers_few : length o.s.drivers ≤ most_drivers o.s.version
         drivers_few = subst (λ (ds : List DriverSpec). length ds ≤ most_drivers o.s.version) (sym o.live.drivers)
             o.live.spelled.allowed.drivers

@@ -68,8 +68,8 @@ said_more opening output ts t was =
 
 -- ---- a turn more
 
-module _ (further : OneFurther) (read : List ℕ) (ended : Bool) (output : List ℕ) (s : State) (count n : ℕ)
-    (held : List ℕ)
+module _ (further : OneFurther) {read : List ℕ} {ended : Bool} {output : List ℕ} {s : State} {count n : ℕ}
+    {held : List ℕ}
     (l : IsLive read ended output s count held) (line : HasLine n held) (small : n ≤ MAX_INPUT) where
   -- the line that stands there, with its answer
   abbrev turn : Answer → Turn
@@ -194,11 +194,11 @@ module _ (further : OneFurther) (read : List ℕ) (ended : Bool) (output : List 
   }
 
 -- the input is at its end, within a line or not
-pub ended_by_input : (read : List ℕ) (ended : Bool) (output : List ℕ) (s : State) (count : ℕ) (held : List ℕ)
+pub ended_by_input : {read : List ℕ} {ended : Bool} {output : List ℕ} {s : State} {count : ℕ} {held : List ℕ}
     → IsLive read ended output s count held
     → ended ≡ true → IsShort held → IsSpellableView (view s.drivers s.configuration)
     → IsOver read ended (output ++ (cut_words held ++ closing_text s))
-ended_by_input read ended output s count held l is short fits = record {
+ended_by_input {output = output} {s} {count} {held} l is short fits = record {
   before = output;
   s = s;
   count = count;
@@ -213,13 +213,13 @@ ended_by_input read ended output s count held l is short fits = record {
 -- ---- its beginning, and more that was read
 
 -- nothing is answered yet
-pub begun : (table held : List ℕ) (ended : Bool) (opening : List ℕ) (s : State) → IsTable ended table held
-    → length table ≤ MAX_INPUT → IsStartOf (table_text table) s → BeginsTranscript s.version s.drivers [] opening
-    → IsLive (table ++ held) ended opening s 0 held
-begun table held ended opening s over fits start begins = record {
+pub begun : {read table held : List ℕ} {ended : Bool} {opening : List ℕ} {s : State} → read ≡ table ++ held
+    → IsTable ended table held → length table ≤ MAX_INPUT → IsStartOf (table_text table) s
+    → BeginsTranscript s.version s.drivers [] opening → IsLive read ended opening s 0 held
+begun {table = table} {opening = opening} parts over fits start begins = record {
   table = table;
   turns = [];
-  read_is = refl;
+  read_is = parts;
   over = over;
   fits = fits;
   programs = start.programs;
@@ -236,10 +236,10 @@ begun table held ended opening s over fits start begins = record {
 }
 
 -- more is held, which comes of an input that has not ended
-pub with_more : (read more : List ℕ) (ended now : Bool) (output : List ℕ) (s : State) (count : ℕ) (held : List ℕ)
-    → IsLive read ended output s count held → (ended ≡ true → (more ≡ []) × (now ≡ true))
+pub with_more : {read : List ℕ} (more : List ℕ) {ended now : Bool} {output : List ℕ} {s : State} {count : ℕ}
+    {held : List ℕ} → IsLive read ended output s count held → (ended ≡ true → (more ≡ []) × (now ≡ true))
     → IsLive (read ++ more) now output s count (held ++ more)
-with_more read more ended now output s count held l stays =
+with_more more {ended} {now} {held = held} l stays =
     let together : (asked_text l.turns ++ held) ++ more ≡ asked_text l.turns ++ (held ++ more) =
     append_assoc (asked_text l.turns) held more in
     record {
@@ -264,9 +264,9 @@ with_more read more ended now output s count held l stays =
     }
 
 -- as many bytes were read as are held, at the least
-pub held_of_read : (read : List ℕ) (ended : Bool) (output : List ℕ) (s : State) (count : ℕ) (held : List ℕ)
+pub held_of_read : {read : List ℕ} {ended : Bool} {output : List ℕ} {s : State} {count : ℕ} {held : List ℕ}
     → IsLive read ended output s count held → length held ≤ length read
-held_of_read read ended output s count held l =
+held_of_read {held = held} l =
     omega (
       arith,
       ap (λ (bs : List ℕ). length bs) l.read_is,

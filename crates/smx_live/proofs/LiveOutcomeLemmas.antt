@@ -26,18 +26,10 @@ kept_on (Some xs) None new said p q = absurd p
 kept_on (Some xs) (Some ys) None said p q = absurd q
 kept_on (Some xs) (Some ys) (Some zs) said p q = q ∙ p
 
-module _ (read output : List ℕ) (start : ℕ) (had left before after : Option (List ℕ)) (turn : ℕ) (ended : Bool)
-    (s : State)
-    (count : ℕ) (held : List ℕ) (g : HasGone read output start had left before after turn ended s count held)
-    (flushed : Bool) (reads writes : ℕ) (fed : reads ≡ 0) where
-  -- it has come so far
-  so_far : HasComeSoFar (read ++ g.more) ended (output ++ g.said)
-  so_far = (s, count, held, g.live)
-
-  -- with more that was said
-  longer : (text : List ℕ) → (output ++ g.said) ++ text ≡ output ++ (g.said ++ text)
-  longer text = append_assoc output g.said text
-
+module _ {read output : List ℕ} {start : ℕ} {had left before after : Option (List ℕ)} {turn : ℕ} {ended : Bool}
+    {s : State}
+    {count : ℕ} {held : List ℕ} (g : HasGone read output start had left before after turn ended s count held)
+    (flushed : Bool) {reads : ℕ} (writes : ℕ) (fed : reads ≡ 0) where
   -- its writing failed
   cut : (now : Option (List ℕ)) (text : List ℕ) → writes ≡ 1 → AppendsBeginning after now text
       → HasComeSoFar (read ++ g.more) ended ((output ++ g.said) ++ text)
@@ -53,7 +45,7 @@ module _ (read output : List ℕ) (start : ℕ) (had left before after : Option 
       failed,
       length (output ++ g.said) + p.0,
       (output ++ g.said) ++ text,
-      sym (longer (take p.0 text)) ∙ sym (take-append-add (output ++ g.said) text p.0),
+      sym (append_assoc output g.said (take p.0 text)) ∙ sym (take-append-add (output ++ g.said) text p.0),
       whole,
     );
   }
@@ -67,7 +59,7 @@ module _ (read output : List ℕ) (start : ℕ) (had left before after : Option 
     consumed = g.consumed;
     said = g.said ++ text;
     appended = Appends-trans before after now g.said text g.appended p;
-    outcome = ((fed, fine), all, subst (IsOver (read ++ g.more) ended) (longer text) o);
+    outcome = ((fed, fine), all, subst (IsOver (read ++ g.more) ended) (append_assoc output g.said text) o);
   }
 
   -- memory was wanting
@@ -78,7 +70,7 @@ module _ (read output : List ℕ) (start : ℕ) (had left before after : Option 
     consumed = g.consumed;
     said = g.said;
     appended = kept_on before after now g.said g.appended p;
-    outcome = ((fed, fine), inl (is, inr so_far));
+    outcome = ((fed, fine), inl (is, inr (s, count, held, g.live)));
   }
 
   -- so it is after a turn that was its last
@@ -109,16 +101,15 @@ module _ (read output : List ℕ) (start : ℕ) (had left before after : Option 
   at_the_end now (Err ReadFailed) h = absurd h
 
 -- where a line can't be had
-pub no_line : (read output : List ℕ) (start : ℕ) (had left later before after : Option (List ℕ)) (turn : ℕ)
-    (ended now : Bool)
-    (s : State) (count : ℕ) (held piece : List ℕ)
-    (g : HasGone read output start had left before after turn ended s count held) (flushed : Bool) (reads writes : ℕ)
+pub no_line : {read output : List ℕ} {start : ℕ} {had left later before after : Option (List ℕ)} {turn : ℕ}
+    {ended now : Bool} {s : State} {count : ℕ} {held piece : List ℕ}
+    (g : HasGone read output start had left before after turn ended s count held) {flushed : Bool} {reads writes : ℕ}
     (e : MainFault) → Consumes left later piece → writes ≡ 0 → flushed ≡ true
     → (ended ≡ true → (piece ≡ []) × (now ≡ true))
     → FailsToRead (IsTooLong (held ++ piece)) (IsOneLine (held ++ piece)) reads e
     → Converses read output had later now reads before after flushed writes (Err e)
-no_line read output start had left later before after turn ended now s count held piece g flushed reads writes e c fine
-    all stays why = record {
+no_line {read} {output} {had = had} {left} {later} {now = now} {s} {count} {held} {piece} g {flushed} {reads} {writes} e
+    c fine all stays why = record {
       more = g.more ++ piece;
       consumed = Consumes-trans had left later g.more piece g.consumed c;
       said = g.said;
@@ -126,8 +117,7 @@ no_line read output start had left later before after turn ended now s count hel
       outcome = by_fault e why;
     } where
       goes : IsLive (read ++ (g.more ++ piece)) now (output ++ g.said) s count (held ++ piece)
-      goes =
-          live_on read output start had left before after turn ended s count held g now piece (held ++ piece) refl stays
+      goes = live_on g now piece (held ++ piece) refl stays
 
       by_fault : (f : MainFault) → FailsToRead (IsTooLong (held ++ piece)) (IsOneLine (held ++ piece)) reads f
           → IsOutcome (read ++ (g.more ++ piece)) (output ++ g.said) now flushed reads writes (Err f)
@@ -138,15 +128,13 @@ no_line read output start had left later before after turn ended now s count hel
       by_fault WriteFailed is = absurd is
 
 -- where no count of turns is greater
-pub no_count : (read output : List ℕ) (had left before after : Option (List ℕ)) (turn : ℕ) (ended : Bool)
-    (first s : State)
-    (number count : ℕ) (start held : List ℕ) (was : Bool) → IsLive read was output first number start
+pub no_count : {read output : List ℕ} {had left before after : Option (List ℕ)} {turn : ℕ} {ended : Bool}
+    {first s : State} {number count : ℕ} {start held : List ℕ} {was : Bool} → IsLive read was output first number start
     → HasGone read output (length start) had left before after turn ended s count held → (flushed : Bool)
-    (reads writes : ℕ) → reads ≡ 0 → writes ≡ 0 → 2 ^ 64 ≤ turn + 1
+    {reads writes : ℕ} → reads ≡ 0 → writes ≡ 0 → 2 ^ 64 ≤ turn + 1
     → Converses read output had left ended reads before after flushed writes (Err TooLong)
-no_count read output had left before after turn ended first s number count start held was l g flushed reads writes fed
-    fine many =
-    let size : length start ≤ length read = held_of_read read was output first number start l in
+no_count {read} {s = s} {count = count} {start} {held} l g flushed fed fine many =
+    let size : length start ≤ length read = held_of_read l in
     record {
       more = g.more;
       consumed = g.consumed;

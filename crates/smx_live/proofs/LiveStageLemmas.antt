@@ -8,7 +8,6 @@ use Rattle.std.specs.Prelude.{◌⊎◌}
 use Rattle.smx_model.specs.Views.{view}
 use Rattle.smx_text.specs.TranscriptText.{IsSpellableView}
 use Rattle.smx_session.specs.Sessions.{State}
-use Rattle.smx_filters.specs.Output.{AppendsBeginning}
 use Rattle.smx_filters.specs.declared.main_fault.MainFault.{MainFault}
 use Rattle.smx_filters.specs.declared.main_fault.MainFault.TheVariants.{Refused, Text, TooLong, ReadFailed, WriteFailed}
 use Rattle.smx_filters.specs.declared.input.TheConstants.{MAX_INPUT}
@@ -41,30 +40,17 @@ module _ (s next : State) (count more : ℕ) (line text : List ℕ) (before afte
       → TakesTurn s count line next more before after flushed failures r
   entered r h made did is = answered (Entered did.0) r h did.1 (is ∙ did.2)
 
-  -- the rest of the transcript is this text
-  pub closed : (r : Result Bool MainFault) → Says text true before after flushed failures r → IsClosing s line text
-      → TakesTurn s count line next more before after flushed failures r
-  closed (Ok true) h is = (h.1, h.2, text, is, h.3)
-  closed (Ok false) h is = let wrong : false ≡ true = h.0 in absurd cc
-  closed (Err WriteFailed) h is = (h.0, text, h.1, inr is)
-  closed (Err (Refused f)) h is = absurd h
-  closed (Err (Text f)) h is = absurd h
-  closed (Err TooLong) h is = absurd h
-  closed (Err ReadFailed) h is = absurd h
-
 -- ---- a session after a turn, and at the end of its input
 
-module _ (further : OneFurther) (read : List ℕ) (ended : Bool) (output : List ℕ) (s : State) (count n : ℕ)
-    (held : List ℕ)
-    (l : IsLive read ended output s count held) (line : HasLine n held) (small : n ≤ MAX_INPUT) (next : State)
-    (more : ℕ)
-    (before after : Option (List ℕ)) (flushed : Bool) (failures : ℕ) where
+module _ (further : OneFurther) {read : List ℕ} {ended : Bool} {output : List ℕ} {s : State} {count n : ℕ}
+    {held : List ℕ}
+    (l : IsLive read ended output s count held) (line : HasLine n held) (small : n ≤ MAX_INPUT) where
   abbrev rest : List ℕ
   rest = drop (n + 1) held
 
   goes_on : (a : Answer) (later : State) (many : ℕ) → IsTaken s count (take n held) a later many
       → IsLive read ended (output ++ answer_text a) later many rest
-  goes_on a later many taken = turned further read ended output s count n held l line small a later many taken
+  goes_on a later many taken = turned further l line small a later many taken
 
   either : (text : List ℕ) → MaySay s count (take n held) text ⊎ IsClosing s (take n held) text
       → HasComeSoFar read ended (output ++ text) ⊎ IsOver read ended (output ++ text)
@@ -74,48 +60,37 @@ module _ (further : OneFurther) (read : List ℕ) (ended : Bool) (output : List 
     rest,
     subst (λ (t : List ℕ). IsLive read ended (output ++ t) x.1 x.2 rest) (sym x.4) (goes_on x.0 x.1 x.2 x.3),
   )
-  either text (inr is) = inr (ended_by_line further read ended output s count n held l line small text is)
+  either text (inr is) = inr (ended_by_line further l line small text is)
 
   -- what was so of a turn by the bytes that were held is so by all that was read
-  pub turned_on : (r : Result Bool MainFault)
-      → TakesTurn s count (take n held) next more before after flushed failures r
+  pub turned_on : (next : State) (more : ℕ) (before after : Option (List ℕ)) (flushed : Bool) (failures : ℕ)
+      (r : Result Bool MainFault) → TakesTurn s count (take n held) next more before after flushed failures r
       → TurnsOn read output ended next more (drop (n + 1) held) before after flushed failures r
-  turned_on (Ok true) h =
-      (h.0, h.1, h.2, h.4, ended_by_line further read ended output s count n held l line small h.2 h.3)
-  turned_on (Ok false) h = (h.0, h.1, answer_text h.2, h.4, goes_on h.2 next more h.3)
-  turned_on (Err (Refused f)) h = h
-  turned_on (Err WriteFailed) h = (h.0, h.1, h.2, either h.1 h.3)
-  turned_on (Err (Text f)) h = absurd h
-  turned_on (Err TooLong) h = absurd h
-  turned_on (Err ReadFailed) h = absurd h
+  turned_on next more before after flushed failures (Ok true) h =
+      (h.0, h.1, h.2, h.4, ended_by_line further l line small h.2 h.3)
+  turned_on next more before after flushed failures (Ok false) h =
+      (h.0, h.1, answer_text h.2, h.4, goes_on h.2 next more h.3)
+  turned_on next more before after flushed failures (Err (Refused f)) h = h
+  turned_on next more before after flushed failures (Err WriteFailed) h = (h.0, h.1, h.2, either h.1 h.3)
+  turned_on next more before after flushed failures (Err (Text f)) h = absurd h
+  turned_on next more before after flushed failures (Err TooLong) h = absurd h
+  turned_on next more before after flushed failures (Err ReadFailed) h = absurd h
 
--- its last lines were written
-pub finished_on : (read : List ℕ) (ended : Bool) (output : List ℕ) (s : State) (count : ℕ) (held text : List ℕ)
-    (before after : Option (List ℕ)) (flushed : Bool) (failures : ℕ) (r : Result (Unit {0}) MainFault)
-    → Writes text before after flushed failures r → text ≡ cut_words held ++ closing_text s
-    → IsLive read ended output s count held → ended ≡ true → IsShort held
-    → IsSpellableView (view s.drivers s.configuration) → Finishes read output ended before after flushed failures r
-finished_on read ended output s count held text before after flushed failures (Ok done) h is l end one fits = (
-  h.0,
-  h.1,
-  cut_words held ++ closing_text s,
-  subst (Appends before after) is h.2,
-  ended_by_input read ended output s count held l end one fits,
-)
-finished_on read ended output s count held text before after flushed failures (Err WriteFailed) h is l end one fits = (
-  h.0,
-  cut_words held ++ closing_text s,
-  subst (λ (t : List ℕ). AppendsBeginning before after t) is h.1,
-  ended_by_input read ended output s count held l end one fits,
-)
-finished_on read ended output s count held text before after flushed failures (Err (Refused f)) h is l end one fits =
-    absurd h
-finished_on read ended output s count held text before after flushed failures (Err (Text f)) h is l end one fits =
-    absurd h
-finished_on read ended output s count held text before after flushed failures (Err TooLong) h is l end one fits =
-    absurd h
-finished_on read ended output s count held text before after flushed failures (Err ReadFailed) h is l end one fits =
-    absurd h
+module _ {read : List ℕ} {ended : Bool} {output : List ℕ} {s : State} {count : ℕ} {held : List ℕ} (text : List ℕ)
+    (is : text ≡ cut_words held ++ closing_text s) (l : IsLive read ended output s count held) (end : ended ≡ true)
+    (short : IsShort held) (fits : IsSpellableView (view s.drivers s.configuration)) where
+  is_over : IsOver read ended (output ++ text)
+  is_over = subst (λ (t : List ℕ). IsOver read ended (output ++ t)) (sym is) (ended_by_input l end short fits)
+
+  -- its last lines were written
+  pub finished_on : (before after : Option (List ℕ)) (flushed : Bool) (failures : ℕ) (r : Result (Unit {0}) MainFault)
+      → Writes text before after flushed failures r → Finishes read output ended before after flushed failures r
+  finished_on before after flushed failures (Ok done) h = (h.0, h.1, text, h.2, is_over)
+  finished_on before after flushed failures (Err WriteFailed) h = (h.0, text, h.1, is_over)
+  finished_on before after flushed failures (Err (Refused f)) h = absurd h
+  finished_on before after flushed failures (Err (Text f)) h = absurd h
+  finished_on before after flushed failures (Err TooLong) h = absurd h
+  finished_on before after flushed failures (Err ReadFailed) h = absurd h
 
 -- ---- turn after turn
 
@@ -132,11 +107,10 @@ pub record HasGone (read output : List ℕ) (start : ℕ) (had left before after
   pub took : turn + length held ≤ start + length more
 
 -- nothing yet
-pub begins : (read output : List ℕ) (had before : Option (List ℕ)) (ended : Bool) (s : State) (count : ℕ)
-    (held : List ℕ)
-    → IsLive read ended output s count held
+pub begins : {read output : List ℕ} {had before : Option (List ℕ)} {ended : Bool} {s : State} {count : ℕ}
+    {held : List ℕ} → IsLive read ended output s count held
     → HasGone read output (length held) had had before before 0 ended s count held
-begins read output had before ended s count held l = record {
+begins {read} {output} {had} {before} {ended} {s} {count} {held} l = record {
   more = [];
   consumed = Consumes-nil had;
   said = [];
@@ -146,9 +120,9 @@ begins read output had before ended s count held l = record {
   took = omega arith;
 }
 
-module _ (read output : List ℕ) (start : ℕ) (had left before after : Option (List ℕ)) (turn : ℕ) (ended : Bool)
-    (s : State)
-    (count : ℕ) (held : List ℕ) (g : HasGone read output start had left before after turn ended s count held) where
+module _ {read output : List ℕ} {start : ℕ} {had left before after : Option (List ℕ)} {turn : ℕ} {ended : Bool}
+    {s : State}
+    {count : ℕ} {held : List ℕ} (g : HasGone read output start had left before after turn ended s count held) where
   -- it stands so with more that was read
   pub live_on : (now : Bool) (piece longer : List ℕ) → longer ≡ held ++ piece
       → (ended ≡ true → (piece ≡ []) × (now ≡ true))
@@ -156,13 +130,13 @@ module _ (read output : List ℕ) (start : ℕ) (had left before after : Option 
   live_on now piece longer is stays =
       subst (λ (h : List ℕ). IsLive (read ++ (g.more ++ piece)) now (output ++ g.said) s count h) (sym is)
       (subst (λ (r : List ℕ). IsLive r now (output ++ g.said) s count (held ++ piece)) (append_assoc read g.more piece)
-      (with_more (read ++ g.more) piece ended now (output ++ g.said) s count held g.live stays))
+      (with_more piece g.live stays))
 
   -- more was read
-  pub reads : (later : Option (List ℕ)) (now : Bool) (piece longer : List ℕ) → Consumes left later piece
+  pub reads : {later : Option (List ℕ)} {now : Bool} {piece longer : List ℕ} → Consumes left later piece
       → longer ≡ held ++ piece → (ended ≡ true → (piece ≡ []) × (now ≡ true))
       → HasGone read output start had later before after turn now s count longer
-  reads later now piece longer c is stays = record {
+  reads {later} {now} {piece} {longer} c is stays = record {
     more = g.more ++ piece;
     consumed = Consumes-trans had left later g.more piece g.consumed c;
     said = g.said;
@@ -178,11 +152,11 @@ module _ (read output : List ℕ) (start : ℕ) (had left before after : Option 
   }
 
   -- a turn was taken
-  pub turns : (later : Option (List ℕ)) (text : List ℕ) (next : State) (many n : ℕ) (rest : List ℕ)
+  pub turns : {later : Option (List ℕ)} (text : List ℕ) {next : State} {many n : ℕ} {rest : List ℕ}
       → Appends after later text → IsLive (read ++ g.more) ended ((output ++ g.said) ++ text) next many rest
       → n < length held → rest ≡ drop (n + 1) held
       → HasGone read output start had left before later (turn + 1) ended next many rest
-  turns later text next many n rest p l within is = record {
+  turns {later} text {next} {many} {n} {rest} p l within is = record {
     more = g.more;
     consumed = g.consumed;
     said = g.said ++ text;

@@ -1,6 +1,6 @@
 -- A live session from bytes to bytes, by the stage at which it ends.
 use Rattle.std.proofs.Common.{◌≡◌, ℕ, ◌≤◌, Bool, List, [], ◌++◌, length, take, Option, Some, None}
-use Rattle.std.proofs.Common.{Result, Ok, Err, refl, sym, subst, ◌∙◌, inl, inr}
+use Rattle.std.proofs.Common.{Result, Ok, Err, refl, sym, ◌∙◌, inl, inr}
 use Rattle.std.proofs.KnownBytes.{Appends-nil, Appends-trans, Consumes-trans}
 use Rattle.std.proofs.lemmas.List.{append-nil}
 use Rattle.std.specs.Io.KnownBytes.{Appends, Consumes, Keeps}
@@ -11,7 +11,7 @@ use Rattle.smx_filters.specs.declared.main_fault.MainFault.TheVariants.{Refused,
 use Rattle.smx_live.specs.LiveStages.{Begins, Converses, Opens, Writes}
 use Rattle.smx_filters.specs.declared.input.TheConstants.{MAX_INPUT}
 use Rattle.smx_live.specs.Inboxes.{FailsToRead}
-use Rattle.smx_live.specs.LiveText.{IsLive, IsOutcome, LivesText}
+use Rattle.smx_live.specs.LiveText.{IsOutcome, LivesText}
 use Rattle.smx_live.specs.Tables.{IsEndlessTable, IsTable, IsUnfinished, table_text}
 use Rattle.smx_live.proofs.LiveLemmas.{begun}
 
@@ -33,8 +33,8 @@ nothing_more None after p = tt
 nothing_more (Some xs) None p = absurd p
 nothing_more (Some xs) (Some ys) p = p ∙ sym (append-nil xs)
 
-module _ (had left : Option (List ℕ)) (ended : Bool) (reads : ℕ) (read : List ℕ) (consumed : Consumes had left read)
-    (before : Option (List ℕ)) (flushed : Bool) (writes : ℕ) where
+module _ {had left : Option (List ℕ)} {ended : Bool} {reads : ℕ} (read : List ℕ) (consumed : Consumes had left read)
+    {before : Option (List ℕ)} {flushed : Bool} {writes : ℕ} where
   -- the table could not be had
   pub no_table : (e : MainFault) → writes ≡ 0 → FailsToRead (IsEndlessTable read) (IsUnfinished read) reads e
       → LivesText had left ended reads before before flushed writes (Err e)
@@ -73,43 +73,35 @@ module _ (had left : Option (List ℕ)) (ended : Bool) (reads : ℕ) (read : Lis
       by_fault ReadFailed bad = absurd bad
       by_fault WriteFailed bad = absurd bad
 
-    -- where one begins, it has come so far with its opening
-    pub first : (s : State) (opening : List ℕ) → IsStartOf (table_text table) s
-        → BeginsTranscript s.version s.drivers [] opening → IsLive read ended opening s 0 held
-    first s opening start begins =
-        subst (λ (r : List ℕ). IsLive r ended opening s 0 held) (sym parts)
-        (begun table held ended opening s over fits start begins)
-
     -- its opening could not be written
-    pub no_opening : (s : State) (after : Option (List ℕ)) (e : MainFault) → IsStartOf (table_text table) s
+    pub no_opening : (s : State) {after : Option (List ℕ)} (e : MainFault) → IsStartOf (table_text table) s
         → Opens s before after flushed writes (Err e) → LivesText had left ended reads before after flushed writes
         (Err e)
-    no_opening s after WriteFailed start h = record {
+    no_opening s WriteFailed start h = record {
       read = read;
       consumed = consumed;
       output = take h.3.0 h.1;
       appended = h.3.1;
-      outcome = (fed, h.0, h.3.0, h.1, refl, inl (s, 0, held, first s h.1 start h.2));
+      outcome = (fed, h.0, h.3.0, h.1, refl, inl (s, 0, held, begun parts over fits start h.2));
     }
-    no_opening s after (Refused f) start h = record {
+    no_opening s {after} (Refused f) start h = record {
       read = read;
       consumed = consumed;
       output = [];
       appended = nothing_more before after h.2;
       outcome = ((fed, h.0), inl (h.1, inl refl));
     }
-    no_opening s after (Text f) start h = absurd h
-    no_opening s after TooLong start h = absurd h
-    no_opening s after ReadFailed start h = absurd h
+    no_opening s (Text f) start h = absurd h
+    no_opening s TooLong start h = absurd h
+    no_opening s ReadFailed start h = absurd h
 
 -- its lines were answered
-pub answered_all : (had mid left : Option (List ℕ)) (read : List ℕ) → Consumes had mid read
-    → (before then_on after : Option (List ℕ))
-    (opening : List ℕ) → Appends before then_on opening → (ended flushed : Bool) (reads writes : ℕ)
-    (r : Result (Unit {0}) MainFault)
+pub answered_all : {had mid left : Option (List ℕ)} {read : List ℕ} → Consumes had mid read
+    → {before then_on after : Option (List ℕ)} {opening : List ℕ} → Appends before then_on opening
+    → {ended flushed : Bool} {reads writes : ℕ} {r : Result (Unit {0}) MainFault}
     → Converses read opening mid left ended reads then_on after flushed writes r
     → LivesText had left ended reads before after flushed writes r
-answered_all had mid left read consumed before then_on after opening begins ended flushed reads writes r c = record {
+answered_all {had} {mid} {left} {read} consumed {before} {then_on} {after} {opening} begins c = record {
   read = read ++ c.more;
   consumed = Consumes-trans had mid left read c.more consumed c.consumed;
   output = opening ++ c.said;

@@ -1,5 +1,6 @@
 -- A replay needs no later version than its transcript.
-use Rattle.std.proofs.Common.{◌≡◌, ℕ, Bool, true, false, ◌||◌, List, [], ◌∷◌, length, map, refl, sym, ap, ◌∙◌, arith}
+use Rattle.std.proofs.Common.{◌≡◌, ℕ, Bool, false, ◌||◌, List, [], ◌∷◌, length, map, refl, sym, ap, ◌∙◌, arith}
+use Rattle.std.proofs.lemmas.Bool.{or_from, or_parts}
 use Rattle.std.proofs.lemmas.List.{length-map}
 use Rattle.std.specs.List.{list_any}
 use Rattle.std.specs.Prelude.{nat_lt}
@@ -12,6 +13,7 @@ use Rattle.smx_types.specs.declared.transcript.Transcript.{Transcript}
 use Rattle.smx_types.specs.declared.version.Version.TheVariants.{V1}
 use Rattle.smx_model.specs.Histories.{after, call_of, IsLegal}
 use Rattle.smx_text.specs.TranscriptText.{IsAllowed, IsSpellable}
+use Rattle.smx_text.proofs.LeastVersionLemmas.{is_first}
 use Rattle.smx_replay.specs.Replays.{IsReplayOf}
 
 -- ---- what the laws of hangups say of a history without one
@@ -24,29 +26,14 @@ abbrev LeavesNone : Type 0
 LeavesNone = (drivers : List DriverSpec) (history : List Entry)
     → list_any (λ e. is_hangup e.command) history ≡ false → (after drivers history).hungs ≡ []
 
--- ---- tests
-
--- where neither holds
-neither : (a b : Bool) → (a || b) ≡ false → (a ≡ false) × (b ≡ false)
-neither true b h = absurd cc
-neither false b h = (refl, h)
-
-nor : (a b : Bool) → a ≡ false → b ≡ false → (a || b) ≡ false
-nor a b p q = rw (p, q) refl
-
--- version 1 is enough where the test fails
-not_needed : (b : Bool) → version_2_where b ≡ V1 → b ≡ false
-not_needed true h = absurd cc
-not_needed false h = refl
-
 -- ---- the replay
 
 -- where no entry is of a hangup, no command is one
 no_command : (es : List Entry) → list_any is_of_hangup es ≡ false → list_any (λ e. is_hangup e.command) es ≡ false
 no_command [] h = refl
 no_command (e ∷ es) h =
-    let p = neither (is_of_hangup e) (list_any is_of_hangup es) h in
-    nor (is_hangup e.command) _ (neither (is_hangup e.command) (tells_of_hangup e.reply) p.0).0 (no_command es p.1)
+    let p = or_parts (is_of_hangup e) (list_any is_of_hangup es) h in
+    or_from (is_hangup e.command) _ (or_parts (is_hangup e.command) (tells_of_hangup e.reply) p.0).0 (no_command es p.1)
 
 -- which the calls tell
 by_calls : (es : List Entry) → list_any (λ e. is_hangup e.command) es
@@ -58,15 +45,15 @@ by_calls (e ∷ es) = ap (λ (b : Bool). is_hangup e.command || b) (by_calls es)
 quiet : TellsOfNone → LeavesNone → (t r : Transcript) → IsReplayOf t r → least_of_transcript t ≡ V1
     → least_of_transcript r ≡ V1
 quiet tells leaves t r h least =
-    let p = neither (are_more_drivers t.drivers) _ (not_needed _ least) in
-    let q = neither (list_any is_of_hangup t.entries) _ p.1 in
+    let p = or_parts (are_more_drivers t.drivers) _ (is_first _ least) in
+    let q = or_parts (list_any is_of_hangup t.entries) _ p.1 in
     let none : list_any (λ e. is_hangup e.command) r.entries ≡ false =
     by_calls r.entries ∙ ap (list_any (λ (call : ℕ × Command). is_hangup call.1)) h.calls ∙ sym (by_calls t.entries)
     ∙ no_command t.entries q.0 in
     let hung : (after t.drivers r.entries).hungs ≡ [] = leaves t.drivers r.entries none in
     let few : are_more_drivers r.drivers ≡ false = ap are_more_drivers h.drivers ∙ p.0 in
     let shown : nat_lt 0 (length r.view.hungs) ≡ false = rw (h.shown, hung) refl in
-    ap version_2_where (nor _ _ few (nor _ _ (tells t.drivers r.entries h.legal none) shown))
+    ap version_2_where (or_from _ _ few (or_from _ _ (tells t.drivers r.entries h.legal none) shown))
 
 -- so it is within the limits of its version
 pub can_be_told : TellsOfNone → LeavesNone → (t r : Transcript) → IsAllowed t.version t → IsReplayOf t r → IsSpellable r

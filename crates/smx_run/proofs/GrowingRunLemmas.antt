@@ -4,22 +4,19 @@ use Rattle.std.proofs.Common.{Err, sym, ap, subst, ◌∙◌, append_assoc, arit
 use Rattle.std.proofs.Math.ListN.{set}
 use lib.ListN.{length-set}
 use Rattle.std.proofs.lemmas.List.{append-nil, map-append}
-use Rattle.std.specs.Prelude.{false, IfOk, IfErr, OnOk}
+use Rattle.std.specs.Prelude.{false, OnOk}
 use Rattle.std.specs.Result.{is_err}
 use Rattle.smx_types.specs.ProgramLists.{ProgramLists}
 use Rattle.smx_types.specs.declared.command.Command.{Command}
 use Rattle.smx_types.specs.declared.command.Entry.{Entry}
 use Rattle.smx_types.specs.declared.driver.DriverSpec.{DriverSpec}
 use Rattle.smx_types.specs.declared.version.Version.{Version}
-use Rattle.smx_model.specs.DriverList.{IsDriverList}
 use Rattle.smx_config.specs.Machine.{Machine}
 use Rattle.smx_run.specs.Recordings.{HasRecorded, PerformedRecording}
 use Rattle.smx_run.specs.GrowingRuns.{IsRecordingOf}
 use Rattle.smx_types.specs.GrowingPrograms.{with_command, with_program}
 use Rattle.smx_run.specs.ProgramOrder.{calls_of, calls_from}
-use Rattle.smx_run.specs.RunFaults.{RefusesAlone}
 use Rattle.smx_run.specs.declared.recording.Recording.{Recording}
-use Rattle.smx_run.specs.declared.run_fault.RunFault.{RunFault}
 use Rattle.smx_run.proofs.RunLemmas.{calls_more}
 
 -- what is asked by one command more of the last program, that of process p

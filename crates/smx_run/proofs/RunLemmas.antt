@@ -1,9 +1,7 @@
 -- What the workers have made, and how far each of them saw the history.
-use Rattle.std.proofs.Common.{◌≡◌, ◌≢◌, ℕ, zero, suc, ◌+◌, ◌<◌, ◌≤◌, false, List, [], ◌∷◌, ◌++◌, All, length, map}
+use Rattle.std.proofs.Common.{◌≡◌, ◌≢◌, ℕ, zero, suc, ◌+◌, ◌<◌, ◌≤◌, List, [], ◌∷◌, ◌++◌, All, length, map}
 use Rattle.std.proofs.Common.{get_or, refl, ap, sym, subst, ◌∙◌, arith, inl, inr, append_assoc}
-use Rattle.std.specs.Prelude.{◌==◌}
 use Rattle.std.proofs.lemmas.Bool.{cases_lt}
-use Rattle.std.proofs.lemmas.Bool.Decides.{nat_tests}
 use Rattle.std.proofs.lemmas.List.{append-nil, map-append, get_or_past}
 use Rattle.smx_types.specs.declared.command.Command.{Command}
 use Rattle.smx_types.specs.declared.command.Entry.{Entry}
@@ -12,7 +10,7 @@ use Rattle.smx_model.specs.Histories.{call_of, commands_of, HoldsPrograms}
 use Rattle.smx_shared.specs.Calls.{AddsEntry, HasSeenMore, EndsAs, Refuses}
 use Rattle.smx_shared.specs.Fronts.{IsFrontOf}
 use Rattle.smx_shared.specs.Recorded.{Recorded}
-use Rattle.smx_shared.specs.Seats.{Known, Seated, SharedId, AreNamedBelow, GoesOnNamed, IsBeginningOf, IsMetBy}
+use Rattle.smx_shared.specs.Seats.{Known, Seated, SharedId, GoesOnNamed, IsBeginningOf, IsMetBy}
 use Rattle.smx_shared.specs.Seats.{AreMetBy, entries_of, first_seat, met_seat}
 use Rattle.smx_shared.specs.declared.front.Front.{Front}
 use Rattle.smx_shared.specs.declared.shared_fault.ApplyFault.{ApplyFault}
@@ -23,6 +21,7 @@ use Rattle.smx_run.specs.Hands.{called, calls_in, known_at, HasCalled, IsFresh, 
 use Rattle.smx_run.specs.Meeting.{IsBorneOutBy}
 use Rattle.smx_run.specs.ProgramOrder.{Calls, calls_of, calls_from, numbered}
 use Rattle.smx_run.specs.declared.worker.EndedProgram.{EndedProgram}
+use Rattle.smx_shared.proofs.OwnEntryLemmas.{entries_none}
 use Rattle.smx_run.proofs.HandLemmas.{take_off}
 use Rattle.smx_run.proofs.ProgramOrderLemmas.{holds}
 
@@ -119,11 +118,6 @@ bears_out_next s old new others k is met =
     let now : AreMetBy s (met_seat k ∷ others ++ old) = subst (AreMetBy s) is met in
     (now.0, met_behind s others old now.1)
 
--- what is so of one, and of all others
-pub all_first : {A : Type 0} (P : A → Type 0) (xs : List A) (x : A) → P x → All P xs → All P (x ∷ xs)
-all_first P xs x here others zero d below = here
-all_first P xs x here others (suc k) d below = others k d (omega arith)
-
 -- what was taken of a list and what is left, with one more taken
 pub next_taken : {A : Type 0} (taken left rest all : List A) (x : A) → taken ++ left ≡ all → left ≡ x ∷ rest
     → (taken ++ x ∷ []) ++ rest ≡ all
@@ -141,10 +135,6 @@ pub map_behind : {A B : Type 0} (f : A → B) (base xs more : List B) (ys : List
 map_behind f base xs more ys y before added =
     added ∙ ap (λ l. l ++ f y ∷ []) before ∙ append_assoc base (map f ys) (f y ∷ [])
     ∙ ap (λ l. base ++ l) (sym (map-append f ys (y ∷ [])))
-
--- a process that has made nothing since has called nothing
-pub called_none : (a : Known) → HasCalled a [] a
-called_none a = record { process = refl; calls = sym (append-nil (calls_in a.own)) }
 
 -- what was called with a seat, and one command more
 pub called_more : (a b c : Known) (commands : List Command) (command : Command) → HasCalled a commands b
@@ -172,14 +162,6 @@ called_same a b c commands was more same =
 
 -- ---- the whole history
 
--- a process that is not among those named has no entries
-none_named : (n p : ℕ) (es : List Entry) → AreNamedBelow n es → n ≤ p → entries_of p es ≡ []
-none_named n p [] below past = refl
-none_named n p (e ∷ es) below past =
-    let lt : e.process < n = below.0 in
-    let other : (e.process == p) ≡ false = grind (arith, nat_tests) in
-    rw other (none_named n p es below.1 past)
-
 -- each program is held by a history that bears out all who have ended
 holds_at : (s : Recorded) (k n p : ℕ) (ended : List (EndedProgram Seated)) (programs : List (List Command))
     → map (called known_at) ended ≡ numbered n programs → All (IsBorneOutBy s) ended → k < length programs
@@ -203,7 +185,7 @@ holds_all s ended programs is borne named p = elim (cases_lt p (length programs)
   | inl below ↦ holds_at s p 0 p ended programs is borne below (omega arith)
   | inr past ↦
       let none : entries_of p s.history ≡ [] = ap (entries_of p) (sym named.1)
-      ∙ none_named (length programs) p named.0 named.2 past in
+      ∙ entries_none (length programs) p named.0 named.2 past in
       ap (map (λ (e : Entry). e.command)) none ∙ sym (get_or_past programs p [] past)
 ]
 

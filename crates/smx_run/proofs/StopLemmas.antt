@@ -3,7 +3,7 @@
 use Rattle.std.proofs.Common.{◌≡◌, ◌≢◌, ℕ, ◌+◌, ◌<◌, List, [], ◌∷◌, ◌++◌, length, map, refl, sym, ap, ◌∙◌, arith}
 use Rattle.std.proofs.Common.{append_assoc, Result, Ok, Err}
 use Rattle.std.specs.Prelude.{OnErr}
-use Rattle.std.proofs.lemmas.List.{append-nil, length-append, length-map, map-append}
+use Rattle.std.proofs.lemmas.List.{length-append, length-map, map-append}
 use Rattle.std.specs.List.{sum_by}
 use Rattle.smx_types.specs.declared.command.Command.{Command}
 use Rattle.smx_types.specs.declared.command.Entry.{Entry}
@@ -20,15 +20,6 @@ use Rattle.smx_run.proofs.RunLemmas.{map_behind}
 pub on_err : {T E : Type 0} (result : Result T E) (P : Type 0) → P → OnErr result P
 on_err (Ok value) P h = tt
 on_err (Err fault) P h = h
-
--- no command changes nothing
-pub alone_none : (process : ℕ) (a : Recorded) → PerformedAlone process a [] a
-alone_none process a = record {
-  drivers = refl;
-  limit = refl;
-  begins = ([], append-nil a.history);
-  calls = sym (append-nil (map call_of a.history));
-}
 
 -- these commands, and then one more
 pub alone_more : (process : ℕ) (a b c : Recorded) (commands : List Command) (command : Command)
@@ -60,22 +51,24 @@ calls_apart n (cs ∷ programs) later =
     ∙ sym (append_assoc (calls_of n cs) (calls_from (n + 1) programs) (calls_from (n + length (cs ∷ programs)) later))
 
 -- what was asked where one program stopped, and the next command is the first that is left
-pub left_of : (asked : List (ℕ × Command)) (p : ℕ) (programs before later : List (List Command))
-    (commands done left : List Command) (next : Command)
-    → before ++ commands ∷ later ≡ programs → done ++ next ∷ left ≡ commands → p ≡ 0 + length before
-    → asked ≡ calls_from 0 before ++ calls_of p done
+pub left_of : {asked was : List (ℕ × Command)} {p : ℕ} {programs behind later : List (List Command)}
+    {commands : List Command} (before : List (List Command)) (done left : List Command) (next : Command)
+    → before ++ behind ≡ programs → behind ≡ commands ∷ later → done ++ next ∷ left ≡ commands
+    → p ≡ 0 + length before → was ≡ calls_from 0 before → asked ≡ was ++ calls_of p done
     → (rest : List (ℕ × Command)) × (asked ++ (p, next) ∷ rest ≡ calls_from 0 programs)
-left_of asked p programs before later commands done left next all some number is =
+left_of {p = p} {programs} {later = later} {commands} before done left next all goes some number calls is =
     let rest : List (ℕ × Command) = calls_of p left ++ calls_from (p + 1) later in
     let here : calls_of p commands ≡ calls_of p done ++ ((p, next) ∷ calls_of p left) =
     ap (calls_of p) (sym some) ∙ map-append (λ (c : Command). (p, c)) done (next ∷ left) in
     let whole : calls_from 0 programs ≡ calls_from 0 before ++ (calls_of p commands ++ calls_from (p + 1) later) =
-    ap (calls_from 0) (sym all) ∙ calls_apart 0 before (commands ∷ later) ∙ rw number refl in
+    ap (calls_from 0) (sym all ∙ ap (λ (ps : List (List Command)). before ++ ps) goes)
+    ∙ calls_apart 0 before (commands ∷ later) ∙ rw number refl in
     let split : calls_of p commands ++ calls_from (p + 1) later ≡ calls_of p done ++ ((p, next) ∷ rest) =
     ap (λ (l : List (ℕ × Command)). l ++ calls_from (p + 1) later) here
     ∙ append_assoc (calls_of p done) ((p, next) ∷ calls_of p left) (calls_from (p + 1) later) in (
       rest,
-      ap (λ (l : List (ℕ × Command)). l ++ (p, next) ∷ rest) is
+      ap (λ (l : List (ℕ × Command)). l ++ (p, next) ∷ rest)
+          (is ∙ ap (λ (l : List (ℕ × Command)). l ++ calls_of p done) calls)
           ∙ append_assoc (calls_from 0 before) (calls_of p done) ((p, next) ∷ rest)
           ∙ ap (λ (l : List (ℕ × Command)). calls_from 0 before ++ l) (sym split) ∙ sym whole,
     )

@@ -33,7 +33,7 @@ pub entries_other : (p : ℕ) (e : Entry) → e.process ≢ p → entries_of p (
 entries_other p e is = ap (λ (b : Bool). cond b (e ∷ []) []) (ne_eqb e.process p is)
 
 -- a process that is not named yet has no entries where all are of named ones
-entries_none : (n p : ℕ) (more : List Entry) → AreNamedBelow n more → n ≤ p → entries_of p more ≡ []
+pub entries_none : (n p : ℕ) (more : List Entry) → AreNamedBelow n more → n ≤ p → entries_of p more ≡ []
 entries_none n p [] below le = refl
 entries_none n p (e ∷ es) below le =
     let lt : e.process < n = below.0 in

@@ -1,5 +1,5 @@
 -- A system stays sound under one entry more.
-use Rattle.std.proofs.Common.{◌≡◌, ℕ, ◌<◌, ◌≤◌, List, [], ◌∷◌, ◌++◌, length, arith, refl, sym, ap, ◌∙◌}
+use Rattle.std.proofs.Common.{◌≡◌, ℕ, ◌<◌, ◌≤◌, List, [], ◌∷◌, ◌++◌, length, arith, sym, ap, ◌∙◌}
 use Rattle.std.proofs.lemmas.List.{length-append}
 use Rattle.smx_types.specs.declared.command.Entry.{Entry}
 use Rattle.smx_types.specs.declared.driver.DriverSpec.{DriverSpec}
@@ -8,23 +8,11 @@ use Rattle.smx_types.specs.declared.limits.TheConstants.{MAX_COMMANDS}
 use Rattle.smx_model.specs.Commands.{step}
 use Rattle.smx_model.specs.Configuration.{Configuration, empty}
 use Rattle.smx_model.specs.DriverList.{IsDriverList}
-use Rattle.smx_model.specs.Histories.{IsLegal, IsLegalFrom, after, after_from}
+use Rattle.smx_model.specs.Histories.{IsLegal, after}
 use Rattle.smx_model.specs.LawfulHistories.{IsLawfulThroughout}
+use Rattle.smx_model.proofs.HistoryLemmas.{after_push, legal_push}
 use Rattle.smx_config.specs.Machine.{Machine}
 use Rattle.smx_shared.specs.Recorded.{IsRecord}
-
--- after a history with one entry more, the configuration is one step further
-after_push : (drivers : List DriverSpec) (c : Configuration) (es : List Entry) (e : Entry) →
-    after_from drivers c (es ++ e ∷ []) ≡ (step drivers (after_from drivers c es) e.process e.command).0
-after_push drivers c [] e = refl
-after_push drivers c (d ∷ es) e = after_push drivers (step drivers c d.process d.command).0 es e
-
--- an entry with the reply of its command may follow
-legal_push : (drivers : List DriverSpec) (c : Configuration) (es : List Entry) (e : Entry) →
-    IsLegalFrom drivers c es → (step drivers (after_from drivers c es) e.process e.command).1 ≡ e.reply →
-    IsLegalFrom drivers c (es ++ e ∷ [])
-legal_push drivers c [] e h r = (r, tt)
-legal_push drivers c (d ∷ es) e h r = (h.0, legal_push drivers (step drivers c d.process d.command).0 es e h.1 r)
 
 -- what the law of lawful histories says
 abbrev LegalIsLawful : Type 0
@@ -55,7 +43,7 @@ one_entry_more lawful m new limit es more e h room same did added =
     let now : step m.drivers (after m.drivers es) e.process e.command ≡ (new.configuration, e.reply) =
     ap (λ (c : Configuration). step m.drivers c e.process e.command) (sym h.now) ∙ did in
     let reply = ap (λ (x : Configuration × Reply). x.1) now in
-    let legal : IsLegal m.drivers (es ++ e ∷ []) = legal_push m.drivers empty es e h.sound.legal reply in
+    let legal : IsLegal m.drivers (es ++ e ∷ []) = legal_push m.drivers es e h.sound.legal reply in
     rw (added, same) (record {
       sound = record {
         can_be_had = h.sound.can_be_had;
@@ -64,5 +52,5 @@ one_entry_more lawful m new limit es more e h room same did added =
         legal = legal;
         lawful = lawful m.drivers (es ++ e ∷ []) legal;
       };
-      now = sym (after_push m.drivers empty es e ∙ ap (λ (x : Configuration × Reply). x.0) now);
+      now = sym (after_push m.drivers es e ∙ ap (λ (x : Configuration × Reply). x.0) now);
     })

@@ -1,16 +1,11 @@
 -- Which version is the first that can tell something.
-use Rattle.std.proofs.Common.{◌≡◌, ◌≤◌, Bool, true, false, ◌||◌, List, length, refl, arith}
+use Rattle.std.proofs.Common.{◌≡◌, ◌≤◌, Bool, true, false, List, length, refl, arith}
 use Rattle.std.proofs.lemmas.Bool.{false_from_ne_true, ltb-true}
 use Rattle.std.proofs.lemmas.Bool.Decides.{nat_tests}
 use Rattle.smx_types.specs.Versions.{are_more_drivers, most_drivers, version_2_where}
 use Rattle.smx_types.specs.declared.driver.DriverSpec.{DriverSpec}
 use Rattle.smx_types.specs.declared.limits.TheConstants.{MAX_DRIVERS_OF_VERSION_1}
 use Rattle.smx_types.specs.declared.version.Version.TheVariants.{V1}
-
--- version 1 can where no reason for version 2 holds
-pub neither : (a b : Bool) → (a || b) ≡ false → (a ≡ false) × (b ≡ false)
-neither true b h = absurd cc
-neither false b h = (refl, h)
 
 -- where version 1 is the first that can tell something, no reason for version 2 holds
 pub is_first : (b : Bool) → version_2_where b ≡ V1 → b ≡ false

@@ -134,8 +134,6 @@ counts v = record {
 }
 
 -- the line `end` is none of them
-
--- the line `end` is none of them
 pub end_is_last : (v : ProgramLists) (lines more : List Line) → body v ≡ lines ++ line.End ∷ more → ⊥
 end_is_last v lines more e =
     let c = counts v in

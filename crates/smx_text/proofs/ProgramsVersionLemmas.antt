@@ -1,6 +1,7 @@
 -- What a version can tell of programs, as a whole and line by line.
 use Rattle.std.proofs.Common.{◌≡◌, ℕ, ◌+◌, ◌≤◌, false, List, [], ◌∷◌, ◌++◌, length, map, refl}
 use Rattle.std.specs.List.{AllByRecursion, list_any}
+use Rattle.std.proofs.lemmas.Bool.{or_parts}
 use Rattle.smx_types.specs.ProgramLists.{ProgramLists}
 use Rattle.smx_types.specs.Versions.{are_more_drivers, is_hangup, least_of_programs, most_drivers}
 use Rattle.smx_types.specs.declared.command.Command.{Command}
@@ -11,7 +12,7 @@ use Rattle.smx_types.specs.declared.version.Version.TheVariants.{V1, V2}
 use Rattle.smx_text.specs.ProgramLines.{Line}
 use Rattle.smx_text.specs.ProgramLines as line
 use Rattle.smx_text.specs.ProgramsText.{FitsLine, IsAllowed, program_lines}
-use Rattle.smx_text.proofs.LeastVersionLemmas.{few_drivers, is_first, neither, not_more}
+use Rattle.smx_text.proofs.LeastVersionLemmas.{few_drivers, is_first, not_more}
 
 -- ---- what version 1 tells line by line needs no later one
 
@@ -50,14 +51,14 @@ first_commands : (cs : List Command) (rest : List Line) → list_any is_hangup c
     → AllByRecursion (FitsLine V1) (map line.Command cs ++ rest)
 first_commands [] rest none h more = more h
 first_commands (c ∷ cs) rest none h more =
-    let both = neither (is_hangup c) (list_any is_hangup cs) none in
+    let both = or_parts (is_hangup c) (list_any is_hangup cs) none in
     ((h.0.0, both.0), first_commands cs rest both.1 h.1 more)
 
 first_programs : (n : ℕ) (ps : List (List Command)) → list_any (list_any is_hangup) ps ≡ false
     → AllByRecursion (FitsLine V2) (program_lines n ps) → AllByRecursion (FitsLine V1) (program_lines n ps)
 first_programs n [] none h = tt
 first_programs n (p ∷ ps) none h =
-    let both = neither (list_any is_hangup p) (list_any (list_any is_hangup) ps) none in
+    let both = or_parts (list_any is_hangup p) (list_any (list_any is_hangup) ps) none in
     (h.0, first_commands p (program_lines (n + 1) ps) both.0 h.1 (first_programs (n + 1) ps both.1))
 
 -- lines of programs that fit version 2 fit any version that is not before the least one of the programs
@@ -65,7 +66,7 @@ pub programs_fit : (version : Version) (v : ProgramLists) → (version ≡ V1 �
     → AllByRecursion (FitsLine V2) (program_lines 0 v.programs)
     → AllByRecursion (FitsLine version) (program_lines 0 v.programs)
 programs_fit V1 v told h =
-    let both = neither (are_more_drivers v.drivers) (list_any (list_any is_hangup) v.programs)
+    let both = or_parts (are_more_drivers v.drivers) (list_any (list_any is_hangup) v.programs)
     (is_first _ (told refl)) in
     first_programs 0 v.programs both.1 h
 programs_fit V2 v told h = h
@@ -74,7 +75,7 @@ programs_fit V2 v told h = h
 pub drivers_few : (version : Version) (v : ProgramLists) → (version ≡ V1 → least_of_programs v.drivers v.programs ≡ V1)
     → length v.drivers ≤ MAX_DRIVERS → length v.drivers ≤ most_drivers version
 drivers_few V1 v told few =
-    let both = neither (are_more_drivers v.drivers) (list_any (list_any is_hangup) v.programs)
+    let both = or_parts (are_more_drivers v.drivers) (list_any (list_any is_hangup) v.programs)
     (is_first _ (told refl)) in
     not_more v.drivers both.0
 drivers_few V2 v told few = few

@@ -5,6 +5,7 @@ use Rattle.std.specs.List.{AllByRecursion}
 use Rattle.std.specs.Prelude.{◌⊎◌}
 use Rattle.std.proofs.lemmas.Bool.Decides.{nat_tests}
 use Rattle.std.proofs.lemmas.List.{length-append}
+use Rattle.std.proofs.lemmas.Option.{same_Some}
 use Rattle.smx_types.specs.Versions.{most_drivers}
 use Rattle.smx_types.specs.declared.transcript.Transcript.{Transcript}
 use Rattle.smx_types.specs.declared.version.Version.{Version}
@@ -114,9 +115,6 @@ bind_some : {A B : Type 0} (f : A → Option B) (o : Option A) (x : A) (y : B) �
     → f x ≡ Some y
 bind_some f o x y e h = rw e at h
 
-some_is : {A : Type 0} (x y : A) → Some x ≡ Some y → x ≡ y
-some_is x y e = cc e
-
 -- the same in another version, whose lines are the same
 abbrev pub of_version : Version → Transcript → Transcript
 of_version version t = record t { version = version }
@@ -139,7 +137,7 @@ may_takes version ls d k t led (more, e) =
     let u = of_version version t in
     elim (split_end (body t) ls more k e) [
       | inl (is, all) ↦ let same : d ≡ draft stage.View u =
-          some_is d (draft stage.View u) (sym led ∙ ap (run (new_draft version)) all ∙ run_body u) in rw (is, same) refl
+          same_Some d _ (sym led ∙ ap (run (new_draft version)) all ∙ run_body u) in rw (is, same) refl
       | inr (rest, all) ↦ (taken d (draft stage.View u) k rest (rest_leads version t ls (k ∷ rest) d led all)).0
     ]
 

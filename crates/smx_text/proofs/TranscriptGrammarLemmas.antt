@@ -4,11 +4,10 @@ use Rattle.std.proofs.Common.{[], ◌∷◌, refl, sym, ap, subst, ◌∙◌, ar
 use Rattle.std.specs.Fmt.{decimal}
 use Rattle.std.specs.Prelude.{codes, OnOk, IfErr, if◌then◌else◌}
 use Rattle.std.specs.Str.{bytes_eq, all_ascii_digits}
+use Rattle.std.proofs.lemmas.Bool.{false_from_ne_true}
 use Rattle.std.proofs.lemmas.Bool.Decides.{nat_tests}
 use Rattle.std.proofs.lemmas.Fmt.{digits_decimal}
 use Rattle.std.proofs.lemmas.Slice.Eq.{bytes_eq-Decides}
-use Rattle.std.proofs.lemmas.Str.Parse.{IsNumeralModel, numerals_by_value, tells_all_ascii_digits}
-use Rattle.std.specs.Str.Parse.{digits_value}
 use Rattle.smx_types.specs.declared.command.Entry.{Entry}
 use Rattle.smx_types.specs.declared.driver.DriverSpec.{DriverSpec}
 use Rattle.smx_types.specs.declared.transcript.Transcript.{Transcript}
@@ -46,6 +45,7 @@ use Rattle.smx_text.proofs.TranscriptWholeLemmas.{fits_body}
 use Rattle.smx_text.proofs.VersionLemmas.{AreVersions}
 use Rattle.smx_text.proofs.LineWordLemmas.{one_spelling, first_word, end_spelled, config_spelled, one_line_of, differ}
 use Rattle.smx_words.specs.Words.{AreWords}
+use Rattle.smx_words.proofs.NumberLemmas.{own}
 use Rattle.smx_words.proofs.LawLemmas.{driver_spelled, entry_spelled, next_spelled, descriptor_spelled}
 use Rattle.smx_words.proofs.LawLemmas.{link_spelled, bind_spelled, route_spelled, message_spelled}
 use Rattle.smx_words.proofs.LawLemmas.{full_spelled, hung_spelled}
@@ -80,17 +80,10 @@ kind_of (line.Full f) = 9
 kind_of (line.Hung h) = 10
 kind_of line.End = 11
 
-own : IsNumeralModel (λ ds. all_ascii_digits ds ≡ true) (digits_value 10)
-own = numerals_by_value _ tells_all_ascii_digits
-
-is_false : (b : Bool) → (b ≡ true → ⊥) → b ≡ false
-is_false true h = absurd (h refl)
-is_false false h = refl
-
 -- digits are no word that begins with a letter
 no_digits : (w : List ℕ) (c : ℕ) (cs : List ℕ) → all_ascii_digits w ≡ true → 57 < c → bytes_eq w (c ∷ cs) ≡ false
 no_digits w c cs digits letter =
-    is_false (bytes_eq w (c ∷ cs)) (λ is. differ ((bytes_eq-Decides w (c ∷ cs)).0 is)) where
+    false_from_ne_true (bytes_eq w (c ∷ cs)) (λ is. differ ((bytes_eq-Decides w (c ∷ cs)).0 is)) where
       differ : w ≡ c ∷ cs → ⊥
       differ e = let all : all_ascii_digits (c ∷ cs) ≡ true =
           subst (λ (xs : List ℕ). all_ascii_digits xs ≡ true) e digits in let low : c ≤ 57 =

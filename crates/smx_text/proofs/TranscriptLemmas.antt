@@ -21,7 +21,7 @@ use Rattle.smx_text.proofs.EachLemmas.{all_left}
 use Rattle.smx_text.proofs.TranscriptDrafts.{◌>>=◌, new_view, new_draft, takes, is_full, with_line, with_view}
 use Rattle.smx_text.proofs.TranscriptDraftLemmas.{draft, not_end, lines_more, run, run_append, run_lines}
 use Rattle.smx_text.proofs.TranscriptDraftLemmas.{run_drivers, run_entries, run_body}
-use Rattle.smx_text.proofs.TranscriptWholeLemmas.{completes, still, IsWithin, fits_body, allowed}
+use Rattle.smx_text.proofs.TranscriptWholeLemmas.{completes, still, IsWithin, fits_body, allowed, nothing_fits}
 use Rattle.smx_text.proofs.TranscriptFollowLemmas.{run_grows, within_before, of_version, rest_leads, may_takes}
 use Rattle.smx_text.proofs.TranscriptFollowLemmas.{full_stops, next_of, takes_may, next_allowed}
 
@@ -221,22 +221,7 @@ nothing_begun version = (
     version_is = refl;
     drivers = omega arith;
     entries = omega arith;
-    spellable =
-        record {
-          drivers = tt;
-          entries = tt;
-          view = record {
-            next_id = omega arith;
-            next_serial = omega arith;
-            fds = tt;
-            links = tt;
-            binds = tt;
-            routes = tt;
-            msgs = tt;
-            fulls = tt;
-            hungs = tt;
-          };
-        };
+    spellable = record { drivers = tt; entries = tt; view = nothing_fits };
     told = λ first. refl;
   },
   refl,

@@ -1,6 +1,7 @@
 -- What a version can tell of a transcript, as a whole and line by line.
 use Rattle.std.proofs.Common.{◌≡◌, ◌≤◌, true, false, nat_lt, List, [], ◌∷◌, length, refl, arith}
 use Rattle.std.specs.List.{AllByRecursion, list_any}
+use Rattle.std.proofs.lemmas.Bool.{or_parts}
 use Rattle.std.proofs.lemmas.Bool.Decides.{nat_tests}
 use Rattle.smx_types.specs.Versions.{are_more_drivers, is_of_hangup, least_of_transcript, most_drivers}
 use Rattle.smx_types.specs.declared.command.Entry.{Entry}
@@ -9,7 +10,7 @@ use Rattle.smx_types.specs.declared.version.Version.{Version}
 use Rattle.smx_types.specs.declared.version.Version.TheVariants.{V1, V2}
 use Rattle.smx_types.specs.declared.view.HungLine.{HungLine}
 use Rattle.smx_words.specs.Spellable.{CanTell}
-use Rattle.smx_text.proofs.LeastVersionLemmas.{few_drivers, is_first, neither}
+use Rattle.smx_text.proofs.LeastVersionLemmas.{few_drivers, is_first}
 
 -- each entry can be told
 abbrev pub AreToldEntries : Version → List Entry → Type 0
@@ -33,7 +34,7 @@ each_hung (h ∷ hs) = (tt, each_hung hs)
 none_of_hangup : (es : List Entry) → list_any is_of_hangup es ≡ false → AreToldEntries V1 es
 none_of_hangup [] h = tt
 none_of_hangup (e ∷ es) h =
-    let both = neither (is_of_hangup e) (list_any is_of_hangup es) h in
+    let both = or_parts (is_of_hangup e) (list_any is_of_hangup es) h in
     (both.0, none_of_hangup es both.1)
 
 none_hung : (hs : List HungLine) → nat_lt 0 (length hs) ≡ false → AreToldHungs V1 hs
@@ -44,16 +45,16 @@ none_hung (x ∷ hs) h = let some : nat_lt 0 (length (x ∷ hs)) ≡ true = grin
 pub told_entries : (version : Version) (t : Transcript) → (version ≡ V1 → least_of_transcript t ≡ V1)
     → AreToldEntries version t.entries
 told_entries V1 t told =
-    let two = neither (are_more_drivers t.drivers) _ (is_first _ (told refl)) in
-    none_of_hangup t.entries (neither (list_any is_of_hangup t.entries) _ two.1).0
+    let two = or_parts (are_more_drivers t.drivers) _ (is_first _ (told refl)) in
+    none_of_hangup t.entries (or_parts (list_any is_of_hangup t.entries) _ two.1).0
 told_entries V2 t told = each_entry t.entries
 
 -- a version that is not before the least one of a transcript can tell its hung-up streams
 pub told_hungs : (version : Version) (t : Transcript) → (version ≡ V1 → least_of_transcript t ≡ V1)
     → AreToldHungs version t.view.hungs
 told_hungs V1 t told =
-    let two = neither (are_more_drivers t.drivers) _ (is_first _ (told refl)) in
-    none_hung t.view.hungs (neither (list_any is_of_hangup t.entries) _ two.1).1
+    let two = or_parts (are_more_drivers t.drivers) _ (is_first _ (told refl)) in
+    none_hung t.view.hungs (or_parts (list_any is_of_hangup t.entries) _ two.1).1
 told_hungs V2 t told = each_hung t.view.hungs
 
 -- ---- and what it can tell line by line needs no later one

@@ -107,7 +107,8 @@ module _ (version : Version) (t : Transcript) (allowed : IsAllowed version t) wh
       (all_append (FitsLine version) (map line.Entry t.entries) (line.Config ∷ view_body t.view) entries_of
       (tt, ((allowed.spellable.view.next_id, allowed.spellable.view.next_serial), fds_of)))
 
-nothing_fits : IsSpellableView (new_view 0 0)
+-- a view of nothing can be spelled
+pub nothing_fits : IsSpellableView (new_view 0 0)
 nothing_fits =
     record {
       next_id = omega arith;

@@ -1,10 +1,11 @@
 use Rattle.std.proofs.Common.{rules, ◌≡◌, ◌∷◌, [], All, length, refl, subst, sym, ap, arith, ◌∙◌}
 use Rattle.std.proofs.lemmas.List.{append-nil, length-append}
+use Rattle.std.proofs.lemmas.List.Elements.{All-cons}
 use Rattle.smx_shared.specs.Seats.{Seated}
 use Rattle.smx_run.specs.Meeting.{IsBorneOutBy}
 use Rattle.smx_run.specs.declared.worker.EndedProgram.{EndedProgram}
 use Rattle.smx_run.proofs.HandLemmas.{all_more, first_then_rest}
-use Rattle.smx_run.proofs.RunLemmas.{still_more, bears_out_first, bears_out_next, all_first, map_behind, next_taken}
+use Rattle.smx_run.proofs.RunLemmas.{still_more, bears_out_first, bears_out_next, map_behind, next_taken}
 use Rattle.smx_run.proofs.RunLemmas.{all_taken_off}
 use Rattle.smx_run.proofs.meeting.meet_all.Goals as goal
 
@@ -45,7 +46,7 @@ returns-clause-met g c s ends =
     ∷ c.remove-first.new.self.items = first_then_rest _ _ _ removed.value removed.items (search rules) in
     let rest = all_taken_off _ _ _ end.rest (omega (arith, end.left, c.in-None.ensures.steps.0)) ∙ sym removed.items in
     subst (All (IsBorneOutBy s)) (sym whole)
-    (all_first (IsBorneOutBy s) _ _ (bears_out_first _ _ _ s end.known ends)
+    (All-cons (IsBorneOutBy s) _ _ (bears_out_first _ _ _ s end.known ends)
     (subst (All (IsBorneOutBy s)) rest (end.others s ends.others)))
 
 pub push_reserved-requires-in-loop-done : goal.push_reserved-requires-in-loop-done

@@ -4,7 +4,7 @@ use Rattle.std.proofs.lemmas.List.{length-append}
 use Rattle.smx_types.specs.declared.command.Command.{Command}
 use Rattle.smx_run.specs.Alone.{PerformedAlone, StopsAmong}
 use Rattle.smx_run.proofs.RunLemmas.{next_taken}
-use Rattle.smx_run.proofs.StopLemmas.{alone_more, alone_none, on_err}
+use Rattle.smx_run.proofs.StopLemmas.{alone_more, on_err}
 use Rattle.smx_run.proofs.run.append_all.Goals as goal
 
 pub returns-in_err-outcome-clause-stops : goal.returns-in_err-outcome-clause-stops

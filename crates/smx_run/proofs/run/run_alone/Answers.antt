@@ -54,35 +54,22 @@ returns-in_err-fronts-clause-stops g c =
 pub returns-in_err-append_all-clause-stops : goal.returns-in_err-append_all-clause-stops
 returns-in_err-append_all-clause-stops g c =
     let before = c.loop-commands.invariant in
-    let yielded = c.loop-commands.yielded in
     let did = c.in_err-append_all.ensures.stops in
-    let p : ℕ = c.unwrap.result in
-    let number : p ≡ 0 + length yielded = search rules in
-    let all = ap (λ (programs : List (List Command)). yielded ++ programs) (sym c.in-Some.ensures.steps.0)
-    ∙ before.all in
-    let calls = did.came.calls ∙ ap (λ (cs : List (ℕ × Command)). cs ++ calls_of p did.done) before.calls in
-    let left = left_of (map call_of c.append_all.new.system.history) p c.args.programs yielded
-    (into_iter_items c.next.new.self) c.in-Some.commands did.done did.left did.next all did.all number calls in
-    let begins : BeginsCalls (map call_of c.append_all.new.system.history) 0 c.args.programs = (
-      (p, did.next)
-          ∷ left.0,
-      left.1,
-    ) in
+    let number : c.unwrap.result ≡ 0 + length c.loop-commands.yielded = search rules in
+    let left = left_of c.loop-commands.yielded did.done did.left did.next before.all c.in-Some.ensures.steps.0 did.all
+    number before.calls did.came.calls in
+    let begins : BeginsCalls (map call_of c.append_all.new.system.history) 0 c.args.programs =
+    ((c.unwrap.result, did.next) ∷ left.0, left.1) in
     on_err _ _ begins
 
 pub returns-in_err-append_all-clause-refused : goal.returns-in_err-append_all-clause-refused
 returns-in_err-append_all-clause-refused g c =
     let before = c.loop-commands.invariant in
-    let yielded = c.loop-commands.yielded in
     let did = c.in_err-append_all.ensures.stops in
-    let p : ℕ = c.unwrap.result in
-    let number : p ≡ 0 + length yielded = search rules in
-    let all = ap (λ (programs : List (List Command)). yielded ++ programs) (sym c.in-Some.ensures.steps.0)
-    ∙ before.all in
-    let calls = did.came.calls ∙ ap (λ (cs : List (ℕ × Command)). cs ++ calls_of p did.done) before.calls in
-    let left = left_of (map call_of c.append_all.new.system.history) p c.args.programs yielded
-    (into_iter_items c.next.new.self) c.in-Some.commands did.done did.left did.next all did.all number calls in
-    let fewer = room_left c.append_all.new.system.history c.args.programs (p, did.next) left.0 left.1 in
+    let number : c.unwrap.result ≡ 0 + length c.loop-commands.yielded = search rules in
+    let left = left_of c.loop-commands.yielded did.done did.left did.next before.all c.in-Some.ensures.steps.0 did.all
+    number before.calls did.came.calls in
+    let fewer = room_left c.append_all.new.system.history c.args.programs (c.unwrap.result, did.next) left.0 left.1 in
     let room : c.append_all.new.system.limit ≡ c.args.system.now.limit = did.came.limit ∙ before.limit in
     let other : c.in_err-append_all.field-0.0 ≢ apply.HistoryFull = λ is.
     omega (arith, fewer, room, c.requires.room, c.in_err-append_all.ensures.full (ap Err is)) in

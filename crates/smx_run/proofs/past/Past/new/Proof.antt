@@ -1,5 +1,5 @@
 -- `new` makes a value of no bytes, whose ghost field is what its ghost clause names. Assumes `Logic`.
-use Rattle.std.proofs.Common.{ℕ, List, [], ◌∷◌, ◌++◌, refl}
+use Rattle.std.proofs.Common.{List, [], ◌∷◌, ◌++◌, refl}
 use seplogic.Ra.Ura.{Ura}
 use mir.Syntax.{Fn, Args, a_type}
 use mir.Val.{Val, vptr, vstruct, vcons, vnil}
@@ -30,7 +30,6 @@ use denote.Triple.Entry.{alive}
 use denote.Triple.Spec.{Meets, triple_of}
 use denote.Triple.Table.{entered}
 use denote.Triple.Walked.{says, Stays, stay_dropped, walk_of, ends_at, walk_Meets, Goes-dropped}
-use Rattle.smx_run.specs.contracts.past.Past as Past
 use Rattle.smx_run.specs.contracts.past.Past.new as F
 use Rattle.smx_run.specs.contracts.past.Past.new.Key.{name as #self}
 use Rattle.smx_run.proofs.past.Past.new.Statement as stated
