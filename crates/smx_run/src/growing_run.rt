@@ -7,7 +7,7 @@ ghost use Rattle.smx_types.specs.declared.limits.TheConstants.{MAX_PROCESSES};
 ghost use Rattle.smx_run.specs.GrowingRuns.{IsGrown, IsRecordingOf};
 ghost use Rattle.smx_run.specs.RecordedRuns.{IsRecordOf};
 ghost use Rattle.smx_run.specs.RunFaults.{RefusesAlone};
-ghost use Rattle.smx_run.specs.declared.growing_run.Stage.TheVariants as stage;
+ghost use Rattle.smx_run.specs.declared.growing_run.RunStage.TheVariants as stage;
 ghost use Rattle.smx_run.specs.declared.run_fault.RunFault.TheVariants as run;
 
 use crate::gate::Gate;
@@ -24,7 +24,7 @@ use std::mem::replace;
 
 // How far a run is.
 #[derive(Drop)]
-pub enum Stage<K: NewRecorder> {
+pub enum RunStage<K: NewRecorder> {
     // Drivers come. The recorder is to begin in the room.
     Gathering(Drivers, K::Room),
     // The commands of a process come.
@@ -40,7 +40,7 @@ pub enum Stage<K: NewRecorder> {
 pub struct GrowingRun<K: NewRecorder> {
     alloc: Global,
     version: Version,
-    stage: Stage<K>,
+    stage: RunStage<K>,
     processes: u32,
     // How many commands of the last process came.
     commands: usize,
@@ -66,7 +66,7 @@ impl<K: NewRecorder> GrowingRun<K> {
         GrowingRun {
             alloc,
             version,
-            stage: Stage::Gathering(Drivers::new(alloc), room),
+            stage: RunStage::Gathering(Drivers::new(alloc), room),
             processes: 0,
             commands: 0,
             came: Past::new(&version),
@@ -89,8 +89,8 @@ impl<K: NewRecorder> GrowingRun<K> {
     {
         let came = Past::new(&(&self.came, &driver));
         match &mut self.stage {
-            Stage::Gathering(drivers, _) => drivers.push(driver)?,
-            Stage::Running(_) | Stage::Failed(_) => unreachable!(),
+            RunStage::Gathering(drivers, _) => drivers.push(driver)?,
+            RunStage::Running(_) | RunStage::Failed(_) => unreachable!(),
         }
         self.came = came;
         Ok(())
@@ -103,7 +103,7 @@ impl<K: NewRecorder> GrowingRun<K> {
         ensures { self.new ≡ with_program self.old }
     {
         let process = Process::new(self.processes).unwrap();
-        let stage = replace(&mut self.stage, Stage::Failed(RunFault::NoMemory));
+        let stage = replace(&mut self.stage, RunStage::Failed(RunFault::NoMemory));
         self.stage = at_process(self.alloc, self.version, stage, process);
         self.processes += 1;
         self.commands = 0;
@@ -153,7 +153,7 @@ impl<K: NewRecorder> GrowingRun<K> {
     }
 }
 
-impl<K: NewRecorder> Stage<K> {
+impl<K: NewRecorder> RunStage<K> {
     // Has this command of a process performed, which has this number there, where nothing failed before.
     fn perform<G: Gate>(&mut self, gate: &G, number: usize, command: &Command, line: Option<&[u8]>)
         requires { IfSome line (λ l. K.spells l.now command.now) }
@@ -161,12 +161,12 @@ impl<K: NewRecorder> Stage<K> {
             → IsGrown K.told (with_command lists command.now) self.new }
     {
         match self {
-            Stage::Running(recording) => {
+            RunStage::Running(recording) => {
                 if recording.perform_at(gate, number, command, line).is_err() {
                     self.fail();
                 }
             }
-            Stage::Gathering(_, _) | Stage::Failed(_) => {}
+            RunStage::Gathering(_, _) | RunStage::Failed(_) => {}
         }
     }
 
@@ -175,7 +175,7 @@ impl<K: NewRecorder> Stage<K> {
     fn fail(&mut self)
         ensures { self.new ≡ stage.Failed run.NoMemory }
     {
-        *self = Stage::Failed(RunFault::NoMemory);
+        *self = RunStage::Failed(RunFault::NoMemory);
     }
 }
 
@@ -183,15 +183,15 @@ impl<K: NewRecorder> Stage<K> {
 fn at_process<K: NewRecorder>(
     alloc: Global,
     version: Version,
-    stage: Stage<K>,
+    stage: RunStage<K>,
     process: Process,
-) -> Stage<K>
+) -> RunStage<K>
     ensures { (lists : ProgramLists) → lists.version ≡ version → length lists.programs ≡ process
         → IsGrown K.told lists stage → IsGrown K.told (with_program lists) result }
 {
     match recording_of(alloc, version, stage) {
-        Ok(recording) => Stage::Running(recording.of_process(process)),
-        Err(fault) => Stage::Failed(fault),
+        Ok(recording) => RunStage::Running(recording.of_process(process)),
+        Err(fault) => RunStage::Failed(fault),
     }
 }
 
@@ -199,16 +199,16 @@ fn at_process<K: NewRecorder>(
 fn recording_of<K: NewRecorder>(
     alloc: Global,
     version: Version,
-    stage: Stage<K>,
+    stage: RunStage<K>,
 ) -> Result<Recording<K>, RunFault>
     ensures { (lists : ProgramLists) → lists.version ≡ version → IsGrown K.told lists stage
         → IfOk result (IsRecordingOf K.told lists) × IfErr result (RefusesAlone lists.drivers) }
 {
     match stage {
-        Stage::Gathering(drivers, room) => {
+        RunStage::Gathering(drivers, room) => {
             Recording::begin(alloc, version, drivers.as_slice(), room)
         }
-        Stage::Running(recording) => Ok(recording),
-        Stage::Failed(fault) => Err(fault),
+        RunStage::Running(recording) => Ok(recording),
+        RunStage::Failed(fault) => Err(fault),
     }
 }

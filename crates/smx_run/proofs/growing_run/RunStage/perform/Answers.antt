@@ -1,7 +1,7 @@
 use Rattle.std.proofs.Common.{sym, subst, ◌∙◌}
 use Rattle.smx_run.specs.GrowingRuns.{IsGrown}
 use Rattle.smx_run.proofs.GrowingRunLemmas.{performed, was_done}
-use Rattle.smx_run.proofs.growing_run.Stage.perform.Goals as goal
+use Rattle.smx_run.proofs.growing_run.RunStage.perform.Goals as goal
 
 pub returns-else-is_err : goal.returns-else-is_err
 returns-else-is_err g c = λ lists some grown.
