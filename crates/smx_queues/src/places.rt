@@ -14,8 +14,8 @@ use smx_types::{DriverSpec, NoMemory, Place, Side, StreamId};
 use std::alloc::Global;
 use std::marker::Model;
 
-/// The number of a driver's first place, and how many minors it has. That is all that a number is made of, so it is kept
-/// by itself, in few bytes.
+/// The number of a driver's first place, and how many minors it has: all that the number of a place is made of, in few
+/// bytes.
 #[derive(Clone, Copy, Debug)]
 pub struct DriverRow {
     pub first: usize,

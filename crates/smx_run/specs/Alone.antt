@@ -1,4 +1,5 @@
--- Where commands stop that are performed in order, and what becomes of those of a process at a system that nobody shares.
+-- Where commands stop that are performed in order, and what becomes of those of a process at a system that nobody
+-- shares.
 use Rattle.std.specs.Prelude.{◌≡◌, ℕ, List, ◌∷◌, ◌++◌, map}
 use Rattle.smx_types.specs.declared.command.Command.{Command}
 use Rattle.smx_model.specs.Histories.{call_of}

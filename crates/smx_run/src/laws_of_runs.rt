@@ -80,8 +80,8 @@ pub fn stops_of_an_example()
     ensures not_behind_another { StopsAmong KeepsBehind [] (OpenClone ip ∷ Dup 0 ∷ []) (Dup 0 ∷ []) → ⊥ }
 {}
 
-/// Between two moments a process has called the commands of the entries that were made with its seat in between, in their
-/// order: no fewer, no other, and none for an entry that was only seen. The process is the same.
+/// Between two moments a process has called the commands of the entries that were made with its seat in between, in
+/// their order: no fewer, no other, and none for an entry that was only seen. The process is the same.
 pub fn what_a_process_has_called()
     ensures one { HasCalled (knows 0 0 9) (OpenClone ip ∷ []) (knows 0 1 9) }
     ensures none { HasCalled (knows 1 0 9) [] (knows 1 1 9) }

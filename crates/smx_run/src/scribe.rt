@@ -30,8 +30,8 @@ impl About for Brand {
 }
 
 /// A recorder that is told of each entry as it is added; then the entry is given up. Where the recorder wants memory,
-/// that is given up too, and memory is wanting before the next command and at the end. Contracts see the entries so far,
-/// and whether the recorder is still there.
+/// that is given up too, and memory is wanting before the next command and at the end. Contracts see the entries so
+/// far, and whether the recorder is still there.
 #[derive(Drop)]
 pub struct Scribe<A: About, K: Recorder> {
     // None once it wanted memory.

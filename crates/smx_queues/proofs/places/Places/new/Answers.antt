@@ -12,5 +12,7 @@ loop-i-preserved c =
     ap (λ (k : ℕ). record { first = k; minors = c.minors_at-minors.result }) n in
     next_driver c.args.drivers.now c.loop-i.i c.loop-i.rows.items c.push.new.self.items c.loop-i.places.items
     c.push_sides.new.places.items (omega arith) c.loop-i.invariant
-    (c.in_ok-push.ensures.items ∙ rw (← c.minors_at-minors.ensures) (ap (λ (r : DriverRow). c.loop-i.rows.items ++ r ∷ []) row))
-    (c.in_ok-push_sides.ensures ∙ ap (λ (k : ℕ). c.loop-i.places.items ++ sides_of c.loop-i.i k) c.minors_at-minors.ensures)
+    (c.in_ok-push.ensures.items
+    ∙ rw (← c.minors_at-minors.ensures) (ap (λ (r : DriverRow). c.loop-i.rows.items ++ r ∷ []) row))
+    (c.in_ok-push_sides.ensures
+    ∙ ap (λ (k : ℕ). c.loop-i.places.items ++ sides_of c.loop-i.i k) c.minors_at-minors.ensures)
