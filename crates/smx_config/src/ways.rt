@@ -37,11 +37,7 @@ impl Model for Ways {
 
 // Which way is that of the place's driver and side.
 fn index_of(place: Place) -> usize {
-    let driver = place.stream.driver as usize;
-    match place.side {
-        Side::Write => 2 * driver,
-        Side::Read => 2 * driver + 1,
-    }
+    2 * place.stream.driver as usize + place.side as usize
 }
 
 // Whether it sends or takes a message, so that messages go on as before.
