@@ -30,7 +30,7 @@ use Rattle.smx_model.specs.Removal.{after_sweep}
 use Rattle.smx_model.proofs.EachLemmas.{Apart, apart_filter, apart_pairs, apart_rising}
 use Rattle.smx_model.proofs.EachLemmas.{Each, none_passes, kept_passes, each_map, each_of_all}
 use Rattle.smx_model.proofs.AcceptedLemmas.{unlinked}
-use Rattle.smx_model.proofs.OutcomeLemmas.{IfAccepted, at_ok, after_ok, after_test, after_some, after_choice}
+use Rattle.smx_model.proofs.OutcomeLemmas.{IfAccepted, at_ok, after_ok, after_test, after_some, after_choice, if_ok}
 use Rattle.smx_model.specs.RunMarks.{asks_down, asks_up, nowhere, is_first_at, TurnsOnly}
 use Rattle.smx_model.specs.TurnedPlaces.{of_stream, read_side, write_side, turned_by}
 use Rattle.smx_model.proofs.TurningLemmas.{next_of_others, bound, routed, binds_find, fewer_turns}
@@ -282,13 +282,8 @@ turns drivers c process (command.Transmit name minor) h = search
 turns drivers c process (command.Hangup name minor) h = let k = keyed drivers c h in let x = rooted drivers c h in
     search (after_ok, turns_still, more_hung_turn_none, rules) depth 20
 
--- what `IfAccepted` says of the configuration of an accepted outcome, `IfOk` says of it too
-pub if_ok : (P : Configuration → Type 0) (o : Outcome) → IfAccepted (λ d r. P d) o → IfOk o (λ x. P x.0)
-if_ok P (Ok x) h = h.holds
-if_ok P (Err f) h = tt
-
 -- the same, as the laws say it: an accepted command turns no place but those of `turned_by`
 pub outcomes_turn : (drivers : List DriverSpec) (c : Configuration) (process : ℕ) (k : Command) → IsSound drivers c
     → IfOk (outcome drivers c process k) (λ x. TurnsOnly drivers c x.0 (turned_by drivers c process k))
-outcomes_turn drivers c process k h = if_ok (λ d. TurnsOnly drivers c d (turned_by drivers c process k))
-    (outcome drivers c process k) (turns drivers c process k h)
+outcomes_turn drivers c process k h = if_ok (λ d. TurnsOnly drivers c d (turned_by drivers c process k)) _
+    (outcome drivers c process k) (λ d m. m) (turns drivers c process k h)
