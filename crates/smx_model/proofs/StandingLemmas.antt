@@ -3,6 +3,7 @@ use Rattle.std.proofs.Common.{◌≡◌, ℕ, zero, suc, ◌<◌, ◌≤◌, Boo
 use Rattle.std.proofs.Common.{filter, refl, sym, ap, ◌∙◌, subst, arith, inl, inr}
 use Rattle.std.specs.List.{list_any}
 use Rattle.std.proofs.lemmas.Bool.{cases_lt, eqb-true, and_parts, or_cases, or_left, or_right, and_from, false≢true}
+use Rattle.std.proofs.lemmas.Bool.{not-false, not-true}
 use Rattle.smx_types.specs.declared.stream.Descriptor.{Descriptor}
 use Rattle.smx_types.specs.declared.driver.DriverSpec.{DriverSpec}
 use Rattle.smx_types.specs.declared.link.Link.{Link}
@@ -66,15 +67,11 @@ swept_is drivers c = record {
       (sym (swept_exists drivers c l.ctl)) h);
   binds = all_passes _ _ c.binds (λ b h. h);
   flow = all_passes _ _ (without_links c (λ l. not (is_persistent l) && not (exists drivers c l.ctl))).flow
-      (λ h k. not_not _ k);
+      (λ h k. not-false _ (not-true _ k));
   fulls = all_passes _ _ (without_links c (λ l. not (is_persistent l) && not (exists drivers c l.ctl))).fulls
-      (λ p k. not_not _ k);
+      (λ p k. not-false _ (not-true _ k));
   hungs = all_passes _ _ c.hungs (λ s h. h);
 } where
-  not_not : (b : Bool) → not (not b) ≡ true → b ≡ true
-  not_not true h = refl
-  not_not false h = h
-
   alive : (a b d : Bool) → b ≡ d → not (not a && not b) ≡ true → (a || d) ≡ true
   alive true b d e h = refl
   alive false true d e h = sym e

@@ -3,8 +3,9 @@ use Rattle.std.proofs.Common.{◌≡◌, ℕ, ◌+◌, Bool, true, false, ◌&&�
 use Rattle.std.proofs.Common.{filter, Result, Ok, Err, refl, rules, inl, inr, arith}
 use Rattle.std.specs.Prelude.{nat_lt, IfOk}
 use Rattle.std.specs.List.{list_any}
-use Rattle.std.proofs.lemmas.Bool.{cases_Bool, and_parts, or_cases, false_from_ne_true, eqb-true}
-use Rattle.std.proofs.lemmas.Bool.{ltb-true, not-true}
+use Rattle.std.proofs.lemmas.Bool.{cases_Bool}
+use Rattle.std.proofs.lemmas.Bool.{not-true}
+use Rattle.std.proofs.lemmas.Bool.Decides.{nat_tests}
 use Rattle.smx_types.specs.declared.command.Command.{Command}
 use Rattle.smx_types.specs.declared.command.Command.TheVariants as command
 use Rattle.smx_types.specs.declared.driver.DriverSpec.{DriverSpec}
@@ -38,20 +39,17 @@ use Rattle.smx_model.proofs.TurningLemmas.{keyed_removed, routes_find, turns_arr
 use Rattle.smx_model.proofs.TurningLemmas.{turns_left, turns_linked, turns_removed, turns_routed, turns_swept}
 use Rattle.smx_model.proofs.TurningLemmas.{turns_then, other, same_finds, IsKeyed, AreRooted, rooted_filter}
 use Rattle.smx_model.specs.Hangups.{is_hung, with_hung}
+use Rattle.smx_model.proofs.RisingLemmas.{bind_other}
 use Rattle.smx_model.proofs.TestLemmas.{any_placed}
 use Rattle.smx_model.specs.KnownStreams.{IsKnown}
 
 -- ---- each key is there once
 
 less_other : (a b : ℕ) → nat_lt a b ≡ true → eqb a b ≡ false
-less_other a b h = false_from_ne_true _ (λ t. absurd (omega (arith, ltb-true a b h, eqb-true a b t)))
+less_other a b h = grind (arith, nat_tests)
 
 pair_other : (a b c d : ℕ) → pair_before a b c d ≡ true → (eqb a c && eqb b d) ≡ false
-pair_other a b c d h = false_from_ne_true _
-    (λ t. let p = and_parts (eqb a c) (eqb b d) t in elim (or_cases (nat_lt a c) (eqb a c && nat_lt b d) h) [
-      | inl k ↦ absurd (omega (arith, ltb-true a c k, eqb-true a c p.0))
-      | inr k ↦ absurd (omega (arith, ltb-true b d (and_parts (eqb a c) (nat_lt b d) k).1, eqb-true b d p.1))
-    ])
+pair_other a b c d h = grind (arith, nat_tests)
 
 -- in a sound configuration each key of a route, a link or a binding is there once
 pub keyed : (drivers : List DriverSpec) (c : Configuration) → IsSound drivers c → IsKeyed c
@@ -101,17 +99,13 @@ keyed_bound c driver addr minor free h = record {
       (λ b e. other e.driver e.addr b.driver b.addr)
       (record { driver = driver; addr = addr; minor = minor }) c.binds
       (none_passes (λ b. eqb b.driver driver && (eqb b.addr addr || eqb b.minor minor)) _ c.binds
-      (λ b f. other driver addr b.driver b.addr (by (eqb b.driver driver) (eqb b.addr addr) (eqb b.minor minor) f))
+      (λ b f. other driver addr b.driver b.addr (bind_other driver addr b.driver b.addr b.minor minor f))
       free)
       h.binds;
   ids = h.ids;
   lowers = h.lowers;
   routes = h.routes;
-} where
-  by : (x y z : Bool) → (x && (y || z)) ≡ false → (x && y) ≡ false
-  by true true z h = h
-  by true false z h = refl
-  by false y z h = refl
+}
 
 -- ---- the rows of the command table
 
