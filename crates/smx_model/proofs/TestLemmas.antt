@@ -1,6 +1,6 @@
 -- Tests over lists: some element passes, each does, the first that does.
 use Rattle.std.proofs.Common.{◌≡◌, Bool, true, false, ◌||◌, not, List, [], ◌∷◌, filter, refl, sym, ap, ◌∙◌, inl, inr}
-use Rattle.std.proofs.Common.{◌++◌, find, Some}
+use Rattle.std.proofs.Common.{arith, ◌++◌, find, Some}
 use Rattle.std.specs.List.{list_any, list_all}
 use Rattle.std.proofs.lemmas.Bool.{cases_Bool, and_parts, or_cases, or_left, or_right, and_from, false≢true, both_ways}
 use Rattle.std.proofs.lemmas.Bool.{false_from_ne_true}
@@ -162,7 +162,4 @@ any_of_placed t before [] x = refl
 any_of_placed t before (y ∷ ys) x = elim (cases_Bool (before x y))
     [ inl a ↦ rw a refl | inr b ↦ rw (b, any_of_placed t before ys x) (turned (t y) (t x) (list_any t ys)) ] where
       turned : (a b c : Bool) → (a || (b || c)) ≡ (b || (a || c))
-      turned true true c = refl
-      turned true false c = refl
-      turned false true c = refl
-      turned false false c = refl
+      turned a b c = grind arith
