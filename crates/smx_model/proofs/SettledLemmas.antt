@@ -11,7 +11,6 @@ use Rattle.smx_model.specs.Commands.{after_outcome, outcome, step}
 use Rattle.smx_model.specs.Histories.{after_from}
 use Rattle.smx_model.specs.Outcomes.{Outcome}
 use Rattle.smx_model.specs.Settling.{after_move, after_move_to, after_settling_within, least_movable, next_open_place}
-
 use Rattle.smx_model.proofs.OutcomeLemmas.{IfAccepted}
 
 -- what holds before a move, and once a first message has left and arrived at another place, holds after the move
