@@ -1,12 +1,12 @@
 -- Which bindings a command takes away.
-use Rattle.std.proofs.Common.{◌≡◌, ◌↔◌, ℕ, Bool, true, false, ◌&&◌, not, eqb, List, [], filter, Result, Ok, Err, refl}
+use Rattle.std.proofs.Common.{◌≡◌, ◌↔◌, ℕ, Bool, true, ◌&&◌, not, eqb, List, [], filter, Ok, Err, refl}
 use Rattle.std.proofs.Common.{rules, sym, subst}
 use Rattle.std.specs.List.{All, Contains, list_any}
+use Rattle.std.proofs.lemmas.Bool.{not-true}
 use Rattle.smx_types.specs.declared.command.Command.{Command}
 use Rattle.smx_types.specs.declared.command.Command.TheVariants as command
 use Rattle.smx_types.specs.declared.driver.DriverSpec.{DriverSpec}
 use Rattle.smx_types.specs.declared.link.Binding.{Binding}
-use Rattle.smx_types.specs.declared.reply.Fault.{Fault}
 use Rattle.smx_types.specs.declared.reply.Fault.TheVariants.{Unbound}
 use Rattle.smx_types.specs.declared.reply.Reply.TheVariants as reply
 use Rattle.smx_types.specs.declared.stream.StreamId.{StreamId}
@@ -14,7 +14,7 @@ use Rattle.smx_model.specs.Commands.{outcome, step, after_outcome, done_outcome}
 use Rattle.smx_model.specs.Configuration.{Configuration, bind_before}
 use Rattle.smx_model.specs.Lookups.{mux_stream}
 use Rattle.smx_model.specs.Ordered.{with_inserted}
-use Rattle.smx_model.specs.Outcomes.{Outcome, ◌>>=◌, refuse}
+use Rattle.smx_model.specs.Outcomes.{Outcome}
 use Rattle.smx_model.specs.Settling.{after_settling_within}
 use Rattle.smx_model.specs.Standing.{exists}
 use Rattle.smx_model.specs.Swept.{IsSwept}
@@ -22,7 +22,7 @@ use Rattle.smx_model.proofs.DropLemmas.{done_idle}
 use Rattle.smx_model.proofs.MemberLemmas.{all_in, filtered_passes, in_all, in_filtered, in_placed, none_in}
 use Rattle.smx_model.proofs.AcceptedLemmas.{of_rows, at_none}
 use Rattle.smx_model.proofs.OutcomeLemmas.{IfAccepted}
-use Rattle.smx_model.proofs.SettledLemmas.{settled_alone}
+use Rattle.smx_model.proofs.SettledLemmas.{after_found, after_refusal, settled_alone}
 use Rattle.smx_model.proofs.SweptLemmas.{swept_accepted}
 use Rattle.smx_model.proofs.TestLemmas.{all_filter}
 
@@ -54,23 +54,15 @@ pub unbind_looses : (drivers : List DriverSpec) (c : Configuration) (process fd 
     → mux_stream drivers c process fd ≡ Ok s
     → All (λ b. Contains (step drivers c process (command.Unbind fd)).0.binds b
     ↔ (not (eqb b.driver s.driver && eqb b.minor s.minor) ≡ true)) c.binds
-unbind_looses drivers c process fd s h e = all_in _ c.binds
-    (subst (λ (r : Result StreamId Fault). LosesBindings c
-    (after_outcome drivers c
-    (r >>= (λ s. refuse Unbound (not (list_any (λ b. eqb b.driver s.driver && eqb b.minor s.minor) c.binds))
-    >>= (λ bound. done_outcome drivers c
-    (record c { binds = filter (λ b. not (eqb b.driver s.driver && eqb b.minor s.minor)) c.binds }))))).0 mine) (sym e)
-    (by (list_any mine c.binds) refl)).each where
-      mine : Binding → Bool
-      mine b = eqb b.driver s.driver && eqb b.minor s.minor
+unbind_looses drivers c process fd s h e = all_in _ c.binds left.each where
+  mine : Binding → Bool
+  mine b = eqb b.driver s.driver && eqb b.minor s.minor
 
-      by : (b : Bool) → list_any mine c.binds ≡ b
-          → LosesBindings c
-          (after_outcome drivers c
-          (refuse Unbound (not b) >>= (λ bound. done_outcome drivers c
-          (record c { binds = filter (λ b. not (mine b)) c.binds })))).0 mine
-      by true f = loosed_fewer drivers c mine h
-      by false f = record { each = λ b k. (λ m. rw (none_in mine c.binds f b k) refl, λ t. k) }
+  left : LosesBindings c (step drivers c process (command.Unbind fd)).0 mine
+  left = after_found (λ d. LosesBindings c d mine) drivers c (mux_stream drivers c process fd) s _ e
+      (after_refusal (λ d. LosesBindings c d mine) drivers c Unbound (not (list_any mine c.binds)) _
+      (λ f. record { each = λ b k. (λ m. rw (none_in mine c.binds (not-true _ f) b k) refl, λ t. k) })
+      (λ f. loosed_fewer drivers c mine h))
 
 -- each other command leaves the bindings of streams that exist
 

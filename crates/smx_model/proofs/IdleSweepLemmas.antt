@@ -1,5 +1,5 @@
 -- Sweeping what is swept changes nothing.
-use Rattle.std.proofs.Common.{◌≡◌, Bool, true, false, ◌&&◌, ◌||◌, not, eqb, List, [], filter, refl, ap, ◌∙◌}
+use Rattle.std.proofs.Common.{arith, ◌≡◌, Bool, true, false, ◌&&◌, ◌||◌, not, eqb, List, [], filter, refl, ap, ◌∙◌}
 use Rattle.std.specs.List.{list_any, list_all}
 use Rattle.smx_types.specs.declared.link.Binding.{Binding}
 use Rattle.smx_types.specs.declared.driver.DriverSpec.{DriverSpec}
@@ -16,13 +16,10 @@ use Rattle.smx_model.specs.Swept.{IsSwept}
 use Rattle.smx_model.proofs.TestLemmas.{keep_all, all_same, all_true, none_kept}
 
 not_gone : (a b : Bool) → not (not a && not b) ≡ (a || b)
-not_gone true b = refl
-not_gone false true = refl
-not_gone false false = refl
+not_gone a b = grind arith
 
 not_not : (b : Bool) → not (not b) ≡ b
-not_not true = refl
-not_not false = refl
+not_not b = grind arith
 
 -- with these lists
 abbrev with_lists : Configuration → List Link → List Route → List QueuedMessage → List Place → Configuration

@@ -24,7 +24,7 @@ use Rattle.smx_model.proofs.SettledLemmas.{settled_by}
 use Rattle.smx_model.proofs.ConservationLemmas.{IsNumbered, Goes, goes_accepted, moved_same, moved_next, numbered_empty}
 use Rattle.smx_model.proofs.ConservationLemmas.{numbered_goes}
 use Rattle.smx_model.proofs.CountLemmas.{times}
-use Rattle.smx_model.proofs.OutcomeLemmas.{IfAccepted}
+use Rattle.smx_model.proofs.OutcomeLemmas.{IfAccepted, if_ok}
 use Rattle.smx_model.proofs.RangeLemmas.{AreNamed, named_accepted, named_moved}
 use Rattle.smx_model.specs.OrderedParts.{AreListsOrdered}
 use Rattle.smx_model.proofs.RisingLemmas.{rising_accepted, rising_empty, rising_moved}
@@ -174,11 +174,8 @@ parts_accepted drivers c process k h = by (outcome drivers c process k) (sound_a
 -- what an accepted command leaves of a sound configuration, before it is settled, is sound
 pub outcome_sound : (drivers : List DriverSpec) (c : Configuration) (process : ℕ) (k : Command) → IsSound drivers c
     → IfOk (outcome drivers c process k) (λ x. IsSound drivers x.0)
-outcome_sound drivers c process k h =
-    by (outcome drivers c process k) (parts_accepted drivers c process k (parts_of drivers c h)) where
-      by : (o : Outcome) → IfAccepted (λ d r. Parts drivers d) o → IfOk o (λ x. IsSound drivers x.0)
-      by (Ok x) m = of_parts drivers x.0 m.holds
-      by (Err f) m = tt
+outcome_sound drivers c process k h = if_ok (Parts drivers) _ (outcome drivers c process k) (of_parts drivers)
+    (parts_accepted drivers c process k (parts_of drivers c h))
 
 -- each move
 

@@ -36,7 +36,7 @@ use Rattle.smx_model.proofs.OrderLemmas.{order_without, same_not_before, same_se
 use Rattle.smx_model.proofs.PathLemmas.{reaches_path, reaches_trans}
 use Rattle.smx_model.proofs.QueueLemmas.{arrived_queue, front_is, left_queue, marked_full, not_same_turned}
 use Rattle.smx_model.proofs.SettlingByMarksLemmas.{marked_is_least, none_is_least, settling_moves, settling_stays}
-use Rattle.smx_model.proofs.SettlingLemmas.{same_place_is}
+use Rattle.smx_model.proofs.SettlingLemmas.{open_next, same_place_is}
 use Rattle.smx_model.proofs.TurningCommandLemmas.{keyed}
 use Rattle.smx_model.proofs.TurningLemmas.{arrived_more, feeders, left_keeps}
 use Rattle.smx_model.proofs.WaitingLemmas.{first_arrived, first_left, keeps_by, next_of_same, waiting_stays}
@@ -340,22 +340,8 @@ none_marked drivers c run wanted p q m waits o h e apart stays r u =
 -- where a first message may go on to is its next place, and not full
 open_first : (drivers : List DriverSpec) (c : Configuration) (p q : Place) → next_open_place drivers c p ≡ Some q
     → (next_of_first drivers c p ≡ Some q) × (is_full c q ≡ false)
-open_first drivers c p q e = by (first_message c.flow p) e where
-  room : (r : Place) (b : Bool) → is_full c r ≡ b → cond b None (Some r) ≡ Some q → (r ≡ q) × (is_full c r ≡ false)
-  room r true f h = absurd cc
-  room r false f h = (cc, f)
-
-  at : (o : Option Place) → (o >>= (λ r. cond (is_full c r) None (Some r))) ≡ Some q
-      → (o ≡ Some q) × (is_full c q ≡ false)
-  at None h = absurd cc
-  at (Some r) h = let k = room r (is_full c r) refl h in
-      (ap (λ (x : Place). Some x) k.0, subst (λ (x : Place). is_full c x ≡ false) k.0 k.1)
-
-  by : (o : Option Message)
-      → (o >>= (λ m. next_place drivers c p m.addr >>= (λ r. cond (is_full c r) None (Some r)))) ≡ Some q
-      → (next_of drivers c p o ≡ Some q) × (is_full c q ≡ false)
-  by None h = absurd cc
-  by (Some m) h = at (next_place drivers c p m.addr) h
+open_first drivers c p q e =
+    let w = open_next drivers c p q e in (ap (next_of drivers c p) w.1 ∙ w.2, w.3)
 
 -- and the other way
 first_open : (drivers : List DriverSpec) (c : Configuration) (p q : Place) → next_of_first drivers c p ≡ Some q

@@ -21,7 +21,7 @@ use Rattle.smx_model.specs.SettlingByMarks.{IsMarkedAfter, MarkedConfiguration, 
 use Rattle.smx_model.specs.TurnedPlaces.{turned_by}
 use Rattle.smx_model.proofs.FreedPlaceLemmas.{frees}
 use Rattle.smx_model.proofs.KeptLemmas.{outcome_sound}
-use Rattle.smx_model.proofs.OutcomeLemmas.{IfAccepted}
+use Rattle.smx_model.proofs.OutcomeLemmas.{if_ok}
 use Rattle.smx_model.proofs.SettlingByMarksLemmas.{comes_to_settled, marks_kept}
 use Rattle.smx_model.proofs.TurningCommandLemmas.{outcomes_turn}
 use Rattle.smx_model.proofs.TurningLemmas.{wakes}
@@ -161,8 +161,5 @@ few_movable drivers c process k p h = by (outcome drivers c process k) (outcomes
 -- an accepted command, from a sound configuration, frees no place but those of `freed_by`
 pub few_freed : (drivers : List DriverSpec) (c : Configuration) (process : ℕ) (k : Command) → IsSound drivers c
     → IfOk (outcome drivers c process k) (λ x. FreesOnly c x.0 (freed_by drivers c process k x.0))
-few_freed drivers c process k h = by (outcome drivers c process k) (frees drivers c process k h.swept) where
-  by : (o : Outcome) → IfAccepted (λ d r. FreesOnly c d (freed_by drivers c process k d)) o
-      → IfOk o (λ x. FreesOnly c x.0 (freed_by drivers c process k x.0))
-  by (Ok x) f = f.holds
-  by (Err e) f = tt
+few_freed drivers c process k h = if_ok (λ d. FreesOnly c d (freed_by drivers c process k d)) _
+    (outcome drivers c process k) (λ d m. m) (frees drivers c process k h.swept)

@@ -1,6 +1,6 @@
 -- Settling by marks can come to its end, where finitely many places have run marks.
 use Rattle.std.proofs.Common.{◌≡◌, ℕ, zero, suc, ◌*◌, Bool, true, false, ◌&&◌, not, List, [], ◌∷◌, length, Option, Some}
-use Rattle.std.proofs.Common.{None, refl, sym, ap, ◌∙◌, subst, inl, inr}
+use Rattle.std.proofs.Common.{arith, None, refl, sym, ap, ◌∙◌, subst, inl, inr}
 use mathlib.Core.Logic.{◌⊎◌}
 use Rattle.std.specs.List.{Contains, list_any}
 use Rattle.std.proofs.lemmas.Bool.{both_ways, cases_Bool, and_parts, false_from_ne_true, false≢true, or_cases, or_left}
@@ -281,12 +281,10 @@ pub least_clear : (drivers : List DriverSpec) (p : Place) (m : MarkedConfigurati
 least_clear drivers p m l t = record { least = l; waits = t; same = refl; run = λ q. refl; wanted = λ q k. k }
 
 and_true : (b : Bool) → (b && true) ≡ b
-and_true true = refl
-and_true false = refl
+and_true b = grind arith
 
 and_false : (b : Bool) → (b && false) ≡ false
-and_false true = refl
-and_false false = refl
+and_false b = grind arith
 
 -- to clear takes away the run mark of the least marked place, and no other
 pub one_mark : (drivers : List DriverSpec) (p : Place) (old new : MarkedConfiguration) → IsCleared drivers p old new

@@ -1,6 +1,6 @@
 -- What holds of each accepted outcome.
 use Rattle.std.proofs.Common.{◌≡◌, Bool, true, false, Option, Some, None, Result, Ok, Err, refl}
-use Rattle.std.specs.Prelude.{if◌then◌else◌}
+use Rattle.std.specs.Prelude.{if◌then◌else◌, IfOk}
 use Rattle.smx_types.specs.declared.reply.Fault.{Fault}
 use Rattle.smx_types.specs.declared.reply.Reply.{Reply}
 use Rattle.smx_model.specs.Configuration.{Configuration}
@@ -41,3 +41,9 @@ pub after_choice : (P : Configuration → Reply → Type 0) (b : Bool) (o p : Ou
     → (b ≡ false → IfAccepted P p) → IfAccepted P (if b then o else p)
 after_choice P true o p h k = h refl
 after_choice P false o p h k = k refl
+
+-- what `IfAccepted` says of the configuration of an accepted outcome, `IfOk` says too, with all that follows from it
+pub if_ok : (P Q : Configuration → Type 0) (o : Outcome) → ((d : Configuration) → P d → Q d)
+    → IfAccepted (λ d r. P d) o → IfOk o (λ x. Q x.0)
+if_ok P Q (Ok x) f h = f x.0 h.holds
+if_ok P Q (Err e) f h = tt

@@ -19,7 +19,6 @@ use Rattle.smx_types.specs.declared.link.Link.{Link}
 use Rattle.smx_types.specs.declared.link.LinkKind.{LinkKind}
 use Rattle.smx_types.specs.declared.reply.Fault.{Fault}
 use Rattle.smx_types.specs.declared.reply.Fault.TheVariants as fault
-use Rattle.smx_types.specs.declared.reply.Reply.{Reply}
 use Rattle.smx_types.specs.declared.reply.Reply.TheVariants as reply
 use Rattle.smx_types.specs.declared.stream.Place.{Place}
 use Rattle.smx_types.specs.declared.stream.Side.TheVariants as side
@@ -27,139 +26,85 @@ use Rattle.smx_types.specs.declared.stream.StreamId.{StreamId}
 use Rattle.smx_types.specs.declared.transcript.Transcript.{Transcript}
 use Rattle.smx_types.specs.declared.version.Version.TheVariants.{V1}
 use Rattle.smx_model.specs.Commands.{outcome, step, after_outcome, done_outcome, link_outcome, read_outcome}
-use Rattle.smx_model.specs.Commands.{receive_outcome, send_outcome, unlink_outcome}
+use Rattle.smx_model.specs.Commands.{receive_outcome, unlink_outcome}
 use Rattle.smx_model.specs.Configuration.{Configuration, empty}
-use Rattle.smx_model.specs.DriverList.{is_mux}
 use Rattle.smx_model.specs.Hangups.{is_hung}
 use Rattle.smx_model.specs.Headline.{IsReportOf}
 use Rattle.smx_model.specs.Histories.{after, after_from, commands_of, HoldsPrograms, IsLegal, IsLegalFrom}
 use Rattle.smx_model.specs.KeptConfigurations.{IsKept}
-use Rattle.smx_model.specs.Lookups.{driver_of, free_fd, free_minor, free_stream, leaf_stream, live_leaf, live_stream}
-use Rattle.smx_model.specs.Lookups.{mux_stream, stream_of}
+use Rattle.smx_model.specs.Lookups.{free_stream, live_leaf, live_stream}
+use Rattle.smx_model.specs.Lookups.{mux_stream}
 use Rattle.smx_model.specs.Outcomes.{Outcome, ◌>>=◌, or_fault, refuse}
 use Rattle.smx_model.specs.Queues.{first_message}
 use Rattle.smx_model.specs.Removal.{without_links}
-use Rattle.smx_model.specs.Standing.{exists, is_below}
+use Rattle.smx_model.specs.Standing.{exists}
 use Rattle.smx_model.proofs.HungStreamLemmas.{others_leave_hungs}
 use Rattle.smx_model.proofs.KeptLemmas.{empty_kept, step_keeps}
 
--- what is refused, is refused for no hangup
+-- what is refused, is refused for no hangup, and the reply of an accepted command tells of none
 
-record IsCalm {A : Type 0} (r : Result A Fault) : Type 0 where
-  each : (f : Fault) → r ≡ Err f → is_hung_up f ≡ false
+abbrev calm_of : {A : Type 0} → (A → Bool) → Result A Fault → Type 0
+calm_of tells (Ok x) = tells x ≡ false
+calm_of tells (Err f) = is_hung_up f ≡ false
 
-calm_ok : {A : Type 0} (x : A) → IsCalm {A = A} (Ok x)
-calm_ok x = record { each = λ f e. cc }
+-- a record, so that search finds the parts of the outcome
+record IsCalm {A : Type 0} (tells : A → Bool) (r : Result A Fault) : Type 0 where
+  told : calm_of tells r
 
-calm_some : {A : Type 0} (g : Fault) (o : Option A) → is_hung_up g ≡ false → IsCalm (or_fault g o)
-calm_some g (Some x) h = record { each = λ f e. cc }
-calm_some {A} g None h = record { each = λ f e. by f e } where
-  by : (f : Fault) → or_fault {A = A} g None ≡ Err f → is_hung_up f ≡ false
-  by f e = let same : g ≡ f = cc in ap is_hung_up (sym same) ∙ h
+calm_ok : {A : Type 0} (tells : A → Bool) (x : A) → tells x ≡ false → IsCalm tells (Ok x)
+calm_ok tells x h = record { told = h }
 
-calm_test : {A : Type 0} (g : Fault) (b : Bool) (f : Unit {0} → Result A Fault) → is_hung_up g ≡ false → IsCalm (f tt)
-    → IsCalm (refuse g b >>= f)
-calm_test g false f h k = k
-calm_test {A} g true f h k = record { each = λ f e. by f e } where
-  by : (x : Fault) → (refuse g true >>= f) ≡ Err x → is_hung_up x ≡ false
-  by x e = let same : g ≡ x = cc in ap is_hung_up (sym same) ∙ h
+calm_some : {A : Type 0} (g : Fault) (o : Option A) → is_hung_up g ≡ false → IsCalm (λ x. false) (or_fault g o)
+calm_some g (Some x) h = record { told = refl }
+calm_some g None h = record { told = h }
 
-calm_hung : {A : Type 0} (c : Configuration) (s : StreamId) (f : Unit {0} → Result A Fault) → c.hungs ≡ []
-    → IsCalm (f tt) → IsCalm (refuse fault.HungUp (is_hung c.hungs s) >>= f)
-calm_hung c s f none k = rw none k
+calm_test : {A : Type 0} (tells : A → Bool) (g : Fault) (b : Bool) (f : Unit {0} → Result A Fault)
+    → is_hung_up g ≡ false → IsCalm tells (f tt) → IsCalm tells (refuse g b >>= f)
+calm_test tells g false f h k = k
+calm_test tells g true f h k = record { told = h }
 
-calm_then : {A B : Type 0} (r : Result A Fault) (f : A → Result B Fault) → IsCalm r → ((x : A) → IsCalm (f x))
-    → IsCalm (r >>= f)
-calm_then (Ok x) f h k = k x
-calm_then {A} {B} (Err g) f h k = record { each = λ x e. by x e } where
-  refused : Result A Fault
-  refused = Err g
+calm_hung : {A : Type 0} (tells : A → Bool) (c : Configuration) (s : StreamId) (f : Unit {0} → Result A Fault)
+    → c.hungs ≡ [] → IsCalm tells (f tt) → IsCalm tells (refuse fault.HungUp (is_hung c.hungs s) >>= f)
+calm_hung tells c s f none k = rw none k
 
-  by : (x : Fault) → (refused >>= f) ≡ Err x → is_hung_up x ≡ false
-  by x e = let same : g ≡ x = cc in ap is_hung_up (sym same) ∙ h.each g refl
+calm_then : {A B : Type 0} (tells : B → Bool) (r : Result A Fault) (f : A → Result B Fault) → IsCalm (λ x. false) r
+    → ((x : A) → IsCalm tells (f x)) → IsCalm tells (r >>= f)
+calm_then tells (Ok x) f h k = k x
+calm_then tells (Err g) f h k = record { told = h.told }
 
-calm_driver : (drivers : List DriverSpec) (name : List ℕ) → IsCalm (driver_of drivers name)
-calm_driver drivers name = calm_some fault.NoDriver _ refl
+calm_free : (c : Configuration) (process fd : ℕ) → IsCalm (λ s. false) (free_stream c process fd)
+calm_free c process fd = search (calm_then, calm_test, calm_some, calm_ok, rules) depth 12
 
-calm_stream : (c : Configuration) (process fd : ℕ) → IsCalm (stream_of c process fd)
-calm_stream c process fd = calm_some fault.BadDescriptor _ refl
+calm_live : (c : Configuration) (process fd : ℕ) → c.hungs ≡ [] → IsCalm (λ s. false) (live_stream c process fd)
+calm_live c process fd none = search (calm_then, calm_free, calm_hung, calm_ok, rules) depth 12
 
-calm_fd : (c : Configuration) (process : ℕ) → IsCalm (free_fd c process)
-calm_fd c process = calm_some fault.TooManyDescriptors _ refl
-
-calm_minor : (drivers : List DriverSpec) (c : Configuration) (n : ℕ) → IsCalm (free_minor drivers c n)
-calm_minor drivers c n = calm_some fault.NoMinor _ refl
-
-calm_free : (c : Configuration) (process fd : ℕ) → IsCalm (free_stream c process fd)
-calm_free c process fd = calm_then (stream_of c process fd) _ (calm_stream c process fd)
-    (λ s. calm_test fault.Below (is_below c.links s) _ refl (calm_ok s))
-
-calm_live : (c : Configuration) (process fd : ℕ) → c.hungs ≡ [] → IsCalm (live_stream c process fd)
-calm_live c process fd none =
-    calm_then (free_stream c process fd) _ (calm_free c process fd) (λ s. calm_hung c s _ none (calm_ok s))
-
-calm_mux : (drivers : List DriverSpec) (c : Configuration) (process fd : ℕ) → IsCalm (mux_stream drivers c process fd)
-calm_mux drivers c process fd = calm_then (free_stream c process fd) _ (calm_free c process fd)
-    (λ s. calm_test fault.NotMux (not (is_mux drivers s.driver)) _ refl (calm_ok s))
-
-calm_leaf : (drivers : List DriverSpec) (c : Configuration) (name : List ℕ) (minor : ℕ)
-    → IsCalm (leaf_stream drivers c name minor)
-calm_leaf drivers c name minor = calm_then (driver_of drivers name) _ (calm_driver drivers name) (λ n.
-    calm_test fault.NoDriver (is_mux drivers n) _ refl
-    (calm_test fault.NoMinor (not (exists drivers c (record { driver = n; minor = minor }))) _ refl
-    (calm_ok (record { driver = n; minor = minor }))))
+calm_mux : (drivers : List DriverSpec) (c : Configuration) (process fd : ℕ)
+    → IsCalm (λ s. false) (mux_stream drivers c process fd)
+calm_mux drivers c process fd = search (calm_then, calm_free, calm_test, calm_ok, rules) depth 12
 
 calm_live_leaf : (drivers : List DriverSpec) (c : Configuration) (name : List ℕ) (minor : ℕ) → c.hungs ≡ []
-    → IsCalm (live_leaf drivers c name minor)
-calm_live_leaf drivers c name minor none = calm_then (leaf_stream drivers c name minor) _
-    (calm_leaf drivers c name minor) (λ s. calm_hung c s _ none (calm_ok s))
+    → IsCalm (λ s. false) (live_leaf drivers c name minor)
+calm_live_leaf drivers c name minor none =
+    search (calm_then, calm_hung, calm_test, calm_some, calm_ok, rules) depth 16
 
--- nor does the reply of an accepted command tell of one
-
-abbrev reply_of : Outcome → Reply
-reply_of (Ok x) = x.1
-reply_of (Err f) = reply.Fault f
-
-record IsQuiet (o : Outcome) : Type 0 where
-  told : tells_of_hangup (reply_of o) ≡ false
-
-quiet_ok : (d : Configuration) (r : Reply) → tells_of_hangup r ≡ false → IsQuiet (Ok (d, r))
-quiet_ok d r h = record { told = h }
-
-quiet_then : {A : Type 0} (r : Result A Fault) (f : A → Outcome) → IsCalm r → ((x : A) → IsQuiet (f x))
-    → IsQuiet (r >>= f)
-quiet_then (Ok x) f h k = k x
-quiet_then (Err g) f h k = record { told = h.each g refl }
-
-quiet_test : (g : Fault) (b : Bool) (f : Unit {0} → Outcome) → is_hung_up g ≡ false → IsQuiet (f tt)
-    → IsQuiet (refuse g b >>= f)
-quiet_test g true f h k = record { told = h }
-quiet_test g false f h k = k
-
-quiet_hung : (c : Configuration) (s : StreamId) (f : Unit {0} → Outcome) → c.hungs ≡ [] → IsQuiet (f tt)
-    → IsQuiet (refuse fault.HungUp (is_hung c.hungs s) >>= f)
-quiet_hung c s f none k = rw none k
+abbrev IsQuiet : Outcome → Type 0
+IsQuiet o = IsCalm (λ x. tells_of_hangup x.1) o
 
 quiet_done : (drivers : List DriverSpec) (c d : Configuration) → IsQuiet (done_outcome drivers c d)
 quiet_done drivers c d = record { told = refl }
 
-quiet_unlinked : (drivers : List DriverSpec) (c : Configuration) (w : Which) (mine : Link → Bool)
-    → IsQuiet (unlink_outcome drivers c w mine)
-quiet_unlinked drivers c which.All mine = quiet_done drivers c (without_links c mine)
-quiet_unlinked drivers c (which.Id id) mine = search (quiet_test, quiet_done, rules) depth 12
-
 quiet_linked : (drivers : List DriverSpec) (c : Configuration) (process fd arg : ℕ) (k : LinkKind) → c.hungs ≡ []
     → IsQuiet (link_outcome drivers c process fd arg k)
 quiet_linked drivers c process fd arg k none =
-    search (quiet_then, calm_stream, quiet_hung, quiet_test, quiet_ok, rules) depth 30
+    search (calm_then, calm_hung, calm_test, calm_some, calm_ok, rules) depth 30
 
-quiet_sent : (drivers : List DriverSpec) (c : Configuration) (p : Place) (addr : ℕ) (bytes : List ℕ)
-    → IsQuiet (send_outcome drivers c p addr bytes)
-quiet_sent drivers c p addr bytes = search (quiet_test, quiet_ok, rules) depth 12
+quiet_unlinked : (drivers : List DriverSpec) (c : Configuration) (w : Which) (mine : Link → Bool)
+    → IsQuiet (unlink_outcome drivers c w mine)
+quiet_unlinked drivers c which.All mine = quiet_done drivers c (without_links c mine)
+quiet_unlinked drivers c (which.Id id) mine = search (calm_test, quiet_done, rules) depth 12
 
 quiet_received : (drivers : List DriverSpec) (c : Configuration) (p : Place) → IsQuiet (receive_outcome drivers c p)
-quiet_received drivers c p = quiet_then (or_fault fault.Empty (first_message c.flow p)) _
-    (calm_some fault.Empty (first_message c.flow p) refl) (λ m. record { told = refl })
+quiet_received drivers c p = search (calm_then, calm_some, calm_ok, rules) depth 12
 
 quiet_read : (drivers : List DriverSpec) (c : Configuration) (s : StreamId) → c.hungs ≡ []
     → IsQuiet (read_outcome drivers c s)
@@ -175,38 +120,37 @@ quiet_read drivers c s none = by (is_hung c.hungs s) (ap (λ (hs : List StreamId
 quiet_accepted : (drivers : List DriverSpec) (c : Configuration) (process : ℕ) (k : Command) → c.hungs ≡ []
     → is_hangup k ≡ false → IsQuiet (outcome drivers c process k)
 quiet_accepted drivers c process (command.OpenClone name) none other =
-    search (quiet_then, calm_driver, calm_minor, calm_fd, quiet_ok, rules) depth 20
+    search (calm_then, calm_some, calm_ok, rules) depth 20
 quiet_accepted drivers c process (command.OpenMinor name minor) none other =
-    search (quiet_then, quiet_test, calm_driver, calm_fd, quiet_ok, rules) depth 20
-quiet_accepted drivers c process (command.Dup fd) none other =
-    search (quiet_then, calm_stream, calm_fd, quiet_ok, rules) depth 20
+    search (calm_then, calm_test, calm_some, calm_ok, rules) depth 20
+quiet_accepted drivers c process (command.Dup fd) none other = search (calm_then, calm_some, calm_ok, rules) depth 20
 quiet_accepted drivers c process (command.Close fd) none other =
-    search (quiet_then, calm_stream, quiet_done, rules) depth 20
+    search (calm_then, calm_some, quiet_done, rules) depth 20
 quiet_accepted drivers c process command.CloseAll none other = search (quiet_done, rules) depth 20
-quiet_accepted drivers c process (command.Link fd arg) none other = search (quiet_linked, rules) depth 20
-quiet_accepted drivers c process (command.Plink fd arg) none other = search (quiet_linked, rules) depth 20
+quiet_accepted drivers c process (command.Link fd arg) none other = quiet_linked drivers c process fd arg _ none
+quiet_accepted drivers c process (command.Plink fd arg) none other = quiet_linked drivers c process fd arg _ none
 quiet_accepted drivers c process (command.Unlink fd w) none other =
-    search (quiet_then, calm_mux, quiet_unlinked, rules) depth 20
+    search (calm_then, calm_mux, quiet_unlinked, rules) depth 20
 quiet_accepted drivers c process (command.Punlink fd w) none other =
-    search (quiet_then, calm_mux, quiet_unlinked, rules) depth 20
+    search (calm_then, calm_mux, quiet_unlinked, rules) depth 20
 quiet_accepted drivers c process (command.Bind fd addr) none other =
-    search (quiet_then, quiet_test, calm_mux, quiet_done, rules) depth 20
+    search (calm_then, calm_test, calm_mux, quiet_done, rules) depth 20
 quiet_accepted drivers c process (command.Unbind fd) none other =
-    search (quiet_then, quiet_test, calm_mux, quiet_done, rules) depth 20
+    search (calm_then, calm_test, calm_mux, quiet_done, rules) depth 20
 quiet_accepted drivers c process (command.Route fd addr id) none other =
-    search (quiet_then, quiet_test, calm_mux, quiet_done, rules) depth 20
+    search (calm_then, calm_test, calm_mux, quiet_done, rules) depth 20
 quiet_accepted drivers c process (command.Unroute fd addr) none other =
-    search (quiet_then, quiet_test, calm_mux, quiet_done, rules) depth 20
+    search (calm_then, calm_test, calm_mux, quiet_done, rules) depth 20
 quiet_accepted drivers c process (command.Write fd addr bytes) none other =
-    search (quiet_then, calm_live, quiet_sent, rules) depth 20
+    search (calm_then, calm_test, calm_live, calm_ok, rules) depth 20
 quiet_accepted drivers c process (command.Read fd) none other =
-    search (quiet_then, calm_free, quiet_read, rules) depth 20
+    search (calm_then, calm_free, quiet_read, rules) depth 20
 quiet_accepted drivers c process (command.Flush fd w) none other =
-    search (quiet_then, calm_live, quiet_done, rules) depth 20
+    search (calm_then, calm_live, quiet_done, rules) depth 20
 quiet_accepted drivers c process (command.Inject name minor addr bytes) none other =
-    search (quiet_then, calm_live_leaf, quiet_sent, rules) depth 20
+    search (calm_then, calm_test, calm_live_leaf, calm_ok, rules) depth 20
 quiet_accepted drivers c process (command.Transmit name minor) none other =
-    search (quiet_then, calm_live_leaf, quiet_received, rules) depth 20
+    search (calm_then, calm_live_leaf, quiet_received, rules) depth 20
 quiet_accepted drivers c process (command.Hangup name minor) none other = absurd (false≢true (sym other))
 
 quiet_step : (drivers : List DriverSpec) (c : Configuration) (process : ℕ) (k : Command) → c.hungs ≡ []

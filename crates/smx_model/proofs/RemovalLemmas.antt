@@ -1,8 +1,8 @@
 -- Which links a command removes, and which it leaves.
 use Rattle.std.proofs.Common.{◌≡◌, ◌↔◌, ◌⊎◌, ℕ, zero, suc, Bool, true, false, ◌&&◌, ◌||◌, not, eqb, List, [], ◌∷◌}
-use Rattle.std.proofs.Common.{◌++◌, length, filter, Result, Ok, Err, refl, rules, sym, ap, subst, inl, inr}
+use Rattle.std.proofs.Common.{arith, ◌++◌, length, filter, Result, Ok, Err, refl, rules, sym, ap, subst, inl, inr}
 use Rattle.std.specs.List.{All, Contains, list_any}
-use Rattle.std.proofs.lemmas.Bool.{and_from, and_parts, or_cases, or_left, or_right, false≢true}
+use Rattle.std.proofs.lemmas.Bool.{and_from, and_parts, or_cases, or_left, or_right}
 use Rattle.std.proofs.lemmas.List.Elements.{Contains-append_left, Contains-push_cases}
 use Rattle.smx_types.specs.declared.command.Command.{Command}
 use Rattle.smx_types.specs.declared.command.Command.TheVariants as command
@@ -62,9 +62,7 @@ spared drivers d l h e = in_filtered _ d.links l h
     (alive (is_persistent l) (exists drivers d l.ctl) (exists drivers (after_sweep drivers d) l.ctl)
     (stands_fewer d.fds d.links _ (length drivers) l.ctl) e) where
       alive : (a b d : Bool) → (d ≡ true → b ≡ true) → (a || d) ≡ true → not (not a && not b) ≡ true
-      alive true b d f e = refl
-      alive false true d f e = refl
-      alive false false d f e = absurd (false≢true (f e))
+      alive a b d f e = grind arith
 
 -- those stand that aren't taken, and that are persistent or whose controlling stream exists
 
@@ -200,9 +198,7 @@ keeps_done drivers c d h e f = record {
   };
 } where
   alive : (a b : Bool) → (a || b) ≡ true → not (not a && not b) ≡ true
-  alive true b h = refl
-  alive false true h = refl
-  alive false false h = h
+  alive a b h = grind arith
 
 -- it is neither close, exit, unlink nor punlink
 record IsOther (k : Command) : Type 0 where
@@ -247,9 +243,7 @@ others_keep drivers c process k h a b d e =
 -- a persistent link goes by punlink alone
 
 not_ordinary : (a p b : Bool) → p ≡ true → not (a && (not p && b)) ≡ true
-not_ordinary true true b e = refl
-not_ordinary false true b e = refl
-not_ordinary a false b e = absurd (false≢true e)
+not_ordinary a p b e = grind arith
 
 -- a command that is no punlink leaves all persistent links
 pub persistent_stays : (drivers : List DriverSpec) (c : Configuration) (process : ℕ) (k : Command) → IsSwept drivers c

@@ -93,12 +93,8 @@ stream_trans : IsTransitive stream_before
 stream_trans x y z h k = pair_trans x.driver x.minor y.driver y.minor z.driver z.minor h k
 
 -- a bound address or a bound stream differs from both
-bind_other : (a b c d e m : ℕ) → (eqb c a && (eqb d b || eqb e m)) ≡ false → (eqb c a && eqb d b) ≡ false
-bind_other a b c d e m h = by (eqb c a) (eqb d b) (eqb e m) h where
-  by : (x y z : Bool) → (x && (y || z)) ≡ false → (x && y) ≡ false
-  by true true z h = h
-  by true false z h = refl
-  by false y z h = refl
+pub bind_other : (a b c d e m : ℕ) → (eqb c a && (eqb d b || eqb e m)) ≡ false → (eqb c a && eqb d b) ≡ false
+bind_other a b c d e m h = grind (arith, nat_tests)
 
 -- of each accepted outcome
 

@@ -1,17 +1,17 @@
 -- Which routes a command takes away.
 use Rattle.std.proofs.Common.{◌≡◌, ◌↔◌, ℕ, ◌<◌, Bool, true, false, ◌&&◌, ◌||◌, not, eqb, ltb, arith, List, [], ◌∷◌}
-use Rattle.std.proofs.Common.{filter, Result, Ok, Err, refl, rules, sym, subst, inl, inr}
+use Rattle.std.proofs.Common.{filter, Ok, Err, refl, rules, sym, subst, inl, inr}
 use Rattle.std.specs.List.{All, Contains, list_any}
 use Rattle.std.specs.Prelude.{IfOk}
 use Rattle.std.proofs.lemmas.Bool.{cases_Bool, and_parts, eqb-true, false_from_ne_true, false≢true, ltb-true, ne_eqb}
 use Rattle.std.proofs.lemmas.Bool.{or_from, or_cases}
 use Rattle.std.proofs.lemmas.List.Elements.{All-contains}
+use Rattle.std.proofs.lemmas.Bool.{not-true}
 use Rattle.smx_types.specs.declared.command.Command.{Command}
 use Rattle.smx_types.specs.declared.command.Command.TheVariants as command
 use Rattle.smx_types.specs.declared.driver.DriverSpec.{DriverSpec}
 use Rattle.smx_types.specs.declared.link.Link.{Link}
 use Rattle.smx_types.specs.declared.link.Route.{Route}
-use Rattle.smx_types.specs.declared.reply.Fault.{Fault}
 use Rattle.smx_types.specs.declared.reply.Fault.TheVariants.{NoLink, Unrouted}
 use Rattle.smx_types.specs.declared.reply.Reply.TheVariants as reply
 use Rattle.smx_types.specs.declared.stream.StreamId.{StreamId}
@@ -20,7 +20,7 @@ use Rattle.smx_model.specs.Configuration.{Configuration, route_before}
 use Rattle.smx_model.specs.KeptConfigurations.{IsSound}
 use Rattle.smx_model.specs.Lookups.{mux_stream}
 use Rattle.smx_model.specs.Ordered.{ComesBefore, IsRising, with_inserted}
-use Rattle.smx_model.specs.Outcomes.{Outcome, ◌>>=◌, refuse}
+use Rattle.smx_model.specs.Outcomes.{Outcome}
 use Rattle.smx_model.specs.Removal.{without_links}
 use Rattle.smx_model.specs.Settling.{after_settling_within}
 use Rattle.smx_model.specs.Swept.{IsSwept}
@@ -30,7 +30,7 @@ use Rattle.smx_model.proofs.MemberLemmas.{all_in, any_filtered, filtered_passes,
 use Rattle.smx_model.proofs.AcceptedLemmas.{of_rows, at_none}
 use Rattle.smx_model.proofs.OutcomeLemmas.{IfAccepted}
 use Rattle.smx_model.proofs.RisingLemmas.{rising_filter}
-use Rattle.smx_model.proofs.SettledLemmas.{settled_alone}
+use Rattle.smx_model.proofs.SettledLemmas.{after_found, after_refusal, settled_alone}
 use Rattle.smx_model.proofs.TestLemmas.{any_more}
 
 -- unroute and route
@@ -77,50 +77,31 @@ pub unroute_takes : (drivers : List DriverSpec) (c : Configuration) (process fd 
     → IsSwept drivers c → mux_stream drivers c process fd ≡ Ok s
     → All (λ r. Contains (step drivers c process (command.Unroute fd addr)).0.routes r
     ↔ (not (eqb r.driver s.driver && eqb r.addr addr) ≡ true)) c.routes
-unroute_takes drivers c process fd addr s h e = all_in _ c.routes
-    (subst (λ (r : Result StreamId Fault). LosesRoutes c
-    (after_outcome drivers c
-    (r >>= (λ s. refuse Unrouted (not (list_any (λ r. eqb r.driver s.driver && eqb r.addr addr) c.routes))
-    >>= (λ there. done_outcome drivers c
-    (record c { routes = filter (λ r. not (eqb r.driver s.driver && eqb r.addr addr)) c.routes }))))).0 mine) (sym e)
-    (by (list_any mine c.routes) refl)).each where
-      mine : Route → Bool
-      mine r = eqb r.driver s.driver && eqb r.addr addr
+unroute_takes drivers c process fd addr s h e = all_in _ c.routes left.each where
+  mine : Route → Bool
+  mine r = eqb r.driver s.driver && eqb r.addr addr
 
-      by : (b : Bool) → list_any mine c.routes ≡ b
-          → LosesRoutes c
-          (after_outcome drivers c
-          (refuse Unrouted (not b) >>= (λ there. done_outcome drivers c
-          (record c { routes = filter (λ r. not (mine r)) c.routes })))).0 mine
-      by true f = fewer_routes drivers c mine h
-      by false f = record { each = λ r k. (λ m. rw (none_in mine c.routes f r k) refl, λ t. k) }
+  left : LosesRoutes c (step drivers c process (command.Unroute fd addr)).0 mine
+  left = after_found (λ d. LosesRoutes c d mine) drivers c (mux_stream drivers c process fd) s _ e
+      (after_refusal (λ d. LosesRoutes c d mine) drivers c Unrouted (not (list_any mine c.routes)) _
+      (λ f. record { each = λ r k. (λ m. rw (none_in mine c.routes (not-true _ f) r k) refl, λ t. k) })
+      (λ f. fewer_routes drivers c mine h))
 
 -- route leaves all routes but its driver's for the address
 pub route_leaves : (drivers : List DriverSpec) (c : Configuration) (process fd addr id : ℕ) (s : StreamId)
     → IsSwept drivers c → mux_stream drivers c process fd ≡ Ok s
     → All (λ r. not (eqb r.driver s.driver && eqb r.addr addr) ≡ true
     → Contains (step drivers c process (command.Route fd addr id)).0.routes r) c.routes
-route_leaves drivers c process fd addr id s h e = all_in _ c.routes
-    (subst (λ (r : Result StreamId Fault). LeavesRoutes c
-    (after_outcome drivers c
-    (r >>= (λ s. refuse NoLink (not (list_any (λ l. eqb l.id id && eqb l.ctl.driver s.driver) c.links))
-    >>= (λ there. done_outcome drivers c
-    (record c {
-      routes = with_inserted route_before
-          (filter (λ r. not (eqb r.driver s.driver && eqb r.addr addr)) c.routes)
-          (record { driver = s.driver; addr = addr; id = id });
-    }))))).0 mine) (sym e) (by (list_any (λ l. eqb l.id id && eqb l.ctl.driver s.driver) c.links))).each where
-      mine : Route → Bool
-      mine r = eqb r.driver s.driver && eqb r.addr addr
+route_leaves drivers c process fd addr id s h e = all_in _ c.routes left.each where
+  mine : Route → Bool
+  mine r = eqb r.driver s.driver && eqb r.addr addr
 
-      by : (b : Bool) → LeavesRoutes c (after_outcome drivers c (refuse NoLink (not b)
-          >>= (λ there. done_outcome drivers c
-          (record c {
-            routes = with_inserted route_before (filter (λ r. not (mine r)) c.routes)
-                (record { driver = s.driver; addr = addr; id = id });
-          })))).0 mine
-      by true = new_route drivers c mine (record { driver = s.driver; addr = addr; id = id }) h
-      by false = record { each = λ r k t. k }
+  left : LeavesRoutes c (step drivers c process (command.Route fd addr id)).0 mine
+  left = after_found (λ d. LeavesRoutes c d mine) drivers c (mux_stream drivers c process fd) s _ e
+      (after_refusal (λ d. LeavesRoutes c d mine) drivers c NoLink
+      (not (list_any (λ l. eqb l.id id && eqb l.ctl.driver s.driver) c.links)) _
+      (λ f. record { each = λ r k t. k })
+      (λ f. new_route drivers c mine (record { driver = s.driver; addr = addr; id = id }) h))
 
 -- an id is that of one link
 

@@ -170,17 +170,20 @@ next_falls drivers c s addr side.Write q h e = elim (cases_Bool (is_mux drivers 
 ]
 next_falls drivers c s addr side.Read q h e = up_falls c.links c.binds (length drivers) addr s q h.none h.below e
 
--- the next place for the first message, where it is open
+-- the next place for the first message, where it is open, which is not full
 pub open_next : (drivers : List DriverSpec) (c : Configuration) (p q : Place) → next_open_place drivers c p ≡ Some q
     → (m : Message) × (first_message c.flow p ≡ Some m) × (next_place drivers c p m.addr ≡ Some q)
+    × (is_full c q ≡ false)
 open_next drivers c p q e =
     let m = bound (first_message c.flow p)
     (λ m. next_place drivers c p m.addr >>= (λ r. cond (is_full c r) None (Some r))) q e in
     let r = bound (next_place drivers c p m.0.addr) (λ r. cond (is_full c r) None (Some r)) q m.2 in
-    (m.0, m.1, r.1 ∙ same r.0 (is_full c r.0) r.2) where
-      same : (r : Place) (full : Bool) → cond full None (Some r) ≡ Some q → Some r ≡ Some q
-      same r true e = cc
-      same r false e = e
+    let is = room r.0 (is_full c r.0) refl r.2 in
+    (m.0, m.1, r.1 ∙ ap (λ (x : Place). Some x) is.0, subst (λ (x : Place). is_full c x ≡ false) is.0 is.1) where
+      room : (r : Place) (full : Bool) → is_full c r ≡ full → cond full None (Some r) ≡ Some q
+          → (r ≡ q) × (is_full c r ≡ false)
+      room r true f e = absurd cc
+      room r false f e = (cc, f)
 
 -- the ranks of the places of all messages
 abbrev weight : (Place → ℕ) → List QueuedMessage → ℕ

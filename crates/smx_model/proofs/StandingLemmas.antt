@@ -1,8 +1,9 @@
 -- What stands, and what a sweep leaves.
-use Rattle.std.proofs.Common.{◌≡◌, ℕ, zero, suc, ◌<◌, ◌≤◌, Bool, true, false, ◌&&◌, ◌||◌, not, eqb, List, length}
+use Rattle.std.proofs.Common.{◌≡◌, ℕ, zero, suc, ◌<◌, ◌≤◌, Bool, true, ◌&&◌, ◌||◌, not, eqb, List, length}
 use Rattle.std.proofs.Common.{filter, refl, sym, ap, ◌∙◌, subst, arith, inl, inr}
 use Rattle.std.specs.List.{list_any}
-use Rattle.std.proofs.lemmas.Bool.{cases_lt, eqb-true, and_parts, or_cases, or_left, or_right, and_from, false≢true}
+use Rattle.std.proofs.lemmas.Bool.{cases_lt, eqb-true, and_parts, or_cases, or_left, or_right, and_from}
+use Rattle.std.proofs.lemmas.Bool.{not-false, not-true}
 use Rattle.smx_types.specs.declared.stream.Descriptor.{Descriptor}
 use Rattle.smx_types.specs.declared.driver.DriverSpec.{DriverSpec}
 use Rattle.smx_types.specs.declared.link.Link.{Link}
@@ -37,8 +38,7 @@ stands_filter fds links m zero s le = ap (λ (b : Bool). is_named fds s || b)
     (any_filter (λ l. is_persistent l && same_stream l.lower s) _ links
     (λ l h. kept (is_persistent l) (same_stream l.lower s) (stands_within fds links m l.ctl) h)) where
       kept : (a b d : Bool) → (a && b) ≡ true → not (not a && not d) ≡ true
-      kept true b d h = refl
-      kept false b d h = absurd (false≢true h)
+      kept a b d h = grind arith
 stands_filter fds links m (suc n) s le = both _ _ _ _ (stands_filter fds links m n s (omega arith))
     (any_same _ _ (filter (λ k. not (not (is_persistent k) && not (stands_within fds links m k.ctl))) links)
     (λ l. ap (λ (b : Bool). not (is_persistent l) && (same_stream l.lower s && b))
@@ -50,9 +50,7 @@ stands_filter fds links m (suc n) s le = both _ _ _ _ (stands_filter fds links m
       both a b d e f g = cc
 
       kept : (a d : Bool) → d ≡ true → not (not a && not d) ≡ true
-      kept true d h = refl
-      kept false true h = refl
-      kept false false h = absurd (false≢true h)
+      kept a d h = grind arith
 
 swept_exists : (drivers : List DriverSpec) (c : Configuration) (s : StreamId)
     → exists drivers (after_sweep drivers c) s ≡ exists drivers c s
@@ -66,19 +64,13 @@ swept_is drivers c = record {
       (sym (swept_exists drivers c l.ctl)) h);
   binds = all_passes _ _ c.binds (λ b h. h);
   flow = all_passes _ _ (without_links c (λ l. not (is_persistent l) && not (exists drivers c l.ctl))).flow
-      (λ h k. not_not _ k);
+      (λ h k. not-false _ (not-true _ k));
   fulls = all_passes _ _ (without_links c (λ l. not (is_persistent l) && not (exists drivers c l.ctl))).fulls
-      (λ p k. not_not _ k);
+      (λ p k. not-false _ (not-true _ k));
   hungs = all_passes _ _ c.hungs (λ s h. h);
 } where
-  not_not : (b : Bool) → not (not b) ≡ true → b ≡ true
-  not_not true h = refl
-  not_not false h = h
-
   alive : (a b d : Bool) → b ≡ d → not (not a && not b) ≡ true → (a || d) ≡ true
-  alive true b d e h = refl
-  alive false true d e h = sym e
-  alive false false d e h = absurd (false≢true h)
+  alive a b d e h = grind arith
 
 -- as many climbs as drivers that reach it are enough
 

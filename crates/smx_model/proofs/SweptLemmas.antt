@@ -1,6 +1,6 @@
 -- Each configuration is swept.
 use Rattle.std.proofs.Common.{◌≡◌, ℕ, zero, suc, ◌<◌, Bool, true, false, ◌&&◌, ◌||◌, not, eqb, List, [], ◌∷◌, ◌++◌}
-use Rattle.std.proofs.Common.{length, find, Option, Some, None, Ok, Err, refl, rules, sym, ap, ◌∙◌, subst, arith, inl}
+use Rattle.std.proofs.Common.{length, find, Option, Some, None, Ok, refl, rules, sym, ap, ◌∙◌, subst, arith, inl}
 use Rattle.std.proofs.Common.{inr}
 use Rattle.std.specs.Prelude.{Result, IfOk}
 use Rattle.smx_model.specs.Commands.{outcome, done_outcome}
@@ -9,7 +9,6 @@ use Rattle.smx_model.specs.Configuration.{Configuration, QueuedMessage, is_at, q
 use Rattle.smx_model.specs.Configuration.{place_before, is_fd}
 use Rattle.smx_model.specs.DriverList.{is_mux}
 use Rattle.smx_model.specs.Lookups.{driver_of, stream_of, free_stream, leaf_stream, live_leaf, live_stream}
-use Rattle.smx_model.specs.Outcomes.{Outcome}
 use Rattle.smx_model.specs.Paths.{HasNoCycle}
 use Rattle.smx_model.specs.Ordered.{without_first}
 use Rattle.smx_model.specs.Queues.{first_message, with_mark}
@@ -19,7 +18,7 @@ use Rattle.smx_model.specs.Standing.{is_persistent, is_named, stands_within, exi
 use Rattle.smx_model.specs.Swept.{IsSwept}
 use Rattle.smx_model.proofs.IdleSweepLemmas.{swept_idle}
 use Rattle.smx_model.proofs.AcceptedLemmas.{of_rows}
-use Rattle.smx_model.proofs.OutcomeLemmas.{IfAccepted}
+use Rattle.smx_model.proofs.OutcomeLemmas.{IfAccepted, if_ok}
 use Rattle.smx_model.proofs.LookupLemmas.{descriptor_of, live_is, live_leaf_is, looked_up, passed, tested}
 use Rattle.smx_model.proofs.PathLemmas.{reaches_at}
 use Rattle.smx_model.proofs.RangeLemmas.{AreNamed}
@@ -274,7 +273,5 @@ stands_exists drivers c s none below h =
 -- what an accepted command leaves needs no further sweep
 pub swept_once : (drivers : List DriverSpec) (c : Configuration) (process : ℕ) (k : Command) → IsSwept drivers c
     → IfOk (outcome drivers c process k) (λ x. after_sweep drivers x.0 ≡ x.0)
-swept_once drivers c process k h = by (outcome drivers c process k) (swept_accepted drivers c process k h) where
-  by : (o : Outcome) → IfAccepted (λ d r. IsSwept drivers d) o → IfOk o (λ x. after_sweep drivers x.0 ≡ x.0)
-  by (Ok x) m = swept_idle drivers x.0 m.holds
-  by (Err f) m = tt
+swept_once drivers c process k h = if_ok (IsSwept drivers) _ (outcome drivers c process k) (swept_idle drivers)
+    (swept_accepted drivers c process k h)

@@ -1,9 +1,10 @@
 -- Tests over lists: some element passes, each does, the first that does.
 use Rattle.std.proofs.Common.{◌≡◌, Bool, true, false, ◌||◌, not, List, [], ◌∷◌, filter, refl, sym, ap, ◌∙◌, inl, inr}
-use Rattle.std.proofs.Common.{◌++◌, find, Some}
+use Rattle.std.proofs.Common.{arith, ◌++◌, find, Some}
 use Rattle.std.specs.List.{list_any, list_all}
 use Rattle.std.proofs.lemmas.Bool.{cases_Bool, and_parts, or_cases, or_left, or_right, and_from, false≢true, both_ways}
 use Rattle.std.proofs.lemmas.Bool.{false_from_ne_true}
+use Rattle.std.proofs.lemmas.List.Folds.{list_all-append, list_any-append}
 use Rattle.smx_model.specs.Ordered.{with_inserted, without_first}
 use Rattle.smx_model.proofs.EachLemmas.{Each}
 
@@ -67,8 +68,7 @@ all_more t u (x ∷ xs) h e = let p = and_parts (t x) (list_all t xs) e in and_f
 -- where each element passes, and one more does, each does with that one at the end
 pub all_push : {X : Type 0} (t : X → Bool) (xs : List X) (x : X) → t x ≡ true → list_all t xs ≡ true
     → list_all t (xs ++ x ∷ []) ≡ true
-all_push t [] x h e = and_from _ _ h refl
-all_push t (y ∷ ys) x h e = let p = and_parts (t y) (list_all t ys) e in and_from _ _ p.0 (all_push t ys x h p.1)
+all_push t xs x h e = list_all-append t xs (x ∷ []) ∙ and_from _ _ e (and_from _ _ h refl)
 
 -- where each element passes, and one more does, each does once that is inserted
 pub all_placed : {X : Type 0} (t : X → Bool) (before : X → X → Bool) (xs : List X) (x : X) → t x ≡ true
@@ -105,9 +105,7 @@ any_placed t before (y ∷ ys) x e = elim (cases_Bool (before x y)) [
 -- where some element passes, some does with one more at the end
 pub any_push : {X : Type 0} (t : X → Bool) (xs : List X) (x : X) → list_any t xs ≡ true
     → list_any t (xs ++ x ∷ []) ≡ true
-any_push t [] x e = absurd (false≢true e)
-any_push t (y ∷ ys) x e =
-    elim (or_cases (t y) (list_any t ys) e) [ inl k ↦ or_left _ _ k | inr k ↦ or_right _ _ (any_push t ys x k) ]
+any_push t xs x e = list_any-append t xs (x ∷ []) ∙ or_left _ _ e
 
 -- where the element that a search finds passes another test, some element passes that
 pub found_any : {X : Type 0} (test t : X → Bool) (xs : List X) (x : X) → find test xs ≡ Some x → t x ≡ true
@@ -164,7 +162,4 @@ any_of_placed t before [] x = refl
 any_of_placed t before (y ∷ ys) x = elim (cases_Bool (before x y))
     [ inl a ↦ rw a refl | inr b ↦ rw (b, any_of_placed t before ys x) (turned (t y) (t x) (list_any t ys)) ] where
       turned : (a b c : Bool) → (a || (b || c)) ≡ (b || (a || c))
-      turned true true c = refl
-      turned true false c = refl
-      turned false true c = refl
-      turned false false c = refl
+      turned a b c = grind arith

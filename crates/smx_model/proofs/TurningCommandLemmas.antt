@@ -3,8 +3,9 @@ use Rattle.std.proofs.Common.{◌≡◌, ℕ, ◌+◌, Bool, true, false, ◌&&�
 use Rattle.std.proofs.Common.{filter, Result, Ok, Err, refl, rules, inl, inr, arith}
 use Rattle.std.specs.Prelude.{nat_lt, IfOk}
 use Rattle.std.specs.List.{list_any}
-use Rattle.std.proofs.lemmas.Bool.{cases_Bool, and_parts, or_cases, false_from_ne_true, eqb-true}
-use Rattle.std.proofs.lemmas.Bool.{ltb-true, not-true}
+use Rattle.std.proofs.lemmas.Bool.{cases_Bool}
+use Rattle.std.proofs.lemmas.Bool.{not-true}
+use Rattle.std.proofs.lemmas.Bool.Decides.{nat_tests}
 use Rattle.smx_types.specs.declared.command.Command.{Command}
 use Rattle.smx_types.specs.declared.command.Command.TheVariants as command
 use Rattle.smx_types.specs.declared.driver.DriverSpec.{DriverSpec}
@@ -30,7 +31,7 @@ use Rattle.smx_model.specs.Removal.{after_sweep}
 use Rattle.smx_model.proofs.EachLemmas.{Apart, apart_filter, apart_pairs, apart_rising}
 use Rattle.smx_model.proofs.EachLemmas.{Each, none_passes, kept_passes, each_map, each_of_all}
 use Rattle.smx_model.proofs.AcceptedLemmas.{unlinked}
-use Rattle.smx_model.proofs.OutcomeLemmas.{IfAccepted, at_ok, after_ok, after_test, after_some, after_choice}
+use Rattle.smx_model.proofs.OutcomeLemmas.{IfAccepted, at_ok, after_ok, after_test, after_some, after_choice, if_ok}
 use Rattle.smx_model.specs.RunMarks.{asks_down, asks_up, nowhere, is_first_at, TurnsOnly}
 use Rattle.smx_model.specs.TurnedPlaces.{of_stream, read_side, write_side, turned_by}
 use Rattle.smx_model.proofs.TurningLemmas.{next_of_others, bound, routed, binds_find, fewer_turns}
@@ -38,20 +39,17 @@ use Rattle.smx_model.proofs.TurningLemmas.{keyed_removed, routes_find, turns_arr
 use Rattle.smx_model.proofs.TurningLemmas.{turns_left, turns_linked, turns_removed, turns_routed, turns_swept}
 use Rattle.smx_model.proofs.TurningLemmas.{turns_then, other, same_finds, IsKeyed, AreRooted, rooted_filter}
 use Rattle.smx_model.specs.Hangups.{is_hung, with_hung}
+use Rattle.smx_model.proofs.RisingLemmas.{bind_other}
 use Rattle.smx_model.proofs.TestLemmas.{any_placed}
 use Rattle.smx_model.specs.KnownStreams.{IsKnown}
 
 -- ---- each key is there once
 
 less_other : (a b : ℕ) → nat_lt a b ≡ true → eqb a b ≡ false
-less_other a b h = false_from_ne_true _ (λ t. absurd (omega (arith, ltb-true a b h, eqb-true a b t)))
+less_other a b h = grind (arith, nat_tests)
 
 pair_other : (a b c d : ℕ) → pair_before a b c d ≡ true → (eqb a c && eqb b d) ≡ false
-pair_other a b c d h = false_from_ne_true _
-    (λ t. let p = and_parts (eqb a c) (eqb b d) t in elim (or_cases (nat_lt a c) (eqb a c && nat_lt b d) h) [
-      | inl k ↦ absurd (omega (arith, ltb-true a c k, eqb-true a c p.0))
-      | inr k ↦ absurd (omega (arith, ltb-true b d (and_parts (eqb a c) (nat_lt b d) k).1, eqb-true b d p.1))
-    ])
+pair_other a b c d h = grind (arith, nat_tests)
 
 -- in a sound configuration each key of a route, a link or a binding is there once
 pub keyed : (drivers : List DriverSpec) (c : Configuration) → IsSound drivers c → IsKeyed c
@@ -101,17 +99,13 @@ keyed_bound c driver addr minor free h = record {
       (λ b e. other e.driver e.addr b.driver b.addr)
       (record { driver = driver; addr = addr; minor = minor }) c.binds
       (none_passes (λ b. eqb b.driver driver && (eqb b.addr addr || eqb b.minor minor)) _ c.binds
-      (λ b f. other driver addr b.driver b.addr (by (eqb b.driver driver) (eqb b.addr addr) (eqb b.minor minor) f))
+      (λ b f. other driver addr b.driver b.addr (bind_other driver addr b.driver b.addr b.minor minor f))
       free)
       h.binds;
   ids = h.ids;
   lowers = h.lowers;
   routes = h.routes;
-} where
-  by : (x y z : Bool) → (x && (y || z)) ≡ false → (x && y) ≡ false
-  by true true z h = h
-  by true false z h = refl
-  by false y z h = refl
+}
 
 -- ---- the rows of the command table
 
@@ -282,13 +276,8 @@ turns drivers c process (command.Transmit name minor) h = search
 turns drivers c process (command.Hangup name minor) h = let k = keyed drivers c h in let x = rooted drivers c h in
     search (after_ok, turns_still, more_hung_turn_none, rules) depth 20
 
--- what `IfAccepted` says of the configuration of an accepted outcome, `IfOk` says of it too
-pub if_ok : (P : Configuration → Type 0) (o : Outcome) → IfAccepted (λ d r. P d) o → IfOk o (λ x. P x.0)
-if_ok P (Ok x) h = h.holds
-if_ok P (Err f) h = tt
-
 -- the same, as the laws say it: an accepted command turns no place but those of `turned_by`
 pub outcomes_turn : (drivers : List DriverSpec) (c : Configuration) (process : ℕ) (k : Command) → IsSound drivers c
     → IfOk (outcome drivers c process k) (λ x. TurnsOnly drivers c x.0 (turned_by drivers c process k))
-outcomes_turn drivers c process k h = if_ok (λ d. TurnsOnly drivers c d (turned_by drivers c process k))
-    (outcome drivers c process k) (turns drivers c process k h)
+outcomes_turn drivers c process k h = if_ok (λ d. TurnsOnly drivers c d (turned_by drivers c process k)) _
+    (outcome drivers c process k) (λ d m. m) (turns drivers c process k h)

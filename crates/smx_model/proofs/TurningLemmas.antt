@@ -1,11 +1,12 @@
 -- Which changes turn which places.
 use Rattle.std.proofs.Common.{◌≡◌, ℕ, Bool, true, false, ◌&&◌, not, eqb, List, [], ◌∷◌, ◌++◌, filter, find, Option}
-use Rattle.std.proofs.Common.{Some, None, refl, sym, ap, ◌∙◌, subst, inl, inr, rules, ◌<◌, length}
+use Rattle.std.proofs.Common.{Some, None, refl, sym, ap, ◌∙◌, subst, inl, inr, arith, rules, ◌<◌, length}
 use mathlib.Core.Logic.{◌⊎◌}
 use Rattle.std.specs.Prelude.{slice_get}
 use Rattle.std.specs.List.{list_any}
 use Rattle.std.proofs.lemmas.Bool.{both_ways, cases_Bool, and_parts, and_from, or_cases, or_parts, or_left}
 use Rattle.std.proofs.lemmas.Bool.{false_from_ne_true, false≢true, eqb-true, eq-eqb}
+use Rattle.std.proofs.lemmas.Bool.Decides.{nat_tests}
 use Rattle.smx_types.specs.declared.driver.DriverSpec.{DriverSpec}
 use Rattle.smx_types.specs.declared.link.Binding.{Binding}
 use Rattle.smx_types.specs.declared.link.Link.{Link}
@@ -197,14 +198,10 @@ pub record IsKeyed (c : Configuration) : Type 0 where
   pub binds : Apart (λ b e. (eqb b.driver e.driver && eqb b.addr e.addr) ≡ false) c.binds
 
 two : (a b c d x y : ℕ) → (eqb a x && eqb b y) ≡ true → (eqb a c && eqb b d) ≡ false → (eqb c x && eqb d y) ≡ false
-two a b c d x y h k =
-    false_from_ne_true _ (λ t. let p = and_parts (eqb a x) (eqb b y) h in let q = and_parts (eqb c x) (eqb d y) t in
-    both_ways (eqb a c && eqb b d) k
-    (and_from _ _ (eq-eqb a c (eqb-true a x p.0 ∙ sym (eqb-true c x q.0)))
-    (eq-eqb b d (eqb-true b y p.1 ∙ sym (eqb-true d y q.1)))))
+two a b c d x y h k = grind (arith, nat_tests)
 
 one : (a b x : ℕ) → eqb a x ≡ true → eqb a b ≡ false → eqb b x ≡ false
-one a b x h k = false_from_ne_true _ (λ t. both_ways (eqb a b) k (eq-eqb a b (eqb-true a x h ∙ sym (eqb-true b x t))))
+one a b x h k = grind (arith, nat_tests)
 
 -- of filtered routes the one for a driver and an address is found as before, or none
 pub routes_find : (keep : Route → Bool) (c : Configuration) (driver addr : ℕ) → IsKeyed c
@@ -373,9 +370,7 @@ routed c driver addr id =
 
 -- two keys that differ do so the other way round
 pub other : (driver addr d a : ℕ) → (eqb d driver && eqb a addr) ≡ false → (eqb driver d && eqb addr a) ≡ false
-other driver addr d a h = false_from_ne_true _ (λ t. let p = and_parts (eqb driver d) (eqb addr a) t in
-    both_ways (eqb d driver && eqb a addr) h
-    (and_from _ _ (eq-eqb d driver (sym (eqb-true driver d p.0))) (eq-eqb a addr (sym (eqb-true addr a p.1)))))
+other driver addr d a h = grind (arith, nat_tests)
 
 find_routed : (c : Configuration) (driver addr id d a : ℕ) → (eqb d driver && eqb a addr) ≡ false
     → find (λ r. eqb r.driver d && eqb r.addr a) (routed c driver addr id).routes

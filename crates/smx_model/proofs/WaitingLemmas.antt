@@ -5,6 +5,7 @@ use mathlib.Core.Logic.{◌⊎◌}
 use Rattle.std.specs.Option.{is_some}
 use Rattle.std.specs.Prelude.{slice_get, if◌then◌else◌}
 use Rattle.std.proofs.lemmas.Bool.{cases_Bool, and_parts, and_from, or_left, false≢true}
+use Rattle.std.proofs.lemmas.Bool.{not-false}
 use Rattle.smx_types.specs.declared.driver.DriverSpec.{DriverSpec}
 use Rattle.smx_types.specs.declared.message.Message.{Message}
 use Rattle.smx_types.specs.declared.stream.Place.{Place}
@@ -144,13 +145,9 @@ first_arrived flow q r m o asleep =
     ]
     ∙ sym (front_is flow r))
   where
-    not_not : (b : Bool) → (true && not b) ≡ false → b ≡ true
-    not_not true h = refl
-    not_not false h = sym h
-
     some : (r : Place) → q ≡ r → same_place q r ≡ true
         → (same_place q r && not (is_some (first_message flow q))) ≡ false → is_some (slice_get (queue flow r) 0) ≡ true
     some r e t a =
         let k : (true && not (is_some (first_message flow q))) ≡ false = rw t at a in
         sym (ap is_some (front_is flow r))
-        ∙ (sym (ap (λ (x : Place). is_some (first_message flow x)) e) ∙ not_not (is_some (first_message flow q)) k)
+        ∙ (sym (ap (λ (x : Place). is_some (first_message flow x)) e) ∙ not-false (is_some (first_message flow q)) k)
