@@ -126,7 +126,7 @@ module _ {V K T : Type 0} (filter : Filter V K T) (reading : HasOneReading filte
 -- ---- refusals
 
 -- drivers that can be had are refused for want of memory alone
-drivers_had : HaveOneFault → (drivers : List DriverSpec) → IsDriverList drivers → (r : RunFault)
+pub drivers_had : HaveOneFault → (drivers : List DriverSpec) → IsDriverList drivers → (r : RunFault)
     → RefusesAlone drivers r → r ≡ run.NoMemory
 drivers_had determined drivers had run.NoMemory h = refl
 drivers_had determined drivers had (run.Strange p) h = absurd h
