@@ -1,6 +1,6 @@
 -- What a status tells of what was answered.
-use Rattle.std.proofs.Common.{◌≡◌, ◌≢◌, ◌⊎◌, ◌↔◌, ℕ, Bool, true, false, List, [], ◌++◌, Option, Some, None, Result, Ok}
-use Rattle.std.proofs.Common.{Err, refl, sym, ap, subst, ◌∙◌, arith, inl, inr}
+use Rattle.std.proofs.Common.{◌≡◌, ◌≢◌, ◌⊎◌, ◌↔◌, ℕ, Bool, true, List, [], ◌++◌, Option, Some, None, Result, Ok}
+use Rattle.std.proofs.Common.{◌+◌, Err, refl, sym, ap, subst, ◌∙◌, arith, inl, inr}
 use Rattle.std.specs.Prelude.{IfSome}
 use Rattle.std.specs.Io.KnownBytes.{Appends, Consumes, Keeps}
 use Rattle.std.specs.Process.{exit_status}
@@ -50,28 +50,17 @@ fault_is TooLong = inl (λ is. cc, λ is. cc, inr refl)
 fault_is ReadFailed = inr (inl refl, refl)
 fault_is WriteFailed = inr (inr refl, refl)
 
--- so it has no other
-fault_has : (e : MainFault) (n : ℕ) → n ≡ status_of e → (n ≡ 1) ⊎ (n ≡ 3) ⊎ (n ≡ 5)
-fault_has e n is = elim (fault_is e) [
-  | inl (read, write, inl one) ↦ inl (is ∙ one)
-  | inl (read, write, inr three) ↦ inr (inl (is ∙ three))
-  | inr (failed, five) ↦ inr (inr (is ∙ five))
+-- so it is odd
+odd : (e : MainFault) → (k : ℕ) × (status_of e ≡ k + k + 1)
+odd e = elim (fault_is e) [
+  | inl (read, write, inl one) ↦ (0, one)
+  | inl (read, write, inr three) ↦ (1, three)
+  | inr (failed, five) ↦ (2, five)
 ]
 
-none_of : (n m : ℕ) → (n ≡ 1) ⊎ (n ≡ 3) ⊎ (n ≡ 5) → n ≡ m → m ≢ 1 → m ≢ 3 → m ≢ 5 → ⊥
-none_of n m (inl one) is a b c = a (sym is ∙ one)
-none_of n m (inr (inl three)) is a b c = b (sym is ∙ three)
-none_of n m (inr (inr five)) is a b c = c (sym is ∙ five)
-
--- a fault has neither of these
-fault_not_0 : (e : MainFault) (n : ℕ) → n ≡ status_of e → n ≡ 0 → ⊥
-fault_not_0 e n is zero = none_of n 0 (fault_has e n is) zero (λ k. cc) (λ k. cc) (λ k. cc)
-
-fault_not_2 : (e : MainFault) (n : ℕ) → n ≡ status_of e → n ≡ 2 → ⊥
-fault_not_2 e n is two = none_of n 2 (fault_has e n is) two (λ k. cc) (λ k. cc) (λ k. cc)
-
-fault_not_4 : (e : MainFault) (n : ℕ) → n ≡ status_of e → n ≡ 4 → ⊥
-fault_not_4 e n is four = none_of n 4 (fault_has e n is) four (λ k. cc) (λ k. cc) (λ k. cc)
+-- a fault has no status that is even
+not_even : (e : MainFault) (n k : ℕ) → n ≡ status_of e → n ≡ k + k → ⊥
+not_even e n k is even = let (j, other) = odd e in omega (arith, is, even, other)
 
 -- ---- what a filter says
 
@@ -124,27 +113,12 @@ module _ {V K T : Type 0} (f : Filter V K T) (d : Devices) where
 -- ---- what was done
 
 module _ (d : Devices) (code : ExitCode) (input output : List ℕ) (w : Writes d input output) where
-  -- of a run
-  ran : (fronts : Bool) (workers : ℕ) (answer : Result (Unit {0}) MainFault)
-      → Filtered (running fronts workers) d answer
+  -- of a run, a replay or a drawing
+  done_for : {V K : Type 0} (f : Filter V K (Unit {0})) (answer : Result (Unit {0}) MainFault) → Filtered f d answer
       → exit_status code ≡ status_of_outcome (outcome_of_writing answer) → exit_status code ≡ 0
-      → (d.flushed ≡ true) × GivesFor (running fronts workers) input tt output
-  ran fronts workers (Ok done) h is zero = gave (running fronts workers) d tt h input output w
-  ran fronts workers (Err e) h is zero = absurd (fault_not_0 e _ is zero)
-
-  -- of a replay
-  replayed : (answer : Result (Unit {0}) MainFault) → Filtered replaying d answer
-      → exit_status code ≡ status_of_outcome (outcome_of_writing answer) → exit_status code ≡ 0
-      → (d.flushed ≡ true) × GivesFor replaying input tt output
-  replayed (Ok done) h is zero = gave replaying d tt h input output w
-  replayed (Err e) h is zero = absurd (fault_not_0 e _ is zero)
-
-  -- of a drawing
-  drawn : (form : Form) (answer : Result (Unit {0}) MainFault) → Filtered (drawing form) d answer
-      → exit_status code ≡ status_of_outcome (outcome_of_writing answer) → exit_status code ≡ 0
-      → (d.flushed ≡ true) × GivesFor (drawing form) input tt output
-  drawn form (Ok done) h is zero = gave (drawing form) d tt h input output w
-  drawn form (Err e) h is zero = absurd (fault_not_0 e _ is zero)
+      → (d.flushed ≡ true) × GivesFor f input tt output
+  done_for f (Ok done) h is zero = gave f d tt h input output w
+  done_for f (Err e) h is zero = absurd (not_even e _ 0 is zero)
 
   -- of a check
   judged : (explain : Bool) (answer : Result Verdict MainFault) → Filtered (judging explain) d answer
@@ -155,7 +129,7 @@ module _ (d : Devices) (code : ExitCode) (input output : List ℕ) (w : Writes d
         (gave (judging explain) d v h input output w)
     | inr (other, same) ↦ absurd (omega (arith, is, zero, same))
   ]
-  judged explain (Err e) h is zero = absurd (fault_not_0 e _ is zero)
+  judged explain (Err e) h is zero = absurd (not_even e _ 0 is zero)
 
   otherwise : (explain : Bool) (answer : Result Verdict MainFault) → Filtered (judging explain) d answer
       → exit_status code ≡ status_of_outcome (outcome_of_check answer) → exit_status code ≡ 4
@@ -165,7 +139,7 @@ module _ (d : Devices) (code : ExitCode) (input output : List ℕ) (w : Writes d
     | inr (other, same) ↦ let (flushed, gives) = gave (judging explain) d v h input output w in
         (flushed, v, other, gives)
   ]
-  otherwise explain (Err e) h is four = absurd (fault_not_4 e _ is four)
+  otherwise explain (Err e) h is four = absurd (not_even e _ 2 is four)
 
 -- what was read of these bytes is their beginning
 beginning : (left : Option (List ℕ)) (input read : List ℕ) → Consumes (Some input) left read
@@ -192,18 +166,20 @@ pub run_done : (fronts : Bool) (workers : ℕ) (d : Devices) (code : ExitCode) (
     → EndsRun fronts workers d code
     → Writes d input output → exit_status code ≡ 0
     → (d.flushed ≡ true) × GivesFor (running fronts workers) input tt output
-run_done fronts workers d code input output h w = ran d code input output w fronts workers h.answer h.ran h.status
+run_done fronts workers d code input output h w =
+    done_for d code input output w (running fronts workers) h.answer h.ran h.status
 
 -- so did a replay
 pub replay_done : (d : Devices) (code : ExitCode) (input output : List ℕ) → EndsReplay d code
     → Writes d input output → exit_status code ≡ 0 → (d.flushed ≡ true) × GivesFor replaying input tt output
-replay_done d code input output h w = replayed d code input output w h.answer h.replayed h.status
+replay_done d code input output h w = done_for d code input output w replaying h.answer h.replayed h.status
 
 -- so did a drawing
 pub draw_done : (form : Form) (d : Devices) (code : ExitCode) (input output : List ℕ) → EndsDraw form d code
     → Writes d input output → exit_status code ≡ 0
     → (d.flushed ≡ true) × GivesFor (drawing form) input tt output
-draw_done form d code input output h w = drawn d code input output w form h.answer h.drawn h.status
+draw_done form d code input output h w =
+    done_for d code input output w (drawing form) h.answer h.drawn h.status
 
 -- a live session is over, and wrote its answers
 pub live_done : (d : Devices) (code : ExitCode) (input output : List ℕ) → EndsLive d code
@@ -215,7 +191,7 @@ live_done d code input output h w zero = by_answer h.answer h.lived h.status whe
       → exit_status code ≡ status_of_outcome (outcome_of_writing answer)
       → (d.flushed ≡ true) × (read rest : List ℕ) × (input ≡ read ++ rest) × IsOver read d.ended output
   by_answer (Ok done) l is = lived d input output w l
-  by_answer (Err e) l is = absurd (fault_not_0 e _ is zero)
+  by_answer (Err e) l is = absurd (not_even e _ 0 is zero)
 
 -- a check with the status 0 judged the transcript legal
 pub judged_legal : (explain : Bool) (d : Devices) (code : ExitCode) (input output : List ℕ)
@@ -238,19 +214,15 @@ record Tells (Low : Type 0) (d : Devices) (n : ℕ) : Type 0 where
   no_words : n ≡ 2 → ⊥
 
 -- where it is 0 or 4, there was one
-of_answer : {V K T : Type 0} (f : Filter V K T) (d : Devices) (a : T) → Filtered f d (Ok a) → (n : ℕ)
-    → (n ≡ 0) ⊎ (n ≡ 4) → Tells (Keeps d.before d.after) d n
-of_answer f d a h n (inl zero) = record {
-  failed = (λ is. absurd (omega (arith, zero, is)), λ broke. absurd (fine f d a h broke));
-  unwritten =
-      λ low. elim low [ inl one ↦ absurd (omega (arith, zero, one)) | inr three ↦ absurd (omega (arith, zero, three)) ];
-  no_words = λ is. absurd (omega (arith, zero, is));
-}
-of_answer f d a h n (inr four) = record {
-  failed = (λ is. absurd (omega (arith, four, is)), λ broke. absurd (fine f d a h broke));
-  unwritten =
-      λ low. elim low [ inl one ↦ absurd (omega (arith, four, one)) | inr three ↦ absurd (omega (arith, four, three)) ];
-  no_words = λ is. absurd (omega (arith, four, is));
+of_answer : {V K T : Type 0} (f : Filter V K T) (d : Devices) (a : T) → Filtered f d (Ok a) → (n k : ℕ)
+    → n ≡ k + k + k + k → Tells (Keeps d.before d.after) d n
+of_answer f d a h n k fours = record {
+  failed = (λ is. absurd (omega (arith, fours, is)), λ broke. absurd (fine f d a h broke));
+  unwritten = λ low. elim low [
+    | inl one ↦ absurd (omega (arith, fours, one))
+    | inr three ↦ absurd (omega (arith, fours, three))
+  ];
+  no_words = λ is. absurd (omega (arith, fours, is));
 }
 
 -- else there was a fault
@@ -259,21 +231,21 @@ of_fault : {V K T : Type 0} (f : Filter V K T) (d : Devices) (e : MainFault) →
 of_fault f d e h n is = record {
   failed = broken f d e h n is;
   unwritten = nothing f d e h n is;
-  no_words = fault_not_2 e n is;
+  no_words = not_even e n 1 is;
 }
 
 of_writing : {V K : Type 0} (f : Filter V K (Unit {0})) (d : Devices) (n : ℕ) (answer : Result (Unit {0}) MainFault)
     → Filtered f d answer
     → n ≡ status_of_outcome (outcome_of_writing answer) → Tells (Keeps d.before d.after) d n
-of_writing f d n (Ok done) h is = of_answer f d done h n (inl is)
+of_writing f d n (Ok done) h is = of_answer f d done h n 0 is
 of_writing f d n (Err e) h is = of_fault f d e h n is
 
 of_judging : {V K : Type 0} (f : Filter V K Verdict) (d : Devices) (n : ℕ) (answer : Result Verdict MainFault)
     → Filtered f d answer
     → n ≡ status_of_outcome (outcome_of_check answer) → Tells (Keeps d.before d.after) d n
 of_judging f d n (Ok v) h is = elim (verdict_is v) [
-  | inl (legal, same) ↦ of_answer f d v h n (inl (is ∙ same))
-  | inr (other, same) ↦ of_answer f d v h n (inr (is ∙ same))
+  | inl (legal, same) ↦ of_answer f d v h n 0 (is ∙ same)
+  | inr (other, same) ↦ of_answer f d v h n 1 (is ∙ same)
 ]
 of_judging f d n (Err e) h is = of_fault f d e h n is
 
@@ -311,7 +283,7 @@ of_living d n (Ok done) h is = record {
 of_living d n (Err e) h is = record {
   failed = live_broken d h.read h.output e h.outcome n is;
   unwritten = λ low. tt;
-  no_words = fault_not_2 e n is;
+  no_words = not_even e n 1 is;
 }
 
 -- what the statuses 1 and 3 tell of a job: but for a live session, that nothing was written
@@ -351,7 +323,7 @@ no_words job d code h = (tells job d code h).no_words
 -- 4 is that of a verdict alone
 not_4 : (n : ℕ) (answer : Result (Unit {0}) MainFault) → n ≡ status_of_outcome (outcome_of_writing answer) → n ≡ 4 → ⊥
 not_4 n (Ok done) is four = absurd (omega (arith, is, four))
-not_4 n (Err e) is four = fault_not_4 e n is four
+not_4 n (Err e) is four = not_even e n 2 is four
 
 -- no run has the status 4
 pub run_not_4 : (fronts : Bool) (workers : ℕ) (d : Devices) (code : ExitCode) → EndsRun fronts workers d code

@@ -1,5 +1,5 @@
 -- An input has one answer, and what a run writes spells one report.
-use Rattle.std.proofs.Common.{◌≡◌, ◌≢◌, ℕ, zero, suc, ◌++◌, ◌≤◌, ◌⊎◌, Bool, true, false, List, length, map}
+use Rattle.std.proofs.Common.{◌≡◌, ◌≢◌, ℕ, zero, suc, ◌++◌, ◌≤◌, Bool, true, false, List, length, map}
 use Rattle.std.proofs.Common.{Result, Ok, Err}
 use Rattle.std.proofs.Common.{refl, sym, ap, subst, ◌∙◌, arith, inl, inr}
 use Rattle.smx_types.specs.ProgramLists.{ProgramLists}
@@ -32,7 +32,7 @@ use Rattle.smx_filters.specs.CheckText.{checking, verdict_line}
 use Rattle.smx_filters.specs.ExplainText.{explaining}
 use Rattle.smx_filters.specs.Filters.{Answers, Filter, GivesFor, HadMemory, RefusesFor}
 use Rattle.smx_filters.specs.ReplayText.{replaying}
-use Rattle.smx_filters.specs.RunText.{IsRefusedFor, IsTranscriptInTurn, IsWrittenFor, running}
+use Rattle.smx_filters.specs.RunText.{IsTranscriptInTurn, IsWrittenFor, running}
 use Rattle.smx_filters.specs.declared.main_fault.MainFault.{MainFault}
 use Rattle.smx_filters.specs.declared.main_fault.MainFault.TheVariants.{Refused, Text, TooLong, ReadFailed, WriteFailed}
 
@@ -113,20 +113,14 @@ module _ {V K T : Type 0} (filter : Filter V K T) (reading : HasOneReading filte
   one_answer (Err TooLong) other h k known known_too = absurd h
   one_answer (Err ReadFailed) other h k known known_too = absurd h
   one_answer (Err WriteFailed) other h k known known_too = absurd h
-  one_answer (Ok x) (Err TooLong) h k known known_too = absurd k
-  one_answer (Ok x) (Err ReadFailed) h k known known_too = absurd k
-  one_answer (Ok x) (Err WriteFailed) h k known known_too = absurd k
-  one_answer (Err (Text f)) (Err TooLong) h k known known_too = absurd k
-  one_answer (Err (Text f)) (Err ReadFailed) h k known known_too = absurd k
-  one_answer (Err (Text f)) (Err WriteFailed) h k known known_too = absurd k
-  one_answer (Err (Refused r)) (Err TooLong) h k known known_too = absurd k
-  one_answer (Err (Refused r)) (Err ReadFailed) h k known known_too = absurd k
-  one_answer (Err (Refused r)) (Err WriteFailed) h k known known_too = absurd k
+  one_answer one (Err TooLong) h k known known_too = absurd k
+  one_answer one (Err ReadFailed) h k known known_too = absurd k
+  one_answer one (Err WriteFailed) h k known known_too = absurd k
 
 -- ---- refusals
 
 -- drivers that can be had are refused for want of memory alone
-drivers_had : HaveOneFault → (drivers : List DriverSpec) → IsDriverList drivers → (r : RunFault)
+pub drivers_had : HaveOneFault → (drivers : List DriverSpec) → IsDriverList drivers → (r : RunFault)
     → RefusesAlone drivers r → r ≡ run.NoMemory
 drivers_had determined drivers had run.NoMemory h = refl
 drivers_had determined drivers had (run.Strange p) h = absurd h
@@ -243,11 +237,6 @@ run_had false workers programs output h = (report_of workers programs output h).
 
 -- ---- a run
 
--- one worker alone refuses what a run alone does, and so does any number of one process
-run_alone : (workers : ℕ) (programs : ProgramLists) → (workers ≤ 1) ⊎ (length programs.programs ≤ 1) → (r : RunFault)
-    → IsRefusedFor workers programs r → RefusesAlone programs.drivers r
-run_alone workers programs few r h = h.1 few
-
 -- a run on one worker
 pub run_by_one : HasOneReading programs_grammar → HaveOneFault → HaveOneReport
     → (input : List ℕ) (one other : Result (Unit {0} × List ℕ) MainFault)
@@ -255,10 +244,8 @@ pub run_by_one : HasOneReading programs_grammar → HaveOneFault → HaveOneRepo
     → HadMemory one → HadMemory other → one ≡ other
 run_by_one reading determined reports input = one_answer (running false 1) reading (λ p. Unit {0})
     (λ p fits a b x y h k. (refl, in_turn_once reports p x y h k))
-    (λ p fits r s h k. refused_alone determined p.drivers r s (run_alone 1 p (inl (omega arith)) r h)
-    (run_alone 1 p (inl (omega arith)) s k))
-    (λ p fits a x r h refuses. drivers_had determined p.drivers h.promised.can_be_had r
-    (run_alone 1 p (inl (omega arith)) r refuses))
+    (λ p fits r s h k. refused_alone determined p.drivers r s (h.1 (inl (omega arith))) (k.1 (inl (omega arith))))
+    (λ p fits a x r h refuses. drivers_had determined p.drivers h.promised.can_be_had r (refuses.1 (inl (omega arith))))
     input (λ version p spells. tt)
 
 -- a run of one process
@@ -270,10 +257,8 @@ pub run_of_one : HasOneReading programs_grammar → HaveOneFault → HaveOneRepo
 run_of_one reading determined reports workers input one other few =
     one_answer (running false workers) reading (λ p. length p.programs ≤ 1)
     (λ p fits a b x y h k. (refl, one_process_once reports workers p fits x y h k))
-    (λ p fits r s h k. refused_alone determined p.drivers r s (run_alone workers p (inr fits) r h)
-    (run_alone workers p (inr fits) s k))
-    (λ p fits a x r h refuses. drivers_had determined p.drivers (run_had false workers p x h) r
-    (run_alone workers p (inr fits) r refuses))
+    (λ p fits r s h k. refused_alone determined p.drivers r s (h.1 (inr fits)) (k.1 (inr fits)))
+    (λ p fits a x r h refuses. drivers_had determined p.drivers (run_had false workers p x h) r (refuses.1 (inr fits)))
     input few one other
 
 -- drivers of what is run are not refused

@@ -1,5 +1,5 @@
 -- What a check that explains itself says of a transcript, and which texts are kept.
-use Rattle.std.proofs.Common.{◌≡◌, ◌≢◌, ℕ, ◌++◌, Bool, List, length, Option, Some, None, Result, Ok, Err, Vec}
+use Rattle.std.proofs.Common.{◌≡◌, ℕ, ◌++◌, Bool, List, length, Option, Some, Result, Ok, Err, Vec}
 use Rattle.std.proofs.Common.{refl, sym}
 use Rattle.std.proofs.Common.{ap, subst, ◌∙◌}
 use Rattle.std.specs.Prelude.{IsErrAnd}
@@ -21,7 +21,7 @@ use Rattle.smx_run.specs.declared.run_fault.RunFault.{RunFault}
 use Rattle.smx_run.specs.declared.run_fault.RunFault.TheVariants as run
 use Rattle.smx_filters.specs.CheckText.{verdict_line}
 use Rattle.smx_filters.specs.ExplainText.{IsExplained, IsKept, KeepsText, explained_of, explaining}
-use Rattle.smx_filters.specs.Filters.{Answers, Filter, FiltersText}
+use Rattle.smx_filters.specs.Filters.{Answers, Filter}
 use Rattle.smx_filters.specs.Input.{IsInput}
 use Rattle.smx_filters.specs.declared.main_fault.MainFault.{MainFault}
 use Rattle.smx_filters.specs.declared.main_fault.MainFault.TheVariants.{Refused, Text}
@@ -77,18 +77,6 @@ is_explained t drivers entries verdict line told output same same_too can judged
     }
 
 -- ---- a text at fault
-
-module _ {V K T : Type 0} (f : Filter V K T) (had left : Option (List ℕ)) (ended : Bool) (failures : ℕ)
-    (before after : Option (List ℕ)) (flushed : Bool) (written : ℕ) where
-  -- a fault that is none of a text comes without one
-  pub without_text : (e : MainFault) (answer : Result T Refusal)
-      → IsErrAnd answer (λ r. r ≡ record { fault = e; text = None }) → ((fault : TextFault) → e ≢ Text fault)
-      → FiltersText f had left ended failures before after flushed written (Err e)
-      → KeepsText f had left ended failures before after flushed written answer
-  without_text e (Ok done) is other h = absurd is
-  without_text e (Err r) is other h =
-      subst (λ (x : Refusal). KeepsText f had left ended failures before after flushed written (Err x)) (sym is)
-      (record { filtered = h; kept = λ fault same. absurd (other fault same) })
 
 module _ {V K T : Type 0} (f : Filter V K T) (had left : Option (List ℕ)) (ended : Bool) (failures : ℕ)
     (held : Option (List ℕ)) (flushed : Bool) (written : ℕ) (v : Vec ℕ Global) (read : List ℕ)

@@ -94,16 +94,6 @@ module _ {V K T : Type 0} (filter : Filter V K T) (had left : Option (List ℕ))
       (λ (x : MainFault). FiltersText filter had left ended failures held held flushed written (Err x)) (sym is)
       (at_answer e a)
 
--- where the text is refused, its fault is the answer of a run
-pub text_refused : (fronts : Bool) (workers : ℕ) (bytes input : List ℕ) → bytes ≡ input
-    → (f : TextFault) (answer : Result (Vec ℕ Global) MainFault) → IsErrAnd answer (λ e. e ≡ Text f)
-    → IsFaultOf (running fronts workers) bytes f
-    → Answers (running fronts workers) input (items_of answer)
-text_refused fronts workers bytes input same f (Ok v) is a = absurd is
-text_refused fronts workers bytes input same f (Err e) is a =
-    subst (λ (x : MainFault). Answers (running fronts workers) input (Err x)) (sym is)
-    (subst (λ (given : List ℕ). IsFaultOf (running fronts workers) given f) same a)
-
 -- what one worker writes, any number may write
 pub written_by_any : (workers : ℕ) (programs : ProgramLists) (output : List ℕ) → IsTranscriptInTurn programs output
     → IsWrittenFor false workers programs output

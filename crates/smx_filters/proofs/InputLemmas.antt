@@ -1,26 +1,19 @@
 -- How a reading goes on and ends.
-use Rattle.std.proofs.Common.{◌≡◌, ℕ, zero, suc, ◌+◌, ◌<◌, ◌≤◌, Bool, List, [], ◌∷◌, ◌++◌, length, take, Option, Some}
-use Rattle.std.proofs.Common.{None, Err, refl, sym, ap, ◌∙◌, append_assoc, arith, rules}
+use Rattle.std.proofs.Common.{◌≡◌, ℕ, ◌+◌, ◌<◌, ◌≤◌, Bool, List, ◌++◌, length, take, Option, Some}
+use Rattle.std.proofs.Common.{None, Err, sym, ap, ◌∙◌, append_assoc, arith, rules}
 use Rattle.std.proofs.Math.Seq.{take-append-add}
-use Rattle.std.proofs.lemmas.List.{length-append, take-append-le}
+use Rattle.std.proofs.lemmas.List.{length-append, take-append-le, take-take}
 use Rattle.std.proofs.KnownBytes.{Consumes-trans}
 use Rattle.std.specs.Io.KnownBytes.{Consumes, Keeps}
 use Rattle.smx_filters.specs.Input.{IsInput}
 use Rattle.smx_filters.specs.declared.main_fault.MainFault.TheVariants.{TooLong, ReadFailed}
 use Rattle.smx_filters.specs.declared.input.TheConstants.{MAX_INPUT}
 
--- a beginning of a beginning
-take_take : (m n : ℕ) (xs : List ℕ) → m ≤ n → take m (take n xs) ≡ take m xs
-take_take zero n xs h = refl
-take_take (suc m) zero xs h = absurd (omega arith)
-take_take (suc m) (suc n) [] h = refl
-take_take (suc m) (suc n) (x ∷ xs) h = ap (λ (ys : List ℕ). x ∷ ys) (take_take m n xs (omega arith))
-
 -- a piece that was read behind the first k bytes of a buffer, as the buffer then has it
 pub with_piece : (before piece after tail : List ℕ) (k size n : ℕ) → length before ≡ k → k + n ≤ size → n ≤ length piece
     → take (k + n) (take size ((before ++ (piece ++ after)) ++ tail)) ≡ before ++ take n piece
 with_piece before piece after tail k size n is fits within =
-    take_take (k + n) size _ fits ∙ rw (append_assoc before (piece ++ after) tail, append_assoc piece after tail, ← is)
+    take-take (k + n) size _ fits ∙ rw (append_assoc before (piece ++ after) tail, append_assoc piece after tail, ← is)
     (take-append-add before _ n ∙ ap (λ (bs : List ℕ). before ++ bs) (take-append-le n piece (after ++ tail) within))
 
 -- what is kept stays read

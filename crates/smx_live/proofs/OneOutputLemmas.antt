@@ -4,12 +4,10 @@ use Rattle.std.proofs.Common.{map, take, drop}
 use Rattle.std.proofs.Common.{Result, Ok, Err, refl, sym, ap, subst, ◌∙◌, append_assoc, arith, inl, inr}
 use Rattle.std.proofs.lemmas.Fmt.{decimal_nonempty, digits_decimal}
 use Rattle.std.proofs.lemmas.List.{append_cancel_left}
-use Rattle.std.proofs.lemmas.Str.Parse.{IsNumeralModel, numerals_by_value, tells_all_ascii_digits}
 use Rattle.std.specs.Fmt.{decimal}
 use Rattle.std.specs.List.{AllByRecursion}
 use Rattle.std.specs.Prelude.{◌⊎◌, IfErr, codes}
 use Rattle.std.specs.Str.{all_ascii_digits}
-use Rattle.std.specs.Str.Parse.{digits_value}
 use Rattle.smx_types.specs.ProgramLists.{ProgramLists}
 use Rattle.smx_types.specs.declared.command.Command.{Command}
 use Rattle.smx_types.specs.declared.command.Entry.{Entry}
@@ -21,6 +19,7 @@ use Rattle.smx_model.specs.Configuration.{Configuration}
 use Rattle.smx_model.specs.Histories.{after, call_of}
 use Rattle.smx_model.specs.Views.{view}
 use Rattle.smx_words.proofs.CutLemmas.{apart}
+use Rattle.smx_words.proofs.NumberLemmas.{own}
 use Rattle.smx_words.specs.Spellable.{FitsEntry}
 use Rattle.smx_words.specs.Spelling.{entry_words}
 use Rattle.smx_words.specs.Words.{LINE_FEED, line_of}
@@ -30,15 +29,12 @@ use Rattle.smx_text.specs.TranscriptLines as line
 use Rattle.smx_text.specs.TranscriptText.{transcript_grammar}
 use Rattle.smx_text.specs.declared.text_fault.Cause.TheVariants as cause
 use Rattle.smx_text.specs.declared.text_fault.TextFault.{TextFault}
-use Rattle.smx_config.specs.DriverFaults.{RefusesDrivers}
-use Rattle.smx_config.specs.declared.config_fault.ConfigFault.{ConfigFault}
-use Rattle.smx_config.specs.declared.config_fault.ConfigFault.TheVariants as config
-use Rattle.smx_model.specs.DriverList.{IsDriverList}
 use Rattle.smx_run.specs.RunFaults.{RefusesAlone}
 use Rattle.smx_run.specs.declared.run_fault.RunFault.{RunFault}
 use Rattle.smx_run.specs.declared.run_fault.RunFault.TheVariants as run
 use Rattle.smx_session.specs.Sessions.{State}
 use Rattle.smx_filters.specs.declared.input.TheConstants.{MAX_INPUT}
+use Rattle.smx_filters.proofs.AnswerLemmas.{HaveOneFault, drivers_had}
 use Rattle.smx_live.specs.Inboxes.{HasLine, IsShort}
 use Rattle.smx_live.specs.LiveText.{HasComeSoFar, IsAtEnd, IsLive, IsOver, RefusesDriversOf}
 use Rattle.smx_live.specs.Tables.{AreOfTable, HasTableOf, IsOverAt, IsTable, begins_driver, lines_text, table_text}
@@ -139,9 +135,6 @@ table_once ended table other rest more t u e =
     (same, append_cancel_left other rest more (ap (λ (x : List ℕ). x ++ rest) (sym same) ∙ e))
 
 -- ---- entries
-
-own : IsNumeralModel (λ ds. all_ascii_digits ds ≡ true) (digits_value 10)
-own = numerals_by_value _ tells_all_ascii_digits
 
 -- a line begins with its first word
 begins_so : (b c : ℕ) (w rest : List ℕ) (words : List (List ℕ)) → line_of ((c ∷ w) ∷ words) ≡ b ∷ rest → c ≡ b
@@ -355,20 +348,6 @@ one_output reading told_apart read ended one other o p had had_too =
           p.live.answered had had_too o.at_end p.at_end table.1
 
 -- ---- what a session has come of
-
-abbrev pub HaveOneFault : Type 0
-HaveOneFault =
-    (drivers : List DriverSpec) (f g : ConfigFault) → RefusesDrivers drivers f → RefusesDrivers drivers g → f ≡ g
-
--- drivers that can be had are refused for want of memory alone
-drivers_had : HaveOneFault → (drivers : List DriverSpec) → IsDriverList drivers → (f : RunFault)
-    → RefusesAlone drivers f → f ≡ run.NoMemory
-drivers_had determined drivers had run.NoMemory h = refl
-drivers_had determined drivers had (run.ConfigFault f) h =
-    absurd (h.1 (determined drivers f config.NoMemory h.0 had))
-drivers_had determined drivers had (run.Strange p) h = absurd h
-drivers_had determined drivers had run.HistoryFull h = absurd h
-drivers_had determined drivers had run.Held h = absurd h
 
 -- the table spells programs, and no other text has a fault there
 pub no_fault : HasOneReading → (read output : List ℕ) (ended : Bool) (fault : TextFault)

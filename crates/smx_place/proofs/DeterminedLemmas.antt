@@ -4,12 +4,11 @@ use Rattle.std.proofs.Common.{subst, ◌∙◌, inl, inr, arith}
 use Rattle.std.specs.Prelude.{bytes_eq}
 use Rattle.std.specs.Fmt.{decimal}
 use Rattle.std.specs.Str.{all_ascii_digits}
-use Rattle.std.specs.Str.Parse.{digits_value}
 use Rattle.std.proofs.lemmas.Fmt.{digits_decimal}
 use Rattle.std.proofs.lemmas.Slice.Eq.{bytes_eq-Decides}
-use Rattle.std.proofs.lemmas.Str.Parse.{IsNumeralModel, numerals_by_value, tells_all_ascii_digits}
 use Rattle.smx_types.specs.declared.version.Version.{Version}
 use Rattle.smx_types.specs.declared.version.Version.TheVariants.{V1, V2}
+use Rattle.smx_words.proofs.NumberLemmas.{own}
 use Rattle.smx_place.specs.Rows.{GoesOn, IsChosen, IsFixed, IsOther, IsRow, WordRow, told_rows}
 use Rattle.smx_place.specs.declared.kinds.Choice.{Choice}
 use Rattle.smx_place.specs.declared.kinds.Choice.TheVariants.{ProgramsLine, TranscriptLine, Command, Equals}
@@ -94,9 +93,6 @@ lines_differ V2 = refl
 abbrev no_digits : List WordRow → Bool
 no_digits [] = true
 no_digits (row ∷ rows) = not (all_ascii_digits row.0) && no_digits rows
-
-own : IsNumeralModel (λ ds. all_ascii_digits ds ≡ true) (digits_value 10)
-own = numerals_by_value _ tells_all_ascii_digits
 
 -- so a number is the word of none
 no_number : (ks : List WordRow) → no_digits ks ≡ true → (n : ℕ) → n < 2 ^ 32 → (word : List ℕ) (values : List Value)

@@ -1,5 +1,6 @@
 use Rattle.std.proofs.Common.{Err}
-use Rattle.smx_filters.proofs.FilterLemmas.{text_refused}
+use Rattle.smx_filters.specs.RunText.{running}
+use Rattle.smx_filters.proofs.WritingFilterLemmas.{text_refused}
 use Rattle.smx_filters.proofs.text.text_for.Goals as goal
 
 pub returns-then-not-has_second_process-clause-answers : goal.returns-then-not-has_second_process-clause-answers
@@ -12,5 +13,5 @@ returns-then-min-lt2-clause-answers g c =
 
 pub returns-in-Err-clause-answers : goal.returns-in-Err-clause-answers
 returns-in-Err-clause-answers g c =
-    text_refused c.args.fronts c.args.workers _ _ c.as_slice-2.ensures.value c.in-Err.fault
+    text_refused (running c.args.fronts c.args.workers) _ _ c.as_slice-2.ensures.value c.in-Err.fault
     (Err c.kept_for.result.fault) c.kept_for.ensures.fault c.in-Err.ensures
