@@ -1,8 +1,9 @@
 -- A stream that goes alone, since its driver is above no link.
 use Rattle.std.proofs.Common.{◌≡◌, Bool, true, false, ◌&&◌, ◌||◌, not, eqb, List, [], ◌∷◌, filter, map, refl}
-use Rattle.std.proofs.Common.{sym, ap, ◌∙◌, inl, inr}
+use Rattle.std.proofs.Common.{arith, sym, ap, ◌∙◌, inl, inr}
 use Rattle.std.specs.List.{list_all}
 use Rattle.std.proofs.lemmas.Bool.{and_from, and_parts, false≢true, or_cases, or_left, or_parts, or_right}
+use Rattle.std.proofs.lemmas.Bool.Decides.{nat_tests}
 use Rattle.smx_types.specs.declared.driver.DriverSpec.{DriverSpec}
 use Rattle.smx_types.specs.declared.link.Link.{Link}
 use Rattle.smx_types.specs.declared.stream.StreamId.{StreamId}
@@ -18,13 +19,7 @@ use Rattle.smx_tables.proofs.RemovalLemmas.{ids_in_order, ids_of, nothing_remove
 -- a link's controlling stream is there, where it is that or this stream, whose driver is above no link
 there_alone : (t : StreamTable) (s ctl : StreamId) → eqb ctl.driver s.driver ≡ false
     → is_there_or_touched t (s ∷ []) ctl ≡ true → is_there t ctl ≡ true
-there_alone t s ctl other h = elim (or_cases (is_there t ctl) _ h) [
-  | inl there ↦ there
-  | inr listed ↦ elim (or_cases (same_stream ctl s) false listed) [
-    | inl same ↦ absurd (false≢true (sym other ∙ (and_parts _ _ same).0))
-    | inr none ↦ absurd (false≢true none)
-  ]
-]
+there_alone t s ctl other h = grind (arith, nat_tests)
 
 -- so each ordinary link has its controlling stream
 pub linked_alone : (t : StreamTable) (s : StreamId) (links : List Link)

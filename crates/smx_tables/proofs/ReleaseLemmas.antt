@@ -100,11 +100,7 @@ less_at (l ∷ ls) (suc i) d t new h lt less =
 
 -- a loose link's lower stream is held
 pub loose_held : (t : StreamTable) (l : Link) → is_loose t l ≡ true → 0 < number_at t.holds l.lower
-loose_held t l loose =
-    let a = and_parts (not (is_persistent l)) (is_held t l && not (is_there t l.ctl)) loose in
-    let b = and_parts (is_held t l) (not (is_there t l.ctl)) a.1 in
-    let up : nat_lt 0 (number_at t.holds l.lower) ≡ true = b.0 in
-    grind (arith, nat_tests)
+loose_held t l loose = grind (arith, nat_tests)
 
 -- the link that was got at an index is the one there
 pub this_one : (ls : List Link) (i : ℕ) (l : Link) → Some l ≡ slice_get ls i → get_or ls i l ≡ l

@@ -4,6 +4,7 @@ use Rattle.std.proofs.Common.{filter, get_or, refl, sym, ap, ◌∙◌, arith, i
 use Rattle.std.specs.List.{All, list_any, list_all}
 use Rattle.std.proofs.lemmas.Bool.{cases_Bool, and_parts, or_cases, not-true, or_left, or_right, false≢true}
 use Rattle.std.proofs.lemmas.List.{length-map}
+use Rattle.std.proofs.lemmas.Bool.Decides.{nat_tests}
 use Rattle.smx_types.specs.declared.driver.DriverSpec.{DriverSpec}
 use Rattle.smx_types.specs.declared.link.Link.{Link}
 use Rattle.smx_types.specs.declared.stream.Descriptor.{Descriptor}
@@ -150,14 +151,7 @@ seen_more u v left rest now seen s x last on h =
 -- in the end all of them were seen
 pub all_seen : (u : StreamTable) (left seen : List StreamId) (x : StreamId) → left ≡ []
     → (is_there_or_touched u left x || list_any (same_stream x) seen) ≡ true → is_there_or_touched u seen x ≡ true
-all_seen u left seen x none h = elim (or_cases (is_there_or_touched u left x) (list_any (same_stream x) seen) h) [
-  | inl a ↦ elim (or_cases (is_there u x) (list_any (same_stream x) left) a) [
-    | inl there ↦ or_left _ _ there
-    | inr one ↦ let bad : list_any (same_stream x) [] ≡ true = ap (list_any (same_stream x)) (sym none) ∙ one in
-        absurd (false≢true bad)
-  ]
-  | inr b ↦ or_right _ _ b
-]
+all_seen u left seen x none h = let k = rw none at h in grind (arith, nat_tests)
 
 -- ---- the cascade at first
 
@@ -178,18 +172,7 @@ cascade_at_first links t ss room held h enough = record {
   enough = let few = few_below links t held (ordinary_of links) in omega (arith, few, enough);
 } where
   watch : (l : Link) → (is_persistent l || is_there_or_touched t ss l.ctl) ≡ true → is_watched t ss l ≡ true
-  watch l e = elim (cases_Bool (is_loose t l)) [
-    | inr tight ↦ or_left (not (is_loose t l)) (list_any (same_stream l.ctl) ss) (ap not tight)
-    | inl loose ↦
-        let a = and_parts (not (is_persistent l)) (is_held t l && not (is_there t l.ctl)) loose in
-        let gone = not-true _ (and_parts (is_held t l) (not (is_there t l.ctl)) a.1).1 in
-        or_right (not (is_loose t l)) (list_any (same_stream l.ctl) ss)
-        (elim (or_cases (is_persistent l) (is_there_or_touched t ss l.ctl) e) [
-          | inl p ↦ absurd (false≢true (sym (not-true _ a.0) ∙ p))
-          | inr o ↦ elim (or_cases (is_there t l.ctl) (list_any (same_stream l.ctl) ss) o)
-              [ inl there ↦ absurd (false≢true (sym gone ∙ there)) | inr one ↦ one ]
-        ])
-  ]
+  watch l e = grind (arith, nat_tests)
 
 -- where each stream below a link is held, no link's lower stream is free
 pub none_free : (links : List Link) (t : StreamTable) → AreHeld links t → filter (λ l. not (is_held t l)) links ≡ []

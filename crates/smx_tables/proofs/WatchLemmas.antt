@@ -100,10 +100,7 @@ held_before t u s l h up = let few = not_more_held t u s l.lower h in
 -- the controlling stream of a held ordinary link that isn't loose is there
 there_if : (t : StreamTable) (l : Link) → not (is_persistent l) ≡ true → is_held t l ≡ true → is_loose t l ≡ false
     → is_there t l.ctl ≡ true
-there_if t l o held tight = elim (cases_Bool (is_there t l.ctl)) [
-  | inl y ↦ y
-  | inr n ↦ absurd (false≢true (sym tight ∙ and_from _ _ o (and_from _ _ held (ap not n))))
-]
+there_if t l o held tight = grind (arith, nat_tests)
 
 -- a link is watched further, where the stream that is released is one of those that may have gone
 pub watch_on : (t u : StreamTable) (s : StreamId) (ss vs : List StreamId) (l : Link)
@@ -166,8 +163,7 @@ watched_less t ss ctl l other was =
       tight it = let k = rw it at other in k
 
 loose_gone : (t : StreamTable) (l : Link) → is_loose t l ≡ true → not (is_there t l.ctl) ≡ true
-loose_gone t l loose = (and_parts (is_held t l) (not (is_there t l.ctl))
-    (and_parts (not (is_persistent l)) (is_held t l && not (is_there t l.ctl)) loose).1).1
+loose_gone t l loose = grind (arith, nat_tests)
 
 -- no link is loose by a stream that is there, or whose driver has no links
 pub none_by : (t : StreamTable) (ss : List StreamId) (ctl : StreamId) (ls : List Link)
@@ -207,6 +203,5 @@ pub none_loose : (t : StreamTable) (ls : List Link) → list_all (is_watched t [
 none_loose t [] h = refl
 none_loose t (l ∷ ls) h =
     let p = and_parts (is_watched t [] l) (list_all (is_watched t []) ls) h in
-    let tight : is_loose t l ≡ false = elim (or_cases (not (is_loose t l)) false p.0)
-    [ inl a ↦ not-true _ a | inr b ↦ absurd (false≢true b) ] in
+    let tight : is_loose t l ≡ false = grind (arith, nat_tests, p.0) in
     rw tight (none_loose t ls p.1)
