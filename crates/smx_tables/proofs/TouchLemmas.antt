@@ -120,13 +120,9 @@ touched_on t u ss vs c h on = record {
 -- where one stream more is released and touched, what was there or touched still is
 pub still_touched : (u v : StreamTable) (ss : List StreamId) (s : StreamId) (n : ℕ) → HasHolds u s n v
     → (x : StreamId) → is_there_or_touched u ss x ≡ true → is_there_or_touched v (ss ++ s ∷ []) x ≡ true
-still_touched u v ss s n h x there = elim (or_cases (is_there u x) (list_any (same_stream x) ss) there) [
-  | inl still ↦ elim (cases_Bool (same_stream x s)) [
-    | inl it ↦ or_right _ _ (ap (λ (y : StreamId). list_any (same_stream y) (ss ++ s ∷ [])) (stream_is x s it)
-        ∙ listed_last ss s)
-    | inr other ↦ or_left _ _ (there_same u v s x n h other ∙ still)
-  ]
-  | inr earlier ↦ or_right _ _ (still_listed x ss s earlier)
+still_touched u v ss s n h x there = elim (cases_Bool (same_stream x s)) [
+  | inl it ↦ or_right _ _ (listed_more x ss s ∙ or_right _ _ it)
+  | inr other ↦ rw (there_same u v s x n h other) (grind (arith, nat_tests, listed_more x ss s))
 ]
 
 -- a stream that may have gone is put to those that were seen
@@ -134,19 +130,10 @@ pub seen_more : (u v : StreamTable) (left rest now seen : List StreamId) (s x : 
     → ((y : StreamId) → is_there_or_touched u rest y ≡ true → is_there_or_touched v now y ≡ true)
     → (is_there_or_touched u left x || list_any (same_stream x) seen) ≡ true
     → (is_there_or_touched v now x || list_any (same_stream x) (seen ++ s ∷ [])) ≡ true
-seen_more u v left rest now seen s x last on h =
-    elim (or_cases (is_there_or_touched u left x) (list_any (same_stream x) seen) h) [
-      | inl a ↦ elim (or_cases (is_there u x) (list_any (same_stream x) left) a) [
-        | inl there ↦ or_left _ _ (on x (or_left _ _ there))
-        | inr one ↦
-            elim (or_cases (list_any (same_stream x) rest) (same_stream x s)
-            (sym (listed_more x rest s) ∙ (ap (list_any (same_stream x)) (sym last) ∙ one))) [
-              | inl earlier ↦ or_left _ _ (on x (or_right _ _ earlier))
-              | inr it ↦ or_right _ _ (listed_more x seen s ∙ or_right _ _ it)
-            ]
-      ]
-      | inr b ↦ or_right _ _ (still_listed x seen s b)
-    ]
+seen_more u v left rest now seen s x last on h = elim (cases_Bool (is_there_or_touched u rest x)) [
+  | inl t ↦ or_left _ _ (on x t)
+  | inr f ↦ let was = rw last at h in grind (arith, nat_tests, listed_more x rest s, listed_more x seen s)
+]
 
 -- in the end all of them were seen
 pub all_seen : (u : StreamTable) (left seen : List StreamId) (x : StreamId) → left ≡ []

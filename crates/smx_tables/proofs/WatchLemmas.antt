@@ -41,11 +41,8 @@ still_listed x ss s h = listed_more x ss s ∙ or_left _ _ h
 -- and behind another one
 pub still_listed_before : (x : StreamId) (ss : List StreamId) (s last : StreamId)
     → list_any (same_stream x) (ss ++ last ∷ []) ≡ true → list_any (same_stream x) ((ss ++ s ∷ []) ++ last ∷ []) ≡ true
-still_listed_before x ss s last h = listed_more x (ss ++ s ∷ []) last
-    ∙ elim (or_cases (list_any (same_stream x) ss) (same_stream x last) (sym (listed_more x ss last) ∙ h)) [
-      | inl a ↦ or_left _ _ (still_listed x ss s a)
-      | inr b ↦ or_right _ _ b
-    ]
+still_listed_before x ss s last h =
+    grind (arith, nat_tests, listed_more x (ss ++ s ∷ []) last, listed_more x ss last, listed_more x ss s)
 
 -- the last stream of a list is listed
 pub listed_last : (ss : List StreamId) (s : StreamId) → list_any (same_stream s) (ss ++ s ∷ []) ≡ true
@@ -149,18 +146,7 @@ released_is_watched links t u vs l once h =
 pub watched_less : (t : StreamTable) (ss : List StreamId) (ctl : StreamId) (l : Link)
     → (same_stream l.ctl ctl && is_loose t l) ≡ false → is_watched t (ss ++ ctl ∷ []) l ≡ true
     → is_watched t ss l ≡ true
-watched_less t ss ctl l other was =
-    elim (or_cases (not (is_loose t l)) (list_any (same_stream l.ctl) (ss ++ ctl ∷ [])) was) [
-      | inl tight ↦ or_left _ _ tight
-      | inr one ↦
-          elim (or_cases (list_any (same_stream l.ctl) ss) (same_stream l.ctl ctl)
-          (sym (listed_more l.ctl ss ctl) ∙ one)) [
-            | inl earlier ↦ or_right _ _ earlier
-            | inr it ↦ or_left _ _ (ap not (tight it))
-          ]
-    ] where
-      tight : same_stream l.ctl ctl ≡ true → is_loose t l ≡ false
-      tight it = let k = rw it at other in k
+watched_less t ss ctl l other was = grind (arith, nat_tests, listed_more l.ctl ss ctl)
 
 loose_gone : (t : StreamTable) (l : Link) → is_loose t l ≡ true → not (is_there t l.ctl) ≡ true
 loose_gone t l loose = grind (arith, nat_tests)
