@@ -64,9 +64,8 @@ gone_stands_not links n t s apart h gone =
 loose_orphaned : (links : List Link) (n : ℕ) (t : StreamTable) (l : Link) → AreLowersApart links → IsReleasing links n t
     → is_loose t l ≡ true → is_orphaned t.fds links n l ≡ true
 loose_orphaned links n t l apart h loose =
-    let a = and_parts (not (is_persistent l)) (is_held t l && not (is_there t l.ctl)) loose in
-    let b = and_parts (is_held t l) (not (is_there t l.ctl)) a.1 in
-    and_from _ _ a.0 (ap not (gone_stands_not links n t l.ctl apart h (not-true _ b.1)))
+    and_from (not (is_persistent l)) _ (grind (arith, nat_tests))
+    (ap not (gone_stands_not links n t l.ctl apart h (grind (arith, nat_tests))))
 
 -- one less, or as many
 less_held : (a : Bool) (x y z : ℕ) → z ≡ (if a then x - 1 else y) → (a ≡ true → x ≡ y) → z ≤ y

@@ -94,11 +94,6 @@ held_before : (t u : StreamTable) (s : StreamId) (l : Link) → HasHolds t s (nu
 held_before t u s l h up = let few = not_more_held t u s l.lower h in
     grind (arith, nat_tests)
 
--- the controlling stream of a held ordinary link that isn't loose is there
-there_if : (t : StreamTable) (l : Link) → not (is_persistent l) ≡ true → is_held t l ≡ true → is_loose t l ≡ false
-    → is_there t l.ctl ≡ true
-there_if t l o held tight = grind (arith, nat_tests)
-
 -- a link is watched further, where the stream that is released is one of those that may have gone
 pub watch_on : (t u : StreamTable) (s : StreamId) (ss vs : List StreamId) (l : Link)
     → HasHolds t s (number_at t.holds s - 1) u
@@ -109,12 +104,11 @@ watch_on t u s ss vs l h further last was = elim (cases_Bool (is_loose u l))
     [ inl loose ↦ or_right _ _ (listed loose) | inr tight ↦ or_left _ _ (ap not tight) ] where
       listed : is_loose u l ≡ true → list_any (same_stream l.ctl) vs ≡ true
       listed loose =
-          let a = and_parts (not (is_persistent l)) (is_held u l && not (is_there u l.ctl)) loose in
-          let b = and_parts (is_held u l) (not (is_there u l.ctl)) a.1 in
           elim (or_cases (not (is_loose t l)) (list_any (same_stream l.ctl) ss) was) [
             | inl tight ↦
-                let there = there_if t l a.0 (held_before t u s l h b.0) (not-true _ tight) in
-                let it = went_is_released t u s l.ctl (number_at t.holds s - 1) h there (not-true _ b.1) in
+                let held = held_before t u s l h (grind (arith, nat_tests)) in
+                let there : is_there t l.ctl ≡ true = grind (arith, nat_tests) in
+                let it = went_is_released t u s l.ctl (number_at t.holds s - 1) h there (grind (arith, nat_tests)) in
                 ap (λ (x : StreamId). list_any (same_stream x) vs) (stream_is l.ctl s it) ∙ last
             | inr one ↦ further l.ctl one
           ]
