@@ -1,13 +1,13 @@
 -- A stream that goes alone, since its driver is above no link.
 use Rattle.std.proofs.Common.{◌≡◌, Bool, true, false, ◌&&◌, ◌||◌, not, eqb, List, [], ◌∷◌, filter, map, refl}
-use Rattle.std.proofs.Common.{arith, sym, ap, ◌∙◌, inl, inr}
+use Rattle.std.proofs.Common.{arith, sym, ap}
 use Rattle.std.specs.List.{list_all}
-use Rattle.std.proofs.lemmas.Bool.{and_from, and_parts, false≢true, or_cases, or_left, or_parts, or_right}
+use Rattle.std.proofs.lemmas.Bool.{and_from, and_parts, or_parts}
 use Rattle.std.proofs.lemmas.Bool.Decides.{nat_tests}
 use Rattle.smx_types.specs.declared.driver.DriverSpec.{DriverSpec}
 use Rattle.smx_types.specs.declared.link.Link.{Link}
 use Rattle.smx_types.specs.declared.stream.StreamId.{StreamId}
-use Rattle.smx_model.specs.Configuration.{Configuration, same_stream}
+use Rattle.smx_model.specs.Configuration.{Configuration}
 use Rattle.smx_model.specs.Removal.{after_sweep, without_dead_streams}
 use Rattle.smx_model.specs.Standing.{exists, is_persistent}
 use Rattle.smx_links.specs.LinkLists.{is_upper}

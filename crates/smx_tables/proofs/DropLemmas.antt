@@ -25,7 +25,6 @@ use Rattle.smx_model.specs.Removal.{serials, serials_that_left}
 use Rattle.smx_model.proofs.CountLemmas.{times, times_rising}
 use Rattle.smx_queues.proofs.PlaceLemmas.{same_turned}
 use Rattle.smx_tables.specs.DroppedMessages.{AreDropped, is_flushed_at}
-
 -- two tests in turn are both at once
 pub use Rattle.smx_streams.proofs.ListLemmas.{filter_twice}
 

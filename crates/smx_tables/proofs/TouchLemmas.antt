@@ -1,8 +1,8 @@
 -- Streams that a change touches: which went, and what is left of them.
-use Rattle.std.proofs.Common.{◌≡◌, ℕ, suc, ◌+◌, ◌≤◌, Bool, true, ◌&&◌, ◌||◌, not, List, [], ◌∷◌, ◌++◌, length, map}
+use Rattle.std.proofs.Common.{◌≡◌, ℕ, suc, ◌+◌, ◌≤◌, Bool, true, ◌||◌, not, List, [], ◌∷◌, ◌++◌, length, map}
 use Rattle.std.proofs.Common.{filter, get_or, refl, sym, ap, ◌∙◌, arith, inl, inr}
 use Rattle.std.specs.List.{All, list_any, list_all}
-use Rattle.std.proofs.lemmas.Bool.{cases_Bool, and_parts, or_cases, not-true, or_left, or_right, false≢true}
+use Rattle.std.proofs.lemmas.Bool.{cases_Bool, and_parts, or_cases, or_left, or_right, false≢true}
 use Rattle.std.proofs.lemmas.List.{length-map}
 use Rattle.std.proofs.lemmas.Bool.Decides.{nat_tests}
 use Rattle.smx_types.specs.declared.driver.DriverSpec.{DriverSpec}
@@ -17,7 +17,7 @@ use Rattle.smx_model.specs.Standing.{exists, is_persistent}
 use Rattle.smx_model.specs.Swept.{IsSwept}
 use Rattle.smx_links.specs.LinkLists.{ordinary_of}
 use Rattle.smx_streams.specs.StreamTables.{StreamTable, HasHolds, exists as is_there}
-use Rattle.smx_tables.specs.ExistingStreams.{AreHeld, TellsExisting, holds_below, is_held, is_loose}
+use Rattle.smx_tables.specs.ExistingStreams.{AreHeld, TellsExisting, holds_below, is_held}
 use Rattle.smx_tables.specs.TouchedStreams.{IsCascade, IsTouched, is_there_or_touched, is_watched}
 use Rattle.smx_tables.proofs.AboveLemmas.{stream_is}
 use Rattle.smx_tables.proofs.ExistingLemmas.{all_fewer, all_weaker, held_is_below, holds_few, linked_weaker}
@@ -25,7 +25,7 @@ use Rattle.smx_tables.proofs.FoundLinkLemmas.{below_at}
 use Rattle.smx_tables.proofs.HungLemmas.{pass_all}
 use Rattle.smx_tables.proofs.LengthLemmas.{not_more}
 use Rattle.smx_tables.proofs.ReleaseLemmas.{starts}
-use Rattle.smx_tables.proofs.WatchLemmas.{listed_last, listed_more, still_listed, there_same}
+use Rattle.smx_tables.proofs.WatchLemmas.{listed_more, there_same}
 
 -- ---- where all that were touched are there
 
