@@ -9,18 +9,13 @@ use Rattle.std.proofs.lemmas.List.{get_or_past}
 use Rattle.std.proofs.lemmas.Nat.Bits.{bit_at_and, bit_at_or, bit_at-lt, bit_at-pow_same, bit_at-pow_other, bit_at-zero}
 use Rattle.std.proofs.lemmas.Nat.Bits.{and_pow, bit_at_above}
 use Rattle.std.proofs.lemmas.Nat.{pow_pos, pow-add, shr-shr, one_shl}
+use Rattle.std.proofs.lemmas.Bool.Decides.{nat_tests}
 use Rattle.smx_links.specs.declared.masks.TheConstants.{WORD_BITS}
 use Rattle.smx_links.specs.Masks.{is_set, has_bit, AreJoined}
 
 -- a bit is 0 or 1
 set_max : (x y : ℕ) → x < 2 → y < 2 → eqb (max x y) 1 ≡ (eqb x 1 || eqb y 1)
-set_max zero zero h k = refl
-set_max zero (suc zero) h k = refl
-set_max (suc zero) zero h k = refl
-set_max (suc zero) (suc zero) h k = refl
-set_max (suc (suc x)) y h k = absurd (omega arith)
-set_max zero (suc (suc y)) h k = absurd (omega arith)
-set_max (suc zero) (suc (suc y)) h k = absurd (omega arith)
+set_max x y h k = grind (arith, nat_tests)
 
 -- the bits of both words
 pub is_set_or : (v w b : ℕ) → is_set (bit_or v w) b ≡ (is_set v b || is_set w b)
@@ -75,13 +70,7 @@ joined_words old new u k below long each a b = elim (cases_lt a (length old)) [
 pub is_set_and : (v w b : ℕ) → is_set (bit_and v w) b ≡ (is_set v b && is_set w b)
 is_set_and v w b = rw (bit_at_and v w b) (set_min (bit_at v b) (bit_at w b) (bit_at-lt v b) (bit_at-lt w b)) where
   set_min : (x y : ℕ) → x < 2 → y < 2 → eqb (min x y) 1 ≡ (eqb x 1 && eqb y 1)
-  set_min zero zero h k = refl
-  set_min zero (suc zero) h k = refl
-  set_min zero (suc (suc y)) h k = absurd (omega arith)
-  set_min (suc zero) zero h k = refl
-  set_min (suc zero) (suc zero) h k = refl
-  set_min (suc (suc x)) y h k = absurd (omega arith)
-  set_min (suc zero) (suc (suc y)) h k = absurd (omega arith)
+  set_min x y h k = grind (arith, nat_tests)
 
 -- a word has a bit exactly where it meets the word of that bit alone
 pub meets_bit : (w b : ℕ) → not (eqb (bit_and w (2 ^ b)) 0) ≡ is_set w b

@@ -1,6 +1,6 @@
 -- What each change of the store and of a chain keeps.
-use Rattle.std.proofs.Common.{◌≡◌, ◌≢◌, ℕ, suc, ◌+◌, ◌<◌, ◌≤◌, ◌-◌, ◌^◌, Bool, true, false, nat_eq, nat_le, nat_lt}
-use Rattle.std.proofs.Common.{◌||◌, ◌&&◌, List, [], ◌∷◌, ◌++◌, length, get_or, set, Option, Some, None, is_some}
+use Rattle.std.proofs.Common.{◌≡◌, ◌≢◌, ℕ, suc, ◌+◌, ◌<◌, ◌≤◌, ◌-◌, ◌^◌, Bool, true, false, nat_eq, nat_lt}
+use Rattle.std.proofs.Common.{◌&&◌, List, [], ◌∷◌, ◌++◌, length, get_or, set, Option, Some, None, is_some}
 use Rattle.std.proofs.Common.{count_by, refl, sym, ap, subst, ◌∙◌, inl, inr, arith, add-zero}
 use Rattle.std.proofs.lemmas.Bool.{cases_eq, cases_lt, cases_Bool}
 use Rattle.std.proofs.lemmas.Bool.Decides.{nat_tests}
@@ -223,15 +223,11 @@ attached_queue own s p chain q key node l there found apart some few =
       high = l.high;
       low = l.low;
       have_bytes = have_more q.messages node.message l.have_bytes some few;
-      open_below_high = below q.full q.high (bytes_of (q.messages ++ node.message ∷ []));
+      open_below_high = λ e. grind (arith, nat_tests);
       high_bounded = l.high_bounded;
       low_below = l.low_below;
       none_if_gone = λ gone. absurd (let e = sym there ∙ gone in cc);
     }
-  where
-    below : (marked : Bool) (high bytes : ℕ) → (marked || nat_le high bytes) ≡ false → bytes < high
-    below true high bytes e = absurd (cc)
-    below false high bytes e = grind (arith, nat_tests)
 
 -- a node of no chain becomes the last of one
 pub store_attach : (own : ℕ → ℕ × ℕ) (s : Slab Node) (chains : List Chain) (queues : List Queue) (loose p key : ℕ)

@@ -1,5 +1,5 @@
 -- Lists in general.
-use Rattle.std.proofs.Common.{◌≡◌, Bool, not, List, [], ◌∷◌, ◌++◌, find, filter, Some, None}
+use Rattle.std.proofs.Common.{◌≡◌, Bool, ◌&&◌, not, List, [], ◌∷◌, ◌++◌, find, filter, Some, None}
 use Rattle.std.proofs.Common.{refl, ap, inl, inr}
 use Rattle.std.specs.List.{list_any}
 use Rattle.std.specs.Option.{is_some}
@@ -33,6 +33,18 @@ none_goes test [] h = refl
 none_goes test (x ∷ xs) h = elim (cases_Bool (test x)) [
   | inl t ↦ let k : Some x ≡ None = rw t at h in absurd cc
   | inr f ↦ rw f (ap (λ ys. x ∷ ys) (none_goes test xs (rw f at h)))
+]
+
+-- two tests in turn are both at once
+pub filter_twice : {X : Type 0} (t u : X → Bool) (xs : List X)
+    → filter u (filter t xs) ≡ filter (λ x. t x && u x) xs
+filter_twice t u [] = refl
+filter_twice t u (x ∷ xs) = elim (cases_Bool (t x)) [
+  | inl a ↦ elim (cases_Bool (u x)) [
+    | inl b ↦ rw (a, b) (ap (λ (ys : List _). x ∷ ys) (filter_twice t u xs))
+    | inr b ↦ rw (a, b) (filter_twice t u xs)
+  ]
+  | inr a ↦ rw a (filter_twice t u xs)
 ]
 
 -- what comes before both parts

@@ -1,11 +1,12 @@
 -- The descriptors from a number of a process on, and those of one process.
 use Rattle.std.proofs.Common.{◌≡◌, ℕ, suc, ◌+◌, ◌<◌, ◌≤◌, Bool, true, false, ◌&&◌, not, eqb, List, [], ◌∷◌, find}
-use Rattle.std.proofs.Common.{filter, Some, None, refl, ap, arith, inl, inr}
+use Rattle.std.proofs.Common.{◌∙◌, filter, Some, None, refl, ap, arith, inl, inr}
 use Rattle.std.specs.Prelude.{nat_lt}
 use Rattle.std.specs.List.{All}
 use Rattle.std.proofs.lemmas.Bool.{cases_Bool, and_parts, eqb-true}
 use Rattle.std.proofs.lemmas.Bool.Decides.{nat_tests}
 use Rattle.std.proofs.lemmas.Option.{same_Some}
+use Rattle.std.proofs.lemmas.List.Elements.{filter_agree}
 use Rattle.smx_types.specs.declared.limits.TheConstants.{MAX_DESCRIPTORS, MAX_PROCESSES}
 use Rattle.smx_types.specs.declared.stream.Descriptor.{Descriptor}
 use Rattle.smx_types.specs.declared.stream.StreamId.{StreamId}
@@ -13,6 +14,7 @@ use Rattle.smx_model.specs.Configuration.{is_fd, fd_before, pair_before}
 use Rattle.smx_model.specs.Ordered.{ComesBefore, IsRising}
 use Rattle.smx_streams.specs.StreamTables.{fds_from, stream_at}
 use Rattle.smx_streams.proofs.RowLemmas.{fd_of}
+use Rattle.smx_streams.proofs.ListLemmas.{filter_twice}
 
 -- two tests that agree on each element keep the same
 pub kept_same : (f g : Descriptor → Bool) (ds : List Descriptor) → All (λ d. f d ≡ g d) ds → filter f ds ≡ filter g ds
@@ -106,23 +108,13 @@ no_process p n (d ∷ ds) past last h k =
 abbrev pub is_closed : ℕ → ℕ → Descriptor → Bool
 is_closed p n d = eqb d.process p && nat_lt d.fd n
 
-filter_twice : (f g h : Descriptor → Bool) (ds : List Descriptor) → ((d : Descriptor) → h d ≡ (g d && f d))
-    → filter f (filter g ds) ≡ filter h ds
-filter_twice f g h [] e = refl
-filter_twice f g h (d ∷ ds) e = elim (cases_Bool (g d)) [
-  | inl t ↦ elim (cases_Bool (f d)) [
-    | inl u ↦ rw (e d, t, u) (ap (λ (es : List Descriptor). d ∷ es) (filter_twice f g h ds e))
-    | inr u ↦ rw (e d, t, u) (filter_twice f g h ds e)
-  ]
-  | inr n ↦ rw (e d, n) (filter_twice f g h ds e)
-]
-
 -- one number more
 pub closed_more : (p n : ℕ) (ds : List Descriptor)
     → filter (λ d. not (is_fd p n d)) (filter (λ d. not (is_closed p n d)) ds)
     ≡ filter (λ d. not (is_closed p (n + 1) d)) ds
-closed_more p n ds = filter_twice (λ d. not (is_fd p n d)) (λ d. not (is_closed p n d))
-    (λ d. not (is_closed p (n + 1) d)) ds (λ d. grind (arith, nat_tests))
+closed_more p n ds = filter_twice (λ d. not (is_closed p n d)) (λ d. not (is_fd p n d)) ds
+    ∙ filter_agree (λ d. not (is_closed p n d) && not (is_fd p n d)) (λ d. not (is_closed p (n + 1) d))
+    (λ d. grind (arith, nat_tests)) ds
 
 -- none at first
 pub closed_none : (p : ℕ) (ds : List Descriptor) → ds ≡ filter (λ d. not (is_closed p 0 d)) ds

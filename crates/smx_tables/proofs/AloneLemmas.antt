@@ -1,12 +1,13 @@
 -- A stream that goes alone, since its driver is above no link.
 use Rattle.std.proofs.Common.{◌≡◌, Bool, true, false, ◌&&◌, ◌||◌, not, eqb, List, [], ◌∷◌, filter, map, refl}
-use Rattle.std.proofs.Common.{sym, ap, ◌∙◌, inl, inr}
+use Rattle.std.proofs.Common.{arith, sym, ap}
 use Rattle.std.specs.List.{list_all}
-use Rattle.std.proofs.lemmas.Bool.{and_from, and_parts, false≢true, or_cases, or_left, or_parts, or_right}
+use Rattle.std.proofs.lemmas.Bool.{and_from, and_parts, or_parts}
+use Rattle.std.proofs.lemmas.Bool.Decides.{nat_tests}
 use Rattle.smx_types.specs.declared.driver.DriverSpec.{DriverSpec}
 use Rattle.smx_types.specs.declared.link.Link.{Link}
 use Rattle.smx_types.specs.declared.stream.StreamId.{StreamId}
-use Rattle.smx_model.specs.Configuration.{Configuration, same_stream}
+use Rattle.smx_model.specs.Configuration.{Configuration}
 use Rattle.smx_model.specs.Removal.{after_sweep, without_dead_streams}
 use Rattle.smx_model.specs.Standing.{exists, is_persistent}
 use Rattle.smx_links.specs.LinkLists.{is_upper}
@@ -15,18 +16,7 @@ use Rattle.smx_tables.specs.ExistingStreams.{TellsExisting}
 use Rattle.smx_tables.specs.TouchedStreams.{is_there_or_touched}
 use Rattle.smx_tables.proofs.RemovalLemmas.{ids_in_order, ids_of, nothing_removed}
 
--- a link's controlling stream is there, where it is that or this stream, whose driver is above no link
-there_alone : (t : StreamTable) (s ctl : StreamId) → eqb ctl.driver s.driver ≡ false
-    → is_there_or_touched t (s ∷ []) ctl ≡ true → is_there t ctl ≡ true
-there_alone t s ctl other h = elim (or_cases (is_there t ctl) _ h) [
-  | inl there ↦ there
-  | inr listed ↦ elim (or_cases (same_stream ctl s) false listed) [
-    | inl same ↦ absurd (false≢true (sym other ∙ (and_parts _ _ same).0))
-    | inr none ↦ absurd (false≢true none)
-  ]
-]
-
--- so each ordinary link has its controlling stream
+-- where this stream's driver is above no link, each ordinary link's controlling stream is there without it
 pub linked_alone : (t : StreamTable) (s : StreamId) (links : List Link)
     → list_all (λ l. is_persistent l || is_there_or_touched t (s ∷ []) l.ctl) links ≡ true
     → is_upper links s.driver ≡ false → list_all (λ l. is_persistent l || is_there t l.ctl) links ≡ true
@@ -34,11 +24,8 @@ linked_alone t s [] h lower = refl
 linked_alone t s (l ∷ ls) h lower =
     let here = and_parts (is_persistent l || is_there_or_touched t (s ∷ []) l.ctl) _ h in
     let apart = or_parts (eqb l.ctl.driver s.driver) (is_upper ls s.driver) lower in
-    and_from (is_persistent l || is_there t l.ctl) _
-    (elim (or_cases (is_persistent l) (is_there_or_touched t (s ∷ []) l.ctl) here.0) [
-      | inl p ↦ or_left _ _ p
-      | inr o ↦ or_right _ _ (there_alone t s l.ctl apart.0 o)
-    ]) (linked_alone t s ls here.1 apart.1)
+    and_from (is_persistent l || is_there t l.ctl) _ (grind (arith, nat_tests, here.0, apart.0))
+    (linked_alone t s ls here.1 apart.1)
 
 -- an ordinary link without its controlling stream
 abbrev pub is_lost : List DriverSpec → Configuration → Link → Bool
@@ -51,11 +38,8 @@ none_lost : (drivers : List DriverSpec) (c : Configuration) (t : StreamTable) (l
 none_lost drivers c t [] told h = refl
 none_lost drivers c t (l ∷ ls) told h =
     let here = and_parts (is_persistent l || is_there t l.ctl) _ h in
-    rw (stays (is_persistent l) (is_there t l.ctl) (exists drivers c l.ctl) (told l.ctl) here.0)
-    (none_lost drivers c t ls told here.1) where
-      stays : (p there e : Bool) → there ≡ e → (p || there) ≡ true → (not p && not e) ≡ false
-      stays true there e is k = refl
-      stays false there e is k = ap not (sym is ∙ k)
+    let stays : is_lost drivers c l ≡ false = rw (← told l.ctl) (grind (arith, nat_tests, here.0)) in
+    rw stays (none_lost drivers c t ls told here.1)
 
 -- so the sweep takes away no link, but what dead streams hold alone
 pub swept_alone : (drivers : List DriverSpec) (c : Configuration) (t : StreamTable) → TellsExisting drivers c t

@@ -25,24 +25,13 @@ use Rattle.smx_model.specs.Removal.{serials, serials_that_left}
 use Rattle.smx_model.proofs.CountLemmas.{times, times_rising}
 use Rattle.smx_queues.proofs.PlaceLemmas.{same_turned}
 use Rattle.smx_tables.specs.DroppedMessages.{AreDropped, is_flushed_at}
+-- two tests in turn are both at once
+pub use Rattle.smx_streams.proofs.ListLemmas.{filter_twice}
 
 abbrev at : StreamId → Side → Place
 at s x = record { stream = s; side = x }
 
 -- ---- one place more is emptied
-
--- two tests in turn are both at once
-pub filter_twice : {X : Type 0} (t u : X → Bool) (xs : List X)
-    → filter u (filter t xs) ≡ filter (λ x. t x && u x) xs
-filter_twice t u [] = refl
-filter_twice t u (x ∷ xs) = elim (cases_Bool (t x)) [
-  | inl a ↦ elim (cases_Bool (u x)) [
-    | inl b ↦ rw (a, b) (ap (λ (ys : List _). x ∷ ys) (filter_twice t u xs))
-    | inr b ↦
-        rw (a, b) (filter_twice t u xs)
-  ]
-  | inr a ↦ rw a (filter_twice t u xs)
-]
 
 split : {X : Type 0} (t u : X → Bool) (xs : List X)
     → IsPermutation (filter (λ x. not (t x && not (u x))) xs) (filter (λ x. not (t x)) xs ++ filter u (filter t xs))

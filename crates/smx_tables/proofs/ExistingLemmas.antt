@@ -264,8 +264,7 @@ all_linked t [] h = tt
 all_linked t (l ∷ ls) h =
     let p = and_parts (is_persistent l || is_there t l.ctl)
     (list_all (λ k. is_persistent k || is_there t k.ctl) ls) h in (
-      (λ held o. elim (or_cases (is_persistent l) (is_there t l.ctl) p.0)
-          [ inl a ↦ absurd (false≢true (sym o ∙ a)) | inr b ↦ b ]),
+      (λ held o. grind (arith, nat_tests, p.0)),
       all_linked t ls p.1,
     )
 

@@ -1,5 +1,5 @@
 -- The lower streams of loose links are released.
-use Rattle.std.proofs.Common.{◌≡◌, ℕ, zero, suc, ◌-◌, ◌<◌, ◌≤◌, Bool, true, false, ◌&&◌, not, List, [], ◌∷◌, length}
+use Rattle.std.proofs.Common.{◌≡◌, ℕ, zero, suc, ◌-◌, ◌<◌, ◌≤◌, Bool, true, false, not, List, [], ◌∷◌, length}
 use Rattle.std.proofs.Common.{get_or, find, Option, Some, None, if◌then◌else◌, refl, sym, ap, subst, ◌∙◌, arith, inl}
 use Rattle.std.proofs.Common.{inr}
 use Rattle.std.specs.Prelude.{nat_lt, slice_get}
@@ -7,7 +7,6 @@ use Rattle.std.proofs.lemmas.Bool.{cases_Bool, and_parts, and_from, or_parts, fa
 use Rattle.std.proofs.lemmas.Bool.Decides.{nat_tests}
 use Rattle.std.proofs.lemmas.List.Elements.{recursion_from_All}
 use Rattle.std.proofs.lemmas.Option.{get_or_from_slice_get, slice_get_within}
-use Rattle.std.proofs.lemmas.List.{get_or_default}
 use Rattle.smx_types.specs.declared.link.Link.{Link}
 use Rattle.smx_types.specs.declared.stream.Descriptor.{Descriptor}
 use Rattle.smx_types.specs.declared.stream.StreamId.{StreamId}
@@ -64,9 +63,8 @@ gone_stands_not links n t s apart h gone =
 loose_orphaned : (links : List Link) (n : ℕ) (t : StreamTable) (l : Link) → AreLowersApart links → IsReleasing links n t
     → is_loose t l ≡ true → is_orphaned t.fds links n l ≡ true
 loose_orphaned links n t l apart h loose =
-    let a = and_parts (not (is_persistent l)) (is_held t l && not (is_there t l.ctl)) loose in
-    let b = and_parts (is_held t l) (not (is_there t l.ctl)) a.1 in
-    and_from _ _ a.0 (ap not (gone_stands_not links n t l.ctl apart h (not-true _ b.1)))
+    and_from (not (is_persistent l)) _ (grind (arith, nat_tests))
+    (ap not (gone_stands_not links n t l.ctl apart h (grind (arith, nat_tests))))
 
 -- one less, or as many
 less_held : (a : Bool) (x y z : ℕ) → z ≡ (if a then x - 1 else y) → (a ≡ true → x ≡ y) → z ≤ y
@@ -84,30 +82,6 @@ pub other_held : (t new : StreamTable) (s x : StreamId) → HasHolds t s (number
     → same_stream x s ≡ false → number_at new.holds x ≡ number_at t.holds x
 other_held t new s x h other = h.holds x ∙ rw other refl
 
--- releasing the lower stream of a loose link keeps what is so while streams are released
-pub releases_one : (links : List Link) (n i : ℕ) (d : Link) (t new : StreamTable) → AreLowersApart links
-    → i < length links → is_loose t (get_or links i d) ≡ true
-    → HasHolds t (get_or links i d).lower (number_at t.holds (get_or links i d).lower - 1) new → IsReleasing links n t
-    → IsReleasing links n new
-releases_one links n i d t new apart lt loose h was =
-    let l = get_or links i d in
-    record {
-      once = λ s. let a = not_more_held t new l.lower s h in let b = was.once s in omega (arith, a, b);
-      orphaned = λ j e in_range free.
-          subst (λ (fds : List Descriptor). is_orphaned fds links n (get_or links j e) ≡ true) (sym h.fds)
-          (elim (cases_Bool (same_stream (get_or links j e).lower (get_or links i e).lower)) [
-            | inl same ↦ subst (λ (k : Link). is_orphaned t.fds links n k ≡ true)
-                (sym (one_link links i j e apart lt in_range same))
-                (loose_orphaned links n t (get_or links i e) apart was
-                (subst (λ (k : Link). is_loose t k ≡ true) (get_or_default links i d e lt) loose))
-            | inr other ↦ was.orphaned j e in_range
-                (ap (nat_lt 0)
-                (sym (other_held t new l.lower (get_or links j e).lower h
-                (subst (λ (k : Link). same_stream (get_or links j e).lower k.lower ≡ false)
-                (sym (get_or_default links i d e lt)) other))) ∙ free)
-          ]);
-    }
-
 not_more_below : (ls : List Link) (t new : StreamTable) → ((x : StreamId) → number_at new.holds x ≤ number_at t.holds x)
     → holds_below ls new ≤ holds_below ls t
 not_more_below [] t new h = omega arith
@@ -124,44 +98,37 @@ less_at (l ∷ ls) (suc i) d t new h lt less =
 
 -- a loose link's lower stream is held
 pub loose_held : (t : StreamTable) (l : Link) → is_loose t l ≡ true → 0 < number_at t.holds l.lower
-loose_held t l loose =
-    let a = and_parts (not (is_persistent l)) (is_held t l && not (is_there t l.ctl)) loose in
-    let b = and_parts (is_held t l) (not (is_there t l.ctl)) a.1 in
-    let up : nat_lt 0 (number_at t.holds l.lower) ≡ true = b.0 in
-    grind (arith, nat_tests)
-
--- where the lower stream of a loose link is released, the streams below the links have fewer holds
-pub less_below : (ls : List Link) (i : ℕ) (d : Link) (t new : StreamTable) → i < length ls
-    → is_loose t (get_or ls i d) ≡ true
-    → HasHolds t (get_or ls i d).lower (number_at t.holds (get_or ls i d).lower - 1) new
-    → holds_below ls new < holds_below ls t
-less_below ls i d t new lt loose h =
-    let l = get_or ls i d in
-    let up = loose_held t l loose in
-    let here : number_at new.holds l.lower ≡ number_at t.holds l.lower - 1 = h.holds l.lower
-    ∙ rw (stream_self l.lower) refl in
-    less_at ls i d t new (λ x. not_more_held t new l.lower x h) lt (omega (arith, up, here))
+loose_held t l loose = grind (arith, nat_tests)
 
 -- the link that was got at an index is the one there
 pub this_one : (ls : List Link) (i : ℕ) (l : Link) → Some l ≡ slice_get ls i → get_or ls i l ≡ l
 this_one ls i l e = get_or_from_slice_get ls i l l (sym e)
 
--- the same of the link at a place of the table
+-- releasing the lower stream of a loose link keeps what is so while streams are released
 pub releases_this : (links : List Link) (n i : ℕ) (l : Link) (t new : StreamTable) → AreLowersApart links
     → Some l ≡ slice_get links i → is_loose t l ≡ true
     → HasHolds t l.lower (number_at t.holds l.lower - 1) new → IsReleasing links n t → IsReleasing links n new
-releases_this links n i l t new apart at loose h was =
-    let e = this_one links i l at in
-    releases_one links n i l t new apart (slice_get_within links i l (sym at))
-    (subst (λ (k : Link). is_loose t k ≡ true) (sym e) loose)
-    (subst (λ (k : Link). HasHolds t k.lower (number_at t.holds k.lower - 1) new) (sym e) h) was
+releases_this links n i l t new apart at loose h was = record {
+  once = λ s. let a = not_more_held t new l.lower s h in let b = was.once s in omega (arith, a, b);
+  orphaned = λ j e in_range free.
+      let here : get_or links i e ≡ l = get_or_from_slice_get links i l e (sym at) in
+      subst (λ (fds : List Descriptor). is_orphaned fds links n (get_or links j e) ≡ true) (sym h.fds)
+      (elim (cases_Bool (same_stream (get_or links j e).lower l.lower)) [
+        | inl same ↦
+            let one = one_link links i j e apart (slice_get_within links i l (sym at)) in_range (rw here same) in
+            rw (one, here) (loose_orphaned links n t l apart was loose)
+        | inr other ↦ was.orphaned j e in_range
+            (ap (nat_lt 0) (sym (other_held t new l.lower (get_or links j e).lower h other)) ∙ free)
+      ]);
+}
 
 -- where the lower stream of the loose link at an index is released, those below the links have fewer holds
 pub less_this : (links : List Link) (i : ℕ) (l : Link) (t new : StreamTable) → Some l ≡ slice_get links i
     → is_loose t l ≡ true
     → HasHolds t l.lower (number_at t.holds l.lower - 1) new → holds_below links new < holds_below links t
 less_this links i l t new at loose h =
-    let e = this_one links i l at in
-    less_below links i l t new (slice_get_within links i l (sym at))
-    (subst (λ (k : Link). is_loose t k ≡ true) (sym e) loose)
-    (subst (λ (k : Link). HasHolds t k.lower (number_at t.holds k.lower - 1) new) (sym e) h)
+    let up = loose_held t l loose in
+    let here : number_at new.holds l.lower ≡ number_at t.holds l.lower - 1 = h.holds l.lower
+    ∙ rw (stream_self l.lower) refl in
+    less_at links i l t new (λ x. not_more_held t new l.lower x h) (slice_get_within links i l (sym at))
+    (rw (this_one links i l at) (omega (arith, up, here)))

@@ -1,9 +1,10 @@
 -- Streams that a change touches: which went, and what is left of them.
-use Rattle.std.proofs.Common.{◌≡◌, ℕ, suc, ◌+◌, ◌≤◌, Bool, true, ◌&&◌, ◌||◌, not, List, [], ◌∷◌, ◌++◌, length, map}
+use Rattle.std.proofs.Common.{◌≡◌, ℕ, suc, ◌+◌, ◌≤◌, Bool, true, ◌||◌, not, List, [], ◌∷◌, ◌++◌, length, map}
 use Rattle.std.proofs.Common.{filter, get_or, refl, sym, ap, ◌∙◌, arith, inl, inr}
 use Rattle.std.specs.List.{All, list_any, list_all}
-use Rattle.std.proofs.lemmas.Bool.{cases_Bool, and_parts, or_cases, not-true, or_left, or_right, false≢true}
+use Rattle.std.proofs.lemmas.Bool.{cases_Bool, and_parts, or_cases, or_left, or_right, false≢true}
 use Rattle.std.proofs.lemmas.List.{length-map}
+use Rattle.std.proofs.lemmas.Bool.Decides.{nat_tests}
 use Rattle.smx_types.specs.declared.driver.DriverSpec.{DriverSpec}
 use Rattle.smx_types.specs.declared.link.Link.{Link}
 use Rattle.smx_types.specs.declared.stream.Descriptor.{Descriptor}
@@ -16,7 +17,7 @@ use Rattle.smx_model.specs.Standing.{exists, is_persistent}
 use Rattle.smx_model.specs.Swept.{IsSwept}
 use Rattle.smx_links.specs.LinkLists.{ordinary_of}
 use Rattle.smx_streams.specs.StreamTables.{StreamTable, HasHolds, exists as is_there}
-use Rattle.smx_tables.specs.ExistingStreams.{AreHeld, TellsExisting, holds_below, is_held, is_loose}
+use Rattle.smx_tables.specs.ExistingStreams.{AreHeld, TellsExisting, holds_below, is_held}
 use Rattle.smx_tables.specs.TouchedStreams.{IsCascade, IsTouched, is_there_or_touched, is_watched}
 use Rattle.smx_tables.proofs.AboveLemmas.{stream_is}
 use Rattle.smx_tables.proofs.ExistingLemmas.{all_fewer, all_weaker, held_is_below, holds_few, linked_weaker}
@@ -24,7 +25,7 @@ use Rattle.smx_tables.proofs.FoundLinkLemmas.{below_at}
 use Rattle.smx_tables.proofs.HungLemmas.{pass_all}
 use Rattle.smx_tables.proofs.LengthLemmas.{not_more}
 use Rattle.smx_tables.proofs.ReleaseLemmas.{starts}
-use Rattle.smx_tables.proofs.WatchLemmas.{listed_last, listed_more, still_listed, there_same}
+use Rattle.smx_tables.proofs.WatchLemmas.{listed_more, there_same}
 
 -- ---- where all that were touched are there
 
@@ -119,13 +120,9 @@ touched_on t u ss vs c h on = record {
 -- where one stream more is released and touched, what was there or touched still is
 pub still_touched : (u v : StreamTable) (ss : List StreamId) (s : StreamId) (n : ℕ) → HasHolds u s n v
     → (x : StreamId) → is_there_or_touched u ss x ≡ true → is_there_or_touched v (ss ++ s ∷ []) x ≡ true
-still_touched u v ss s n h x there = elim (or_cases (is_there u x) (list_any (same_stream x) ss) there) [
-  | inl still ↦ elim (cases_Bool (same_stream x s)) [
-    | inl it ↦ or_right _ _ (ap (λ (y : StreamId). list_any (same_stream y) (ss ++ s ∷ [])) (stream_is x s it)
-        ∙ listed_last ss s)
-    | inr other ↦ or_left _ _ (there_same u v s x n h other ∙ still)
-  ]
-  | inr earlier ↦ or_right _ _ (still_listed x ss s earlier)
+still_touched u v ss s n h x there = elim (cases_Bool (same_stream x s)) [
+  | inl it ↦ or_right _ _ (listed_more x ss s ∙ or_right _ _ it)
+  | inr other ↦ rw (there_same u v s x n h other) (grind (arith, nat_tests, listed_more x ss s))
 ]
 
 -- a stream that may have gone is put to those that were seen
@@ -133,31 +130,15 @@ pub seen_more : (u v : StreamTable) (left rest now seen : List StreamId) (s x : 
     → ((y : StreamId) → is_there_or_touched u rest y ≡ true → is_there_or_touched v now y ≡ true)
     → (is_there_or_touched u left x || list_any (same_stream x) seen) ≡ true
     → (is_there_or_touched v now x || list_any (same_stream x) (seen ++ s ∷ [])) ≡ true
-seen_more u v left rest now seen s x last on h =
-    elim (or_cases (is_there_or_touched u left x) (list_any (same_stream x) seen) h) [
-      | inl a ↦ elim (or_cases (is_there u x) (list_any (same_stream x) left) a) [
-        | inl there ↦ or_left _ _ (on x (or_left _ _ there))
-        | inr one ↦
-            elim (or_cases (list_any (same_stream x) rest) (same_stream x s)
-            (sym (listed_more x rest s) ∙ (ap (list_any (same_stream x)) (sym last) ∙ one))) [
-              | inl earlier ↦ or_left _ _ (on x (or_right _ _ earlier))
-              | inr it ↦ or_right _ _ (listed_more x seen s ∙ or_right _ _ it)
-            ]
-      ]
-      | inr b ↦ or_right _ _ (still_listed x seen s b)
-    ]
+seen_more u v left rest now seen s x last on h = elim (cases_Bool (is_there_or_touched u rest x)) [
+  | inl t ↦ or_left _ _ (on x t)
+  | inr f ↦ let was = rw last at h in grind (arith, nat_tests, listed_more x rest s, listed_more x seen s)
+]
 
 -- in the end all of them were seen
 pub all_seen : (u : StreamTable) (left seen : List StreamId) (x : StreamId) → left ≡ []
     → (is_there_or_touched u left x || list_any (same_stream x) seen) ≡ true → is_there_or_touched u seen x ≡ true
-all_seen u left seen x none h = elim (or_cases (is_there_or_touched u left x) (list_any (same_stream x) seen) h) [
-  | inl a ↦ elim (or_cases (is_there u x) (list_any (same_stream x) left) a) [
-    | inl there ↦ or_left _ _ there
-    | inr one ↦ let bad : list_any (same_stream x) [] ≡ true = ap (list_any (same_stream x)) (sym none) ∙ one in
-        absurd (false≢true bad)
-  ]
-  | inr b ↦ or_right _ _ b
-]
+all_seen u left seen x none h = let k = rw none at h in grind (arith, nat_tests)
 
 -- ---- the cascade at first
 
@@ -178,18 +159,7 @@ cascade_at_first links t ss room held h enough = record {
   enough = let few = few_below links t held (ordinary_of links) in omega (arith, few, enough);
 } where
   watch : (l : Link) → (is_persistent l || is_there_or_touched t ss l.ctl) ≡ true → is_watched t ss l ≡ true
-  watch l e = elim (cases_Bool (is_loose t l)) [
-    | inr tight ↦ or_left (not (is_loose t l)) (list_any (same_stream l.ctl) ss) (ap not tight)
-    | inl loose ↦
-        let a = and_parts (not (is_persistent l)) (is_held t l && not (is_there t l.ctl)) loose in
-        let gone = not-true _ (and_parts (is_held t l) (not (is_there t l.ctl)) a.1).1 in
-        or_right (not (is_loose t l)) (list_any (same_stream l.ctl) ss)
-        (elim (or_cases (is_persistent l) (is_there_or_touched t ss l.ctl) e) [
-          | inl p ↦ absurd (false≢true (sym (not-true _ a.0) ∙ p))
-          | inr o ↦ elim (or_cases (is_there t l.ctl) (list_any (same_stream l.ctl) ss) o)
-              [ inl there ↦ absurd (false≢true (sym gone ∙ there)) | inr one ↦ one ]
-        ])
-  ]
+  watch l e = grind (arith, nat_tests)
 
 -- where each stream below a link is held, no link's lower stream is free
 pub none_free : (links : List Link) (t : StreamTable) → AreHeld links t → filter (λ l. not (is_held t l)) links ≡ []

@@ -5,7 +5,6 @@ use Rattle.std.proofs.Math.Bool.{or-false}
 use Rattle.std.specs.Prelude.{nat_lt, slice_get}
 use Rattle.std.specs.List.{list_any, list_all}
 use Rattle.std.proofs.lemmas.Bool.{cases_Bool, and_parts, and_from, or_cases, or_left, or_right, eq-eqb, false≢true}
-use Rattle.std.proofs.lemmas.Bool.{not-true}
 use Rattle.std.proofs.lemmas.List.{take_all}
 use Rattle.std.proofs.lemmas.List.Folds.{list_any-append}
 use Rattle.std.proofs.lemmas.Bool.Decides.{nat_tests}
@@ -41,11 +40,8 @@ still_listed x ss s h = listed_more x ss s ∙ or_left _ _ h
 -- and behind another one
 pub still_listed_before : (x : StreamId) (ss : List StreamId) (s last : StreamId)
     → list_any (same_stream x) (ss ++ last ∷ []) ≡ true → list_any (same_stream x) ((ss ++ s ∷ []) ++ last ∷ []) ≡ true
-still_listed_before x ss s last h = listed_more x (ss ++ s ∷ []) last
-    ∙ elim (or_cases (list_any (same_stream x) ss) (same_stream x last) (sym (listed_more x ss last) ∙ h)) [
-      | inl a ↦ or_left _ _ (still_listed x ss s a)
-      | inr b ↦ or_right _ _ b
-    ]
+still_listed_before x ss s last h =
+    grind (arith, nat_tests, listed_more x (ss ++ s ∷ []) last, listed_more x ss last, listed_more x ss s)
 
 -- the last stream of a list is listed
 pub listed_last : (ss : List StreamId) (s : StreamId) → list_any (same_stream s) (ss ++ s ∷ []) ≡ true
@@ -97,14 +93,6 @@ held_before : (t u : StreamTable) (s : StreamId) (l : Link) → HasHolds t s (nu
 held_before t u s l h up = let few = not_more_held t u s l.lower h in
     grind (arith, nat_tests)
 
--- the controlling stream of a held ordinary link that isn't loose is there
-there_if : (t : StreamTable) (l : Link) → not (is_persistent l) ≡ true → is_held t l ≡ true → is_loose t l ≡ false
-    → is_there t l.ctl ≡ true
-there_if t l o held tight = elim (cases_Bool (is_there t l.ctl)) [
-  | inl y ↦ y
-  | inr n ↦ absurd (false≢true (sym tight ∙ and_from _ _ o (and_from _ _ held (ap not n))))
-]
-
 -- a link is watched further, where the stream that is released is one of those that may have gone
 pub watch_on : (t u : StreamTable) (s : StreamId) (ss vs : List StreamId) (l : Link)
     → HasHolds t s (number_at t.holds s - 1) u
@@ -115,12 +103,11 @@ watch_on t u s ss vs l h further last was = elim (cases_Bool (is_loose u l))
     [ inl loose ↦ or_right _ _ (listed loose) | inr tight ↦ or_left _ _ (ap not tight) ] where
       listed : is_loose u l ≡ true → list_any (same_stream l.ctl) vs ≡ true
       listed loose =
-          let a = and_parts (not (is_persistent l)) (is_held u l && not (is_there u l.ctl)) loose in
-          let b = and_parts (is_held u l) (not (is_there u l.ctl)) a.1 in
           elim (or_cases (not (is_loose t l)) (list_any (same_stream l.ctl) ss) was) [
             | inl tight ↦
-                let there = there_if t l a.0 (held_before t u s l h b.0) (not-true _ tight) in
-                let it = went_is_released t u s l.ctl (number_at t.holds s - 1) h there (not-true _ b.1) in
+                let held = held_before t u s l h (grind (arith, nat_tests)) in
+                let there : is_there t l.ctl ≡ true = grind (arith, nat_tests) in
+                let it = went_is_released t u s l.ctl (number_at t.holds s - 1) h there (grind (arith, nat_tests)) in
                 ap (λ (x : StreamId). list_any (same_stream x) vs) (stream_is l.ctl s it) ∙ last
             | inr one ↦ further l.ctl one
           ]
@@ -152,22 +139,10 @@ released_is_watched links t u vs l once h =
 pub watched_less : (t : StreamTable) (ss : List StreamId) (ctl : StreamId) (l : Link)
     → (same_stream l.ctl ctl && is_loose t l) ≡ false → is_watched t (ss ++ ctl ∷ []) l ≡ true
     → is_watched t ss l ≡ true
-watched_less t ss ctl l other was =
-    elim (or_cases (not (is_loose t l)) (list_any (same_stream l.ctl) (ss ++ ctl ∷ [])) was) [
-      | inl tight ↦ or_left _ _ tight
-      | inr one ↦
-          elim (or_cases (list_any (same_stream l.ctl) ss) (same_stream l.ctl ctl)
-          (sym (listed_more l.ctl ss ctl) ∙ one)) [
-            | inl earlier ↦ or_right _ _ earlier
-            | inr it ↦ or_left _ _ (ap not (tight it))
-          ]
-    ] where
-      tight : same_stream l.ctl ctl ≡ true → is_loose t l ≡ false
-      tight it = let k = rw it at other in k
+watched_less t ss ctl l other was = grind (arith, nat_tests, listed_more l.ctl ss ctl)
 
 loose_gone : (t : StreamTable) (l : Link) → is_loose t l ≡ true → not (is_there t l.ctl) ≡ true
-loose_gone t l loose = (and_parts (is_held t l) (not (is_there t l.ctl))
-    (and_parts (not (is_persistent l)) (is_held t l && not (is_there t l.ctl)) loose).1).1
+loose_gone t l loose = grind (arith, nat_tests)
 
 -- no link is loose by a stream that is there, or whose driver has no links
 pub none_by : (t : StreamTable) (ss : List StreamId) (ctl : StreamId) (ls : List Link)
@@ -207,6 +182,5 @@ pub none_loose : (t : StreamTable) (ls : List Link) → list_all (is_watched t [
 none_loose t [] h = refl
 none_loose t (l ∷ ls) h =
     let p = and_parts (is_watched t [] l) (list_all (is_watched t []) ls) h in
-    let tight : is_loose t l ≡ false = elim (or_cases (not (is_loose t l)) false p.0)
-    [ inl a ↦ not-true _ a | inr b ↦ absurd (false≢true b) ] in
+    let tight : is_loose t l ≡ false = grind (arith, nat_tests, p.0) in
     rw tight (none_loose t ls p.1)
