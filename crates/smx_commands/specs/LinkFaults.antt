@@ -1,4 +1,4 @@
--- Why there is no link, as an answer to a command. No public clause needs this.
+-- Why there is no link, as an answer to a command.
 use Rattle.smx_types.specs.declared.reply.Fault.TheVariants.{AlreadyBelow, Cycle, TooManyLinks}
 use Rattle.smx_links.specs.declared.link_fault.LinkFault.{LinkFault}
 use Rattle.smx_links.specs.declared.link_fault.LinkFault.TheVariants as link_fault

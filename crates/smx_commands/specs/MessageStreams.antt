@@ -1,4 +1,4 @@
--- The stream at which a command sends or takes a message: it is looked up once. No public clause needs this.
+-- The stream at which a command sends or takes a message: it is looked up once.
 use Rattle.std.specs.Prelude.{ℕ, List, Result, Err}
 use Rattle.smx_types.specs.declared.command.Command.{Command}
 use Rattle.smx_types.specs.declared.command.Command.TheVariants as command

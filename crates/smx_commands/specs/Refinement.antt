@@ -1,4 +1,4 @@
--- What the part of a step that is a command leaves, before messages move on. No public clause needs this.
+-- What the part of a step that is a command leaves, before messages move on.
 use Rattle.std.specs.Prelude.{◌≡◌, ℕ, Result, Ok, Err, IsOk}
 use Rattle.smx_types.specs.declared.command.Command.{Command}
 use Rattle.smx_types.specs.declared.reply.Fault.{Fault}

@@ -1,4 +1,4 @@
--- Room for a second reply. No public clause needs this.
+-- Room for a second reply.
 use Rattle.std.specs.Prelude.{◌≡◌, ℕ, ◌≤◌, List, [], length, vec_capacity, Result, Ok, Err, IsOk}
 use Rattle.smx_types.specs.declared.reply.Reply.{Reply}
 use Rattle.smx_types.specs.declared.reply.Reply.TheVariants as reply

@@ -1,4 +1,4 @@
--- Why no stream is opened, as an answer to a command. No public clause needs this.
+-- Why no stream is opened, as an answer to a command.
 use Rattle.smx_types.specs.declared.reply.Fault.TheVariants.{BadDescriptor, NoDriver, NoMinor, TooManyDescriptors}
 use Rattle.smx_streams.specs.declared.stream_fault.StreamFault.{StreamFault}
 use Rattle.smx_streams.specs.declared.stream_fault.StreamFault.TheVariants as stream_fault

@@ -9,7 +9,8 @@ use crate::tables::Tables;
 use smx_types::{Command, Fault, Process, StreamId};
 
 impl Tables {
-    /// The stream, or why there is none; other commands have none. Takes no memory.
+    /// The stream at which the command sends or takes a message, or why there is none; of any other command
+    /// `BadDescriptor`. Takes no memory.
     pub fn message_stream(&self, process: Process, command: &Command) -> Result<StreamId, Fault>
         requires { IsSound self.now.drivers self.now.configuration }
         ensures value { result ≡ message_stream self.now.drivers self.now.configuration process command.now }

@@ -10,7 +10,8 @@ use crate::tables::Tables;
 use smx_types::Place;
 
 impl Tables {
-    /// The first message of a place goes to the end of another's queue. Takes no memory.
+    /// The first message of a place goes to the end of another's queue, each with its full mark after that. Takes no
+    /// memory.
     pub fn carry(&mut self, from: Place, to: Place)
         requires some { IsSome (first_message self.old.configuration.flow from) }
         requires known { IsKnown self.old.drivers to.stream }

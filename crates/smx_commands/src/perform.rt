@@ -23,7 +23,7 @@ fn as_step_error(answer: Result<Reply, Fault>) -> Result<Reply, StepError>
 
 impl Tables {
     /// Does a command of a process, before messages move on; it is told which stream the command sends to or takes
-    /// from. Where that is refused, or memory is wanting, nothing has changed; `dup`, `unbind`, `unroute`, `read`,
+    /// from. Where it is refused, or memory is wanting, nothing has changed; `dup`, `unbind`, `unroute`, `read`,
     /// `transmit` and `hangup` take none.
     #[inline(always)]
     pub fn perform(

@@ -95,7 +95,7 @@ impl Tables {
         self.room_for_all()
     }
 
-    /// Room for the reply to a command, unless that is refused. Takes memory only for what the reply may carry.
+    /// Room for the reply to a command; or the fault of one that is refused, where that is found on the way.
     #[tactic(auto, using(crate::proofs::DroppedLemmas::few_left))]
     pub fn room_for_reply(
         &self,

@@ -63,7 +63,7 @@ impl Tables {
         })
     }
 
-    /// The allocator that they were made with.
+    /// The allocator that they were made with. No clause speaks of it.
     pub fn alloc(&self) -> Global {
         self.alloc
     }

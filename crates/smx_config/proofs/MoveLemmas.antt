@@ -1,4 +1,4 @@
--- A move to the place where the first message may go on to.
+-- A move to the place to which the first message may go on.
 use Rattle.std.proofs.Common.{◌≡◌, Option, Some, sym, ap, ◌∙◌}
 use Rattle.smx_types.specs.declared.stream.Place.{Place}
 use Rattle.smx_model.specs.LoneMessages.{moved}

@@ -185,7 +185,7 @@ impl Config {
         ensures drivers { IsDriverList self.now.drivers }
         ensures kept { IsKept self.now.drivers self.now.configuration }
     {
-        // What the tables and the configuration keep is known where their fields are read.
+        // That the drivers can be had the call says; the rest is known where a field is read.
         let _drivers = self.tables.drivers();
     }
 

@@ -1,4 +1,4 @@
-//! The sequential configuration: each command does what the model's command table says.
+//! The sequential configuration: each command does what the model's command table says, and then messages move on.
 #![tactic(auto)]
 
 mod config;

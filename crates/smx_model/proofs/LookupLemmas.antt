@@ -15,7 +15,7 @@ use Rattle.smx_model.specs.Lookups.{free_stream, leaf_stream, live_leaf, live_st
 use Rattle.smx_model.specs.Outcomes.{◌>>=◌, or_fault, refuse}
 use Rattle.smx_model.specs.Settling.{live_write_side}
 
--- what is there or else a fault, and is no fault, is there
+-- where a lookup gives no fault, what it looked for is there
 pub there_is : {A : Type 0} (f : Fault) (o : Option A) (x : A) → or_fault f o ≡ Ok x → o ≡ Some x
 there_is f None x e = cc
 there_is f (Some y) x e = let same : y ≡ x = cc in ap Some same

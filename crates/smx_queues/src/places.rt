@@ -14,8 +14,8 @@ use smx_types::{DriverSpec, NoMemory, Place, Side, StreamId};
 use std::alloc::Global;
 use std::marker::Model;
 
-/// The number of a driver's first place, and how many minors it has: all that the number of a place is made of, in few
-/// bytes.
+/// The number of a driver's first place, and how many minors it has: all that has to be known of a driver to number its
+/// places.
 #[derive(Clone, Copy, Debug)]
 pub struct DriverRow {
     pub first: usize,
@@ -145,7 +145,7 @@ impl Places {
         Some(row.first + 2 * minor + side_number(place.side))
     }
 
-    /// The place of a number; the number behind it is less than 2^64.
+    /// The place of a number; the next number is less than 2^64.
     pub fn at(&self, number: usize) -> Place
         requires { number < length self.now.places }
         ensures place { slice_get self.now.places number ≡ Some result }
