@@ -1,14 +1,13 @@
 //! A message that moves on alone: it goes past the places that are empty, and is moved once.
 
-ghost use Rattle.std.specs.Prelude.{◌≡◌, ◌≢◌, ◌-◌, ◌<◌, ℕ, false, true, None, Some, IsSome, IsTrue};
-ghost use Rattle.std.specs.Option.{is_some};
+ghost use Rattle.std.specs.Prelude.{◌≡◌, ◌-◌, ◌<◌, ℕ, false, true, None, Some, IsSome, IsTrue};
 ghost use Rattle.smx_types.specs.declared.message.Message.{Message as MessageValue};
 ghost use Rattle.smx_types.specs.declared.stream.Place.{Place as PlaceValue};
 ghost use Rattle.smx_model.specs.Configuration.{same_place};
 ghost use Rattle.smx_model.specs.KeptConfigurations.{IsSound};
 ghost use Rattle.smx_model.specs.KnownStreams.{IsKnown};
 ghost use Rattle.smx_model.specs.LoneMessages.{IsUnderWay, StaysAt, moved};
-ghost use Rattle.smx_model.specs.Queues.{first_message, is_full};
+ghost use Rattle.smx_model.specs.Queues.{first_message};
 ghost use Rattle.smx_model.specs.Settling.{IsSettled, after_settling_within};
 ghost use Rattle.smx_model.specs.SettlingByMarks.{HasNoRunMark};
 ghost use Rattle.smx_queues.specs.PlaceMarks.{has_mark};

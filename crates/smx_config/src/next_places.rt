@@ -3,7 +3,7 @@
 ghost use Rattle.std.specs.Prelude.{◌≡◌, false, true, IfSome, None};
 ghost use Rattle.smx_model.specs.Queues.{first_message};
 ghost use Rattle.smx_model.specs.RunMarks.{has_addr, next_of_first};
-ghost use Rattle.smx_model.specs.Settling.{live_write_side, place_below, place_above, next_place};
+ghost use Rattle.smx_model.specs.Settling.{next_place};
 ghost use Rattle.smx_config.specs.Ways.{AreWays};
 
 use crate::ways::Ways;

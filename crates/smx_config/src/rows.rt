@@ -1,6 +1,6 @@
 //! Messages that move on in a row: from one place to another, as long as they have the same address.
 
-ghost use Rattle.std.specs.Prelude.{◌≡◌, ◌≢◌, ◌<◌, None, Some, IsTrue};
+ghost use Rattle.std.specs.Prelude.{◌≡◌, ◌<◌, None, Some, IsTrue};
 ghost use Rattle.std.specs.Option.{is_some};
 ghost use Rattle.smx_model.specs.KeptConfigurations.{IsSound};
 ghost use Rattle.smx_model.specs.Queues.{first_message};

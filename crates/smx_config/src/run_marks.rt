@@ -1,8 +1,7 @@
 //! Run marks at places that have a message.
 
-ghost use Rattle.std.specs.Prelude.{◌≡◌, ◌≢◌, None};
+ghost use Rattle.std.specs.Prelude.{◌≡◌, None};
 ghost use Rattle.smx_model.specs.Configuration.{same_place};
-ghost use Rattle.smx_model.specs.Queues.{first_message};
 ghost use Rattle.smx_queues.specs.PlaceMarks.{MarkList};
 ghost use Rattle.smx_config.specs.Marking.{is_read_below_driver, is_write_of};
 ghost use Rattle.smx_config.specs.Marking.{HasNeeded, IsMarkedUnless, IsMarkedWhere, IsOneMore};

@@ -1,9 +1,6 @@
 //! What a command may wake.
 
-ghost use Rattle.std.specs.Prelude.{◌≡◌, IfOk};
-ghost use Rattle.smx_types.specs.declared.stream.Place.{Place as PlaceValue};
-ghost use Rattle.smx_model.specs.KeptConfigurations.{IsSound};
-ghost use Rattle.smx_model.specs.KnownStreams.{IsKnown};
+ghost use Rattle.std.specs.Prelude.{◌≡◌};
 ghost use Rattle.smx_commands.specs.MessageStreams.{message_stream};
 ghost use Rattle.smx_config.specs.Wakes.{arrives, on_stream, wakes_of};
 ghost use Rattle.smx_config.specs.declared.wakes.Wakes.TheVariants as wakes;

@@ -115,7 +115,7 @@ swept_link drivers c l next h e = grown drivers c (record c { links = c.links ++
 pub stream_self : (t : StreamId) → same_stream t t ≡ true
 stream_self t = and_from _ _ (eq-eqb t.driver t.driver refl) (eq-eqb t.minor t.minor refl)
 
--- a process' stream exists
+-- the stream of a process's descriptor exists
 stream_exists : (drivers : List DriverSpec) (c : Configuration) (process fd : ℕ) (s : StreamId)
     → stream_of c process fd ≡ Ok s → exists drivers c s ≡ true
 stream_exists drivers c process fd s e =

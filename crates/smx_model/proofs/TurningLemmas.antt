@@ -95,7 +95,7 @@ stays_by drivers c d p addr h =
 abbrev pub Finds : {X : Type 0} → Option X → Option X → Type 0
 Finds {X} o n = (n ≡ o) ⊎ (n ≡ None)
 
--- what finds as before finds so
+-- what is found as before is found the same, or not at all
 pub same_finds : {X : Type 0} (o : Option X) → Finds o o
 same_finds o = inl refl
 
