@@ -56,7 +56,7 @@ reaches text one =
 pub wrong_at_4 : (text : List ℕ) → IsOneLine text → IsNoLine (programs_grammar V1) (body before) text
     → AreWrongPrograms (with_line_4 text) 4 cause.Form
 wrong_at_4 text one none =
-    wrong_programs V1 (with_line_4 text) 4 cause.Form (λ e. cc) (λ e. cc) (
+    wrong_programs V1 _ _ _ (λ e. cc) (λ e. cc) (
       body before,
       text,
       reaches text one,
