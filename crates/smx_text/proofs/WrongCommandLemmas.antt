@@ -55,13 +55,7 @@ reaches text one =
 -- text that spells no line which may stand behind them makes line 4 go wrong for its form
 pub wrong_at_4 : (text : List ℕ) → IsOneLine text → IsNoLine (programs_grammar V1) (body before) text
     → AreWrongPrograms (with_line_4 text) 4 cause.Form
-wrong_at_4 text one none =
-    wrong_programs V1 _ _ _ (λ e. cc) (λ e. cc) (
-      body before,
-      text,
-      reaches text one,
-      none,
-    )
+wrong_at_4 text one none = wrong_programs V1 refl (body before, text, reaches text one, none)
 
 -- words that are no command's, no driver's and no process'
 no_words : (ws : List (List ℕ)) → AllByRecursion (IsFree SPACE) ws × (0 < length ws)

@@ -32,18 +32,11 @@ use Rattle.smx_text.proofs.WrongCommandLemmas.{before, before_allowed, wrong_at_
 
 -- an empty text is cut at line 1
 pub nothing : AreWrongPrograms [] 1 cause.Cut
-nothing = wrong_programs V1 _ _ _ (λ e. cc) (λ e. cc) ([], [], inl (refl, refl), tt, refl)
+nothing = wrong_programs V1 refl ([], [], inl (refl, refl), tt, refl)
 
 -- a header without its line feed is cut
 pub cut_header : AreWrongPrograms (codes "programs 1") 1 cause.Cut
-cut_header =
-    wrong_programs V1 _ _ _ (λ e. cc) (λ e. cc) (
-      [],
-      codes "programs 1",
-      inl (refl, refl),
-      search rules,
-      refl,
-    )
+cut_header = wrong_programs V1 refl ([], codes "programs 1", inl (refl, refl), search rules, refl)
 
 other_number : (version : Version) → codes "programs 3" ≢ header (programs_grammar version)
 other_number V1 = differ (codes "programs 3") (codes "programs 1") refl
@@ -51,31 +44,15 @@ other_number V2 = differ (codes "programs 3") (codes "programs 2") refl
 
 -- programs of version 3 have a wrong header
 pub version_3 : AreWrongPrograms (codes "programs 3\n") 1 cause.Header
-version_3 =
-    wrong_in_each (codes "programs 3\n") 1 cause.Header (λ e. cc)
-    (λ version. (codes "programs 3", ([], search rules, refl), other_number version, refl))
+version_3 = wrong_in_each (λ version. (codes "programs 3", ([], search rules, refl), other_number version, refl))
 
 -- a header with nothing behind it is cut at line 2
 pub header_alone : AreWrongPrograms (codes "programs 1\n") 2 cause.Cut
-header_alone =
-    wrong_programs V1 _ _ _ (λ e. cc) (λ e. cc) (
-      codes "programs 1\n",
-      [],
-      inr ([], nothing_begun V1, refl, refl),
-      tt,
-      refl,
-    )
+header_alone = wrong_programs V1 refl (codes "programs 1\n", [], inr ([], nothing_begun V1, refl, refl), tt, refl)
 
 -- so is the header of version 2
 pub version_2_alone : AreWrongPrograms (codes "programs 2\n") 2 cause.Cut
-version_2_alone =
-    wrong_programs V2 _ _ _ (λ e. cc) (λ e. cc) (
-      codes "programs 2\n",
-      [],
-      inr ([], nothing_begun V2, refl, refl),
-      tt,
-      refl,
-    )
+version_2_alone = wrong_programs V2 refl (codes "programs 2\n", [], inr ([], nothing_begun V2, refl, refl), tt, refl)
 
 -- ---- lines out of their places
 
@@ -104,7 +81,7 @@ clone = line.Command (command.OpenClone (codes "ip"))
 -- no command stands before the first process
 pub no_process : AreWrongPrograms (codes "programs 1\nclone ip\nend\n") 2 cause.Form
 no_process =
-    wrong_programs V1 _ _ _ (λ e. cc) (λ e. cc) (
+    wrong_programs V1 refl (
       [],
       codes "clone ip",
       record { begun = nothing_begun V1; next = (codes "end\n", search rules, refl); numbered = refl },
@@ -132,7 +109,7 @@ allowed_one = search (rules, arith)
 pub no_end : AreWrongPrograms (codes "programs 1\ndriver ip mux 4 8 3 16\nprocess 0\nclone ip\n") 5 cause.Cut
 unfolding digits
 no_end =
-    wrong_programs V1 _ _ _ (λ e. cc) (λ e. cc) (
+    wrong_programs V1 refl (
       codes "programs 1\ndriver ip mux 4 8 3 16\nprocess 0\nclone ip\n",
       [],
       inr (body one_command, (one_command, [], allowed_one, refl), refl, refl),
@@ -144,7 +121,7 @@ no_end =
 pub cut_line : AreWrongPrograms (codes "programs 1\ndriver ip mux 4 8 3 16\nprocess 0\nclone ip") 4 cause.Cut
 unfolding digits
 cut_line =
-    wrong_programs V1 _ _ _ (λ e. cc) (λ e. cc) (
+    wrong_programs V1 refl (
       codes "programs 1\ndriver ip mux 4 8 3 16\nprocess 0\n",
       codes "clone ip",
       inr (body before, (before, [], before_allowed, refl), refl, refl),
@@ -156,7 +133,7 @@ cut_line =
 pub a_space_behind : AreWrongPrograms (codes "programs 1\nprocess 0\nend\n ") 4 cause.Trailing
 unfolding digits
 a_space_behind =
-    wrong_programs V1 _ _ _ (λ e. cc) (λ e. cc)
+    wrong_programs V1 refl
     (no_command, 32, [], allowed_none, refl, refl)
 
 -- ---- one process too many
@@ -218,7 +195,7 @@ pub process_65 : AreWrongPrograms (with_processes 65) 67 cause.Many
 unfolding digits
 process_65 =
     let long = many 64 in
-    wrong_programs V1 _ _ _ (λ e. cc) (λ e. cc) (
+    wrong_programs V1 refl (
       body (processes 64),
       codes "process 64",
       record {

@@ -97,7 +97,7 @@ below_config = draft stage.Config nothing
 wrong_below_config : (text rest : List ℕ) → IsOneLine text → IsNoLine (transcript_grammar V1) (lines below_config) text
     → IsWrongTranscript (codes "transcript 1\nconfig\n" ++ (text ++ 10 ∷ rest)) 3 cause.Form
 wrong_below_config text rest one none =
-    wrong_transcript V1 _ _ _ (λ e. cc) (λ e. cc) (
+    wrong_transcript V1 refl (
       lines below_config,
       text,
       record {
@@ -116,7 +116,7 @@ wrong_at_3 : (text : List ℕ) → IsOneLine text → IsNoLine (transcript_gramm
     → IsWrongTranscript (with_line_3 text) 3 cause.Form
 unfolding digits
 wrong_at_3 text one none =
-    wrong_transcript V1 _ _ _ (λ e. cc) (λ e. cc) (
+    wrong_transcript V1 refl (
       lines behind_driver,
       text,
       record {
@@ -135,7 +135,7 @@ wrong_at_5 : (text : List ℕ) → IsOneLine text → IsNoLine (transcript_gramm
     → IsWrongTranscript (with_line_5 text) 5 cause.Form
 unfolding digits
 wrong_at_5 text one none =
-    wrong_transcript V1 _ _ _ (λ e. cc) (λ e. cc) (
+    wrong_transcript V1 refl (
       lines behind_link,
       text,
       record { begun = (one_link, [], one_link_allowed, refl); next = (codes "end\n", one, refl); numbered = refl },
@@ -157,8 +157,7 @@ no_header V2 = differ (codes "programs 1") (codes "transcript 2") refl
 -- the header of programs is none of a transcript
 pub other_header : IsWrongTranscript (codes "programs 1\nend\n") 1 cause.Header
 other_header =
-    wrong_transcript_in_each (codes "programs 1\nend\n") 1 cause.Header (λ e. cc)
-    (λ version. (codes "programs 1", (codes "end\n", search rules, refl), no_header version, refl))
+    wrong_transcript_in_each (λ version. (codes "programs 1", (codes "end\n", search rules, refl), no_header version, refl))
 
 other_number : (version : Version) → codes "transcript 3" ≢ header (transcript_grammar version)
 other_number V1 = differ (codes "transcript 3") (codes "transcript 1") refl
@@ -167,19 +166,12 @@ other_number V2 = differ (codes "transcript 3") (codes "transcript 2") refl
 -- transcripts of version 3 have a wrong header
 pub version_3 : IsWrongTranscript (codes "transcript 3\n") 1 cause.Header
 version_3 =
-    wrong_transcript_in_each (codes "transcript 3\n") 1 cause.Header (λ e. cc)
-    (λ version. (codes "transcript 3", ([], search rules, refl), other_number version, refl))
+    wrong_transcript_in_each (λ version. (codes "transcript 3", ([], search rules, refl), other_number version, refl))
 
 -- a header of version 2 with nothing behind it is cut at line 2
 pub version_2_alone : IsWrongTranscript (codes "transcript 2\n") 2 cause.Cut
 version_2_alone =
-    wrong_transcript V2 _ _ _ (λ e. cc) (λ e. cc) (
-      codes "transcript 2\n",
-      [],
-      inr ([], nothing_begun V2, refl, refl),
-      tt,
-      refl,
-    )
+    wrong_transcript V2 refl (codes "transcript 2\n", [], inr ([], nothing_begun V2, refl, refl), tt, refl)
 
 abbrev descriptor : TranscriptLine
 descriptor = line.Fd (record { process = 0; fd = 0; driver = codes "ip"; minor = 0 })
@@ -218,7 +210,7 @@ late_descriptor = misplaced_at_5 (codes "fd 0 0 ip 0") (search rules) descriptor
 pub no_end : IsWrongTranscript (codes "transcript 1\nconfig\nnext 1 1\n") 4 cause.Cut
 unfolding digits
 no_end =
-    wrong_transcript V1 _ _ _ (λ e. cc) (λ e. cc) (
+    wrong_transcript V1 refl (
       codes "transcript 1\nconfig\nnext 1 1\n",
       [],
       inr (line.Config ∷ line.Next 1 1 ∷ [], (nothing, [], nothing_allowed, refl), refl, refl),
@@ -249,7 +241,7 @@ pub late_full_place : IsWrongTranscript
     (codes "transcript 2\nconfig\nnext 1 1\nhung eth 0\nfull eth 0 r\nend\n") 5 cause.Form
 unfolding digits
 late_full_place =
-    wrong_transcript V2 _ _ _ (λ e. cc) (λ e. cc) (
+    wrong_transcript V2 refl (
       lines behind_hung,
       codes "full eth 0 r",
       record {
