@@ -1,6 +1,6 @@
 -- One text has one reading. For any kind of text whose lines can be told apart.
 use Rattle.std.proofs.Common.{◌≡◌, ◌≢◌, ℕ, ◌+◌, List, [], ◌∷◌, ◌++◌, length, map, Result, Ok, Err, refl, sym}
-use Rattle.std.proofs.Common.{ap, subst, ◌∙◌, append_assoc, inl, inr}
+use Rattle.std.proofs.Common.{ap, subst, ◌∙◌, append_assoc, inl, inr, rules}
 use Rattle.std.specs.List.{AllByRecursion}
 use Rattle.std.specs.Prelude.{◌⊎◌, IfErr}
 use Rattle.std.proofs.lemmas.List.{append-nil}
@@ -56,23 +56,9 @@ module _ {V K : Type 0} (g : Grammar V K) (made : IsWellMade g) where
       (made.one_line m k.0) (sym (texts_cons l ls r) ∙ e ∙ texts_cons m ms s) in
       let same : l ≡ m = made.tells_apart l m h.0 k.0 t.0 in
       elim (compare ls ms r s h.1 k.1 t.1) [
-        | inl (all, rest) ↦ inl (ap (λ (x : K). x ∷ ls) same ∙ ap (λ (xs : List K). m ∷ xs) all, rest)
-        | inr (inl (x, more, after, is, rest)) ↦
-            inr (inl (
-              x,
-              more,
-              after,
-              ap (λ (xs : List K). m ∷ xs) is ∙ ap (λ (y : K). y ∷ (ls ++ x ∷ more)) (sym same),
-              rest,
-            ))
-        | inr (inr (x, more, after, is, rest)) ↦
-            inr (inr (
-              x,
-              more,
-              after,
-              ap (λ (xs : List K). l ∷ xs) is ∙ ap (λ (y : K). y ∷ (ms ++ x ∷ more)) same,
-              rest,
-            ))
+        | inl (all, rest) ↦ inl (cc (same, all), rest)
+        | inr (inl (x, more, after, is, rest)) ↦ inr (inl (x, more, after, cc (same, is), rest))
+        | inr (inr (x, more, after, is, rest)) ↦ inr (inr (x, more, after, cc (same, is), rest))
       ]
 
   -- ---- what can be answered at a whole line behind these lines
@@ -126,12 +112,7 @@ module _ {V K : Type 0} (g : Grammar V K) (made : IsWellMade g) where
       absurd (no_many v lines text allowed e end k.0)
   one_judgement lines text after n m cause.Trailing cause.Trailing (v, b, more, allowed, e, end, _, at)
       (w, c, others, also, e', end', _, at') = (at ∙ sym at', refl)
-  one_judgement lines text after n m cause.Header d h k = absurd h
-  one_judgement lines text after n m cause.Cut d h k = absurd h
-  one_judgement lines text after n m cause.NoMemory d h k = absurd h
-  one_judgement lines text after n m c cause.Header h k = absurd k
-  one_judgement lines text after n m c cause.Cut h k = absurd k
-  one_judgement lines text after n m c cause.NoMemory h k = absurd k
+  one_judgement lines text after n m c d h k = absurd (search rules)
 
   no_value : (v : V) (lines : List K) (text after : List ℕ) (n : ℕ) (c : Cause)
       → Answers lines text after (Ok v) → Judges lines text after n c → ⊥
@@ -139,9 +120,7 @@ module _ {V K : Type 0} (g : Grammar V K) (made : IsWellMade g) where
   no_value v lines text after n cause.Many (allowed, e, end, none) h = no_many v lines text allowed e end h.0
   no_value v lines text after n cause.Trailing (allowed, e, end, none) (w, b, more, also, _, _, some, _) =
       let both : [] ≡ b ∷ more = sym none ∙ some in absurd (cc both)
-  no_value v lines text after n cause.Header a h = absurd h
-  no_value v lines text after n cause.Cut a h = absurd h
-  no_value v lines text after n cause.NoMemory a h = absurd h
+  no_value v lines text after n c a h = absurd h
 
   one_answer : (lines : List K) (text after : List ℕ) (r s : Result V TextFault) → Answers lines text after r
       → Answers lines text after s → r ≡ s
@@ -178,9 +157,7 @@ module _ {V K : Type 0} (g : Grammar V K) (made : IsWellMade g) where
         let same : k ≡ l = made.tells_apart k l fits fits' (sym is ∙ is') in
         full v allowed (subst (λ (x : K). GoesOn g v lines x) same (goes_on lines more k v e))
     by_cause n cause.Trailing (w, b, others, _, _, end, _, _) = not_end k lines more v e (is_end k text fits is end)
-    by_cause n cause.Header h = absurd h
-    by_cause n cause.Cut h = absurd h
-    by_cause n cause.NoMemory h = absurd h
+    by_cause n c h = absurd h
 
   -- ---- where an answer stands
 

@@ -1,5 +1,5 @@
 -- The lines of some programs tell them, and lines that some programs begin with are those of some programs.
-use Rattle.std.proofs.Common.{◌≡◌, ◌≢◌, ℕ, ◌+◌, ◌-◌, List, [], ◌∷◌, ◌++◌, length, map, get_or, refl, sym, ap}
+use Rattle.std.proofs.Common.{◌≡◌, ◌≢◌, ℕ, ◌+◌, ◌-◌, ◌≤◌, List, [], ◌∷◌, ◌++◌, length, map, get_or, refl, sym, ap}
 use Rattle.std.proofs.Common.{subst, ◌∙◌, append_assoc, arith}
 use Rattle.std.specs.List.{sum_by, AllByRecursion}
 use Rattle.std.proofs.lemmas.List.{append-nil, length-append, length-set}
@@ -150,39 +150,15 @@ begun_is_body version lines (w, more, allowed, e) =
     let fits = all_left (FitsLine version) lines more (subst (AllByRecursion (FitsLine version)) e allowed.fits) in
     let kept : IsAllowed version v = record {
       version_is = own.1;
-      drivers =
-          omega (
-            arith,
-            ap (sum_by a_driver) e,
-            sum_by-append a_driver lines more,
-            ap (sum_by a_driver) own.2,
-            c.drivers,
-            d.drivers,
-            allowed.drivers,
-          );
-      programs =
-          omega (
-            arith,
-            ap (sum_by a_process) e,
-            sum_by-append a_process lines more,
-            ap (sum_by a_process) own.2,
-            c.processes,
-            d.processes,
-            allowed.programs,
-          );
-      commands =
-          omega (
-            arith,
-            ap (sum_by a_command) e,
-            sum_by-append a_command lines more,
-            ap (sum_by a_command) own.2,
-            c.commands,
-            d.commands,
-            allowed.commands,
-          );
+      drivers = omega (arith, fewer a_driver v own.2, c.drivers, d.drivers, allowed.drivers);
+      programs = omega (arith, fewer a_process v own.2, c.processes, d.processes, allowed.programs);
+      commands = omega (arith, fewer a_command v own.2, c.commands, d.commands, allowed.commands);
       fits = subst (AllByRecursion (FitsLine version)) (sym own.2) fits;
     } in
-    (v, kept, own.2)
+    (v, kept, own.2) where
+      fewer : (weight : Line → ℕ) (v : ProgramLists) → body v ≡ lines
+          → sum_by weight (body v) ≤ sum_by weight (body w)
+      fewer weight v is = omega (arith, ap (sum_by weight) e, sum_by-append weight lines more, ap (sum_by weight) is)
 
 -- so where their lines begin an allowed value, they are allowed
 pub allowed_of : (version : Version) (v : ProgramLists) → v.version ≡ version

@@ -92,9 +92,7 @@ module _ {V K : Type 0} (g : Grammar V K) where
     refused cause.Form h = (lines, text, reaches, h)
     refused cause.Many h = (lines, text, reaches, h)
     refused cause.NoMemory h = (lines, text, reaches, h)
-    refused cause.Header h = absurd h
-    refused cause.Cut h = absurd h
-    refused cause.Trailing h = absurd h
+    refused why h = absurd h
 
     -- where the next line goes on behind those before, a reader is between it and the line after it
     pub one_more : (longer : List K) → Continues g lines text longer → IsBetween bytes after longer (number + 1)
@@ -157,9 +155,7 @@ module _ {V K : Type 0} (g : Grammar V K) where
       h (subst (λ (x : K). MayFollow g lines x) (tells_apart l k also fits (sym same ∙ is)) may)
   refuses tells_apart lines k text fits is cause.Many h = (k, is, fits, h.0, h.1)
   refuses tells_apart lines k text fits is cause.NoMemory h = (lines ++ k ∷ [], (k, is, refl, h))
-  refuses tells_apart lines k text fits is cause.Header h = absurd h
-  refuses tells_apart lines k text fits is cause.Cut h = absurd h
-  refuses tells_apart lines k text fits is cause.Trailing h = absurd h
+  refuses tells_apart lines k text fits is why h = absurd h
 
   -- the same of each answer
   pub answers : {A : Type 0} → ((k l : K) → g.FitsLine k → g.FitsLine l → line_text g k ≡ line_text g l → k ≡ l)
@@ -171,11 +167,7 @@ module _ {V K : Type 0} (g : Grammar V K) where
   -- behind the header nothing is wrong with it
   pub refused_behind : (lines : List K) (text : List ℕ) (why : Cause) → Refuses g lines text why → why ≢ cause.Header
   refused_behind lines text cause.Header h e = absurd h
-  refused_behind lines text cause.Form h e = cc
-  refused_behind lines text cause.Many h e = cc
-  refused_behind lines text cause.NoMemory h e = cc
-  refused_behind lines text cause.Cut h e = absurd h
-  refused_behind lines text cause.Trailing h e = absurd h
+  refused_behind lines text why h e = cc
 
   -- what is answered at the last line says nothing of the header
   pub ends_behind : {W : Type 0} (makes : V → W → Type 0) (lines : List K) (after : List ℕ) (number : ℕ)

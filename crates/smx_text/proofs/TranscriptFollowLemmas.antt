@@ -101,14 +101,8 @@ split_end (x ∷ xs) (l ∷ ls) more k e =
     let same : x ≡ l = cc in
     let rest : xs ++ line.End ∷ [] ≡ ls ++ k ∷ more = cc in
     elim (split_end xs ls more k rest) [
-      | inl (is, all) ↦ inl (
-        is,
-        ap (λ (y : TranscriptLine). y ∷ ls) (sym same) ∙ ap (λ (ys : List TranscriptLine). x ∷ ys) all,
-      )
-      | inr (rest, all) ↦ inr (
-        rest,
-        ap (λ (y : TranscriptLine). y ∷ xs) same ∙ ap (λ (ys : List TranscriptLine). l ∷ ys) all,
-      )
+      | inl (is, all) ↦ inl (is, cc (same, all))
+      | inr (rest, all) ↦ inr (rest, cc (same, all))
     ]
 
 bind_some : {A B : Type 0} (f : A → Option B) (o : Option A) (x : A) (y : B) → o ≡ Some x → o >>= f ≡ Some y
