@@ -138,15 +138,11 @@ too_many_drivers version n most =
 
 -- a 65th driver is one too many of programs in version 1
 pub driver_65 : AreWrongPrograms (with_drivers (codes "programs 1\n") 65) 66 cause.Many
-driver_65 =
-    wrong_programs V1 refl
-    (too_many_drivers V1 64 refl)
+driver_65 = wrong_programs V1 refl (too_many_drivers V1 64 refl)
 
 -- a 129th driver is one too many of programs in version 2
 pub driver_129 : AreWrongPrograms (with_drivers (codes "programs 2\n") 129) 130 cause.Many
-driver_129 =
-    wrong_programs V2 refl
-    (too_many_drivers V2 128 refl)
+driver_129 = wrong_programs V2 refl (too_many_drivers V2 128 refl)
 
 -- ---- in transcripts
 
@@ -203,12 +199,8 @@ too_many_of_transcript version n most as_many =
 
 -- a 65th driver is one too many of a transcript in version 1
 pub driver_65_of_a_transcript : IsWrongTranscript (with_drivers (codes "transcript 1\n") 65) 66 cause.Many
-driver_65_of_a_transcript =
-    wrong_transcript V1 refl
-    (too_many_of_transcript V1 64 refl refl)
+driver_65_of_a_transcript = wrong_transcript V1 refl (too_many_of_transcript V1 64 refl refl)
 
 -- a 129th driver is one too many of a transcript in version 2
 pub driver_129_of_a_transcript : IsWrongTranscript (with_drivers (codes "transcript 2\n") 129) 130 cause.Many
-driver_129_of_a_transcript =
-    wrong_transcript V2 refl
-    (too_many_of_transcript V2 128 refl refl)
+driver_129_of_a_transcript = wrong_transcript V2 refl (too_many_of_transcript V2 128 refl refl)

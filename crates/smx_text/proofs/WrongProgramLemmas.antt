@@ -132,9 +132,7 @@ cut_line =
 -- not even a space stands behind the end
 pub a_space_behind : AreWrongPrograms (codes "programs 1\nprocess 0\nend\n ") 4 cause.Trailing
 unfolding digits
-a_space_behind =
-    wrong_programs V1 refl
-    (no_command, 32, [], allowed_none, refl, refl)
+a_space_behind = wrong_programs V1 refl (no_command, 32, [], allowed_none, refl, refl)
 
 -- ---- one process too many
 

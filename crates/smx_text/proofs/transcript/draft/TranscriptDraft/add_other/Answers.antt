@@ -11,15 +11,12 @@ pub returns-in-Ok-Some-clause-answers : goal.returns-in-Ok-Some-clause-answers
 returns-in-Ok-Some-clause-answers c =
     let is = subst (IsReadAs FitsMessage message_words c.args.text.now) c.in-Ok-Some.field-0-is
     c.in-Ok-Some.ensures.reading in
-    answers_line c.args.self.now.transcript.version (lines c.args.self.now) (lines c.add_message.new.self)
-    (line.Msg c.in-Ok-Some.message) c.args.text.now is c.add_message.result c.add_message.ensures.answers
+    answers_line _ _ _ (line.Msg c.in-Ok-Some.message) _ is _ c.add_message.ensures.answers
 
 pub returns-in-Err-clause-answers : goal.returns-in-Err-clause-answers
 returns-in-Err-clause-answers c =
     let some = c.in-Err.ensures.wanted in
-    refused_line c.args.self.now.transcript.version (lines c.args.self.now) (line.Msg some.0) c.args.text.now
-    some.1 some.2
-    c.message_unread.result (c.message_unread.ensures some.0 some.1)
+    refused_line _ _ (line.Msg some.0) _ some.1 some.2 _ (c.message_unread.ensures some.0 some.1)
 
 pub add_message-requires-clause-fits : goal.add_message-requires-clause-fits
 add_message-requires-clause-fits c =

@@ -12,15 +12,12 @@ returns-in-Ok-Some-clause-answers c =
     let is = subst (IsReadAs (FitsEntryIn c.args.self.now.transcript.version) entry_words c.args.text.now)
     c.in-Ok-Some.field-0-is
     c.in-Ok-Some.ensures.reading in
-    answers_line c.args.self.now.transcript.version (lines c.args.self.now) (lines c.add_entry.new.self)
-    (line.Entry c.in-Ok-Some.entry) c.args.text.now is c.add_entry.result c.add_entry.ensures.answers
+    answers_line _ _ _ (line.Entry c.in-Ok-Some.entry) _ is _ c.add_entry.ensures.answers
 
 pub returns-in-Err-clause-answers : goal.returns-in-Err-clause-answers
 returns-in-Err-clause-answers c =
     let some = c.in-Err.ensures.wanted in
-    refused_line c.args.self.now.transcript.version (lines c.args.self.now) (line.Entry some.0) c.args.text.now
-    some.1 some.2
-    c.entry_unread.result (c.entry_unread.ensures some.0 some.1)
+    refused_line _ _ (line.Entry some.0) _ some.1 some.2 _ (c.entry_unread.ensures some.0 some.1)
 
 pub add_entry-requires-clause-fits : goal.add_entry-requires-clause-fits
 add_entry-requires-clause-fits c =
