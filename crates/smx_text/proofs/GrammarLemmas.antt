@@ -255,16 +255,16 @@ module _ {V K : Type 0} (g : Grammar V K) (made : IsWellMade g) where
   value_begun : (v : V) → g.IsAllowed v → IsBegun g (g.body v)
   value_begun v allowed = (v, [], allowed, sym (append-nil (g.body v)))
 
+  stands_behind : (bytes : List ℕ) (lines : List K) (rest : List ℕ) (r : Result V TextFault) → IsBegun g lines
+      → bytes ≡ beginning g lines ++ rest → Stops lines rest r → Place bytes r
+  stands_behind bytes lines rest r begun e stops =
+      inr (inr (lines, rest, begun, e ∙ beginning_and lines rest, stops))
+
   value_place : (bytes : List ℕ) (v : V) → Spells g bytes v → Place bytes (Ok v)
   value_place bytes v spells =
       let all = spells.text ∙ sym (append-nil (full_text g v)) ∙ full_and g v [] in
-      inr (inr (
-        g.body v,
-        line_text g g.end ++ LINE_FEED ∷ [],
-        value_begun v spells.allowed,
-        all ∙ beginning_and (g.body v) (line_text g g.end ++ LINE_FEED ∷ []),
-        inr (line_text g g.end, [], made.one_line g.end made.fits_end, refl, (spells.allowed, refl, refl, refl)),
-      ))
+      stands_behind bytes (g.body v) (line_text g g.end ++ LINE_FEED ∷ []) (Ok v) (value_begun v spells.allowed) all
+      (inr (line_text g g.end, [], made.one_line g.end made.fits_end, refl, (spells.allowed, refl, refl, refl)))
 
   abbrev Refused : ℕ → Cause → Result V TextFault
   Refused n c = Err (record { line = n; cause = c })
@@ -274,13 +274,8 @@ module _ {V K : Type 0} (g : Grammar V K) (made : IsWellMade g) where
       → Place bytes (Refused n c)
   judged bytes lines text n c at judges =
       let after = at.next.0 in
-      inr (inr (
-        lines,
-        text ++ LINE_FEED ∷ after,
-        at.begun,
-        at.next.2 ∙ beginning_and lines (text ++ LINE_FEED ∷ after),
-        inr (text, after, at.next.1, refl, judges after),
-      ))
+      stands_behind bytes lines (text ++ LINE_FEED ∷ after) (Refused n c) at.begun at.next.2
+      (inr (text, after, at.next.1, refl, judges after))
 
   fault_place : (bytes : List ℕ) (n : ℕ) (c : Cause) → IsFault g bytes n c → c ≢ cause.NoMemory
       → Place bytes (Refused n c)
@@ -291,31 +286,20 @@ module _ {V K : Type 0} (g : Grammar V K) (made : IsWellMade g) where
   fault_place bytes n cause.Many (lines, text, at, h) ample =
       judged bytes lines text n cause.Many at (λ after. (h, at.numbered))
   fault_place bytes n cause.Cut (before, last, inl (none, at), one, e) ample =
-      inl (
-        subst IsOneLine (sym (e ∙ ap (λ (xs : List ℕ). xs ++ last) none)) one,
-        ap (λ (m : ℕ). Refused m cause.Cut) at,
-      )
+      let all = e ∙ ap (λ (xs : List ℕ). xs ++ last) none in
+      inl (subst IsOneLine (sym all) one, ap (λ (m : ℕ). Refused m cause.Cut) at)
   fault_place bytes n cause.Cut (before, last, inr (lines, begun, is, at), one, e) ample =
-      inr (inr (
-        lines,
-        last,
-        begun,
-        e ∙ ap (λ (xs : List ℕ). xs ++ last) is ∙ beginning_and lines last,
-        inl (one, ap (λ (m : ℕ). Refused m cause.Cut) at),
-      ))
+      stands_behind bytes lines last (Refused n cause.Cut) begun (e ∙ ap (λ (xs : List ℕ). xs ++ last) is)
+      (inl (one, ap (λ (m : ℕ). Refused m cause.Cut) at))
   fault_place bytes n cause.Trailing (v, b, more, allowed, e, at) ample =
-      inr (inr (
-        g.body v,
-        line_text g g.end ++ LINE_FEED ∷ b ∷ more,
-        value_begun v allowed,
-        e ∙ full_and g v (b ∷ more) ∙ beginning_and (g.body v) (line_text g g.end ++ LINE_FEED ∷ b ∷ more),
-        inr (
-          line_text g g.end,
-          b ∷ more,
-          made.one_line g.end made.fits_end,
-          refl,
-          (v, b, more, allowed, refl, refl, refl, at),
-        ),
+      stands_behind bytes (g.body v) (line_text g g.end ++ LINE_FEED ∷ b ∷ more) (Refused n cause.Trailing)
+      (value_begun v allowed) (e ∙ full_and g v (b ∷ more))
+      (inr (
+        line_text g g.end,
+        b ∷ more,
+        made.one_line g.end made.fits_end,
+        refl,
+        (v, b, more, allowed, refl, refl, refl, at),
       ))
   fault_place bytes n cause.NoMemory h ample = absurd (ample refl)
 

@@ -15,30 +15,22 @@ use Rattle.smx_text.specs.ProgramsText.{program_lines, body}
 -- 1 for a driver's line, 0 for any other
 abbrev pub a_driver : Line → ℕ
 a_driver (line.Driver d) = 1
-a_driver (line.Process n) = 0
-a_driver (line.Command c) = 0
-a_driver line.End = 0
+a_driver k = 0
 
 -- 1 for a line with which a process begins, 0 for any other
 abbrev pub a_process : Line → ℕ
-a_process (line.Driver d) = 0
 a_process (line.Process n) = 1
-a_process (line.Command c) = 0
-a_process line.End = 0
+a_process k = 0
 
 -- 1 for a command's line, 0 for any other
 abbrev pub a_command : Line → ℕ
-a_command (line.Driver d) = 0
-a_command (line.Process n) = 0
 a_command (line.Command c) = 1
-a_command line.End = 0
+a_command k = 0
 
 -- 1 for the end, 0 for any other line
 abbrev pub an_end : Line → ℕ
-an_end (line.Driver d) = 0
-an_end (line.Process n) = 0
-an_end (line.Command c) = 0
 an_end line.End = 1
+an_end k = 0
 
 -- so many lines of each kind, and none is the end
 pub record HasCounts (d p c : ℕ) (lines : List Line) : Type 0 where
@@ -146,23 +138,17 @@ body_in_order v =
 -- where lines are in order, the later ones are so behind the processes of the earlier ones
 pub order_behind : (n : ℕ) (ls ks : List Line) → InOrder n (ls ++ ks) → InOrder (n + sum_by a_process ls) ks
 order_behind n [] ks h = subst (λ (m : ℕ). InOrder m ks) (omega arith) h
-order_behind n (line.Driver d ∷ ls) ks h =
-    subst (λ (m : ℕ). InOrder m ks) (omega (arith, sum_by-cons a_process (line.Driver d) ls))
-    (order_behind n ls ks h.1)
 order_behind n (line.Process m ∷ ls) ks h =
     subst (λ (m : ℕ). InOrder m ks) (omega (arith, sum_by-cons a_process (line.Process m) ls))
     (order_behind (n + 1) ls ks h.1)
-order_behind n (line.Command c ∷ ls) ks h =
-    subst (λ (m : ℕ). InOrder m ks) (omega (arith, sum_by-cons a_process (line.Command c) ls))
-    (order_behind n ls ks h.1)
 order_behind n (line.End ∷ ls) ks h =
-    subst (λ (m : ℕ). InOrder m ks) (omega (arith, sum_by-cons a_process line.End ls))
-    (order_behind n ls ks h)
+    subst (λ (m : ℕ). InOrder m ks) (omega (arith, sum_by-cons a_process line.End ls)) (order_behind n ls ks h)
+order_behind n (k ∷ ls) ks h =
+    subst (λ (m : ℕ). InOrder m ks) (omega (arith, sum_by-cons a_process k ls)) (order_behind n ls ks h.1)
 
 -- where lines are in order, the earlier ones are so
 pub order_before : (n : ℕ) (ls ks : List Line) → InOrder n (ls ++ ks) → InOrder n ls
 order_before n [] ks h = tt
-order_before n (line.Driver d ∷ ls) ks h = (h.0, order_before n ls ks h.1)
 order_before n (line.Process m ∷ ls) ks h = (h.0, order_before (n + 1) ls ks h.1)
-order_before n (line.Command c ∷ ls) ks h = (h.0, order_before n ls ks h.1)
 order_before n (line.End ∷ ls) ks h = order_before n ls ks h
+order_before n (k ∷ ls) ks h = (h.0, order_before n ls ks h.1)

@@ -22,24 +22,19 @@ use Rattle.smx_types.specs.declared.version.Version.{Version}
 abbrev drivers_of : List Line → List DriverSpec
 drivers_of [] = []
 drivers_of (line.Driver d ∷ ls) = d ∷ drivers_of ls
-drivers_of (line.Process n ∷ ls) = drivers_of ls
-drivers_of (line.Command c ∷ ls) = drivers_of ls
-drivers_of (line.End ∷ ls) = drivers_of ls
+drivers_of (k ∷ ls) = drivers_of ls
 
 -- the commands before the first process, and the programs
 abbrev commands_of : List Line → List Command
 commands_of [] = []
-commands_of (line.Driver d ∷ ls) = commands_of ls
 commands_of (line.Process n ∷ ls) = []
 commands_of (line.Command c ∷ ls) = c ∷ commands_of ls
-commands_of (line.End ∷ ls) = commands_of ls
+commands_of (k ∷ ls) = commands_of ls
 
 abbrev programs_of : List Line → List (List Command)
 programs_of [] = []
-programs_of (line.Driver d ∷ ls) = programs_of ls
 programs_of (line.Process n ∷ ls) = commands_of ls ∷ programs_of ls
-programs_of (line.Command c ∷ ls) = programs_of ls
-programs_of (line.End ∷ ls) = programs_of ls
+programs_of (k ∷ ls) = programs_of ls
 
 drivers_again : (ds : List DriverSpec) (rest : List Line)
     → drivers_of (map line.Driver ds ++ rest) ≡ ds ++ drivers_of rest

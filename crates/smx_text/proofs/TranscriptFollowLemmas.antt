@@ -38,17 +38,11 @@ version_stays d k = refl
 
 one_grows : (d : TranscriptDraft) (k : TranscriptLine) → Grows d (with_line d k)
 one_grows d (line.Driver x) =
-    record {
-      version = refl;
-      drivers = omega (arith, length-append d.transcript.drivers (x ∷ []));
-      entries = omega arith;
-    }
+    let more = length-append d.transcript.drivers (x ∷ []) in
+    record { version = refl; drivers = omega (arith, more); entries = omega arith }
 one_grows d (line.Entry x) =
-    record {
-      version = refl;
-      drivers = omega arith;
-      entries = omega (arith, length-append d.transcript.entries (x ∷ []));
-    }
+    let more = length-append d.transcript.entries (x ∷ []) in
+    record { version = refl; drivers = omega arith; entries = omega (arith, more) }
 one_grows d k = record { version = refl; drivers = omega arith; entries = omega arith }
 
 -- while lines are taken, the version stays, and drivers and entries don't get fewer

@@ -49,22 +49,17 @@ led d = led_by d.stage d.transcript
 takes_clean_by : (s : Stage) (t : Transcript) (k : TranscriptLine) → takes (clean_by s t) k ≡ takes (draft s t) k
 takes_clean_by stage.History t line.End = refl
 takes_clean_by stage.Config t line.End = refl
-takes_clean_by stage.View t k = refl
 takes_clean_by s t k = refl
 
 full_clean_by : (s : Stage) (t : Transcript) (k : TranscriptLine) → is_full (draft s t) k ≡ true
     → is_full (clean_by s t) k ≡ true
-full_clean_by stage.History t (line.Driver x) h = h
-full_clean_by stage.History t (line.Entry x) h = h
-full_clean_by stage.Config t (line.Driver x) h = h
-full_clean_by stage.Config t (line.Entry x) h = h
-full_clean_by stage.View t k h = h
-full_clean_by s t k h = absurd cc
+full_clean_by stage.History t line.End h = h
+full_clean_by stage.Config t line.End h = h
+full_clean_by s t k h = h
 
 within_clean_by : (s : Stage) (t : Transcript) → IsWithin (clean_by s t) → IsWithin (draft s t)
-within_clean_by stage.History t h = record { drivers = h.drivers; entries = h.entries }
-within_clean_by stage.Config t h = record { drivers = h.drivers; entries = h.entries }
 within_clean_by stage.View t h = h
+within_clean_by s t h = record { drivers = h.drivers; entries = h.entries }
 
 -- ---- what holds of lines that some allowed transcript begins with
 
@@ -169,14 +164,8 @@ is_group (line.Driver x) = false
 is_group (line.Entry x) = false
 is_group line.Config = false
 is_group (line.Next id serial) = false
-is_group (line.Fd x) = true
-is_group (line.Link x) = true
-is_group (line.Bind x) = true
-is_group (line.Route x) = true
-is_group (line.Msg x) = true
-is_group (line.Full x) = true
-is_group (line.Hung x) = true
 is_group line.End = false
+is_group k = true
 
 in_view_by : (s : Stage) (t : Transcript) (k : TranscriptLine) → is_group k ≡ true
     → takes (draft s t) k ≡ true → s ≡ stage.View

@@ -64,7 +64,7 @@ pub out_of_turn : AreWrongPrograms (with_line_4 (codes "process 2")) 4 cause.For
 unfolding digits
 out_of_turn =
     wrong_at_4 (codes "process 2") (search rules)
-    (refused_line V1 (body before) (line.Process 2) (codes "process 2") (omega arith) refl cause.Form
+    (refused_line V1 (body before) (line.Process 2) _ (omega arith) refl cause.Form
     (misplaced V1 before (line.Process 2) (λ e. omega (arith, e))))
 
 -- no driver stands behind a process
@@ -72,8 +72,8 @@ pub late_driver : AreWrongPrograms (with_line_4 (codes "driver eth leaf 2 8 3 16
 unfolding digits
 late_driver =
     wrong_at_4 (codes "driver eth leaf 2 8 3 16") (search rules)
-    (refused_line V1 (body before) (line.Driver eth) (codes "driver eth leaf 2 8 3 16") (search rules) refl
-    cause.Form (misplaced V1 before (line.Driver eth) (λ e. omega (arith, e))))
+    (refused_line V1 (body before) (line.Driver eth) _ (search rules) refl cause.Form
+    (misplaced V1 before (line.Driver eth) (λ e. omega (arith, e))))
 
 abbrev clone : Line
 clone = line.Command (command.OpenClone (codes "ip"))
@@ -85,7 +85,7 @@ no_process =
       [],
       codes "clone ip",
       record { begun = nothing_begun V1; next = (codes "end\n", search rules, refl); numbered = refl },
-      refused_line V1 [] clone (codes "clone ip") (search rules) refl cause.Form
+      refused_line V1 [] clone _ (search rules) refl cause.Form
           (misplaced V1 (program_lists [] []) clone (λ e. omega (arith, e))),
     )
 
@@ -99,12 +99,6 @@ one_command = program_lists before.drivers ((command.OpenClone (codes "ip") ∷ 
 abbrev no_command : ProgramLists
 no_command = program_lists [] ([] ∷ [])
 
-allowed_none : IsAllowed V1 no_command
-allowed_none = search (rules, arith)
-
-allowed_one : IsAllowed V1 one_command
-allowed_one = search (rules, arith)
-
 -- programs without the line `end` are cut at the line behind their last
 pub no_end : AreWrongPrograms (codes "programs 1\ndriver ip mux 4 8 3 16\nprocess 0\nclone ip\n") 5 cause.Cut
 unfolding digits
@@ -112,7 +106,7 @@ no_end =
     wrong_programs V1 refl (
       codes "programs 1\ndriver ip mux 4 8 3 16\nprocess 0\nclone ip\n",
       [],
-      inr (body one_command, (one_command, [], allowed_one, refl), refl, refl),
+      inr (body one_command, (one_command, [], search (rules, arith), refl), refl, refl),
       tt,
       refl,
     )
@@ -132,7 +126,7 @@ cut_line =
 -- not even a space stands behind the end
 pub a_space_behind : AreWrongPrograms (codes "programs 1\nprocess 0\nend\n ") 4 cause.Trailing
 unfolding digits
-a_space_behind = wrong_programs V1 refl (no_command, 32, [], allowed_none, refl, refl)
+a_space_behind = wrong_programs V1 refl (no_command, 32, [], search (rules, arith), refl, refl)
 
 -- ---- one process too many
 

@@ -81,15 +81,6 @@ one_link = record nothing {
   };
 }
 
-nothing_allowed : IsAllowed V1 nothing
-nothing_allowed = search (rules, arith)
-
-one_driver_allowed : IsAllowed V1 one_driver
-one_driver_allowed = search (rules, arith)
-
-one_link_allowed : IsAllowed V1 one_link
-one_link_allowed = search (rules, arith)
-
 -- below `config`
 abbrev below_config : TranscriptDraft
 below_config = draft stage.Config nothing
@@ -101,7 +92,7 @@ wrong_below_config text rest one none =
       lines below_config,
       text,
       record {
-        begun = (nothing, line.Next 1 1 ∷ [], nothing_allowed, refl);
+        begun = (nothing, line.Next 1 1 ∷ [], search (rules, arith), refl);
         next = (rest, one, refl);
         numbered = refl;
       },
@@ -120,7 +111,7 @@ wrong_at_3 text one none =
       lines behind_driver,
       text,
       record {
-        begun = (one_driver, line.Config ∷ line.Next 1 1 ∷ [], one_driver_allowed, refl);
+        begun = (one_driver, line.Config ∷ line.Next 1 1 ∷ [], search (rules, arith), refl);
         next = (codes "config\nnext 1 1\nend\n", one, refl);
         numbered = refl;
       },
@@ -138,7 +129,11 @@ wrong_at_5 text one none =
     wrong_transcript V1 refl (
       lines behind_link,
       text,
-      record { begun = (one_link, [], one_link_allowed, refl); next = (codes "end\n", one, refl); numbered = refl },
+      record {
+        begun = (one_link, [], search (rules, arith), refl);
+        next = (codes "end\n", one, refl);
+        numbered = refl;
+      },
       none,
     )
 
@@ -157,7 +152,8 @@ no_header V2 = differ (codes "programs 1") (codes "transcript 2") refl
 -- the header of programs is none of a transcript
 pub other_header : IsWrongTranscript (codes "programs 1\nend\n") 1 cause.Header
 other_header =
-    wrong_transcript_in_each (λ version. (codes "programs 1", (codes "end\n", search rules, refl), no_header version, refl))
+    wrong_transcript_in_each
+    (λ version. (codes "programs 1", (codes "end\n", search rules, refl), no_header version, refl))
 
 other_number : (version : Version) → codes "transcript 3" ≢ header (transcript_grammar version)
 other_number V1 = differ (codes "transcript 3") (codes "transcript 1") refl
@@ -213,7 +209,7 @@ no_end =
     wrong_transcript V1 refl (
       codes "transcript 1\nconfig\nnext 1 1\n",
       [],
-      inr (line.Config ∷ line.Next 1 1 ∷ [], (nothing, [], nothing_allowed, refl), refl, refl),
+      inr (line.Config ∷ line.Next 1 1 ∷ [], (nothing, [], search (rules, arith), refl), refl, refl),
       tt,
       refl,
     )
@@ -226,9 +222,6 @@ one_hung = record {
   entries = [];
   view = record (new_view 1 1) { hungs = record { driver = codes "eth"; minor = 0 } ∷ [] };
 }
-
-one_hung_allowed : IsAllowed V2 one_hung
-one_hung_allowed = search (rules, arith)
 
 abbrev behind_hung : TranscriptDraft
 behind_hung = draft stage.View one_hung
@@ -245,7 +238,7 @@ late_full_place =
       lines behind_hung,
       codes "full eth 0 r",
       record {
-        begun = (one_hung, [], one_hung_allowed, refl);
+        begun = (one_hung, [], search (rules, arith), refl);
         next = (codes "end\n", search rules, refl);
         numbered = refl;
       },
@@ -315,40 +308,34 @@ half_a_fault =
 
 -- ---- lines that are of version 2 alone
 
-no_told : (x : AnyEntry) → FitsEntry x → is_of_hangup x ≡ true → (ws : List (List ℕ)) → ws ≡ entry_words x
-    → (e : AnyEntry) → FitsEntryIn V1 e → ws ≢ entry_words e
-no_told x fits hangup ws is e told same =
-    no_told_entry V1 (line_of ws) x fits (ap line_of is) (λ can. absurd (cc (can, hangup))) e told (ap line_of same)
+-- an entry of version 2 alone, as line 3 of a text of version 1
+told_later : (x : AnyEntry) → FitsEntry x → is_of_hangup x ≡ true
+    → AllByRecursion (IsFree SPACE) (entry_words x) × (0 < length (entry_words x)) → IsOneLine (line_of (entry_words x))
+    → kind_at (first_word (entry_words x)) ≡ 0 → IsWrongTranscript (with_line_3 (line_of (entry_words x))) 3 cause.Form
+told_later x fits hangup free one digit =
+    wrong_at_3 (line_of (entry_words x)) one (no_entry (entry_words x) free digit (λ e told same.
+    no_told_entry V1 (line_of (entry_words x)) x fits refl (λ can. absurd (cc (can, hangup))) e told (ap line_of same)))
 
 -- version 1 has no entry of a hangup
 pub told_hangup : IsWrongTranscript (with_line_3 (codes "0 hangup ip 0 = done")) 3 cause.Form
 unfolding digits
 told_hangup =
-    wrong_at_3 (codes "0 hangup ip 0 = done") (search rules)
-    (no_entry (codes "0" ∷ codes "hangup" ∷ codes "ip" ∷ codes "0" ∷ codes "=" ∷ codes "done" ∷ [])
-    (search rules, omega arith) refl
-    (no_told (record { process = 0; command = command.Hangup (codes "ip") 0; reply = reply.Done [] })
-    (search (rules, arith)) refl _ refl))
+    told_later (record { process = 0; command = command.Hangup (codes "ip") 0; reply = reply.Done [] })
+    (search (rules, arith)) refl (search rules, omega arith) (search rules) refl
 
 -- version 1 has no reply `eof`
 pub end_of_file : IsWrongTranscript (with_line_3 (codes "0 read 0 = eof")) 3 cause.Form
 unfolding digits
 end_of_file =
-    wrong_at_3 (codes "0 read 0 = eof") (search rules)
-    (no_entry (codes "0" ∷ codes "read" ∷ codes "0" ∷ codes "=" ∷ codes "eof" ∷ [])
-    (search rules, omega arith) refl
-    (no_told (record { process = 0; command = command.Read 0; reply = reply.Eof })
-    (search (rules, arith)) refl _ refl))
+    told_later (record { process = 0; command = command.Read 0; reply = reply.Eof })
+    (search (rules, arith)) refl (search rules, omega arith) (search rules) refl
 
 -- version 1 has no refusal for a hangup
 pub refusal : IsWrongTranscript (with_line_3 (codes "0 read 0 = ENXIO hangup")) 3 cause.Form
 unfolding digits
 refusal =
-    wrong_at_3 (codes "0 read 0 = ENXIO hangup") (search rules)
-    (no_entry (codes "0" ∷ codes "read" ∷ codes "0" ∷ codes "=" ∷ codes "ENXIO" ∷ codes "hangup" ∷ [])
-    (search rules, omega arith) refl
-    (no_told (record { process = 0; command = command.Read 0; reply = reply.Fault fault.HungUp })
-    (search (rules, arith)) refl _ refl))
+    told_later (record { process = 0; command = command.Read 0; reply = reply.Fault fault.HungUp })
+    (search (rules, arith)) refl (search rules, omega arith) (search rules) refl
 
 -- version 1 has no hung-up stream in a view
 pub hung_up_stream : IsWrongTranscript (with_line_5 (codes "hung eth 0")) 5 cause.Form
