@@ -1,17 +1,15 @@
 -- Each line behind those of some programs is decided.
-use Rattle.std.proofs.Common.{◌≡◌, ◌≢◌, ℕ, List, [], ◌∷◌, ◌++◌, Option, Some, None, refl, sym}
+use Rattle.std.proofs.Common.{◌≡◌, ◌≢◌, ℕ, List, [], ◌∷◌, ◌++◌, Option, refl, sym}
 use Rattle.std.proofs.Common.{subst, arith, rules, inl, inr}
 use Rattle.std.specs.List.{sum_by}
 use Rattle.std.proofs.lemmas.List.{append-nil}
 use Rattle.std.specs.Prelude.{◌⊎◌, length}
 use Rattle.smx_types.specs.ProgramLists.{ProgramLists}
 use Rattle.smx_types.specs.declared.command.Command.{Command}
-use Rattle.smx_types.specs.declared.driver.DriverSpec.{DriverSpec}
 use Rattle.smx_types.specs.declared.limits.TheConstants.{MAX_PROCESSES, MAX_COMMANDS}
 use Rattle.smx_words.specs.LineReading.{IsReadAs}
-use Rattle.smx_words.specs.Words.{line_of}
 use Rattle.smx_words.specs.Spelling.{command_words, driver_words, process_words}
-use Rattle.smx_words.specs.Spellable.{FitsNumber, FitsDriver, FitsCommandIn}
+use Rattle.smx_words.specs.Spellable.{FitsCommandIn}
 use Rattle.smx_text.specs.declared.text_fault.Cause.TheVariants as cause
 use Rattle.smx_text.specs.Grammar.{IsBegun, line_text}
 use Rattle.smx_text.specs.ProgramLines.{Line}

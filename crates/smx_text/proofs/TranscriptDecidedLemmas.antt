@@ -2,22 +2,13 @@
 use Rattle.std.proofs.Common.{◌≡◌, ◌≢◌, ℕ, Bool, true, false, List, [], ◌∷◌, ◌++◌, Option, Some, None, refl}
 use Rattle.std.proofs.Common.{sym, subst, inl, inr}
 use Rattle.smx_types.specs.declared.command.Entry.{Entry}
-use Rattle.smx_types.specs.declared.driver.DriverSpec.{DriverSpec}
-use Rattle.smx_types.specs.declared.view.BindingLine.{BindingLine}
-use Rattle.smx_types.specs.declared.view.DescriptorLine.{DescriptorLine}
 use Rattle.smx_types.specs.declared.version.Version.{Version}
 use Rattle.smx_types.specs.declared.version.Version.TheVariants.{V1, V2}
-use Rattle.smx_types.specs.declared.view.FullLine.{FullLine}
 use Rattle.smx_types.specs.declared.view.HungLine.{HungLine}
-use Rattle.smx_types.specs.declared.view.LinkLine.{LinkLine}
-use Rattle.smx_types.specs.declared.view.MessageLine.{MessageLine}
-use Rattle.smx_types.specs.declared.view.RouteLine.{RouteLine}
 use Rattle.smx_words.specs.LineReading.{IsReadAs}
-use Rattle.smx_words.specs.Words.{line_of}
 use Rattle.smx_words.specs.Spelling.{driver_words, entry_words, descriptor_words, link_words, bind_words}
 use Rattle.smx_words.specs.Spelling.{route_words, message_words, full_words, hung_words, next_words}
-use Rattle.smx_words.specs.Spellable.{FitsDriver, FitsEntryIn, FitsDescriptor, FitsLink, FitsBinding}
-use Rattle.smx_words.specs.Spellable.{FitsRoute, FitsMessage, FitsFull, FitsHung, FitsNext}
+use Rattle.smx_words.specs.Spellable.{FitsEntryIn}
 use Rattle.smx_words.proofs.DecidedCommandLemmas.{entry_reading}
 use Rattle.smx_words.proofs.DecidedLineLemmas.{driver_reading, next_reading, descriptor_reading}
 use Rattle.smx_words.proofs.DecidedLineLemmas.{link_reading, bind_reading, route_reading, message_reading}

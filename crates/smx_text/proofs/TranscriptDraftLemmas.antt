@@ -23,7 +23,7 @@ use Rattle.smx_text.proofs.TranscriptDrafts.{◌>>=◌}
 use Rattle.smx_text.specs.TranscriptText.{view_body, body}
 use Rattle.smx_text.specs.Drafts.{shown, lines}
 use Rattle.smx_text.proofs.TranscriptDrafts.{new_view, new_draft, takes, with_line}
-use Rattle.smx_text.specs.Drafts.{takes_fds, takes_links, takes_binds, takes_routes, takes_msgs, takes_fulls}
+use Rattle.smx_text.specs.Drafts.{takes_links, takes_binds, takes_routes, takes_msgs, takes_fulls}
 use Rattle.smx_text.specs.Drafts.{takes_hungs}
 use Rattle.smx_types.specs.declared.version.Version.{Version}
 use Rattle.smx_types.specs.declared.view.HungLine.{HungLine}

@@ -17,7 +17,7 @@ use Rattle.smx_text.specs.declared.text_fault.Cause.TheVariants as cause
 use Rattle.smx_text.specs.Grammar.{IsBegun, beginning, header}
 use Rattle.smx_text.specs.ProgramLines.{Line}
 use Rattle.smx_text.specs.ProgramLines as line
-use Rattle.smx_text.specs.ProgramsText.{IsAllowed, body, programs_grammar}
+use Rattle.smx_text.specs.ProgramsText.{body, programs_grammar}
 use Rattle.smx_text.specs.WorkedFaults.{AreWrongPrograms, process_lines, with_line_4, with_processes}
 use Rattle.smx_text.proofs.ProgramsDecidedLemmas.{nothing_begun}
 use Rattle.smx_text.proofs.ProgramsGrammarLemmas.{refused_line}

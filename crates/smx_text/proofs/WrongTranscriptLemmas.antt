@@ -35,7 +35,7 @@ use Rattle.smx_text.specs.Drafts.{lines}
 use Rattle.smx_text.specs.Grammar.{IsNoLine, IsOneLine, header, line_text}
 use Rattle.smx_text.specs.TranscriptLines.{TranscriptLine}
 use Rattle.smx_text.specs.TranscriptLines as line
-use Rattle.smx_text.specs.TranscriptText.{FitsLine, IsAllowed, line_words, transcript_grammar}
+use Rattle.smx_text.specs.TranscriptText.{FitsLine, line_words, transcript_grammar}
 use Rattle.smx_text.specs.WorkedFaults.{IsWrongTranscript, with_line_3, with_line_5}
 use Rattle.smx_text.proofs.TranscriptDraftLemmas.{draft}
 use Rattle.smx_text.proofs.TranscriptDrafts.{new_view, takes}

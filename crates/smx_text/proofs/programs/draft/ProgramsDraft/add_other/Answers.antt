@@ -1,5 +1,4 @@
 use Rattle.smx_text.specs.ProgramLines as line
-use Rattle.smx_text.specs.ProgramsText.{body}
 use Rattle.smx_text.proofs.ProgramsGrammarLemmas.{answers_line}
 use Rattle.smx_text.proofs.programs.draft.ProgramsDraft.add_other.Goals as goal
 

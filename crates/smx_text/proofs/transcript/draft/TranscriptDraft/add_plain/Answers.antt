@@ -1,6 +1,5 @@
 use Rattle.std.proofs.Common.{rules, ◌≡◌, codes}
 use Rattle.smx_text.specs.TranscriptLines as line
-use Rattle.smx_text.specs.Drafts.{lines}
 use Rattle.smx_text.proofs.TranscriptGrammarLemmas.{answers_line}
 use Rattle.smx_text.proofs.transcript.draft.TranscriptDraft.add_plain.Goals as goal
 
