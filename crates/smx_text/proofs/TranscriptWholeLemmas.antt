@@ -16,8 +16,7 @@ use Rattle.smx_text.specs.TranscriptLines.{TranscriptLine}
 use Rattle.smx_text.specs.TranscriptLines as line
 use Rattle.smx_text.specs.TranscriptText.{IsSpellableView, FitsLine, view_body, body, IsAllowed}
 use Rattle.smx_text.proofs.TranscriptDrafts.{new_view}
-use Rattle.smx_text.proofs.EachLemmas.{all_left, all_right, all_append, all_map, of_map, all_both, all_first}
-use Rattle.smx_text.proofs.EachLemmas.{all_second}
+use Rattle.smx_text.proofs.EachLemmas.{all_left, all_right, all_append, all_map, of_map, all_both, all_parts}
 use Rattle.smx_text.proofs.TranscriptDraftLemmas.{draft}
 use Rattle.smx_text.proofs.TranscriptVersionLemmas.{AreToldEntries, AreToldHungs, told_entries, told_hungs}
 use Rattle.smx_text.proofs.TranscriptVersionLemmas.{needs_no_later}
@@ -102,7 +101,8 @@ module _ (version : Version) where
       let routes = parted line.Route v.routes _ binds.1 in
       let msgs = parted line.Msg v.msgs _ routes.1 in
       let fulls = parted line.Full v.fulls _ msgs.1 in
-      let hungs = of_map (FitsLine version) line.Hung v.hungs fulls.1 in (
+      let hungs = all_parts FitsHung (λ x. CanTell version true) v.hungs
+      (of_map (FitsLine version) line.Hung v.hungs fulls.1) in (
         record {
           next_id = h.0.0;
           next_serial = h.0.1;
@@ -112,9 +112,9 @@ module _ (version : Version) where
           routes = routes.0;
           msgs = msgs.0;
           fulls = fulls.0;
-          hungs = all_first FitsHung (λ x. CanTell version true) v.hungs hungs;
+          hungs = hungs.0;
         },
-        all_second FitsHung (λ x. CanTell version true) v.hungs hungs,
+        hungs.1,
       )
 
 -- a view of nothing can be spelled
@@ -133,17 +133,17 @@ allowed_by : (version : Version) (s : Stage) (t u : Transcript) → t.version �
     → AllByRecursion (FitsLine version) (lines (draft s t)) → IsAllowed version u
 allowed_by version s t u is v d e (spelled, hungs) within h =
     let drivers = parted version line.Driver t.drivers _ h in
-    let entries = (parted version line.Entry t.entries _ drivers.1).0 in
+    let entries = all_parts FitsEntry (λ x. CanTell version (is_of_hangup x)) t.entries
+    (parted version line.Entry t.entries _ drivers.1).0 in
     let few : length u.drivers ≤ most_drivers version = rw (d, ← is) within.drivers in
-    let told : AreToldEntries version u.entries =
-    rw e (all_second FitsEntry (λ x. CanTell version (is_of_hangup x)) t.entries entries) in
+    let told : AreToldEntries version u.entries = rw e entries.1 in
     record {
       version_is = v ∙ is;
       drivers = few;
       entries = rw e within.entries;
       spellable = record {
         drivers = rw d drivers.0;
-        entries = rw e (all_first FitsEntry (λ x. CanTell version (is_of_hangup x)) t.entries entries);
+        entries = rw e entries.0;
         view = spelled;
       };
       told = needs_no_later version u few told hungs;

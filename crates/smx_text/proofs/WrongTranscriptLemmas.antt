@@ -1,5 +1,5 @@
 -- Transcripts with a line out of its place, one that is no line, or without one that they need.
-use Rattle.std.proofs.Common.{◌≡◌, ◌≢◌, ℕ, ◌<◌, true, false, List, [], ◌∷◌, ◌++◌, length, refl, sym}
+use Rattle.std.proofs.Common.{◌≡◌, ◌≢◌, ℕ, ◌+◌, ◌<◌, true, false, List, [], ◌∷◌, ◌++◌, length, refl, sym}
 use Rattle.std.proofs.Common.{ap, ◌∙◌, arith, rules, inr, None, Some}
 use Rattle.std.specs.List.{AllByRecursion}
 use Rattle.std.specs.Fmt.{decimal, digits}
@@ -32,7 +32,7 @@ use Rattle.smx_text.specs.declared.text_fault.Cause.TheVariants as cause
 use Rattle.smx_text.specs.declared.transcript.draft.Stage.TheVariants as stage
 use Rattle.smx_text.specs.declared.transcript.draft.TranscriptDraft.{TranscriptDraft}
 use Rattle.smx_text.specs.Drafts.{lines}
-use Rattle.smx_text.specs.Grammar.{IsNoLine, IsOneLine, header, line_text}
+use Rattle.smx_text.specs.Grammar.{HasNext, IsBegun, IsNoLine, IsOneLine, beginning, header, line_text}
 use Rattle.smx_text.specs.TranscriptLines.{TranscriptLine}
 use Rattle.smx_text.specs.TranscriptLines as line
 use Rattle.smx_text.specs.TranscriptText.{FitsLine, line_words, transcript_grammar}
@@ -81,6 +81,13 @@ one_link = record nothing {
   };
 }
 
+-- a whole line that is none of those which may follow some lines goes wrong for its form
+wrong_line : (version : Version) {bytes : List ℕ} {n : ℕ} (ls : List TranscriptLine) (text : List ℕ)
+    → IsBegun (transcript_grammar version) ls → HasNext bytes (beginning (transcript_grammar version) ls) text
+    → n ≡ length ls + 2 → IsNoLine (transcript_grammar version) ls text → IsWrongTranscript bytes n cause.Form
+wrong_line version ls text begun next at none =
+    wrong_transcript version refl (ls, text, record { begun = begun; next = next; numbered = at }, none)
+
 -- below `config`
 abbrev below_config : TranscriptDraft
 below_config = draft stage.Config nothing
@@ -88,16 +95,7 @@ below_config = draft stage.Config nothing
 wrong_below_config : (text rest : List ℕ) → IsOneLine text → IsNoLine (transcript_grammar V1) (lines below_config) text
     → IsWrongTranscript (codes "transcript 1\nconfig\n" ++ (text ++ 10 ∷ rest)) 3 cause.Form
 wrong_below_config text rest one none =
-    wrong_transcript V1 refl (
-      lines below_config,
-      text,
-      record {
-        begun = (nothing, line.Next 1 1 ∷ [], search (rules, arith), refl);
-        next = (rest, one, refl);
-        numbered = refl;
-      },
-      none,
-    )
+    wrong_line V1 (lines below_config) text (nothing, line.Next 1 1 ∷ [], search (rules, arith), refl) (rest, one, refl) refl none
 
 -- behind the driver
 abbrev behind_driver : TranscriptDraft
@@ -107,16 +105,7 @@ wrong_at_3 : (text : List ℕ) → IsOneLine text → IsNoLine (transcript_gramm
     → IsWrongTranscript (with_line_3 text) 3 cause.Form
 unfolding digits
 wrong_at_3 text one none =
-    wrong_transcript V1 refl (
-      lines behind_driver,
-      text,
-      record {
-        begun = (one_driver, line.Config ∷ line.Next 1 1 ∷ [], search (rules, arith), refl);
-        next = (codes "config\nnext 1 1\nend\n", one, refl);
-        numbered = refl;
-      },
-      none,
-    )
+    wrong_line V1 (lines behind_driver) text (one_driver, line.Config ∷ line.Next 1 1 ∷ [], search (rules, arith), refl) (codes "config\nnext 1 1\nend\n", one, refl) refl none
 
 -- behind the link
 abbrev behind_link : TranscriptDraft
@@ -126,16 +115,7 @@ wrong_at_5 : (text : List ℕ) → IsOneLine text → IsNoLine (transcript_gramm
     → IsWrongTranscript (with_line_5 text) 5 cause.Form
 unfolding digits
 wrong_at_5 text one none =
-    wrong_transcript V1 refl (
-      lines behind_link,
-      text,
-      record {
-        begun = (one_link, [], search (rules, arith), refl);
-        next = (codes "end\n", one, refl);
-        numbered = refl;
-      },
-      none,
-    )
+    wrong_line V1 (lines behind_link) text (one_link, [], search (rules, arith), refl) (codes "end\n", one, refl) refl none
 
 misplaced_at_5 : (text : List ℕ) → IsOneLine text → (k : TranscriptLine) → FitsLine V1 k
     → text ≡ line_text (transcript_grammar V1) k → takes behind_link k ≡ false
@@ -234,17 +214,8 @@ pub late_full_place : IsWrongTranscript
     (codes "transcript 2\nconfig\nnext 1 1\nhung eth 0\nfull eth 0 r\nend\n") 5 cause.Form
 unfolding digits
 late_full_place =
-    wrong_transcript V2 refl (
-      lines behind_hung,
-      codes "full eth 0 r",
-      record {
-        begun = (one_hung, [], search (rules, arith), refl);
-        next = (codes "end\n", search rules, refl);
-        numbered = refl;
-      },
-      refused_line V2 (lines behind_hung) full_place (codes "full eth 0 r") (search (rules, arith)) refl cause.Form
-          (misplaced behind_hung full_place refl),
-    )
+    wrong_line V2 (lines behind_hung) (codes "full eth 0 r") (one_hung, [], search (rules, arith), refl) (codes "end\n", search rules, refl) refl
+    (refused_line V2 (lines behind_hung) full_place (codes "full eth 0 r") (search (rules, arith)) refl cause.Form (misplaced behind_hung full_place refl))
 
 -- ---- lines of one kind that are none
 

@@ -8,8 +8,7 @@ use Rattle.smx_text.proofs.transcript.draft.TranscriptDraft.add_other.Goals as g
 
 pub returns-in-Ok-Some-clause-answers : goal.returns-in-Ok-Some-clause-answers
 returns-in-Ok-Some-clause-answers c =
-    let is = subst (IsReadAs FitsMessage message_words c.args.text.now) c.in-Ok-Some.field-0-is
-    c.in-Ok-Some.ensures.reading in
+    let is = rw c.in-Ok-Some.field-0-is at c.in-Ok-Some.ensures.reading in
     answers_line _ _ _ (line.Msg c.in-Ok-Some.message) _ is _ c.add_message.ensures.answers
 
 pub returns-in-Err-clause-answers : goal.returns-in-Err-clause-answers
@@ -19,9 +18,8 @@ returns-in-Err-clause-answers c =
 
 pub add_message-requires-clause-fits : goal.add_message-requires-clause-fits
 add_message-requires-clause-fits c =
-    (subst (IsReadAs FitsMessage message_words c.args.text.now) c.in-Ok-Some.field-0-is
-    c.in-Ok-Some.ensures.reading).0
+    let is = rw c.in-Ok-Some.field-0-is at c.in-Ok-Some.ensures.reading in is.0
 
 pub add_plain-requires-clause-no_message : goal.add_plain-requires-clause-no_message
 add_plain-requires-clause-no_message c =
-    subst (IsReadAs FitsMessage message_words c.args.text.now) c.in-Ok-None.field-0-is c.in-Ok-None.ensures.reading
+    rw c.in-Ok-None.field-0-is at c.in-Ok-None.ensures.reading

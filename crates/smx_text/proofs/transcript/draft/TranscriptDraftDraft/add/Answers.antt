@@ -8,9 +8,7 @@ use Rattle.smx_text.proofs.transcript.draft.TranscriptDraftDraft.add.Goals as go
 
 pub returns-in-Ok-Some-clause-answers : goal.returns-in-Ok-Some-clause-answers
 returns-in-Ok-Some-clause-answers c =
-    let is = subst (IsReadAs (FitsEntryIn c.args.self.now.transcript.version) entry_words c.args.text.now)
-    c.in-Ok-Some.field-0-is
-    c.in-Ok-Some.ensures.reading in
+    let is = rw c.in-Ok-Some.field-0-is at c.in-Ok-Some.ensures.reading in
     answers_line _ _ _ (line.Entry c.in-Ok-Some.entry) _ is _ c.add_entry.ensures.answers
 
 pub returns-in-Err-clause-answers : goal.returns-in-Err-clause-answers
@@ -20,12 +18,8 @@ returns-in-Err-clause-answers c =
 
 pub add_entry-requires-clause-fits : goal.add_entry-requires-clause-fits
 add_entry-requires-clause-fits c =
-    (subst (IsReadAs (FitsEntryIn c.args.self.now.transcript.version) entry_words c.args.text.now)
-    c.in-Ok-Some.field-0-is
-    c.in-Ok-Some.ensures.reading).0
+    let is = rw c.in-Ok-Some.field-0-is at c.in-Ok-Some.ensures.reading in is.0
 
 pub add_other-requires-clause-no_entry : goal.add_other-requires-clause-no_entry
 add_other-requires-clause-no_entry c =
-    subst (IsReadAs (FitsEntryIn c.args.self.now.transcript.version) entry_words c.args.text.now)
-    c.in-Ok-None.field-0-is
-    c.in-Ok-None.ensures.reading
+    rw c.in-Ok-None.field-0-is at c.in-Ok-None.ensures.reading
