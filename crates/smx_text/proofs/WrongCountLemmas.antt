@@ -39,11 +39,12 @@ use Rattle.smx_text.proofs.WorkedFaultLemmas.{wrong_programs, wrong_transcript}
 -- ---- the same line again and again
 
 -- this many of one
-abbrev repeated : {X : Type 0} → X → ℕ → List X
+abbrev pub repeated : {X : Type 0} → X → ℕ → List X
 repeated x zero = []
 repeated x (suc n) = repeated x n ++ x ∷ []
 
-many : {X : Type 0} (x : X) (n : ℕ) → length (repeated x n) ≡ n
+-- so many they are
+pub many : {X : Type 0} (x : X) (n : ℕ) → length (repeated x n) ≡ n
 many x zero = refl
 many x (suc n) = omega (arith, length-append (repeated x n) (x ∷ []), many x n)
 

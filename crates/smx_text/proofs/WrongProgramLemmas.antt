@@ -26,6 +26,7 @@ use Rattle.smx_text.proofs.BodyLemmas.{added_process}
 use Rattle.smx_text.proofs.ReadingLemmas.{beginning_more}
 use Rattle.smx_text.proofs.LineWordLemmas.{differ}
 use Rattle.smx_text.proofs.WorkedFaultLemmas.{wrong_programs, wrong_in_each}
+use Rattle.smx_text.proofs.WrongCountLemmas.{many, repeated}
 use Rattle.smx_text.proofs.WrongCommandLemmas.{before, before_allowed, wrong_at_4}
 
 -- ---- the header, and nothing behind it
@@ -130,20 +131,12 @@ a_space_behind = wrong_programs V1 refl (no_command, 32, [], search (rules, arit
 
 -- ---- one process too many
 
-abbrev none_each : ℕ → List (List Command)
-none_each zero = []
-none_each (suc n) = none_each n ++ [] ∷ []
-
-many : (n : ℕ) → length (none_each n) ≡ n
-many zero = refl
-many (suc n) = omega (arith, length-append (none_each n) ([] ∷ []), many n)
-
 abbrev processes : ℕ → ProgramLists
-processes n = record { version = V1; drivers = before.drivers; programs = none_each n }
+processes n = record { version = V1; drivers = before.drivers; programs = repeated [] n }
 
 -- their lines, one more at a time
 body_of : (n : ℕ) → body (processes (suc n)) ≡ body (processes n) ++ line.Process n ∷ []
-body_of n = added_process before.drivers (none_each n) n (sym (many n))
+body_of n = added_process before.drivers (repeated [] n) n (sym (many [] n))
 
 text_of_processes : (n : ℕ) → beginning (programs_grammar V1) (body (processes n))
     ≡ codes "programs 1\ndriver ip mux 4 8 3 16\n" ++ process_lines n
@@ -158,7 +151,7 @@ text_of_processes (suc n) =
 begun_by : (n : ℕ) → n ≤ 64 → IsBegun (programs_grammar V1) (body (processes n))
 begun_by zero most = (before, line.Process 0 ∷ [], before_allowed, refl)
 begun_by (suc n) most =
-    let long = many n in
+    let long = many {X = List Command} [] n in
     subst (IsBegun (programs_grammar V1)) (sym (body_of n))
     (longer_begun V1 (processes n) (line.Process n) refl (begun_by n (omega (arith, most))) (sym long)
     (omega (arith, long, most)) (omega (arith, most)))
@@ -186,7 +179,7 @@ process_65_is =
 pub process_65 : AreWrongPrograms (with_processes 65) 67 cause.Many
 unfolding digits
 process_65 =
-    let long = many 64 in
+    let long = many {X = List Command} [] 64 in
     wrong_programs V1 refl (
       body (processes 64),
       codes "process 64",
