@@ -37,10 +37,8 @@ HasRoom version v (line.Command c) = sum_by length v.programs < MAX_COMMANDS
 HasRoom version v line.End = ⊥
 
 not_end : (version : Version) (v : ProgramLists) (k : Line) → HasRoom version v k → k ≢ line.End
-not_end version v (line.Driver d) h e = cc
-not_end version v (line.Process n) h e = cc
-not_end version v (line.Command c) h e = cc
 not_end version v line.End h e = h
+not_end version v k h e = cc
 
 -- as many as may be of each kind
 record IsFew (version : Version) (v : ProgramLists) : Type 0 where

@@ -117,28 +117,17 @@ module _ {V K : Type 0} (g : Grammar V K) where
       trails : (v : V) → g.IsAllowed v → g.body v ≡ lines → (xs : List ℕ) → after ≡ xs → 0 < length xs
           → IsFault g bytes (number + 1) cause.Trailing
       trails v allowed e [] is some = absurd (omega arith)
-      trails v allowed e (b ∷ more) is some = (
-        v,
-        b,
-        more,
-        allowed,
-        whole v e ∙ ap (λ (xs : List ℕ). full_text g v ++ xs) is,
-        omega (arith, at.numbered, ap (length {A = K}) e),
-      )
+      trails v allowed e (b ∷ more) is some =
+          let all = whole v e ∙ ap (λ (xs : List ℕ). full_text g v ++ xs) is in
+          (v, b, more, allowed, all, omega (arith, at.numbered, ap (length {A = K}) e))
 
       -- what is answered at the last line is what may be answered for the whole text
       pub read_to_end : {W : Type 0} (makes : V → W → Type 0) (r : Result W TextFault)
           → EndsText g makes lines after number r → MakesIn g makes bytes r
-      read_to_end makes (Ok w) (v, allowed, e, none, made) = (
-        v,
-        record {
-          allowed = allowed;
-          text = whole v e
-              ∙ ap (λ (xs : List ℕ). full_text g v ++ xs) (nil_from_length after none)
-              ∙ append-nil (full_text g v);
-        },
-        made,
-      )
+      read_to_end makes (Ok w) (v, allowed, e, none, made) =
+          let all = whole v e ∙ ap (λ (xs : List ℕ). full_text g v ++ xs) (nil_from_length after none)
+          ∙ append-nil (full_text g v) in
+          (v, record { allowed = allowed; text = all }, made)
       read_to_end makes (Err f) (inl (never, is)) =
           subst (λ (x : TextFault). IsFault g bytes x.line x.cause) (sym is) (may_not never)
       read_to_end makes (Err f) (inr (v, allowed, e, some, is)) =
@@ -201,5 +190,6 @@ module _ {V K : Type 0} (g : Version → Grammar V K) (bytes : List ℕ) where
   any_of_each f each = (
     V1,
     each V1,
-    λ header other. subst (λ (why : Cause). IsFault (g other) bytes f.line why) header (each other),
+    λ header other.
+        subst (λ (why : Cause). IsFault (g other) bytes f.line why) header (each other),
   )

@@ -92,11 +92,8 @@ signed n fits e = let all : false ≡ true = ap all_ascii_digits e ∙ decimal_d
 too_large : (n : ℕ) → FitsNumber n → codes "4294967296" ≢ decimal n
 too_large n fits e = let is : 4294967296 ≡ n = worth (codes "4294967296") n fits e in omega (arith, is, fits)
 
-no_digit_first : (d : List ℕ) → FitsName d → codes "9a" ≢ d
-no_digit_first d fits e = let is : false ≡ true = ap is_name e ∙ fits in absurd (cc is)
-
-no_nine_letters : (d : List ℕ) → FitsName d → codes "ninelette" ≢ d
-no_nine_letters d fits e = let is : false ≡ true = ap is_name e ∙ fits in absurd (cc is)
+no_name : (w d : List ℕ) → is_name w ≡ false → FitsName d → w ≢ d
+no_name w d none fits e = let is : false ≡ true = sym none ∙ ap is_name e ∙ fits in absurd (cc is)
 
 no_capitals : (x : Which) → FitsWhich x → codes "ALL" ≢ which_word x
 no_capitals (which.Id n) fits e =
@@ -170,12 +167,12 @@ large_number c fits v e = absurd (cc v)
 
 -- a driver's name begins with no digit
 pub digit_first : IsNone verb.Open (codes "9a" ∷ codes "0" ∷ [])
-digit_first (command.OpenMinor d n) fits v e = no_digit_first d fits.0 (cc e)
+digit_first (command.OpenMinor d n) fits v e = no_name (codes "9a") d refl fits.0 (cc e)
 digit_first c fits v e = absurd (cc v)
 
 -- a driver's name has at most eight bytes
 pub nine_letters : IsNone verb.Clone (codes "ninelette" ∷ [])
-nine_letters (command.OpenClone d) fits v e = no_nine_letters d fits (cc e)
+nine_letters (command.OpenClone d) fits v e = no_name (codes "ninelette") d refl fits (cc e)
 nine_letters c fits v e = absurd (cc v)
 
 -- `link` has two descriptors, not one

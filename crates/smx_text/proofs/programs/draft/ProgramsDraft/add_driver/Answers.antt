@@ -1,7 +1,6 @@
-use Rattle.std.proofs.Common.{◌≡◌, ◌≤◌, ◌<◌, ◌∙◌, length, ap, subst, refl, rules, arith}
+use Rattle.std.proofs.Common.{◌∙◌, ap, refl, rules, arith}
 use Rattle.smx_types.specs.ProgramLists.{ProgramLists}
 use Rattle.smx_types.specs.Versions.{most_drivers}
-use Rattle.smx_types.specs.declared.version.Version.{Version}
 use Rattle.smx_text.specs.ProgramLines as line
 use Rattle.smx_types.specs.GrowingPrograms.{with_driver}
 use Rattle.smx_text.proofs.ProgramsLemmas.{counted, misplaced, too_many, taken_more, longer_begun}

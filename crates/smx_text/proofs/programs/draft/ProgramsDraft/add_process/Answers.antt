@@ -1,6 +1,5 @@
-use Rattle.std.proofs.Common.{◌≡◌, ◌≤◌, ◌<◌, ◌∙◌, length, sym, ap, refl, rules, arith}
+use Rattle.std.proofs.Common.{◌∙◌, sym, ap, refl, rules, arith}
 use Rattle.smx_types.specs.ProgramLists.{ProgramLists}
-use Rattle.smx_types.specs.declared.limits.TheConstants.{MAX_PROCESSES}
 use Rattle.smx_text.specs.ProgramLines as line
 use Rattle.smx_types.specs.GrowingPrograms.{with_program}
 use Rattle.smx_text.proofs.ProgramsLemmas.{counted, misplaced, too_many, taken_more, longer_begun}

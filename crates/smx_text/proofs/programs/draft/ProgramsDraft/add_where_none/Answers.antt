@@ -1,9 +1,3 @@
-use Rattle.std.proofs.Common.{◌≡◌, ◌∙◌, ap, subst}
-use Rattle.smx_types.specs.ProgramLists.{ProgramLists}
-use Rattle.smx_types.specs.declared.version.Version.{Version}
-use Rattle.smx_words.specs.LineReading.{IsLineOf, IsReadAs}
-use Rattle.smx_words.specs.Spellable.{FitsCommandIn}
-use Rattle.smx_words.specs.Spelling.{command_words}
 use Rattle.smx_text.specs.ProgramLines as line
 use Rattle.smx_text.specs.ProgramsText.{body}
 use Rattle.smx_text.proofs.ProgramsGrammarLemmas.{refused_line}

@@ -1,12 +1,8 @@
-use Rattle.std.proofs.Common.{subst, refl, Bool, true, false}
+use Rattle.std.proofs.Common.{subst, refl}
 use Rattle.smx_types.specs.ProgramLists.{ProgramLists}
-use Rattle.smx_words.specs.LineReading.{IsLineOf}
-use Rattle.smx_words.specs.Spellable.{FitsCommandIn}
-use Rattle.smx_words.specs.Spelling.{command_words}
 use Rattle.smx_text.specs.ProgramLines as line
 use Rattle.smx_text.specs.ProgramsText.{body, programs_grammar}
 use Rattle.smx_text.specs.Reading.{AnswersText}
-use Rattle.smx_text.specs.TakenPrograms.{IsTaken}
 use Rattle.smx_text.specs.declared.text_fault.Cause.TheVariants as cause
 use Rattle.smx_text.proofs.ProgramsGrammarLemmas.{refused_line}
 use Rattle.smx_text.proofs.ProgramsLemmas.{taken_more, longer_begun}

@@ -1,7 +1,3 @@
-use Rattle.std.proofs.Common.{subst}
-use Rattle.smx_words.specs.LineReading.{IsReadAs}
-use Rattle.smx_words.specs.Spellable.{FitsEntryIn}
-use Rattle.smx_words.specs.Spelling.{entry_words}
 use Rattle.smx_text.specs.TranscriptLines as line
 use Rattle.smx_text.proofs.TranscriptGrammarLemmas.{answers_line, refused_line}
 use Rattle.smx_text.proofs.transcript.draft.TranscriptDraftDraft.add.Goals as goal
