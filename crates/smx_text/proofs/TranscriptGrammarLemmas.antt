@@ -53,13 +53,13 @@ use Rattle.smx_words.proofs.LawLemmas.{one_route, one_message, one_full, one_hun
 -- the kind of line with this first word, as a number: 0 for digits, which an entry has, and for any other word
 abbrev pub kind_at : List ℕ → ℕ
 kind_at w =
-    if all_ascii_digits w then 0 else if bytes_eq w (codes "driver") then 1 else if bytes_eq w (codes "config") then 2 else if bytes_eq w
-    (codes "next") then 3
-    else if bytes_eq w (codes "fd") then 4 else if bytes_eq w (codes "link") then 5 else if bytes_eq w
-    (codes "bind") then 6
-    else if bytes_eq w (codes "route") then 7 else if bytes_eq w (codes "msg") then 8 else if bytes_eq w
-    (codes "full") then 9
-    else if bytes_eq w (codes "hung") then 10 else if bytes_eq w (codes "end") then 11 else 0
+    if all_ascii_digits w then 0
+    else if bytes_eq w (codes "driver") then 1 else if bytes_eq w (codes "config") then 2
+    else if bytes_eq w (codes "next") then 3 else if bytes_eq w (codes "fd") then 4
+    else if bytes_eq w (codes "link") then 5 else if bytes_eq w (codes "bind") then 6
+    else if bytes_eq w (codes "route") then 7 else if bytes_eq w (codes "msg") then 8
+    else if bytes_eq w (codes "full") then 9 else if bytes_eq w (codes "hung") then 10
+    else if bytes_eq w (codes "end") then 11 else 0
 
 -- the kind of a line, as a number
 abbrev pub kind_of : TranscriptLine → ℕ

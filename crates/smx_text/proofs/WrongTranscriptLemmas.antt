@@ -95,7 +95,8 @@ below_config = draft stage.Config nothing
 wrong_below_config : (text rest : List ℕ) → IsOneLine text → IsNoLine (transcript_grammar V1) (lines below_config) text
     → IsWrongTranscript (codes "transcript 1\nconfig\n" ++ (text ++ 10 ∷ rest)) 3 cause.Form
 wrong_below_config text rest one none =
-    wrong_line V1 (lines below_config) text (nothing, line.Next 1 1 ∷ [], search (rules, arith), refl) (rest, one, refl) refl none
+    wrong_line V1 (lines below_config) text (nothing, line.Next 1 1 ∷ [], search (rules, arith), refl)
+    (rest, one, refl) refl none
 
 -- behind the driver
 abbrev behind_driver : TranscriptDraft
@@ -105,7 +106,9 @@ wrong_at_3 : (text : List ℕ) → IsOneLine text → IsNoLine (transcript_gramm
     → IsWrongTranscript (with_line_3 text) 3 cause.Form
 unfolding digits
 wrong_at_3 text one none =
-    wrong_line V1 (lines behind_driver) text (one_driver, line.Config ∷ line.Next 1 1 ∷ [], search (rules, arith), refl) (codes "config\nnext 1 1\nend\n", one, refl) refl none
+    wrong_line V1 (lines behind_driver) text
+    (one_driver, line.Config ∷ line.Next 1 1 ∷ [], search (rules, arith), refl)
+    (codes "config\nnext 1 1\nend\n", one, refl) refl none
 
 -- behind the link
 abbrev behind_link : TranscriptDraft
@@ -115,7 +118,8 @@ wrong_at_5 : (text : List ℕ) → IsOneLine text → IsNoLine (transcript_gramm
     → IsWrongTranscript (with_line_5 text) 5 cause.Form
 unfolding digits
 wrong_at_5 text one none =
-    wrong_line V1 (lines behind_link) text (one_link, [], search (rules, arith), refl) (codes "end\n", one, refl) refl none
+    wrong_line V1 (lines behind_link) text (one_link, [], search (rules, arith), refl)
+    (codes "end\n", one, refl) refl none
 
 misplaced_at_5 : (text : List ℕ) → IsOneLine text → (k : TranscriptLine) → FitsLine V1 k
     → text ≡ line_text (transcript_grammar V1) k → takes behind_link k ≡ false
@@ -214,8 +218,10 @@ pub late_full_place : IsWrongTranscript
     (codes "transcript 2\nconfig\nnext 1 1\nhung eth 0\nfull eth 0 r\nend\n") 5 cause.Form
 unfolding digits
 late_full_place =
-    wrong_line V2 (lines behind_hung) (codes "full eth 0 r") (one_hung, [], search (rules, arith), refl) (codes "end\n", search rules, refl) refl
-    (refused_line V2 (lines behind_hung) full_place (codes "full eth 0 r") (search (rules, arith)) refl cause.Form (misplaced behind_hung full_place refl))
+    wrong_line V2 (lines behind_hung) (codes "full eth 0 r") (one_hung, [], search (rules, arith), refl)
+    (codes "end\n", search rules, refl) refl
+    (refused_line V2 (lines behind_hung) full_place (codes "full eth 0 r") (search (rules, arith)) refl cause.Form
+    (misplaced behind_hung full_place refl))
 
 -- ---- lines of one kind that are none
 
