@@ -41,13 +41,8 @@ pub all_both : {X : Type 0} (P Q : X → Type 0) (xs : List X) → AllByRecursio
 all_both P Q [] h k = tt
 all_both P Q (x ∷ xs) h k = ((h.0, k.0), all_both P Q xs h.1 k.1)
 
--- where two things hold of each element, the first of them does
-pub all_first : {X : Type 0} (P Q : X → Type 0) (xs : List X) → AllByRecursion (λ x. P x × Q x) xs → AllByRecursion P xs
-all_first P Q [] h = tt
-all_first P Q (x ∷ xs) h = (h.0.0, all_first P Q xs h.1)
-
--- where two things hold of each element, the second of them does
-pub all_second : {X : Type 0} (P Q : X → Type 0) (xs : List X) → AllByRecursion (λ x. P x × Q x) xs
-    → AllByRecursion Q xs
-all_second P Q [] h = tt
-all_second P Q (x ∷ xs) h = (h.0.1, all_second P Q xs h.1)
+-- where two things hold of each element, each of them does
+pub all_parts : {X : Type 0} (P Q : X → Type 0) (xs : List X) → AllByRecursion (λ x. P x × Q x) xs
+    → AllByRecursion P xs × AllByRecursion Q xs
+all_parts P Q [] h = (tt, tt)
+all_parts P Q (x ∷ xs) h = let more = all_parts P Q xs h.1 in ((h.0.0, more.0), (h.0.1, more.1))

@@ -1,6 +1,6 @@
 -- One text has one reading. For any kind of text whose lines can be told apart.
 use Rattle.std.proofs.Common.{◌≡◌, ◌≢◌, ℕ, ◌+◌, List, [], ◌∷◌, ◌++◌, length, map, Result, Ok, Err, refl, sym}
-use Rattle.std.proofs.Common.{ap, subst, ◌∙◌, append_assoc, inl, inr}
+use Rattle.std.proofs.Common.{ap, subst, ◌∙◌, append_assoc, inl, inr, rules}
 use Rattle.std.specs.List.{AllByRecursion}
 use Rattle.std.specs.Prelude.{◌⊎◌, IfErr}
 use Rattle.std.proofs.lemmas.List.{append-nil}
@@ -56,23 +56,9 @@ module _ {V K : Type 0} (g : Grammar V K) (made : IsWellMade g) where
       (made.one_line m k.0) (sym (texts_cons l ls r) ∙ e ∙ texts_cons m ms s) in
       let same : l ≡ m = made.tells_apart l m h.0 k.0 t.0 in
       elim (compare ls ms r s h.1 k.1 t.1) [
-        | inl (all, rest) ↦ inl (ap (λ (x : K). x ∷ ls) same ∙ ap (λ (xs : List K). m ∷ xs) all, rest)
-        | inr (inl (x, more, after, is, rest)) ↦
-            inr (inl (
-              x,
-              more,
-              after,
-              ap (λ (xs : List K). m ∷ xs) is ∙ ap (λ (y : K). y ∷ (ls ++ x ∷ more)) (sym same),
-              rest,
-            ))
-        | inr (inr (x, more, after, is, rest)) ↦
-            inr (inr (
-              x,
-              more,
-              after,
-              ap (λ (xs : List K). l ∷ xs) is ∙ ap (λ (y : K). y ∷ (ms ++ x ∷ more)) same,
-              rest,
-            ))
+        | inl (all, rest) ↦ inl (cc (same, all), rest)
+        | inr (inl (x, more, after, is, rest)) ↦ inr (inl (x, more, after, cc (same, is), rest))
+        | inr (inr (x, more, after, is, rest)) ↦ inr (inr (x, more, after, cc (same, is), rest))
       ]
 
   -- ---- what can be answered at a whole line behind these lines
@@ -126,12 +112,7 @@ module _ {V K : Type 0} (g : Grammar V K) (made : IsWellMade g) where
       absurd (no_many v lines text allowed e end k.0)
   one_judgement lines text after n m cause.Trailing cause.Trailing (v, b, more, allowed, e, end, _, at)
       (w, c, others, also, e', end', _, at') = (at ∙ sym at', refl)
-  one_judgement lines text after n m cause.Header d h k = absurd h
-  one_judgement lines text after n m cause.Cut d h k = absurd h
-  one_judgement lines text after n m cause.NoMemory d h k = absurd h
-  one_judgement lines text after n m c cause.Header h k = absurd k
-  one_judgement lines text after n m c cause.Cut h k = absurd k
-  one_judgement lines text after n m c cause.NoMemory h k = absurd k
+  one_judgement lines text after n m c d h k = absurd (search rules)
 
   no_value : (v : V) (lines : List K) (text after : List ℕ) (n : ℕ) (c : Cause)
       → Answers lines text after (Ok v) → Judges lines text after n c → ⊥
@@ -139,9 +120,7 @@ module _ {V K : Type 0} (g : Grammar V K) (made : IsWellMade g) where
   no_value v lines text after n cause.Many (allowed, e, end, none) h = no_many v lines text allowed e end h.0
   no_value v lines text after n cause.Trailing (allowed, e, end, none) (w, b, more, also, _, _, some, _) =
       let both : [] ≡ b ∷ more = sym none ∙ some in absurd (cc both)
-  no_value v lines text after n cause.Header a h = absurd h
-  no_value v lines text after n cause.Cut a h = absurd h
-  no_value v lines text after n cause.NoMemory a h = absurd h
+  no_value v lines text after n c a h = absurd h
 
   one_answer : (lines : List K) (text after : List ℕ) (r s : Result V TextFault) → Answers lines text after r
       → Answers lines text after s → r ≡ s
@@ -178,9 +157,7 @@ module _ {V K : Type 0} (g : Grammar V K) (made : IsWellMade g) where
         let same : k ≡ l = made.tells_apart k l fits fits' (sym is ∙ is') in
         full v allowed (subst (λ (x : K). GoesOn g v lines x) same (goes_on lines more k v e))
     by_cause n cause.Trailing (w, b, others, _, _, end, _, _) = not_end k lines more v e (is_end k text fits is end)
-    by_cause n cause.Header h = absurd h
-    by_cause n cause.Cut h = absurd h
-    by_cause n cause.NoMemory h = absurd h
+    by_cause n c h = absurd h
 
   -- ---- where an answer stands
 
@@ -278,16 +255,16 @@ module _ {V K : Type 0} (g : Grammar V K) (made : IsWellMade g) where
   value_begun : (v : V) → g.IsAllowed v → IsBegun g (g.body v)
   value_begun v allowed = (v, [], allowed, sym (append-nil (g.body v)))
 
+  stands_behind : (bytes : List ℕ) (lines : List K) (rest : List ℕ) (r : Result V TextFault) → IsBegun g lines
+      → bytes ≡ beginning g lines ++ rest → Stops lines rest r → Place bytes r
+  stands_behind bytes lines rest r begun e stops =
+      inr (inr (lines, rest, begun, e ∙ beginning_and lines rest, stops))
+
   value_place : (bytes : List ℕ) (v : V) → Spells g bytes v → Place bytes (Ok v)
   value_place bytes v spells =
       let all = spells.text ∙ sym (append-nil (full_text g v)) ∙ full_and g v [] in
-      inr (inr (
-        g.body v,
-        line_text g g.end ++ LINE_FEED ∷ [],
-        value_begun v spells.allowed,
-        all ∙ beginning_and (g.body v) (line_text g g.end ++ LINE_FEED ∷ []),
-        inr (line_text g g.end, [], made.one_line g.end made.fits_end, refl, (spells.allowed, refl, refl, refl)),
-      ))
+      stands_behind bytes (g.body v) (line_text g g.end ++ LINE_FEED ∷ []) (Ok v) (value_begun v spells.allowed) all
+      (inr (line_text g g.end, [], made.one_line g.end made.fits_end, refl, (spells.allowed, refl, refl, refl)))
 
   abbrev Refused : ℕ → Cause → Result V TextFault
   Refused n c = Err (record { line = n; cause = c })
@@ -297,13 +274,8 @@ module _ {V K : Type 0} (g : Grammar V K) (made : IsWellMade g) where
       → Place bytes (Refused n c)
   judged bytes lines text n c at judges =
       let after = at.next.0 in
-      inr (inr (
-        lines,
-        text ++ LINE_FEED ∷ after,
-        at.begun,
-        at.next.2 ∙ beginning_and lines (text ++ LINE_FEED ∷ after),
-        inr (text, after, at.next.1, refl, judges after),
-      ))
+      stands_behind bytes lines (text ++ LINE_FEED ∷ after) (Refused n c) at.begun at.next.2
+      (inr (text, after, at.next.1, refl, judges after))
 
   fault_place : (bytes : List ℕ) (n : ℕ) (c : Cause) → IsFault g bytes n c → c ≢ cause.NoMemory
       → Place bytes (Refused n c)
@@ -314,31 +286,20 @@ module _ {V K : Type 0} (g : Grammar V K) (made : IsWellMade g) where
   fault_place bytes n cause.Many (lines, text, at, h) ample =
       judged bytes lines text n cause.Many at (λ after. (h, at.numbered))
   fault_place bytes n cause.Cut (before, last, inl (none, at), one, e) ample =
-      inl (
-        subst IsOneLine (sym (e ∙ ap (λ (xs : List ℕ). xs ++ last) none)) one,
-        ap (λ (m : ℕ). Refused m cause.Cut) at,
-      )
+      let all = e ∙ ap (λ (xs : List ℕ). xs ++ last) none in
+      inl (subst IsOneLine (sym all) one, ap (λ (m : ℕ). Refused m cause.Cut) at)
   fault_place bytes n cause.Cut (before, last, inr (lines, begun, is, at), one, e) ample =
-      inr (inr (
-        lines,
-        last,
-        begun,
-        e ∙ ap (λ (xs : List ℕ). xs ++ last) is ∙ beginning_and lines last,
-        inl (one, ap (λ (m : ℕ). Refused m cause.Cut) at),
-      ))
+      stands_behind bytes lines last (Refused n cause.Cut) begun (e ∙ ap (λ (xs : List ℕ). xs ++ last) is)
+      (inl (one, ap (λ (m : ℕ). Refused m cause.Cut) at))
   fault_place bytes n cause.Trailing (v, b, more, allowed, e, at) ample =
-      inr (inr (
-        g.body v,
-        line_text g g.end ++ LINE_FEED ∷ b ∷ more,
-        value_begun v allowed,
-        e ∙ full_and g v (b ∷ more) ∙ beginning_and (g.body v) (line_text g g.end ++ LINE_FEED ∷ b ∷ more),
-        inr (
-          line_text g g.end,
-          b ∷ more,
-          made.one_line g.end made.fits_end,
-          refl,
-          (v, b, more, allowed, refl, refl, refl, at),
-        ),
+      stands_behind bytes (g.body v) (line_text g g.end ++ LINE_FEED ∷ b ∷ more) (Refused n cause.Trailing)
+      (value_begun v allowed) (e ∙ full_and g v (b ∷ more))
+      (inr (
+        line_text g g.end,
+        b ∷ more,
+        made.one_line g.end made.fits_end,
+        refl,
+        (v, b, more, allowed, refl, refl, refl, at),
       ))
   fault_place bytes n cause.NoMemory h ample = absurd (ample refl)
 

@@ -1,11 +1,12 @@
 -- Each text has a reading. For any kind of text of which each line is decided.
 use Rattle.std.proofs.Common.{◌≡◌, ◌≢◌, ℕ, zero, suc, ◌+◌, ◌<◌, Bool, true, false, List, [], ◌∷◌, ◌++◌}
-use Rattle.std.proofs.Common.{length, Result, Ok, Err, refl, sym, ap, subst, ◌∙◌, arith, inl, inr}
+use Rattle.std.proofs.Common.{length, Option, Some, None, Result, Ok, Err, refl, sym, ap, subst, ◌∙◌, arith, inl, inr}
 use Rattle.std.specs.Prelude.{◌⊎◌, IfErr}
 use Rattle.std.proofs.lemmas.List.{length-append}
 use Rattle.std.proofs.lemmas.Slice.Eq.{bytes_eq-Decides}
 use Rattle.std.specs.Str.{bytes_eq}
-use Rattle.smx_words.specs.Words.{LINE_FEED}
+use Rattle.smx_words.specs.LineReading.{IsReadAs}
+use Rattle.smx_words.specs.Words.{LINE_FEED, line_of}
 use Rattle.smx_text.specs.declared.text_fault.Cause.{Cause}
 use Rattle.smx_text.specs.declared.text_fault.Cause.TheVariants as cause
 use Rattle.smx_text.specs.declared.text_fault.TextFault.{TextFault}
@@ -22,6 +23,13 @@ Decision {V} {K} g lines text =
     ⊎ (IsNoLine g lines text
     ⊎ (IsOneTooMany g lines text
     ⊎ ((text ≡ line_text g g.end) × (v : V) × g.IsAllowed v × (g.body v ≡ lines))))
+
+-- a text is decided that is so where it is read as some words, and where it is read as none
+pub by_reading : {X D : Type 0} {Fits : X → Type 0} (words : X → List (List ℕ)) {text : List ℕ}
+    → (o : Option X) × IsReadAs Fits words text o → ((x : X) → Fits x → text ≡ line_of (words x) → D)
+    → (((x : X) → Fits x → text ≢ line_of (words x)) → D) → D
+by_reading words (Some x, (fits, is)) some none = some x fits is
+by_reading words (None, unread) some none = none unread
 
 -- an answer that is not want of memory
 abbrev pub HasReading : {V K : Type 0} → Grammar V K → List ℕ → Type 0

@@ -20,9 +20,7 @@ module _ {V K : Type 0} (g : Grammar V K) (made : IsWellMade g) where
   at_judgement lines text after n cause.Form h = omega (arith, h.1)
   at_judgement lines text after n cause.Many h = omega (arith, h.1)
   at_judgement lines text after n cause.Trailing (v, b, more, allowed, e, end, _, at) = omega (arith, at)
-  at_judgement lines text after n cause.Header h = absurd h
-  at_judgement lines text after n cause.Cut h = absurd h
-  at_judgement lines text after n cause.NoMemory h = absurd h
+  at_judgement lines text after n c h = absurd h
 
   at_answer : (lines : List K) (text after : List ℕ) (r : Result V TextFault)
       → Answers g made lines text after r → length lines + 2 ≤ last_line g r

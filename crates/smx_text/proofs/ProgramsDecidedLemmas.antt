@@ -1,16 +1,15 @@
 -- Each line behind those of some programs is decided.
-use Rattle.std.proofs.Common.{◌≡◌, ◌≢◌, ℕ, List, [], ◌∷◌, ◌++◌, Option, Some, None, refl, sym, subst, arith, inl, inr}
+use Rattle.std.proofs.Common.{◌≡◌, ◌≢◌, ℕ, List, [], ◌∷◌, ◌++◌, Option, refl, sym}
+use Rattle.std.proofs.Common.{subst, arith, rules, inl, inr}
 use Rattle.std.specs.List.{sum_by}
 use Rattle.std.proofs.lemmas.List.{append-nil}
 use Rattle.std.specs.Prelude.{◌⊎◌, length}
 use Rattle.smx_types.specs.ProgramLists.{ProgramLists}
 use Rattle.smx_types.specs.declared.command.Command.{Command}
-use Rattle.smx_types.specs.declared.driver.DriverSpec.{DriverSpec}
 use Rattle.smx_types.specs.declared.limits.TheConstants.{MAX_PROCESSES, MAX_COMMANDS}
 use Rattle.smx_words.specs.LineReading.{IsReadAs}
-use Rattle.smx_words.specs.Words.{line_of}
 use Rattle.smx_words.specs.Spelling.{command_words, driver_words, process_words}
-use Rattle.smx_words.specs.Spellable.{FitsNumber, FitsDriver, FitsCommandIn}
+use Rattle.smx_words.specs.Spellable.{FitsCommandIn}
 use Rattle.smx_text.specs.declared.text_fault.Cause.TheVariants as cause
 use Rattle.smx_text.specs.Grammar.{IsBegun, line_text}
 use Rattle.smx_text.specs.ProgramLines.{Line}
@@ -18,7 +17,7 @@ use Rattle.smx_text.specs.ProgramLines as line
 use Rattle.smx_text.specs.ProgramsText.{FitsLine, body, IsAllowed, programs_grammar}
 use Rattle.std.proofs.lemmas.Bool.{cases_eq, cases_lt}
 use Rattle.smx_words.proofs.DecidedLemmas.{same_or_not}
-use Rattle.smx_text.proofs.HasReadingLemmas.{Decision, HasReading, has_reading}
+use Rattle.smx_text.proofs.HasReadingLemmas.{Decision, HasReading, by_reading, has_reading}
 use Rattle.smx_text.proofs.ProgramsGrammarLemmas.{refused_line, well_made, no_line}
 use Rattle.smx_text.proofs.ProgramsFollowLemmas.{MayStand, AreMany}
 use Rattle.smx_text.proofs.ProgramsLemmas.{HasRoom, misplaced, too_many, longer_begun}
@@ -54,52 +53,32 @@ begun_by : (version : Version) → (v : ProgramLists) → IsAllowed version v �
 begun_by version v allowed = (v, [], allowed, sym (append-nil (body v)))
 
 -- a line that was read
-judged : (version : Version) → (v : ProgramLists) → IsAllowed version v → (k : Line) (text : List ℕ) → k ≢ line.End
+judged : (version : Version) → (v : ProgramLists) → IsAllowed version v → (text : List ℕ) (k : Line) → k ≢ line.End
     → FitsLine version k
     → text ≡ line_text (programs_grammar version) k → Decision (programs_grammar version) (body v) text
-judged version v allowed k text other fits is = elim (stands_or_not v k) [
+judged version v allowed text k other fits is = elim (stands_or_not v k) [
   | inr misplaced_there ↦ inr (inl (refused_line version (body v) k text fits is cause.Form
       (misplaced version v k misplaced_there)))
   | inl may ↦ elim (room_or_many version v k other) [
     | inr many ↦ inr (inr (inl (refused_line version (body v) k text fits is cause.Many
         (too_many version v k may many))))
-    | inl room ↦ inl (
-      body v ++ k ∷ [],
-      (
-        k,
-        is,
-        refl,
-        longer_begun version v k allowed.version_is
-            (begun_by version v allowed) may room fits,
-      ),
-    )
+    | inl room ↦ let begun = begun_by version v allowed in
+        inl (body v ++ k ∷ [], (k, is, refl, longer_begun version v k allowed.version_is begun may room fits))
   ]
 ]
 
-module _ (version : Version) (v : ProgramLists) (allowed : IsAllowed version v) (text : List ℕ)
-    (other : text ≢ line_text (programs_grammar version) line.End) where
-  by_process : ((c : Command) → FitsCommandIn version c → text ≢ line_of (command_words c))
-      → ((d : DriverSpec) → FitsDriver d → text ≢ line_of (driver_words d))
-      → (o : Option ℕ) → IsReadAs FitsNumber process_words text o → Decision (programs_grammar version) (body v) text
-  by_process commands drivers None none = inr (inl (no_line version (body v) text commands drivers none other))
-  by_process commands drivers (Some n) (fits, is) = judged version v allowed (line.Process n) text (λ e. cc) fits is
-
-  by_driver : ((c : Command) → FitsCommandIn version c → text ≢ line_of (command_words c)) → (o : Option DriverSpec)
-      → IsReadAs FitsDriver driver_words text o → Decision (programs_grammar version) (body v) text
-  by_driver commands None none = let p = process_reading text in by_process commands none p.0 p.1
-  by_driver commands (Some d) (fits, is) = judged version v allowed (line.Driver d) text (λ e. cc) fits is
-
-  by_command : (o : Option Command) → IsReadAs (FitsCommandIn version) command_words text o
-      → Decision (programs_grammar version) (body v) text
-  by_command None none = let d = driver_reading text in by_driver none d.0 d.1
-  by_command (Some c) (fits, is) = judged version v allowed (line.Command c) text (λ e. cc) fits is
-
 behind : (version : Version) → (v : ProgramLists) → IsAllowed version v → (text : List ℕ)
     → Decision (programs_grammar version) (body v) text
-behind version v allowed text = elim (same_or_not text (line_text (programs_grammar version) line.End)) [
-  | inl end ↦ inr (inr (inr (end, v, allowed, refl)))
-  | inr other ↦ let c = told_reading version text in by_command version v allowed text other c.0 c.1
-]
+behind version v allowed text =
+    let read = judged version v allowed text in
+    elim (same_or_not text (line_text (programs_grammar version) line.End)) [
+      | inl end ↦ inr (inr (inr (end, v, allowed, refl)))
+      | inr other ↦
+          by_reading command_words (told_reading version text) (λ c. read (line.Command c) (λ e. cc)) (λ commands.
+          by_reading driver_words (driver_reading text) (λ d. read (line.Driver d) (λ e. cc)) (λ drivers.
+          by_reading process_words (process_reading text) (λ n. read (line.Process n) (λ e. cc)) (λ processes.
+          inr (inl (no_line version (body v) text commands drivers processes other)))))
+    ]
 
 decides : (version : Version) → (lines : List Line) → IsBegun (programs_grammar version) lines → (text : List ℕ)
     → Decision (programs_grammar version) lines text
@@ -112,13 +91,7 @@ pub nothing_begun : (version : Version) → IsBegun (programs_grammar version) [
 nothing_begun version = (
   record { version = version; drivers = []; programs = [] },
   [],
-  record {
-    version_is = refl;
-    drivers = omega arith;
-    programs = omega arith;
-    commands = omega arith;
-    fits = tt;
-  },
+  search (rules, arith),
   refl,
 )
 

@@ -68,25 +68,11 @@ longer w v u k more e =
 pub are_full : (version : Version) (v : ProgramLists) (k : Line) → AreMany version v k
     → IsFull (programs_grammar version) (body v) k
 are_full version v (line.Driver d) h w allowed (more, e) = let a = counts v in let b = counts w in
-    omega (arith, longer a_driver w v (line.Driver d) more e, a.drivers, b.drivers, allowed.drivers, h)
+    omega (arith, longer a_driver w v _ more e, a.drivers, b.drivers, allowed.drivers, h)
 are_full version v (line.Process n) h w allowed (more, e) = let a = counts v in let b = counts w in
-    omega (
-      arith,
-      longer a_process w v (line.Process n) more e,
-      a.processes,
-      b.processes,
-      allowed.programs,
-      h,
-    )
+    omega (arith, longer a_process w v _ more e, a.processes, b.processes, allowed.programs, h)
 are_full version v (line.Command c) h w allowed (more, e) = let a = counts v in let b = counts w in
-    omega (
-      arith,
-      longer a_command w v (line.Command c) more e,
-      a.commands,
-      b.commands,
-      allowed.commands,
-      h,
-    )
+    omega (arith, longer a_command w v _ more e, a.commands, b.commands, allowed.commands, h)
 are_full version v line.End h w allowed goes = absurd h
 
 -- ---- one line more
@@ -132,19 +118,6 @@ goes_on version w lines k e = (
 -- a line that may stand behind those of these programs stands there in some text
 pub stand_may : (version : Version) (v : ProgramLists) (k : Line) → MayStand v k
     → MayFollow (programs_grammar version) (body v) k
-stand_may version v (line.Driver d) h = (
-  with_line v (line.Driver d),
-  goes_on version (with_line v (line.Driver d)) (body v) (line.Driver d)
-      (body_more v (line.Driver d) h (λ e. cc)),
-)
-stand_may version v (line.Process n) h = (
-  with_line v (line.Process n),
-  goes_on version (with_line v (line.Process n)) (body v) (line.Process n)
-      (body_more v (line.Process n) h (λ e. cc)),
-)
-stand_may version v (line.Command c) h = (
-  with_line v (line.Command c),
-  goes_on version (with_line v (line.Command c)) (body v) (line.Command c)
-      (body_more v (line.Command c) h (λ e. cc)),
-)
 stand_may version v line.End h = (v, ([], refl))
+stand_may version v k h =
+    (with_line v k, goes_on version (with_line v k) (body v) k (body_more v k h (λ e. cc)))

@@ -37,10 +37,8 @@ HasRoom version v (line.Command c) = sum_by length v.programs < MAX_COMMANDS
 HasRoom version v line.End = ⊥
 
 not_end : (version : Version) (v : ProgramLists) (k : Line) → HasRoom version v k → k ≢ line.End
-not_end version v (line.Driver d) h e = cc
-not_end version v (line.Process n) h e = cc
-not_end version v (line.Command c) h e = cc
 not_end version v line.End h e = h
+not_end version v k h e = cc
 
 -- as many as may be of each kind
 record IsFew (version : Version) (v : ProgramLists) : Type 0 where
@@ -48,35 +46,19 @@ record IsFew (version : Version) (v : ProgramLists) : Type 0 where
   programs : length v.programs ≤ MAX_PROCESSES
   commands : sum_by length v.programs ≤ MAX_COMMANDS
 
+sums : (weight : Line → ℕ) (v w : ProgramLists) (k : Line) → body w ≡ body v ++ k ∷ []
+    → sum_by weight (body w) ≡ sum_by weight (body v) + weight k
+sums weight v w k e =
+    omega (arith, ap (sum_by weight) e, sum_by-append weight (body v) (k ∷ []), sum_by-cons weight k [])
+
 few_by : (version : Version) (v w : ProgramLists) (k : Line) → IsAllowed version v → HasRoom version v k
     → body w ≡ body v ++ k ∷ [] → IsFew version w
-few_by version v w k within room e = by_kind k room e where
-  sums : (weight : Line → ℕ) (k : Line) → body w ≡ body v ++ k ∷ []
-      → sum_by weight (body w) ≡ sum_by weight (body v) + weight k
-  sums weight k e = omega (arith, ap (sum_by weight) e, sum_by-append weight (body v) (k ∷ []), sum_by-cons weight k [])
-
-  by_kind : (k : Line) → HasRoom version v k → body w ≡ body v ++ k ∷ [] → IsFew version w
-  by_kind k room e = let a = counts v in let b = counts w in
-      limits k room (sums a_driver k e) (sums a_process k e) (sums a_command k e) where
-        limits : (k : Line) → HasRoom version v k → sum_by a_driver (body w) ≡ sum_by a_driver (body v) + a_driver k
-            → sum_by a_process (body w) ≡ sum_by a_process (body v) + a_process k
-            → sum_by a_command (body w) ≡ sum_by a_command (body v) + a_command k → IsFew version w
-        limits (line.Driver d) room x y z = let a = counts v in let b = counts w in record {
-          drivers = omega (arith, x, a.drivers, b.drivers, within.drivers, room);
-          programs = omega (arith, y, a.processes, b.processes, within.programs);
-          commands = omega (arith, z, a.commands, b.commands, within.commands);
-        }
-        limits (line.Process n) room x y z = let a = counts v in let b = counts w in record {
-          drivers = omega (arith, x, a.drivers, b.drivers, within.drivers);
-          programs = omega (arith, y, a.processes, b.processes, within.programs, room);
-          commands = omega (arith, z, a.commands, b.commands, within.commands);
-        }
-        limits (line.Command c) room x y z = let a = counts v in let b = counts w in record {
-          drivers = omega (arith, x, a.drivers, b.drivers, within.drivers);
-          programs = omega (arith, y, a.processes, b.processes, within.programs);
-          commands = omega (arith, z, a.commands, b.commands, within.commands, room);
-        }
-        limits line.End room x y z = absurd room
+few_by version v w line.End within room e = absurd room
+few_by version v w k within room e = let a = counts v in let b = counts w in record {
+  drivers = omega (arith, sums a_driver v w k e, a.drivers, b.drivers, within.drivers, room);
+  programs = omega (arith, sums a_process v w k e, a.processes, b.processes, within.programs, room);
+  commands = omega (arith, sums a_command v w k e, a.commands, b.commands, within.commands, room);
+}
 
 -- programs with this line more
 pub adds : (version : Version) (v w : ProgramLists) (k : Line) → v.version ≡ version → w.version ≡ version

@@ -15,123 +15,77 @@ use Rattle.smx_text.specs.ProgramsText.{program_lines, body}
 -- 1 for a driver's line, 0 for any other
 abbrev pub a_driver : Line → ℕ
 a_driver (line.Driver d) = 1
-a_driver (line.Process n) = 0
-a_driver (line.Command c) = 0
-a_driver line.End = 0
+a_driver k = 0
 
 -- 1 for a line with which a process begins, 0 for any other
 abbrev pub a_process : Line → ℕ
-a_process (line.Driver d) = 0
 a_process (line.Process n) = 1
-a_process (line.Command c) = 0
-a_process line.End = 0
+a_process k = 0
 
 -- 1 for a command's line, 0 for any other
 abbrev pub a_command : Line → ℕ
-a_command (line.Driver d) = 0
-a_command (line.Process n) = 0
 a_command (line.Command c) = 1
-a_command line.End = 0
+a_command k = 0
 
 -- 1 for the end, 0 for any other line
 abbrev pub an_end : Line → ℕ
-an_end (line.Driver d) = 0
-an_end (line.Process n) = 0
-an_end (line.Command c) = 0
 an_end line.End = 1
+an_end k = 0
 
-none_of : {X : Type 0} (w : Line → ℕ) (f : X → Line) → ((x : X) → w (f x) ≡ 0) → (xs : List X) → sum_by w (map f xs) ≡ 0
-none_of w f h [] = refl
-none_of w f h (x ∷ xs) = omega (arith, sum_by-cons w (f x) (map f xs), h x, none_of w f h xs)
-
-one_each : {X : Type 0} (w : Line → ℕ) (f : X → Line) → ((x : X) → w (f x) ≡ 1) → (xs : List X)
-    → sum_by w (map f xs) ≡ length xs
-one_each w f h [] = refl
-one_each w f h (x ∷ xs) = omega (arith, sum_by-cons w (f x) (map f xs), h x, one_each w f h xs)
-
-lines_drivers : (n : ℕ) (ps : List (List Command)) → sum_by a_driver (program_lines n ps) ≡ 0
-lines_drivers n [] = refl
-lines_drivers n (p ∷ ps) =
-    omega (
-      arith,
-      sum_by-cons a_driver (line.Process n) (map line.Command p ++ program_lines (n + 1) ps),
-      sum_by-append a_driver (map line.Command p) (program_lines (n + 1) ps),
-      none_of a_driver line.Command (λ c. refl) p,
-      lines_drivers (n + 1) ps,
-    )
-
-lines_processes : (n : ℕ) (ps : List (List Command)) → sum_by a_process (program_lines n ps) ≡ length ps
-lines_processes n [] = refl
-lines_processes n (p ∷ ps) =
-    omega (
-      arith,
-      sum_by-cons a_process (line.Process n) (map line.Command p ++ program_lines (n + 1) ps),
-      sum_by-append a_process (map line.Command p) (program_lines (n + 1) ps),
-      none_of a_process line.Command (λ c. refl) p,
-      lines_processes (n + 1) ps,
-    )
-
-lines_commands : (n : ℕ) (ps : List (List Command)) → sum_by a_command (program_lines n ps) ≡ sum_by length ps
-lines_commands n [] = refl
-lines_commands n (p ∷ ps) =
-    omega (
-      arith,
-      sum_by-cons a_command (line.Process n) (map line.Command p ++ program_lines (n + 1) ps),
-      sum_by-append a_command (map line.Command p) (program_lines (n + 1) ps),
-      one_each a_command line.Command (λ c. refl) p,
-      lines_commands (n + 1) ps,
-      sum_by-cons (length {A = Command}) p ps,
-    )
-
-lines_ends : (n : ℕ) (ps : List (List Command)) → sum_by an_end (program_lines n ps) ≡ 0
-lines_ends n [] = refl
-lines_ends n (p ∷ ps) =
-    omega (
-      arith,
-      sum_by-cons an_end (line.Process n) (map line.Command p ++ program_lines (n + 1) ps),
-      sum_by-append an_end (map line.Command p) (program_lines (n + 1) ps),
-      none_of an_end line.Command (λ c. refl) p,
-      lines_ends (n + 1) ps,
-    )
-
--- the counts of the lines of these programs
-pub record HasCounts (v : ProgramLists) (lines : List Line) : Type 0 where
-  pub drivers : sum_by a_driver lines ≡ length v.drivers
-  pub processes : sum_by a_process lines ≡ length v.programs
-  pub commands : sum_by a_command lines ≡ sum_by length v.programs
+-- so many lines of each kind, and none is the end
+pub record HasCounts (d p c : ℕ) (lines : List Line) : Type 0 where
+  pub drivers : sum_by a_driver lines ≡ d
+  pub processes : sum_by a_process lines ≡ p
+  pub commands : sum_by a_command lines ≡ c
   pub ends : sum_by an_end lines ≡ 0
 
--- the lines of programs are one for each driver, each program and each command, and none is the end
-pub counts : (v : ProgramLists) → HasCounts v (body v)
-counts v = record {
-  drivers =
-      omega (
-        arith,
-        sum_by-append a_driver (map line.Driver v.drivers) (program_lines 0 v.programs),
-        one_each a_driver line.Driver (λ d. refl) v.drivers,
-        lines_drivers 0 v.programs,
-      );
-  processes =
-      omega (
-        arith,
-        sum_by-append a_process (map line.Driver v.drivers) (program_lines 0 v.programs),
-        none_of a_process line.Driver (λ d. refl) v.drivers,
-        lines_processes 0 v.programs,
-      );
-  commands =
-      omega (
-        arith,
-        sum_by-append a_command (map line.Driver v.drivers) (program_lines 0 v.programs),
-        none_of a_command line.Driver (λ d. refl) v.drivers,
-        lines_commands 0 v.programs,
-      );
-  ends = omega (
-    arith,
-    sum_by-append an_end (map line.Driver v.drivers) (program_lines 0 v.programs),
-    none_of an_end line.Driver (λ d. refl) v.drivers,
-    lines_ends 0 v.programs,
-  );
+one_first : {d p c e q b : ℕ} (k : Line) (ls : List Line) → an_end k ≡ 0 → HasCounts d p c ls
+    → (e ≡ a_driver k + d) × (q ≡ a_process k + p) × (b ≡ a_command k + c) → HasCounts e q b (k ∷ ls)
+one_first k ls none h are = record {
+  drivers = omega (arith, sum_by-cons a_driver k ls, h.drivers, are.0);
+  processes = omega (arith, sum_by-cons a_process k ls, h.processes, are.1);
+  commands = omega (arith, sum_by-cons a_command k ls, h.commands, are.2);
+  ends = omega (arith, sum_by-cons an_end k ls, none, h.ends);
 }
+
+both : {d p c e q b : ℕ} (ls ks : List Line) → HasCounts d p c ls → HasCounts e q b ks
+    → HasCounts (d + e) (p + q) (c + b) (ls ++ ks)
+both ls ks h k = record {
+  drivers = omega (arith, sum_by-append a_driver ls ks, h.drivers, k.drivers);
+  processes = omega (arith, sum_by-append a_process ls ks, h.processes, k.processes);
+  commands = omega (arith, sum_by-append a_command ls ks, h.commands, k.commands);
+  ends = omega (arith, sum_by-append an_end ls ks, h.ends, k.ends);
+}
+
+of_drivers : (ds : List DriverSpec) → HasCounts (length ds) 0 0 (map line.Driver ds)
+of_drivers [] = record { drivers = refl; processes = refl; commands = refl; ends = refl }
+of_drivers (d ∷ ds) =
+    one_first (line.Driver d) (map line.Driver ds) refl (of_drivers ds) (omega arith, omega arith, omega arith)
+
+of_commands : (cs : List Command) → HasCounts 0 0 (length cs) (map line.Command cs)
+of_commands [] = record { drivers = refl; processes = refl; commands = refl; ends = refl }
+of_commands (c ∷ cs) =
+    one_first (line.Command c) (map line.Command cs) refl (of_commands cs) (omega arith, omega arith, omega arith)
+
+of_programs : (n : ℕ) (ps : List (List Command)) → HasCounts 0 (length ps) (sum_by length ps) (program_lines n ps)
+of_programs n [] = record { drivers = refl; processes = refl; commands = refl; ends = refl }
+of_programs n (p ∷ ps) =
+    let behind = program_lines (n + 1) ps in
+    one_first (line.Process n) (map line.Command p ++ behind) refl
+    (both (map line.Command p) behind (of_commands p) (of_programs (n + 1) ps))
+    (omega arith, omega arith, omega (arith, sum_by-cons (length {A = Command}) p ps))
+
+-- the lines of programs are one for each driver, each program and each command, and none is the end
+pub counts : (v : ProgramLists) → HasCounts (length v.drivers) (length v.programs) (sum_by length v.programs) (body v)
+counts v =
+    let all = both (map line.Driver v.drivers) (program_lines 0 v.programs) (of_drivers v.drivers)
+    (of_programs 0 v.programs) in
+    record {
+      drivers = omega (arith, all.drivers);
+      processes = omega (arith, all.processes);
+      commands = omega (arith, all.commands);
+      ends = all.ends;
+    }
 
 -- the line `end` is none of them
 pub end_is_last : (v : ProgramLists) (lines more : List Line) → body v ≡ lines ++ line.End ∷ more → ⊥
@@ -184,23 +138,17 @@ body_in_order v =
 -- where lines are in order, the later ones are so behind the processes of the earlier ones
 pub order_behind : (n : ℕ) (ls ks : List Line) → InOrder n (ls ++ ks) → InOrder (n + sum_by a_process ls) ks
 order_behind n [] ks h = subst (λ (m : ℕ). InOrder m ks) (omega arith) h
-order_behind n (line.Driver d ∷ ls) ks h =
-    subst (λ (m : ℕ). InOrder m ks) (omega (arith, sum_by-cons a_process (line.Driver d) ls))
-    (order_behind n ls ks h.1)
 order_behind n (line.Process m ∷ ls) ks h =
     subst (λ (m : ℕ). InOrder m ks) (omega (arith, sum_by-cons a_process (line.Process m) ls))
     (order_behind (n + 1) ls ks h.1)
-order_behind n (line.Command c ∷ ls) ks h =
-    subst (λ (m : ℕ). InOrder m ks) (omega (arith, sum_by-cons a_process (line.Command c) ls))
-    (order_behind n ls ks h.1)
 order_behind n (line.End ∷ ls) ks h =
-    subst (λ (m : ℕ). InOrder m ks) (omega (arith, sum_by-cons a_process line.End ls))
-    (order_behind n ls ks h)
+    subst (λ (m : ℕ). InOrder m ks) (omega (arith, sum_by-cons a_process line.End ls)) (order_behind n ls ks h)
+order_behind n (k ∷ ls) ks h =
+    subst (λ (m : ℕ). InOrder m ks) (omega (arith, sum_by-cons a_process k ls)) (order_behind n ls ks h.1)
 
 -- where lines are in order, the earlier ones are so
 pub order_before : (n : ℕ) (ls ks : List Line) → InOrder n (ls ++ ks) → InOrder n ls
 order_before n [] ks h = tt
-order_before n (line.Driver d ∷ ls) ks h = (h.0, order_before n ls ks h.1)
 order_before n (line.Process m ∷ ls) ks h = (h.0, order_before (n + 1) ls ks h.1)
-order_before n (line.Command c ∷ ls) ks h = (h.0, order_before n ls ks h.1)
 order_before n (line.End ∷ ls) ks h = order_before n ls ks h
+order_before n (k ∷ ls) ks h = (h.0, order_before n ls ks h.1)

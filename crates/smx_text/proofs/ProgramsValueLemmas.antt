@@ -1,5 +1,5 @@
 -- The lines of some programs tell them, and lines that some programs begin with are those of some programs.
-use Rattle.std.proofs.Common.{◌≡◌, ◌≢◌, ℕ, ◌+◌, ◌-◌, List, [], ◌∷◌, ◌++◌, length, map, get_or, refl, sym, ap}
+use Rattle.std.proofs.Common.{◌≡◌, ◌≢◌, ℕ, ◌+◌, ◌-◌, ◌≤◌, List, [], ◌∷◌, ◌++◌, length, map, get_or, refl, sym, ap}
 use Rattle.std.proofs.Common.{subst, ◌∙◌, append_assoc, arith}
 use Rattle.std.specs.List.{sum_by, AllByRecursion}
 use Rattle.std.proofs.lemmas.List.{append-nil, length-append, length-set}
@@ -22,24 +22,19 @@ use Rattle.smx_types.specs.declared.version.Version.{Version}
 abbrev drivers_of : List Line → List DriverSpec
 drivers_of [] = []
 drivers_of (line.Driver d ∷ ls) = d ∷ drivers_of ls
-drivers_of (line.Process n ∷ ls) = drivers_of ls
-drivers_of (line.Command c ∷ ls) = drivers_of ls
-drivers_of (line.End ∷ ls) = drivers_of ls
+drivers_of (k ∷ ls) = drivers_of ls
 
 -- the commands before the first process, and the programs
 abbrev commands_of : List Line → List Command
 commands_of [] = []
-commands_of (line.Driver d ∷ ls) = commands_of ls
 commands_of (line.Process n ∷ ls) = []
 commands_of (line.Command c ∷ ls) = c ∷ commands_of ls
-commands_of (line.End ∷ ls) = commands_of ls
+commands_of (k ∷ ls) = commands_of ls
 
 abbrev programs_of : List Line → List (List Command)
 programs_of [] = []
-programs_of (line.Driver d ∷ ls) = programs_of ls
 programs_of (line.Process n ∷ ls) = commands_of ls ∷ programs_of ls
-programs_of (line.Command c ∷ ls) = programs_of ls
-programs_of (line.End ∷ ls) = programs_of ls
+programs_of (k ∷ ls) = programs_of ls
 
 drivers_again : (ds : List DriverSpec) (rest : List Line)
     → drivers_of (map line.Driver ds ++ rest) ≡ ds ++ drivers_of rest
@@ -150,39 +145,15 @@ begun_is_body version lines (w, more, allowed, e) =
     let fits = all_left (FitsLine version) lines more (subst (AllByRecursion (FitsLine version)) e allowed.fits) in
     let kept : IsAllowed version v = record {
       version_is = own.1;
-      drivers =
-          omega (
-            arith,
-            ap (sum_by a_driver) e,
-            sum_by-append a_driver lines more,
-            ap (sum_by a_driver) own.2,
-            c.drivers,
-            d.drivers,
-            allowed.drivers,
-          );
-      programs =
-          omega (
-            arith,
-            ap (sum_by a_process) e,
-            sum_by-append a_process lines more,
-            ap (sum_by a_process) own.2,
-            c.processes,
-            d.processes,
-            allowed.programs,
-          );
-      commands =
-          omega (
-            arith,
-            ap (sum_by a_command) e,
-            sum_by-append a_command lines more,
-            ap (sum_by a_command) own.2,
-            c.commands,
-            d.commands,
-            allowed.commands,
-          );
+      drivers = omega (arith, fewer a_driver v own.2, c.drivers, d.drivers, allowed.drivers);
+      programs = omega (arith, fewer a_process v own.2, c.processes, d.processes, allowed.programs);
+      commands = omega (arith, fewer a_command v own.2, c.commands, d.commands, allowed.commands);
       fits = subst (AllByRecursion (FitsLine version)) (sym own.2) fits;
     } in
-    (v, kept, own.2)
+    (v, kept, own.2) where
+      fewer : (weight : Line → ℕ) (v : ProgramLists) → body v ≡ lines
+          → sum_by weight (body v) ≤ sum_by weight (body w)
+      fewer weight v is = omega (arith, ap (sum_by weight) e, sum_by-append weight lines more, ap (sum_by weight) is)
 
 -- so where their lines begin an allowed value, they are allowed
 pub allowed_of : (version : Version) (v : ProgramLists) → v.version ≡ version

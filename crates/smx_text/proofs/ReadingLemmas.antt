@@ -92,9 +92,7 @@ module _ {V K : Type 0} (g : Grammar V K) where
     refused cause.Form h = (lines, text, reaches, h)
     refused cause.Many h = (lines, text, reaches, h)
     refused cause.NoMemory h = (lines, text, reaches, h)
-    refused cause.Header h = absurd h
-    refused cause.Cut h = absurd h
-    refused cause.Trailing h = absurd h
+    refused why h = absurd h
 
     -- where the next line goes on behind those before, a reader is between it and the line after it
     pub one_more : (longer : List K) → Continues g lines text longer → IsBetween bytes after longer (number + 1)
@@ -119,28 +117,17 @@ module _ {V K : Type 0} (g : Grammar V K) where
       trails : (v : V) → g.IsAllowed v → g.body v ≡ lines → (xs : List ℕ) → after ≡ xs → 0 < length xs
           → IsFault g bytes (number + 1) cause.Trailing
       trails v allowed e [] is some = absurd (omega arith)
-      trails v allowed e (b ∷ more) is some = (
-        v,
-        b,
-        more,
-        allowed,
-        whole v e ∙ ap (λ (xs : List ℕ). full_text g v ++ xs) is,
-        omega (arith, at.numbered, ap (length {A = K}) e),
-      )
+      trails v allowed e (b ∷ more) is some =
+          let all = whole v e ∙ ap (λ (xs : List ℕ). full_text g v ++ xs) is in
+          (v, b, more, allowed, all, omega (arith, at.numbered, ap (length {A = K}) e))
 
       -- what is answered at the last line is what may be answered for the whole text
       pub read_to_end : {W : Type 0} (makes : V → W → Type 0) (r : Result W TextFault)
           → EndsText g makes lines after number r → MakesIn g makes bytes r
-      read_to_end makes (Ok w) (v, allowed, e, none, made) = (
-        v,
-        record {
-          allowed = allowed;
-          text = whole v e
-              ∙ ap (λ (xs : List ℕ). full_text g v ++ xs) (nil_from_length after none)
-              ∙ append-nil (full_text g v);
-        },
-        made,
-      )
+      read_to_end makes (Ok w) (v, allowed, e, none, made) =
+          let all = whole v e ∙ ap (λ (xs : List ℕ). full_text g v ++ xs) (nil_from_length after none)
+          ∙ append-nil (full_text g v) in
+          (v, record { allowed = allowed; text = all }, made)
       read_to_end makes (Err f) (inl (never, is)) =
           subst (λ (x : TextFault). IsFault g bytes x.line x.cause) (sym is) (may_not never)
       read_to_end makes (Err f) (inr (v, allowed, e, some, is)) =
@@ -157,9 +144,7 @@ module _ {V K : Type 0} (g : Grammar V K) where
       h (subst (λ (x : K). MayFollow g lines x) (tells_apart l k also fits (sym same ∙ is)) may)
   refuses tells_apart lines k text fits is cause.Many h = (k, is, fits, h.0, h.1)
   refuses tells_apart lines k text fits is cause.NoMemory h = (lines ++ k ∷ [], (k, is, refl, h))
-  refuses tells_apart lines k text fits is cause.Header h = absurd h
-  refuses tells_apart lines k text fits is cause.Cut h = absurd h
-  refuses tells_apart lines k text fits is cause.Trailing h = absurd h
+  refuses tells_apart lines k text fits is why h = absurd h
 
   -- the same of each answer
   pub answers : {A : Type 0} → ((k l : K) → g.FitsLine k → g.FitsLine l → line_text g k ≡ line_text g l → k ≡ l)
@@ -171,11 +156,7 @@ module _ {V K : Type 0} (g : Grammar V K) where
   -- behind the header nothing is wrong with it
   pub refused_behind : (lines : List K) (text : List ℕ) (why : Cause) → Refuses g lines text why → why ≢ cause.Header
   refused_behind lines text cause.Header h e = absurd h
-  refused_behind lines text cause.Form h e = cc
-  refused_behind lines text cause.Many h e = cc
-  refused_behind lines text cause.NoMemory h e = cc
-  refused_behind lines text cause.Cut h e = absurd h
-  refused_behind lines text cause.Trailing h e = absurd h
+  refused_behind lines text why h e = cc
 
   -- what is answered at the last line says nothing of the header
   pub ends_behind : {W : Type 0} (makes : V → W → Type 0) (lines : List K) (after : List ℕ) (number : ℕ)
@@ -209,5 +190,6 @@ module _ {V K : Type 0} (g : Version → Grammar V K) (bytes : List ℕ) where
   any_of_each f each = (
     V1,
     each V1,
-    λ header other. subst (λ (why : Cause). IsFault (g other) bytes f.line why) header (each other),
+    λ header other.
+        subst (λ (why : Cause). IsFault (g other) bytes f.line why) header (each other),
   )

@@ -1,6 +1,6 @@
 -- The lines of a transcript that is being read.
 use Rattle.std.proofs.Common.{◌≡◌, ◌≢◌, Bool, true, false, cond, eqb, ◌&&◌, List, [], ◌∷◌, ◌++◌, length}
-use Rattle.std.proofs.Common.{map, Option, Some, None, refl, sym, ap, ◌∙◌, append_assoc, arith}
+use Rattle.std.proofs.Common.{map, Option, Some, None, refl, sym, ap, ◌∙◌, append_assoc, take, arith}
 use Rattle.std.proofs.lemmas.Bool.{and_parts}
 use Rattle.std.proofs.lemmas.Bool.Decides.{nat_tests}
 use Rattle.std.proofs.lemmas.List.{append-nil, map_push, nil_from_length}
@@ -23,7 +23,7 @@ use Rattle.smx_text.proofs.TranscriptDrafts.{◌>>=◌}
 use Rattle.smx_text.specs.TranscriptText.{view_body, body}
 use Rattle.smx_text.specs.Drafts.{shown, lines}
 use Rattle.smx_text.proofs.TranscriptDrafts.{new_view, new_draft, takes, with_line}
-use Rattle.smx_text.specs.Drafts.{takes_fds, takes_links, takes_binds, takes_routes, takes_msgs, takes_fulls}
+use Rattle.smx_text.specs.Drafts.{takes_links, takes_binds, takes_routes, takes_msgs, takes_fulls}
 use Rattle.smx_text.specs.Drafts.{takes_hungs}
 use Rattle.smx_types.specs.declared.version.Version.{Version}
 use Rattle.smx_types.specs.declared.view.HungLine.{HungLine}
@@ -49,104 +49,71 @@ behind : (xs bs vs ws : List TranscriptLine) (k : TranscriptLine) → ws ≡ vs 
     → xs ++ (bs ++ ws) ≡ (xs ++ (bs ++ vs)) ++ k ∷ []
 behind xs bs vs ws k e = rw e (simp append_assoc)
 
-none : {A : Type 0} (xs : List A) → eqb (length xs) 0 ≡ true → xs ≡ []
-none xs e = nil_from_length xs (grind (arith, nat_tests))
-
 -- ---- where a line of a group may come, the groups behind it are empty
 
-no_hungs : (t : Transcript) → takes_fulls (draft stage.View t) ≡ true → t.view.hungs ≡ []
-no_hungs t h = none t.view.hungs (and_parts (takes_hungs (draft stage.View t)) (eqb (length t.view.hungs) 0) h).1
+empty : {A : Type 0} (may : Bool) (xs : List A) → may && eqb (length xs) 0 ≡ true → (xs ≡ []) × (may ≡ true)
+empty may xs h = let p = and_parts may (eqb (length xs) 0) h in (nil_from_length xs (grind (arith, nat_tests)), p.0)
 
-no_fulls : (t : Transcript) → takes_msgs (draft stage.View t) ≡ true
-    → (t.view.fulls ≡ []) × (t.view.hungs ≡ [])
-no_fulls t h =
-    let p = and_parts (takes_fulls (draft stage.View t)) (eqb (length t.view.fulls) 0) h in
-    (none t.view.fulls p.1, no_hungs t p.0)
+module _ (t : Transcript) where
+  no_hungs : takes_fulls (draft stage.View t) ≡ true → t.view.hungs ≡ []
+  no_hungs h = (empty (takes_hungs (draft stage.View t)) t.view.hungs h).0
 
-no_msgs : (t : Transcript) → takes_routes (draft stage.View t) ≡ true
-    → (t.view.msgs ≡ []) × ((t.view.fulls ≡ []) × (t.view.hungs ≡ []))
-no_msgs t h =
-    let p = and_parts (takes_msgs (draft stage.View t)) (eqb (length t.view.msgs) 0) h in
-    (none t.view.msgs p.1, no_fulls t p.0)
+  no_fulls : takes_msgs (draft stage.View t) ≡ true → (t.view.fulls ≡ []) × (t.view.hungs ≡ [])
+  no_fulls h = let p = empty (takes_fulls (draft stage.View t)) t.view.fulls h in (p.0, no_hungs p.1)
 
-no_routes : (t : Transcript) → takes_binds (draft stage.View t) ≡ true
-    → (t.view.routes ≡ []) × ((t.view.msgs ≡ []) × ((t.view.fulls ≡ []) × (t.view.hungs ≡ [])))
-no_routes t h =
-    let p = and_parts (takes_routes (draft stage.View t)) (eqb (length t.view.routes) 0) h in
-    (none t.view.routes p.1, no_msgs t p.0)
+  no_msgs : takes_routes (draft stage.View t) ≡ true
+      → (t.view.msgs ≡ []) × ((t.view.fulls ≡ []) × (t.view.hungs ≡ []))
+  no_msgs h = let p = empty (takes_msgs (draft stage.View t)) t.view.msgs h in (p.0, no_fulls p.1)
 
-no_binds : (t : Transcript) → takes_links (draft stage.View t) ≡ true
-    → (t.view.binds ≡ []) × ((t.view.routes ≡ []) × ((t.view.msgs ≡ []) × ((t.view.fulls ≡ []) × (t.view.hungs ≡ []))))
-no_binds t h =
-    let p = and_parts (takes_binds (draft stage.View t)) (eqb (length t.view.binds) 0) h in
-    (none t.view.binds p.1, no_routes t p.0)
+  no_routes : takes_binds (draft stage.View t) ≡ true
+      → (t.view.routes ≡ []) × ((t.view.msgs ≡ []) × ((t.view.fulls ≡ []) × (t.view.hungs ≡ [])))
+  no_routes h = let p = empty (takes_routes (draft stage.View t)) t.view.routes h in (p.0, no_msgs p.1)
 
-no_links : (t : Transcript) → takes_fds (draft stage.View t) ≡ true
-    → (t.view.links ≡ []) × ((t.view.binds ≡ []) × ((t.view.routes ≡ [])
-    × ((t.view.msgs ≡ []) × ((t.view.fulls ≡ []) × (t.view.hungs ≡ [])))))
-no_links t h =
-    let p = and_parts (takes_links (draft stage.View t)) (eqb (length t.view.links) 0) h in
-    (none t.view.links p.1, no_binds t p.0)
+  no_binds : takes_links (draft stage.View t) ≡ true → (t.view.binds ≡ []) × ((t.view.routes ≡ [])
+      × ((t.view.msgs ≡ []) × ((t.view.fulls ≡ []) × (t.view.hungs ≡ []))))
+  no_binds h = let p = empty (takes_binds (draft stage.View t)) t.view.binds h in (p.0, no_routes p.1)
 
-last_more : {A : Type 0} (f : A → TranscriptLine) (xs : List A) (x : A)
-    → map f (xs ++ x ∷ []) ++ [] ≡ (map f xs ++ []) ++ f x ∷ []
-last_more f xs x = append-nil (map f (xs ++ x ∷ [])) ∙ map_push f xs x
-    ∙ ap (λ (ls : List TranscriptLine). ls ++ f x ∷ []) (sym (append-nil (map f xs)))
+-- the lines of a view in their groups, of which the first is there in any view
+abbrev groups : ConfigView → List (List TranscriptLine)
+groups v =
+    (line.Config ∷ line.Next v.next_id v.next_serial ∷ []) ∷ map line.Fd v.fds ∷ map line.Link v.links
+    ∷ map line.Bind v.binds ∷ map line.Route v.routes ∷ map line.Msg v.msgs ∷ map line.Full v.fulls ∷ []
 
-through : (xs ys zs : List TranscriptLine) (k : TranscriptLine) → zs ≡ ys ++ k ∷ [] → xs ++ zs ≡ (xs ++ ys) ++ k ∷ []
-through xs ys zs k e = ap (λ (ls : List TranscriptLine). xs ++ ls) e ∙ sym (append_assoc xs ys (k ∷ []))
+abbrev behind_all : List (List TranscriptLine) → List TranscriptLine → List TranscriptLine
+behind_all [] ls = ls
+behind_all (g ∷ gs) ls = g ++ behind_all gs ls
+
+-- one more in the group behind some groups is one more behind all
+last_of : {A : Type 0} (gs : List (List TranscriptLine)) (f : A → TranscriptLine) (xs : List A) (x : A)
+    → behind_all gs (map f (xs ++ x ∷ []) ++ []) ≡ behind_all gs (map f xs ++ []) ++ f x ∷ []
+last_of [] f xs x = rw map_push (simp append-nil)
+last_of (g ∷ gs) f xs x = rw (last_of gs f xs x) (simp append_assoc)
 
 -- so it is behind all others of the view
 view_more : (t : Transcript) (k : TranscriptLine) → takes (draft stage.View t) k ≡ true → is_line k ≡ true
     → shown stage.View (with_line (draft stage.View t) k).transcript.view ≡ shown stage.View t.view ++ k ∷ []
 view_more t (line.Fd x) h l =
-    let e = no_links t h in
-    rw (e.0, e.1.0, e.1.1.0, e.1.1.1.0, e.1.1.1.1.0, e.1.1.1.1.1)
-    (ap (λ (ls : List TranscriptLine). line.Config ∷ line.Next t.view.next_id t.view.next_serial ∷ ls)
-    (last_more line.Fd t.view.fds x))
-view_more t (line.Link x) h l =
-    let e = no_binds t h in
-    rw (e.0, e.1.0, e.1.1.0, e.1.1.1.0, e.1.1.1.1)
-    (ap (λ (ls : List TranscriptLine). line.Config ∷ line.Next t.view.next_id t.view.next_serial ∷ ls)
-    (through (map line.Fd t.view.fds) _ _ _ (last_more line.Link t.view.links x)))
-view_more t (line.Bind x) h l =
-    let e = no_routes t h in
-    rw (e.0, e.1.0, e.1.1.0, e.1.1.1)
-    (ap (λ (ls : List TranscriptLine). line.Config ∷ line.Next t.view.next_id t.view.next_serial ∷ ls)
-    (through (map line.Fd t.view.fds) _ _ _ (through (map line.Link t.view.links) _ _ _
-    (last_more line.Bind t.view.binds x))))
-view_more t (line.Route x) h l =
-    let e = no_msgs t h in
-    rw (e.0, e.1.0, e.1.1)
-    (ap (λ (ls : List TranscriptLine). line.Config ∷ line.Next t.view.next_id t.view.next_serial ∷ ls)
-    (through (map line.Fd t.view.fds) _ _ _ (through (map line.Link t.view.links) _ _ _
-    (through (map line.Bind t.view.binds) _ _ _ (last_more line.Route t.view.routes x)))))
-view_more t (line.Msg x) h l =
-    let e = no_fulls t h in
-    rw (e.0, e.1)
-    (ap (λ (ls : List TranscriptLine). line.Config ∷ line.Next t.view.next_id t.view.next_serial ∷ ls)
-    (through (map line.Fd t.view.fds) _ _ _ (through (map line.Link t.view.links) _ _ _
-    (through (map line.Bind t.view.binds) _ _ _ (through (map line.Route t.view.routes) _ _ _
-    (last_more line.Msg t.view.msgs x))))))
-view_more t (line.Full x) h l =
-    rw (no_hungs t h)
-    (ap (λ (ls : List TranscriptLine). line.Config ∷ line.Next t.view.next_id t.view.next_serial ∷ ls)
-    (through (map line.Fd t.view.fds) _ _ _ (through (map line.Link t.view.links) _ _ _
-    (through (map line.Bind t.view.binds) _ _ _ (through (map line.Route t.view.routes) _ _ _
-    (through (map line.Msg t.view.msgs) _ _ _ (last_more line.Full t.view.fulls x)))))))
+    let p = empty (takes_links (draft stage.View t)) t.view.links h in let e = no_binds t p.1 in
+    rw (p.0, e.0, e.1.0, e.1.1.0, e.1.1.1.0, e.1.1.1.1) (last_of (take 1 (groups t.view)) line.Fd t.view.fds x)
+view_more t (line.Link x) h l = let e = no_binds t h in
+    rw (e.0, e.1.0, e.1.1.0, e.1.1.1.0, e.1.1.1.1) (last_of (take 2 (groups t.view)) line.Link t.view.links x)
+view_more t (line.Bind x) h l = let e = no_routes t h in
+    rw (e.0, e.1.0, e.1.1.0, e.1.1.1) (last_of (take 3 (groups t.view)) line.Bind t.view.binds x)
+view_more t (line.Route x) h l = let e = no_msgs t h in
+    rw (e.0, e.1.0, e.1.1) (last_of (take 4 (groups t.view)) line.Route t.view.routes x)
+view_more t (line.Msg x) h l = let e = no_fulls t h in
+    rw (e.0, e.1) (last_of (take 5 (groups t.view)) line.Msg t.view.msgs x)
+view_more t (line.Full x) h l = rw (no_hungs t h) (last_of (take 6 (groups t.view)) line.Full t.view.fulls x)
 view_more t (line.Hung x) h l =
-    ap (λ (ls : List TranscriptLine). line.Config ∷ line.Next t.view.next_id t.view.next_serial ∷ ls)
-    (through (map line.Fd t.view.fds) _ _ _ (through (map line.Link t.view.links) _ _ _
-    (through (map line.Bind t.view.binds) _ _ _ (through (map line.Route t.view.routes) _ _ _
-    (through (map line.Msg t.view.msgs) _ _ _ (through (map line.Full t.view.fulls) _ _ _
-    (map_push line.Hung t.view.hungs x)))))))
+    rw (← append-nil (map line.Hung t.view.hungs), ← append-nil (map line.Hung (t.view.hungs ++ x ∷ [])))
+    (last_of (groups t.view) line.Hung t.view.hungs x)
 view_more t k h l = absurd cc
 
 -- a line that is taken is the last
 pub more_by : (s : Stage) (t : Transcript) (k : TranscriptLine) → takes (draft s t) k ≡ true
     → is_line k ≡ true → lines (with_line (draft s t) k) ≡ lines (draft s t) ++ k ∷ []
 more_by stage.History t (line.Driver x) h l =
-    let e = none t.entries h in
+    let e = (empty true t.entries h).0 in
     rw (e, map_push) (simp append_assoc)
 more_by stage.History t (line.Entry x) h l = rw map_push (simp (append-nil, append_assoc))
 more_by stage.History t line.Config h l =

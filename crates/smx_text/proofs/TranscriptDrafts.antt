@@ -40,14 +40,12 @@ new_draft version =
 -- drivers and entries are read
 abbrev pub is_history : Stage → Bool
 is_history stage.History = true
-is_history stage.Config = false
-is_history stage.View = false
+is_history s = false
 
 -- the line `config` was the last
 abbrev pub is_config : Stage → Bool
-is_config stage.History = false
 is_config stage.Config = true
-is_config stage.View = false
+is_config s = false
 
 -- ---- one line more
 

@@ -38,17 +38,11 @@ version_stays d k = refl
 
 one_grows : (d : TranscriptDraft) (k : TranscriptLine) → Grows d (with_line d k)
 one_grows d (line.Driver x) =
-    record {
-      version = refl;
-      drivers = omega (arith, length-append d.transcript.drivers (x ∷ []));
-      entries = omega arith;
-    }
+    let more = length-append d.transcript.drivers (x ∷ []) in
+    record { version = refl; drivers = omega (arith, more); entries = omega arith }
 one_grows d (line.Entry x) =
-    record {
-      version = refl;
-      drivers = omega arith;
-      entries = omega (arith, length-append d.transcript.entries (x ∷ []));
-    }
+    let more = length-append d.transcript.entries (x ∷ []) in
+    record { version = refl; drivers = omega arith; entries = omega (arith, more) }
 one_grows d k = record { version = refl; drivers = omega arith; entries = omega arith }
 
 -- while lines are taken, the version stays, and drivers and entries don't get fewer
@@ -101,14 +95,8 @@ split_end (x ∷ xs) (l ∷ ls) more k e =
     let same : x ≡ l = cc in
     let rest : xs ++ line.End ∷ [] ≡ ls ++ k ∷ more = cc in
     elim (split_end xs ls more k rest) [
-      | inl (is, all) ↦ inl (
-        is,
-        ap (λ (y : TranscriptLine). y ∷ ls) (sym same) ∙ ap (λ (ys : List TranscriptLine). x ∷ ys) all,
-      )
-      | inr (rest, all) ↦ inr (
-        rest,
-        ap (λ (y : TranscriptLine). y ∷ xs) same ∙ ap (λ (ys : List TranscriptLine). l ∷ ys) all,
-      )
+      | inl (is, all) ↦ inl (is, cc (same, all))
+      | inr (rest, all) ↦ inr (rest, cc (same, all))
     ]
 
 bind_some : {A B : Type 0} (f : A → Option B) (o : Option A) (x : A) (y : B) → o ≡ Some x → o >>= f ≡ Some y

@@ -1,13 +1,9 @@
 -- The lines of a transcript text can be told apart.
-use Rattle.std.proofs.Common.{◌≡◌, ◌≢◌, ℕ, ◌<◌, ◌≤◌, Bool, true, false, Result, Some, ◌++◌, ◌^◌, List}
-use Rattle.std.proofs.Common.{[], ◌∷◌, refl, sym, ap, subst, ◌∙◌, arith, rules}
-use Rattle.std.specs.Fmt.{decimal}
+use Rattle.std.proofs.Common.{◌≡◌, ◌≢◌, ℕ, Bool, true, false, Result, Some, ◌++◌, List}
+use Rattle.std.proofs.Common.{[], ◌∷◌, refl, sym, ap, ◌∙◌, arith, rules}
 use Rattle.std.specs.Prelude.{codes, OnOk, IfErr, if◌then◌else◌}
 use Rattle.std.specs.Str.{bytes_eq, all_ascii_digits}
-use Rattle.std.proofs.lemmas.Bool.{false_from_ne_true}
-use Rattle.std.proofs.lemmas.Bool.Decides.{nat_tests}
 use Rattle.std.proofs.lemmas.Fmt.{digits_decimal}
-use Rattle.std.proofs.lemmas.Slice.Eq.{bytes_eq-Decides}
 use Rattle.smx_types.specs.declared.command.Entry.{Entry}
 use Rattle.smx_types.specs.declared.driver.DriverSpec.{DriverSpec}
 use Rattle.smx_types.specs.declared.transcript.Transcript.{Transcript}
@@ -54,16 +50,16 @@ use Rattle.smx_words.proofs.LawLemmas.{one_route, one_message, one_full, one_hun
 
 -- ---- kinds of lines, by their first words
 
--- the kind of line with this first word, as a number: 0 for any other word, such as an entry has
+-- the kind of line with this first word, as a number: 0 for digits, which an entry has, and for any other word
 abbrev pub kind_at : List ℕ → ℕ
 kind_at w =
-    if bytes_eq w (codes "driver") then 1 else if bytes_eq w (codes "config") then 2 else if bytes_eq w
-    (codes "next") then 3
-    else if bytes_eq w (codes "fd") then 4 else if bytes_eq w (codes "link") then 5 else if bytes_eq w
-    (codes "bind") then 6
-    else if bytes_eq w (codes "route") then 7 else if bytes_eq w (codes "msg") then 8 else if bytes_eq w
-    (codes "full") then 9
-    else if bytes_eq w (codes "hung") then 10 else if bytes_eq w (codes "end") then 11 else 0
+    if all_ascii_digits w then 0
+    else if bytes_eq w (codes "driver") then 1 else if bytes_eq w (codes "config") then 2
+    else if bytes_eq w (codes "next") then 3 else if bytes_eq w (codes "fd") then 4
+    else if bytes_eq w (codes "link") then 5 else if bytes_eq w (codes "bind") then 6
+    else if bytes_eq w (codes "route") then 7 else if bytes_eq w (codes "msg") then 8
+    else if bytes_eq w (codes "full") then 9 else if bytes_eq w (codes "hung") then 10
+    else if bytes_eq w (codes "end") then 11 else 0
 
 -- the kind of a line, as a number
 abbrev pub kind_of : TranscriptLine → ℕ
@@ -80,36 +76,10 @@ kind_of (line.Full f) = 9
 kind_of (line.Hung h) = 10
 kind_of line.End = 11
 
--- digits are no word that begins with a letter
-no_digits : (w : List ℕ) (c : ℕ) (cs : List ℕ) → all_ascii_digits w ≡ true → 57 < c → bytes_eq w (c ∷ cs) ≡ false
-no_digits w c cs digits letter =
-    false_from_ne_true (bytes_eq w (c ∷ cs)) (λ is. differ ((bytes_eq-Decides w (c ∷ cs)).0 is)) where
-      differ : w ≡ c ∷ cs → ⊥
-      differ e = let all : all_ascii_digits (c ∷ cs) ≡ true =
-          subst (λ (xs : List ℕ). all_ascii_digits xs ≡ true) e digits in let low : c ≤ 57 =
-          grind (arith, nat_tests) in omega (arith, low, letter)
-
-number_kind : (n : ℕ) → n < 2 ^ 64 → kind_at (decimal n) ≡ 0
-number_kind n small =
-    let digits = digits_decimal own n small in
-    rw (
-      no_digits (decimal n) 100 _ digits (omega arith),
-      no_digits (decimal n) 99 _ digits (omega arith),
-      no_digits (decimal n) 110 _ digits (omega arith),
-      no_digits (decimal n) 102 _ digits (omega arith),
-      no_digits (decimal n) 108 _ digits (omega arith),
-      no_digits (decimal n) 98 _ digits (omega arith),
-      no_digits (decimal n) 114 _ digits (omega arith),
-      no_digits (decimal n) 109 _ digits (omega arith),
-      no_digits (decimal n) 102 _ digits (omega arith),
-      no_digits (decimal n) 104 _ digits (omega arith),
-      no_digits (decimal n) 101 _ digits (omega arith),
-    ) refl
-
 -- the first word of a line that can be told tells of which kind it is
 pub kind_first : (version : Version) (k : TranscriptLine) → FitsLine version k
     → kind_at (first_word (line_words k)) ≡ kind_of k
-kind_first version (line.Entry e) fits = number_kind e.process (omega (arith, fits.0.process))
+kind_first version (line.Entry e) fits = rw (digits_decimal own e.process (omega (arith, fits.0.process))) refl
 kind_first version k fits = refl
 
 -- ---- lines

@@ -1,6 +1,6 @@
 -- What a reader does with a line behind those of a transcript that is being read.
 use Rattle.std.proofs.Common.{◌≡◌, ◌≢◌, Bool, true, false, List, [], ◌∷◌, ◌++◌, map, Option, Some, None}
-use Rattle.std.proofs.Common.{refl, sym, ap, subst, ◌∙◌, arith}
+use Rattle.std.proofs.Common.{refl, sym, ap, subst, ◌∙◌, arith, rules}
 use Rattle.std.specs.Prelude.{Result, Ok, Err, OnOk, IfErr, if◌then◌else◌}
 use Rattle.std.specs.List.{AllByRecursion}
 use Rattle.smx_types.specs.declared.transcript.Transcript.{Transcript}
@@ -21,7 +21,7 @@ use Rattle.smx_text.proofs.EachLemmas.{all_left}
 use Rattle.smx_text.proofs.TranscriptDrafts.{◌>>=◌, new_view, new_draft, takes, is_full, with_line, with_view}
 use Rattle.smx_text.proofs.TranscriptDraftLemmas.{draft, not_end, lines_more, run, run_append, run_lines}
 use Rattle.smx_text.proofs.TranscriptDraftLemmas.{run_drivers, run_entries, run_body}
-use Rattle.smx_text.proofs.TranscriptWholeLemmas.{completes, still, IsWithin, fits_body, allowed, nothing_fits}
+use Rattle.smx_text.proofs.TranscriptWholeLemmas.{completes, still, IsWithin, fits_body, allowed}
 use Rattle.smx_text.proofs.TranscriptFollowLemmas.{run_grows, within_before, of_version, rest_leads, may_takes}
 use Rattle.smx_text.proofs.TranscriptFollowLemmas.{full_stops, next_of, takes_may, next_allowed}
 
@@ -49,22 +49,17 @@ led d = led_by d.stage d.transcript
 takes_clean_by : (s : Stage) (t : Transcript) (k : TranscriptLine) → takes (clean_by s t) k ≡ takes (draft s t) k
 takes_clean_by stage.History t line.End = refl
 takes_clean_by stage.Config t line.End = refl
-takes_clean_by stage.View t k = refl
 takes_clean_by s t k = refl
 
 full_clean_by : (s : Stage) (t : Transcript) (k : TranscriptLine) → is_full (draft s t) k ≡ true
     → is_full (clean_by s t) k ≡ true
-full_clean_by stage.History t (line.Driver x) h = h
-full_clean_by stage.History t (line.Entry x) h = h
-full_clean_by stage.Config t (line.Driver x) h = h
-full_clean_by stage.Config t (line.Entry x) h = h
-full_clean_by stage.View t k h = h
-full_clean_by s t k h = absurd cc
+full_clean_by stage.History t line.End h = h
+full_clean_by stage.Config t line.End h = h
+full_clean_by s t k h = h
 
 within_clean_by : (s : Stage) (t : Transcript) → IsWithin (clean_by s t) → IsWithin (draft s t)
-within_clean_by stage.History t h = record { drivers = h.drivers; entries = h.entries }
-within_clean_by stage.Config t h = record { drivers = h.drivers; entries = h.entries }
 within_clean_by stage.View t h = h
+within_clean_by s t h = record { drivers = h.drivers; entries = h.entries }
 
 -- ---- what holds of lines that some allowed transcript begins with
 
@@ -130,18 +125,12 @@ pub adds : (d e : TranscriptDraft) (k : TranscriptLine) → IsBegun (grammar_of 
     → lines e ≡ lines (with_line d k) → AddsLine (grammar_of d) (lines d) k (lines e)
 adds d e k begun may room fits other same =
     let more = lines_more d k may (not_end k other) in
-    let next = next_allowed d k may room (draft_within d begun) (fits_of d.transcript.version (lines d) begun) fits in (
-      same ∙ more,
-      (
-        next_of d k,
-        still (with_line d k).stage,
-        next,
-        completes (with_line d k)
-            ∙ ap (λ (ls : List TranscriptLine). ls ++ still (with_line d k).stage) (sym same),
-      ),
-    )
+    let next = next_allowed d k may room (draft_within d begun) (fits_of d.transcript.version (lines d) begun) fits in
+    let rest = still (with_line d k).stage in
+    let all = completes (with_line d k) ∙ ap (λ (ls : List TranscriptLine). ls ++ rest) (sym same) in
+    (same ∙ more, (next_of d k, rest, next, all))
 
--- its lines and this one begin some transcript
+-- so its lines and this one begin some transcript
 pub longer_begun : (d : TranscriptDraft) (k : TranscriptLine) → IsBegun (grammar_of d) (lines d)
     → takes d k ≡ true → is_full d k ≡ false → FitsLine d.transcript.version k → k ≢ line.End
     → IsBegun (grammar_of d) (lines d ++ k ∷ [])
@@ -169,14 +158,8 @@ is_group (line.Driver x) = false
 is_group (line.Entry x) = false
 is_group line.Config = false
 is_group (line.Next id serial) = false
-is_group (line.Fd x) = true
-is_group (line.Link x) = true
-is_group (line.Bind x) = true
-is_group (line.Route x) = true
-is_group (line.Msg x) = true
-is_group (line.Full x) = true
-is_group (line.Hung x) = true
 is_group line.End = false
+is_group k = true
 
 in_view_by : (s : Stage) (t : Transcript) (k : TranscriptLine) → is_group k ≡ true
     → takes (draft s t) k ≡ true → s ≡ stage.View
@@ -217,12 +200,6 @@ pub nothing_begun : (version : Version) → IsBegun (transcript_grammar version)
 nothing_begun version = (
   record { version = version; drivers = []; entries = []; view = new_view 0 0 },
   line.Config ∷ line.Next 0 0 ∷ [],
-  record {
-    version_is = refl;
-    drivers = omega arith;
-    entries = omega arith;
-    spellable = record { drivers = tt; entries = tt; view = nothing_fits };
-    told = λ first. refl;
-  },
+  search (rules, arith),
   refl,
 )

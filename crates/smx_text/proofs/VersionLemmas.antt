@@ -98,11 +98,7 @@ module _ {V K : Type 0} (g : Version → Grammar V K) (are : AreVersions g) wher
 
     by_cause : (c : Cause) → f.cause ≡ c → f.cause ≡ cause.NoMemory
     by_cause cause.NoMemory is = is
-    by_cause cause.Header is = other cause.Header is (λ e. cc)
-    by_cause cause.Form is = other cause.Form is (λ e. cc)
-    by_cause cause.Many is = other cause.Many is (λ e. cc)
-    by_cause cause.Cut is = other cause.Cut is (λ e. cc)
-    by_cause cause.Trailing is = other cause.Trailing is (λ e. cc)
+    by_cause c is = other c is (λ e. cc)
 
   -- want of memory is told before the line at which any other reading ends
   pub comes_before_all : (version : Version) (bytes : List ℕ) (n : ℕ) (r : Result V TextFault)
@@ -134,11 +130,7 @@ module _ {V K : Type 0} (g : Version → Grammar V K) (are : AreVersions g) wher
     by_second_cause : (n : ℕ) → IsFault (g V1) bytes n cause.Header → (m : ℕ) (c : Cause)
         → IsFault (g V2) bytes m c → c ≢ cause.NoMemory → HasAnyReading g bytes
     by_second_cause n first m cause.Header fault ample = in_neither n m first fault
-    by_second_cause n first m cause.Form fault ample = stops V2 m cause.Form fault ample (λ e. cc)
-    by_second_cause n first m cause.Many fault ample = stops V2 m cause.Many fault ample (λ e. cc)
-    by_second_cause n first m cause.Cut fault ample = stops V2 m cause.Cut fault ample (λ e. cc)
-    by_second_cause n first m cause.Trailing fault ample = stops V2 m cause.Trailing fault ample (λ e. cc)
-    by_second_cause n first m cause.NoMemory fault ample = absurd (ample refl)
+    by_second_cause n first m c fault ample = stops V2 m c fault ample (λ e. cc)
 
     by_second : (n : ℕ) → IsFault (g V1) bytes n cause.Header → (r : Result V TextFault) → Reads (g V2) bytes r
         → IfErr r (λ f. f.cause ≢ cause.NoMemory) → HasAnyReading g bytes
@@ -147,11 +139,7 @@ module _ {V K : Type 0} (g : Version → Grammar V K) (are : AreVersions g) wher
 
     by_first_cause : (n : ℕ) (c : Cause) → IsFault (g V1) bytes n c → c ≢ cause.NoMemory → HasAnyReading g bytes
     by_first_cause n cause.Header fault ample = by_second n fault (each V2).0 (each V2).1 (each V2).2
-    by_first_cause n cause.Form fault ample = stops V1 n cause.Form fault ample (λ e. cc)
-    by_first_cause n cause.Many fault ample = stops V1 n cause.Many fault ample (λ e. cc)
-    by_first_cause n cause.Cut fault ample = stops V1 n cause.Cut fault ample (λ e. cc)
-    by_first_cause n cause.Trailing fault ample = stops V1 n cause.Trailing fault ample (λ e. cc)
-    by_first_cause n cause.NoMemory fault ample = absurd (ample refl)
+    by_first_cause n c fault ample = stops V1 n c fault ample (λ e. cc)
 
     by_first : (r : Result V TextFault) → Reads (g V1) bytes r → IfErr r (λ f. f.cause ≢ cause.NoMemory)
         → HasAnyReading g bytes

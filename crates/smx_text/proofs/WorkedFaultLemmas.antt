@@ -1,5 +1,5 @@
 -- Lines that are none of those that may stand at their place, worked out.
-use Rattle.std.proofs.Common.{◌≡◌, ◌≢◌, ℕ, ◌<◌, List, length, Result, Ok}
+use Rattle.std.proofs.Common.{◌≡◌, ◌≢◌, ℕ, ◌<◌, Bool, true, false, List, length, Result, Ok}
 use Rattle.std.proofs.Common.{Err, arith}
 use Rattle.std.specs.List.{AllByRecursion}
 use Rattle.smx_types.specs.declared.version.Version.{Version}
@@ -17,46 +17,59 @@ use Rattle.smx_text.proofs.ReadingLemmas.{any_fault, any_of_each}
 use Rattle.smx_text.proofs.TranscriptGrammarLemmas.{versions as transcript_versions}
 use Rattle.smx_text.proofs.VersionLemmas.{AreVersions, one_reading_of_all}
 
--- what goes wrong is the text of no value in any version
-spells_none : {V K : Type 0} (g : Version → Grammar V K) → AreVersions g → (bytes : List ℕ) (f : TextFault)
-    → f.cause ≢ cause.NoMemory → ReadsAny g bytes (Err f) → (version : Version) (v : V)
-    → Spells (g version) bytes v → ⊥
-spells_none {V} g are bytes f other fault version v spells =
-    differ (one_reading_of_all g are bytes (Ok v) (Err f) (version, spells, tt) fault tt other) where
-      differ : ◌≡◌ {A = Result V TextFault} (Ok v) (Err f) → ⊥
-      differ e = absurd (cc e)
+-- it is at fault behind the header
+abbrev is_behind : Cause → Bool
+is_behind cause.NoMemory = false
+is_behind cause.Header = false
+is_behind why = true
 
--- programs that go wrong behind the header of a version, and some that go wrong in each
-pub wrong_programs : (version : Version) (bytes : List ℕ) (line : ℕ) (why : Cause) → why ≢ cause.NoMemory
-    → why ≢ cause.Header → IsFault (programs_grammar version) bytes line why → AreWrongPrograms bytes line why
-wrong_programs version bytes line why other behind fault =
-    let f : TextFault = record { line = line; cause = why } in
-    let reads = any_fault programs_grammar bytes version f fault behind in
-    (reads, λ v. spells_none programs_grammar versions bytes f other reads v.version v)
+not_header : (why : Cause) → is_behind why ≡ true → (why ≢ cause.NoMemory) × (why ≢ cause.Header)
+not_header cause.NoMemory h = absurd cc
+not_header cause.Header h = absurd cc
+not_header why h = ((λ e. cc), (λ e. cc))
 
--- bytes that go wrong in each version, at one line for one cause, spell no programs
-pub wrong_in_each : (bytes : List ℕ) (line : ℕ) (why : Cause) → why ≢ cause.NoMemory
-    → ((version : Version) → IsFault (programs_grammar version) bytes line why) → AreWrongPrograms bytes line why
-wrong_in_each bytes line why other each =
-    let f : TextFault = record { line = line; cause = why } in
-    let reads = any_of_each programs_grammar bytes f each in
-    (reads, λ v. spells_none programs_grammar versions bytes f other reads v.version v)
+module _ {V K : Type 0} (g : Version → Grammar V K) (are : AreVersions g) (of : V → Version)
+    (bytes : List ℕ) (f : TextFault) where
+  abbrev AreWrong : Type 0
+  AreWrong = ReadsAny g bytes (Err f) × ((v : V) → Spells (g (of v)) bytes v → ⊥)
 
--- the same of transcripts
-pub wrong_transcript : (version : Version) (bytes : List ℕ) (line : ℕ) (why : Cause) → why ≢ cause.NoMemory
-    → why ≢ cause.Header → IsFault (transcript_grammar version) bytes line why → IsWrongTranscript bytes line why
-wrong_transcript version bytes line why other behind fault =
-    let f : TextFault = record { line = line; cause = why } in
-    let reads = any_fault transcript_grammar bytes version f fault behind in
-    (reads, λ t. spells_none transcript_grammar transcript_versions bytes f other reads t.version t)
+  -- what goes wrong is the text of no value in any version
+  wrong : f.cause ≢ cause.NoMemory → ReadsAny g bytes (Err f) → AreWrong
+  wrong other reads = (
+    reads,
+    λ v spells.
+        differ (one_reading_of_all g are bytes (Ok v) (Err f) (of v, spells, tt) reads tt other),
+  ) where
+    differ : {v : V} → ◌≡◌ {A = Result V TextFault} (Ok v) (Err f) → ⊥
+    differ e = absurd (cc e)
 
--- bytes that go wrong in each version, at one line for one cause, spell no transcript
-pub wrong_transcript_in_each : (bytes : List ℕ) (line : ℕ) (why : Cause) → why ≢ cause.NoMemory
-    → ((version : Version) → IsFault (transcript_grammar version) bytes line why) → IsWrongTranscript bytes line why
-wrong_transcript_in_each bytes line why other each =
-    let f : TextFault = record { line = line; cause = why } in
-    let reads = any_of_each transcript_grammar bytes f each in
-    (reads, λ t. spells_none transcript_grammar transcript_versions bytes f other reads t.version t)
+  wrong_behind : (version : Version) → is_behind f.cause ≡ true → IsFault (g version) bytes f.line f.cause → AreWrong
+  wrong_behind version h fault = let not = not_header f.cause h in
+      wrong not.0 (any_fault g bytes version f fault not.1)
+
+-- programs that go wrong behind the header of a version
+pub wrong_programs : (version : Version) {bytes : List ℕ} {line : ℕ} {why : Cause} → is_behind why ≡ true
+    → IsFault (programs_grammar version) bytes line why → AreWrongPrograms bytes line why
+wrong_programs version h fault = wrong_behind programs_grammar versions (λ v. v.version) _ _ version h fault
+
+-- bytes that go wrong in each version at their header spell no programs
+pub wrong_in_each : {bytes : List ℕ} {line : ℕ} → ((version : Version)
+    → IsFault (programs_grammar version) bytes line cause.Header) → AreWrongPrograms bytes line cause.Header
+wrong_in_each each =
+    wrong programs_grammar versions (λ v. v.version) _ _ (λ e. cc) (any_of_each programs_grammar _ _ each)
+
+-- transcripts that go wrong behind the header of a version
+pub wrong_transcript : (version : Version) {bytes : List ℕ} {line : ℕ} {why : Cause} → is_behind why ≡ true
+    → IsFault (transcript_grammar version) bytes line why → IsWrongTranscript bytes line why
+wrong_transcript version h fault =
+    wrong_behind transcript_grammar transcript_versions (λ t. t.version) _ _ version h fault
+
+-- bytes that go wrong in each version at their header spell no transcript
+pub wrong_transcript_in_each : {bytes : List ℕ} {line : ℕ} → ((version : Version)
+    → IsFault (transcript_grammar version) bytes line cause.Header) → IsWrongTranscript bytes line cause.Header
+wrong_transcript_in_each each =
+    wrong transcript_grammar transcript_versions (λ t. t.version) _ _ (λ e. cc)
+    (any_of_each transcript_grammar _ _ each)
 
 -- words with no space in them are those of a line that is the same
 pub told : (ws vs : List (List ℕ)) → AllByRecursion (IsFree SPACE) ws × (0 < length ws) → AreWords vs

@@ -89,18 +89,10 @@ written_allowed v within drivers programs = record {
 
 -- ---- the groups of a view
 
-eight_groups : (x : List (List ℕ)) (a b c d e f g : List (List (List ℕ)))
-    → text_of (x ∷ (a ++ (b ++ (c ++ (d ++ (e ++ (f ++ g)))))))
-    ≡ text_of (x ∷ []) ++ text_of a ++ text_of b ++ text_of c ++ text_of d ++ text_of e ++ text_of f ++ text_of g
-eight_groups x a b c d e f g =
-    texts_append (x ∷ []) (a ++ (b ++ (c ++ (d ++ (e ++ (f ++ g)))))) ∙ rw (
-      texts_append a (b ++ (c ++ (d ++ (e ++ (f ++ g))))),
-      texts_append b (c ++ (d ++ (e ++ (f ++ g)))),
-      texts_append c (d ++ (e ++ (f ++ g))),
-      texts_append d (e ++ (f ++ g)),
-      texts_append e (f ++ g),
-      texts_append f g,
-    ) (simp append_assoc)
+eight_groups : (start : List ℕ) (x : List (List ℕ)) (a b c d e f g : List (List (List ℕ)))
+    → start ++ text_of (x ∷ []) ++ text_of a ++ text_of b ++ text_of c ++ text_of d ++ text_of e ++ text_of f
+    ++ text_of g ≡ start ++ text_of (x ∷ (a ++ (b ++ (c ++ (d ++ (e ++ (f ++ g)))))))
+eight_groups start x a b c d e f g = simp (texts_append, append_assoc)
 
 -- the lines of a view, by the groups of its values
 abbrev view_lines : ConfigView → List (List (List ℕ))
@@ -124,17 +116,7 @@ pub view_written : (v : ConfigView) (start next fds links binds routes msgs full
     → hungs ≡ fulls ++ text_of (map hung_words v.hungs)
     → hungs ≡ start ++ text_of (map transcript_words (view_body v))
 view_written v start next fds links binds routes msgs fulls hungs a b c d e f g h =
-    h ∙ rw (g, f, e, d, c, b, a) (regroup start (text_of (next_words (v.next_id, v.next_serial) ∷ [])) _ _ _ _ _
-    _ _) ∙ ap (λ (more : List ℕ). start ++ more) (sym (ap text_of (view_is v) ∙ groups)) where
-      groups : text_of (view_lines v) ≡ text_of (next_words (v.next_id, v.next_serial) ∷ [])
-          ++ text_of (map descriptor_words v.fds) ++ text_of (map link_words v.links)
-          ++ text_of (map bind_words v.binds)
-          ++ text_of (map route_words v.routes) ++ text_of (map message_words v.msgs)
-          ++ text_of (map full_words v.fulls) ++ text_of (map hung_words v.hungs)
-      groups = eight_groups (next_words (v.next_id, v.next_serial)) (map descriptor_words v.fds)
-          (map link_words v.links) (map bind_words v.binds) (map route_words v.routes)
-          (map message_words v.msgs) (map full_words v.fulls) (map hung_words v.hungs)
-
-      regroup : (s n a b c d e f g : List ℕ) → (s ++ n) ++ a ++ b ++ c ++ d ++ e ++ f ++ g
-          ≡ s ++ (n ++ a ++ b ++ c ++ d ++ e ++ f ++ g)
-      regroup s n a b c d e f g = simp append_assoc
+    rw (h, g, f, e, d, c, b, a) (eight_groups start (next_words (v.next_id, v.next_serial))
+    (map descriptor_words v.fds) (map link_words v.links) (map bind_words v.binds) (map route_words v.routes)
+    (map message_words v.msgs) (map full_words v.fulls) (map hung_words v.hungs)
+    ∙ ap (λ (ws : List (List (List ℕ))). start ++ text_of ws) (sym (view_is v)))

@@ -55,13 +55,7 @@ reaches text one =
 -- text that spells no line which may stand behind them makes line 4 go wrong for its form
 pub wrong_at_4 : (text : List ℕ) → IsOneLine text → IsNoLine (programs_grammar V1) (body before) text
     → AreWrongPrograms (with_line_4 text) 4 cause.Form
-wrong_at_4 text one none =
-    wrong_programs V1 (with_line_4 text) 4 cause.Form (λ e. cc) (λ e. cc) (
-      body before,
-      text,
-      reaches text one,
-      none,
-    )
+wrong_at_4 text one none = wrong_programs V1 refl (body before, text, reaches text one, none)
 
 -- words that are no command's, no driver's and no process'
 no_words : (ws : List (List ℕ)) → AllByRecursion (IsFree SPACE) ws × (0 < length ws)
@@ -98,11 +92,8 @@ signed n fits e = let all : false ≡ true = ap all_ascii_digits e ∙ decimal_d
 too_large : (n : ℕ) → FitsNumber n → codes "4294967296" ≢ decimal n
 too_large n fits e = let is : 4294967296 ≡ n = worth (codes "4294967296") n fits e in omega (arith, is, fits)
 
-no_digit_first : (d : List ℕ) → FitsName d → codes "9a" ≢ d
-no_digit_first d fits e = let is : false ≡ true = ap is_name e ∙ fits in absurd (cc is)
-
-no_nine_letters : (d : List ℕ) → FitsName d → codes "ninelette" ≢ d
-no_nine_letters d fits e = let is : false ≡ true = ap is_name e ∙ fits in absurd (cc is)
+no_name : (w d : List ℕ) → is_name w ≡ false → FitsName d → w ≢ d
+no_name w d none fits e = let is : false ≡ true = sym none ∙ ap is_name e ∙ fits in absurd (cc is)
 
 no_capitals : (x : Which) → FitsWhich x → codes "ALL" ≢ which_word x
 no_capitals (which.Id n) fits e =
@@ -141,105 +132,78 @@ no_other : (v : Verb) → (bytes_eq (verb_word v) (codes "driver") ≡ false)
 no_other verb.Clone = (refl, refl)
 no_other v = (refl, refl)
 
-wrong_verb : (v : Verb) (ws : List (List ℕ)) → AllByRecursion (IsFree SPACE) (verb_word v ∷ ws)
-    → IsOneLine (line_of (verb_word v ∷ ws)) → bytes_eq (line_of (verb_word v ∷ ws)) (codes "end") ≡ false
+-- words that are none of this verb, as the words of line 4, make it go wrong for its form
+pub wrong_verb : (v : Verb) (ws : List (List ℕ)) → AllByRecursion (IsFree SPACE) (verb_word v ∷ ws)
+    × IsOneLine (line_of (verb_word v ∷ ws)) × (bytes_eq (line_of (verb_word v ∷ ws)) (codes "end") ≡ false)
     → IsNone v ws → AreWrongPrograms (with_line_4 (line_of (verb_word v ∷ ws))) 4 cause.Form
-wrong_verb v ws free one end none =
+wrong_verb v ws (free, one, end) none =
     wrong_words (verb_word v ∷ ws) (free, omega arith) one (λ c fits e. none c fits (verb_is c v ws e) e)
     (no_other v).0 (no_other v).1 end
 
 -- zero is one digit, not two
-pub two_zeros : AreWrongPrograms (with_line_4 (codes "dup 00")) 4 cause.Form
-two_zeros = wrong_verb verb.Dup (codes "00" ∷ []) (search rules) (search rules) refl none where
-  none : IsNone verb.Dup (codes "00" ∷ [])
-  none (command.Dup n) fits v e = zeros n fits (cc e)
-  none c fits v e = absurd (cc v)
+pub two_zeros : IsNone verb.Dup (codes "00" ∷ [])
+two_zeros (command.Dup n) fits v e = zeros n fits (cc e)
+two_zeros c fits v e = absurd (cc v)
 
 -- a number has no sign
-pub a_sign : AreWrongPrograms (with_line_4 (codes "dup +1")) 4 cause.Form
-a_sign = wrong_verb verb.Dup (codes "+1" ∷ []) (search rules) (search rules) refl none where
-  none : IsNone verb.Dup (codes "+1" ∷ [])
-  none (command.Dup n) fits v e = signed n fits (cc e)
-  none c fits v e = absurd (cc v)
+pub a_sign : IsNone verb.Dup (codes "+1" ∷ [])
+a_sign (command.Dup n) fits v e = signed n fits (cc e)
+a_sign c fits v e = absurd (cc v)
 
 -- one space stands between two words, not two
-pub two_spaces : AreWrongPrograms (with_line_4 (codes "close  0")) 4 cause.Form
-two_spaces = wrong_verb verb.Close ([] ∷ codes "0" ∷ []) (search rules) (search rules) refl none where
-  none : IsNone verb.Close ([] ∷ codes "0" ∷ [])
-  none (command.Close n) fits v e = omega (arith, ap (length {A = List ℕ}) e)
-  none c fits v e = absurd (cc v)
+pub two_spaces : IsNone verb.Close ([] ∷ codes "0" ∷ [])
+two_spaces (command.Close n) fits v e = omega (arith, ap (length {A = List ℕ}) e)
+two_spaces c fits v e = absurd (cc v)
 
 -- no space stands behind the last word
-pub a_last_space : AreWrongPrograms (with_line_4 (codes "close 0 ")) 4 cause.Form
-a_last_space = wrong_verb verb.Close (codes "0" ∷ [] ∷ []) (search rules) (search rules) refl none where
-  none : IsNone verb.Close (codes "0" ∷ [] ∷ [])
-  none (command.Close n) fits v e = omega (arith, ap (length {A = List ℕ}) e)
-  none c fits v e = absurd (cc v)
+pub a_last_space : IsNone verb.Close (codes "0" ∷ [] ∷ [])
+a_last_space (command.Close n) fits v e = omega (arith, ap (length {A = List ℕ}) e)
+a_last_space c fits v e = absurd (cc v)
 
 -- a number has at most 32 bits
-pub large_number : AreWrongPrograms (with_line_4 (codes "open ip 4294967296")) 4 cause.Form
-large_number = wrong_verb verb.Open (codes "ip" ∷ codes "4294967296" ∷ []) (search rules) (search rules) refl none where
-  none : IsNone verb.Open (codes "ip" ∷ codes "4294967296" ∷ [])
-  none (command.OpenMinor d n) fits v e = too_large n fits.1 (cc e)
-  none c fits v e = absurd (cc v)
+pub large_number : IsNone verb.Open (codes "ip" ∷ codes "4294967296" ∷ [])
+large_number (command.OpenMinor d n) fits v e = too_large n fits.1 (cc e)
+large_number c fits v e = absurd (cc v)
 
 -- a driver's name begins with no digit
-pub digit_first : AreWrongPrograms (with_line_4 (codes "open 9a 0")) 4 cause.Form
-digit_first = wrong_verb verb.Open (codes "9a" ∷ codes "0" ∷ []) (search rules) (search rules) refl none where
-  none : IsNone verb.Open (codes "9a" ∷ codes "0" ∷ [])
-  none (command.OpenMinor d n) fits v e = no_digit_first d fits.0 (cc e)
-  none c fits v e = absurd (cc v)
+pub digit_first : IsNone verb.Open (codes "9a" ∷ codes "0" ∷ [])
+digit_first (command.OpenMinor d n) fits v e = no_name (codes "9a") d refl fits.0 (cc e)
+digit_first c fits v e = absurd (cc v)
 
 -- a driver's name has at most eight bytes
-pub nine_letters : AreWrongPrograms (with_line_4 (codes "clone ninelette")) 4 cause.Form
-nine_letters = wrong_verb verb.Clone (codes "ninelette" ∷ []) (search rules) (search rules) refl none where
-  none : IsNone verb.Clone (codes "ninelette" ∷ [])
-  none (command.OpenClone d) fits v e = no_nine_letters d fits (cc e)
-  none c fits v e = absurd (cc v)
+pub nine_letters : IsNone verb.Clone (codes "ninelette" ∷ [])
+nine_letters (command.OpenClone d) fits v e = no_name (codes "ninelette") d refl fits (cc e)
+nine_letters c fits v e = absurd (cc v)
 
 -- `link` has two descriptors, not one
-pub word_wanting : AreWrongPrograms (with_line_4 (codes "link 0")) 4 cause.Form
-word_wanting = wrong_verb verb.Link (codes "0" ∷ []) (search rules) (search rules) refl none where
-  none : IsNone verb.Link (codes "0" ∷ [])
-  none (command.Link n m) fits v e = omega (arith, ap (length {A = List ℕ}) e)
-  none c fits v e = absurd (cc v)
+pub word_wanting : IsNone verb.Link (codes "0" ∷ [])
+word_wanting (command.Link n m) fits v e = omega (arith, ap (length {A = List ℕ}) e)
+word_wanting c fits v e = absurd (cc v)
 
 -- the word for all links is in small letters
-pub capitals : AreWrongPrograms (with_line_4 (codes "unlink 0 ALL")) 4 cause.Form
-capitals = wrong_verb verb.Unlink (codes "0" ∷ codes "ALL" ∷ []) (search rules) (search rules) refl none where
-  none : IsNone verb.Unlink (codes "0" ∷ codes "ALL" ∷ [])
-  none (command.Unlink n x) fits v e = no_capitals x fits.1 (cc e)
-  none c fits v e = absurd (cc v)
+pub capitals : IsNone verb.Unlink (codes "0" ∷ codes "ALL" ∷ [])
+capitals (command.Unlink n x) fits v e = no_capitals x fits.1 (cc e)
+capitals c fits v e = absurd (cc v)
 
 -- both sides of a flush are `rw`, not `wr`
-pub sides_turned : AreWrongPrograms (with_line_4 (codes "flush 0 wr")) 4 cause.Form
-sides_turned = wrong_verb verb.Flush (codes "0" ∷ codes "wr" ∷ []) (search rules) (search rules) refl none where
-  none : IsNone verb.Flush (codes "0" ∷ codes "wr" ∷ [])
-  none (command.Flush n s) fits v e = turned s (cc e)
-  none c fits v e = absurd (cc v)
+pub sides_turned : IsNone verb.Flush (codes "0" ∷ codes "wr" ∷ [])
+sides_turned (command.Flush n s) fits v e = turned s (cc e)
+sides_turned c fits v e = absurd (cc v)
 
 -- the digits of bytes are small letters
-pub capital_digits : AreWrongPrograms (with_line_4 (codes "write 0 5 AA")) 4 cause.Form
-capital_digits =
-    wrong_verb verb.Write (codes "0" ∷ codes "5" ∷ codes "AA" ∷ []) (search rules) (search rules) refl none where
-      none : IsNone verb.Write (codes "0" ∷ codes "5" ∷ codes "AA" ∷ [])
-      none (command.Write n m bs) fits v e = no_capital_digits bs fits.2 (cc e)
-      none c fits v e = absurd (cc v)
+pub capital_digits : IsNone verb.Write (codes "0" ∷ codes "5" ∷ codes "AA" ∷ [])
+capital_digits (command.Write n m bs) fits v e = no_capital_digits bs fits.2 (cc e)
+capital_digits c fits v e = absurd (cc v)
 
 -- each byte has two digits
-pub odd_digits : AreWrongPrograms (with_line_4 (codes "write 0 5 aab")) 4 cause.Form
-odd_digits =
-    wrong_verb verb.Write (codes "0" ∷ codes "5" ∷ codes "aab" ∷ []) (search rules) (search rules) refl none where
-      none : IsNone verb.Write (codes "0" ∷ codes "5" ∷ codes "aab" ∷ [])
-      none (command.Write n m bs) fits v e = no_odd_digits bs fits.2 (cc e)
-      none c fits v e = absurd (cc v)
+pub odd_digits : IsNone verb.Write (codes "0" ∷ codes "5" ∷ codes "aab" ∷ [])
+odd_digits (command.Write n m bs) fits v e = no_odd_digits bs fits.2 (cc e)
+odd_digits c fits v e = absurd (cc v)
 
 -- `write` has a word for its bytes even where there are none
-pub bytes_wanting : AreWrongPrograms (with_line_4 (codes "write 0 5")) 4 cause.Form
-bytes_wanting = wrong_verb verb.Write (codes "0" ∷ codes "5" ∷ []) (search rules) (search rules) refl none where
-  none : IsNone verb.Write (codes "0" ∷ codes "5" ∷ [])
-  none (command.Write n m bs) fits v e = omega (arith, ap (length {A = List ℕ}) e)
-  none c fits v e = absurd (cc v)
+pub bytes_wanting : IsNone verb.Write (codes "0" ∷ codes "5" ∷ [])
+bytes_wanting (command.Write n m bs) fits v e = omega (arith, ap (length {A = List ℕ}) e)
+bytes_wanting c fits v e = absurd (cc v)
 
 -- an empty line is no command
 pub no_word : AreWrongPrograms (with_line_4 []) 4 cause.Form

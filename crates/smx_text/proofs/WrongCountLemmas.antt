@@ -39,11 +39,12 @@ use Rattle.smx_text.proofs.WorkedFaultLemmas.{wrong_programs, wrong_transcript}
 -- ---- the same line again and again
 
 -- this many of one
-abbrev repeated : {X : Type 0} → X → ℕ → List X
+abbrev pub repeated : {X : Type 0} → X → ℕ → List X
 repeated x zero = []
 repeated x (suc n) = repeated x n ++ x ∷ []
 
-many : {X : Type 0} (x : X) (n : ℕ) → length (repeated x n) ≡ n
+-- so many they are
+pub many : {X : Type 0} (x : X) (n : ℕ) → length (repeated x n) ≡ n
 many x zero = refl
 many x (suc n) = omega (arith, length-append (repeated x n) (x ∷ []), many x n)
 
@@ -138,15 +139,11 @@ too_many_drivers version n most =
 
 -- a 65th driver is one too many of programs in version 1
 pub driver_65 : AreWrongPrograms (with_drivers (codes "programs 1\n") 65) 66 cause.Many
-driver_65 =
-    wrong_programs V1 (with_drivers (codes "programs 1\n") 65) 66 cause.Many (λ e. cc) (λ e. cc)
-    (too_many_drivers V1 64 refl)
+driver_65 = wrong_programs V1 refl (too_many_drivers V1 64 refl)
 
 -- a 129th driver is one too many of programs in version 2
 pub driver_129 : AreWrongPrograms (with_drivers (codes "programs 2\n") 129) 130 cause.Many
-driver_129 =
-    wrong_programs V2 (with_drivers (codes "programs 2\n") 129) 130 cause.Many (λ e. cc) (λ e. cc)
-    (too_many_drivers V2 128 refl)
+driver_129 = wrong_programs V2 refl (too_many_drivers V2 128 refl)
 
 -- ---- in transcripts
 
@@ -203,12 +200,8 @@ too_many_of_transcript version n most as_many =
 
 -- a 65th driver is one too many of a transcript in version 1
 pub driver_65_of_a_transcript : IsWrongTranscript (with_drivers (codes "transcript 1\n") 65) 66 cause.Many
-driver_65_of_a_transcript =
-    wrong_transcript V1 (with_drivers (codes "transcript 1\n") 65) 66 cause.Many (λ e. cc) (λ e. cc)
-    (too_many_of_transcript V1 64 refl refl)
+driver_65_of_a_transcript = wrong_transcript V1 refl (too_many_of_transcript V1 64 refl refl)
 
 -- a 129th driver is one too many of a transcript in version 2
 pub driver_129_of_a_transcript : IsWrongTranscript (with_drivers (codes "transcript 2\n") 129) 130 cause.Many
-driver_129_of_a_transcript =
-    wrong_transcript V2 (with_drivers (codes "transcript 2\n") 129) 130 cause.Many (λ e. cc) (λ e. cc)
-    (too_many_of_transcript V2 128 refl refl)
+driver_129_of_a_transcript = wrong_transcript V2 refl (too_many_of_transcript V2 128 refl refl)

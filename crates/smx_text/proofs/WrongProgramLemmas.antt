@@ -17,7 +17,7 @@ use Rattle.smx_text.specs.declared.text_fault.Cause.TheVariants as cause
 use Rattle.smx_text.specs.Grammar.{IsBegun, beginning, header}
 use Rattle.smx_text.specs.ProgramLines.{Line}
 use Rattle.smx_text.specs.ProgramLines as line
-use Rattle.smx_text.specs.ProgramsText.{IsAllowed, body, programs_grammar}
+use Rattle.smx_text.specs.ProgramsText.{body, programs_grammar}
 use Rattle.smx_text.specs.WorkedFaults.{AreWrongPrograms, process_lines, with_line_4, with_processes}
 use Rattle.smx_text.proofs.ProgramsDecidedLemmas.{nothing_begun}
 use Rattle.smx_text.proofs.ProgramsGrammarLemmas.{refused_line}
@@ -26,24 +26,18 @@ use Rattle.smx_text.proofs.BodyLemmas.{added_process}
 use Rattle.smx_text.proofs.ReadingLemmas.{beginning_more}
 use Rattle.smx_text.proofs.LineWordLemmas.{differ}
 use Rattle.smx_text.proofs.WorkedFaultLemmas.{wrong_programs, wrong_in_each}
+use Rattle.smx_text.proofs.WrongCountLemmas.{many, repeated}
 use Rattle.smx_text.proofs.WrongCommandLemmas.{before, before_allowed, wrong_at_4}
 
 -- ---- the header, and nothing behind it
 
 -- an empty text is cut at line 1
 pub nothing : AreWrongPrograms [] 1 cause.Cut
-nothing = wrong_programs V1 [] 1 cause.Cut (λ e. cc) (λ e. cc) ([], [], inl (refl, refl), tt, refl)
+nothing = wrong_programs V1 refl ([], [], inl (refl, refl), tt, refl)
 
 -- a header without its line feed is cut
 pub cut_header : AreWrongPrograms (codes "programs 1") 1 cause.Cut
-cut_header =
-    wrong_programs V1 (codes "programs 1") 1 cause.Cut (λ e. cc) (λ e. cc) (
-      [],
-      codes "programs 1",
-      inl (refl, refl),
-      search rules,
-      refl,
-    )
+cut_header = wrong_programs V1 refl ([], codes "programs 1", inl (refl, refl), search rules, refl)
 
 other_number : (version : Version) → codes "programs 3" ≢ header (programs_grammar version)
 other_number V1 = differ (codes "programs 3") (codes "programs 1") refl
@@ -51,31 +45,15 @@ other_number V2 = differ (codes "programs 3") (codes "programs 2") refl
 
 -- programs of version 3 have a wrong header
 pub version_3 : AreWrongPrograms (codes "programs 3\n") 1 cause.Header
-version_3 =
-    wrong_in_each (codes "programs 3\n") 1 cause.Header (λ e. cc)
-    (λ version. (codes "programs 3", ([], search rules, refl), other_number version, refl))
+version_3 = wrong_in_each (λ version. (codes "programs 3", ([], search rules, refl), other_number version, refl))
 
 -- a header with nothing behind it is cut at line 2
 pub header_alone : AreWrongPrograms (codes "programs 1\n") 2 cause.Cut
-header_alone =
-    wrong_programs V1 (codes "programs 1\n") 2 cause.Cut (λ e. cc) (λ e. cc) (
-      codes "programs 1\n",
-      [],
-      inr ([], nothing_begun V1, refl, refl),
-      tt,
-      refl,
-    )
+header_alone = wrong_programs V1 refl (codes "programs 1\n", [], inr ([], nothing_begun V1, refl, refl), tt, refl)
 
 -- so is the header of version 2
 pub version_2_alone : AreWrongPrograms (codes "programs 2\n") 2 cause.Cut
-version_2_alone =
-    wrong_programs V2 (codes "programs 2\n") 2 cause.Cut (λ e. cc) (λ e. cc) (
-      codes "programs 2\n",
-      [],
-      inr ([], nothing_begun V2, refl, refl),
-      tt,
-      refl,
-    )
+version_2_alone = wrong_programs V2 refl (codes "programs 2\n", [], inr ([], nothing_begun V2, refl, refl), tt, refl)
 
 -- ---- lines out of their places
 
@@ -87,7 +65,7 @@ pub out_of_turn : AreWrongPrograms (with_line_4 (codes "process 2")) 4 cause.For
 unfolding digits
 out_of_turn =
     wrong_at_4 (codes "process 2") (search rules)
-    (refused_line V1 (body before) (line.Process 2) (codes "process 2") (omega arith) refl cause.Form
+    (refused_line V1 (body before) (line.Process 2) _ (omega arith) refl cause.Form
     (misplaced V1 before (line.Process 2) (λ e. omega (arith, e))))
 
 -- no driver stands behind a process
@@ -95,8 +73,8 @@ pub late_driver : AreWrongPrograms (with_line_4 (codes "driver eth leaf 2 8 3 16
 unfolding digits
 late_driver =
     wrong_at_4 (codes "driver eth leaf 2 8 3 16") (search rules)
-    (refused_line V1 (body before) (line.Driver eth) (codes "driver eth leaf 2 8 3 16") (search rules) refl
-    cause.Form (misplaced V1 before (line.Driver eth) (λ e. omega (arith, e))))
+    (refused_line V1 (body before) (line.Driver eth) _ (search rules) refl cause.Form
+    (misplaced V1 before (line.Driver eth) (λ e. omega (arith, e))))
 
 abbrev clone : Line
 clone = line.Command (command.OpenClone (codes "ip"))
@@ -104,11 +82,11 @@ clone = line.Command (command.OpenClone (codes "ip"))
 -- no command stands before the first process
 pub no_process : AreWrongPrograms (codes "programs 1\nclone ip\nend\n") 2 cause.Form
 no_process =
-    wrong_programs V1 (codes "programs 1\nclone ip\nend\n") 2 cause.Form (λ e. cc) (λ e. cc) (
+    wrong_programs V1 refl (
       [],
       codes "clone ip",
       record { begun = nothing_begun V1; next = (codes "end\n", search rules, refl); numbered = refl },
-      refused_line V1 [] clone (codes "clone ip") (search rules) refl cause.Form
+      refused_line V1 [] clone _ (search rules) refl cause.Form
           (misplaced V1 (program_lists [] []) clone (λ e. omega (arith, e))),
     )
 
@@ -122,21 +100,14 @@ one_command = program_lists before.drivers ((command.OpenClone (codes "ip") ∷ 
 abbrev no_command : ProgramLists
 no_command = program_lists [] ([] ∷ [])
 
-allowed_none : IsAllowed V1 no_command
-allowed_none = search (rules, arith)
-
-allowed_one : IsAllowed V1 one_command
-allowed_one = search (rules, arith)
-
 -- programs without the line `end` are cut at the line behind their last
 pub no_end : AreWrongPrograms (codes "programs 1\ndriver ip mux 4 8 3 16\nprocess 0\nclone ip\n") 5 cause.Cut
 unfolding digits
 no_end =
-    wrong_programs V1 (codes "programs 1\ndriver ip mux 4 8 3 16\nprocess 0\nclone ip\n") 5
-    cause.Cut (λ e. cc) (λ e. cc) (
+    wrong_programs V1 refl (
       codes "programs 1\ndriver ip mux 4 8 3 16\nprocess 0\nclone ip\n",
       [],
-      inr (body one_command, (one_command, [], allowed_one, refl), refl, refl),
+      inr (body one_command, (one_command, [], search (rules, arith), refl), refl, refl),
       tt,
       refl,
     )
@@ -145,8 +116,7 @@ no_end =
 pub cut_line : AreWrongPrograms (codes "programs 1\ndriver ip mux 4 8 3 16\nprocess 0\nclone ip") 4 cause.Cut
 unfolding digits
 cut_line =
-    wrong_programs V1 (codes "programs 1\ndriver ip mux 4 8 3 16\nprocess 0\nclone ip") 4
-    cause.Cut (λ e. cc) (λ e. cc) (
+    wrong_programs V1 refl (
       codes "programs 1\ndriver ip mux 4 8 3 16\nprocess 0\n",
       codes "clone ip",
       inr (body before, (before, [], before_allowed, refl), refl, refl),
@@ -157,26 +127,16 @@ cut_line =
 -- not even a space stands behind the end
 pub a_space_behind : AreWrongPrograms (codes "programs 1\nprocess 0\nend\n ") 4 cause.Trailing
 unfolding digits
-a_space_behind =
-    wrong_programs V1 (codes "programs 1\nprocess 0\nend\n ") 4 cause.Trailing (λ e. cc) (λ e. cc)
-    (no_command, 32, [], allowed_none, refl, refl)
+a_space_behind = wrong_programs V1 refl (no_command, 32, [], search (rules, arith), refl, refl)
 
 -- ---- one process too many
 
-abbrev none_each : ℕ → List (List Command)
-none_each zero = []
-none_each (suc n) = none_each n ++ [] ∷ []
-
-many : (n : ℕ) → length (none_each n) ≡ n
-many zero = refl
-many (suc n) = omega (arith, length-append (none_each n) ([] ∷ []), many n)
-
 abbrev processes : ℕ → ProgramLists
-processes n = record { version = V1; drivers = before.drivers; programs = none_each n }
+processes n = record { version = V1; drivers = before.drivers; programs = repeated [] n }
 
 -- their lines, one more at a time
 body_of : (n : ℕ) → body (processes (suc n)) ≡ body (processes n) ++ line.Process n ∷ []
-body_of n = added_process before.drivers (none_each n) n (sym (many n))
+body_of n = added_process before.drivers (repeated [] n) n (sym (many [] n))
 
 text_of_processes : (n : ℕ) → beginning (programs_grammar V1) (body (processes n))
     ≡ codes "programs 1\ndriver ip mux 4 8 3 16\n" ++ process_lines n
@@ -191,7 +151,7 @@ text_of_processes (suc n) =
 begun_by : (n : ℕ) → n ≤ 64 → IsBegun (programs_grammar V1) (body (processes n))
 begun_by zero most = (before, line.Process 0 ∷ [], before_allowed, refl)
 begun_by (suc n) most =
-    let long = many n in
+    let long = many {X = List Command} [] n in
     subst (IsBegun (programs_grammar V1)) (sym (body_of n))
     (longer_begun V1 (processes n) (line.Process n) refl (begun_by n (omega (arith, most))) (sym long)
     (omega (arith, long, most)) (omega (arith, most)))
@@ -219,8 +179,8 @@ process_65_is =
 pub process_65 : AreWrongPrograms (with_processes 65) 67 cause.Many
 unfolding digits
 process_65 =
-    let long = many 64 in
-    wrong_programs V1 (with_processes 65) 67 cause.Many (λ e. cc) (λ e. cc) (
+    let long = many {X = List Command} [] 64 in
+    wrong_programs V1 refl (
       body (processes 64),
       codes "process 64",
       record {

@@ -1,5 +1,5 @@
 -- Transcripts with a line out of its place, one that is no line, or without one that they need.
-use Rattle.std.proofs.Common.{◌≡◌, ◌≢◌, ℕ, ◌<◌, true, false, List, [], ◌∷◌, ◌++◌, length, refl, sym}
+use Rattle.std.proofs.Common.{◌≡◌, ◌≢◌, ℕ, ◌+◌, ◌<◌, true, false, List, [], ◌∷◌, ◌++◌, length, refl, sym}
 use Rattle.std.proofs.Common.{ap, ◌∙◌, arith, rules, inr, None, Some}
 use Rattle.std.specs.List.{AllByRecursion}
 use Rattle.std.specs.Fmt.{decimal, digits}
@@ -32,10 +32,10 @@ use Rattle.smx_text.specs.declared.text_fault.Cause.TheVariants as cause
 use Rattle.smx_text.specs.declared.transcript.draft.Stage.TheVariants as stage
 use Rattle.smx_text.specs.declared.transcript.draft.TranscriptDraft.{TranscriptDraft}
 use Rattle.smx_text.specs.Drafts.{lines}
-use Rattle.smx_text.specs.Grammar.{IsNoLine, IsOneLine, header, line_text}
+use Rattle.smx_text.specs.Grammar.{HasNext, IsBegun, IsNoLine, IsOneLine, beginning, header, line_text}
 use Rattle.smx_text.specs.TranscriptLines.{TranscriptLine}
 use Rattle.smx_text.specs.TranscriptLines as line
-use Rattle.smx_text.specs.TranscriptText.{FitsLine, IsAllowed, line_words, transcript_grammar}
+use Rattle.smx_text.specs.TranscriptText.{FitsLine, line_words, transcript_grammar}
 use Rattle.smx_text.specs.WorkedFaults.{IsWrongTranscript, with_line_3, with_line_5}
 use Rattle.smx_text.proofs.TranscriptDraftLemmas.{draft}
 use Rattle.smx_text.proofs.TranscriptDrafts.{new_view, takes}
@@ -81,14 +81,12 @@ one_link = record nothing {
   };
 }
 
-nothing_allowed : IsAllowed V1 nothing
-nothing_allowed = search (rules, arith)
-
-one_driver_allowed : IsAllowed V1 one_driver
-one_driver_allowed = search (rules, arith)
-
-one_link_allowed : IsAllowed V1 one_link
-one_link_allowed = search (rules, arith)
+-- a whole line that is none of those which may follow some lines goes wrong for its form
+wrong_line : (version : Version) {bytes : List ℕ} {n : ℕ} (ls : List TranscriptLine) (text : List ℕ)
+    → IsBegun (transcript_grammar version) ls → HasNext bytes (beginning (transcript_grammar version) ls) text
+    → n ≡ length ls + 2 → IsNoLine (transcript_grammar version) ls text → IsWrongTranscript bytes n cause.Form
+wrong_line version ls text begun next at none =
+    wrong_transcript version refl (ls, text, record { begun = begun; next = next; numbered = at }, none)
 
 -- below `config`
 abbrev below_config : TranscriptDraft
@@ -97,16 +95,8 @@ below_config = draft stage.Config nothing
 wrong_below_config : (text rest : List ℕ) → IsOneLine text → IsNoLine (transcript_grammar V1) (lines below_config) text
     → IsWrongTranscript (codes "transcript 1\nconfig\n" ++ (text ++ 10 ∷ rest)) 3 cause.Form
 wrong_below_config text rest one none =
-    wrong_transcript V1 (codes "transcript 1\nconfig\n" ++ (text ++ 10 ∷ rest)) 3 cause.Form (λ e. cc) (λ e. cc) (
-      lines below_config,
-      text,
-      record {
-        begun = (nothing, line.Next 1 1 ∷ [], nothing_allowed, refl);
-        next = (rest, one, refl);
-        numbered = refl;
-      },
-      none,
-    )
+    wrong_line V1 (lines below_config) text (nothing, line.Next 1 1 ∷ [], search (rules, arith), refl)
+    (rest, one, refl) refl none
 
 -- behind the driver
 abbrev behind_driver : TranscriptDraft
@@ -116,16 +106,9 @@ wrong_at_3 : (text : List ℕ) → IsOneLine text → IsNoLine (transcript_gramm
     → IsWrongTranscript (with_line_3 text) 3 cause.Form
 unfolding digits
 wrong_at_3 text one none =
-    wrong_transcript V1 (with_line_3 text) 3 cause.Form (λ e. cc) (λ e. cc) (
-      lines behind_driver,
-      text,
-      record {
-        begun = (one_driver, line.Config ∷ line.Next 1 1 ∷ [], one_driver_allowed, refl);
-        next = (codes "config\nnext 1 1\nend\n", one, refl);
-        numbered = refl;
-      },
-      none,
-    )
+    wrong_line V1 (lines behind_driver) text
+    (one_driver, line.Config ∷ line.Next 1 1 ∷ [], search (rules, arith), refl)
+    (codes "config\nnext 1 1\nend\n", one, refl) refl none
 
 -- behind the link
 abbrev behind_link : TranscriptDraft
@@ -135,12 +118,8 @@ wrong_at_5 : (text : List ℕ) → IsOneLine text → IsNoLine (transcript_gramm
     → IsWrongTranscript (with_line_5 text) 5 cause.Form
 unfolding digits
 wrong_at_5 text one none =
-    wrong_transcript V1 (with_line_5 text) 5 cause.Form (λ e. cc) (λ e. cc) (
-      lines behind_link,
-      text,
-      record { begun = (one_link, [], one_link_allowed, refl); next = (codes "end\n", one, refl); numbered = refl },
-      none,
-    )
+    wrong_line V1 (lines behind_link) text (one_link, [], search (rules, arith), refl)
+    (codes "end\n", one, refl) refl none
 
 misplaced_at_5 : (text : List ℕ) → IsOneLine text → (k : TranscriptLine) → FitsLine V1 k
     → text ≡ line_text (transcript_grammar V1) k → takes behind_link k ≡ false
@@ -157,7 +136,7 @@ no_header V2 = differ (codes "programs 1") (codes "transcript 2") refl
 -- the header of programs is none of a transcript
 pub other_header : IsWrongTranscript (codes "programs 1\nend\n") 1 cause.Header
 other_header =
-    wrong_transcript_in_each (codes "programs 1\nend\n") 1 cause.Header (λ e. cc)
+    wrong_transcript_in_each
     (λ version. (codes "programs 1", (codes "end\n", search rules, refl), no_header version, refl))
 
 other_number : (version : Version) → codes "transcript 3" ≢ header (transcript_grammar version)
@@ -167,19 +146,12 @@ other_number V2 = differ (codes "transcript 3") (codes "transcript 2") refl
 -- transcripts of version 3 have a wrong header
 pub version_3 : IsWrongTranscript (codes "transcript 3\n") 1 cause.Header
 version_3 =
-    wrong_transcript_in_each (codes "transcript 3\n") 1 cause.Header (λ e. cc)
-    (λ version. (codes "transcript 3", ([], search rules, refl), other_number version, refl))
+    wrong_transcript_in_each (λ version. (codes "transcript 3", ([], search rules, refl), other_number version, refl))
 
 -- a header of version 2 with nothing behind it is cut at line 2
 pub version_2_alone : IsWrongTranscript (codes "transcript 2\n") 2 cause.Cut
 version_2_alone =
-    wrong_transcript V2 (codes "transcript 2\n") 2 cause.Cut (λ e. cc) (λ e. cc) (
-      codes "transcript 2\n",
-      [],
-      inr ([], nothing_begun V2, refl, refl),
-      tt,
-      refl,
-    )
+    wrong_transcript V2 refl (codes "transcript 2\n", [], inr ([], nothing_begun V2, refl, refl), tt, refl)
 
 abbrev descriptor : TranscriptLine
 descriptor = line.Fd (record { process = 0; fd = 0; driver = codes "ip"; minor = 0 })
@@ -218,10 +190,10 @@ late_descriptor = misplaced_at_5 (codes "fd 0 0 ip 0") (search rules) descriptor
 pub no_end : IsWrongTranscript (codes "transcript 1\nconfig\nnext 1 1\n") 4 cause.Cut
 unfolding digits
 no_end =
-    wrong_transcript V1 (codes "transcript 1\nconfig\nnext 1 1\n") 4 cause.Cut (λ e. cc) (λ e. cc) (
+    wrong_transcript V1 refl (
       codes "transcript 1\nconfig\nnext 1 1\n",
       [],
-      inr (line.Config ∷ line.Next 1 1 ∷ [], (nothing, [], nothing_allowed, refl), refl, refl),
+      inr (line.Config ∷ line.Next 1 1 ∷ [], (nothing, [], search (rules, arith), refl), refl, refl),
       tt,
       refl,
     )
@@ -235,9 +207,6 @@ one_hung = record {
   view = record (new_view 1 1) { hungs = record { driver = codes "eth"; minor = 0 } ∷ [] };
 }
 
-one_hung_allowed : IsAllowed V2 one_hung
-one_hung_allowed = search (rules, arith)
-
 abbrev behind_hung : TranscriptDraft
 behind_hung = draft stage.View one_hung
 
@@ -249,18 +218,10 @@ pub late_full_place : IsWrongTranscript
     (codes "transcript 2\nconfig\nnext 1 1\nhung eth 0\nfull eth 0 r\nend\n") 5 cause.Form
 unfolding digits
 late_full_place =
-    wrong_transcript V2 (codes "transcript 2\nconfig\nnext 1 1\nhung eth 0\nfull eth 0 r\nend\n") 5 cause.Form
-    (λ e. cc) (λ e. cc) (
-      lines behind_hung,
-      codes "full eth 0 r",
-      record {
-        begun = (one_hung, [], one_hung_allowed, refl);
-        next = (codes "end\n", search rules, refl);
-        numbered = refl;
-      },
-      refused_line V2 (lines behind_hung) full_place (codes "full eth 0 r") (search (rules, arith)) refl cause.Form
-          (misplaced behind_hung full_place refl),
-    )
+    wrong_line V2 (lines behind_hung) (codes "full eth 0 r") (one_hung, [], search (rules, arith), refl)
+    (codes "end\n", search rules, refl) refl
+    (refused_line V2 (lines behind_hung) full_place (codes "full eth 0 r") (search (rules, arith)) refl cause.Form
+    (misplaced behind_hung full_place refl))
 
 -- ---- lines of one kind that are none
 
@@ -324,40 +285,34 @@ half_a_fault =
 
 -- ---- lines that are of version 2 alone
 
-no_told : (x : AnyEntry) → FitsEntry x → is_of_hangup x ≡ true → (ws : List (List ℕ)) → ws ≡ entry_words x
-    → (e : AnyEntry) → FitsEntryIn V1 e → ws ≢ entry_words e
-no_told x fits hangup ws is e told same =
-    no_told_entry V1 (line_of ws) x fits (ap line_of is) (λ can. absurd (cc (can, hangup))) e told (ap line_of same)
+-- an entry of version 2 alone, as line 3 of a text of version 1
+told_later : (x : AnyEntry) → FitsEntry x → is_of_hangup x ≡ true
+    → AllByRecursion (IsFree SPACE) (entry_words x) × (0 < length (entry_words x)) → IsOneLine (line_of (entry_words x))
+    → kind_at (first_word (entry_words x)) ≡ 0 → IsWrongTranscript (with_line_3 (line_of (entry_words x))) 3 cause.Form
+told_later x fits hangup free one digit =
+    wrong_at_3 (line_of (entry_words x)) one (no_entry (entry_words x) free digit (λ e told same.
+    no_told_entry V1 (line_of (entry_words x)) x fits refl (λ can. absurd (cc (can, hangup))) e told (ap line_of same)))
 
 -- version 1 has no entry of a hangup
 pub told_hangup : IsWrongTranscript (with_line_3 (codes "0 hangup ip 0 = done")) 3 cause.Form
 unfolding digits
 told_hangup =
-    wrong_at_3 (codes "0 hangup ip 0 = done") (search rules)
-    (no_entry (codes "0" ∷ codes "hangup" ∷ codes "ip" ∷ codes "0" ∷ codes "=" ∷ codes "done" ∷ [])
-    (search rules, omega arith) refl
-    (no_told (record { process = 0; command = command.Hangup (codes "ip") 0; reply = reply.Done [] })
-    (search (rules, arith)) refl _ refl))
+    told_later (record { process = 0; command = command.Hangup (codes "ip") 0; reply = reply.Done [] })
+    (search (rules, arith)) refl (search rules, omega arith) (search rules) refl
 
 -- version 1 has no reply `eof`
 pub end_of_file : IsWrongTranscript (with_line_3 (codes "0 read 0 = eof")) 3 cause.Form
 unfolding digits
 end_of_file =
-    wrong_at_3 (codes "0 read 0 = eof") (search rules)
-    (no_entry (codes "0" ∷ codes "read" ∷ codes "0" ∷ codes "=" ∷ codes "eof" ∷ [])
-    (search rules, omega arith) refl
-    (no_told (record { process = 0; command = command.Read 0; reply = reply.Eof })
-    (search (rules, arith)) refl _ refl))
+    told_later (record { process = 0; command = command.Read 0; reply = reply.Eof })
+    (search (rules, arith)) refl (search rules, omega arith) (search rules) refl
 
 -- version 1 has no refusal for a hangup
 pub refusal : IsWrongTranscript (with_line_3 (codes "0 read 0 = ENXIO hangup")) 3 cause.Form
 unfolding digits
 refusal =
-    wrong_at_3 (codes "0 read 0 = ENXIO hangup") (search rules)
-    (no_entry (codes "0" ∷ codes "read" ∷ codes "0" ∷ codes "=" ∷ codes "ENXIO" ∷ codes "hangup" ∷ [])
-    (search rules, omega arith) refl
-    (no_told (record { process = 0; command = command.Read 0; reply = reply.Fault fault.HungUp })
-    (search (rules, arith)) refl _ refl))
+    told_later (record { process = 0; command = command.Read 0; reply = reply.Fault fault.HungUp })
+    (search (rules, arith)) refl (search rules, omega arith) (search rules) refl
 
 -- version 1 has no hung-up stream in a view
 pub hung_up_stream : IsWrongTranscript (with_line_5 (codes "hung eth 0")) 5 cause.Form

@@ -1,46 +1,25 @@
+use Rattle.std.proofs.Common.{rules, [], ◌∷◌}
+use Rattle.std.specs.Prelude.{codes}
+use Rattle.smx_words.specs.declared.reading.verb.Verb.TheVariants as verb
 use Rattle.smx_text.proofs.WrongCommandLemmas.{two_zeros, a_sign, two_spaces, a_last_space, large_number}
 use Rattle.smx_text.proofs.WrongCommandLemmas.{digit_first, nine_letters, word_wanting, capitals, sides_turned}
-use Rattle.smx_text.proofs.WrongCommandLemmas.{capital_digits, odd_digits, bytes_wanting, no_word}
+use Rattle.smx_text.proofs.WrongCommandLemmas.{capital_digits, odd_digits, bytes_wanting, no_word, wrong_verb}
 use Rattle.smx_text.proofs.worked_texts.wrong_commands.Goals as goal
 
-pub returns-clause-two_zeros : goal.returns-clause-two_zeros
-returns-clause-two_zeros c = two_zeros
-
-pub returns-clause-a_sign : goal.returns-clause-a_sign
-returns-clause-a_sign c = a_sign
-
-pub returns-clause-two_spaces : goal.returns-clause-two_spaces
-returns-clause-two_spaces c = two_spaces
-
-pub returns-clause-a_last_space : goal.returns-clause-a_last_space
-returns-clause-a_last_space c = a_last_space
-
-pub returns-clause-large_number : goal.returns-clause-large_number
-returns-clause-large_number c = large_number
-
-pub returns-clause-digit_first : goal.returns-clause-digit_first
-returns-clause-digit_first c = digit_first
-
-pub returns-clause-nine_letters : goal.returns-clause-nine_letters
-returns-clause-nine_letters c = nine_letters
-
-pub returns-clause-word_wanting : goal.returns-clause-word_wanting
-returns-clause-word_wanting c = word_wanting
-
-pub returns-clause-capitals : goal.returns-clause-capitals
-returns-clause-capitals c = capitals
-
-pub returns-clause-sides_turned : goal.returns-clause-sides_turned
-returns-clause-sides_turned c = sides_turned
-
-pub returns-clause-capital_digits : goal.returns-clause-capital_digits
-returns-clause-capital_digits c = capital_digits
-
-pub returns-clause-odd_digits : goal.returns-clause-odd_digits
-returns-clause-odd_digits c = odd_digits
-
-pub returns-clause-bytes_wanting : goal.returns-clause-bytes_wanting
-returns-clause-bytes_wanting c = bytes_wanting
-
-pub returns-clause-no_word : goal.returns-clause-no_word
-returns-clause-no_word c = no_word
+pub returns : goal.returns
+returns c = record {
+  two_zeros = wrong_verb verb.Dup (codes "00" ∷ []) (search rules) two_zeros;
+  a_sign = wrong_verb verb.Dup (codes "+1" ∷ []) (search rules) a_sign;
+  two_spaces = wrong_verb verb.Close ([] ∷ codes "0" ∷ []) (search rules) two_spaces;
+  a_last_space = wrong_verb verb.Close (codes "0" ∷ [] ∷ []) (search rules) a_last_space;
+  large_number = wrong_verb verb.Open (codes "ip" ∷ codes "4294967296" ∷ []) (search rules) large_number;
+  digit_first = wrong_verb verb.Open (codes "9a" ∷ codes "0" ∷ []) (search rules) digit_first;
+  nine_letters = wrong_verb verb.Clone (codes "ninelette" ∷ []) (search rules) nine_letters;
+  word_wanting = wrong_verb verb.Link (codes "0" ∷ []) (search rules) word_wanting;
+  capitals = wrong_verb verb.Unlink (codes "0" ∷ codes "ALL" ∷ []) (search rules) capitals;
+  sides_turned = wrong_verb verb.Flush (codes "0" ∷ codes "wr" ∷ []) (search rules) sides_turned;
+  capital_digits = wrong_verb verb.Write (codes "0" ∷ codes "5" ∷ codes "AA" ∷ []) (search rules) capital_digits;
+  odd_digits = wrong_verb verb.Write (codes "0" ∷ codes "5" ∷ codes "aab" ∷ []) (search rules) odd_digits;
+  bytes_wanting = wrong_verb verb.Write (codes "0" ∷ codes "5" ∷ []) (search rules) bytes_wanting;
+  no_word = no_word;
+}

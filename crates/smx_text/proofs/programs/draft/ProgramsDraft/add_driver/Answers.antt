@@ -1,7 +1,6 @@
-use Rattle.std.proofs.Common.{◌≡◌, ◌≤◌, ◌<◌, ◌∙◌, length, ap, subst, refl, rules, arith}
+use Rattle.std.proofs.Common.{◌∙◌, ap, refl, rules, arith}
 use Rattle.smx_types.specs.ProgramLists.{ProgramLists}
 use Rattle.smx_types.specs.Versions.{most_drivers}
-use Rattle.smx_types.specs.declared.version.Version.{Version}
 use Rattle.smx_text.specs.ProgramLines as line
 use Rattle.smx_types.specs.GrowingPrograms.{with_driver}
 use Rattle.smx_text.proofs.ProgramsLemmas.{counted, misplaced, too_many, taken_more, longer_begun}
@@ -16,30 +15,25 @@ returns-then-self-gt0-clause-answers g c =
 pub returns-then-self-max_drivers-clause-answers : goal.returns-then-self-max_drivers-clause-answers
 returns-then-self-max_drivers-clause-answers g c =
     let own = counted c.self.invariant c.self.view_is in
-    let none : length c.args.self.now.programs ≡ 0 = omega (arith, own.has_programs, c.if-self-gt0.false) in
-    let many : most_drivers c.self.inside.version ≤ length c.args.self.now.drivers =
-    omega (arith, own.has_drivers, c.max_drivers.ensures, c.if-self-max_drivers.true) in
-    too_many c.args.self.now.version c.args.self.now (line.Driver c.args.driver) none
-    (subst (λ (n : Version). most_drivers n ≤ length c.args.self.now.drivers) own.of_version many)
+    let most = ap most_drivers own.of_version in
+    too_many c.args.self.now.version c.args.self.now (line.Driver c.args.driver)
+    (omega (arith, own.has_programs, c.if-self-gt0.false))
+    (omega (arith, own.has_drivers, most, c.max_drivers.ensures, c.if-self-max_drivers.true))
 
 pub returns-in_err-add_driver-clause-answers : goal.returns-in_err-add_driver-clause-answers
 returns-in_err-add_driver-clause-answers g c =
     let own = counted c.self.invariant c.self.view_is in
-    let none : length c.args.self.now.programs ≡ 0 = omega (arith, own.has_programs, c.if-self-gt0.false) in
-    let few : length c.args.self.now.drivers < most_drivers c.self.inside.version =
-    omega (arith, own.has_drivers, c.max_drivers.ensures, c.if-self-max_drivers.false) in
+    let most = ap most_drivers own.of_version in
     let room = longer_begun c.args.self.now.version c.args.self.now (line.Driver c.args.driver) refl c.requires.begun
-    none (subst (λ (n : Version). length c.args.self.now.drivers < most_drivers n) own.of_version few)
-    c.requires.fits in
+    (omega (arith, own.has_programs, c.if-self-gt0.false))
+    (omega (arith, own.has_drivers, most, c.max_drivers.ensures, c.if-self-max_drivers.false)) c.requires.fits in
     search rules
 
 pub returns-clause-answers : goal.returns-clause-answers
 returns-clause-answers g c =
     let own = counted c.self.invariant c.self.view_is in
-    let none : length c.args.self.now.programs ≡ 0 = omega (arith, own.has_programs, c.if-self-gt0.false) in
-    let few : length c.args.self.now.drivers < most_drivers c.self.inside.version =
-    omega (arith, own.has_drivers, c.max_drivers.ensures, c.if-self-max_drivers.false) in
+    let most = ap most_drivers own.of_version in
     taken_more c.args.self.now.version c.args.self.now _ (line.Driver c.args.driver) refl
     (c.in_ok-add_driver.ensures.taken ∙ ap (λ (p : ProgramLists). with_driver p c.args.driver) c.self.view_is)
-    c.requires.begun none
-    (subst (λ (n : Version). length c.args.self.now.drivers < most_drivers n) own.of_version few) c.requires.fits
+    c.requires.begun (omega (arith, own.has_programs, c.if-self-gt0.false))
+    (omega (arith, own.has_drivers, most, c.max_drivers.ensures, c.if-self-max_drivers.false)) c.requires.fits

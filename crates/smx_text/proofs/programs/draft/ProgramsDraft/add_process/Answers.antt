@@ -1,6 +1,5 @@
-use Rattle.std.proofs.Common.{◌≡◌, ◌≤◌, ◌<◌, ◌∙◌, length, sym, ap, refl, rules, arith}
+use Rattle.std.proofs.Common.{◌∙◌, sym, ap, refl, rules, arith}
 use Rattle.smx_types.specs.ProgramLists.{ProgramLists}
-use Rattle.smx_types.specs.declared.limits.TheConstants.{MAX_PROCESSES}
 use Rattle.smx_text.specs.ProgramLines as line
 use Rattle.smx_types.specs.GrowingPrograms.{with_program}
 use Rattle.smx_text.proofs.ProgramsLemmas.{counted, misplaced, too_many, taken_more, longer_begun}
@@ -14,28 +13,20 @@ returns-then-number-self-clause-answers g c =
 
 pub returns-then-number-ge-MAX_PROCESSES-clause-answers : goal.returns-then-number-ge-MAX_PROCESSES-clause-answers
 returns-then-number-ge-MAX_PROCESSES-clause-answers g c =
-    let own = counted c.self.invariant c.self.view_is in
-    let same : c.args.number ≡ length c.args.self.now.programs = c.if-number-self.false ∙ own.has_programs in
-    let many : MAX_PROCESSES ≤ length c.args.self.now.programs =
-    omega (arith, same, c.if-number-ge-MAX_PROCESSES.true) in
-    too_many c.args.self.now.version c.args.self.now (line.Process c.args.number) same many
+    let same = c.if-number-self.false ∙ (counted c.self.invariant c.self.view_is).has_programs in
+    too_many c.args.self.now.version c.args.self.now (line.Process c.args.number) same
+    (omega (arith, same, c.if-number-ge-MAX_PROCESSES.true))
 
 pub returns-in_err-add_program-clause-answers : goal.returns-in_err-add_program-clause-answers
 returns-in_err-add_program-clause-answers g c =
-    let own = counted c.self.invariant c.self.view_is in
-    let same : c.args.number ≡ length c.args.self.now.programs = c.if-number-self.false ∙ own.has_programs in
-    let few : length c.args.self.now.programs < MAX_PROCESSES =
-    omega (arith, same, c.if-number-ge-MAX_PROCESSES.false) in
+    let same = c.if-number-self.false ∙ (counted c.self.invariant c.self.view_is).has_programs in
     let room = longer_begun c.args.self.now.version c.args.self.now (line.Process c.args.number) refl c.requires.begun
-    same few c.ranges.number.fits in
+    same (omega (arith, same, c.if-number-ge-MAX_PROCESSES.false)) c.ranges.number.fits in
     search rules
 
 pub returns-clause-answers : goal.returns-clause-answers
 returns-clause-answers g c =
-    let own = counted c.self.invariant c.self.view_is in
-    let same : c.args.number ≡ length c.args.self.now.programs = c.if-number-self.false ∙ own.has_programs in
-    let few : length c.args.self.now.programs < MAX_PROCESSES =
-    omega (arith, same, c.if-number-ge-MAX_PROCESSES.false) in
+    let same = c.if-number-self.false ∙ (counted c.self.invariant c.self.view_is).has_programs in
     taken_more c.args.self.now.version c.args.self.now _ (line.Process c.args.number) refl
     (c.in_ok-add_program.ensures.taken ∙ ap (λ (p : ProgramLists). with_program p) c.self.view_is)
-    c.requires.begun same few c.ranges.number.fits
+    c.requires.begun same (omega (arith, same, c.if-number-ge-MAX_PROCESSES.false)) c.ranges.number.fits

@@ -1,32 +1,19 @@
-use Rattle.std.proofs.Common.{◌≡◌, ◌∙◌, ap, subst}
-use Rattle.smx_types.specs.ProgramLists.{ProgramLists}
-use Rattle.smx_types.specs.declared.version.Version.{Version}
-use Rattle.smx_words.specs.LineReading.{IsLineOf, IsReadAs}
-use Rattle.smx_words.specs.Spellable.{FitsCommandIn}
-use Rattle.smx_words.specs.Spelling.{command_words}
 use Rattle.smx_text.specs.ProgramLines as line
 use Rattle.smx_text.specs.ProgramsText.{body}
 use Rattle.smx_text.proofs.ProgramsGrammarLemmas.{refused_line}
+use Rattle.smx_text.proofs.ProgramsLemmas.{counted}
 use Rattle.smx_text.proofs.programs.draft.ProgramsDraft.add_where_none.Goals as goal
 
 pub returns-in-Ok-Some-clause-answers : goal.returns-in-Ok-Some-clause-answers
 returns-in-Ok-Some-clause-answers g c =
-    let same : c.self.inside.version ≡ c.args.self.now.version =
-    c.self.invariant.of_version ∙ ap (λ (p : ProgramLists). p.version) c.self.view_is in
-    let read = subst (λ (v : Version). IsReadAs (FitsCommandIn v) command_words c.args.text.now c.in-Ok-Some.field-0)
-    same
-    c.in-Ok-Some.ensures.reading in
-    let is = subst (IsReadAs (FitsCommandIn c.args.self.now.version) command_words c.args.text.now)
-    c.in-Ok-Some.field-0-is
-    read in
+    let own = counted c.self.invariant c.self.view_is in
+    let is = rw (c.in-Ok-Some.field-0-is, own.of_version) at c.in-Ok-Some.ensures.reading in
     refused_line c.args.self.now.version (body c.args.self.now) (line.Command c.in-Ok-Some.field-0-0) c.args.text.now
     is.0 is.1 c.args.cause (c.requires.none c.in-Ok-Some.field-0-0)
 
 pub returns-clause-answers : goal.returns-clause-answers
 returns-clause-answers g c =
-    let same : c.self.inside.version ≡ c.args.self.now.version =
-    c.self.invariant.of_version ∙ ap (λ (p : ProgramLists). p.version) c.self.view_is in
-    let some = subst (λ (v : Version). IsLineOf (FitsCommandIn v) command_words c.args.text.now) same
-    c.in-Err.ensures.wanted in
+    let own = counted c.self.invariant c.self.view_is in
+    let some = rw own.of_version at c.in-Err.ensures.wanted in
     refused_line c.args.self.now.version (body c.args.self.now) (line.Command some.0) c.args.text.now some.1
     some.2 c.args.cause (c.requires.none some.0)

@@ -6,8 +6,6 @@ use Rattle.smx_text.proofs.transcript.draft.TranscriptDraft.add_message.Goals as
 
 pub returns-clause-answers : goal.returns-clause-answers
 returns-clause-answers c =
-    let view = c.args.self.now.transcript.view in
     group_answers c.args.self.now (line.Msg c.args.message) c.requires.begun refl refl (λ e. cc)
-    (λ (msgs : List MessageLine). record view { msgs = msgs }) view.msgs c.push_if.new.group c.args.message
-    c.takes_msgs.result c.takes_msgs.ensures refl c.requires.fits c.push_if.result c.push_if.ensures.pushed
-    c.push_if.ensures.refused
+    (λ (msgs : List MessageLine). record c.args.self.now.transcript.view { msgs = msgs }) _ _ _ _
+    c.takes_msgs.ensures refl c.requires.fits _ c.push_if.ensures.pushed c.push_if.ensures.refused

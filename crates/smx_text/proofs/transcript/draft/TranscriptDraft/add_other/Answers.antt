@@ -1,31 +1,21 @@
-use Rattle.std.proofs.Common.{subst}
-use Rattle.smx_words.specs.LineReading.{IsReadAs}
-use Rattle.smx_words.specs.Spellable.{FitsMessage}
-use Rattle.smx_words.specs.Spelling.{message_words}
-use Rattle.smx_text.specs.Drafts.{lines}
 use Rattle.smx_text.specs.TranscriptLines as line
 use Rattle.smx_text.proofs.TranscriptGrammarLemmas.{answers_line, refused_line}
 use Rattle.smx_text.proofs.transcript.draft.TranscriptDraft.add_other.Goals as goal
 
 pub returns-in-Ok-Some-clause-answers : goal.returns-in-Ok-Some-clause-answers
 returns-in-Ok-Some-clause-answers c =
-    let is = subst (IsReadAs FitsMessage message_words c.args.text.now) c.in-Ok-Some.field-0-is
-    c.in-Ok-Some.ensures.reading in
-    answers_line c.args.self.now.transcript.version (lines c.args.self.now) (lines c.add_message.new.self)
-    (line.Msg c.in-Ok-Some.message) c.args.text.now is c.add_message.result c.add_message.ensures.answers
+    let is = rw c.in-Ok-Some.field-0-is at c.in-Ok-Some.ensures.reading in
+    answers_line _ _ _ (line.Msg c.in-Ok-Some.message) _ is _ c.add_message.ensures.answers
 
 pub returns-in-Err-clause-answers : goal.returns-in-Err-clause-answers
 returns-in-Err-clause-answers c =
     let some = c.in-Err.ensures.wanted in
-    refused_line c.args.self.now.transcript.version (lines c.args.self.now) (line.Msg some.0) c.args.text.now
-    some.1 some.2
-    c.message_unread.result (c.message_unread.ensures some.0 some.1)
+    refused_line _ _ (line.Msg some.0) _ some.1 some.2 _ (c.message_unread.ensures some.0 some.1)
 
 pub add_message-requires-clause-fits : goal.add_message-requires-clause-fits
 add_message-requires-clause-fits c =
-    (subst (IsReadAs FitsMessage message_words c.args.text.now) c.in-Ok-Some.field-0-is
-    c.in-Ok-Some.ensures.reading).0
+    let is = rw c.in-Ok-Some.field-0-is at c.in-Ok-Some.ensures.reading in is.0
 
 pub add_plain-requires-clause-no_message : goal.add_plain-requires-clause-no_message
 add_plain-requires-clause-no_message c =
-    subst (IsReadAs FitsMessage message_words c.args.text.now) c.in-Ok-None.field-0-is c.in-Ok-None.ensures.reading
+    rw c.in-Ok-None.field-0-is at c.in-Ok-None.ensures.reading

@@ -1,35 +1,21 @@
-use Rattle.std.proofs.Common.{subst}
-use Rattle.smx_words.specs.LineReading.{IsReadAs}
-use Rattle.smx_words.specs.Spellable.{FitsEntryIn}
-use Rattle.smx_words.specs.Spelling.{entry_words}
-use Rattle.smx_text.specs.Drafts.{lines}
 use Rattle.smx_text.specs.TranscriptLines as line
 use Rattle.smx_text.proofs.TranscriptGrammarLemmas.{answers_line, refused_line}
 use Rattle.smx_text.proofs.transcript.draft.TranscriptDraftDraft.add.Goals as goal
 
 pub returns-in-Ok-Some-clause-answers : goal.returns-in-Ok-Some-clause-answers
 returns-in-Ok-Some-clause-answers c =
-    let is = subst (IsReadAs (FitsEntryIn c.args.self.now.transcript.version) entry_words c.args.text.now)
-    c.in-Ok-Some.field-0-is
-    c.in-Ok-Some.ensures.reading in
-    answers_line c.args.self.now.transcript.version (lines c.args.self.now) (lines c.add_entry.new.self)
-    (line.Entry c.in-Ok-Some.entry) c.args.text.now is c.add_entry.result c.add_entry.ensures.answers
+    let is = rw c.in-Ok-Some.field-0-is at c.in-Ok-Some.ensures.reading in
+    answers_line _ _ _ (line.Entry c.in-Ok-Some.entry) _ is _ c.add_entry.ensures.answers
 
 pub returns-in-Err-clause-answers : goal.returns-in-Err-clause-answers
 returns-in-Err-clause-answers c =
     let some = c.in-Err.ensures.wanted in
-    refused_line c.args.self.now.transcript.version (lines c.args.self.now) (line.Entry some.0) c.args.text.now
-    some.1 some.2
-    c.entry_unread.result (c.entry_unread.ensures some.0 some.1)
+    refused_line _ _ (line.Entry some.0) _ some.1 some.2 _ (c.entry_unread.ensures some.0 some.1)
 
 pub add_entry-requires-clause-fits : goal.add_entry-requires-clause-fits
 add_entry-requires-clause-fits c =
-    (subst (IsReadAs (FitsEntryIn c.args.self.now.transcript.version) entry_words c.args.text.now)
-    c.in-Ok-Some.field-0-is
-    c.in-Ok-Some.ensures.reading).0
+    let is = rw c.in-Ok-Some.field-0-is at c.in-Ok-Some.ensures.reading in is.0
 
 pub add_other-requires-clause-no_entry : goal.add_other-requires-clause-no_entry
 add_other-requires-clause-no_entry c =
-    subst (IsReadAs (FitsEntryIn c.args.self.now.transcript.version) entry_words c.args.text.now)
-    c.in-Ok-None.field-0-is
-    c.in-Ok-None.ensures.reading
+    rw c.in-Ok-None.field-0-is at c.in-Ok-None.ensures.reading
