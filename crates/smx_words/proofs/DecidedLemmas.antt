@@ -226,35 +226,32 @@ joined {X} {Y} {Fits} {words} {FitsMore} {more} sign is d free m = record {
 -- ---- other values for the same words
 
 -- the values that others stand for
-pub via : {X Y : Type 0} {Fits : X → Type 0} {words : X → List (List ℕ)} {FitsOther : Y → Type 0}
-    {other : Y → List (List ℕ)} → HasWords FitsOther other
-    → (make : Y → X) → (back : X → Y) → ((y : Y) → FitsOther y → Fits (make y))
-    → ((x : X) → Fits x → FitsOther (back x)) → ((y : Y) → other y ≡ words (make y)) → ((x : X) → make (back x) ≡ x)
-    → HasWords Fits words
-via {X} {Y} {Fits} {words} {FitsOther} {other} d make back to from is same = record {
+pub via : {X Y : Type 0} {Fits : X → Type 0} {words : X → List (List ℕ)} {FitsOther : Y → Type 0} (make : Y → X)
+    → HasWords FitsOther (λ y. words (make y)) → (back : X → Y) → ((y : Y) → FitsOther y → Fits (make y))
+    → ((x : X) → Fits x → FitsOther (back x)) → ((x : X) → make (back x) ≡ x) → HasWords Fits words
+via {X} {Y} {Fits} {words} {FitsOther} make d back to from same = record {
   answer = answer;
   one = λ x y h k e.
-      sym (same x)
-      ∙ ap make (d.one (back x) (back y) (from x h) (from y k) (sym (was x) ∙ e ∙ was y)) ∙ same y;
-  are_words = λ x h. subst (AllByRecursion IsWord) (sym (was x)) (d.are_words (back x) (from x h));
+      sym (same x) ∙ ap make (d.one (back x) (back y) (from x h) (from y k) (was x ∙ e ∙ sym (was y))) ∙ same y;
+  are_words = λ x h. subst (AllByRecursion IsWord) (was x) (d.are_words (back x) (from x h));
 } where
-  was : (x : X) → words x ≡ other (back x)
-  was x = ap words (sym (same x)) ∙ sym (is (back x))
+  was : (x : X) → words (make (back x)) ≡ words x
+  was x = ap words (same x)
 
   answer : (ws : List (List ℕ)) → Answer Fits words ws
   answer ws =
       elim (d.answer ws) [
-        | inl p ↦ inl (make p.0, to p.0 p.1, p.2 ∙ is p.0)
-        | inr none ↦ inr (λ x fits e. none (back x) (from x fits) (e ∙ was x))
+        | inl p ↦ inl (make p.0, to p.0 p.1, p.2)
+        | inr none ↦ inr (λ x fits e. none (back x) (from x fits) (e ∙ sym (was x)))
       ]
 
 -- the values of one form, or else others
 pub or_else : {X Y : Type 0} {Fits : X → Type 0} {words : X → List (List ℕ)} {FitsOther : Y → Type 0}
-    {other : Y → List (List ℕ)} {ws : List (List ℕ)} → HasWords FitsOther other → (make : Y → X)
-    → ((y : Y) → FitsOther y → Fits (make y)) → ((y : Y) → other y ≡ words (make y))
-    → (((y : Y) → FitsOther y → ws ≢ other y) → Answer Fits words ws) → Answer Fits words ws
-or_else {ws = ws} d make to is rest =
-    elim (d.answer ws) [ inl p ↦ inl (make p.0, to p.0 p.1, p.2 ∙ is p.0) | inr none ↦ rest none ]
+    {ws : List (List ℕ)} (make : Y → X) → HasWords FitsOther (λ y. words (make y))
+    → ((y : Y) → FitsOther y → Fits (make y))
+    → (((y : Y) → FitsOther y → ws ≢ words (make y)) → Answer Fits words ws) → Answer Fits words ws
+or_else {ws = ws} make d to rest =
+    elim (d.answer ws) [ inl p ↦ inl (make p.0, to p.0 p.1, p.2) | inr none ↦ rest none ]
 
 -- ---- lines
 

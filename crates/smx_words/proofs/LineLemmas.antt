@@ -41,19 +41,18 @@ pub words_in : (line : List ℕ) → (ws : List (List ℕ)) × AllByRecursion (I
     × (line ≡ line_of ws)
 words_in [] = ([] ∷ [], (tt, tt), omega arith, refl)
 words_in (b ∷ line) = let more = words_in line in by_byte (eqb b SPACE) refl more.0 more.1 more.2 more.3 where
+  no_space : b ≡ SPACE → eqb b SPACE ≡ false → ⊥
+  no_space s e = grind (arith, nat_tests)
+
   by_byte : (t : Bool) → eqb b SPACE ≡ t → (ws : List (List ℕ)) → AllByRecursion (IsFree SPACE) ws
       → 0 < length ws → line ≡ line_of ws
       → (ws : List (List ℕ)) × AllByRecursion (IsFree SPACE) ws × (0 < length ws) × (b ∷ line ≡ line_of ws)
   by_byte t e [] free some is = absurd (omega (arith, some))
   by_byte true e (w ∷ ws) free some is = let space : b ≡ SPACE = grind (arith, nat_tests) in
       ([] ∷ w ∷ ws, (tt, free), omega arith, cc (space, is))
-  by_byte false e (w ∷ []) free some is = ((b ∷ w) ∷ [], ((λ s. no_space s, free.0), tt), omega arith, cc is) where
-    no_space : b ≡ SPACE → ⊥
-    no_space s = grind (arith, nat_tests)
+  by_byte false e (w ∷ []) free some is = ((b ∷ w) ∷ [], ((λ s. no_space s e, free.0), tt), omega arith, cc is)
   by_byte false e (w ∷ v ∷ ws) free some is =
-      ((b ∷ w) ∷ v ∷ ws, ((λ s. no_space s, free.0), free.1), omega arith, cc is) where
-        no_space : b ≡ SPACE → ⊥
-        no_space s = grind (arith, nat_tests)
+      ((b ∷ w) ∷ v ∷ ws, ((λ s. no_space s e, free.0), free.1), omega arith, cc is)
 
 -- and no others
 pub same_free_words : (ws vs : List (List ℕ)) → AllByRecursion (IsFree SPACE) ws
