@@ -93,7 +93,11 @@ hex_plain (b ∷ bs) fits = (omega (arith, long b bs), encoded_plain (b ∷ bs) 
 
 -- ---- commands and replies
 
-ruleset plain_word_of = (number_plain, name_plain, which_plain, sides_plain, hex_plain)
+numbers_plain : (ns : List ℕ) → AllByRecursion FitsNumber ns → AllByRecursion IsPlain (map decimal ns)
+numbers_plain [] h = tt
+numbers_plain (n ∷ ns) h = (number_plain n h.0, numbers_plain ns h.1)
+
+ruleset plain_word_of = (number_plain, numbers_plain, name_plain, which_plain, sides_plain, hex_plain)
 
 -- each word of a command is bytes that can be seen, none an equals sign
 pub command_plain : (c : Command) → FitsCommand c → AllByRecursion IsPlain (command_words c)
@@ -110,14 +114,10 @@ pub fault_plain : (f : Fault) → (0 < length (fault_words f)) × AllByRecursion
 fault_plain fault.BadDescriptor = search rules
 fault_plain f = search rules
 
-numbers_plain : (ns : List ℕ) → AllByRecursion FitsNumber ns → AllByRecursion IsPlain (map decimal ns)
-numbers_plain [] h = tt
-numbers_plain (n ∷ ns) h = (number_plain n h.0, numbers_plain ns h.1)
-
 -- each word of a reply is bytes that can be seen, none an equals sign
 pub reply_plain : (r : Reply) → FitsReply r → AllByRecursion IsPlain (reply_words r)
 reply_plain (reply.Fault f) fits = (fault_plain f).1
-reply_plain r fits = search (rules, plain_word_of, numbers_plain)
+reply_plain r fits = search (rules, plain_word_of)
 
 -- a reply has at least one word
 pub some_reply : (r : Reply) → 0 < length (reply_words r)

@@ -30,7 +30,7 @@ use Rattle.smx_words.specs.Words.{IsWord}
 use Rattle.smx_words.proofs.DecidedLemmas.{Answer, HasWord, HasWords}
 use Rattle.smx_words.proofs.HexLemmas.{are_bytes, dash, ok_same}
 use Rattle.smx_words.proofs.NumberLemmas.{decimal_digits, same_number}
-use Rattle.smx_words.proofs.PlainLemmas.{fault_plain, plain_word, plain_words, sides_plain}
+use Rattle.smx_words.proofs.PlainLemmas.{fault_plain, plain_words}
 
 -- ---- values of few, each of which has its spelling
 

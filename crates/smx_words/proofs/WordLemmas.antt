@@ -1,20 +1,14 @@
 -- Words have no space in them.
 use Rattle.std.proofs.Common.{◌≡◌, ℕ, List, ◌∷◌, ◌++◌, sym, ap, ◌∙◌, arith, rules}
-use Rattle.smx_types.specs.declared.driver.DriverKind.{DriverKind}
-use Rattle.smx_types.specs.declared.driver.DriverKind.TheVariants as kind
-use Rattle.smx_types.specs.declared.stream.Side.{Side}
-use Rattle.smx_types.specs.declared.stream.Side.TheVariants as side
 use Rattle.smx_words.specs.declared.reading.verb.ReplyVerb.{ReplyVerb}
 use Rattle.smx_words.specs.declared.reading.verb.ReplyVerb.TheVariants as reply_verb
 use Rattle.smx_words.specs.Spellable.{FitsAlways, FitsName}
-use Rattle.smx_words.specs.Spelling.{kind_word, side_word}
 use Rattle.smx_words.specs.Verbs.{reply_verb_word}
 use Rattle.smx_words.specs.Words.{SPACE, IsFree}
 use Rattle.smx_words.proofs.CutLemmas.{apart}
 use Rattle.smx_words.proofs.DecidedLemmas.{HasWord}
 use Rattle.smx_words.proofs.DecidedWordLemmas.{name}
 use Rattle.smx_words.proofs.LineLemmas.{seen_free}
-use Rattle.smx_words.proofs.PlainLemmas.{name_plain, plain_word}
 
 -- no space stands in a word
 pub word_free : {X : Type 0} {Fits : X → Type 0} {word : X → List ℕ} → HasWord Fits word → (x : X) → Fits x
