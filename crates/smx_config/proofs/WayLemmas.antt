@@ -114,21 +114,8 @@ messages_alike drivers c process (command.Inject name minor addr bytes) x h e =
     let s = bound (live_leaf drivers c name minor) _ x e in sent_alike drivers c (read_side s.0) addr bytes x s.2
 messages_alike drivers c process (command.Transmit name minor) x h e =
     let s = bound (live_leaf drivers c name minor) _ x e in received_alike drivers c (write_side s.0) x s.2
-messages_alike drivers c process (command.OpenClone name) x h e = absurd (false≢true h)
-messages_alike drivers c process (command.OpenMinor name minor) x h e = absurd (false≢true h)
-messages_alike drivers c process (command.Dup fd) x h e = absurd (false≢true h)
-messages_alike drivers c process (command.Close fd) x h e = absurd (false≢true h)
 messages_alike drivers c process command.CloseAll x h e = absurd (false≢true h)
-messages_alike drivers c process (command.Link fd arg) x h e = absurd (false≢true h)
-messages_alike drivers c process (command.Plink fd arg) x h e = absurd (false≢true h)
-messages_alike drivers c process (command.Unlink fd w) x h e = absurd (false≢true h)
-messages_alike drivers c process (command.Punlink fd w) x h e = absurd (false≢true h)
-messages_alike drivers c process (command.Bind fd addr) x h e = absurd (false≢true h)
-messages_alike drivers c process (command.Unbind fd) x h e = absurd (false≢true h)
-messages_alike drivers c process (command.Route fd addr id) x h e = absurd (false≢true h)
-messages_alike drivers c process (command.Unroute fd addr) x h e = absurd (false≢true h)
-messages_alike drivers c process (command.Flush fd w) x h e = absurd (false≢true h)
-messages_alike drivers c process (command.Hangup name minor) x h e = absurd (false≢true h)
+messages_alike drivers c process k x h e = absurd (false≢true h)
 
 -- after an accepted command all that is noted still is right
 pub ways_after : (old new : Machine) (process : ℕ) (k : Command) (result : Result Reply StepError) (t u : WayList)
