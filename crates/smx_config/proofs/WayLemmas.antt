@@ -8,13 +8,9 @@ use Rattle.std.proofs.lemmas.Bool.{false≢true}
 use Rattle.smx_types.specs.declared.command.Command.{Command}
 use Rattle.smx_types.specs.declared.command.Command.TheVariants as command
 use Rattle.smx_types.specs.declared.driver.DriverSpec.{DriverSpec}
-use Rattle.smx_types.specs.declared.link.Binding.{Binding}
-use Rattle.smx_types.specs.declared.link.Link.{Link}
-use Rattle.smx_types.specs.declared.link.Route.{Route}
 use Rattle.smx_types.specs.declared.message.Message.{Message}
 use Rattle.smx_types.specs.declared.reply.Reply.{Reply}
 use Rattle.smx_types.specs.declared.stream.Place.{Place}
-use Rattle.smx_types.specs.declared.stream.StreamId.{StreamId}
 use Rattle.smx_model.specs.Commands.{outcome}
 use Rattle.smx_model.specs.Configuration.{Configuration}
 use Rattle.smx_model.specs.Lookups.{free_stream, live_leaf, live_stream}
@@ -75,14 +71,7 @@ one_more_way drivers c old new from addr to h is few p q a w = elim (few p q a w
 -- where all leads alike, a message goes to the same place next
 pub next_alike : (drivers : List DriverSpec) (c d : Configuration) (p : Place) (addr : ℕ) → LeadAlike c d
     → next_place drivers d p addr ≡ next_place drivers c p addr
-next_alike drivers c d p addr h =
-    ap (λ (x : List Link). by x d.routes d.binds d.hungs) h.links
-    ∙ (ap (λ (x : List Route). by c.links x d.binds d.hungs) h.routes
-    ∙ (ap (λ (x : List Binding). by c.links c.routes x d.hungs) h.binds
-    ∙ ap (λ (x : List StreamId). by c.links c.routes c.binds x) h.hungs)) where
-      by : List Link → List Route → List Binding → List StreamId → Option Place
-      by ls rs bs hs =
-          next_place drivers (record c { links = ls; routes = rs; binds = bs; hungs = hs }) p addr
+next_alike drivers c d p addr h = rw (h.links, h.routes, h.binds, h.hungs) refl
 
 -- ways stay right where all leads alike
 pub alike : (drivers : List DriverSpec) (c d : Configuration) (old new : WayList) → LeadAlike c d
