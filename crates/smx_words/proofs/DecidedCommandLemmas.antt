@@ -1,5 +1,5 @@
 -- Commands, replies and entries have words of their own, and each line of any bytes has a reading as one.
-use Rattle.std.proofs.Common.{◌≢◌, ℕ, List, [], ◌∷◌, Option, refl, subst, arith, rules, inr}
+use Rattle.std.proofs.Common.{◌≢◌, ℕ, List, Option, refl, subst, arith, rules, inr}
 use Rattle.std.specs.List.{AllByRecursion}
 use Rattle.std.specs.Prelude.{codes}
 use Rattle.smx_types.specs.declared.command.Command.{Command}
@@ -13,6 +13,7 @@ use Rattle.smx_words.specs.Words.{EQUALS, IsFree}
 use Rattle.smx_words.proofs.DecidedLemmas.{Answer, HasWords, after, each, first, joined, last, nothing, or_else}
 use Rattle.smx_words.proofs.DecidedLemmas.{reading, via}
 use Rattle.smx_words.proofs.DecidedWordLemmas.{bytes, name, number, number_which, process, two_numbers}
+use Rattle.smx_words.proofs.LineLemmas.{all_weaker}
 use Rattle.smx_words.proofs.PlainLemmas.{command_plain, plain_words, plain_words_free, reply_plain, some_command}
 use Rattle.smx_words.proofs.SameCommandLemmas.{same_command}
 use Rattle.smx_words.proofs.SameReplyLemmas.{same_reply}
@@ -107,13 +108,10 @@ pub entry_has_words : HasWords FitsEntry entry_words
 entry_has_words = via (λ p. record { process = p.0; command = p.1.0; reply = p.1.1 })
     (first process (joined (codes "=") refl command_has_words no_sign reply_has_words))
     (λ e. (e.process, (e.command, e.reply))) (λ p h. search rules) (λ e h. search rules) (λ e. refl) where
-      other : (ws : List (List ℕ)) → AllByRecursion (IsFree EQUALS) ws → AllByRecursion (λ w. w ≢ codes "=") ws
-      other [] h = tt
-      other (w ∷ ws) h = (λ e. (subst (IsFree EQUALS) e h.0).0 refl, other ws h.1)
-
       -- no word of a command is the sign
       no_sign : (c : Command) → FitsCommand c → AllByRecursion (λ w. w ≢ codes "=") (command_words c)
-      no_sign c h = other (command_words c) (plain_words_free (command_words c) (command_plain c h))
+      no_sign c h = all_weaker (λ w k e. (subst (IsFree EQUALS) e k).0 refl) (command_words c)
+          (plain_words_free (command_words c) (command_plain c h))
 
 -- ---- so each line has a reading
 

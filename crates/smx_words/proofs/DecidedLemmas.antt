@@ -9,7 +9,7 @@ use Rattle.std.proofs.lemmas.Bool.Decides.{nat_tests}
 use Rattle.std.proofs.lemmas.Slice.Eq.{bytes_eq-Decides}
 use Rattle.smx_words.specs.LineReading.{IsReadAs}
 use Rattle.smx_words.specs.Words.{IsWord, SPACE, line_of}
-use Rattle.smx_words.proofs.LineLemmas.{same_free_words, same_words, words_free, words_in}
+use Rattle.smx_words.proofs.LineLemmas.{all_append, same_free_words, same_words, words_free, words_in}
 
 -- a value that fits and is spelled so
 abbrev Has : {X S : Type 0} → (X → Type 0) → (X → S) → S → Type 0
@@ -168,7 +168,7 @@ joined {X} {Y} {Fits} {words} {FitsMore} {more} sign is d free m = record {
   one = λ p q h k e.
       let t = alone (words p.0) (words q.0) _ _ (free p.0 h.0) (free q.0 k.0) e in
       both p q (d.one p.0 q.0 h.0 k.0 t.0) (m.one p.1 q.1 h.1 k.1 t.1);
-  are_words = λ p h. and_more (words p.0) (more p.1) (d.are_words p.0 h.0) (m.are_words p.1 h.1);
+  are_words = λ p h. all_append IsWord (words p.0) _ (d.are_words p.0 h.0) (word_is sign is, m.are_words p.1 h.1);
 } where
   -- the sign is found in one place
   alone : (a c b e : List (List ℕ)) → AllByRecursion (λ w. w ≢ sign) a → AllByRecursion (λ w. w ≢ sign) c
@@ -217,11 +217,6 @@ joined {X} {Y} {Fits} {words} {FitsMore} {more} sign is d free m = record {
         | inr none ↦ inr (λ p fits e.
             none p.0 fits.0 (alone a (words p.0) b (more p.1) clear (free p.0 fits.0) (sym whole ∙ e)).0)
       ]
-
-  and_more : (ws vs : List (List ℕ)) → AllByRecursion IsWord ws → AllByRecursion IsWord vs
-      → AllByRecursion IsWord (ws ++ sign ∷ vs)
-  and_more [] vs h k = (word_is sign is, k)
-  and_more (w ∷ ws) vs h k = (h.0, and_more ws vs h.1 k)
 
 -- ---- other values for the same words
 

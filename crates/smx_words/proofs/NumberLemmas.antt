@@ -15,11 +15,11 @@ use Rattle.std.proofs.lemmas.Fmt.{decimal_nonempty, decimal_digit, decimal_injec
 use Rattle.std.proofs.lemmas.Bool.{cases_lt}
 use Rattle.std.proofs.lemmas.Bool.Decides.{nat_tests}
 use Rattle.std.proofs.lemmas.List.{take-append-drop, length-append, length-take-le, get_or-take}
-use Rattle.std.proofs.Math.Seq.{take-length}
+use Rattle.std.proofs.Math.Seq.{get_or-append_seam, take-length}
 use Rattle.smx_words.specs.Numbers.{NoDigitFirst}
 use Rattle.smx_words.specs.Spellable.{FitsNumber}
 use Rattle.smx_words.specs.Words.{SPACE, IsFree}
-use Rattle.smx_words.proofs.CutLemmas.{at_seam, apart, is_cut}
+use Rattle.smx_words.proofs.CutLemmas.{apart, is_cut}
 
 -- digits and their value are numerals, as the laws of `decimal` need them
 pub own : IsNumeralModel (λ ds. all_ascii_digits ds ≡ true) (digits_value 10)
@@ -201,7 +201,7 @@ not_first w i n small le front clear m after fits e =
     ∙ length-append (decimal m) (SPACE ∷ after) in (
       omega (arith, at, long),
       ap (slice_index w) at
-          ∙ ap (λ (x : List ℕ). slice_index x (length (decimal m))) e ∙ at_seam (decimal m) after SPACE,
+          ∙ ap (λ (x : List ℕ). slice_index x (length (decimal m))) e ∙ get_or-append_seam (decimal m) SPACE after 0,
     )
 
 -- a number is told by its word

@@ -24,6 +24,7 @@ use Rattle.smx_words.specs.Spellable.{FitsBytes, FitsCommand, FitsName, FitsNumb
 use Rattle.smx_words.specs.Spelling.{command_words, fault_words, reply_words, which_word, sides_word}
 use Rattle.smx_words.specs.Words.{EQUALS, IsFree, IsWord}
 use Rattle.smx_words.proofs.HexLemmas.{digit, digit_is, digit_range, long}
+use Rattle.smx_words.proofs.LineLemmas.{all_weaker}
 use Rattle.smx_words.proofs.NumberLemmas.{decimal_digits}
 
 -- a byte that can be seen, and no equals sign
@@ -126,24 +127,14 @@ some_reply r = omega arith
 
 -- ---- so they are words, and no equals sign stands in their lines
 
-seen : (w : List ℕ) → AllByRecursion IsPlainByte w → AllByRecursion (λ b. (0x21 ≤ b) × (b ≤ 0x7E)) w
-seen [] h = tt
-seen (b ∷ w) h = ((h.0.0, h.0.1), seen w h.1)
-
 -- some bytes that can be seen, with no equals sign, are a word
 pub plain_word : (w : List ℕ) → IsPlain w → IsWord w
-plain_word w h = (h.0, seen w h.1)
+plain_word w h = (h.0, all_weaker (λ b k. (k.0, k.1)) w h.1)
 
 -- lists of such bytes are words
 pub plain_words : (ws : List (List ℕ)) → AllByRecursion IsPlain ws → AllByRecursion IsWord ws
-plain_words [] h = tt
-plain_words (w ∷ ws) h = (plain_word w h.0, plain_words ws h.1)
-
-plain_free : (w : List ℕ) → AllByRecursion IsPlainByte w → IsFree EQUALS w
-plain_free [] h = tt
-plain_free (b ∷ w) h = (h.0.2, plain_free w h.1)
+plain_words = all_weaker plain_word
 
 -- in lists of such bytes stands no equals sign
 pub plain_words_free : (ws : List (List ℕ)) → AllByRecursion IsPlain ws → AllByRecursion (IsFree EQUALS) ws
-plain_words_free [] h = tt
-plain_words_free (w ∷ ws) h = (plain_free w h.0.1, plain_words_free ws h.1)
+plain_words_free = all_weaker (λ w h. all_weaker (λ b k. k.2) w h.1)

@@ -1,5 +1,5 @@
 -- Values of one word are told apart by it, and faults by their words. Whether words are of one of few is told.
-use Rattle.std.proofs.Common.{◌≡◌, ℕ, Bool, true, false, cond, List, [], ◌∷◌, Option, Some, None, refl, sym, ap}
+use Rattle.std.proofs.Common.{◌≡◌, ℕ, Result, Ok, Bool, true, false, cond, List, [], ◌∷◌, Option, Some, None, refl, sym, ap}
 use Rattle.std.proofs.Common.{◌∙◌, rules, inl, inr}
 use Rattle.std.specs.Bool.{Decides}
 use Rattle.std.specs.Cmp.Lexicographic.{pointwise, pointwise_decides}
@@ -7,6 +7,7 @@ use Rattle.std.specs.Prelude.{codes}
 use Rattle.std.specs.Str.{all_ascii_digits, bytes_eq}
 use Rattle.std.proofs.lemmas.Slice.Eq.{bytes_eq-Decides}
 use Rattle.hex.specs.Hex.{decode_of}
+use Rattle.hex.specs.declared.error.FromHexError.{FromHexError}
 use Rattle.hex.proofs.HexLemmas.{decode_of-encode_lower}
 use Rattle.smx_types.specs.declared.command.Sides.{Sides}
 use Rattle.smx_types.specs.declared.command.Sides.TheVariants as sides
@@ -28,7 +29,7 @@ use Rattle.smx_words.specs.Spelling.{fault_words, kind_word, link_kind_word, sid
 use Rattle.smx_words.specs.Verbs.{verb_word}
 use Rattle.smx_words.specs.Words.{IsWord}
 use Rattle.smx_words.proofs.DecidedLemmas.{Answer, HasWord, HasWords}
-use Rattle.smx_words.proofs.HexLemmas.{are_bytes, dash, ok_same}
+use Rattle.smx_words.proofs.HexLemmas.{are_bytes, dash}
 use Rattle.smx_words.proofs.NumberLemmas.{decimal_digits, same_number}
 use Rattle.smx_words.proofs.PlainLemmas.{fault_plain, plain_words}
 
@@ -161,5 +162,6 @@ pub same_bytes : (bs cs : List ℕ) → FitsBytes bs → FitsBytes cs → hex_wo
 same_bytes [] cs h k e = sym (dash cs (sym e))
 same_bytes (b ∷ bs) [] h k e = dash (b ∷ bs) e
 same_bytes (b ∷ bs) (c ∷ cs) h k e =
-    ok_same (b ∷ bs) (c ∷ cs) (sym (decode_of-encode_lower (b ∷ bs) (are_bytes (b ∷ bs) h)) ∙ ap decode_of e
-    ∙ decode_of-encode_lower (c ∷ cs) (are_bytes (c ∷ cs) k))
+    let both : ◌≡◌ {A = Result (List ℕ) FromHexError} (Ok (b ∷ bs)) (Ok (c ∷ cs)) =
+    sym (decode_of-encode_lower (b ∷ bs) (are_bytes (b ∷ bs) h)) ∙ ap decode_of e
+    ∙ decode_of-encode_lower (c ∷ cs) (are_bytes (c ∷ cs) k) in cc both
