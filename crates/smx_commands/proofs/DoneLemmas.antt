@@ -1,7 +1,6 @@
 -- What a swept change comes to.
-use Rattle.std.proofs.Common.{◌≡◌, ℕ, Bool, true, false, ◌&&◌, not, eqb, List, [], ◌∷◌, length, filter}
-use Rattle.std.proofs.Common.{Ok, Err, if◌then◌else◌, refl, rules, ap, ◌∙◌, inl, inr}
-use Rattle.std.proofs.lemmas.Bool.{cases_Bool, and_parts, and_from}
+use Rattle.std.proofs.Common.{◌≡◌, ℕ, Bool, true, false, ◌&&◌, not, eqb, List, [], length, filter}
+use Rattle.std.proofs.Common.{Ok, Err, if◌then◌else◌, refl, rules, ap, ◌∙◌}
 use Rattle.std.specs.List.{list_any, list_all}
 use Rattle.smx_types.specs.declared.command.Command.TheVariants as command
 use Rattle.smx_types.specs.declared.command.Which.{Which}
@@ -25,6 +24,7 @@ use Rattle.smx_model.specs.Removal.{serials_that_left, after_sweep}
 use Rattle.smx_model.specs.Standing.{exists}
 use Rattle.smx_model.specs.Swept.{IsSwept}
 use Rattle.smx_addresses.specs.BindingLists.{is_taken}
+use Rattle.smx_model.proofs.TestLemmas.{all_placed}
 use Rattle.smx_tables.proofs.ClimbLemmas.{named_stands}
 use Rattle.smx_tables.proofs.ExistingLemmas.{all_fewer, named_stream}
 use Rattle.smx_commands.specs.UnlinkTargets.{unlinks}
@@ -75,20 +75,10 @@ mux_stream_exists drivers c process fd s e =
     let there = (free_says c process fd s (free.1 ∙ mux.2)).0 in
     named_stands c.fds c.links (length drivers) s (named_stream process fd c.fds s (fd_at _ s there))
 
-all_inserted : {X : Type 0} (before : X → X → Bool) (t : X → Bool) (xs : List X) (x : X) → t x ≡ true
-    → list_all t xs ≡ true → list_all t (with_inserted before xs x) ≡ true
-all_inserted before t [] x h all = and_from _ _ h refl
-all_inserted before t (y ∷ ys) x h all = let p = and_parts (t y) (list_all t ys) all in
-    elim (cases_Bool (before x y)) [
-      | inl a ↦ rw a (and_from _ _ h all)
-      | inr b ↦
-          rw b (and_from _ _ p.0 (all_inserted before t ys x h p.1))
-    ]
-
 one_more_bind : (drivers : List DriverSpec) (c : Configuration) (b : Binding)
     → exists drivers c (record { driver = b.driver; minor = b.minor }) ≡ true → IsSwept drivers c
     → IsSwept drivers (record c { binds = with_inserted bind_before c.binds b })
-one_more_bind drivers c b there h = search (all_inserted, rules)
+one_more_bind drivers c b there h = search (all_placed, rules)
 
 -- a bind that is not refused inserts its binding, and drops no message
 pub bind_does : (drivers : List DriverSpec) (c : Configuration) (process fd addr : ℕ) (s : StreamId)
@@ -141,17 +131,11 @@ unroute_refused drivers c process fd addr s e none = rw (e, none) refl
 
 one_more_hung : (drivers : List DriverSpec) (c : Configuration) (s : StreamId) → exists drivers c s ≡ true
     → IsSwept drivers c → IsSwept drivers (record c { hungs = with_hung s c.hungs })
-one_more_hung drivers c s there h = record {
-  links = h.links;
-  binds = h.binds;
-  flow = h.flow;
-  fulls = h.fulls;
-  hungs = all_hung (is_hung c.hungs s);
-} where
+one_more_hung drivers c s there h = search (rules, all_hung (is_hung c.hungs s)) where
   all_hung : (b : Bool) → list_all (exists drivers c) (if b then c.hungs else with_inserted stream_before c.hungs s)
       ≡ true
   all_hung true = h.hungs
-  all_hung false = all_inserted stream_before (exists drivers c) c.hungs s there h.hungs
+  all_hung false = all_placed (exists drivers c) stream_before c.hungs s there h.hungs
 
 -- a hangup that is not refused hangs its stream up, and drops no message
 pub hangup_does : (drivers : List DriverSpec) (c : Configuration) (process : ℕ) (name : List ℕ) (minor : ℕ)
