@@ -22,7 +22,8 @@ use Rattle.smx_words.proofs.SameWordLemmas.{every_fault, flush_sides}
 command_answer : (ws : List (List ℕ)) → Answer FitsCommand command_words ws
 command_answer ws =
     or_else command.OpenClone (after (codes "clone") refl (last name)) (λ p h. h) (λ no_clone.
-    or_else (λ p. command.OpenMinor p.0 p.1) (after (codes "open") refl (first name (last number))) (λ p h. h) (λ no_open.
+    or_else (λ p. command.OpenMinor p.0 p.1) (after (codes "open") refl (first name (last number))) (λ p h. h)
+    (λ no_open.
     or_else command.Dup (after (codes "dup") refl (last number)) (λ p h. h) (λ no_dup.
     or_else command.Close (after (codes "close") refl (last number)) (λ p h. h) (λ no_close.
     or_else (λ p. command.CloseAll) (after (codes "exit") refl nothing) (λ p h. h) (λ no_exit.
@@ -43,8 +44,10 @@ command_answer ws =
     or_else (λ p. command.Inject p.0 p.1.0 p.1.1.0 p.1.1.1)
     (after (codes "inject") refl (first name (first number (first number (last bytes)))))
     (λ p h. (h.0, h.1.0, h.1.1.0, h.1.1.1)) (λ no_inject.
-    or_else (λ p. command.Transmit p.0 p.1) (after (codes "transmit") refl (first name (last number))) (λ p h. h) (λ no_transmit.
-    or_else (λ p. command.Hangup p.0 p.1) (after (codes "hangup") refl (first name (last number))) (λ p h. h) (λ no_hangup.
+    or_else (λ p. command.Transmit p.0 p.1) (after (codes "transmit") refl (first name (last number))) (λ p h. h)
+    (λ no_transmit.
+    or_else (λ p. command.Hangup p.0 p.1) (after (codes "hangup") refl (first name (last number))) (λ p h. h)
+    (λ no_hangup.
     inr (λ x. (elim x as (λ x. FitsCommand x → ws ≢ command_words x) [
       | command.OpenClone d ↦ no_clone d
       | command.OpenMinor d n ↦ no_open (d, n)

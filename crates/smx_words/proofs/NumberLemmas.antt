@@ -135,7 +135,8 @@ wrong_start w i le all clear wrong n after fits none e =
     let long : length (take i w) ≡ i = length-take-le i w le in
     let pos : 0 < i = omega (arith, ap (length {A = ℕ}) same, start.0, long) in
     let bad = is_wrong w i pos wrong in
-    let first : get_or (decimal n) 0 0 ≡ 48 = ap (λ (x : List ℕ). get_or x 0 0) (sym same) ∙ get_or-take i w 0 0 pos ∙ bad.0 in
+    let first : get_or (decimal n) 0 0 ≡ 48 =
+    ap (λ (x : List ℕ). get_or x 0 0) (sym same) ∙ get_or-take i w 0 0 pos ∙ bad.0 in
     omega (arith, start.1 first, ap (length {A = ℕ}) same, long, bad.1)
 
 -- and others spell theirs

@@ -1,6 +1,6 @@
 -- Values of one word are told apart by it, and faults by their words. Whether words are of one of few is told.
-use Rattle.std.proofs.Common.{◌≡◌, ℕ, Result, Ok, Bool, true, false, cond, List, [], ◌∷◌, Option, Some, None, refl, sym, ap}
-use Rattle.std.proofs.Common.{◌∙◌, rules, inl, inr}
+use Rattle.std.proofs.Common.{◌≡◌, ℕ, Result, Ok, Bool, true, false, cond, List, [], ◌∷◌}
+use Rattle.std.proofs.Common.{Option, Some, None, refl, sym, ap, ◌∙◌, rules, inl, inr}
 use Rattle.std.specs.Bool.{Decides}
 use Rattle.std.specs.Cmp.Lexicographic.{pointwise, pointwise_decides}
 use Rattle.std.specs.Prelude.{codes}

@@ -61,8 +61,9 @@ returns-clause-marks c =
           ∙ c.clear-2.ensures.others r f;
       others = λ r f g. c.note_target.ensures.others r g ∙ c.clear-2.ensures.others r f;
     } in
-    let marked : AreMarked drivers d (has_mark new.run) (has_mark new.wanted) = c.more_marks_do.ensures drivers d nowhere
-    (both (has_mark old.wanted) (λ r. is_one_of (same_place r) waits)) (has_mark new.run) (has_mark new.wanted)
+    let marked : AreMarked drivers d (has_mark new.run) (has_mark new.wanted) =
+    c.more_marks_do.ensures drivers d nowhere (both (has_mark old.wanted) (λ r. is_one_of (same_place r) waits))
+    (has_mark new.run) (has_mark new.wanted)
     (c.lone_messages_come_to_rest.ensures.marked drivers now (has_mark old.run) (has_mark old.wanted) from at m.0
     moves left waits c.requires.sound c.requires.alone m.1 way (c.requires.stays m.0 m.1))
     (λ r some h. absurd (false≢true h)) (λ r h. enough_wanted from at r waits old new rests h) in

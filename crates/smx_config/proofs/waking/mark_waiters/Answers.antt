@@ -12,8 +12,8 @@ loop-wait-preserved c =
     let next = drop_more c.waits-wait-items.result.now c.loop-wait.wait-index _ c.loop-wait-test.true in
     elim c.if-same_place.branch [
       | then-same_place w ↦
-          rw w.run-is (waiter_passed c.args.waits.now _ _ _ _ _ _ _ next c.loop-wait.invariant w.mark.ensures.here w.mark.ensures.kept
-          w.mark.ensures.drivers)
+          rw w.run-is (waiter_passed c.args.waits.now _ _ _ _ _ _ _ next c.loop-wait.invariant
+          w.mark.ensures.here w.mark.ensures.kept w.mark.ensures.drivers)
       | else-same_place w ↦
           rw w.run-is (other_passed c.args.waits.now _ _ _ _ _ _ next c.loop-wait.invariant
           (sym c.same_place.ensures ∙ w.if-same_place.false))
