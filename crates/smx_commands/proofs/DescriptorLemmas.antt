@@ -20,7 +20,6 @@ use Rattle.smx_model.specs.Standing.{exists, is_below}
 use Rattle.smx_streams.specs.StreamTables.{Answer, StreamTable, IsRefused, is_in_range, clone_answer}
 use Rattle.smx_streams.specs.StreamTables.{minor_answer, least_fd, least_minor, exists as is_there}
 use Rattle.smx_streams.specs.declared.stream_fault.StreamFault.{StreamFault}
-use Rattle.smx_streams.specs.declared.stream_fault.StreamFault.TheVariants as stream_fault
 use Rattle.smx_commands.specs.declared.step_error.StepError.{StepError}
 use Rattle.smx_commands.specs.declared.step_error.StepError.TheVariants as step_error
 use Rattle.smx_tables.specs.ExistingStreams.{TellsExisting}
@@ -94,11 +93,11 @@ has_driver drivers t n minors lt =
       many [] = refl
       many (d ∷ ds) = ap suc (many ds)
 
--- by what the answer is, and what the outcome is
-agree : (c : Configuration) (process : ℕ) (a b : Answer) (o p : Outcome) → a ≡ b → o ≡ p → Agrees c process b p
-    → Agrees c process a o
-agree c process a b o p e f h =
-    subst (λ (x : Answer). Agrees c process x o) (sym e) (subst (λ (x : Outcome). Agrees c process b x) (sym f) h)
+-- the free number of a descriptor is the least that the table has free
+number : (c : Configuration) (t : StreamTable) (process : ℕ) → t.fds ≡ c.fds → (k : Option ℕ)
+    → least_fd t.fds process ≡ k → free_fd c process ≡ or_fault TooManyDescriptors k
+number c t process same k e =
+    ap (or_fault TooManyDescriptors) (ap (λ (fds : List Descriptor). least_fd fds process) (sym same) ∙ e)
 
 -- what the table of streams answers a clone open agrees with the outcome of the command
 pub clone_agrees : (drivers : List DriverSpec) (c : Configuration) (t : StreamTable) (process n : ℕ) (name : List ℕ)
@@ -110,18 +109,13 @@ clone_agrees drivers c t process n name minors told same found lt =
       free : (o : Option ℕ) → least_minor t n ≡ o → free_minor drivers c n ≡ or_fault NoMinor o
       free o e = ap (or_fault NoMinor) (sym (least_same drivers c t n minors told) ∙ e)
 
-      number : (k : Option ℕ) → least_fd t.fds process ≡ k → free_fd c process ≡ or_fault TooManyDescriptors k
-      number k e =
-          ap (or_fault TooManyDescriptors) (ap (λ (fds : List Descriptor). least_fd fds process) (sym same) ∙ e)
-
       by : (o k : Option ℕ) → least_minor t n ≡ o → least_fd t.fds process ≡ k
           → Agrees c process (clone_answer t process n) (outcome drivers c process (command.OpenClone name))
-      by None k e g = agree c process _ (Err stream_fault.NoMinor) _ (Err NoMinor)
-          (rw (has_driver drivers t n minors lt, e) refl) (rw (found, free None e) refl) refl
-      by (Some m) None e g = agree c process _ (Err stream_fault.TooManyDescriptors) _ (Err TooManyDescriptors)
-          (rw (has_driver drivers t n minors lt, e, g) refl) (rw (found, free (Some m) e, number None g) refl) refl
-      by (Some m) (Some k) e g = agree c process _ (Ok (k, record { driver = n; minor = m })) _ _
-          (rw (has_driver drivers t n minors lt, e, g) refl) (rw (found, free (Some m) e, number (Some k) g) refl) refl
+      by None k e g = rw (has_driver drivers t n minors lt, e, found, free None e) refl
+      by (Some m) None e g =
+          rw (has_driver drivers t n minors lt, e, g, found, free (Some m) e, number c t process same None g) refl
+      by (Some m) (Some k) e g =
+          rw (has_driver drivers t n minors lt, e, g, found, free (Some m) e, number c t process same (Some k) g) refl
 
 -- what the table of streams answers an open of a minor agrees with the outcome of the command
 pub minor_agrees : (drivers : List DriverSpec) (c : Configuration) (t : StreamTable) (process n minor : ℕ)
@@ -134,12 +128,9 @@ minor_agrees drivers c t process n minor name minors same found lt few free = by
   inside = let count : slice_index t.minors n ≡ minors_of drivers n = ap (λ (xs : List ℕ). slice_index xs n) minors
       ∙ minors_at drivers n in grind (arith, nat_tests)
 
-  number : (k : Option ℕ) → least_fd t.fds process ≡ k → free_fd c process ≡ or_fault TooManyDescriptors k
-  number k e = ap (or_fault TooManyDescriptors) (ap (λ (fds : List Descriptor). least_fd fds process) (sym same) ∙ e)
-
   by : (k : Option ℕ) → least_fd t.fds process ≡ k
       → Agrees c process (minor_answer t process n minor) (outcome drivers c process (command.OpenMinor name minor))
-  by None g = agree c process _ (Err stream_fault.TooManyDescriptors) _ (Err TooManyDescriptors)
-      (rw (has_driver drivers t n minors lt, inside, g) refl) (rw (found, few, free, number None g) refl) refl
-  by (Some k) g = agree c process _ (Ok (k, record { driver = n; minor = minor })) _ _
-      (rw (has_driver drivers t n minors lt, inside, g) refl) (rw (found, few, free, number (Some k) g) refl) refl
+  by None g =
+      rw (has_driver drivers t n minors lt, inside, g, found, few, free, number c t process same None g) refl
+  by (Some k) g =
+      rw (has_driver drivers t n minors lt, inside, g, found, few, free, number c t process same (Some k) g) refl

@@ -1,7 +1,6 @@
 -- What a swept change comes to.
-use Rattle.std.proofs.Common.{◌≡◌, ℕ, Bool, true, false, ◌&&◌, not, eqb, List, [], ◌∷◌, length, filter}
-use Rattle.std.proofs.Common.{Ok, Err, if◌then◌else◌, refl, ap, ◌∙◌, inl, inr}
-use Rattle.std.proofs.lemmas.Bool.{cases_Bool, and_parts, and_from}
+use Rattle.std.proofs.Common.{◌≡◌, ℕ, Bool, true, false, ◌&&◌, not, eqb, List, [], length, filter}
+use Rattle.std.proofs.Common.{Ok, Err, if◌then◌else◌, refl, rules, ap, ◌∙◌}
 use Rattle.std.specs.List.{list_any, list_all}
 use Rattle.smx_types.specs.declared.command.Command.TheVariants as command
 use Rattle.smx_types.specs.declared.command.Which.{Which}
@@ -25,6 +24,7 @@ use Rattle.smx_model.specs.Removal.{serials_that_left, after_sweep}
 use Rattle.smx_model.specs.Standing.{exists}
 use Rattle.smx_model.specs.Swept.{IsSwept}
 use Rattle.smx_addresses.specs.BindingLists.{is_taken}
+use Rattle.smx_model.proofs.TestLemmas.{all_placed}
 use Rattle.smx_tables.proofs.ClimbLemmas.{named_stands}
 use Rattle.smx_tables.proofs.ExistingLemmas.{all_fewer, named_stream}
 use Rattle.smx_commands.specs.UnlinkTargets.{unlinks}
@@ -42,13 +42,11 @@ swept_is drivers given c new changed d r same is left gone =
 
 fewer_binds : (drivers : List DriverSpec) (c : Configuration) (t : Binding → Bool) → IsSwept drivers c
     → IsSwept drivers (record c { binds = filter t c.binds })
-fewer_binds drivers c t h =
-    record { links = h.links; binds = all_fewer _ t c.binds h.binds; flow = h.flow; fulls = h.fulls; hungs = h.hungs }
+fewer_binds drivers c t h = search (all_fewer, rules)
 
 other_routes : (drivers : List DriverSpec) (c : Configuration) (routes : List Route) → IsSwept drivers c
     → IsSwept drivers (record c { routes = routes })
-other_routes drivers c routes h =
-    record { links = h.links; binds = h.binds; flow = h.flow; fulls = h.fulls; hungs = h.hungs }
+other_routes drivers c routes h = search rules
 
 -- what the law of the model says: then no message is dropped
 abbrev pub IdleDropsNone : List DriverSpec → Type 0
@@ -67,13 +65,7 @@ pub route_does : (drivers : List DriverSpec) (c : Configuration) (process fd add
     } → r ≡ Done []
     → outcome drivers c process (command.Route fd addr id) ≡ Ok (new, r)
 route_does drivers c process fd addr id s new r idle clean e there is none =
-    rw (e, there, is, none) (idle c rest (other_routes drivers c rest.routes clean) refl) where
-      rest : Configuration
-      rest = record c {
-        routes = with_inserted route_before
-            (filter (λ x. not (eqb x.driver s.driver && eqb x.addr addr)) c.routes)
-            (record { driver = s.driver; addr = addr; id = id });
-      }
+    rw (e, there, is, none) (idle c _ (other_routes drivers c _ clean) refl)
 
 mux_stream_exists : (drivers : List DriverSpec) (c : Configuration) (process fd : ℕ) (s : StreamId)
     → mux_stream drivers c process fd ≡ Ok s → exists drivers c s ≡ true
@@ -83,26 +75,10 @@ mux_stream_exists drivers c process fd s e =
     let there = (free_says c process fd s (free.1 ∙ mux.2)).0 in
     named_stands c.fds c.links (length drivers) s (named_stream process fd c.fds s (fd_at _ s there))
 
-all_inserted : {X : Type 0} (before : X → X → Bool) (t : X → Bool) (xs : List X) (x : X) → t x ≡ true
-    → list_all t xs ≡ true → list_all t (with_inserted before xs x) ≡ true
-all_inserted before t [] x h all = and_from _ _ h refl
-all_inserted before t (y ∷ ys) x h all = let p = and_parts (t y) (list_all t ys) all in
-    elim (cases_Bool (before x y)) [
-      | inl a ↦ rw a (and_from _ _ h all)
-      | inr b ↦
-          rw b (and_from _ _ p.0 (all_inserted before t ys x h p.1))
-    ]
-
 one_more_bind : (drivers : List DriverSpec) (c : Configuration) (b : Binding)
     → exists drivers c (record { driver = b.driver; minor = b.minor }) ≡ true → IsSwept drivers c
     → IsSwept drivers (record c { binds = with_inserted bind_before c.binds b })
-one_more_bind drivers c b there h = record {
-  links = h.links;
-  binds = all_inserted bind_before _ c.binds b there h.binds;
-  flow = h.flow;
-  fulls = h.fulls;
-  hungs = h.hungs;
-}
+one_more_bind drivers c b there h = search (all_placed, rules)
 
 -- a bind that is not refused inserts its binding, and drops no message
 pub bind_does : (drivers : List DriverSpec) (c : Configuration) (process fd addr : ℕ) (s : StreamId)
@@ -115,13 +91,8 @@ pub bind_does : (drivers : List DriverSpec) (c : Configuration) (process fd addr
     } → r ≡ Done []
     → outcome drivers c process (command.Bind fd addr) ≡ Ok (new, r)
 bind_does drivers c process fd addr s new r idle clean e there is none = rw (e, there, is, none)
-    (idle c rest (one_more_bind drivers c (record { driver = s.driver; addr = addr; minor = s.minor })
-    (mux_stream_exists drivers c process fd s e) clean) refl) where
-      rest : Configuration
-      rest = record c {
-        binds = with_inserted bind_before c.binds
-            (record { driver = s.driver; addr = addr; minor = s.minor });
-      }
+    (idle c _ (one_more_bind drivers c (record { driver = s.driver; addr = addr; minor = s.minor })
+    (mux_stream_exists drivers c process fd s e) clean) refl)
 
 -- an unbind that is not refused takes the binding of its stream away, and drops no message
 pub unbind_does : (drivers : List DriverSpec) (c : Configuration) (process fd : ℕ) (s : StreamId) (new : Configuration)
@@ -130,12 +101,7 @@ pub unbind_does : (drivers : List DriverSpec) (c : Configuration) (process fd : 
     → new ≡ record c { binds = filter (λ b. not (eqb b.driver s.driver && eqb b.minor s.minor)) c.binds } → r ≡ Done []
     → outcome drivers c process (command.Unbind fd) ≡ Ok (new, r)
 unbind_does drivers c process fd s new r idle clean e there is none =
-    rw (e, there, is, none) (idle c rest (fewer_binds drivers c other clean) refl) where
-      other : Binding → Bool
-      other b = not (eqb b.driver s.driver && eqb b.minor s.minor)
-
-      rest : Configuration
-      rest = record c { binds = filter other c.binds }
+    rw (e, there, is, none) (idle c _ (fewer_binds drivers c _ clean) refl)
 
 -- where nothing is bound to the stream an unbind is refused
 pub unbind_refused : (drivers : List DriverSpec) (c : Configuration) (process fd : ℕ) (s : StreamId)
@@ -152,9 +118,7 @@ pub unroute_does : (drivers : List DriverSpec) (c : Configuration) (process fd a
     → new ≡ record c { routes = filter (λ x. not (eqb x.driver s.driver && eqb x.addr addr)) c.routes } → r ≡ Done []
     → outcome drivers c process (command.Unroute fd addr) ≡ Ok (new, r)
 unroute_does drivers c process fd addr s new r idle clean e there is none =
-    rw (e, there, is, none) (idle c rest (other_routes drivers c rest.routes clean) refl) where
-      rest : Configuration
-      rest = record c { routes = filter (λ x. not (eqb x.driver s.driver && eqb x.addr addr)) c.routes }
+    rw (e, there, is, none) (idle c _ (other_routes drivers c _ clean) refl)
 
 -- where the driver has no route for the address an unroute is refused
 pub unroute_refused : (drivers : List DriverSpec) (c : Configuration) (process fd addr : ℕ) (s : StreamId)
@@ -167,17 +131,11 @@ unroute_refused drivers c process fd addr s e none = rw (e, none) refl
 
 one_more_hung : (drivers : List DriverSpec) (c : Configuration) (s : StreamId) → exists drivers c s ≡ true
     → IsSwept drivers c → IsSwept drivers (record c { hungs = with_hung s c.hungs })
-one_more_hung drivers c s there h = record {
-  links = h.links;
-  binds = h.binds;
-  flow = h.flow;
-  fulls = h.fulls;
-  hungs = all_hung (is_hung c.hungs s);
-} where
+one_more_hung drivers c s there h = search (rules, all_hung (is_hung c.hungs s)) where
   all_hung : (b : Bool) → list_all (exists drivers c) (if b then c.hungs else with_inserted stream_before c.hungs s)
       ≡ true
   all_hung true = h.hungs
-  all_hung false = all_inserted stream_before (exists drivers c) c.hungs s there h.hungs
+  all_hung false = all_placed (exists drivers c) stream_before c.hungs s there h.hungs
 
 -- a hangup that is not refused hangs its stream up, and drops no message
 pub hangup_does : (drivers : List DriverSpec) (c : Configuration) (process : ℕ) (name : List ℕ) (minor : ℕ)
@@ -186,7 +144,7 @@ pub hangup_does : (drivers : List DriverSpec) (c : Configuration) (process : ℕ
     → new ≡ record c { hungs = with_hung s c.hungs } → r ≡ Done []
     → outcome drivers c process (command.Hangup name minor) ≡ Ok (new, r)
 hangup_does drivers c process name minor s new r idle clean e is none = rw (e, is, none)
-    (idle c (record c { hungs = with_hung s c.hungs })
+    (idle c _
     (one_more_hung drivers c s (leaf_says drivers c name minor s e).0 clean) refl)
 
 -- ---- both kinds of links at once

@@ -79,5 +79,4 @@ stream_known drivers c process fd s k h =
 -- the driver of a descriptor's stream is there
 pub driver_known : (drivers : List DriverSpec) (c : Configuration) (process fd : ℕ) (s : StreamId)
     → AreStreamsKnown drivers c → stream_of c process fd ≡ Ok s → s.driver < length drivers
-driver_known drivers c process fd s k h =
-    (found_known drivers process fd c.fds s (recursion_from_All (λ d. IsKnown drivers d.stream) c.fds k.fds) h).0
+driver_known drivers c process fd s k h = (stream_known drivers c process fd s k h).0

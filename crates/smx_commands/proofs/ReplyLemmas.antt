@@ -37,25 +37,14 @@ behind drivers c (Err g) f h = record { none = refl }
 
 no_bytes : (drivers : List DriverSpec) (c : Configuration) (process : ℕ) (k : Command) → carries_nothing k ≡ true
     → HasNoBytes drivers c (outcome drivers c process k)
-no_bytes drivers c process (command.OpenClone name) h = search (behind, nothing, rules) depth 20
-no_bytes drivers c process (command.OpenMinor name minor) h = search (behind, nothing, rules) depth 20
-no_bytes drivers c process (command.Dup fd) h = search (behind, nothing, rules) depth 20
 no_bytes drivers c process (command.Close fd) h = absurd cc
 no_bytes drivers c process command.CloseAll h = absurd cc
-no_bytes drivers c process (command.Link fd arg) h = search (behind, nothing, rules) depth 20
-no_bytes drivers c process (command.Plink fd arg) h = search (behind, nothing, rules) depth 20
 no_bytes drivers c process (command.Unlink fd w) h = absurd cc
 no_bytes drivers c process (command.Punlink fd w) h = absurd cc
-no_bytes drivers c process (command.Bind fd addr) h = search (behind, nothing, rules) depth 20
-no_bytes drivers c process (command.Unbind fd) h = search (behind, nothing, rules) depth 20
-no_bytes drivers c process (command.Route fd addr id) h = search (behind, nothing, rules) depth 20
-no_bytes drivers c process (command.Unroute fd addr) h = search (behind, nothing, rules) depth 20
-no_bytes drivers c process (command.Write fd addr bytes) h = search (behind, nothing, rules) depth 20
 no_bytes drivers c process (command.Read fd) h = absurd cc
 no_bytes drivers c process (command.Flush fd w) h = absurd cc
-no_bytes drivers c process (command.Inject name minor addr bytes) h = search (behind, nothing, rules) depth 20
 no_bytes drivers c process (command.Transmit name minor) h = absurd cc
-no_bytes drivers c process (command.Hangup name minor) h = search (behind, nothing, rules) depth 20
+no_bytes drivers c process k h = search (behind, nothing, rules) depth 20
 
 -- and so may drop none
 drops_none : (k : Command) → carries_nothing k ≡ true → may_drop k ≡ false

@@ -71,8 +71,8 @@ impl Tables {
         Ok(free)
     }
 
-    /// The stream of a descriptor; refused as `stream_of` has it, or where it is below a link, or else where its driver is
-    /// no multiplexing one. Takes no memory.
+    /// The stream of a descriptor; refused as `stream_of` has it, or where it is below a link, or else where its driver
+    /// is no multiplexing one. Takes no memory.
     pub fn mux_stream(&self, process: Process, fd: u32) -> Result<StreamId, Fault>
         ensures { result ≡ mux_stream self.now.drivers self.now.configuration process fd }
     {

@@ -1,5 +1,5 @@
 -- A command that sends or takes a message leaves links, routes, bindings and hung-up streams as they are.
-use Rattle.std.proofs.Common.{◌≡◌, ℕ, Bool, true, false, ◌+◌, ◌&&◌, ◌||◌, eqb, not, List, length}
+use Rattle.std.proofs.Common.{◌≡◌, ℕ, Bool, true, false, ◌+◌, ◌&&◌, ◌||◌, eqb, not, List, length, rules}
 use Rattle.std.proofs.Common.{Ok, refl, subst}
 use Rattle.std.specs.Prelude.{nat_le, nat_lt}
 use Rattle.std.specs.Option.{is_some}
@@ -33,16 +33,14 @@ sent_alike drivers c p addr bytes x e =
     let size = bound (refuse BadSize (eqb (length bytes) 0 || nat_lt (max_of drivers p.stream.driver) (length bytes)))
     (λ s. refuse Full (is_full c p || nat_le NUMBER_END c.next_serial) >>= (λ r. sent)) x e in
     let room = bound (refuse Full (is_full c p || nat_le NUMBER_END c.next_serial)) (λ r. sent) x size.2 in
-    subst (λ (y : Configuration × Reply). LeadAlike c y.0) (accepted _ x room.2)
-    (record { links = refl; routes = refl; binds = refl; hungs = refl })
+    subst (λ (y : Configuration × Reply). LeadAlike c y.0) (accepted _ x room.2) (search rules)
 
 -- and so does taking one
 pub received_alike : (drivers : List DriverSpec) (c : Configuration) (p : Place) (x : Configuration × Reply)
     → receive_outcome drivers c p ≡ Ok x → LeadAlike c x.0
 received_alike drivers c p x e =
     let found = bound (or_fault Empty (first_message c.flow p)) _ x e in
-    subst (λ (y : Configuration × Reply). LeadAlike c y.0) (accepted _ x found.2)
-    (record { links = refl; routes = refl; binds = refl; hungs = refl })
+    subst (λ (y : Configuration × Reply). LeadAlike c y.0) (accepted _ x found.2) (search rules)
 
 -- and so does reading one
 pub read_alike : (drivers : List DriverSpec) (c : Configuration) (s : StreamId) (x : Configuration × Reply)
@@ -50,7 +48,6 @@ pub read_alike : (drivers : List DriverSpec) (c : Configuration) (s : StreamId) 
 read_alike drivers c s x e = by (is_hung c.hungs s && not (is_some (first_message c.flow (read_side s)))) refl where
   by : (b : Bool) → (is_hung c.hungs s && not (is_some (first_message c.flow (read_side s)))) ≡ b → LeadAlike c x.0
   by true t = let k : ◌≡◌ {A = Outcome} (Ok (c, _)) (Ok x) = rw t at e in
-      subst (λ (y : Configuration × Reply). LeadAlike c y.0) (accepted _ x k)
-      (record { links = refl; routes = refl; binds = refl; hungs = refl })
+      subst (λ (y : Configuration × Reply). LeadAlike c y.0) (accepted _ x k) (search rules)
   by false f = let k : receive_outcome drivers c (read_side s) ≡ Ok x = rw f at e in
       received_alike drivers c (read_side s) x k

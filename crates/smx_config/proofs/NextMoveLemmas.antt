@@ -203,11 +203,9 @@ few_wanted to q old new next is others h = elim (cases_Bool (same_place to q)) [
 pub there_too : (to q : Place) (m : MarkList) (next : Option Place) (drivers : List DriverSpec) → next ≡ Some to
     → (IsKnown drivers to.stream → has_mark m to ≡ true) → next ≡ Some q → IsKnown drivers q.stream
     → has_mark m q ≡ true
-there_too to q m next drivers is here at known = let e : to ≡ q = same (sym is ∙ at) in
-    subst (λ (x : Place). has_mark m x ≡ true) e
-    (here (subst (λ (x : Place). IsKnown drivers x.stream) (sym e) known)) where
-      same : ◌≡◌ {A = Option Place} (Some to) (Some q) → to ≡ q
-      same e = cc
+there_too to q m next drivers is here at known =
+    let both : ◌≡◌ {A = Option Place} (Some to) (Some q) = sym is ∙ at in let same : to ≡ q = cc in
+    subst (λ (x : Place). IsKnown drivers x.stream → has_mark m x ≡ true) same here known
 
 -- ---- at first
 

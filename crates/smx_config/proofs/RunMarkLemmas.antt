@@ -4,8 +4,7 @@ use Rattle.std.proofs.Common.{Some, None, refl, sym, ap, ◌∙◌, subst, inl, 
 use Rattle.std.specs.Prelude.{◌≢◌, ◌⊎◌}
 use Rattle.std.specs.List.{list_any}
 use Rattle.std.specs.Option.{option_map_or}
-use Rattle.std.proofs.lemmas.Bool.{cases_Bool, false≢true}
-use Rattle.smx_types.specs.declared.driver.DriverSpec.{DriverSpec}
+use Rattle.std.proofs.lemmas.Bool.{cases_Bool, false≢true, false_from_ne_true}
 use Rattle.smx_types.specs.declared.link.Link.{Link}
 use Rattle.smx_types.specs.declared.stream.Place.{Place}
 use Rattle.smx_types.specs.declared.stream.Side.TheVariants as side
@@ -38,9 +37,8 @@ pub one_marked : (flow : List QueuedMessage) (place : Place) (old new : MarkList
     → IsMarkedWhere flow (same_place place) old new
 one_marked flow place old new here kept same = record {
   kept = kept;
-  marked = λ p known some t. let e = place_is place p t in
-      subst (λ (x : Place). has_mark new x ≡ true) e
-      (here (subst (λ (x : Place). IsKnown old.drivers x.stream) (sym e) known));
+  marked = λ p known some t.
+      subst (λ (x : Place). IsKnown old.drivers x.stream → has_mark new x ≡ true) (place_is place p t) here known;
   drivers = same;
 }
 
@@ -71,55 +69,55 @@ below_none c p driver apart e =
       and_false true none = none
       and_false false none = refl
 
--- what is marked of the first messages that were passed: of places that pass the test each has a mark, or is still to
--- come
-pub record ArePassed (flow rest : List QueuedMessage) (test : Place → Bool) (old new : MarkList) : Type 0 where
+-- what is marked as a list is passed: of the places asked for each has a mark, or an element to come names it
+pub record IsPassed {X : Type 0} (asked : Place → Type 0) (names : Place → X → Bool) (rest : List X)
+    (old new : MarkList) : Type 0 where
   pub kept : (p : Place) → has_mark old p ≡ true → has_mark new p ≡ true
-  pub marked : (p : Place) → IsKnown old.drivers p.stream → first_message flow p ≢ None → test p ≡ true
-      → (has_mark new p ≡ true) ⊎ (list_any (λ h. same_place h.place p) rest ≡ true)
+  pub marked : (p : Place) → IsKnown old.drivers p.stream → asked p
+      → (has_mark new p ≡ true) ⊎ (list_any (names p) rest ≡ true)
   pub drivers : new.drivers ≡ old.drivers
 
--- one that passes the test was marked
-pub one_passed : (flow now rest : List QueuedMessage) (h : QueuedMessage) (test : Place → Bool) (old mid new : MarkList)
-    → now ≡ h ∷ rest → ArePassed flow now test old mid
-    → (IsKnown mid.drivers h.place.stream → has_mark new h.place ≡ true)
+-- of first messages, the places that pass a test are asked for
+abbrev pub ArePassed : List QueuedMessage → List QueuedMessage → (Place → Bool) → MarkList → MarkList → Type 0
+ArePassed flow rest test old new =
+    IsPassed (λ p. (first_message flow p ≢ None) × (test p ≡ true)) (λ p h. same_place h.place p) rest old new
+
+-- the place that one names was marked
+pub one_passed : {X : Type 0} (asked : Place → Type 0) (names : Place → X → Bool) (now rest : List X) (x : X)
+    (place : Place) (old mid new : MarkList) → now ≡ x ∷ rest → IsPassed asked names now old mid
+    → ((p : Place) → names p x ≡ true → place ≡ p) → (IsKnown mid.drivers place.stream → has_mark new place ≡ true)
     → ((p : Place) → has_mark mid p ≡ true → has_mark new p ≡ true) → new.drivers ≡ mid.drivers
-    → ArePassed flow rest test old new
-one_passed flow now rest h test old mid new is a here kept same = record {
+    → IsPassed asked names rest old new
+one_passed asked names now rest x place old mid new is a its here kept same = record {
   kept = λ p m. kept p (a.kept p m);
-  marked = λ p known some t. elim (a.marked p known some t) [
+  marked = λ p known ask. elim (a.marked p known ask) [
     | inl m ↦ inl (kept p m)
-    | inr later ↦ elim (cases_Bool (same_place h.place p)) [
-      | inl y ↦ let e = place_is h.place p y in
-          inl (subst (λ (x : Place). has_mark new x ≡ true) e
-          (here (subst (λ (x : Place). IsKnown mid.drivers x.stream) (sym e)
-          (subst (λ (ds : List DriverSpec). IsKnown ds p.stream) (sym a.drivers) known))))
-      | inr n ↦ inr (behind p n later)
+    | inr later ↦ elim (cases_Bool (names p x)) [
+      | inl y ↦ inl (subst (λ (q : Place). IsKnown mid.drivers q.stream → has_mark new q ≡ true) (its p y) here
+          (rw a.drivers known))
+      | inr n ↦ let still : list_any (names p) (x ∷ rest) ≡ true = rw is at later in inr (rw n at still)
     ]
   ];
   drivers = same ∙ a.drivers;
-} where
-  behind : (p : Place) → same_place h.place p ≡ false → list_any (λ k. same_place k.place p) now ≡ true
-      → list_any (λ k. same_place k.place p) rest ≡ true
-  behind p n later = rw n at (rw is at later)
+}
 
--- one that doesn't pass it was left
-pub one_left : (flow now rest : List QueuedMessage) (h : QueuedMessage) (test : Place → Bool) (old mid : MarkList)
-    → now ≡ h ∷ rest → ArePassed flow now test old mid → test h.place ≡ false → ArePassed flow rest test old mid
-one_left flow now rest h test old mid is a not_it = record {
+-- one that names no place asked for was left
+pub one_left : {X : Type 0} (asked : Place → Type 0) (names : Place → X → Bool) (now rest : List X) (x : X)
+    (old mid : MarkList) → now ≡ x ∷ rest → IsPassed asked names now old mid
+    → ((p : Place) → asked p → names p x ≡ false) → IsPassed asked names rest old mid
+one_left asked names now rest x old mid is a none = record {
   kept = a.kept;
-  marked = λ p known some t. elim (a.marked p known some t) [
+  marked = λ p known ask. elim (a.marked p known ask) [
     | inl m ↦ inl m
-    | inr later ↦ elim (cases_Bool (same_place h.place p)) [
-      | inl y ↦ absurd (false≢true (sym not_it ∙ subst (λ (x : Place). test x ≡ true) (sym (place_is h.place p y)) t))
-      | inr n ↦ inr (behind p n later)
-    ]
+    | inr later ↦ let still : list_any (names p) (x ∷ rest) ≡ true = rw is at later in inr (rw (none p ask) at still)
   ];
   drivers = a.drivers;
-} where
-  behind : (p : Place) → same_place h.place p ≡ false → list_any (λ k. same_place k.place p) now ≡ true
-      → list_any (λ k. same_place k.place p) rest ≡ true
-  behind p n later = rw n at (rw is at later)
+}
+
+-- no place that passes the test is that of a message whose own doesn't
+pub not_its : (test : Place → Bool) (place p : Place) → test place ≡ false → test p ≡ true → same_place place p ≡ false
+not_its test place p none t = false_from_ne_true _
+    (λ y. false≢true (sym none ∙ subst (λ (x : Place). test x ≡ true) (sym (place_is place p y)) t))
 
 -- ---- a mark that is taken before another one is put
 

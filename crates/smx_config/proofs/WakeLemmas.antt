@@ -1,10 +1,10 @@
 -- Full places that are wanted no more, and what a change keeps of the marks.
 use Rattle.std.proofs.Common.{◌≡◌, Bool, true, false, ◌&&◌, not, List, [], ◌∷◌, find, Option, None, Some, refl}
 use Rattle.std.proofs.Common.{sym, ap, ◌∙◌, subst, inl, inr}
-use Rattle.std.specs.Prelude.{◌≢◌, ◌⊎◌}
+use Rattle.std.specs.Prelude.{◌≢◌}
 use Rattle.std.specs.List.{list_any}
 use Rattle.std.specs.Option.{option_map}
-use Rattle.std.proofs.lemmas.Bool.{and_from, and_parts, cases_Bool, false≢true, not-true}
+use Rattle.std.proofs.lemmas.Bool.{and_from, and_parts, cases_Bool, false≢true, false_from_ne_true, not-true}
 use Rattle.std.proofs.lemmas.Option.{none-some}
 use Rattle.smx_types.specs.declared.driver.DriverSpec.{DriverSpec}
 use Rattle.smx_types.specs.declared.stream.Place.{Place}
@@ -12,7 +12,7 @@ use Rattle.smx_model.specs.Configuration.{Configuration, same_place}
 use Rattle.smx_model.specs.FreedPlaces.{FreesOnly}
 use Rattle.smx_model.specs.KnownStreams.{IsKnown}
 use Rattle.smx_model.specs.Queues.{first_message, is_full}
-use Rattle.smx_model.specs.RunMarks.{TurnsOnly, all_but, feeds, is_freed, is_one_of, next_of_first}
+use Rattle.smx_model.specs.RunMarks.{AreMarked, TurnsOnly, all_but, feeds, is_freed, is_one_of, next_of_first}
 use Rattle.smx_model.specs.SettlingByMarks.{IsMarkedAfter}
 use Rattle.smx_queues.specs.PlaceMarks.{MarkList, has_mark}
 use Rattle.smx_queues.specs.declared.waiters.Wait.{Wait}
@@ -21,6 +21,7 @@ use Rattle.smx_config.specs.Marking.{AreMarks, AreWaitersMarked, IsMarkedWhere, 
 use Rattle.smx_config.specs.Marking.{marked_configuration}
 use Rattle.smx_config.specs.declared.marks.Marks.{Marks}
 use Rattle.smx_config.proofs.NextMoveLemmas.{next_has_message}
+use Rattle.smx_config.proofs.RunMarkLemmas.{IsPassed, one_left, one_passed}
 use Rattle.smx_queues.proofs.PlaceLemmas.{place_is, place_self}
 
 never : {A : Type 0} (b : Bool) → b ≡ true → b ≡ false → A
@@ -139,33 +140,32 @@ marked_after drivers old new turned freed turned_too freed_too m n marks among w
       w.released.waiters q p (among.frees q (among.frees_only q gone.0)) vacant gone.1 (here p some)
       (marks.held_up p q none (went_there drivers old new turned p q among.turns_only f e))
 
--- what waits is noted still
-pub held_up_still : (drivers : List DriverSpec) (old new : Configuration) (turned freed turned_too freed_too : Place
+-- so the marks are right after it, where each place without a run mark waits
+pub marks_after : (drivers : List DriverSpec) (old new : Configuration) (turned freed turned_too freed_too : Place
     → Bool) (m n : Marks) → AreMarks drivers old m → IsAmong drivers old new turned freed turned_too freed_too
-    → IsWoken new turned_too freed_too m n
-    → (p q : Place) → has_mark n.run p ≡ false → next_of_first drivers new p ≡ Some q → IsNotedFor n p q
-held_up_still drivers old new turned freed turned_too freed_too m n marks among w p q none e =
-    elim (cases_Bool (has_mark m.run p)) [
-      | inl before ↦ never (has_mark n.run p) (w.released.kept p before) none
-      | inr clear ↦ elim (cases_Bool (turned p)) [
-        | inl t ↦ let some = next_has_message drivers new p q e in
-            never (has_mark n.run p)
-            (w.turned_ones p (subst (λ (ds : List DriverSpec). IsKnown ds p.stream) (sym marks.run)
-            (among.known p some)) some (among.turns p t)) none
-        | inr f ↦ noted_still m n p q w.released.waits
-            (marks.held_up p q clear (went_there drivers old new turned p q among.turns_only f e))
-      ]
+    → IsWoken new turned_too freed_too m n → AreMarked drivers new (has_mark n.run) (has_mark n.wanted)
+    → AreMarks drivers new n
+marks_after drivers old new turned freed turned_too freed_too m n marks among w waiting = record {
+  run = w.released.run_drivers ∙ marks.run;
+  wanted = w.released.wanted_drivers ∙ marks.wanted;
+  waits = rw w.released.waits marks.waits;
+  waiting = waiting;
+  full = λ p h. elim (cases_Bool (is_full new p)) [
+    | inl t ↦ t
+    | inr f ↦ w.released.gone p
+        (among.frees p (among.frees_only p (and_from _ _ (marks.full p (w.released.fewer p h)) (ap not f)))) h
+  ];
+  held_up = λ p q none e. elim (cases_Bool (has_mark m.run p)) [
+    | inl before ↦ never (has_mark n.run p) (w.released.kept p before) none
+    | inr clear ↦ elim (cases_Bool (turned p)) [
+      | inl t ↦ let some = next_has_message drivers new p q e in
+          never (has_mark n.run p)
+          (w.turned_ones p (rw marks.run (among.known p some)) some (among.turns p t)) none
+      | inr f ↦ noted_still m n p q w.released.waits
+          (marks.held_up p q clear (went_there drivers old new turned p q among.turns_only f e))
     ]
-
--- each wanted place is full again
-pub full_again : (drivers : List DriverSpec) (old new : Configuration) (turned_too freed freed_too : Place → Bool)
-    (m n : Marks) → AreMarks drivers old m → FreesOnly old new freed
-    → ((p : Place) → freed p ≡ true → freed_too p ≡ true)
-    → IsWoken new turned_too freed_too m n → (p : Place) → has_mark n.wanted p ≡ true → is_full new p ≡ true
-full_again drivers old new turned_too freed freed_too m n marks only frees w p h = elim (cases_Bool (is_full new p)) [
-  | inl t ↦ t
-  | inr f ↦ w.released.gone p (frees p (only p (and_from _ _ (marks.full p (w.released.fewer p h)) (ap not f)))) h
-]
+  ];
+}
 
 -- ---- the waiters of a place, one after another
 
@@ -173,12 +173,9 @@ full_again drivers old new turned_too freed freed_too m n marks only frees w p h
 abbrev waits_for : Place → Place → Wait → Bool
 waits_for p q w = same_place w.waiter p && same_place w.target q
 
--- of those that were passed, the ones that wait for the place have a mark
-pub record ArePassed (waits : WaitList) (rest : List Wait) (q : Place) (old new : MarkList) : Type 0 where
-  pub kept : (p : Place) → has_mark old p ≡ true → has_mark new p ≡ true
-  pub marked : (p : Place) → IsKnown old.drivers p.stream → target_of waits p ≡ Some q
-      → (has_mark new p ≡ true) ⊎ (list_any (waits_for p q) rest ≡ true)
-  pub same_drivers : new.drivers ≡ old.drivers
+-- of waits, the places that wait for this one are asked for
+abbrev pub ArePassed : WaitList → List Wait → Place → MarkList → MarkList → Type 0
+ArePassed waits rest q old new = IsPassed (λ p. target_of waits p ≡ Some q) (λ p w. waits_for p q w) rest old new
 
 -- what waits for the place stands in the list
 stands_there : (p q : Place) (ws : List Wait)
@@ -199,7 +196,7 @@ pub none_passed : (waits : WaitList) (rest : List Wait) (q : Place) (m : MarkLis
 none_passed waits rest q m is = record {
   kept = λ p h. h;
   marked = λ p known next. inr (rw is (stands_there p q waits.waits next));
-  same_drivers = refl;
+  drivers = refl;
 }
 
 -- it waits for the place, and was marked
@@ -208,36 +205,15 @@ pub waiter_passed : (waits : WaitList) (now rest : List Wait) (w : Wait) (q : Pl
     → (IsKnown mid.drivers w.waiter.stream → has_mark new w.waiter ≡ true)
     → ((p : Place) → has_mark mid p ≡ true → has_mark new p ≡ true) → new.drivers ≡ mid.drivers
     → ArePassed waits rest q old new
-waiter_passed waits now rest w q old mid new is a here kept same = record {
-  kept = λ p m. kept p (a.kept p m);
-  marked = λ p known next. elim (a.marked p known next) [
-    | inl m ↦ inl (kept p m)
-    | inr h ↦ elim (cases_Bool (waits_for p q w)) [
-      | inl y ↦ let e = place_is w.waiter p (and_parts (same_place w.waiter p) _ y).0 in
-          inl (subst (λ (x : Place). has_mark new x ≡ true) e
-          (here (subst (λ (x : Place). IsKnown mid.drivers x.stream) (sym e)
-          (subst (λ (ds : List DriverSpec). IsKnown ds p.stream) (sym a.same_drivers) known))))
-      | inr n ↦ let later : list_any (waits_for p q) (w ∷ rest) ≡ true = rw is at h in inr (rw n at later)
-    ]
-  ];
-  same_drivers = same ∙ a.same_drivers;
-}
+waiter_passed waits now rest w q old mid new is a here kept same = one_passed _ _ now rest w w.waiter old mid new is a
+    (λ p y. place_is w.waiter p (and_parts (same_place w.waiter p) _ y).0) here kept same
 
 -- it doesn't wait for the place
 pub other_passed : (waits : WaitList) (now rest : List Wait) (w : Wait) (q : Place) (old mid : MarkList)
     → now ≡ w ∷ rest → ArePassed waits now q old mid → same_place q w.target ≡ false → ArePassed waits rest q old mid
-other_passed waits now rest w q old mid is a other = record {
-  kept = a.kept;
-  marked = λ p known next. elim (a.marked p known next) [
-    | inl m ↦ inl m
-    | inr h ↦ elim (cases_Bool (waits_for p q w)) [
-      | inl y ↦ let e = place_is w.target q (and_parts (same_place w.waiter p) _ y).1 in
-          absurd (false≢true (sym other ∙ (ap (same_place q) e ∙ place_self q)))
-      | inr n ↦ let later : list_any (waits_for p q) (w ∷ rest) ≡ true = rw is at h in inr (rw n at later)
-    ]
-  ];
-  same_drivers = a.same_drivers;
-}
+other_passed waits now rest w q old mid is a other = one_left _ _ now rest w old mid is a (λ p next.
+    false_from_ne_true _ (λ y. let e = place_is w.target q (and_parts (same_place w.waiter p) _ y).1 in
+    false≢true (sym other ∙ (ap (same_place q) e ∙ place_self q))))
 
 -- once all waits were passed, each place that waits for this one has a run mark
 pub all_passed : (waits : WaitList) (rest : List Wait) (q : Place) (old new : MarkList) → rest ≡ []
@@ -248,5 +224,5 @@ all_passed waits rest q old new none a = record {
     | inl m ↦ m
     | inr h ↦ absurd (false≢true (rw none at h))
   ];
-  same_drivers = a.same_drivers;
+  same_drivers = a.drivers;
 }

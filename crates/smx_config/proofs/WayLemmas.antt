@@ -8,13 +8,9 @@ use Rattle.std.proofs.lemmas.Bool.{false≢true}
 use Rattle.smx_types.specs.declared.command.Command.{Command}
 use Rattle.smx_types.specs.declared.command.Command.TheVariants as command
 use Rattle.smx_types.specs.declared.driver.DriverSpec.{DriverSpec}
-use Rattle.smx_types.specs.declared.link.Binding.{Binding}
-use Rattle.smx_types.specs.declared.link.Link.{Link}
-use Rattle.smx_types.specs.declared.link.Route.{Route}
 use Rattle.smx_types.specs.declared.message.Message.{Message}
 use Rattle.smx_types.specs.declared.reply.Reply.{Reply}
 use Rattle.smx_types.specs.declared.stream.Place.{Place}
-use Rattle.smx_types.specs.declared.stream.StreamId.{StreamId}
 use Rattle.smx_model.specs.Commands.{outcome}
 use Rattle.smx_model.specs.Configuration.{Configuration}
 use Rattle.smx_model.specs.Lookups.{free_stream, live_leaf, live_stream}
@@ -75,14 +71,7 @@ one_more_way drivers c old new from addr to h is few p q a w = elim (few p q a w
 -- where all leads alike, a message goes to the same place next
 pub next_alike : (drivers : List DriverSpec) (c d : Configuration) (p : Place) (addr : ℕ) → LeadAlike c d
     → next_place drivers d p addr ≡ next_place drivers c p addr
-next_alike drivers c d p addr h =
-    ap (λ (x : List Link). by x d.routes d.binds d.hungs) h.links
-    ∙ (ap (λ (x : List Route). by c.links x d.binds d.hungs) h.routes
-    ∙ (ap (λ (x : List Binding). by c.links c.routes x d.hungs) h.binds
-    ∙ ap (λ (x : List StreamId). by c.links c.routes c.binds x) h.hungs)) where
-      by : List Link → List Route → List Binding → List StreamId → Option Place
-      by ls rs bs hs =
-          next_place drivers (record c { links = ls; routes = rs; binds = bs; hungs = hs }) p addr
+next_alike drivers c d p addr h = rw (h.links, h.routes, h.binds, h.hungs) refl
 
 -- ways stay right where all leads alike
 pub alike : (drivers : List DriverSpec) (c d : Configuration) (old new : WayList) → LeadAlike c d
@@ -114,21 +103,8 @@ messages_alike drivers c process (command.Inject name minor addr bytes) x h e =
     let s = bound (live_leaf drivers c name minor) _ x e in sent_alike drivers c (read_side s.0) addr bytes x s.2
 messages_alike drivers c process (command.Transmit name minor) x h e =
     let s = bound (live_leaf drivers c name minor) _ x e in received_alike drivers c (write_side s.0) x s.2
-messages_alike drivers c process (command.OpenClone name) x h e = absurd (false≢true h)
-messages_alike drivers c process (command.OpenMinor name minor) x h e = absurd (false≢true h)
-messages_alike drivers c process (command.Dup fd) x h e = absurd (false≢true h)
-messages_alike drivers c process (command.Close fd) x h e = absurd (false≢true h)
 messages_alike drivers c process command.CloseAll x h e = absurd (false≢true h)
-messages_alike drivers c process (command.Link fd arg) x h e = absurd (false≢true h)
-messages_alike drivers c process (command.Plink fd arg) x h e = absurd (false≢true h)
-messages_alike drivers c process (command.Unlink fd w) x h e = absurd (false≢true h)
-messages_alike drivers c process (command.Punlink fd w) x h e = absurd (false≢true h)
-messages_alike drivers c process (command.Bind fd addr) x h e = absurd (false≢true h)
-messages_alike drivers c process (command.Unbind fd) x h e = absurd (false≢true h)
-messages_alike drivers c process (command.Route fd addr id) x h e = absurd (false≢true h)
-messages_alike drivers c process (command.Unroute fd addr) x h e = absurd (false≢true h)
-messages_alike drivers c process (command.Flush fd w) x h e = absurd (false≢true h)
-messages_alike drivers c process (command.Hangup name minor) x h e = absurd (false≢true h)
+messages_alike drivers c process k x h e = absurd (false≢true h)
 
 -- after an accepted command all that is noted still is right
 pub ways_after : (old new : Machine) (process : ℕ) (k : Command) (result : Result Reply StepError) (t u : WayList)

@@ -104,17 +104,10 @@ IsTurnedOrStays drivers d w p = (turned_under d w p ≡ true) ⊎ (next_of_first
 turns : (drivers : List DriverSpec) (c : Configuration) (process : ℕ) (k : Command) (x : Configuration × Reply)
     → IsSwept drivers c → outcome drivers c process k ≡ Ok x → (p : Place) → turned_by drivers c process k p ≡ true
     → IsTurnedOrStays drivers x.0 (wakes_of drivers c process k) p
-turns drivers c process (command.OpenClone name) x h e p t = absurd (false≢true t)
-turns drivers c process (command.OpenMinor name minor) x h e p t = absurd (false≢true t)
-turns drivers c process (command.Dup fd) x h e p t = absurd (false≢true t)
-turns drivers c process (command.Close fd) x h e p t = absurd (false≢true t)
-turns drivers c process command.CloseAll x h e p t = absurd (false≢true t)
 turns drivers c process (command.Link fd arg) x h e p t =
     inl (turned_on (stream_of c process arg) _ _ x.0 p (λ s u. u) t)
 turns drivers c process (command.Plink fd arg) x h e p t =
     inl (turned_on (stream_of c process arg) _ _ x.0 p (λ s u. u) t)
-turns drivers c process (command.Unlink fd w) x h e p t = absurd (false≢true t)
-turns drivers c process (command.Punlink fd w) x h e p t = absurd (false≢true t)
 turns drivers c process (command.Bind fd addr) x h e p t =
     inl (turned_on (mux_stream drivers c process fd) _ _ x.0 p (λ s u. still s (first_part _ _ u)) t) where
       still : (s : StreamId) → (same_side p.side side.Read && is_below_driver c s.driver p.stream) ≡ true
@@ -123,19 +116,17 @@ turns drivers c process (command.Bind fd addr) x h e p t =
           (λ (links : List Link).
           (same_side p.side side.Read && list_any (λ l. same_stream l.lower p.stream && eqb l.ctl.driver s.driver)
           links) ≡ true) (sym (bind_keeps_links drivers c process fd addr x h e)) u
-turns drivers c process (command.Unbind fd) x h e p t = absurd (false≢true t)
 turns drivers c process (command.Route fd addr id) x h e p t =
     inl (turned_on (mux_stream drivers c process fd) _ _ x.0 p (λ s u. first_part _ _ u) t)
-turns drivers c process (command.Unroute fd addr) x h e p t = absurd (false≢true t)
 turns drivers c process (command.Write fd addr bytes) x h e p t =
     inl (turned_on (live_stream c process fd) _ _ x.0 p (λ s u. arrived c x.0 (write_side s) p u) t)
 turns drivers c process (command.Read fd) x h e p t = inr (read_stays drivers c process fd x p e t)
-turns drivers c process (command.Flush fd w) x h e p t = absurd (false≢true t)
 turns drivers c process (command.Inject name minor addr bytes) x h e p t =
     inl (turned_on (live_leaf drivers c name minor) _ _ x.0 p (λ s u. arrived c x.0 (read_side s) p u) t)
 turns drivers c process (command.Transmit name minor) x h e p t =
     inr (transmit_stays drivers c process name minor x p e t)
-turns drivers c process (command.Hangup name minor) x h e p t = absurd (false≢true t)
+turns drivers c process command.CloseAll x h e p t = absurd (false≢true t)
+turns drivers c process k x h e p t = absurd (false≢true t)
 
 -- but for the places that `wakes_of` says may be turned, an accepted command turns none
 pub turns_few : (drivers : List DriverSpec) (c : Configuration) (process : ℕ) (k : Command) (x : Configuration × Reply)
@@ -161,26 +152,11 @@ freed_on (Err e) f g p h t = absurd (false≢true t)
 -- each place that a command may free is one that `wakes_of` says may be freed
 pub frees : (drivers : List DriverSpec) (c new : Configuration) (process : ℕ) (k : Command) (p : Place)
     → freed_by drivers c process k new p ≡ true → freed_under (wakes_of drivers c process k) p ≡ true
-frees drivers c new process (command.OpenClone name) p t = absurd (false≢true t)
-frees drivers c new process (command.OpenMinor name minor) p t = absurd (false≢true t)
-frees drivers c new process (command.Dup fd) p t = absurd (false≢true t)
-frees drivers c new process (command.Close fd) p t = refl
 frees drivers c new process command.CloseAll p t = refl
-frees drivers c new process (command.Link fd arg) p t = absurd (false≢true t)
-frees drivers c new process (command.Plink fd arg) p t = absurd (false≢true t)
-frees drivers c new process (command.Unlink fd w) p t = refl
-frees drivers c new process (command.Punlink fd w) p t = refl
-frees drivers c new process (command.Bind fd addr) p t = absurd (false≢true t)
-frees drivers c new process (command.Unbind fd) p t = absurd (false≢true t)
-frees drivers c new process (command.Route fd addr id) p t = absurd (false≢true t)
-frees drivers c new process (command.Unroute fd addr) p t = absurd (false≢true t)
-frees drivers c new process (command.Write fd addr bytes) p t = absurd (false≢true t)
 frees drivers c new process (command.Read fd) p t = freed_on (free_stream c process fd) _ _ p (λ s u. u) t
-frees drivers c new process (command.Flush fd w) p t = refl
-frees drivers c new process (command.Inject name minor addr bytes) p t = absurd (false≢true t)
 frees drivers c new process (command.Transmit name minor) p t =
     freed_on (live_leaf drivers c name minor) _ _ p (λ s u. u) t
-frees drivers c new process (command.Hangup name minor) p t = absurd (false≢true t)
+frees drivers c new process k p t = cc
 
 -- ---- both ends of a move
 

@@ -2,23 +2,19 @@
 use Rattle.std.proofs.Common.{◌≡◌, ◌≢◌, ℕ, zero, suc, ◌+◌, ◌-◌, ◌<◌, ◌≤◌, Bool, true, false, eqb, List, []}
 use Rattle.std.proofs.Common.{◌∷◌, ◌++◌, length, slice_index, take, drop, refl, sym, ap, ◌∙◌, arith}
 use Rattle.std.proofs.Common.{drop-cons, add-one}
+use Rattle.std.proofs.Math.Seq.{get_or-append_seam}
 use Rattle.std.proofs.lemmas.Bool.Decides.{nat_tests}
 use Rattle.std.proofs.lemmas.List.{length-append, take-append-drop, take_rest}
 use Rattle.std.specs.Prelude.{IsTrue, ◌↔◌}
 use Rattle.memchr.specs.Find.{Nowhere, Passes, is_byte}
 use Rattle.smx_words.specs.Words.{SPACE, IsFree}
 
--- what stands at the separator
-pub at_seam : (before after : List ℕ) (s : ℕ) → slice_index (before ++ s ∷ after) (length before) ≡ s
-at_seam [] after s = refl
-at_seam (b ∷ before) after s = at_seam before after s
-
 -- where no byte is the separator, there is nothing before one
 pub not_cut : (s : ℕ) (bytes : List ℕ) → Nowhere (Passes (is_byte s) bytes) 0 (length bytes)
     → (before after : List ℕ) → bytes ≡ before ++ s ∷ after → ⊥
 not_cut s bytes none before after e =
     let here : slice_index bytes (length before) ≡ s = ap (λ (xs : List ℕ). slice_index xs (length before)) e
-    ∙ at_seam before after s in
+    ∙ get_or-append_seam before s after 0 in
     let long : length bytes ≡ length before + suc (length after) = ap (length {A = ℕ}) e
     ∙ length-append before (s ∷ after) in
     none (length before) (omega arith) (omega (arith, long)) (grind (arith, nat_tests))

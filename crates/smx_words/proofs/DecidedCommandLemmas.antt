@@ -1,5 +1,5 @@
 -- Commands, replies and entries have words of their own, and each line of any bytes has a reading as one.
-use Rattle.std.proofs.Common.{◌≢◌, ℕ, List, [], ◌∷◌, Option, refl, subst, arith, inr}
+use Rattle.std.proofs.Common.{◌≢◌, ℕ, List, Option, refl, subst, arith, rules, inr}
 use Rattle.std.specs.List.{AllByRecursion}
 use Rattle.std.specs.Prelude.{codes}
 use Rattle.smx_types.specs.declared.command.Command.{Command}
@@ -12,7 +12,8 @@ use Rattle.smx_words.specs.Spelling.{command_words, entry_words, reply_words}
 use Rattle.smx_words.specs.Words.{EQUALS, IsFree}
 use Rattle.smx_words.proofs.DecidedLemmas.{Answer, HasWords, after, each, first, joined, last, nothing, or_else}
 use Rattle.smx_words.proofs.DecidedLemmas.{reading, via}
-use Rattle.smx_words.proofs.DecidedWordLemmas.{bytes, id_or_all, name, number, process}
+use Rattle.smx_words.proofs.DecidedWordLemmas.{bytes, name, number, number_which, process, two_numbers}
+use Rattle.smx_words.proofs.LineLemmas.{all_weaker}
 use Rattle.smx_words.proofs.PlainLemmas.{command_plain, plain_words, plain_words_free, reply_plain, some_command}
 use Rattle.smx_words.proofs.SameCommandLemmas.{same_command}
 use Rattle.smx_words.proofs.SameReplyLemmas.{same_reply}
@@ -20,39 +21,33 @@ use Rattle.smx_words.proofs.SameWordLemmas.{every_fault, flush_sides}
 
 command_answer : (ws : List (List ℕ)) → Answer FitsCommand command_words ws
 command_answer ws =
-    or_else (after (codes "clone") refl (last name)) command.OpenClone (λ p h. h) (λ p. refl) (λ no_clone.
-    or_else (after (codes "open") refl (first name (last number))) (λ p. command.OpenMinor p.0 p.1) (λ p h. h)
-    (λ p. refl) (λ no_open.
-    or_else (after (codes "dup") refl (last number)) command.Dup (λ p h. h) (λ p. refl) (λ no_dup.
-    or_else (after (codes "close") refl (last number)) command.Close (λ p h. h) (λ p. refl) (λ no_close.
-    or_else (after (codes "exit") refl nothing) (λ p. command.CloseAll) (λ p h. h) (λ p. refl) (λ no_exit.
-    or_else (after (codes "link") refl (first number (last number))) (λ p. command.Link p.0 p.1) (λ p h. h)
-    (λ p. refl) (λ no_link.
-    or_else (after (codes "plink") refl (first number (last number))) (λ p. command.Plink p.0 p.1) (λ p h. h)
-    (λ p. refl) (λ no_plink.
-    or_else (after (codes "unlink") refl (first number (last id_or_all))) (λ p. command.Unlink p.0 p.1) (λ p h. h)
-    (λ p. refl) (λ no_unlink.
-    or_else (after (codes "punlink") refl (first number (last id_or_all))) (λ p. command.Punlink p.0 p.1)
-    (λ p h. h) (λ p. refl) (λ no_punlink.
-    or_else (after (codes "bind") refl (first number (last number))) (λ p. command.Bind p.0 p.1) (λ p h. h)
-    (λ p. refl) (λ no_bind.
-    or_else (after (codes "unbind") refl (last number)) command.Unbind (λ p h. h) (λ p. refl) (λ no_unbind.
-    or_else (after (codes "route") refl (first number (first number (last number))))
-    (λ p. command.Route p.0 p.1.0 p.1.1) (λ p h. (h.0, h.1.0, h.1.1)) (λ p. refl) (λ no_route.
-    or_else (after (codes "unroute") refl (first number (last number))) (λ p. command.Unroute p.0 p.1) (λ p h. h)
-    (λ p. refl) (λ no_unroute.
-    or_else (after (codes "write") refl (first number (first number (last bytes))))
-    (λ p. command.Write p.0 p.1.0 p.1.1) (λ p h. (h.0, h.1.0, h.1.1)) (λ p. refl) (λ no_write.
-    or_else (after (codes "read") refl (last number)) command.Read (λ p h. h) (λ p. refl) (λ no_read.
-    or_else (after (codes "flush") refl (first number (last flush_sides))) (λ p. command.Flush p.0 p.1)
-    (λ p h. h.0) (λ p. refl) (λ no_flush.
-    or_else (after (codes "inject") refl (first name (first number (first number (last bytes)))))
-    (λ p. command.Inject p.0 p.1.0 p.1.1.0 p.1.1.1) (λ p h. (h.0, h.1.0, h.1.1.0, h.1.1.1)) (λ p. refl)
-    (λ no_inject.
-    or_else (after (codes "transmit") refl (first name (last number))) (λ p. command.Transmit p.0 p.1) (λ p h. h)
-    (λ p. refl) (λ no_transmit.
-    or_else (after (codes "hangup") refl (first name (last number))) (λ p. command.Hangup p.0 p.1) (λ p h. h)
-    (λ p. refl) (λ no_hangup.
+    or_else command.OpenClone (after (codes "clone") refl (last name)) (λ p h. h) (λ no_clone.
+    or_else (λ p. command.OpenMinor p.0 p.1) (after (codes "open") refl (first name (last number))) (λ p h. h)
+    (λ no_open.
+    or_else command.Dup (after (codes "dup") refl (last number)) (λ p h. h) (λ no_dup.
+    or_else command.Close (after (codes "close") refl (last number)) (λ p h. h) (λ no_close.
+    or_else (λ p. command.CloseAll) (after (codes "exit") refl nothing) (λ p h. h) (λ no_exit.
+    or_else (λ p. command.Link p.0 p.1) (after (codes "link") refl two_numbers) (λ p h. h) (λ no_link.
+    or_else (λ p. command.Plink p.0 p.1) (after (codes "plink") refl two_numbers) (λ p h. h) (λ no_plink.
+    or_else (λ p. command.Unlink p.0 p.1) (after (codes "unlink") refl number_which) (λ p h. h) (λ no_unlink.
+    or_else (λ p. command.Punlink p.0 p.1) (after (codes "punlink") refl number_which) (λ p h. h) (λ no_punlink.
+    or_else (λ p. command.Bind p.0 p.1) (after (codes "bind") refl two_numbers) (λ p h. h) (λ no_bind.
+    or_else command.Unbind (after (codes "unbind") refl (last number)) (λ p h. h) (λ no_unbind.
+    or_else (λ p. command.Route p.0 p.1.0 p.1.1) (after (codes "route") refl (first number two_numbers))
+    (λ p h. (h.0, h.1.0, h.1.1)) (λ no_route.
+    or_else (λ p. command.Unroute p.0 p.1) (after (codes "unroute") refl two_numbers) (λ p h. h) (λ no_unroute.
+    or_else (λ p. command.Write p.0 p.1.0 p.1.1)
+    (after (codes "write") refl (first number (first number (last bytes)))) (λ p h. (h.0, h.1.0, h.1.1)) (λ no_write.
+    or_else command.Read (after (codes "read") refl (last number)) (λ p h. h) (λ no_read.
+    or_else (λ p. command.Flush p.0 p.1) (after (codes "flush") refl (first number (last flush_sides)))
+    (λ p h. h.0) (λ no_flush.
+    or_else (λ p. command.Inject p.0 p.1.0 p.1.1.0 p.1.1.1)
+    (after (codes "inject") refl (first name (first number (first number (last bytes)))))
+    (λ p h. (h.0, h.1.0, h.1.1.0, h.1.1.1)) (λ no_inject.
+    or_else (λ p. command.Transmit p.0 p.1) (after (codes "transmit") refl (first name (last number))) (λ p h. h)
+    (λ no_transmit.
+    or_else (λ p. command.Hangup p.0 p.1) (after (codes "hangup") refl (first name (last number))) (λ p h. h)
+    (λ no_hangup.
     inr (λ x. (elim x as (λ x. FitsCommand x → ws ≢ command_words x) [
       | command.OpenClone d ↦ no_clone d
       | command.OpenMinor d n ↦ no_open (d, n)
@@ -85,15 +80,14 @@ command_has_words = record {
 
 reply_answer : (ws : List (List ℕ)) → Answer FitsReply reply_words ws
 reply_answer ws =
-    or_else (after (codes "fd") refl (first number (last number))) (λ p. reply.Fd p.0 p.1) (λ p h. h)
-    (λ p. refl) (λ no_fd.
-    or_else (after (codes "id") refl (last number)) reply.Id (λ p h. h) (λ p. refl) (λ no_id.
-    or_else (after (codes "took") refl (last number)) reply.Took (λ p h. h) (λ p. refl) (λ no_took.
-    or_else (after (codes "got") refl (first number (first number (last bytes)))) (λ p. reply.Got p.0 p.1.0 p.1.1)
-    (λ p h. (h.0, h.1.0, h.1.1)) (λ p. refl) (λ no_got.
-    or_else (after (codes "done") refl (each number)) reply.Done (λ p h. h) (λ p. refl) (λ no_done.
-    or_else (after (codes "eof") refl nothing) (λ p. reply.Eof) (λ p h. h) (λ p. refl) (λ no_eof.
-    or_else every_fault reply.Fault (λ f h. tt) (λ f. refl) (λ no_fault.
+    or_else (λ p. reply.Fd p.0 p.1) (after (codes "fd") refl two_numbers) (λ p h. h) (λ no_fd.
+    or_else reply.Id (after (codes "id") refl (last number)) (λ p h. h) (λ no_id.
+    or_else reply.Took (after (codes "took") refl (last number)) (λ p h. h) (λ no_took.
+    or_else (λ p. reply.Got p.0 p.1.0 p.1.1) (after (codes "got") refl (first number (first number (last bytes))))
+    (λ p h. (h.0, h.1.0, h.1.1)) (λ no_got.
+    or_else reply.Done (after (codes "done") refl (each number)) (λ p h. h) (λ no_done.
+    or_else (λ p. reply.Eof) (after (codes "eof") refl nothing) (λ p h. h) (λ no_eof.
+    or_else reply.Fault every_fault (λ f h. tt) (λ no_fault.
     inr (λ x. (elim x as (λ x. FitsReply x → ws ≢ reply_words x) [
       | reply.Fd n m ↦ no_fd (n, m)
       | reply.Id n ↦ no_id n
@@ -114,19 +108,13 @@ reply_has_words = record {
 
 -- an entry
 pub entry_has_words : HasWords FitsEntry entry_words
-entry_has_words = via (first process (joined (codes "=") refl command_has_words no_sign reply_has_words))
-    (λ p. record { process = p.0; command = p.1.0; reply = p.1.1 })
-    (λ e. (e.process, (e.command, e.reply)))
-    (λ p h. record { process = h.0; command = h.1.0; reply = h.1.1 })
-    (λ e h. (h.process, (h.command, h.reply)))
-    (λ p. refl) (λ e. refl) where
-      other : (ws : List (List ℕ)) → AllByRecursion (IsFree EQUALS) ws → AllByRecursion (λ w. w ≢ codes "=") ws
-      other [] h = tt
-      other (w ∷ ws) h = (λ e. (subst (IsFree EQUALS) e h.0).0 refl, other ws h.1)
-
+entry_has_words = via (λ p. record { process = p.0; command = p.1.0; reply = p.1.1 })
+    (first process (joined (codes "=") refl command_has_words no_sign reply_has_words))
+    (λ e. (e.process, (e.command, e.reply))) (λ p h. search rules) (λ e h. search rules) (λ e. refl) where
       -- no word of a command is the sign
       no_sign : (c : Command) → FitsCommand c → AllByRecursion (λ w. w ≢ codes "=") (command_words c)
-      no_sign c h = other (command_words c) (plain_words_free (command_words c) (command_plain c h))
+      no_sign c h = all_weaker (λ w k e. (subst (IsFree EQUALS) e k).0 refl) (command_words c)
+          (plain_words_free (command_words c) (command_plain c h))
 
 -- ---- so each line has a reading
 

@@ -9,7 +9,7 @@ use Rattle.std.proofs.lemmas.Bool.Decides.{nat_tests}
 use Rattle.std.proofs.lemmas.Slice.Eq.{bytes_eq-Decides}
 use Rattle.smx_words.specs.LineReading.{IsReadAs}
 use Rattle.smx_words.specs.Words.{IsWord, SPACE, line_of}
-use Rattle.smx_words.proofs.LineLemmas.{same_free_words, same_words, words_free, words_in}
+use Rattle.smx_words.proofs.LineLemmas.{all_append, same_free_words, same_words, words_free, words_in}
 
 -- a value that fits and is spelled so
 abbrev Has : {X S : Type 0} → (X → Type 0) → (X → S) → S → Type 0
@@ -168,7 +168,7 @@ joined {X} {Y} {Fits} {words} {FitsMore} {more} sign is d free m = record {
   one = λ p q h k e.
       let t = alone (words p.0) (words q.0) _ _ (free p.0 h.0) (free q.0 k.0) e in
       both p q (d.one p.0 q.0 h.0 k.0 t.0) (m.one p.1 q.1 h.1 k.1 t.1);
-  are_words = λ p h. and_more (words p.0) (more p.1) (d.are_words p.0 h.0) (m.are_words p.1 h.1);
+  are_words = λ p h. all_append IsWord (words p.0) _ (d.are_words p.0 h.0) (word_is sign is, m.are_words p.1 h.1);
 } where
   -- the sign is found in one place
   alone : (a c b e : List (List ℕ)) → AllByRecursion (λ w. w ≢ sign) a → AllByRecursion (λ w. w ≢ sign) c
@@ -218,43 +218,35 @@ joined {X} {Y} {Fits} {words} {FitsMore} {more} sign is d free m = record {
             none p.0 fits.0 (alone a (words p.0) b (more p.1) clear (free p.0 fits.0) (sym whole ∙ e)).0)
       ]
 
-  and_more : (ws vs : List (List ℕ)) → AllByRecursion IsWord ws → AllByRecursion IsWord vs
-      → AllByRecursion IsWord (ws ++ sign ∷ vs)
-  and_more [] vs h k = (word_is sign is, k)
-  and_more (w ∷ ws) vs h k = (h.0, and_more ws vs h.1 k)
-
 -- ---- other values for the same words
 
 -- the values that others stand for
-pub via : {X Y : Type 0} {Fits : X → Type 0} {words : X → List (List ℕ)} {FitsOther : Y → Type 0}
-    {other : Y → List (List ℕ)} → HasWords FitsOther other
-    → (make : Y → X) → (back : X → Y) → ((y : Y) → FitsOther y → Fits (make y))
-    → ((x : X) → Fits x → FitsOther (back x)) → ((y : Y) → other y ≡ words (make y)) → ((x : X) → make (back x) ≡ x)
-    → HasWords Fits words
-via {X} {Y} {Fits} {words} {FitsOther} {other} d make back to from is same = record {
+pub via : {X Y : Type 0} {Fits : X → Type 0} {words : X → List (List ℕ)} {FitsOther : Y → Type 0} (make : Y → X)
+    → HasWords FitsOther (λ y. words (make y)) → (back : X → Y) → ((y : Y) → FitsOther y → Fits (make y))
+    → ((x : X) → Fits x → FitsOther (back x)) → ((x : X) → make (back x) ≡ x) → HasWords Fits words
+via {X} {Y} {Fits} {words} {FitsOther} make d back to from same = record {
   answer = answer;
   one = λ x y h k e.
-      sym (same x)
-      ∙ ap make (d.one (back x) (back y) (from x h) (from y k) (sym (was x) ∙ e ∙ was y)) ∙ same y;
-  are_words = λ x h. subst (AllByRecursion IsWord) (sym (was x)) (d.are_words (back x) (from x h));
+      sym (same x) ∙ ap make (d.one (back x) (back y) (from x h) (from y k) (was x ∙ e ∙ sym (was y))) ∙ same y;
+  are_words = λ x h. subst (AllByRecursion IsWord) (was x) (d.are_words (back x) (from x h));
 } where
-  was : (x : X) → words x ≡ other (back x)
-  was x = ap words (sym (same x)) ∙ sym (is (back x))
+  was : (x : X) → words (make (back x)) ≡ words x
+  was x = ap words (same x)
 
   answer : (ws : List (List ℕ)) → Answer Fits words ws
   answer ws =
       elim (d.answer ws) [
-        | inl p ↦ inl (make p.0, to p.0 p.1, p.2 ∙ is p.0)
-        | inr none ↦ inr (λ x fits e. none (back x) (from x fits) (e ∙ was x))
+        | inl p ↦ inl (make p.0, to p.0 p.1, p.2)
+        | inr none ↦ inr (λ x fits e. none (back x) (from x fits) (e ∙ sym (was x)))
       ]
 
 -- the values of one form, or else others
 pub or_else : {X Y : Type 0} {Fits : X → Type 0} {words : X → List (List ℕ)} {FitsOther : Y → Type 0}
-    {other : Y → List (List ℕ)} {ws : List (List ℕ)} → HasWords FitsOther other → (make : Y → X)
-    → ((y : Y) → FitsOther y → Fits (make y)) → ((y : Y) → other y ≡ words (make y))
-    → (((y : Y) → FitsOther y → ws ≢ other y) → Answer Fits words ws) → Answer Fits words ws
-or_else {ws = ws} d make to is rest =
-    elim (d.answer ws) [ inl p ↦ inl (make p.0, to p.0 p.1, p.2 ∙ is p.0) | inr none ↦ rest none ]
+    {ws : List (List ℕ)} (make : Y → X) → HasWords FitsOther (λ y. words (make y))
+    → ((y : Y) → FitsOther y → Fits (make y))
+    → (((y : Y) → FitsOther y → ws ≢ words (make y)) → Answer Fits words ws) → Answer Fits words ws
+or_else {ws = ws} make d to rest =
+    elim (d.answer ws) [ inl p ↦ inl (make p.0, to p.0 p.1, p.2) | inr none ↦ rest none ]
 
 -- ---- lines
 

@@ -1,5 +1,5 @@
 -- Each kind of value has words of its own, and each line of any bytes has a reading as it.
-use Rattle.std.proofs.Common.{ℕ, List, Option, refl, arith}
+use Rattle.std.proofs.Common.{ℕ, List, Option, refl, arith, rules}
 use Rattle.std.specs.Prelude.{codes}
 use Rattle.smx_types.specs.declared.driver.DriverSpec.{DriverSpec}
 use Rattle.smx_types.specs.declared.view.BindingLine.{BindingLine}
@@ -29,29 +29,23 @@ next_has_words = after (codes "next") refl (first number (last number))
 -- a driver
 pub driver_has_words : HasWords FitsDriver driver_words
 driver_has_words =
-    via (after (codes "driver") refl
-    (first name (first driver_kind (first number (first number (first number (last number)))))))
+    via
     (λ p. record { name = p.0; kind = p.1.0; minors = p.1.1.0; high = p.1.1.1.0; low = p.1.1.1.1.0; max = p.1.1.1.1.1 })
+    (after (codes "driver") refl
+    (first name (first driver_kind (first number (first number (first number (last number)))))))
     (λ d. (d.name, (d.kind, (d.minors, (d.high, (d.low, d.max))))))
-    (λ p h. record { name = h.0; minors = h.1.1.0; high = h.1.1.1.0; low = h.1.1.1.1.0; max = h.1.1.1.1.1 })
-    (λ d h. (h.name, (tt, (h.minors, (h.high, (h.low, h.max))))))
-    (λ p. refl) (λ d. refl)
+    (λ p h. search rules) (λ d h. search rules) (λ d. refl)
 
 -- an open descriptor
 pub descriptor_has_words : HasWords FitsDescriptor descriptor_words
-descriptor_has_words = via (after (codes "fd") refl (first process (first number (first name (last number)))))
-    (λ p. record { process = p.0; fd = p.1.0; driver = p.1.1.0; minor = p.1.1.1 })
-    (λ d. (d.process, (d.fd, (d.driver, d.minor))))
-    (λ p h. record { process = h.0; fd = h.1.0; driver = h.1.1.0; minor = h.1.1.1 })
-    (λ d h. (h.process, (h.fd, (h.driver, h.minor))))
-    (λ p. refl) (λ d. refl)
+descriptor_has_words = via (λ p. record { process = p.0; fd = p.1.0; driver = p.1.1.0; minor = p.1.1.1 })
+    (after (codes "fd") refl (first process (first number (first name (last number)))))
+    (λ d. (d.process, (d.fd, (d.driver, d.minor)))) (λ p h. search rules) (λ d h. search rules) (λ d. refl)
 
 -- a link
 pub link_has_words : HasWords FitsLink link_words
 link_has_words =
-    via (after (codes "link") refl
-    (first number (first name (first number (first name (first number (last link_kind)))))))
-    (λ p. record {
+    via (λ p. record {
       id = p.0;
       ctl_driver = p.1.0;
       ctl_minor = p.1.1.0;
@@ -59,68 +53,47 @@ link_has_words =
       lower_minor = p.1.1.1.1.0;
       kind = p.1.1.1.1.1;
     })
+    (after (codes "link") refl
+    (first number (first name (first number (first name (first number (last link_kind)))))))
     (λ l. (l.id, (l.ctl_driver, (l.ctl_minor, (l.lower_driver, (l.lower_minor, l.kind))))))
-    (λ p h. record {
-      id = h.0;
-      ctl_driver = h.1.0;
-      ctl_minor = h.1.1.0;
-      lower_driver = h.1.1.1.0;
-      lower_minor = h.1.1.1.1.0;
-    })
-    (λ l h. (h.id, (h.ctl_driver, (h.ctl_minor, (h.lower_driver, (h.lower_minor, tt))))))
-    (λ p. refl) (λ l. refl)
+    (λ p h. search rules) (λ l h. search rules) (λ l. refl)
 
 -- a binding
 pub bind_has_words : HasWords FitsBinding bind_words
-bind_has_words = via (after (codes "bind") refl (first name (first number (last number))))
-    (λ p. record { driver = p.0; addr = p.1.0; minor = p.1.1 })
-    (λ b. (b.driver, (b.addr, b.minor)))
-    (λ p h. record { driver = h.0; addr = h.1.0; minor = h.1.1 })
-    (λ b h. (h.driver, (h.addr, h.minor)))
-    (λ p. refl) (λ b. refl)
+bind_has_words = via (λ p. record { driver = p.0; addr = p.1.0; minor = p.1.1 })
+    (after (codes "bind") refl (first name (first number (last number))))
+    (λ b. (b.driver, (b.addr, b.minor))) (λ p h. search rules) (λ b h. search rules) (λ b. refl)
 
 -- a route
 pub route_has_words : HasWords FitsRoute route_words
-route_has_words = via (after (codes "route") refl (first name (first number (last number))))
-    (λ p. record { driver = p.0; addr = p.1.0; id = p.1.1 })
-    (λ r. (r.driver, (r.addr, r.id)))
-    (λ p h. record { driver = h.0; addr = h.1.0; id = h.1.1 })
-    (λ r h. (h.driver, (h.addr, h.id)))
-    (λ p. refl) (λ r. refl)
+route_has_words = via (λ p. record { driver = p.0; addr = p.1.0; id = p.1.1 })
+    (after (codes "route") refl (first name (first number (last number))))
+    (λ r. (r.driver, (r.addr, r.id))) (λ p h. search rules) (λ r h. search rules) (λ r. refl)
 
 -- a queued message
 pub message_has_words : HasWords FitsMessage message_words
 message_has_words =
-    via (after (codes "msg") refl
-    (first name (first number (first stream_side (first number (first number (last bytes)))))))
-    (λ p. record {
+    via (λ p. record {
       driver = p.0;
       minor = p.1.0;
       side = p.1.1.0;
       message = record { serial = p.1.1.1.0; addr = p.1.1.1.1.0; bytes = p.1.1.1.1.1 };
     })
+    (after (codes "msg") refl
+    (first name (first number (first stream_side (first number (first number (last bytes)))))))
     (λ m. (m.driver, (m.minor, (m.side, (m.message.serial, (m.message.addr, m.message.bytes))))))
-    (λ p h. record { driver = h.0; minor = h.1.0; serial = h.1.1.1.0; addr = h.1.1.1.1.0; bytes = h.1.1.1.1.1 })
-    (λ m h. (h.driver, (h.minor, (tt, (h.serial, (h.addr, h.bytes))))))
-    (λ p. refl) (λ m. refl)
+    (λ p h. search rules) (λ m h. search rules) (λ m. refl)
 
 -- a hung-up stream
 pub hung_has_words : HasWords FitsHung hung_words
-hung_has_words = via (after (codes "hung") refl (first name (last number)))
-    (λ p. record { driver = p.0; minor = p.1 })
-    (λ s. (s.driver, s.minor))
-    (λ p h. record { driver = h.0; minor = h.1 })
-    (λ s h. (h.driver, h.minor))
-    (λ p. refl) (λ s. refl)
+hung_has_words = via (λ p. record { driver = p.0; minor = p.1 }) (after (codes "hung") refl (first name (last number)))
+    (λ s. (s.driver, s.minor)) (λ p h. search rules) (λ s h. search rules) (λ s. refl)
 
 -- a full place
 pub full_has_words : HasWords FitsFull full_words
-full_has_words = via (after (codes "full") refl (first name (first number (last stream_side))))
-    (λ p. record { driver = p.0; minor = p.1.0; side = p.1.1 })
-    (λ f. (f.driver, (f.minor, f.side)))
-    (λ p h. record { driver = h.0; minor = h.1.0 })
-    (λ f h. (h.driver, (h.minor, tt)))
-    (λ p. refl) (λ f. refl)
+full_has_words = via (λ p. record { driver = p.0; minor = p.1.0; side = p.1.1 })
+    (after (codes "full") refl (first name (first number (last stream_side))))
+    (λ f. (f.driver, (f.minor, f.side))) (λ p h. search rules) (λ f h. search rules) (λ f. refl)
 
 -- ---- so each line has a reading
 

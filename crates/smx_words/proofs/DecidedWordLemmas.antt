@@ -1,5 +1,5 @@
 -- Numbers, names, bytes and ids have a word of their own each, and whether a word is one of theirs is told.
-use Rattle.std.proofs.Common.{◌≡◌, ◌≢◌, ℕ, ◌<◌, ◌≤◌, ◌^◌, ◌%◌, Bool, true, false, List, [], length}
+use Rattle.std.proofs.Common.{◌≡◌, ◌≢◌, ℕ, ◌<◌, ◌≤◌, ◌^◌, ◌%◌, Bool, true, false, List, [], ◌∷◌, length}
 use Rattle.std.proofs.Common.{refl, sym, ap, ◌∙◌, arith, inl, inr}
 use Rattle.std.specs.Prelude.{codes}
 use Rattle.std.specs.List.{list_all}
@@ -13,7 +13,7 @@ use Rattle.smx_types.specs.declared.command.Which.TheVariants as which
 use Rattle.smx_words.specs.HexWords.{hex_word, is_digit}
 use Rattle.smx_words.specs.Spellable.{FitsBytes, FitsName, FitsNumber, FitsProcess, FitsWhich}
 use Rattle.smx_words.specs.Spelling.{which_word}
-use Rattle.smx_words.proofs.DecidedLemmas.{Answer, HasWord, same_or_not}
+use Rattle.smx_words.proofs.DecidedLemmas.{Answer, HasWord, HasWords, first, last, same_or_not}
 use Rattle.smx_words.proofs.HexLemmas.{no_digits, odd_is_none, spell_some}
 use Rattle.smx_words.proofs.NumberLemmas.{own, same_number}
 use Rattle.smx_words.proofs.PlainLemmas.{hex_plain, name_plain, number_plain, plain_word, which_plain}
@@ -107,3 +107,13 @@ id_or_all = record {
       | inr none ↦ inr (neither w other none)
     ]
   ]
+
+-- ---- words in order that several values have
+
+-- two numbers
+pub two_numbers : HasWords (λ p. FitsNumber p.0 × FitsNumber p.1) (λ (p : ℕ × ℕ). decimal p.0 ∷ decimal p.1 ∷ [])
+two_numbers = first number (last number)
+
+-- a number, and an id or all
+pub number_which : HasWords (λ p. FitsNumber p.0 × FitsWhich p.1) (λ (p : ℕ × Which). decimal p.0 ∷ which_word p.1 ∷ [])
+number_which = first number (last id_or_all)

@@ -1,5 +1,5 @@
 -- An entry: its process, its command, and its reply behind an equals sign.
-use Rattle.std.proofs.Common.{◌≡◌, ℕ, ◌<◌, List, [], ◌∷◌, ◌++◌, length, refl, sym, ap, ◌∙◌, append_assoc, arith}
+use Rattle.std.proofs.Common.{◌≡◌, ◌≢◌, ℕ, ◌<◌, List, [], ◌∷◌, ◌++◌, length, refl, sym, ap, ◌∙◌, append_assoc, arith}
 use Rattle.std.specs.Prelude.{codes}
 use Rattle.std.specs.Fmt.{decimal}
 use Rattle.std.proofs.lemmas.List.{append_cancel_right, length-append}
@@ -12,7 +12,7 @@ use Rattle.smx_words.specs.Words.{EQUALS, SPACE, IsFree, line_of}
 use Rattle.smx_words.proofs.CutLemmas.{apart}
 use Rattle.smx_words.proofs.NumberLemmas.{number_free, same_number}
 use Rattle.smx_words.proofs.PlainLemmas.{command_plain, plain_words_free, some_command, some_reply}
-use Rattle.smx_words.proofs.LineLemmas.{free_append, line_free}
+use Rattle.smx_words.proofs.LineLemmas.{all_append, line_free}
 
 -- the sign and its spaces, cut at the sign
 pub regrouped : (command reply : List ℕ) → command ++ codes " = " ++ reply ≡ (command ++ 32 ∷ []) ++ EQUALS ∷ 32 ∷ reply
@@ -33,7 +33,7 @@ pub same_sides : (text front back command reply : List ℕ) → IsFree EQUALS fr
     → (front ≡ command ++ 32 ∷ []) × (back ≡ 32 ∷ reply)
 same_sides text front back command reply free is h e =
     apart EQUALS front (command ++ 32 ∷ []) back (32 ∷ reply) free
-    (free_append EQUALS command (32 ∷ []) h space_free) (sym is ∙ e ∙ regrouped command reply)
+    (all_append (λ b. b ≢ EQUALS) command (32 ∷ []) h space_free) (sym is ∙ e ∙ regrouped command reply)
 
 -- and the sides with their spaces are the sides
 pub sides_are : (text front back command reply space : List ℕ) → space ≡ codes " " → IsFree EQUALS front
@@ -101,7 +101,7 @@ pub each_side : (rest command reply : List ℕ) (e : Entry) → FitsEntry e → 
 each_side rest command reply e fits free is all =
     let c = line_of (command_words e.command) in
     let r = line_of (reply_words e.reply) in
-    let spaced : IsFree EQUALS (command ++ 32 ∷ []) = free_append EQUALS command (32 ∷ []) free space_free in
+    let spaced : IsFree EQUALS (command ++ 32 ∷ []) = all_append (λ b. b ≢ EQUALS) command (32 ∷ []) free space_free in
     let same =
     same_sides rest (command ++ 32 ∷ []) (32 ∷ reply) c r spaced (is ∙ regrouped command reply)
     (free_command e.command fits.command) all in

@@ -2,7 +2,7 @@
 use lib.Seq.{take-append_seam}
 use Rattle.std.proofs.Common.{◌≡◌, ◌≢◌, ℕ, zero, suc, ◌+◌, ◌-◌, ◌*◌, ◌/◌, ◌%◌, ◌<◌, ◌≤◌, Bool, true, false}
 use Rattle.std.proofs.Common.{cond, eqb, ltb, ◌&&◌, List, [], ◌∷◌, ◌++◌, length, slice_index, get_or, take}
-use Rattle.std.proofs.Common.{set, Result, Ok, refl, sym, ap, ◌∙◌, append_assoc, arith, inl, inr}
+use Rattle.std.proofs.Common.{set, refl, sym, ap, ◌∙◌, append_assoc, arith, inl, inr}
 use Rattle.std.specs.List.{list_all}
 use Rattle.std.specs.Prelude.{bit_or, codes}
 use Rattle.std.proofs.lemmas.Bool.{and_parts, cases_lt}
@@ -10,7 +10,6 @@ use Rattle.std.proofs.lemmas.Bool.Decides.{nat_tests}
 use Rattle.std.proofs.lemmas.List.{take_more, take_more_set}
 use Rattle.std.proofs.lemmas.Nat.{le_or_l, le_or_r, or_lt}
 use Rattle.hex.specs.Hex.{IsBytes, encode_lower, encode_with, lower_digits}
-use Rattle.hex.specs.declared.error.FromHexError.{FromHexError}
 use Rattle.smx_words.specs.HexWords.{hex_word, is_digit}
 use Rattle.smx_words.specs.LineReading.{IsSpelled}
 use Rattle.smx_words.specs.Spellable.{FitsBytes}
@@ -67,10 +66,6 @@ pub are_bytes : (bs : List ℕ) → FitsBytes bs → IsBytes bs
 are_bytes [] h i = omega arith
 are_bytes (b ∷ bs) h zero = h.0
 are_bytes (b ∷ bs) h (suc i) = are_bytes bs h.1 i
-
--- two answers of decoding that are the same have the same value
-pub ok_same : {A : Type 0} (x y : A) → ◌≡◌ {A = Result A FromHexError} (Ok x) (Ok y) → x ≡ y
-ok_same x y e = cc e
 
 -- a byte has two digits
 pub long : (b : ℕ) (bs : List ℕ) → 1 < length (encode_lower (b ∷ bs))

@@ -7,24 +7,31 @@ use Rattle.std.proofs.lemmas.List.{length-append}
 use Rattle.smx_words.specs.Words.{IsFree, IsWord, SPACE, line_of}
 use Rattle.smx_words.proofs.CutLemmas.{apart, no_space_in}
 
+-- ---- what holds of each element
+
+-- what holds of each element of two lists holds of each of both joined
+pub all_append : {X : Type 0} (P : X → Type 0) (xs ys : List X) → AllByRecursion P xs → AllByRecursion P ys
+    → AllByRecursion P (xs ++ ys)
+all_append P [] ys h k = k
+all_append P (x ∷ xs) ys h k = (h.0, all_append P xs ys h.1 k)
+
+-- what follows from what holds of each element holds of each
+pub all_weaker : {X : Type 0} {P Q : X → Type 0} → ((x : X) → P x → Q x) → (xs : List X) → AllByRecursion P xs
+    → AllByRecursion Q xs
+all_weaker f [] h = tt
+all_weaker f (x ∷ xs) h = (f x h.0, all_weaker f xs h.1)
+
 -- ---- bytes that stand in no word, and in no line
 
 -- a byte below those that can be seen stands in no word
 pub seen_free : (byte : ℕ) → byte < 0x21 → (w : List ℕ) → AllByRecursion (λ b. (0x21 ≤ b) × (b ≤ 0x7E)) w
     → IsFree byte w
-seen_free byte low [] h = tt
-seen_free byte low (b ∷ w) h = (λ e. omega (arith, low, h.0.0, e), seen_free byte low w h.1)
+seen_free byte low = all_weaker (λ b h e. omega (arith, low, h.0, e))
 
 -- a byte below those that can be seen stands in none of some words
 pub words_free : (byte : ℕ) → byte < 0x21 → (ws : List (List ℕ)) → AllByRecursion IsWord ws
     → AllByRecursion (IsFree byte) ws
-words_free byte low [] h = tt
-words_free byte low (w ∷ ws) h = (seen_free byte low w h.0.1, words_free byte low ws h.1)
-
--- a byte that stands in neither of two lists stands nowhere in both joined
-pub free_append : (byte : ℕ) (xs ys : List ℕ) → IsFree byte xs → IsFree byte ys → IsFree byte (xs ++ ys)
-free_append byte [] ys h k = k
-free_append byte (x ∷ xs) ys h k = (h.0, free_append byte xs ys h.1 k)
+words_free byte low = all_weaker (λ w h. seen_free byte low w h.1)
 
 -- a byte that stands in none of the words, and is no space, stands nowhere in their line
 pub line_free : (byte : ℕ) → SPACE ≢ byte → (ws : List (List ℕ)) → AllByRecursion (IsFree byte) ws
@@ -32,7 +39,7 @@ pub line_free : (byte : ℕ) → SPACE ≢ byte → (ws : List (List ℕ)) → A
 line_free byte other [] h = tt
 line_free byte other (w ∷ []) h = h.0
 line_free byte other (w ∷ v ∷ ws) h =
-    free_append byte w (SPACE ∷ line_of (v ∷ ws)) h.0 (other, line_free byte other (v ∷ ws) h.1)
+    all_append (λ b. b ≢ byte) w (SPACE ∷ line_of (v ∷ ws)) h.0 (other, line_free byte other (v ∷ ws) h.1)
 
 -- ---- a line tells its words
 
@@ -41,19 +48,18 @@ pub words_in : (line : List ℕ) → (ws : List (List ℕ)) × AllByRecursion (I
     × (line ≡ line_of ws)
 words_in [] = ([] ∷ [], (tt, tt), omega arith, refl)
 words_in (b ∷ line) = let more = words_in line in by_byte (eqb b SPACE) refl more.0 more.1 more.2 more.3 where
+  no_space : b ≡ SPACE → eqb b SPACE ≡ false → ⊥
+  no_space s e = grind (arith, nat_tests)
+
   by_byte : (t : Bool) → eqb b SPACE ≡ t → (ws : List (List ℕ)) → AllByRecursion (IsFree SPACE) ws
       → 0 < length ws → line ≡ line_of ws
       → (ws : List (List ℕ)) × AllByRecursion (IsFree SPACE) ws × (0 < length ws) × (b ∷ line ≡ line_of ws)
   by_byte t e [] free some is = absurd (omega (arith, some))
   by_byte true e (w ∷ ws) free some is = let space : b ≡ SPACE = grind (arith, nat_tests) in
       ([] ∷ w ∷ ws, (tt, free), omega arith, cc (space, is))
-  by_byte false e (w ∷ []) free some is = ((b ∷ w) ∷ [], ((λ s. no_space s, free.0), tt), omega arith, cc is) where
-    no_space : b ≡ SPACE → ⊥
-    no_space s = grind (arith, nat_tests)
+  by_byte false e (w ∷ []) free some is = ((b ∷ w) ∷ [], ((λ s. no_space s e, free.0), tt), omega arith, cc is)
   by_byte false e (w ∷ v ∷ ws) free some is =
-      ((b ∷ w) ∷ v ∷ ws, ((λ s. no_space s, free.0), free.1), omega arith, cc is) where
-        no_space : b ≡ SPACE → ⊥
-        no_space s = grind (arith, nat_tests)
+      ((b ∷ w) ∷ v ∷ ws, ((λ s. no_space s e, free.0), free.1), omega arith, cc is)
 
 -- and no others
 pub same_free_words : (ws vs : List (List ℕ)) → AllByRecursion (IsFree SPACE) ws

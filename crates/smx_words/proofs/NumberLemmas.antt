@@ -14,11 +14,12 @@ use Rattle.std.proofs.lemmas.Fmt.{decimal-digits_value, digits_decimal, digits_v
 use Rattle.std.proofs.lemmas.Fmt.{decimal_nonempty, decimal_digit, decimal_injective}
 use Rattle.std.proofs.lemmas.Bool.{cases_lt}
 use Rattle.std.proofs.lemmas.Bool.Decides.{nat_tests}
-use Rattle.std.proofs.lemmas.List.{take-append-drop, length-append, length-take-le}
+use Rattle.std.proofs.lemmas.List.{take-append-drop, length-append, length-take-le, get_or-take}
+use Rattle.std.proofs.Math.Seq.{get_or-append_seam, take-length}
 use Rattle.smx_words.specs.Numbers.{NoDigitFirst}
 use Rattle.smx_words.specs.Spellable.{FitsNumber}
 use Rattle.smx_words.specs.Words.{SPACE, IsFree}
-use Rattle.smx_words.proofs.CutLemmas.{at_seam, apart, is_cut}
+use Rattle.smx_words.proofs.CutLemmas.{apart, is_cut}
 
 -- digits and their value are numerals, as the laws of `decimal` need them
 pub own : IsNumeralModel (λ ds. all_ascii_digits ds ≡ true) (digits_value 10)
@@ -64,10 +65,7 @@ digits_front (d ∷ v) (c ∷ w) a b h k e =
     (more.0, cc (first, more.1))
 
 nothing_more : (v w r : List ℕ) → w ≡ v ++ r → length w ≤ length v → v ≡ w
-nothing_more v w [] e le = sym (e ∙ append_nothing v) where
-  append_nothing : (v : List ℕ) → v ++ [] ≡ v
-  append_nothing [] = refl
-  append_nothing (d ∷ v) = ap (λ (x : List ℕ). d ∷ x) (append_nothing v)
+nothing_more v w [] e le = sym (e ∙ append-nil v)
 nothing_more v w (d ∷ r) e le = absurd (omega (arith, ap (length {A = ℕ}) e ∙ length-append v (d ∷ r)))
 
 -- all the digits that bytes begin with
@@ -119,12 +117,6 @@ digits_are w i all clear n after fits nothing_more e =
     same_digits (take i w) (decimal n) (drop i w) after all (decimal_digits n fits) clear nothing_more
     (take-append-drop i w ∙ e)
 
-get_take : (w : List ℕ) (i : ℕ) → 0 < i → get_or (take i w) 0 0 ≡ get_or w 0 0
-get_take [] zero pos = refl
-get_take [] (suc i) pos = refl
-get_take (b ∷ w) zero pos = absurd (omega arith)
-get_take (b ∷ w) (suc i) pos = refl
-
 is_wrong : (w : List ℕ) (i : ℕ) → 0 < i → (eqb i 0 || (eqb (get_or w 0 0) 48 && ltb 1 i)) ≡ true
     → (get_or w 0 0 ≡ 48) × (1 < i)
 is_wrong w i pos h = (grind (arith, nat_tests), grind (arith, nat_tests))
@@ -143,7 +135,8 @@ wrong_start w i le all clear wrong n after fits none e =
     let long : length (take i w) ≡ i = length-take-le i w le in
     let pos : 0 < i = omega (arith, ap (length {A = ℕ}) same, start.0, long) in
     let bad = is_wrong w i pos wrong in
-    let first : get_or (decimal n) 0 0 ≡ 48 = ap (λ (x : List ℕ). get_or x 0 0) (sym same) ∙ get_take w i pos ∙ bad.0 in
+    let first : get_or (decimal n) 0 0 ≡ 48 =
+    ap (λ (x : List ℕ). get_or x 0 0) (sym same) ∙ get_or-take i w 0 0 pos ∙ bad.0 in
     omega (arith, start.1 first, ap (length {A = ℕ}) same, long, bad.1)
 
 -- and others spell theirs
@@ -154,7 +147,7 @@ right_start w i n le all value small right =
     let long : length (take i w) ≡ i = length-take-le i w le in
     let start = is_right w i right in
     let one : get_or (take i w) 0 0 ≡ 48 → length (take i w) ≡ 1 = λ first. let few =
-    start.1 (sym (get_take w i start.0) ∙ first) in omega (arith, few, start.0, long) in
+    start.1 (sym (get_or-take i w 0 0 start.0) ∙ first) in omega (arith, few, start.0, long) in
     sym (decimal-digits_value own (take i w) all (omega (arith, long, start.0)) one
     (omega (arith, small, value))) ∙ ap decimal (sym value)
 
@@ -170,13 +163,9 @@ all_free (b ∷ w) h = (λ e. space_is_none b w e h, all_free w (grind (arith, n
 pub number_free : (n : ℕ) → FitsNumber n → IsFree SPACE (decimal n)
 number_free n fits = all_free (decimal n) (decimal_digits n fits)
 
-take_whole : (w : List ℕ) → take (length w) w ≡ w
-take_whole [] = refl
-take_whole (b ∷ w) = ap (λ (x : List ℕ). b ∷ x) (take_whole w)
-
 -- where the digits are all of a word, it is the number's
 pub whole : (w : List ℕ) (i n : ℕ) → take i w ≡ decimal n → i ≡ length w → w ≡ decimal n
-whole w i n front e = sym (take_whole w) ∙ ap (λ (k : ℕ). take k w) (sym e) ∙ front
+whole w i n front e = sym (take-length w) ∙ ap (λ (k : ℕ). take k w) (sym e) ∙ front
 
 -- and where they are not, it is no number's
 pub not_whole : (w : List ℕ) (i n : ℕ) → FitsNumber n → i ≤ length w → take i w ≡ decimal n
@@ -213,7 +202,7 @@ not_first w i n small le front clear m after fits e =
     ∙ length-append (decimal m) (SPACE ∷ after) in (
       omega (arith, at, long),
       ap (slice_index w) at
-          ∙ ap (λ (x : List ℕ). slice_index x (length (decimal m))) e ∙ at_seam (decimal m) after SPACE,
+          ∙ ap (λ (x : List ℕ). slice_index x (length (decimal m))) e ∙ get_or-append_seam (decimal m) SPACE after 0,
     )
 
 -- a number is told by its word

@@ -3,7 +3,8 @@ use Rattle.std.proofs.Common.{◌≡◌, ◌≢◌, ℕ, ◌/◌, ◌%◌, ◌<�
 use Rattle.std.proofs.Common.{length, map, arith, rules}
 use Rattle.std.specs.List.{list_all, AllByRecursion}
 use Rattle.std.specs.Fmt.{decimal}
-use Rattle.std.specs.Str.{all_ascii_digits}
+use Rattle.std.specs.Char.{is_ascii_digit}
+use Rattle.std.proofs.lemmas.Bool.{and_parts}
 use Rattle.std.proofs.lemmas.Bool.Decides.{nat_tests}
 use Rattle.std.proofs.lemmas.Fmt.{decimal_nonempty}
 use Rattle.hex.specs.Hex.{encode_lower, encode_with}
@@ -23,6 +24,7 @@ use Rattle.smx_words.specs.Spellable.{FitsBytes, FitsCommand, FitsName, FitsNumb
 use Rattle.smx_words.specs.Spelling.{command_words, fault_words, reply_words, which_word, sides_word}
 use Rattle.smx_words.specs.Words.{EQUALS, IsFree, IsWord}
 use Rattle.smx_words.proofs.HexLemmas.{digit, digit_is, digit_range, long}
+use Rattle.smx_words.proofs.LineLemmas.{all_weaker}
 use Rattle.smx_words.proofs.NumberLemmas.{decimal_digits}
 
 -- a byte that can be seen, and no equals sign
@@ -33,27 +35,19 @@ IsPlainByte b = (0x21 ≤ b) × (b ≤ 0x7E) × (b ≢ EQUALS)
 abbrev pub IsPlain : List ℕ → Type 0
 IsPlain w = (0 < length w) × AllByRecursion IsPlainByte w
 
-digits_plain : (w : List ℕ) → all_ascii_digits w ≡ true → AllByRecursion IsPlainByte w
-digits_plain [] h = tt
-digits_plain (b ∷ w) h = (
-  (grind (arith, nat_tests), grind (arith, nat_tests), λ e. no_sign b w e h),
-  digits_plain w (grind (arith, nat_tests)),
-) where
-  no_sign : (b : ℕ) (w : List ℕ) → b ≡ 61 → all_ascii_digits (b ∷ w) ≡ true → ⊥
-  no_sign b w e h = grind (arith, nat_tests)
+-- where each passes a test that lets nothing else through, they are such bytes
+all_plain : (test : ℕ → Bool) → ((b : ℕ) → test b ≡ true → IsPlainByte b) → (w : List ℕ) → list_all test w ≡ true
+    → AllByRecursion IsPlainByte w
+all_plain test plain [] h = tt
+all_plain test plain (b ∷ w) h = let parts = and_parts (test b) (list_all test w) h in
+    (plain b parts.0, all_plain test plain w parts.1)
 
 -- the word of a number is bytes that can be seen, none an equals sign
 pub number_plain : (n : ℕ) → FitsNumber n → IsPlain (decimal n)
-number_plain n fits = (decimal_nonempty n (omega arith), digits_plain (decimal n) (decimal_digits n fits))
-
-name_bytes_plain : (w : List ℕ) → list_all is_name_byte w ≡ true → AllByRecursion IsPlainByte w
-name_bytes_plain [] h = tt
-name_bytes_plain (b ∷ w) h = (
-  (grind (arith, nat_tests), grind (arith, nat_tests), λ e. no_sign b w e h),
-  name_bytes_plain w (grind (arith, nat_tests)),
-) where
-  no_sign : (b : ℕ) (w : List ℕ) → b ≡ 61 → list_all is_name_byte (b ∷ w) ≡ true → ⊥
-  no_sign b w e h = grind (arith, nat_tests)
+number_plain n fits =
+    (decimal_nonempty n (omega arith), all_plain is_ascii_digit plain (decimal n) (decimal_digits n fits)) where
+      plain : (b : ℕ) → is_ascii_digit b ≡ true → IsPlainByte b
+      plain b h = (grind (arith, nat_tests), grind (arith, nat_tests), λ e. grind (arith, nat_tests))
 
 and_right : (a b c : Bool) → (a && (b && c)) ≡ true → c ≡ true
 and_right true true c h = h
@@ -63,7 +57,9 @@ and_right false b c h = absurd cc
 -- a driver's name is bytes that can be seen, none an equals sign
 pub name_plain : (w : List ℕ) → FitsName w → IsPlain w
 name_plain [] h = absurd (cc h)
-name_plain (b ∷ w) h = (omega arith, name_bytes_plain (b ∷ w) (and_right _ _ _ h))
+name_plain (b ∷ w) h = (omega arith, all_plain is_name_byte plain (b ∷ w) (and_right _ _ _ h)) where
+  plain : (b : ℕ) → is_name_byte b ≡ true → IsPlainByte b
+  plain b h = (grind (arith, nat_tests), grind (arith, nat_tests), λ e. grind (arith, nat_tests))
 
 -- the word of an id, or of all, is bytes that can be seen, none an equals sign
 pub which_plain : (x : Which) → FitsWhich x → IsPlain (which_word x)
@@ -98,32 +94,16 @@ hex_plain (b ∷ bs) fits = (omega (arith, long b bs), encoded_plain (b ∷ bs) 
 
 -- ---- commands and replies
 
+numbers_plain : (ns : List ℕ) → AllByRecursion FitsNumber ns → AllByRecursion IsPlain (map decimal ns)
+numbers_plain [] h = tt
+numbers_plain (n ∷ ns) h = (number_plain n h.0, numbers_plain ns h.1)
+
+ruleset plain_word_of = (number_plain, numbers_plain, name_plain, which_plain, sides_plain, hex_plain)
+
 -- each word of a command is bytes that can be seen, none an equals sign
 pub command_plain : (c : Command) → FitsCommand c → AllByRecursion IsPlain (command_words c)
-command_plain (command.OpenClone d) fits = (search rules, (name_plain d fits, tt))
-command_plain (command.OpenMinor d n) fits = (search rules, (name_plain d fits.0, (number_plain n fits.1, tt)))
-command_plain (command.Dup n) fits = (search rules, (number_plain n fits, tt))
-command_plain (command.Close n) fits = (search rules, (number_plain n fits, tt))
 command_plain command.CloseAll fits = search rules
-command_plain (command.Link n m) fits = (search rules, (number_plain n fits.0, (number_plain m fits.1, tt)))
-command_plain (command.Plink n m) fits = (search rules, (number_plain n fits.0, (number_plain m fits.1, tt)))
-command_plain (command.Unlink n x) fits = (search rules, (number_plain n fits.0, (which_plain x fits.1, tt)))
-command_plain (command.Punlink n x) fits = (search rules, (number_plain n fits.0, (which_plain x fits.1, tt)))
-command_plain (command.Bind n m) fits = (search rules, (number_plain n fits.0, (number_plain m fits.1, tt)))
-command_plain (command.Unbind n) fits = (search rules, (number_plain n fits, tt))
-command_plain (command.Route n m k) fits =
-    (search rules, (number_plain n fits.0, (number_plain m fits.1, (number_plain k fits.2, tt))))
-command_plain (command.Unroute n m) fits = (search rules, (number_plain n fits.0, (number_plain m fits.1, tt)))
-command_plain (command.Write n m bs) fits =
-    (search rules, (number_plain n fits.0, (number_plain m fits.1, (hex_plain bs fits.2, tt))))
-command_plain (command.Read n) fits = (search rules, (number_plain n fits, tt))
-command_plain (command.Flush n s) fits = (search rules, (number_plain n fits, (sides_plain s, tt)))
-command_plain (command.Inject d n m bs) fits = (
-  search rules,
-  (name_plain d fits.0, (number_plain n fits.1, (number_plain m fits.2, (hex_plain bs fits.3, tt)))),
-)
-command_plain (command.Transmit d n) fits = (search rules, (name_plain d fits.0, (number_plain n fits.1, tt)))
-command_plain (command.Hangup d n) fits = (search rules, (name_plain d fits.0, (number_plain n fits.1, tt)))
+command_plain c fits = search (rules, plain_word_of)
 
 -- a command has at least one word
 pub some_command : (c : Command) → 0 < length (command_words c)
@@ -135,20 +115,10 @@ pub fault_plain : (f : Fault) → (0 < length (fault_words f)) × AllByRecursion
 fault_plain fault.BadDescriptor = search rules
 fault_plain f = search rules
 
-numbers_plain : (ns : List ℕ) → AllByRecursion FitsNumber ns → AllByRecursion IsPlain (map decimal ns)
-numbers_plain [] h = tt
-numbers_plain (n ∷ ns) h = (number_plain n h.0, numbers_plain ns h.1)
-
 -- each word of a reply is bytes that can be seen, none an equals sign
 pub reply_plain : (r : Reply) → FitsReply r → AllByRecursion IsPlain (reply_words r)
-reply_plain (reply.Fd n m) fits = (search rules, (number_plain n fits.0, (number_plain m fits.1, tt)))
-reply_plain (reply.Id n) fits = (search rules, (number_plain n fits, tt))
-reply_plain (reply.Took n) fits = (search rules, (number_plain n fits, tt))
-reply_plain (reply.Got n m bs) fits =
-    (search rules, (number_plain n fits.0, (number_plain m fits.1, (hex_plain bs fits.2, tt))))
-reply_plain (reply.Done ns) fits = (search rules, numbers_plain ns fits)
-reply_plain reply.Eof fits = (search rules, tt)
 reply_plain (reply.Fault f) fits = (fault_plain f).1
+reply_plain r fits = search (rules, plain_word_of)
 
 -- a reply has at least one word
 pub some_reply : (r : Reply) → 0 < length (reply_words r)
@@ -157,24 +127,14 @@ some_reply r = omega arith
 
 -- ---- so they are words, and no equals sign stands in their lines
 
-seen : (w : List ℕ) → AllByRecursion IsPlainByte w → AllByRecursion (λ b. (0x21 ≤ b) × (b ≤ 0x7E)) w
-seen [] h = tt
-seen (b ∷ w) h = ((h.0.0, h.0.1), seen w h.1)
-
 -- some bytes that can be seen, with no equals sign, are a word
 pub plain_word : (w : List ℕ) → IsPlain w → IsWord w
-plain_word w h = (h.0, seen w h.1)
+plain_word w h = (h.0, all_weaker (λ b k. (k.0, k.1)) w h.1)
 
 -- lists of such bytes are words
 pub plain_words : (ws : List (List ℕ)) → AllByRecursion IsPlain ws → AllByRecursion IsWord ws
-plain_words [] h = tt
-plain_words (w ∷ ws) h = (plain_word w h.0, plain_words ws h.1)
-
-plain_free : (w : List ℕ) → AllByRecursion IsPlainByte w → IsFree EQUALS w
-plain_free [] h = tt
-plain_free (b ∷ w) h = (h.0.2, plain_free w h.1)
+plain_words = all_weaker plain_word
 
 -- in lists of such bytes stands no equals sign
 pub plain_words_free : (ws : List (List ℕ)) → AllByRecursion IsPlain ws → AllByRecursion (IsFree EQUALS) ws
-plain_words_free [] h = tt
-plain_words_free (w ∷ ws) h = (plain_free w h.0.1, plain_words_free ws h.1)
+plain_words_free = all_weaker (λ w h. all_weaker (λ b k. k.2) w h.1)

@@ -15,6 +15,7 @@ use Rattle.smx_words.specs.Spelling.{fault_words, reply_words}
 use Rattle.smx_words.specs.Verbs.{reply_verb_word}
 use Rattle.smx_words.specs.Words.{SPACE, line_of}
 use Rattle.smx_words.proofs.CutLemmas.{apart, no_space_in}
+use Rattle.smx_words.proofs.LineLemmas.{all_append}
 use Rattle.smx_words.proofs.NumberLemmas.{number_free, same_number}
 use Rattle.smx_types.specs.declared.version.Version.TheVariants.{V1}
 
@@ -39,12 +40,7 @@ no_space m n after fits_m bad = no_space_in (decimal n) after (decimal m) (numbe
 pub one_more : (line before rest after : List ℕ) (n : ℕ) → AreThen line before rest → FitsNumber n
     → rest ≡ decimal n ++ SPACE ∷ after → AreThen line (before ++ n ∷ []) after
 one_more line before rest after n h fits is =
-    record { fit = fit_append before (n ∷ []) h.fit (fits, tt); then = then; only = only } where
-      fit_append : (xs ys : List ℕ) → AllByRecursion FitsNumber xs → AllByRecursion FitsNumber ys
-          → AllByRecursion FitsNumber (xs ++ ys)
-      fit_append [] ys a b = b
-      fit_append (x ∷ xs) ys a b = (a.0, fit_append xs ys a.1 b)
-
+    record { fit = all_append FitsNumber before (n ∷ []) h.fit (fits, tt); then = then; only = only } where
       then : (more : List ℕ) → Spell after more → Spell line ((before ++ n ∷ []) ++ more)
       then [] s = absurd (omega (arith, s.0.0))
       then (m ∷ more) s =

@@ -10,8 +10,9 @@ use Rattle.smx_words.specs.declared.reading.verb.ReplyVerb.TheVariants as reply_
 use Rattle.smx_words.specs.Spellable.{FitsReply}
 use Rattle.smx_words.specs.Spelling.{fault_words, reply_words}
 use Rattle.smx_words.specs.Verbs.{reply_verb_word}
-use Rattle.smx_words.proofs.DecidedLemmas.{each, first, last}
+use Rattle.smx_words.proofs.DecidedLemmas.{each}
 use Rattle.smx_words.proofs.DecidedWordLemmas.{bytes, number}
+use Rattle.smx_words.proofs.SameCommandLemmas.{two}
 use Rattle.smx_words.proofs.SameWordLemmas.{every_fault, fault_at, first_of_these, found_fault}
 
 -- what a reply tells, if it is no fault
@@ -46,14 +47,11 @@ no_end f e = let none : ◌≡◌ {A = Option Fault} (Some f) None = sym (found_
 
 by_reply_verb : (r s : Reply) → FitsReply r → FitsReply s → reply_verb_of r ≡ reply_verb_of s
     → reply_words r ≡ reply_words s → r ≡ s
-by_reply_verb (reply.Fd n m) (reply.Fd n' m') h k v e =
-    ap (λ (p : ℕ × ℕ). reply.Fd p.0 p.1) ((first number (last number)).one (n, m) (n', m') h k (cc e))
-by_reply_verb (reply.Id n) (reply.Id n') h k v e = ap reply.Id (number.one n n' h k (cc e))
-by_reply_verb (reply.Took n) (reply.Took n') h k v e = ap reply.Took (number.one n n' h k (cc e))
-by_reply_verb (reply.Got n m bs) (reply.Got n' m' bs') h k v e =
-    ap (λ (p : ℕ × (ℕ × List ℕ)). reply.Got p.0 p.1.0 p.1.1)
-    ((first number (first number (last bytes))).one (n, (m, bs)) (n', (m', bs')) (h.0, (h.1, h.2))
-    (k.0, (k.1, k.2)) (cc e))
+by_reply_verb (reply.Fd n m) (reply.Fd x y) h k v e = two number number reply.Fd n x m y h k (cc e)
+by_reply_verb (reply.Id n) (reply.Id x) h k v e = ap reply.Id (number.one n x h k (cc e))
+by_reply_verb (reply.Took n) (reply.Took x) h k v e = ap reply.Took (number.one n x h k (cc e))
+by_reply_verb (reply.Got n m bs) (reply.Got x y cs) h k v e =
+    cc (number.one n x h.0 k.0 (cc e), number.one m y h.1 k.1 (cc e), bytes.one bs cs h.2 k.2 (cc e))
 by_reply_verb (reply.Done ns) (reply.Done ms) h k v e = ap reply.Done ((each number).one ns ms h k (cc e))
 by_reply_verb reply.Eof reply.Eof h k v e = refl
 by_reply_verb reply.Eof (reply.Fault f) h k v e = absurd (no_end f (sym e))

@@ -1,12 +1,13 @@
 -- Values of one word are told apart by it, and faults by their words. Whether words are of one of few is told.
-use Rattle.std.proofs.Common.{◌≡◌, ℕ, Bool, true, false, cond, List, [], ◌∷◌, Option, Some, None, refl, sym, ap}
-use Rattle.std.proofs.Common.{◌∙◌, rules, inl, inr}
+use Rattle.std.proofs.Common.{◌≡◌, ℕ, Result, Ok, Bool, true, false, cond, List, [], ◌∷◌}
+use Rattle.std.proofs.Common.{Option, Some, None, refl, sym, ap, ◌∙◌, rules, inl, inr}
 use Rattle.std.specs.Bool.{Decides}
 use Rattle.std.specs.Cmp.Lexicographic.{pointwise, pointwise_decides}
 use Rattle.std.specs.Prelude.{codes}
 use Rattle.std.specs.Str.{all_ascii_digits, bytes_eq}
 use Rattle.std.proofs.lemmas.Slice.Eq.{bytes_eq-Decides}
 use Rattle.hex.specs.Hex.{decode_of}
+use Rattle.hex.specs.declared.error.FromHexError.{FromHexError}
 use Rattle.hex.proofs.HexLemmas.{decode_of-encode_lower}
 use Rattle.smx_types.specs.declared.command.Sides.{Sides}
 use Rattle.smx_types.specs.declared.command.Sides.TheVariants as sides
@@ -28,14 +29,11 @@ use Rattle.smx_words.specs.Spelling.{fault_words, kind_word, link_kind_word, sid
 use Rattle.smx_words.specs.Verbs.{verb_word}
 use Rattle.smx_words.specs.Words.{IsWord}
 use Rattle.smx_words.proofs.DecidedLemmas.{Answer, HasWord, HasWords}
-use Rattle.smx_words.proofs.HexLemmas.{are_bytes, dash, ok_same}
+use Rattle.smx_words.proofs.HexLemmas.{are_bytes, dash}
 use Rattle.smx_words.proofs.NumberLemmas.{decimal_digits, same_number}
-use Rattle.smx_words.proofs.PlainLemmas.{fault_plain, plain_word, plain_words, sides_plain}
+use Rattle.smx_words.proofs.PlainLemmas.{fault_plain, plain_words}
 
 -- ---- values of few, each of which has its spelling
-
-some_same : {X : Type 0} (x y : X) → Some x ≡ Some y → x ≡ y
-some_same x y e = cc e
 
 -- the first of some that is spelled so, as a test of spellings tells
 abbrev pub first_of_these : {X S : Type 0} → (S → S → Bool) → (X → S) → List X → S → Option X
@@ -47,7 +45,7 @@ pub told : {X S : Type 0} (same : S → S → Bool) (spelling : X → S) (all : 
     → ((x : X) → first_of_these same spelling all (spelling x) ≡ Some x) → (x y : X)
     → spelling x ≡ spelling y → x ≡ y
 told same spelling all found x y e =
-    some_same x y (sym (found x) ∙ ap (first_of_these same spelling all) e ∙ found y)
+    let both : Some x ≡ Some y = sym (found x) ∙ ap (first_of_these same spelling all) e ∙ found y in cc both
 
 -- and whether one is spelled so is told
 pub few : {X S : Type 0} (same : S → S → Bool) → ((s t : S) → Decides (same s t) (s ≡ t)) → (spelling : X → S)
@@ -56,7 +54,7 @@ pub few : {X S : Type 0} (same : S → S → Bool) → ((s t : S) → Decides (s
 few {X} same tells spelling all found s = by_first (first_of_these same spelling all s) refl where
   by_test : (x y : X) (t : Bool) (rest : Option X) → same s (spelling y) ≡ t → (rest ≡ Some x → s ≡ spelling x)
       → cond t (Some y) rest ≡ Some x → s ≡ spelling x
-  by_test x y true rest is more e = (tells s (spelling y)).0 is ∙ ap spelling (some_same y x e)
+  by_test x y true rest is more e = (tells s (spelling y)).0 is ∙ ap spelling (cc e)
   by_test x y false rest is more e = more e
 
   spelled : (xs : List X) (x : X) → first_of_these same spelling xs s ≡ Some x → s ≡ spelling x
@@ -67,63 +65,47 @@ few {X} same tells spelling all found s = by_first (first_of_these same spelling
   by_first : (o : Option X) → first_of_these same spelling all s ≡ o → Answer FitsAlways spelling s
   by_first (Some x) e = inl (x, tt, spelled all x e)
   by_first None e = inr (λ x fits is.
-      absurd (none_some x (sym e ∙ ap (first_of_these same spelling all) is ∙ found x))) where
-        none_some : (x : X) → None ≡ Some x → ⊥
-        none_some x bad = absurd (cc bad)
+      let bad : None ≡ Some x = sym e ∙ ap (first_of_these same spelling all) is ∙ found x in absurd (cc bad))
+
+-- it is found by its word
+abbrev IsTold : {X : Type 0} → (X → List ℕ) → List X → X → Type 0
+IsTold word all x = (first_of_these bytes_eq word all (word x) ≡ Some x) × IsWord (word x)
 
 -- values of few that have a word each
-word_of_few : {X : Type 0} (word : X → List ℕ) (all : List X)
-    → ((x : X) → first_of_these bytes_eq word all (word x) ≡ Some x) → ((x : X) → IsWord (word x))
-    → HasWord FitsAlways word
-word_of_few word all found is_word = record {
-  answer = few bytes_eq bytes_eq-Decides word all found;
-  one = λ x y h k e. told bytes_eq word all found x y e;
-  is_word = λ x h. is_word x;
+word_of_few : {X : Type 0} (word : X → List ℕ) (all : List X) → ((x : X) → IsTold word all x) → HasWord FitsAlways word
+word_of_few word all found = record {
+  answer = few bytes_eq bytes_eq-Decides word all (λ x. (found x).0);
+  one = λ x y h k e. told bytes_eq word all (λ x. (found x).0) x y e;
+  is_word = λ x h. (found x).1;
 }
 
 -- the two kinds of drivers
 pub driver_kind : HasWord FitsAlways kind_word
-driver_kind = word_of_few kind_word (kind.Leaf ∷ kind.Mux ∷ []) found is_word where
-  found : (k : DriverKind) → first_of_these bytes_eq kind_word (kind.Leaf ∷ kind.Mux ∷ []) (kind_word k) ≡ Some k
-  found kind.Leaf = refl
-  found kind.Mux = refl
-
-  is_word : (k : DriverKind) → IsWord (kind_word k)
-  is_word kind.Leaf = search rules
-  is_word kind.Mux = search rules
+driver_kind = word_of_few kind_word (kind.Leaf ∷ kind.Mux ∷ []) found where
+  found : (k : DriverKind) → IsTold kind_word (kind.Leaf ∷ kind.Mux ∷ []) k
+  found kind.Leaf = search rules
+  found kind.Mux = search rules
 
 -- the two kinds of links
 pub link_kind : HasWord FitsAlways link_kind_word
-link_kind = word_of_few link_kind_word (link.Ordinary ∷ link.Persistent ∷ []) found is_word where
-  found : (k : LinkKind)
-      → first_of_these bytes_eq link_kind_word (link.Ordinary ∷ link.Persistent ∷ []) (link_kind_word k) ≡ Some k
-  found link.Ordinary = refl
-  found link.Persistent = refl
-
-  is_word : (k : LinkKind) → IsWord (link_kind_word k)
-  is_word link.Ordinary = search rules
-  is_word link.Persistent = search rules
+link_kind = word_of_few link_kind_word (link.Ordinary ∷ link.Persistent ∷ []) found where
+  found : (k : LinkKind) → IsTold link_kind_word (link.Ordinary ∷ link.Persistent ∷ []) k
+  found link.Ordinary = search rules
+  found link.Persistent = search rules
 
 -- the two sides of a stream
 pub stream_side : HasWord FitsAlways side_word
-stream_side = word_of_few side_word (side.Write ∷ side.Read ∷ []) found is_word where
-  found : (s : Side) → first_of_these bytes_eq side_word (side.Write ∷ side.Read ∷ []) (side_word s) ≡ Some s
-  found side.Write = refl
-  found side.Read = refl
-
-  is_word : (s : Side) → IsWord (side_word s)
-  is_word side.Write = search rules
-  is_word side.Read = search rules
+stream_side = word_of_few side_word (side.Write ∷ side.Read ∷ []) found where
+  found : (s : Side) → IsTold side_word (side.Write ∷ side.Read ∷ []) s
+  found side.Write = search rules
+  found side.Read = search rules
 
 -- the choices of a flush
 pub flush_sides : HasWord FitsAlways sides_word
-flush_sides = word_of_few sides_word (sides.R ∷ sides.W ∷ sides.RW ∷ []) found
-    (λ s. plain_word (sides_word s) (sides_plain s)) where
-      found : (s : Sides)
-          → first_of_these bytes_eq sides_word (sides.R ∷ sides.W ∷ sides.RW ∷ []) (sides_word s) ≡ Some s
-      found sides.R = refl
-      found sides.W = refl
-      found sides.RW = refl
+flush_sides = word_of_few sides_word (sides.R ∷ sides.W ∷ sides.RW ∷ []) found where
+  found : (s : Sides) → IsTold sides_word (sides.R ∷ sides.W ∷ sides.RW ∷ []) s
+  found sides.R = search rules
+  found s = search rules
 
 abbrev all_verb : List Verb
 all_verb =
@@ -180,5 +162,6 @@ pub same_bytes : (bs cs : List ℕ) → FitsBytes bs → FitsBytes cs → hex_wo
 same_bytes [] cs h k e = sym (dash cs (sym e))
 same_bytes (b ∷ bs) [] h k e = dash (b ∷ bs) e
 same_bytes (b ∷ bs) (c ∷ cs) h k e =
-    ok_same (b ∷ bs) (c ∷ cs) (sym (decode_of-encode_lower (b ∷ bs) (are_bytes (b ∷ bs) h)) ∙ ap decode_of e
-    ∙ decode_of-encode_lower (c ∷ cs) (are_bytes (c ∷ cs) k))
+    let both : ◌≡◌ {A = Result (List ℕ) FromHexError} (Ok (b ∷ bs)) (Ok (c ∷ cs)) =
+    sym (decode_of-encode_lower (b ∷ bs) (are_bytes (b ∷ bs) h)) ∙ ap decode_of e
+    ∙ decode_of-encode_lower (c ∷ cs) (are_bytes (c ∷ cs) k) in cc both

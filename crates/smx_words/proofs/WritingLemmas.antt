@@ -10,6 +10,7 @@ use Rattle.std.specs.List.{AllByRecursion, flat_map}
 use Rattle.hex.specs.Hex.{encode_lower, lower_digits}
 use Rattle.smx_words.specs.Words.{LINE_FEED, line_of, text_of}
 use Rattle.smx_words.proofs.HexLemmas.{encode_push}
+use Rattle.smx_words.proofs.LineLemmas.{all_append}
 
 -- a word and then numbers
 pub numbers_line : (w : List ℕ) (ns : List ℕ) → line_of (w ∷ map decimal ns) ≡ w ++ flat_map (λ n. 32 ∷ decimal n) ns
@@ -39,10 +40,7 @@ lines_more {X} words xs i x new old start one line before =
 -- what holds of some and of one more holds of all of them
 pub all_more : {X : Type 0} (P : X → Type 0) (xs : List X) (i : ℕ) (x : X) → take (i + 1) xs ≡ take i xs ++ x ∷ []
     → P x → AllByRecursion P (take i xs) → AllByRecursion P (take (i + 1) xs)
-all_more {X} P xs i x one holds before = rw one (push (take i xs) before) where
-  push : (ys : List X) → AllByRecursion P ys → AllByRecursion P (ys ++ x ∷ [])
-  push [] h = (holds, tt)
-  push (y ∷ ys) h = (h.0, push ys h.1)
+all_more P xs i x one holds before = rw one (all_append P (take i xs) (x ∷ []) before (holds, tt))
 
 -- ---- short numbers, digit by digit
 

@@ -1,9 +1,9 @@
-use Rattle.std.proofs.Common.{refl, ◌∙◌}
+use Rattle.std.proofs.Common.{refl}
 use Rattle.smx_model.specs.Configuration.{same_place}
 use Rattle.smx_model.specs.Settling.{after_move}
 use Rattle.smx_model.specs.SettlingByMarks.{turned_by_move}
 use Rattle.smx_config.specs.Marking.{marked_configuration}
-use Rattle.smx_config.proofs.WakeLemmas.{IsAmong, full_again, held_up_still, marked_after}
+use Rattle.smx_config.proofs.WakeLemmas.{IsAmong, marked_after, marks_after}
 use Rattle.smx_config.proofs.WokenLemmas.{turned_is}
 use Rattle.smx_config.proofs.laws_of_waking.moved_marks_are_enough.Goals as goal
 
@@ -20,13 +20,6 @@ returns c = λ drivers old p q m n sound marks next woken.
           turned_is drivers old new p q next (c.moves_turn_two.ensures drivers old p q sound.ordered.flow next);
       frees_only = λ r. c.moves_free_one.ensures drivers old p r;
     } in
-    record {
-      run = woken.released.run_drivers ∙ marks.run;
-      wanted = woken.released.wanted_drivers ∙ marks.wanted;
-      waits = rw woken.released.waits marks.waits;
-      waiting = c.moves_keep_marks.ensures drivers p (marked_configuration old m)
-          (marked_configuration new n) sound.ordered.flow marks.waiting refl
-          (marked_after drivers old new ends (same_place p) ends (same_place p) m n marks among woken);
-      full = full_again drivers old new ends (same_place p) (same_place p) m n marks among.frees_only among.frees woken;
-      held_up = held_up_still drivers old new ends (same_place p) ends (same_place p) m n marks among woken;
-    }
+    marks_after drivers old new ends (same_place p) ends (same_place p) m n marks among woken
+    (c.moves_keep_marks.ensures drivers p (marked_configuration old m) (marked_configuration new n) sound.ordered.flow
+    marks.waiting refl (marked_after drivers old new ends (same_place p) ends (same_place p) m n marks among woken))

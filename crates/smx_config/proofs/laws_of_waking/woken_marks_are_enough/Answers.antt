@@ -1,4 +1,3 @@
-use Rattle.std.proofs.Common.{◌∙◌}
 use Rattle.smx_model.specs.Commands.{outcome}
 use Rattle.smx_model.specs.FreedPlaces.{freed_by}
 use Rattle.smx_model.specs.RunMarks.{both, woken_by, wanted_after}
@@ -6,7 +5,7 @@ use Rattle.smx_model.specs.SettlingByMarks.{IsMarkedAfter}
 use Rattle.smx_queues.specs.PlaceMarks.{has_mark}
 use Rattle.smx_config.specs.Marking.{marked_configuration}
 use Rattle.smx_config.specs.Wakes.{freed_under, turned_under, wakes_of}
-use Rattle.smx_config.proofs.WakeLemmas.{IsAmong, full_again, held_up_still, marked_after}
+use Rattle.smx_config.proofs.WakeLemmas.{IsAmong, marked_after, marks_after}
 use Rattle.smx_config.proofs.WokenLemmas.{frees, of_three, turns_few}
 use Rattle.smx_config.proofs.laws_of_waking.woken_marks_are_enough.Goals as goal
 
@@ -30,14 +29,8 @@ returns c = λ drivers old process command m n sound marks.
     } in
     let after : IsMarkedAfter drivers turned (marked_configuration old m) (marked_configuration x.0 n)
     = marked_after drivers old x.0 turned freed turned (freed_under wakes) m n marks among woken in
-    record {
-      run = woken.released.run_drivers ∙ marks.run;
-      wanted = woken.released.wanted_drivers ∙ marks.wanted;
-      waits = rw woken.released.waits marks.waits;
-      waiting = c.more_marks_do.ensures drivers x.0 (both run (woken_by drivers old x.0 wanted turned))
-          (wanted_after old x.0 wanted) (has_mark n.run) (has_mark n.wanted)
-          (c.a_change_wakes_few.ensures drivers old x.0 run wanted turned marks.waiting among.turns_only)
-          after.run after.wanted;
-      full = full_again drivers old x.0 turned freed (freed_under wakes) m n marks frees_only among.frees woken;
-      held_up = held_up_still drivers old x.0 turned freed turned (freed_under wakes) m n marks among woken;
-    })
+    marks_after drivers old x.0 turned freed turned (freed_under wakes) m n marks among woken
+    (c.more_marks_do.ensures drivers x.0 (both run (woken_by drivers old x.0 wanted turned))
+    (wanted_after old x.0 wanted) (has_mark n.run) (has_mark n.wanted)
+    (c.a_change_wakes_few.ensures drivers old x.0 run wanted turned marks.waiting among.turns_only)
+    after.run after.wanted))

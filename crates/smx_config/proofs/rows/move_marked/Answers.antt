@@ -11,7 +11,7 @@ use Rattle.smx_model.specs.SettlingByMarks.{turned_by_move}
 use Rattle.smx_queues.specs.PlaceMarks.{MarkList, has_mark}
 use Rattle.smx_commands.specs.Machine.{Machine}
 use Rattle.smx_config.specs.declared.marks.Marks.{Marks}
-use Rattle.smx_config.specs.Marking.{AreMarks, HasNeeded, IsMarkedUnless, IsMarkedWhere, IsWoken}
+use Rattle.smx_config.specs.Marking.{AreMarks, HasNeeded, IsMarkedWhere, IsWoken}
 use Rattle.smx_config.proofs.MoveLemmas.{moves_there}
 use Rattle.smx_config.proofs.NeededLemmas.{needed_do}
 use Rattle.smx_config.proofs.NextMoveLemmas.{movable_to}
@@ -31,85 +31,58 @@ returns-clause-value c =
     moves_there c.args.tables.now c.carry.new.self c.args.next.from c.args.next.to c.requires.open c.carry.ensures
 
 pub returns-clause-marks : goal.returns-clause-marks
-returns-clause-marks c = subst (λ (ds : List DriverSpec). AreMarks ds now last)
+returns-clause-marks c =
+    let drivers = c.args.tables.now.drivers in
+    let before = c.args.tables.now.configuration in
+    let now = c.carry.new.self.configuration in
+    let from = c.args.next.from in
+    let to = c.args.next.to in
+    let value : c.carry.new.self ≡ record c.args.tables.now { configuration = after_move drivers before from } =
+    moves_there c.args.tables.now c.carry.new.self from to c.requires.open c.carry.ensures in
+    let same_machine : c.carry.new.self ≡ record { drivers = drivers; configuration = now } =
+    value ∙ sym (ap (λ (x : Configuration). record c.args.tables.now { configuration = x })
+    (ap (λ (m : Machine). m.configuration) value)) in
+    let with_run : MarkList → Marks = λ run. record {
+      run = run;
+      wanted = c.release_if_open.new.marks.wanted;
+      waits = c.release_if_open.new.marks.waits;
+    } in
+    let last : Marks = with_run c.mark_arrived.new.run in
+    -- the marks as if a message went on from the place where it goes
+    let all = c.mark_arrived.ensures.0 in
+    let released = c.release_if_open.new.marks.run in
+    let arrived = c.mark_arrived.ensures.1 in
+    let next : IsOpenNext drivers before from to = open_next drivers before from to c.requires.sound c.requires.open in
+    -- a message that leaves one place is not the first of the other
+    let stays : first_message (after_leaving drivers before from).flow to ≡ first_message before.flow to =
+    c.the_first_leaves.ensures.first (after_leaving drivers before from).flow to
+    ∙ (ap (λ (ms : List Message). slice_get ms 0)
+    (c.the_first_leaves.ensures.queues before.flow from to ∙ rw next.differ refl)
+    ∙ sym (c.the_first_leaves.ensures.first before.flow to)) in
+    -- the place that it takes from has had a mark all along
+    let left : has_mark all from ≡ true = arrived.kept from (c.release_if_open.ensures.kept from
+    (c.movable_places_are_marked.ensures drivers before (has_mark c.args.marks.now.run)
+    (has_mark c.args.marks.now.wanted) from c.requires.marks.waiting
+    (movable_to drivers before from to c.requires.open))) in
+    let marked : IsMarkedWhere now.flow (turned_by_move drivers before from) released all = record {
+      kept = arrived.kept;
+      marked = λ p known some t. elim (turned_ends drivers before from to p c.requires.open stays t) [
+        | inl f ↦ subst (λ (x : Place). has_mark all x ≡ true) (place_is from p f) left
+        | inr there ↦ subst (λ (x : Place). IsKnown released.drivers x.stream → has_mark all x ≡ true)
+            (place_is to p there.0) (arrived.here (c.requires.filled ∙ there.1)) known
+      ];
+      drivers = arrived.drivers;
+    } in
+    let enough : AreMarks drivers now (with_run all) = subst
+    (λ (x : Configuration). IsWoken x (turned_by_move drivers before from) (same_place from) c.args.marks.now
+    (with_run all) → AreMarks drivers x (with_run all))
+    (sym (ap (λ (m : Machine). m.configuration) value))
+    (c.moved_marks_are_enough.ensures drivers before from to c.args.marks.now (with_run all) c.requires.sound
+    c.requires.marks c.requires.open)
+    (woken now (turned_by_move drivers before from) (same_place from) c.args.marks.now
+    c.release_if_open.new.marks all c.release_if_open.ensures marked) in
+    subst (λ (ds : List DriverSpec). AreMarks ds now last)
     (sym (ap (λ (m : Machine). m.drivers) value))
     (needed_do drivers now (with_run all) last enough
     (subst (λ (m : Machine). HasNeeded m.drivers m.configuration all c.mark_arrived.new.run) same_machine
-    c.mark_arrived.ensures.2) refl refl) where
-      drivers : List DriverSpec
-      drivers = c.args.tables.now.drivers
-
-      before : Configuration
-      before = c.args.tables.now.configuration
-
-      now : Configuration
-      now = c.carry.new.self.configuration
-
-      from : Place
-      from = c.args.next.from
-
-      to : Place
-      to = c.args.next.to
-
-      value : c.carry.new.self ≡ record c.args.tables.now { configuration = after_move drivers before from }
-      value = moves_there c.args.tables.now c.carry.new.self from to c.requires.open c.carry.ensures
-
-      same_machine : c.carry.new.self ≡ record { drivers = drivers; configuration = now }
-      same_machine = value ∙ sym (ap (λ (x : Configuration). record c.args.tables.now { configuration = x })
-          (ap (λ (m : Machine). m.configuration) value))
-
-      with_run : MarkList → Marks
-      with_run run =
-          record { run = run; wanted = c.release_if_open.new.marks.wanted; waits = c.release_if_open.new.marks.waits }
-
-      last : Marks
-      last = with_run c.mark_arrived.new.run
-
-      -- the marks as if a message went on from the place where it goes
-      all : MarkList
-      all = c.mark_arrived.ensures.0
-
-      released : MarkList
-      released = c.release_if_open.new.marks.run
-
-      arrived : IsMarkedUnless c.args.filled to released all
-      arrived = c.mark_arrived.ensures.1
-
-      next : IsOpenNext drivers before from to
-      next = open_next drivers before from to c.requires.sound c.requires.open
-
-      -- a message that leaves one place is not the first of the other
-      stays : first_message (after_leaving drivers before from).flow to ≡ first_message before.flow to
-      stays = c.the_first_leaves.ensures.first (after_leaving drivers before from).flow to
-          ∙ (ap (λ (ms : List Message). slice_get ms 0)
-          (c.the_first_leaves.ensures.queues before.flow from to ∙ rw next.differ refl)
-          ∙ sym (c.the_first_leaves.ensures.first before.flow to))
-
-      -- the place that it takes from has had a mark all along
-      left : has_mark all from ≡ true
-      left = arrived.kept from (c.release_if_open.ensures.kept from
-          (c.movable_places_are_marked.ensures drivers before (has_mark c.args.marks.now.run)
-          (has_mark c.args.marks.now.wanted) from c.requires.marks.waiting
-          (movable_to drivers before from to c.requires.open)))
-
-      marked : IsMarkedWhere now.flow (turned_by_move drivers before from) released all
-      marked = record {
-        kept = arrived.kept;
-        marked = λ p known some t. elim (turned_ends drivers before from to p c.requires.open stays t) [
-          | inl f ↦ subst (λ (x : Place). has_mark all x ≡ true) (place_is from p f) left
-          | inr there ↦ let e = place_is to p there.0 in subst (λ (x : Place). has_mark all x ≡ true) e
-              (arrived.here (c.requires.filled ∙ there.1)
-              (subst (λ (x : Place). IsKnown released.drivers x.stream) (sym e) known))
-        ];
-        drivers = arrived.drivers;
-      }
-
-      enough : AreMarks drivers now (with_run all)
-      enough = subst
-          (λ (x : Configuration). IsWoken x (turned_by_move drivers before from) (same_place from) c.args.marks.now
-          (with_run all) → AreMarks drivers x (with_run all))
-          (sym (ap (λ (m : Machine). m.configuration) value))
-          (c.moved_marks_are_enough.ensures drivers before from to c.args.marks.now (with_run all) c.requires.sound
-          c.requires.marks c.requires.open)
-          (woken now (turned_by_move drivers before from) (same_place from) c.args.marks.now
-          c.release_if_open.new.marks all c.release_if_open.ensures marked)
+    c.mark_arrived.ensures.2) refl refl)

@@ -32,13 +32,7 @@ returns-in-OpenClone-clause-makes c =
     c.args.command.now c.requires.swept) c.no_room.ensures
 
 pub returns-in-Unlink-clause-makes : goal.returns-in-Unlink-clause-makes
-returns-in-Unlink-clause-makes c = rw (
-  c.in-Unlink.is,
-  unlink_is c.args.self.now.drivers c.args.self.now.configuration c.args.process c.in-Unlink.fd c.in-Unlink.which,
-) c.room_for_unlink.ensures
+returns-in-Unlink-clause-makes c = rw (c.in-Unlink.is, unlink_is) c.room_for_unlink.ensures
 
 pub returns-in-Punlink-clause-makes : goal.returns-in-Punlink-clause-makes
-returns-in-Punlink-clause-makes c = rw (
-  c.in-Punlink.is,
-  punlink_is c.args.self.now.drivers c.args.self.now.configuration c.args.process c.in-Punlink.fd c.in-Punlink.which,
-) c.room_for_unlink-in-Punlink.ensures
+returns-in-Punlink-clause-makes c = rw (c.in-Punlink.is, punlink_is) c.room_for_unlink-in-Punlink.ensures
