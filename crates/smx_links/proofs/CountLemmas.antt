@@ -1,15 +1,21 @@
 -- How many links are between two drivers, with one more and with one less.
-use Rattle.std.proofs.Common.{◌≡◌, ℕ, ◌+◌, ◌-◌, ◌*◌, ◌<◌, ◌≤◌, ◌≢◌, Bool, true, false, cond, not, eqb, List, [], ◌∷◌}
+use Rattle.std.proofs.Common.{◌≡◌, ℕ, suc, ◌+◌, ◌-◌, ◌*◌, ◌<◌, ◌≤◌, ◌≢◌, Bool, true, false, cond, not, eqb, List, [], ◌∷◌}
 use Rattle.std.proofs.Common.{◌++◌, length, filter, find, get_or, set, Some, refl, sym, ◌∙◌, arith, inl, inr}
 use Rattle.std.specs.Prelude.{nat_lt}
-use Rattle.std.proofs.lemmas.Bool.{cases_Bool, and_parts, eq-eqb, eqb-true, false≢true}
+use Rattle.std.specs.List.{All}
+use Rattle.std.proofs.lemmas.Bool.{cases_Bool, cases_lt, and_parts, eq-eqb, eqb-true, false_from_ne_true, false≢true}
+use Rattle.std.proofs.lemmas.Bool.{le-ltb, lt-ltb, ne_eqb}
+use Rattle.std.proofs.lemmas.List.Elements.{All-from_get_or, All-get_or}
+use Rattle.std.proofs.lemmas.List.Folds.{list_any_none}
 use Rattle.std.proofs.lemmas.List.{get_or-set_same, get_or-set_other, length-set}
 use Rattle.std.proofs.lemmas.Nat.{mul-add-lt, same_from_place}
 use Rattle.std.proofs.lemmas.Option.{same_Some}
 use Rattle.smx_types.specs.declared.link.Link.{Link}
+use Rattle.smx_types.specs.declared.link.LinkKind.TheVariants as kind
 use Rattle.smx_model.specs.Ordered.{IsRising}
+use Rattle.smx_links.specs.LinkLists.{is_between, joins}
 use Rattle.smx_links.specs.Masks.{IsWithin}
-use Rattle.smx_links.specs.Pairs.{AreCounts, count_between, entry_of, is_between, place_of, with_one_less}
+use Rattle.smx_links.specs.Pairs.{AreCounts, count_between, entry_of, has_count, place_of, with_one_less}
 use Rattle.smx_links.specs.Pairs.{with_one_more}
 use Rattle.smx_links.proofs.IdLemmas.{later_stay}
 
@@ -121,3 +127,48 @@ counts_less n ls ks ps l id rise found rest h w =
     counts_set n ls ks ps l (entry_of n ps l - 1) h w
     (rw (entry_is n ls ps l h w, one l.ctl.driver l.lower.driver, between_own l) (omega arith))
     (λ u k f. rw (one u k, f) (omega arith))
+
+-- whether there is one
+
+not_none : (n : ℕ) → not (eqb (suc n) 0) ≡ true
+not_none n = rw (ne_eqb (suc n) 0 (λ e. omega arith)) refl
+
+-- some link is between two drivers just where there are not 0
+none_counted : (ls : List Link) (u k : ℕ) → not (eqb (count_between ls u k) 0) ≡ joins ls u k
+none_counted [] u k = refl
+none_counted (l ∷ ls) u k = elim (cases_Bool (is_between u k l)) [
+  | inl t ↦ rw t (not_none (count_between ls u k))
+  | inr f ↦ rw f (none_counted ls u k)
+]
+
+-- some link, where one has to be named
+abbrev no_link : Link
+no_link = record {
+  id = 0;
+  ctl = record { driver = 0; minor = 0 };
+  lower = record { driver = 0; minor = 0 };
+  kind = kind.Ordinary;
+}
+
+-- no link is between drivers of which one is none
+none_outside : (n : ℕ) (ls : List Link) (u k : ℕ) → All (IsWithin n) ls → (u < n → n ≤ k) → joins ls u k ≡ false
+none_outside n ls u k within out = list_any_none (is_between u k) ls
+    (All-from_get_or (λ l. is_between u k l ≡ false) ls no_link (λ i lt. other (get_or ls i no_link)
+    (All-get_or (IsWithin n) ls i no_link lt within))) where
+      other : (l : Link) → IsWithin n l → is_between u k l ≡ false
+      other l w = false_from_ne_true (is_between u k l) (λ t.
+          let both = and_parts (eqb l.ctl.driver u) (eqb l.lower.driver k) t in
+          let up = eqb-true l.ctl.driver u both.0 in
+          let low = eqb-true l.lower.driver k both.1 in
+          let past = out (omega (arith, w.0)) in omega (arith, w.1))
+
+-- an entry that is not 0 tells that a link is between its two drivers
+pub count_joins : (n : ℕ) (ls : List Link) (ps : List ℕ) (u k : ℕ) → AreCounts n ls ps → All (IsWithin n) ls
+    → has_count n ps u k ≡ joins ls u k
+count_joins n ls ps u k h within = elim (cases_lt u n) [
+  | inl up ↦ elim (cases_lt k n) [
+    | inl low ↦ rw (lt-ltb u n up, lt-ltb k n low, h.each u k up low) (none_counted ls u k)
+    | inr past ↦ rw (lt-ltb u n up, le-ltb k n past) (sym (none_outside n ls u k within (λ lt. past)))
+  ]
+  | inr past ↦ rw (le-ltb u n past) (sym (none_outside n ls u k within (λ lt. absurd (omega arith))))
+]

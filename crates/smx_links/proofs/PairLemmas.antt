@@ -11,7 +11,8 @@ use Rattle.smx_types.specs.declared.link.Link.{Link}
 use Rattle.smx_types.specs.declared.link.LinkKind.TheVariants.{Ordinary}
 use Rattle.smx_model.specs.Paths.{reaches}
 use Rattle.smx_links.specs.Masks.{AreJoined, IsWithin, LeadAlike, has_bit, is_set}
-use Rattle.smx_links.specs.Pairs.{AreCounts, AreMasksBefore, IsRow, count_between, is_before, is_between}
+use Rattle.smx_links.specs.LinkLists.{is_between}
+use Rattle.smx_links.specs.Pairs.{AreCounts, AreMasksBefore, IsRow, count_between, is_before}
 use Rattle.smx_links.proofs.CountLemmas.{counted}
 use Rattle.smx_links.proofs.MaskLemmas.{Joins, PathsJoin, known_same, masks_push}
 use Rattle.smx_links.proofs.TwinLemmas.{behind_same, own_path, swapped}

@@ -9,7 +9,8 @@ use Rattle.smx_types.specs.declared.link.Link.{Link}
 use Rattle.smx_model.specs.Ordered.{IsRising}
 use Rattle.smx_model.specs.Paths.{reaches}
 use Rattle.smx_links.specs.Masks.{IsWithin, LeadAlike}
-use Rattle.smx_links.specs.Pairs.{AreCounts, count_between, entry_of, is_between}
+use Rattle.smx_links.specs.LinkLists.{is_between}
+use Rattle.smx_links.specs.Pairs.{AreCounts, count_between, entry_of}
 use Rattle.smx_links.proofs.CountLemmas.{entry_is}
 use Rattle.smx_links.proofs.IdLemmas.{later_stay}
 use Rattle.smx_links.proofs.MaskLemmas.{Joins, PathsJoin, known_same}

@@ -1,5 +1,5 @@
 -- What a contract sees of a table of links.
-use Rattle.std.specs.Prelude.{◌≡◌, ℕ, ◌+◌, ◌≤◌, Bool, ◌||◌, not, ◌==◌, nat_le, List, [], ◌∷◌, ◌++◌, length, filter}
+use Rattle.std.specs.Prelude.{◌≡◌, ℕ, ◌+◌, ◌≤◌, Bool, ◌&&◌, ◌||◌, not, ◌==◌, nat_le, List, [], ◌∷◌, ◌++◌, length, filter}
 use Rattle.std.specs.Prelude.{Option, Some, None, Result, Err, if◌then◌else◌, MatchResult}
 use Rattle.std.specs.List.{list_any}
 use Rattle.smx_types.specs.declared.limits.TheConstants.{MAX_LINKS, NUMBER_END}
@@ -28,6 +28,14 @@ pub record IsLinkList (t : LinkList) : Type 0 where
 -- the driver is the upper one of a link
 abbrev pub is_upper : List Link → ℕ → Bool
 is_upper links driver = list_any (λ l. l.ctl.driver == driver) links
+
+-- the link leads from the upper driver u to the lower driver l
+abbrev pub is_between : ℕ → ℕ → Link → Bool
+is_between u l k = (k.ctl.driver == u) && (k.lower.driver == l)
+
+-- some link does
+abbrev pub joins : List Link → ℕ → ℕ → Bool
+joins links u l = list_any (is_between u l) links
 
 -- those links that are ordinary
 abbrev pub ordinary_of : List Link → List Link

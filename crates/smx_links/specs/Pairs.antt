@@ -1,12 +1,9 @@
 -- How many links there are between each two drivers, row by row. No public clause needs this.
-use Rattle.std.specs.Prelude.{◌≡◌, ℕ, ◌+◌, ◌-◌, ◌*◌, ◌<◌, Bool, ◌&&◌, ◌||◌, ◌==◌, nat_lt, List, length, filter}
+use Rattle.std.specs.Prelude.{◌≡◌, ℕ, ◌+◌, ◌-◌, ◌*◌, ◌<◌, Bool, ◌&&◌, ◌||◌, not, ◌==◌, nat_lt, List, length, filter}
 use Rattle.std.specs.Prelude.{slice_index, slice_set}
 use Rattle.smx_types.specs.declared.link.Link.{Link}
+use Rattle.smx_links.specs.LinkLists.{is_between}
 use Rattle.smx_links.specs.Masks.{AreMasks}
-
--- the link is between the two drivers
-abbrev pub is_between : ℕ → ℕ → Link → Bool
-is_between u l k = (k.ctl.driver == u) && (k.lower.driver == l)
 
 -- how many links are between the two drivers
 abbrev pub count_between : List Link → ℕ → ℕ → ℕ
@@ -19,6 +16,10 @@ place_of n l = l.ctl.driver * n + l.lower.driver
 -- the entry of the two drivers of a link
 abbrev pub entry_of : ℕ → List ℕ → Link → ℕ
 entry_of n pairs l = slice_index pairs (place_of n l)
+
+-- the entry of two drivers is not 0; there is none where one of them is no driver
+abbrev pub has_count : ℕ → List ℕ → ℕ → ℕ → Bool
+has_count n pairs u l = nat_lt u n && (nat_lt l n && not (slice_index pairs (u * n + l) == 0))
 
 -- with one link more between its two drivers
 abbrev pub with_one_more : ℕ → List ℕ → Link → List ℕ

@@ -3,7 +3,7 @@
 ghost use Rattle.std.specs.Prelude.{◌≡◌, ◌<◌, ◌≤◌, ◌*◌, ◌+◌, ◌==◌, not, length};
 ghost use Rattle.smx_types.specs.declared.limits.TheConstants.{MAX_DRIVERS};
 ghost use Rattle.smx_links.specs.Masks.{IsWithin};
-ghost use Rattle.smx_links.specs.Pairs.{entry_of, place_of, with_one_less, with_one_more};
+ghost use Rattle.smx_links.specs.Pairs.{entry_of, has_count, place_of, with_one_less, with_one_more};
 
 use smx_types::Link;
 
@@ -42,4 +42,15 @@ pub fn uncount(pairs: &mut [Count], drivers: usize, link: Link) -> bool
     let place = place_of(drivers, link);
     pairs[place] -= 1;
     pairs[place] != 0
+}
+
+// Whether the entry of two drivers is not 0. There is none where one of them is no driver.
+pub fn has_count(pairs: &[Count], drivers: usize, upper: u8, lower: u8) -> bool
+    requires few { drivers ≤ MAX_DRIVERS }
+    requires long { length pairs.now ≡ drivers * drivers }
+    ensures { result ≡ has_count drivers pairs.now upper lower }
+{
+    let upper = upper as usize;
+    let lower = lower as usize;
+    upper < drivers && lower < drivers && pairs[upper * drivers + lower] != 0
 }

@@ -2,18 +2,20 @@
 
 ghost use Rattle.std.specs.Prelude.{◌≡◌, ◌<◌, ◌≤◌, [], length, find, ◌==◌, ◌||◌, nat_le, slice_get};
 ghost use Rattle.std.specs.Prelude.{IfOk, OnOk, OnErr, option_copied};
+ghost use Rattle.std.specs.List.{All};
 ghost use Rattle.smx_types.specs.declared.limits.TheConstants.{MAX_DRIVERS, MAX_LINKS, NUMBER_END};
 ghost use Rattle.smx_model.specs.Configuration.{same_stream};
 ghost use Rattle.smx_model.specs.Paths.{reaches};
 ghost use Rattle.smx_model.specs.Standing.{is_below};
-ghost use Rattle.smx_links.specs.LinkLists.{IsLinkList, IsLinked, is_upper, ordinary_of, refusal};
+ghost use Rattle.smx_links.specs.LinkLists.{IsLinkList, IsLinked, is_upper, joins, ordinary_of, refusal};
 ghost use Rattle.smx_links.specs.LinkLists.{with_link, without_id, without_ids};
+ghost use Rattle.smx_links.specs.Masks.{IsWithin};
 
 use crate::ids::{Ids, copy_ids, no_ids};
 use crate::link_fault::LinkFault;
 use crate::links::{above, get, is_below, put, take_each};
 use crate::masks::{Word, has_any_bit, has_bit, join_link, renew};
-use crate::pairs::{Count, count};
+use crate::pairs::{Count, count, has_count};
 use smx_model::laws_of_links::{
     fewer_links_stay_sound, linking_keeps_soundness, linking_takes_the_next_id, no_links_are_sound,
 };
@@ -217,6 +219,14 @@ impl LinkTable {
         self.links.get(i)
     }
 
+    /// The number of drivers. No link has any other. Takes no memory.
+    pub fn driver_count(&self) -> u8
+        ensures count { result ≡ self.now.drivers }
+        ensures within { All (IsWithin result) self.now.links }
+    {
+        self.masks.len() as u8
+    }
+
     /// The number of links.
     pub fn len(&self) -> usize
         ensures { result ≡ length self.now.links }
@@ -243,6 +253,13 @@ impl LinkTable {
         ensures { result ≡ reaches self.now.links a b }
     {
         has_bit(&self.masks, a, b)
+    }
+
+    /// Whether a link leads from the upper driver to the lower one. It reads one number.
+    pub fn joins(&self, upper: u8, lower: u8) -> bool
+        ensures { result ≡ joins self.now.links upper lower }
+    {
+        has_count(&self.pairs, self.masks.len(), upper, lower)
     }
 
     /// Whether the driver is the upper one of a link. It reads one word.

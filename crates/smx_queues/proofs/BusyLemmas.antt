@@ -4,7 +4,7 @@ use Rattle.std.proofs.Common.{get_or, set, Option, Some, None, refl, sym, ap, �
 use Rattle.std.specs.Prelude.{IsSome, slice_get}
 use Rattle.std.proofs.lemmas.Bool.{cases_Bool, cases_lt}
 use Rattle.std.proofs.lemmas.List.{get_or-drop, get_or-map, get_or-set_other, get_or-set_same, get_or_past, length-drop}
-use Rattle.std.proofs.lemmas.List.{length-map, length-set, map-set, take_rest}
+use Rattle.std.proofs.lemmas.List.{drop-take, length-map, length-set, length-take, map-set, take-map, take_rest}
 use Rattle.memchr.specs.Find.{IsFirstByte, is_byte}
 use Rattle.smx_types.specs.declared.message.Message.{Message}
 use Rattle.smx_queues.specs.QueueTable.{IsPlace, Queue, QueueTable, queue_at, with_arrival, with_queue}
@@ -136,3 +136,21 @@ one_found queues busy start i is found = (
 pub from_start : (busy given : List ℕ) (start : ℕ) → given ≡ busy
     → take (length given - start) (drop start given) ≡ drop start busy
 from_start busy given start same = take_rest given start ∙ ap (drop start) same
+
+-- before an end the bytes tell the same
+pub busy_before : (queues : List (Option Queue)) (busy : List ℕ) (end : ℕ) → busy ≡ map busy_byte queues
+    → take end busy ≡ map busy_byte (take end queues)
+busy_before queues busy end is = ap (take end) is ∙ take-map busy_byte end queues
+
+-- the bytes from the start on, before the end
+pub from_start_to : (busy given : List ℕ) (start end : ℕ) → given ≡ busy → start ≤ end
+    → take (end - start) (drop start given) ≡ drop start (take end busy)
+from_start_to busy given start end same le =
+    sym (drop-take start (end - start) given)
+    ∙ ap (λ (n : ℕ). drop start (take n given)) (omega arith) ∙ ap (λ (bs : List ℕ). drop start (take end bs)) same
+
+-- from the end on no place is looked at
+pub none_past : (queues : List (Option Queue)) (start end : ℕ) → end ≤ start
+    → IsLeastFrom has_messages (take end queues) start None
+none_past queues start end le = λ k from.
+    ap has_messages (get_or_past (take end queues) k None (omega (arith, length-take end queues)))

@@ -17,5 +17,6 @@ pub mod LeftLemmas
 pub mod FlowCallLemmas
 pub mod SpecLemmas
 pub mod StepLemmas
+pub mod SpanLemmas
 pub mod MarkLemmas
 pub mod WaiterLemmas

@@ -176,6 +176,7 @@ pub one_driver_more : (ds : List DriverSpec) (rows : List DriverRow) (places : L
 one_driver_more ds rows places d h = record {
   one_each = omega (arith, length-append rows (last ∷ []), length-append ds (d ∷ []), h.one_each);
   minors = minors;
+  ends = ends;
   rising = rising_more places (sides_of (length ds) d.minors) h.rising (sides_rise (length ds) d.minors)
       (all_before_sides places (length ds) d.minors h.drivers_below);
   numbered = numbered;
@@ -210,6 +211,15 @@ one_driver_more ds rows places d h = record {
     | inl old ↦ h.minors n row old.1 ∙ sym (minors_left ds d n old.0)
     | inr new ↦ ap (λ (r : DriverRow). r.minors) (sym new.1) ∙ sym (minors_last ds d n new.0)
   ]
+
+  ends : (n : ℕ) (row : DriverRow) → slice_get (rows ++ last ∷ []) n ≡ Some row
+      → row.first + 2 * row.minors ≤ length (places ++ sides_of (length ds) d.minors)
+  ends n row at = rw (length-append places (sides_of (length ds) d.minors)) (elim (row_at n row at) [
+    | inl old ↦ omega (arith, h.ends n row old.1)
+    | inr new ↦ subst (λ (r : DriverRow). r.first + 2 * r.minors
+        ≤ length places + length (sides_of (length ds) d.minors)) new.1
+        (omega (arith, sides_length (length ds) d.minors))
+  ])
 
   numbered : (p : Place) (row : DriverRow) → slice_get (rows ++ last ∷ []) p.stream.driver ≡ Some row
       → p.stream.minor < row.minors

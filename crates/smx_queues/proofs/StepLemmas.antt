@@ -1,8 +1,9 @@
 -- What a walk over places meets next, in lists as which the tables are seen.
-use Rattle.std.proofs.Common.{◌≡◌, ℕ, zero, suc, ◌+◌, ◌<◌, Bool, true, List, [], ◌∷◌, ◌++◌, length, map, drop, get_or}
-use Rattle.std.proofs.Common.{Option, Some, None, refl, sym, ap, ◌∙◌, subst, arith, append-nil}
+use Rattle.std.proofs.Common.{◌≡◌, ℕ, zero, suc, ◌+◌, ◌<◌, Bool, true, List, [], ◌∷◌, ◌++◌, length, map, drop}
+use Rattle.std.proofs.Common.{take, get_or, min, Option, Some, None, refl, sym, ap, ◌∙◌, subst, arith, append-nil}
 use Rattle.std.specs.Prelude.{nat_lt, slice_get}
 use Rattle.std.specs.List.{All}
+use Rattle.std.proofs.lemmas.List.{get_or-take, length-take}
 use Rattle.std.proofs.lemmas.List.Elements.{All-from_recursion}
 use Rattle.smx_types.specs.declared.message.Message.{Message}
 use Rattle.smx_types.specs.declared.stream.Place.{Place}
@@ -16,7 +17,8 @@ use Rattle.smx_queues.proofs.FlowTableLemmas.{found, found_at}
 use Rattle.smx_queues.proofs.LeftLemmas.{AreFirst, flow_skips, fronts_first, fronts_found, fronts_skip, fulls_end}
 use Rattle.smx_queues.proofs.LeftLemmas.{fulls_next, head_front, many_queues, next_shown, skip_rest}
 
-many : (p : PlaceList) (all : List (Option Queue)) → IsFlow p all → length all ≡ length p.places
+-- there are as many queues as places
+pub many : (p : PlaceList) (all : List (Option Queue)) → IsFlow p all → length all ≡ length p.places
 many p all h = many_queues p.drivers p.places all h.queues
 
 -- a number of a queue is that of a place
@@ -25,25 +27,57 @@ below p all i h lt = omega (arith, many p all h)
 
 -- ---- the first messages
 
--- where no place from a number on has messages, the walk meets no first message any more
-pub front_ends : (p : PlaceList) (all : List (Option Queue)) (n : ℕ) (now : List QueuedMessage) → IsFlow p all
-    → fronts_of (drop n p.places) (drop n all) ≡ now → IsLeastFrom has_messages all n None → now ≡ []
-front_ends p all n now h seen none =
-    sym seen ∙ skip_rest fronts_of has_messages p.places all n fronts_skip refl (many p all h) none
+-- before an end there are as many queues as places, too
+many_before : (p : PlaceList) (all : List (Option Queue)) (e : ℕ) → IsFlow p all
+    → length (take e all) ≡ length (take e p.places)
+many_before p all e h = length-take e all ∙ ap (min e) (many p all h) ∙ sym (length-take e p.places)
+
+-- where no place from a number on has messages before the end, the walk meets no first message any more
+pub front_ends : (p : PlaceList) (all : List (Option Queue)) (n e : ℕ) (now : List QueuedMessage) → IsFlow p all
+    → fronts_of (drop n (take e p.places)) (drop n (take e all)) ≡ now
+    → IsLeastFrom has_messages (take e all) n None → now ≡ []
+front_ends p all n e now h seen none =
+    sym seen
+    ∙ skip_rest fronts_of has_messages (take e p.places) (take e all) n fronts_skip refl (many_before p all e h) none
+
+-- what was found before an end is there
+pub record IsBefore (all : List (Option Queue)) (e i : ℕ) : Type 0 where
+  pub before : i < e
+  pub below : i < length all
+  pub passes : has_messages (get_or all i None) ≡ true
+
+pub found_before : (all : List (Option Queue)) (n e i : ℕ) → IsLeastFrom has_messages (take e all) n (Some i)
+    → IsBefore all e i
+found_before all n e i least =
+    let lt : i < e = omega (arith, least.1, length-take e all) in record {
+      before = lt;
+      below = omega (arith, least.1, length-take e all);
+      passes = ap has_messages (sym (get_or-take e all i None lt)) ∙ least.2;
+    }
+
+slice_get_take : (xs : List Place) (e i : ℕ) → i < e → slice_get (take e xs) i ≡ slice_get xs i
+slice_get_take xs zero i lt = absurd (omega arith)
+slice_get_take [] (suc e) i lt = refl
+slice_get_take (x ∷ xs) (suc e) zero lt = refl
+slice_get_take (x ∷ xs) (suc e) (suc i) lt = slice_get_take xs e i (omega arith)
 
 -- the walk meets next the first message of the least place from its number on that has any
-pub front_steps : (p : PlaceList) (all : List (Option Queue)) (n i : ℕ) (place : Place) (m : Message)
-    (now : List QueuedMessage) → IsFlow p all → fronts_of (drop n p.places) (drop n all) ≡ now
-    → IsLeastFrom has_messages all n (Some i) → slice_get p.places i ≡ Some place
+pub front_steps : (p : PlaceList) (all : List (Option Queue)) (n e i : ℕ) (place : Place) (m : Message)
+    (now : List QueuedMessage) → IsFlow p all → fronts_of (drop n (take e p.places)) (drop n (take e all)) ≡ now
+    → IsLeastFrom has_messages (take e all) n (Some i) → slice_get p.places i ≡ Some place
     → Some m ≡ slice_get (queue_at all i).messages 0
-    → now ≡ record { place = place; message = m } ∷ fronts_of (drop (i + 1) p.places) (drop (i + 1) all)
-front_steps p all n i place m now h seen least at first =
+    → now ≡ record { place = place; message = m }
+    ∷ fronts_of (drop (i + 1) (take e p.places)) (drop (i + 1) (take e all))
+front_steps p all n e i place m now h seen least at first =
+    let lt = (found_before all n e i least).before in
     let f = found p.drivers p.places all place i h.queues at in
-    let here : slice_get (messages_in (get_or all i None)) 0
-    ≡ Some m = ap (λ (q : Option Queue). slice_get (messages_in q) 0) f.slot
+    let here : slice_get (messages_in (get_or (take e all) i None)) 0
+    ≡ Some m = ap (λ (q : Option Queue). slice_get (messages_in q) 0) (get_or-take e all i None lt ∙ f.slot)
     ∙ (sym (ap (λ (q : Queue). slice_get q.messages 0) (found_at p.drivers all place i f)) ∙ sym first) in
-    sym seen ∙ (next_shown fronts_of has_messages p.places all n i place fronts_skip (many p all h) least at
-    ∙ head_front place (get_or all i None) m (fronts_of (drop (i + 1) p.places) (drop (i + 1) all)) here)
+    sym seen ∙ (next_shown fronts_of has_messages (take e p.places) (take e all) n i place fronts_skip
+    (many_before p all e h) least (slice_get_take p.places e i lt ∙ at)
+    ∙ head_front place (get_or (take e all) i None) m
+    (fronts_of (drop (i + 1) (take e p.places)) (drop (i + 1) (take e all))) here)
 
 -- ---- the full places
 
@@ -99,10 +133,10 @@ first_there [] o some e none = cc
 first_there (m ∷ ms) o some e none = cc
 
 -- a number that was found to have messages has a first one
-pub front_some : (all : List (Option Queue)) (n i : ℕ) (o : Option Message) → IsLeastFrom has_messages all n (Some i)
+pub front_some : (all : List (Option Queue)) (e i : ℕ) (o : Option Message) → IsBefore all e i
     → o ≡ slice_get (queue_at all i).messages 0 → o ≡ None → ⊥
-front_some all n i o least e none = first_there (queue_at all i).messages o
-    (subst (λ (ms : List Message). has_some ms ≡ true) (slot_messages all i) least.2) e none
+front_some all e i o found is none = first_there (queue_at all i).messages o
+    (subst (λ (ms : List Message). has_some ms ≡ true) (slot_messages all i) found.passes) is none
 
 -- ---- all messages
 

@@ -1,5 +1,5 @@
 -- What a contract sees of the queued messages and full marks of all places, by place.
-use Rattle.std.specs.Prelude.{◌≡◌, ℕ, Bool, false, not, List, [], ◌∷◌, ◌++◌, map, filter, Option, Some, None}
+use Rattle.std.specs.Prelude.{◌≡◌, ℕ, Bool, false, not, ◌==◌, List, [], ◌∷◌, ◌++◌, map, filter, Option, Some, None}
 use Rattle.std.specs.Prelude.{if◌then◌else◌}
 use Rattle.std.specs.List.{list_any}
 use Rattle.smx_types.specs.declared.driver.DriverSpec.{DriverSpec}
@@ -102,6 +102,10 @@ fronts_after before (h ∷ flow) =
 -- the first message of each place that has any
 abbrev pub fronts : List QueuedMessage → List QueuedMessage
 fronts flow = fronts_after None flow
+
+-- those of them at places of the driver
+abbrev pub fronts_of_driver : ℕ → List QueuedMessage → List QueuedMessage
+fronts_of_driver driver flow = filter (λ h. h.place.stream.driver == driver) (fronts flow)
 
 -- the first of some messages at a place
 abbrev pub first_at : Place → List Message → List QueuedMessage

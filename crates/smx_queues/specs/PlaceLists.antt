@@ -7,6 +7,7 @@ use Rattle.smx_types.specs.declared.stream.Place.{Place}
 use Rattle.smx_types.specs.declared.stream.Side.{Side}
 use Rattle.smx_types.specs.declared.stream.Side.TheVariants as side
 use Rattle.smx_queues.specs.declared.places.DriverRow.{DriverRow}
+use Rattle.smx_queues.specs.declared.span.Span.{Span}
 use Rattle.smx_model.specs.Configuration.{place_before, same_place, side_number}
 use Rattle.smx_model.specs.DriverList.{high_of, low_of, minors_of}
 use Rattle.smx_model.specs.Ordered.{IsRising}
@@ -37,12 +38,22 @@ HaveDriversBelow n (p ∷ places) = (p.stream.driver < n) × HaveDriversBelow n 
 pub record ArePlaces (drivers : List DriverSpec) (rows : List DriverRow) (places : List Place) : Type 0 where
   pub one_each : length rows ≡ length drivers
   pub minors : (driver : ℕ) (row : DriverRow) → slice_get rows driver ≡ Some row → row.minors ≡ minors_of drivers driver
+  pub ends : (driver : ℕ) (row : DriverRow) → slice_get rows driver ≡ Some row
+      → row.first + 2 * row.minors ≤ length places
   pub rising : IsRising place_before places
   pub numbered : (p : Place) (row : DriverRow) → slice_get rows p.stream.driver ≡ Some row
       → p.stream.minor < row.minors → slice_get places (number_in row p) ≡ Some p
   pub none_else : (p : Place) → minors_of drivers p.stream.driver ≤ p.stream.minor
       → list_any (same_place p) places ≡ false
   pub drivers_below : HaveDriversBelow (length drivers) places
+
+-- those of the places are the driver's whose numbers are in the span
+pub record IsSpanOf (driver : ℕ) (places : List Place) (span : Span) : Type 0 where
+  pub within : span.end ≤ length places
+  pub its : (k : ℕ) (p : Place) → slice_get places k ≡ Some p → span.first ≤ k → k < span.end
+      → p.stream.driver ≡ driver
+  pub all : (k : ℕ) (p : Place) → slice_get places k ≡ Some p → p.stream.driver ≡ driver
+      → (span.first ≤ k) × (k < span.end)
 
 -- a queue for each place, without messages, with the water marks of its driver
 abbrev pub new_queues : List DriverSpec → List Place → List (Option Queue)

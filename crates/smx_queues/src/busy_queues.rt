@@ -1,7 +1,7 @@
 //! The queues of places, and which of them have messages.
 
 ghost use Rattle.std.specs.Prelude.{◌≡◌, ◌≢◌, ◌<◌, ◌≤◌, ◌==◌, ◌&&◌, [], ◌∷◌, ◌++◌, false, not, length, nat_lt};
-ghost use Rattle.std.specs.Prelude.{Some, None, IfOk, IfNone, OnOk, OnSome, slice_get, slice_index_or, slice_set};
+ghost use Rattle.std.specs.Prelude.{Some, None, IfOk, IfNone, OnOk, OnSome, slice_get, slice_index_or, slice_set, take};
 ghost use Rattle.smx_types.specs.declared.message.Message.{Message};
 ghost use Rattle.smx_queues.specs.QueueTable.{emptied, empty_queue, queue_at, with_arrival, with_queue};
 ghost use Rattle.smx_queues.specs.QueueTable.{without_front, IsPlace};
@@ -155,6 +155,22 @@ impl BusyQueues {
             return None;
         }
         match memchr(1, &busy[start..]) {
+            Some(i) => Some(start + i),
+            None => None,
+        }
+    }
+
+    /// The least number from this one on, before the end, of a place that has messages, if there is one. It looks at no
+    /// place from the end on.
+    pub fn filled_between(&self, start: PlaceId, end: PlaceId) -> Option<PlaceId>
+        requires { end ≤ length self.now.queues }
+        ensures { IsLeastFrom has_messages (take end self.now.queues) start result }
+    {
+        let busy: &[u8] = &self.busy;
+        if start >= end {
+            return None;
+        }
+        match memchr(1, &busy[start..end]) {
             Some(i) => Some(start + i),
             None => None,
         }

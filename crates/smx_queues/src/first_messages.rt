@@ -3,7 +3,7 @@
 ghost use Rattle.std.specs.Prelude.{◌≡◌};
 ghost use Rattle.std.specs.Iterator.{YieldsFirstBy};
 ghost use Rattle.smx_queues.specs.QueuedMessages.{queued_message};
-ghost use Rattle.smx_queues.specs.FlowTables.{flow_of, fronts, IsFlow};
+ghost use Rattle.smx_queues.specs.FlowTables.{flow_of, fronts, fronts_of_driver, IsFlow};
 
 use crate::busy_queues::BusyQueues;
 use crate::places::Places;
@@ -16,20 +16,22 @@ use std::marker::Model;
 pub struct FirstMessages<'a> {
     places: &'a Places,
     queues: &'a BusyQueues,
-    // The number of the next place to look at.
+    // The number of the next place to look at, and the one before which the walk ends.
     next: usize,
+    end: usize,
 }
 
 impl<'a> Model for FirstMessages<'a> {
-    ghost use Rattle.std.specs.Prelude.{List, drop};
+    ghost use Rattle.std.specs.Prelude.{List, ◌≤◌, drop, length, take};
     ghost use Rattle.smx_model.specs.Configuration.{QueuedMessage};
     ghost use Rattle.smx_queues.specs.FlowTables.{fronts_of, IsFlow};
 
     ghost Value = { List QueuedMessage };
 
-    ghost view = { λ it. fronts_of (drop it.next it.places.now.places) (drop it.next it.queues.now.queues) };
+    ghost view = { λ it. fronts_of (drop it.next (take it.end it.places.now.places))
+        (drop it.next (take it.end it.queues.now.queues)) };
 
-    ghost invariant = { λ it. IsFlow it.places.now it.queues.now.queues };
+    ghost invariant = { λ it. IsFlow it.places.now it.queues.now.queues × (it.end ≤ length it.places.now.places) };
 }
 
 impl<'a> FirstMessages<'a> {
@@ -41,6 +43,24 @@ impl<'a> FirstMessages<'a> {
             places,
             queues,
             next: 0,
+            end: places.len(),
+        }
+    }
+
+    pub(crate) fn of_driver(
+        places: &'a Places,
+        queues: &'a BusyQueues,
+        driver: u8,
+    ) -> FirstMessages<'a>
+        requires { IsFlow places.now queues.now.queues }
+        ensures { result ≡ fronts_of_driver driver (flow_of places.now.places queues.now.queues) }
+    {
+        let span = places.span_of(driver);
+        FirstMessages {
+            places,
+            queues,
+            next: span.first,
+            end: span.end,
         }
     }
 }
@@ -50,7 +70,7 @@ impl<'a> FirstMessages<'a> {
     pub fn next(&mut self) -> Option<Queued<'a>>
         ensures { YieldsFirstBy queued_message (λ rest. rest) self.old result self.new }
     {
-        let p = self.queues.filled_from(self.next)?;
+        let p = self.queues.filled_between(self.next, self.end)?;
         let message = self.queues.queues().front(p)?;
         let place = self.places.at(p);
         self.next = p + 1;

@@ -10,7 +10,7 @@ ghost use Rattle.smx_model.specs.Configuration.{same_place};
 ghost use Rattle.smx_model.specs.DriverList.{IsDriverList};
 ghost use Rattle.smx_model.specs.KnownStreams.{IsKnown};
 ghost use Rattle.smx_model.specs.Queues.{first_message, queue};
-ghost use Rattle.smx_queues.specs.FlowTables.{after_arrival, after_leaving, fronts, without_place};
+ghost use Rattle.smx_queues.specs.FlowTables.{after_arrival, after_leaving, fronts, fronts_of_driver, without_place};
 
 use crate::busy_queues::BusyQueues;
 use crate::first_messages::FirstMessages;
@@ -188,6 +188,16 @@ impl FlowTable {
             → list_any (λ h. same_place h.place p) (fronts self.now.flow) ≡ true }
     {
         FirstMessages::new(&self.places, &self.queues)
+    }
+
+    /// The first message of each place of the driver that has any, in order of place. It looks at no place of another
+    /// driver. Takes no memory.
+    pub fn fronts_of_driver(&self, driver: u8) -> FirstMessages<'_>
+        ensures fronts { result ≡ fronts_of_driver driver self.now.flow }
+        ensures all { (p : PlaceValue) → first_message self.now.flow p ≢ None → p.stream.driver ≡ driver
+            → list_any (λ h. same_place h.place p) (fronts_of_driver driver self.now.flow) ≡ true }
+    {
+        FirstMessages::of_driver(&self.places, &self.queues, driver)
     }
 
     /// All messages, in order of place. Takes no memory.

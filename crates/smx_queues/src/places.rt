@@ -7,9 +7,10 @@ ghost use Rattle.smx_model.specs.Configuration.{place_before, same_place, side_n
 ghost use Rattle.smx_model.specs.DriverList.{high_of, low_of, minors_of, IsDriverList};
 ghost use Rattle.smx_model.specs.KnownStreams.{IsKnown};
 ghost use Rattle.smx_model.specs.Ordered.{IsRising};
-ghost use Rattle.smx_queues.specs.PlaceLists.{new_queues, sides_of};
+ghost use Rattle.smx_queues.specs.PlaceLists.{new_queues, sides_of, IsSpanOf};
 
 use crate::busy_queues::BusyQueues;
+use crate::span::Span;
 use smx_types::{DriverSpec, NoMemory, Place, Side, StreamId};
 use std::alloc::Global;
 use std::marker::Model;
@@ -143,6 +144,22 @@ impl Places {
         // For the proof: no slice is so long that the sum below could overflow.
         let _count = places.len();
         Some(row.first + 2 * minor + side_number(place.side))
+    }
+
+    /// The numbers of the driver's places, which stand together; none where there is no such driver.
+    pub fn span_of(&self, driver: u8) -> Span
+        ensures { IsSpanOf driver self.now.places result }
+    {
+        let places: &[Place] = &self.places;
+        // For the proof, as in `number`.
+        let _count = places.len();
+        match row_at(&self.rows, driver) {
+            Some(row) => Span {
+                first: row.first,
+                end: row.first + 2 * row.minors,
+            },
+            None => Span::NONE,
+        }
     }
 
     /// The place of a number; the next number is less than 2^64.

@@ -1,0 +1,8 @@
+use Rattle.std.proofs.Common.{None, refl}
+use Rattle.smx_queues.proofs.LeftLemmas.{fronts_of_all}
+use Rattle.smx_queues.proofs.SpanLemmas.{kept_of_driver}
+use Rattle.smx_queues.proofs.flow_table.FlowTable.fronts_of_driver.Goals as goal
+
+pub returns-clause-all : goal.returns-clause-all
+returns-clause-all c = λ p some is.
+    kept_of_driver c.args.driver c.args.self.now.flow p is (fronts_of_all None c.args.self.now.flow p refl some)
