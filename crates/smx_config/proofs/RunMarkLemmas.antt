@@ -1,10 +1,12 @@
 -- Places that are marked, one after another.
-use Rattle.std.proofs.Common.{◌≡◌, ℕ, Bool, true, false, ◌&&◌, eqb, List, ◌∷◌, find, Option}
-use Rattle.std.proofs.Common.{Some, None, refl, sym, ap, ◌∙◌, subst, inl, inr}
-use Rattle.std.specs.Prelude.{◌≢◌, ◌⊎◌}
-use Rattle.std.specs.List.{list_any}
+use Rattle.std.proofs.Common.{◌≡◌, ℕ, ◌+◌, ◌<◌, Bool, true, false, ◌&&◌, eqb, List, [], ◌∷◌, find, Option}
+use Rattle.std.proofs.Common.{Some, None, refl, sym, ap, ◌∙◌, subst, arith, inl, inr}
+use Rattle.std.specs.Prelude.{◌≢◌, ◌⊎◌, nat_lt}
+use Rattle.std.specs.List.{All, AllByRecursion, list_any}
 use Rattle.std.specs.Option.{option_map_or}
-use Rattle.std.proofs.lemmas.Bool.{cases_Bool, false≢true, false_from_ne_true}
+use Rattle.std.proofs.lemmas.Bool.{and_parts, cases_Bool, cases_lt, eq-eqb, eqb-true, false≢true, false_from_ne_true}
+use Rattle.std.proofs.lemmas.Bool.{lt-ltb, ltb-true, or_right}
+use Rattle.std.proofs.lemmas.List.Elements.{recursion_from_All}
 use Rattle.smx_types.specs.declared.link.Link.{Link}
 use Rattle.smx_types.specs.declared.stream.Place.{Place}
 use Rattle.smx_types.specs.declared.stream.Side.TheVariants as side
@@ -13,8 +15,12 @@ use Rattle.smx_model.specs.Configuration.{Configuration, QueuedMessage, same_pla
 use Rattle.smx_model.specs.KnownStreams.{IsKnown}
 use Rattle.smx_model.specs.Paths.{AreLowersApart}
 use Rattle.smx_model.specs.Queues.{first_message}
+use Rattle.smx_model.specs.RunMarks.{is_below_driver}
+use Rattle.smx_links.specs.LinkLists.{is_between, joins}
+use Rattle.smx_links.specs.Masks.{IsWithin}
 use Rattle.smx_queues.specs.PlaceMarks.{MarkList, has_mark}
-use Rattle.smx_config.specs.Marking.{IsMarkedUnless, IsMarkedWhere, is_read_below_driver}
+use Rattle.smx_config.specs.Marking.{IsMarkedUnless, IsMarkedWhere, is_read_below_driver, is_read_between}
+use Rattle.smx_config.specs.Marking.{is_write_of}
 use Rattle.smx_tables.proofs.AboveLemmas.{any_once, once_below}
 use Rattle.smx_queues.proofs.PlaceLemmas.{place_is}
 
@@ -130,3 +136,113 @@ no_more_marked filled place m h =
 -- with a mark at this place too
 abbrev pub with_one : MarkList → Place → MarkList
 with_one m p = record m { marked = p ∷ m.marked }
+
+-- ---- the read sides below a driver, one lower driver after another
+
+-- the link above a stream joins its driver to that of the stream
+below_joins : (links : List Link) (s : StreamId) (driver lower : ℕ) → s.driver ≡ lower
+    → list_any (λ l. same_stream l.lower s && eqb l.ctl.driver driver) links ≡ true → joins links driver lower ≡ true
+below_joins [] s driver lower is h = absurd cc
+below_joins (l ∷ links) s driver lower is h = elim (cases_Bool (same_stream l.lower s && eqb l.ctl.driver driver)) [
+  | inl t ↦
+      let both = and_parts (same_stream l.lower s) (eqb l.ctl.driver driver) t in
+      let same = and_parts (eqb l.lower.driver s.driver) (eqb l.lower.minor s.minor) both.0 in
+      rw (both.1, eq-eqb l.lower.driver lower (eqb-true l.lower.driver s.driver same.0 ∙ is)) refl
+  | inr f ↦ or_right (is_between driver lower l) (joins links driver lower)
+      (below_joins links s driver lower is (rw f at h))
+]
+
+-- where no link joins the drivers, none of these places has to be marked
+pub none_between : (c : Configuration) (driver lower : ℕ) (m : MarkList) → joins c.links driver lower ≡ false
+    → IsMarkedWhere c.flow (is_read_between c driver lower) m m
+none_between c driver lower m none = none_marked c.flow (is_read_between c driver lower) m (λ p t.
+    let both = and_parts (is_read_below_driver c driver p) (eqb p.stream.driver lower) t in
+    let below = and_parts (same_side p.side side.Read) (is_below_driver c driver p.stream) both.0 in
+    absurd (false≢true (sym none ∙ below_joins c.links p.stream driver lower
+    (eqb-true p.stream.driver lower both.1) below.1)))
+
+-- nothing is passed yet: each place asked for that has a message is of the driver whose first messages are to come
+pub all_to_come : (flow rest : List QueuedMessage) (test : Place → Bool) (driver : ℕ) (m : MarkList)
+    → ((p : Place) → test p ≡ true → p.stream.driver ≡ driver)
+    → ((p : Place) → first_message flow p ≢ None → p.stream.driver ≡ driver
+    → list_any (λ h. same_place h.place p) rest ≡ true)
+    → ArePassed flow rest test m m
+all_to_come flow rest test driver m its all = record {
+  kept = λ p h. h;
+  marked = λ p known ask. inr (all p ask.0 (its p ask.1));
+  drivers = refl;
+}
+
+-- a write side of the driver is a place of it
+pub write_driver : (driver : ℕ) (p : Place) → is_write_of driver p ≡ true → p.stream.driver ≡ driver
+write_driver driver p t =
+    eqb-true p.stream.driver driver (and_parts (same_side p.side side.Write) (eqb p.stream.driver driver) t).1
+
+-- so is a read side that is asked for
+pub read_driver : (c : Configuration) (driver lower : ℕ) (p : Place) → is_read_between c driver lower p ≡ true
+    → p.stream.driver ≡ lower
+read_driver c driver lower p t =
+    eqb-true p.stream.driver lower (and_parts (is_read_below_driver c driver p) (eqb p.stream.driver lower) t).1
+
+-- what is no read side below the driver is none of this lower driver
+pub not_between : (c : Configuration) (driver lower : ℕ) (p : Place) → is_read_below_driver c driver p ≡ false
+    → is_read_between c driver lower p ≡ false
+not_between c driver lower p f = rw f refl
+
+-- the read sides below the driver at streams of the lower drivers up to a number
+abbrev pub is_read_before : Configuration → ℕ → ℕ → Place → Bool
+is_read_before c driver n p = is_read_below_driver c driver p && nat_lt p.stream.driver n
+
+-- none of them is of a driver before the first one
+pub none_before : (c : Configuration) (driver : ℕ) (m : MarkList)
+    → IsMarkedWhere c.flow (is_read_before c driver 0) m m
+none_before c driver m = none_marked c.flow (is_read_before c driver 0) m (λ p t.
+    let both = and_parts (is_read_below_driver c driver p) (nat_lt p.stream.driver 0) t in
+    absurd (none p.stream.driver (ltb-true p.stream.driver 0 both.1))) where
+      none : (n : ℕ) → n < 0 → ⊥
+      none n lt = omega arith
+
+-- with those of one driver more
+pub one_driver_more : (c : Configuration) (driver n : ℕ) (old mid new : MarkList)
+    → IsMarkedWhere c.flow (is_read_before c driver n) old mid
+    → IsMarkedWhere c.flow (is_read_between c driver n) mid new
+    → IsMarkedWhere c.flow (is_read_before c driver (n + 1)) old new
+one_driver_more c driver n old mid new before one = record {
+  kept = λ p m. one.kept p (before.kept p m);
+  marked = λ p known some t.
+      let both = and_parts (is_read_below_driver c driver p) (nat_lt p.stream.driver (n + 1)) t in
+      let lt = ltb-true p.stream.driver (n + 1) both.1 in
+      elim (cases_lt p.stream.driver n) [
+        | inl less ↦ one.kept p (before.marked p known some (rw (both.0, lt-ltb p.stream.driver n less) refl))
+        | inr more ↦ one.marked p (rw before.drivers known) some
+            (rw (both.0, eq-eqb p.stream.driver n (omega arith)) refl)
+      ];
+  drivers = one.drivers ∙ before.drivers;
+}
+
+lower_within : (n : ℕ) (links : List Link) (s : StreamId) (driver : ℕ) → All (IsWithin n) links
+    → list_any (λ l. same_stream l.lower s && eqb l.ctl.driver driver) links ≡ true → s.driver < n
+lower_within n links s driver within h = by links (recursion_from_All (IsWithin n) links within) h where
+  by : (ls : List Link) → AllByRecursion (IsWithin n) ls
+      → list_any (λ l. same_stream l.lower s && eqb l.ctl.driver driver) ls ≡ true → s.driver < n
+  by [] w t = absurd cc
+  by (l ∷ ls) w t = elim (cases_Bool (same_stream l.lower s && eqb l.ctl.driver driver)) [
+    | inl here ↦
+        let both = and_parts (same_stream l.lower s) (eqb l.ctl.driver driver) here in
+        let same = and_parts (eqb l.lower.driver s.driver) (eqb l.lower.minor s.minor) both.0 in
+        omega (arith, w.0.1, eqb-true l.lower.driver s.driver same.0)
+    | inr f ↦ by ls w.1 (rw f at t)
+  ]
+
+-- all lower drivers are before the end of the drivers that links may have
+pub all_before : (c : Configuration) (driver n : ℕ) (old new : MarkList) → All (IsWithin n) c.links
+    → IsMarkedWhere c.flow (is_read_before c driver n) old new
+    → IsMarkedWhere c.flow (is_read_below_driver c driver) old new
+all_before c driver n old new within m = record {
+  kept = m.kept;
+  marked = λ p known some t.
+      let below = and_parts (same_side p.side side.Read) (is_below_driver c driver p.stream) t in
+      let lt = lower_within n c.links p.stream driver within below.1 in
+      m.marked p known some (rw (t, lt-ltb p.stream.driver n lt) refl);
+  drivers = m.drivers;
+}

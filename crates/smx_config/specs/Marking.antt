@@ -44,6 +44,10 @@ is_write_of driver p = same_side p.side side.Write && (p.stream.driver == driver
 abbrev pub is_read_below_driver : Configuration → ℕ → Place → Bool
 is_read_below_driver c driver p = same_side p.side side.Read && is_below_driver c driver p.stream
 
+-- such a stream of this lower driver
+abbrev pub is_read_between : Configuration → ℕ → ℕ → Place → Bool
+is_read_between c driver lower p = is_read_below_driver c driver p && (p.stream.driver == lower)
+
 -- of the places that pass the test, those with a message have a mark, and all that had one
 pub record IsMarkedWhere (flow : List QueuedMessage) (test : Place → Bool) (old new : MarkList) : Type 0 where
   pub kept : (p : Place) → has_mark old p ≡ true → has_mark new p ≡ true

@@ -3,7 +3,7 @@
 ghost use Rattle.std.specs.Prelude.{◌≡◌, None};
 ghost use Rattle.smx_model.specs.Configuration.{same_place};
 ghost use Rattle.smx_queues.specs.PlaceMarks.{MarkList};
-ghost use Rattle.smx_config.specs.Marking.{is_read_below_driver, is_write_of};
+ghost use Rattle.smx_config.specs.Marking.{is_read_below_driver, is_read_between, is_write_of};
 ghost use Rattle.smx_config.specs.Marking.{HasNeeded, IsMarkedUnless, IsMarkedWhere, IsOneMore};
 
 use crate::next_places::leads_on;
@@ -51,14 +51,15 @@ pub fn mark_waiting(tables: &Tables, run: &mut PlaceMarks, place: Place)
     }
 }
 
-// Marks the write sides of the driver's streams that have a message. It looks at no stream that has none.
+// Marks the write sides of the driver's streams that have a message. It looks at no stream that has none, and at no
+// other driver's.
 pub fn mark_writes(tables: &Tables, run: &mut PlaceMarks, driver: u8)
     ensures { IsMarkedWhere tables.now.configuration.flow (is_write_of driver) run.old run.new }
 {
     if tables.queues().len() == 0 {
         return;
     }
-    let mut rest = tables.queues().fronts();
+    let mut rest = tables.queues().fronts_of_driver(driver);
     while let Some(first) = rest.next() {
         if is_write_of(driver, first.place) {
             run.mark(first.place);
@@ -81,8 +82,24 @@ fn is_read_below(tables: &Tables, place: Place, driver: u8) -> bool
     }
 }
 
+// Marks those of them that are streams of this lower driver. Where no link leads there it looks at none.
+fn mark_reads_of(tables: &Tables, run: &mut PlaceMarks, driver: u8, lower: u8)
+    ensures { IsMarkedWhere tables.now.configuration.flow
+        (is_read_between tables.now.configuration driver lower) run.old run.new }
+{
+    if !tables.links().joins(driver, lower) {
+        return;
+    }
+    let mut rest = tables.queues().fronts_of_driver(lower);
+    while let Some(first) = rest.next() {
+        if is_read_below(tables, first.place, driver) {
+            run.mark(first.place);
+        }
+    }
+}
+
 // Marks the read sides of the streams below the driver that have a message. It looks at no link but those above
-// streams that have one.
+// streams that have one, of drivers to which a link of this one leads.
 pub fn mark_reads(tables: &Tables, run: &mut PlaceMarks, driver: u8)
     ensures { IsMarkedWhere tables.now.configuration.flow
         (is_read_below_driver tables.now.configuration driver) run.old run.new }
@@ -90,10 +107,7 @@ pub fn mark_reads(tables: &Tables, run: &mut PlaceMarks, driver: u8)
     if tables.queues().len() == 0 {
         return;
     }
-    let mut rest = tables.queues().fronts();
-    while let Some(first) = rest.next() {
-        if is_read_below(tables, first.place, driver) {
-            run.mark(first.place);
-        }
+    for lower in 0..tables.links().driver_count() {
+        mark_reads_of(tables, run, driver, lower);
     }
 }

@@ -1,14 +1,20 @@
-use Rattle.std.proofs.Common.{sym, ◌∙◌}
-use Rattle.smx_config.specs.Marking.{is_read_below_driver}
-use Rattle.smx_queues.proofs.PlaceLemmas.{place_is}
-use Rattle.smx_config.proofs.RunMarkLemmas.{not_its, one_left, one_passed}
+use Rattle.std.proofs.Common.{ℕ, subst, arith}
+use Rattle.smx_config.specs.Marking.{IsMarkedWhere}
+use Rattle.smx_config.proofs.RunMarkLemmas.{all_before, is_read_before, none_before, one_driver_more}
 use Rattle.smx_config.proofs.run_marks.mark_reads.Goals as goal
 
-pub loop-first-preserved-then-is_read_below : goal.loop-first-preserved-then-is_read_below
-loop-first-preserved-then-is_read_below c = one_passed _ _ _ _ _ _ _ _ _ c.in-Some.ensures c.loop-first.invariant
-    (λ p y. place_is _ p y) c.mark.ensures.here c.mark.ensures.kept c.mark.ensures.drivers
+pub loop-lower-init : goal.loop-lower-init
+loop-lower-init c = none_before c.args.tables.now.configuration c.args.driver c.args.run.now
 
-pub loop-first-preserved : goal.loop-first-preserved
-loop-first-preserved c = one_left _ _ _ _ _ _ _ c.in-Some.ensures c.loop-first.invariant
-    (λ p ask. not_its (is_read_below_driver c.args.tables.now.configuration c.args.driver) _ p
-    (sym c.is_read_below.ensures ∙ c.if-is_read_below.false) ask.1)
+pub loop-lower-preserved : goal.loop-lower-preserved
+loop-lower-preserved c =
+    one_driver_more c.args.tables.now.configuration c.args.driver c.loop-lower.lower c.args.run.now c.loop-lower.run
+    c.mark_reads_of.new.run c.loop-lower.invariant c.mark_reads_of.ensures
+
+pub returns : goal.returns
+returns c =
+    all_before c.args.tables.now.configuration c.args.driver c.driver_count-lower-end.result c.args.run.now
+    c.loop-lower.run (rw c.links.ensures at c.driver_count-lower-end.ensures.within)
+    (subst (λ (n : ℕ). IsMarkedWhere c.args.tables.now.configuration.flow
+    (is_read_before c.args.tables.now.configuration c.args.driver n) c.args.run.now c.loop-lower.run)
+    (omega arith) c.loop-lower.invariant)

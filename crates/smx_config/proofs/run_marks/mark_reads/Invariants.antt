@@ -1,11 +1,7 @@
-use Rattle.std.proofs.Common.{length}
-use Rattle.smx_config.specs.Marking.{is_read_below_driver}
-use Rattle.smx_config.proofs.RunMarkLemmas.{ArePassed}
+use Rattle.smx_config.specs.Marking.{IsMarkedWhere}
+use Rattle.smx_config.proofs.RunMarkLemmas.{is_read_before}
 use Rattle.smx_config.proofs.run_marks.mark_reads.Given as goal
 
-abbrev pub decreases-loop-first : goal.decreases-loop-first
-decreases-loop-first l = length l.rest
-
-abbrev pub invariant-loop-first : goal.invariant-loop-first
-invariant-loop-first l = ArePassed l.tables.configuration.flow l.rest
-    (is_read_below_driver l.tables.configuration l.driver) l.initial.run l.run
+abbrev pub invariant-loop-lower : goal.invariant-loop-lower
+invariant-loop-lower l = IsMarkedWhere l.tables.configuration.flow
+    (is_read_before l.tables.configuration l.driver l.lower) l.initial.run l.run

@@ -1,0 +1,28 @@
+use Rattle.std.proofs.Common.{sym, ◌∙◌}
+use Rattle.smx_config.specs.Marking.{is_read_between}
+use Rattle.smx_queues.proofs.PlaceLemmas.{place_is}
+use Rattle.smx_config.proofs.RunMarkLemmas.{all_to_come, none_between, not_between, not_its, one_left, one_passed}
+use Rattle.smx_config.proofs.RunMarkLemmas.{read_driver}
+use Rattle.smx_config.proofs.run_marks.mark_reads_of.Goals as goal
+
+pub returns-then-not-joins : goal.returns-then-not-joins
+returns-then-not-joins c = none_between c.args.tables.now.configuration c.args.driver c.args.lower c.args.run.now
+    (rw c.links.ensures at (sym c.joins.ensures ∙ c.if-not-joins.true))
+
+pub loop-first-init : goal.loop-first-init
+loop-first-init c =
+    rw (c.fronts_of_driver-rest.ensures.fronts, c.queues.ensures.flow)
+    (all_to_come c.args.tables.now.configuration.flow _
+    (is_read_between c.args.tables.now.configuration c.args.driver c.args.lower) c.args.lower c.args.run.now
+    (read_driver c.args.tables.now.configuration c.args.driver c.args.lower)
+    (rw c.queues.ensures.flow at c.fronts_of_driver-rest.ensures.all))
+
+pub loop-first-preserved-then-is_read_below : goal.loop-first-preserved-then-is_read_below
+loop-first-preserved-then-is_read_below c = one_passed _ _ _ _ _ _ _ _ _ c.in-Some.ensures c.loop-first.invariant
+    (λ p y. place_is _ p y) c.mark.ensures.here c.mark.ensures.kept c.mark.ensures.drivers
+
+pub loop-first-preserved : goal.loop-first-preserved
+loop-first-preserved c = one_left _ _ _ _ _ _ _ c.in-Some.ensures c.loop-first.invariant
+    (λ p ask. not_its (is_read_between c.args.tables.now.configuration c.args.driver c.args.lower) _ p
+    (not_between c.args.tables.now.configuration c.args.driver c.args.lower _
+    (sym c.is_read_below.ensures ∙ c.if-is_read_below.false)) ask.1)
