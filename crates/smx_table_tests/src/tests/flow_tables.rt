@@ -1,4 +1,5 @@
-//! Queues by place: what arrives there, and in a copy of them.
+//! Queues by place: what arrives there, and in a copy of them; and which messages are the first ones of each of two
+//! drivers.
 
 ghost use Rattle.std.specs.Prelude.{◌≡◌, Ok};
 ghost use Rattle.smx_types.specs.Drivers.{spec_check};
@@ -9,13 +10,13 @@ use smx_types::{Bytes, DriverKind, DriverSpec, Message, Name, Place, Side, Strea
 use std::mem::forget;
 use std::process::Abort;
 
-/// Two minors, whose queues are full from 8 bytes on.
-pub fn ethernet(rt: &impl Abort) -> DriverSpec
+// Two minors, whose queues are full from 8 bytes on.
+fn driver(rt: &impl Abort, name: &str) -> DriverSpec
     ensures minors { result.minors ≡ 2 }
     ensures good { spec_check result ≡ Ok tt }
 {
     let driver = DriverSpec {
-        name: Name::new("eth").expect(rt, "a name"),
+        name: Name::new(name).expect(rt, "a name"),
         kind: DriverKind::Leaf,
         minors: 2,
         high: 8,
@@ -24,6 +25,14 @@ pub fn ethernet(rt: &impl Abort) -> DriverSpec
     };
     assert!(rt; driver.check() == Ok(()));
     driver
+}
+
+/// One of them.
+pub fn ethernet(rt: &impl Abort) -> DriverSpec
+    ensures minors { result.minors ≡ 2 }
+    ensures good { spec_check result ≡ Ok tt }
+{
+    driver(rt, "eth")
 }
 
 /// The table of its queues.
@@ -107,5 +116,60 @@ fn queues_by_place(rt: HostRuntime) {
     fill(&rt, &mut made);
     is_filled(&rt, &made);
     copy_is_filled(&rt, &made);
+    forget(made);
+}
+
+// The table of the queues of two drivers.
+fn table_of_two(rt: &(impl AllocGlobal + Abort)) -> FlowTable
+    ensures below { IsKnown result.drivers (record { driver = 0; minor = 1 }) }
+    ensures first { IsKnown result.drivers (record { driver = 1; minor = 0 }) }
+    ensures second { IsKnown result.drivers (record { driver = 1; minor = 1 }) }
+{
+    let lower = driver(rt, "eth");
+    let upper = driver(rt, "tok");
+    assert!(rt; lower.name != upper.name);
+    FlowTable::new(rt.alloc(), &[lower, upper]).expect(rt, "memory")
+}
+
+// A place of the second driver.
+const fn of_second(minor: u8, side: Side) -> Place
+    ensures { result.stream ≡ record { driver = 1; minor = minor } }
+{
+    Place {
+        stream: StreamId { driver: 1, minor },
+        side,
+    }
+}
+
+// Two messages at one place of the second driver, one at another, and one at a place of the first.
+fn fill_two(rt: &(impl AllocGlobal + Abort), table: &mut FlowTable)
+    requires below { IsKnown table.old.drivers (record { driver = 0; minor = 1 }) }
+    requires first { IsKnown table.old.drivers (record { driver = 1; minor = 0 }) }
+    requires second { IsKnown table.old.drivers (record { driver = 1; minor = 1 }) }
+{
+    put(rt, table, of_second(1, Side::Write), 1, b"two");
+    put(rt, table, of_second(1, Side::Write), 2, b"by");
+    put(rt, table, of_second(0, Side::Read), 3, b"two");
+    put(rt, table, UP, 4, b"by");
+}
+
+// Each driver has the first ones of its own places, in order.
+fn stand_in_front(rt: &impl Abort, table: &FlowTable) {
+    let mut second = table.fronts_of_driver(1);
+    let front = second.next().expect(rt, "a message");
+    assert!(rt; front.place == of_second(0, Side::Read) && front.message.serial == 3);
+    assert!(rt; second.next().expect(rt, "a message").message.serial == 1);
+    assert!(rt; second.next().is_none());
+    let mut first = table.fronts_of_driver(0);
+    assert!(rt; first.next().expect(rt, "a message").message.serial == 4);
+    assert!(rt; first.next().is_none());
+    assert!(rt; table.fronts_of_driver(2).next().is_none());
+}
+
+#[test]
+fn fronts_of_each_driver(rt: HostRuntime) {
+    let mut made = table_of_two(&rt);
+    fill_two(&rt, &mut made);
+    stand_in_front(&rt, &made);
     forget(made);
 }

@@ -149,13 +149,21 @@ fn finds_two(rt: &impl Abort, table: &LinkTable) {
     assert!(rt; table.next_id() == 3);
     assert!(rt; table.reaches(0, 2));
     assert!(rt; table.is_upper(1));
+    assert!(rt; table.driver_count() == 3);
+}
+
+// Each link joins its own two drivers. No link leads from 0 to 2, though a path does, or from 1 to 0, or to 3.
+fn joins_two(rt: &impl Abort, table: &LinkTable) {
+    assert!(rt; table.joins(0, 1) && table.joins(1, 2));
+    assert!(rt; !table.joins(0, 2) && !table.joins(1, 0));
+    assert!(rt; !table.joins(0, 3) && !table.joins(3, 1));
 }
 
 // The second goes; an id that no link has changes nothing.
 fn removes_one(rt: &impl Abort, table: &mut LinkTable) {
     table.remove_each(&[2, 9]);
     assert!(rt; table.links() == [FIRST].as_slice());
-    assert!(rt; !table.reaches(0, 2));
+    assert!(rt; !table.reaches(0, 2) && !table.joins(1, 2));
 }
 
 #[test]
@@ -163,6 +171,7 @@ fn two_links(rt: HostRuntime) {
     let mut table = LinkTable::new(rt.alloc(), 3).expect(&rt, "memory");
     link_two(&rt, &mut table);
     finds_two(&rt, &table);
+    joins_two(&rt, &table);
     removes_one(&rt, &mut table);
     forget(table);
 }
