@@ -15,13 +15,14 @@ use Rattle.smx_model.specs.Configuration.{Configuration, QueuedMessage, same_pla
 use Rattle.smx_model.specs.KnownStreams.{IsKnown}
 use Rattle.smx_model.specs.Paths.{AreLowersApart}
 use Rattle.smx_model.specs.Queues.{first_message}
-use Rattle.smx_model.specs.RunMarks.{is_below_driver}
+use Rattle.smx_model.specs.RunMarks.{asks_down, asks_up, has_addr, is_below_driver}
 use Rattle.smx_links.specs.LinkLists.{is_between, joins}
 use Rattle.smx_links.specs.Masks.{IsWithin}
 use Rattle.smx_queues.specs.PlaceMarks.{MarkList, has_mark}
-use Rattle.smx_config.specs.Marking.{IsMarkedUnless, IsMarkedWhere, is_read_below_driver, is_read_between}
+use Rattle.smx_config.specs.Marking.{IsMarkedUnless, IsMarkedWhere, asks_between, is_read_below_driver}
 use Rattle.smx_config.specs.Marking.{is_write_of}
 use Rattle.smx_tables.proofs.AboveLemmas.{any_once, once_below}
+use Rattle.smx_queues.proofs.LeftLemmas.{AreFirst}
 use Rattle.smx_queues.proofs.PlaceLemmas.{place_is}
 
 -- nothing is marked where no place with a message passes the test
@@ -139,6 +140,13 @@ with_one m p = record m { marked = p ∷ m.marked }
 
 -- ---- the read sides below a driver, one lower driver after another
 
+-- a read side that is asked for is one below the driver
+asked_below : (c : Configuration) (driver addr : ℕ) (p : Place) → asks_up c driver addr p ≡ true
+    → is_below_driver c driver p.stream ≡ true
+asked_below c driver addr p t =
+    let below = and_parts (is_read_below_driver c driver p) (has_addr addr (first_message c.flow p)) t in
+    (and_parts (same_side p.side side.Read) (is_below_driver c driver p.stream) below.0).1
+
 -- the link above a stream joins its driver to that of the stream
 below_joins : (links : List Link) (s : StreamId) (driver lower : ℕ) → s.driver ≡ lower
     → list_any (λ l. same_stream l.lower s && eqb l.ctl.driver driver) links ≡ true → joins links driver lower ≡ true
@@ -153,13 +161,12 @@ below_joins (l ∷ links) s driver lower is h = elim (cases_Bool (same_stream l.
 ]
 
 -- where no link joins the drivers, none of these places has to be marked
-pub none_between : (c : Configuration) (driver lower : ℕ) (m : MarkList) → joins c.links driver lower ≡ false
-    → IsMarkedWhere c.flow (is_read_between c driver lower) m m
-none_between c driver lower m none = none_marked c.flow (is_read_between c driver lower) m (λ p t.
-    let both = and_parts (is_read_below_driver c driver p) (eqb p.stream.driver lower) t in
-    let below = and_parts (same_side p.side side.Read) (is_below_driver c driver p.stream) both.0 in
+pub none_between : (c : Configuration) (driver addr lower : ℕ) (m : MarkList) → joins c.links driver lower ≡ false
+    → IsMarkedWhere c.flow (asks_between c driver addr lower) m m
+none_between c driver addr lower m none = none_marked c.flow (asks_between c driver addr lower) m (λ p t.
+    let both = and_parts (asks_up c driver addr p) (eqb p.stream.driver lower) t in
     absurd (false≢true (sym none ∙ below_joins c.links p.stream driver lower
-    (eqb-true p.stream.driver lower both.1) below.1)))
+    (eqb-true p.stream.driver lower both.1) (asked_below c driver addr p both.0))))
 
 -- nothing is passed yet: each place asked for that has a message is of the driver whose first messages are to come
 pub all_to_come : (flow rest : List QueuedMessage) (test : Place → Bool) (driver : ℕ) (m : MarkList)
@@ -173,44 +180,63 @@ all_to_come flow rest test driver m its all = record {
   drivers = refl;
 }
 
--- a write side of the driver is a place of it
-pub write_driver : (driver : ℕ) (p : Place) → is_write_of driver p ≡ true → p.stream.driver ≡ driver
-write_driver driver p t =
-    eqb-true p.stream.driver driver (and_parts (same_side p.side side.Write) (eqb p.stream.driver driver) t).1
+-- the one that comes is the first at its place, and so are those that are left
+pub first_of : (flow now rest : List QueuedMessage) (h : QueuedMessage) → now ≡ h ∷ rest → AreFirst flow now
+    → (first_message flow h.place ≡ Some h.message) × AreFirst flow rest
+first_of flow now rest h is first = subst (AreFirst flow) is first
+
+-- a write side that is asked for is a place of the driver
+pub write_driver : (c : Configuration) (driver addr : ℕ) (p : Place) → asks_down c driver addr p ≡ true
+    → p.stream.driver ≡ driver
+write_driver c driver addr p t =
+    let of = and_parts (is_write_of driver p) (has_addr addr (first_message c.flow p)) t in
+    eqb-true p.stream.driver driver (and_parts (same_side p.side side.Write) (eqb p.stream.driver driver) of.0).1
 
 -- so is a read side that is asked for
-pub read_driver : (c : Configuration) (driver lower : ℕ) (p : Place) → is_read_between c driver lower p ≡ true
+pub read_driver : (c : Configuration) (driver addr lower : ℕ) (p : Place) → asks_between c driver addr lower p ≡ true
     → p.stream.driver ≡ lower
-read_driver c driver lower p t =
-    eqb-true p.stream.driver lower (and_parts (is_read_below_driver c driver p) (eqb p.stream.driver lower) t).1
+read_driver c driver addr lower p t =
+    eqb-true p.stream.driver lower (and_parts (asks_up c driver addr p) (eqb p.stream.driver lower) t).1
 
--- what is no read side below the driver is none of this lower driver
-pub not_between : (c : Configuration) (driver lower : ℕ) (p : Place) → is_read_below_driver c driver p ≡ false
-    → is_read_between c driver lower p ≡ false
-not_between c driver lower p f = rw f refl
+-- whether a place is asked for, by its first message
+pub asked_down : (c : Configuration) (driver addr : ℕ) (h : QueuedMessage)
+    → first_message c.flow h.place ≡ Some h.message
+    → asks_down c driver addr h.place ≡ (is_write_of driver h.place && eqb h.message.addr addr)
+asked_down c driver addr h first = ap (λ o. is_write_of driver h.place && has_addr addr o) first
 
--- the read sides below the driver at streams of the lower drivers up to a number
-abbrev pub is_read_before : Configuration → ℕ → ℕ → Place → Bool
-is_read_before c driver n p = is_read_below_driver c driver p && nat_lt p.stream.driver n
+-- the same of a read side
+pub asked_up : (c : Configuration) (driver addr : ℕ) (h : QueuedMessage)
+    → first_message c.flow h.place ≡ Some h.message
+    → asks_up c driver addr h.place ≡ (is_read_below_driver c driver h.place && eqb h.message.addr addr)
+asked_up c driver addr h first = ap (λ o. is_read_below_driver c driver h.place && has_addr addr o) first
+
+-- what is not asked for is none of this lower driver
+pub not_between : (c : Configuration) (driver addr lower : ℕ) (p : Place) → asks_up c driver addr p ≡ false
+    → asks_between c driver addr lower p ≡ false
+not_between c driver addr lower p f = rw f refl
+
+-- the read sides below the driver that are asked for, at streams of the lower drivers up to a number
+abbrev pub asks_before : Configuration → ℕ → ℕ → ℕ → Place → Bool
+asks_before c driver addr n p = asks_up c driver addr p && nat_lt p.stream.driver n
 
 -- none of them is of a driver before the first one
-pub none_before : (c : Configuration) (driver : ℕ) (m : MarkList)
-    → IsMarkedWhere c.flow (is_read_before c driver 0) m m
-none_before c driver m = none_marked c.flow (is_read_before c driver 0) m (λ p t.
-    let both = and_parts (is_read_below_driver c driver p) (nat_lt p.stream.driver 0) t in
+pub none_before : (c : Configuration) (driver addr : ℕ) (m : MarkList)
+    → IsMarkedWhere c.flow (asks_before c driver addr 0) m m
+none_before c driver addr m = none_marked c.flow (asks_before c driver addr 0) m (λ p t.
+    let both = and_parts (asks_up c driver addr p) (nat_lt p.stream.driver 0) t in
     absurd (none p.stream.driver (ltb-true p.stream.driver 0 both.1))) where
       none : (n : ℕ) → n < 0 → ⊥
       none n lt = omega arith
 
 -- with those of one driver more
-pub one_driver_more : (c : Configuration) (driver n : ℕ) (old mid new : MarkList)
-    → IsMarkedWhere c.flow (is_read_before c driver n) old mid
-    → IsMarkedWhere c.flow (is_read_between c driver n) mid new
-    → IsMarkedWhere c.flow (is_read_before c driver (n + 1)) old new
-one_driver_more c driver n old mid new before one = record {
+pub one_driver_more : (c : Configuration) (driver addr n : ℕ) (old mid new : MarkList)
+    → IsMarkedWhere c.flow (asks_before c driver addr n) old mid
+    → IsMarkedWhere c.flow (asks_between c driver addr n) mid new
+    → IsMarkedWhere c.flow (asks_before c driver addr (n + 1)) old new
+one_driver_more c driver addr n old mid new before one = record {
   kept = λ p m. one.kept p (before.kept p m);
   marked = λ p known some t.
-      let both = and_parts (is_read_below_driver c driver p) (nat_lt p.stream.driver (n + 1)) t in
+      let both = and_parts (asks_up c driver addr p) (nat_lt p.stream.driver (n + 1)) t in
       let lt = ltb-true p.stream.driver (n + 1) both.1 in
       elim (cases_lt p.stream.driver n) [
         | inl less ↦ one.kept p (before.marked p known some (rw (both.0, lt-ltb p.stream.driver n less) refl))
@@ -235,14 +261,13 @@ lower_within n links s driver within h = by links (recursion_from_All (IsWithin 
   ]
 
 -- all lower drivers are before the end of the drivers that links may have
-pub all_before : (c : Configuration) (driver n : ℕ) (old new : MarkList) → All (IsWithin n) c.links
-    → IsMarkedWhere c.flow (is_read_before c driver n) old new
-    → IsMarkedWhere c.flow (is_read_below_driver c driver) old new
-all_before c driver n old new within m = record {
+pub all_before : (c : Configuration) (driver addr n : ℕ) (old new : MarkList) → All (IsWithin n) c.links
+    → IsMarkedWhere c.flow (asks_before c driver addr n) old new
+    → IsMarkedWhere c.flow (asks_up c driver addr) old new
+all_before c driver addr n old new within m = record {
   kept = m.kept;
   marked = λ p known some t.
-      let below = and_parts (same_side p.side side.Read) (is_below_driver c driver p.stream) t in
-      let lt = lower_within n c.links p.stream driver within below.1 in
+      let lt = lower_within n c.links p.stream driver within (asked_below c driver addr p t) in
       m.marked p known some (rw (t, lt-ltb p.stream.driver n lt) refl);
   drivers = m.drivers;
 }

@@ -1,8 +1,8 @@
 -- What a command turns and frees is among what it may wake.
-use Rattle.std.proofs.Common.{◌≡◌, ℕ, Bool, true, false, ◌&&◌, ◌||◌, not, eqb, List, [], ◌∷◌, filter, Option, Some}
+use Rattle.std.proofs.Common.{◌≡◌, ℕ, Bool, true, false, ◌&&◌, ◌||◌, not, eqb, List, filter, Option, Some}
 use Rattle.std.proofs.Common.{None, Result, Ok, Err, refl, sym, ap, ◌∙◌, subst, inl, inr}
 use Rattle.std.specs.Prelude.{◌⊎◌, IfOk, if◌then◌else◌}
-use Rattle.std.specs.List.{list_all, list_any}
+use Rattle.std.specs.List.{list_any}
 use Rattle.std.specs.Option.{is_some}
 use Rattle.std.specs.Result.{is_ok}
 use Rattle.std.proofs.lemmas.Bool.{and_parts, cases_Bool, false≢true, not-true}
@@ -13,24 +13,24 @@ use Rattle.smx_types.specs.declared.link.Binding.{Binding}
 use Rattle.smx_types.specs.declared.link.Link.{Link}
 use Rattle.smx_types.specs.declared.message.Message.{Message}
 use Rattle.smx_types.specs.declared.reply.Fault.{Fault}
-use Rattle.smx_types.specs.declared.reply.Fault.TheVariants.{AddressInUse}
+use Rattle.smx_types.specs.declared.link.Route.{Route}
+use Rattle.smx_types.specs.declared.reply.Fault.TheVariants.{AddressInUse, NoLink}
 use Rattle.smx_types.specs.declared.reply.Reply.{Reply}
 use Rattle.smx_types.specs.declared.reply.Reply.TheVariants as reply
 use Rattle.smx_types.specs.declared.stream.Place.{Place}
 use Rattle.smx_types.specs.declared.stream.Side.TheVariants as side
 use Rattle.smx_types.specs.declared.stream.StreamId.{StreamId}
 use Rattle.smx_model.specs.Commands.{done_outcome, outcome, step}
-use Rattle.smx_model.specs.Configuration.{Configuration, bind_before, same_place, same_side, same_stream}
+use Rattle.smx_model.specs.Configuration.{Configuration, QueuedMessage, bind_before, route_before, same_place}
+use Rattle.smx_model.specs.Configuration.{same_side, same_stream}
 use Rattle.smx_model.specs.FreedPlaces.{freed_by}
 use Rattle.smx_model.specs.Lookups.{free_stream, live_leaf, live_stream, mux_stream, stream_of}
 use Rattle.smx_model.specs.Ordered.{with_inserted}
 use Rattle.smx_model.specs.Outcomes.{refuse}
 use Rattle.smx_model.specs.Queues.{after_leaving, first_message}
-use Rattle.smx_model.specs.Removal.{after_sweep}
-use Rattle.smx_model.specs.RunMarks.{TurnsOnly, both, is_below_driver, is_first_at, next_of_first}
+use Rattle.smx_model.specs.RunMarks.{TurnsOnly, asks_down, asks_up, both, has_addr, is_first_at, next_of_first}
 use Rattle.smx_model.specs.Settling.{after_settling, next_open_place}
 use Rattle.smx_model.specs.SettlingByMarks.{is_first_there, turned_by_move}
-use Rattle.smx_model.specs.Standing.{exists, is_persistent}
 use Rattle.smx_model.specs.Swept.{IsSwept}
 use Rattle.smx_model.specs.TurnedPlaces.{of_stream, read_side, turned_by, write_side}
 use Rattle.smx_config.specs.declared.marks.Marks.{Marks}
@@ -42,40 +42,51 @@ use Rattle.smx_commands.specs.Refinement.{Refines}
 use Rattle.smx_config.specs.Wakes.{IsEnough, arrives, freed_under, on_stream, turned_under, wakes_of}
 use Rattle.smx_config.specs.declared.wakes.Wakes.{Wakes}
 use Rattle.smx_config.specs.declared.wakes.Wakes.TheVariants as wakes
+use Rattle.smx_model.proofs.IdleSweepLemmas.{swept_idle}
 use Rattle.smx_commands.proofs.AcceptedLemmas.{accepted, bound}
 use Rattle.smx_config.proofs.StayingLemmas.{read_stays, transmit_stays}
 
--- ---- a binding changes no link
+-- ---- bindings and routes change no link and no message
 
-kept_links : (stays is : Link → Bool) (links : List Link) → list_all (λ l. stays l || is l) links ≡ true
-    → filter (λ l. not (not (stays l) && not (is l))) links ≡ links
-kept_links stays is [] h = refl
-kept_links stays is (l ∷ ls) h =
-    let parts = and_parts (stays l || is l) (list_all (λ k. stays k || is k) ls) h in
-    rw (passes (stays l) (is l) parts.0) (ap (λ (ks : List Link). l ∷ ks) (kept_links stays is ls parts.1)) where
-      passes : (a b : Bool) → (a || b) ≡ true → not (not a && not b) ≡ true
-      passes true b k = refl
-      passes false true k = refl
-      passes false false k = k
+-- where a change was accepted that leaves nothing to sweep of them, the links and the messages are what they were
+abbrev KeepsBoth : Configuration → Configuration × Reply → Type 0
+KeepsBoth c x = (x.0.links ≡ c.links) × (x.0.flow ≡ c.flow)
 
-swept_links : (drivers : List DriverSpec) (c : Configuration) (binds : List Binding) → IsSwept drivers c
-    → (after_sweep drivers (record c { binds = binds })).links ≡ c.links
-swept_links drivers c binds h = kept_links is_persistent (λ l. exists drivers c l.ctl) c.links h.links
-
--- an accepted bind leaves the links as they were
-pub bind_keeps_links : (drivers : List DriverSpec) (c : Configuration) (process fd addr : ℕ) (x : Configuration × Reply)
-    → IsSwept drivers c → outcome drivers c process (command.Bind fd addr) ≡ Ok x → x.0.links ≡ c.links
-bind_keeps_links drivers c process fd addr x h e =
+-- an accepted bind leaves the links and the messages as they were
+pub bind_keeps_both : (drivers : List DriverSpec) (c : Configuration) (process fd addr : ℕ) (x : Configuration × Reply)
+    → IsSwept drivers c → outcome drivers c process (command.Bind fd addr) ≡ Ok x → KeepsBoth c x
+bind_keeps_both drivers c process fd addr x h e =
     let s = bound (mux_stream drivers c process fd) _ x e in
     let free = bound
     (refuse AddressInUse
     (list_any (λ b. eqb b.driver s.0.driver && (eqb b.addr addr || eqb b.minor s.0.minor)) c.binds)) _ x s.2 in
     let binds = with_inserted bind_before c.binds (record { driver = s.0.driver; addr = addr; minor = s.0.minor }) in
     swept_out binds free.2 where
-      swept_out : (binds : List Binding) → done_outcome drivers c (record c { binds = binds }) ≡ Ok x
-          → x.0.links ≡ c.links
-      swept_out binds k = ap (λ (y : Configuration × Reply). y.0.links) (sym (accepted _ x k))
-          ∙ swept_links drivers c binds h
+      swept_out : (binds : List Binding) → done_outcome drivers c (record c { binds = binds }) ≡ Ok x → KeepsBoth c x
+      swept_out binds k =
+          let is = sym (accepted _ x k) in (
+            ap (λ (y : Configuration × Reply). y.0.links) is ∙ ap (λ (d : Configuration). d.links) (swept_idle drivers c h),
+            ap (λ (y : Configuration × Reply). y.0.flow) is ∙ ap (λ (d : Configuration). d.flow) (swept_idle drivers c h),
+          )
+
+-- so does an accepted route
+pub route_keeps_both : (drivers : List DriverSpec) (c : Configuration) (process fd addr id : ℕ)
+    (x : Configuration × Reply) → IsSwept drivers c → outcome drivers c process (command.Route fd addr id) ≡ Ok x
+    → KeepsBoth c x
+route_keeps_both drivers c process fd addr id x h e =
+    let s = bound (mux_stream drivers c process fd) _ x e in
+    let there = bound
+    (refuse NoLink (not (list_any (λ l. eqb l.id id && eqb l.ctl.driver s.0.driver) c.links))) _ x s.2 in
+    let routes = with_inserted route_before
+    (filter (λ r. not (eqb r.driver s.0.driver && eqb r.addr addr)) c.routes)
+    (record { driver = s.0.driver; addr = addr; id = id }) in
+    swept_out routes there.2 where
+      swept_out : (routes : List Route) → done_outcome drivers c (record c { routes = routes }) ≡ Ok x → KeepsBoth c x
+      swept_out routes k =
+          let is = sym (accepted _ x k) in (
+            ap (λ (y : Configuration × Reply). y.0.links) is ∙ ap (λ (d : Configuration). d.links) (swept_idle drivers c h),
+            ap (λ (y : Configuration × Reply). y.0.flow) is ∙ ap (λ (d : Configuration). d.flow) (swept_idle drivers c h),
+          )
 
 -- ---- the turned places
 
@@ -84,9 +95,6 @@ turned_on : (r : Result StreamId Fault) (f : StreamId → Place → Bool) (g : S
     → turned_under d (on_stream r g) p ≡ true
 turned_on (Ok s) f g d p h t = h s t
 turned_on (Err e) f g d p h t = absurd (false≢true t)
-
-first_part : (a b : Bool) → (a && b) ≡ true → a ≡ true
-first_part a b h = (and_parts a b h).0
 
 -- an arrival that gives a place its first message turns it
 arrived : (c d : Configuration) (q p : Place) → is_first_at c q p ≡ true → turned_under d (arrives c q) p ≡ true
@@ -109,15 +117,19 @@ turns drivers c process (command.Link fd arg) x h e p t =
 turns drivers c process (command.Plink fd arg) x h e p t =
     inl (turned_on (stream_of c process arg) _ _ x.0 p (λ s u. u) t)
 turns drivers c process (command.Bind fd addr) x h e p t =
-    inl (turned_on (mux_stream drivers c process fd) _ _ x.0 p (λ s u. still s (first_part _ _ u)) t) where
-      still : (s : StreamId) → (same_side p.side side.Read && is_below_driver c s.driver p.stream) ≡ true
-          → (same_side p.side side.Read && is_below_driver x.0 s.driver p.stream) ≡ true
-      still s u = subst
-          (λ (links : List Link).
-          (same_side p.side side.Read && list_any (λ l. same_stream l.lower p.stream && eqb l.ctl.driver s.driver)
-          links) ≡ true) (sym (bind_keeps_links drivers c process fd addr x h e)) u
+    inl (turned_on (mux_stream drivers c process fd) _ _ x.0 p (λ s u. still s u) t) where
+      still : (s : StreamId) → asks_up c s.driver addr p ≡ true → asks_up x.0 s.driver addr p ≡ true
+      still s u =
+          let kept = bind_keeps_both drivers c process fd addr x h e in
+          subst (λ (y : List Link × List QueuedMessage).
+          ((same_side p.side side.Read && list_any (λ l. same_stream l.lower p.stream && eqb l.ctl.driver s.driver) y.0)
+          && has_addr addr (first_message y.1 p)) ≡ true) (λ i. (sym kept.0 i, sym kept.1 i)) u
 turns drivers c process (command.Route fd addr id) x h e p t =
-    inl (turned_on (mux_stream drivers c process fd) _ _ x.0 p (λ s u. first_part _ _ u) t)
+    inl (turned_on (mux_stream drivers c process fd) _ _ x.0 p (λ s u. still s u) t) where
+      still : (s : StreamId) → asks_down c s.driver addr p ≡ true → asks_down x.0 s.driver addr p ≡ true
+      still s u = subst (λ (flow : List QueuedMessage).
+          ((same_side p.side side.Write && eqb p.stream.driver s.driver) && has_addr addr (first_message flow p)) ≡ true)
+          (sym (route_keeps_both drivers c process fd addr id x h e).1) u
 turns drivers c process (command.Write fd addr bytes) x h e p t =
     inl (turned_on (live_stream c process fd) _ _ x.0 p (λ s u. arrived c x.0 (write_side s) p u) t)
 turns drivers c process (command.Read fd) x h e p t = inr (read_stays drivers c process fd x p e t)

@@ -8,7 +8,7 @@ use Rattle.smx_model.specs.Configuration.{Configuration, QueuedMessage, same_pla
 use Rattle.smx_model.specs.KnownStreams.{IsKnown}
 use Rattle.smx_model.specs.LoneMessages.{IsAlone}
 use Rattle.smx_model.specs.Queues.{first_message, is_full}
-use Rattle.smx_model.specs.RunMarks.{is_below_driver, next_of_first}
+use Rattle.smx_model.specs.RunMarks.{asks_up, is_below_driver, next_of_first}
 use Rattle.smx_model.specs.SettlingByMarks.{HasItsMarks, MarkedConfiguration}
 use Rattle.smx_queues.specs.PlaceMarks.{MarkList, has_mark}
 use Rattle.smx_queues.specs.Waiters.{WaitList, target_of}
@@ -44,9 +44,9 @@ is_write_of driver p = same_side p.side side.Write && (p.stream.driver == driver
 abbrev pub is_read_below_driver : Configuration → ℕ → Place → Bool
 is_read_below_driver c driver p = same_side p.side side.Read && is_below_driver c driver p.stream
 
--- such a stream of this lower driver
-abbrev pub is_read_between : Configuration → ℕ → ℕ → Place → Bool
-is_read_between c driver lower p = is_read_below_driver c driver p && (p.stream.driver == lower)
+-- the first message at the read side of a stream of this lower driver, below the upper one, has this address
+abbrev pub asks_between : Configuration → ℕ → ℕ → ℕ → Place → Bool
+asks_between c driver addr lower p = asks_up c driver addr p && (p.stream.driver == lower)
 
 -- of the places that pass the test, those with a message have a mark, and all that had one
 pub record IsMarkedWhere (flow : List QueuedMessage) (test : Place → Bool) (old new : MarkList) : Type 0 where

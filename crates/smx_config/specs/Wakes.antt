@@ -11,9 +11,9 @@ use Rattle.smx_model.specs.Commands.{outcome}
 use Rattle.smx_model.specs.Configuration.{Configuration, same_place}
 use Rattle.smx_model.specs.Lookups.{free_stream, live_leaf, live_stream, mux_stream, stream_of}
 use Rattle.smx_model.specs.Queues.{first_message}
-use Rattle.smx_model.specs.RunMarks.{nowhere}
+use Rattle.smx_model.specs.RunMarks.{asks_down, asks_up, nowhere}
 use Rattle.smx_model.specs.TurnedPlaces.{read_side, write_side}
-use Rattle.smx_config.specs.Marking.{AreMarks, IsWoken, is_read_below_driver, is_write_of}
+use Rattle.smx_config.specs.Marking.{AreMarks, IsWoken}
 use Rattle.smx_config.specs.declared.marks.Marks.{Marks}
 use Rattle.smx_config.specs.declared.wakes.Wakes.{Wakes}
 use Rattle.smx_config.specs.declared.wakes.Wakes.TheVariants as wakes
@@ -27,8 +27,8 @@ abbrev pub turned_under : Configuration → Wakes → Place → Bool
 turned_under c wakes.Nothing = nowhere
 turned_under c (wakes.Turns p) = same_place p
 turned_under c (wakes.Leaves p) = nowhere
-turned_under c (wakes.TurnsWrites driver) = is_write_of driver
-turned_under c (wakes.TurnsReads driver) = is_read_below_driver c driver
+turned_under c (wakes.TurnsWrites driver addr) = asks_down c driver addr
+turned_under c (wakes.TurnsReads driver addr) = asks_up c driver addr
 turned_under c wakes.Frees = nowhere
 
 -- which places may stop being full
@@ -36,8 +36,8 @@ abbrev pub freed_under : Wakes → Place → Bool
 freed_under wakes.Nothing = nowhere
 freed_under (wakes.Turns p) = nowhere
 freed_under (wakes.Leaves p) = same_place p
-freed_under (wakes.TurnsWrites driver) = nowhere
-freed_under (wakes.TurnsReads driver) = nowhere
+freed_under (wakes.TurnsWrites driver addr) = nowhere
+freed_under (wakes.TurnsReads driver addr) = nowhere
 freed_under wakes.Frees = everywhere
 
 -- by the stream that is named, or nothing where none is
@@ -65,10 +65,10 @@ wakes_of drivers c process (command.Plink fd arg) = turns_below c process arg
 wakes_of drivers c process (command.Unlink fd w) = wakes.Frees
 wakes_of drivers c process (command.Punlink fd w) = wakes.Frees
 wakes_of drivers c process (command.Bind fd addr) =
-    on_stream (mux_stream drivers c process fd) (λ s. wakes.TurnsReads s.driver)
+    on_stream (mux_stream drivers c process fd) (λ s. wakes.TurnsReads s.driver addr)
 wakes_of drivers c process (command.Unbind fd) = wakes.Nothing
 wakes_of drivers c process (command.Route fd addr id) =
-    on_stream (mux_stream drivers c process fd) (λ s. wakes.TurnsWrites s.driver)
+    on_stream (mux_stream drivers c process fd) (λ s. wakes.TurnsWrites s.driver addr)
 wakes_of drivers c process (command.Unroute fd addr) = wakes.Nothing
 wakes_of drivers c process (command.Write fd addr bytes) =
     on_stream (live_stream c process fd) (λ s. arrives c (write_side s))

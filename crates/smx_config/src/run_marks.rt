@@ -1,14 +1,15 @@
 //! Run marks at places that have a message.
 
-ghost use Rattle.std.specs.Prelude.{◌≡◌, None};
+ghost use Rattle.std.specs.Prelude.{◌≡◌, ◌==◌, ◌&&◌, None};
 ghost use Rattle.smx_model.specs.Configuration.{same_place};
+ghost use Rattle.smx_model.specs.RunMarks.{asks_down, asks_up};
 ghost use Rattle.smx_queues.specs.PlaceMarks.{MarkList};
-ghost use Rattle.smx_config.specs.Marking.{is_read_below_driver, is_read_between, is_write_of};
+ghost use Rattle.smx_config.specs.Marking.{asks_between, is_read_below_driver, is_write_of};
 ghost use Rattle.smx_config.specs.Marking.{HasNeeded, IsMarkedUnless, IsMarkedWhere, IsOneMore};
 
 use crate::next_places::leads_on;
 use smx_commands::Tables;
-use smx_queues::PlaceMarks;
+use smx_queues::{PlaceMarks, Queued};
 use smx_types::{Place, Side};
 
 // Whether the place is a write side of the driver's streams.
@@ -51,17 +52,25 @@ pub fn mark_waiting(tables: &Tables, run: &mut PlaceMarks, place: Place)
     }
 }
 
-// Marks the write sides of the driver's streams that have a message. It looks at no stream that has none, and at no
-// other driver's.
-pub fn mark_writes(tables: &Tables, run: &mut PlaceMarks, driver: u8)
-    ensures { IsMarkedWhere tables.now.configuration.flow (is_write_of driver) run.old run.new }
+// Whether this first message has the address, at a write side of the driver.
+fn asks_down(first: Queued<'_>, driver: u8, addr: u32) -> bool
+    ensures { result ≡ (is_write_of driver first.entry.place && (first.entry.message.now.addr == addr)) }
+{
+    is_write_of(driver, first.place) && first.message.addr == addr
+}
+
+// Marks the write sides of the driver's streams whose first message has this address. It looks at no other driver's,
+// and at no stream that has none.
+pub fn mark_writes(tables: &Tables, run: &mut PlaceMarks, driver: u8, addr: u32)
+    ensures { IsMarkedWhere tables.now.configuration.flow
+        (asks_down tables.now.configuration driver addr) run.old run.new }
 {
     if tables.queues().len() == 0 {
         return;
     }
     let mut rest = tables.queues().fronts_of_driver(driver);
     while let Some(first) = rest.next() {
-        if is_write_of(driver, first.place) {
+        if asks_down(first, driver, addr) {
             run.mark(first.place);
         }
     }
@@ -82,32 +91,40 @@ fn is_read_below(tables: &Tables, place: Place, driver: u8) -> bool
     }
 }
 
+// Whether this first message has the address, at the read side of a stream below the driver.
+fn asks_up(tables: &Tables, first: Queued<'_>, driver: u8, addr: u32) -> bool
+    ensures { result ≡ (is_read_below_driver tables.now.configuration driver first.entry.place
+        && (first.entry.message.now.addr == addr)) }
+{
+    first.message.addr == addr && is_read_below(tables, first.place, driver)
+}
+
 // Marks those of them that are streams of this lower driver. Where no link leads there it looks at none.
-fn mark_reads_of(tables: &Tables, run: &mut PlaceMarks, driver: u8, lower: u8)
+fn mark_reads_of(tables: &Tables, run: &mut PlaceMarks, driver: u8, addr: u32, lower: u8)
     ensures { IsMarkedWhere tables.now.configuration.flow
-        (is_read_between tables.now.configuration driver lower) run.old run.new }
+        (asks_between tables.now.configuration driver addr lower) run.old run.new }
 {
     if !tables.links().joins(driver, lower) {
         return;
     }
     let mut rest = tables.queues().fronts_of_driver(lower);
     while let Some(first) = rest.next() {
-        if is_read_below(tables, first.place, driver) {
+        if asks_up(tables, first, driver, addr) {
             run.mark(first.place);
         }
     }
 }
 
-// Marks the read sides of the streams below the driver that have a message. It looks at no link but those above
-// streams that have one, of drivers to which a link of this one leads.
-pub fn mark_reads(tables: &Tables, run: &mut PlaceMarks, driver: u8)
+// Marks the read sides of the streams below the driver whose first message has this address. It looks at no link but
+// those above streams that have such a one, of drivers to which a link of this one leads.
+pub fn mark_reads(tables: &Tables, run: &mut PlaceMarks, driver: u8, addr: u32)
     ensures { IsMarkedWhere tables.now.configuration.flow
-        (is_read_below_driver tables.now.configuration driver) run.old run.new }
+        (asks_up tables.now.configuration driver addr) run.old run.new }
 {
     if tables.queues().len() == 0 {
         return;
     }
     for lower in 0..tables.links().driver_count() {
-        mark_reads_of(tables, run, driver, lower);
+        mark_reads_of(tables, run, driver, addr, lower);
     }
 }

@@ -17,10 +17,10 @@ pub enum Wakes {
     Turns(Place),
     // The first message leaves a place, from which none goes on to another.
     Leaves(Place),
-    // So it may be with the write sides of a driver,
-    TurnsWrites(u8),
-    // and so with the read sides of the streams below one.
-    TurnsReads(u8),
+    // Messages of an address may have another place to go to from the write sides of a driver,
+    TurnsWrites(u8, u32),
+    // and so from the read sides of the streams below one.
+    TurnsReads(u8, u32),
     // Any full place may be emptied.
     Frees,
 }
@@ -43,20 +43,20 @@ fn leaves(stream: Result<StreamId, Fault>, side: Side) -> Wakes
     }
 }
 
-fn turns_writes(stream: Result<StreamId, Fault>) -> Wakes
-    ensures { result ≡ on_stream stream (λ s. wakes.TurnsWrites s.driver) }
+fn turns_writes(stream: Result<StreamId, Fault>, addr: u32) -> Wakes
+    ensures { result ≡ on_stream stream (λ s. wakes.TurnsWrites s.driver addr) }
 {
     match stream {
-        Ok(stream) => Wakes::TurnsWrites(stream.driver),
+        Ok(stream) => Wakes::TurnsWrites(stream.driver, addr),
         Err(_) => Wakes::Nothing,
     }
 }
 
-fn turns_reads(stream: Result<StreamId, Fault>) -> Wakes
-    ensures { result ≡ on_stream stream (λ s. wakes.TurnsReads s.driver) }
+fn turns_reads(stream: Result<StreamId, Fault>, addr: u32) -> Wakes
+    ensures { result ≡ on_stream stream (λ s. wakes.TurnsReads s.driver addr) }
 {
     match stream {
-        Ok(stream) => Wakes::TurnsReads(stream.driver),
+        Ok(stream) => Wakes::TurnsReads(stream.driver, addr),
         Err(_) => Wakes::Nothing,
     }
 }
@@ -102,8 +102,8 @@ pub fn wakes_of(
         Command::Link { arg, .. } | Command::Plink { arg, .. } => {
             turns(tables.stream_of(process, *arg), Side::Read)
         }
-        Command::Bind { fd, .. } => turns_reads(tables.mux_stream(process, *fd)),
-        Command::Route { fd, .. } => turns_writes(tables.mux_stream(process, *fd)),
+        Command::Bind { fd, addr } => turns_reads(tables.mux_stream(process, *fd), *addr),
+        Command::Route { fd, addr, .. } => turns_writes(tables.mux_stream(process, *fd), *addr),
         Command::Write { .. } => arrives(tables, named, Side::Write),
         Command::Read { .. } => leaves(named, Side::Read),
         Command::Inject { .. } => arrives(tables, named, Side::Read),

@@ -79,7 +79,7 @@ fn release_freed(tables: &Tables, marks: &mut Marks, wakes: Wakes)
     match wakes {
         Wakes::Leaves(place) => release_if_open(tables, marks, place),
         Wakes::Frees => release_all(tables, marks),
-        Wakes::Nothing | Wakes::Turns(_) | Wakes::TurnsWrites(_) | Wakes::TurnsReads(_) => {}
+        Wakes::Nothing | Wakes::Turns(_) | Wakes::TurnsWrites(_, _) | Wakes::TurnsReads(_, _) => {}
     }
 }
 
@@ -90,8 +90,8 @@ fn mark_turned(tables: &Tables, run: &mut PlaceMarks, wakes: Wakes)
 {
     match wakes {
         Wakes::Turns(place) => mark_waiting(tables, run, place),
-        Wakes::TurnsWrites(driver) => mark_writes(tables, run, driver),
-        Wakes::TurnsReads(driver) => mark_reads(tables, run, driver),
+        Wakes::TurnsWrites(driver, addr) => mark_writes(tables, run, driver, addr),
+        Wakes::TurnsReads(driver, addr) => mark_reads(tables, run, driver, addr),
         Wakes::Nothing | Wakes::Leaves(_) | Wakes::Frees => {}
     }
 }

@@ -1,15 +1,16 @@
 -- What a walk over places meets next, in lists as which the tables are seen.
-use Rattle.std.proofs.Common.{◌≡◌, ℕ, zero, suc, ◌+◌, ◌<◌, Bool, true, List, [], ◌∷◌, ◌++◌, length, map, drop}
+use Rattle.std.proofs.Common.{◌≡◌, ℕ, zero, suc, ◌+◌, ◌<◌, Bool, true, eqb, List, [], ◌∷◌, ◌++◌, length, map, drop}
 use Rattle.std.proofs.Common.{take, get_or, min, Option, Some, None, refl, sym, ap, ◌∙◌, subst, arith, append-nil}
 use Rattle.std.specs.Prelude.{nat_lt, slice_get}
 use Rattle.std.specs.List.{All}
 use Rattle.std.proofs.lemmas.List.{get_or-take, length-take}
-use Rattle.std.proofs.lemmas.List.Elements.{All-from_recursion}
+use Rattle.std.proofs.lemmas.List.Elements.{All-filter, All-from_recursion}
 use Rattle.smx_types.specs.declared.message.Message.{Message}
 use Rattle.smx_types.specs.declared.stream.Place.{Place}
 use Rattle.smx_model.specs.Configuration.{QueuedMessage}
 use Rattle.smx_model.specs.Queues.{first_message}
-use Rattle.smx_queues.specs.FlowTables.{FlowLists, IsFlow, flow_of, fronts, fronts_of, fulls_of, lists_of, messages_at}
+use Rattle.smx_queues.specs.FlowTables.{FlowLists, IsFlow, flow_of, fronts, fronts_of, fronts_of_driver, fulls_of}
+use Rattle.smx_queues.specs.FlowTables.{lists_of, messages_at}
 use Rattle.smx_queues.specs.PlaceLists.{HaveDriversBelow, PlaceList}
 use Rattle.smx_queues.specs.QueueTable.{Queue, queue_at}
 use Rattle.smx_queues.specs.Slots.{IsLeastFrom, has_messages, is_marked, messages_in}
@@ -103,6 +104,13 @@ first_fronts p all n t h seen =
     (fronts_first p.places all h.rising) in
     let here = subst (λ (x : FlowLists). AreFirst x.flow (fronts x.flow)) seen first in
     All-from_recursion (λ (x : QueuedMessage). first_message t.flow x.place ≡ Some x.message) (fronts t.flow) here
+
+-- so is each of those of one driver
+pub first_fronts_of : (driver : ℕ) (p : PlaceList) (all : List (Option Queue)) (n : ℕ) (t : FlowLists) → IsFlow p all
+    → lists_of p all n ≡ t → All (λ h. first_message t.flow h.place ≡ Some h.message) (fronts_of_driver driver t.flow)
+first_fronts_of driver p all n t h seen =
+    All-filter (λ x. eqb x.place.stream.driver driver) (λ x. first_message t.flow x.place ≡ Some x.message)
+    (fronts t.flow) (first_fronts p all n t h seen)
 
 -- ---- nothing at a place that is none of them
 

@@ -194,6 +194,8 @@ impl FlowTable {
     /// driver. Takes no memory.
     pub fn fronts_of_driver(&self, driver: u8) -> FirstMessages<'_>
         ensures fronts { result ≡ fronts_of_driver driver self.now.flow }
+        ensures first { All (λ h. first_message self.now.flow h.place ≡ Some h.message)
+            (fronts_of_driver driver self.now.flow) }
         ensures all { (p : PlaceValue) → first_message self.now.flow p ≢ None → p.stream.driver ≡ driver
             → list_any (λ h. same_place h.place p) (fronts_of_driver driver self.now.flow) ≡ true }
     {

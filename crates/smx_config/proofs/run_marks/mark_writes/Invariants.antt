@@ -1,5 +1,6 @@
 use Rattle.std.proofs.Common.{length}
-use Rattle.smx_config.specs.Marking.{is_write_of}
+use Rattle.smx_model.specs.RunMarks.{asks_down}
+use Rattle.smx_queues.proofs.LeftLemmas.{AreFirst}
 use Rattle.smx_config.proofs.RunMarkLemmas.{ArePassed}
 use Rattle.smx_config.proofs.run_marks.mark_writes.Given as goal
 
@@ -7,4 +8,5 @@ abbrev pub decreases-loop-first : goal.decreases-loop-first
 decreases-loop-first l = length l.rest
 
 abbrev pub invariant-loop-first : goal.invariant-loop-first
-invariant-loop-first l = ArePassed l.tables.configuration.flow l.rest (is_write_of l.driver) l.initial.run l.run
+invariant-loop-first l = ArePassed l.tables.configuration.flow l.rest
+    (asks_down l.tables.configuration l.driver l.addr) l.initial.run l.run × AreFirst l.tables.configuration.flow l.rest
