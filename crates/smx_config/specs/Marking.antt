@@ -44,7 +44,7 @@ is_write_of driver p = same_side p.side side.Write && (p.stream.driver == driver
 abbrev pub is_read_below_driver : Configuration → ℕ → Place → Bool
 is_read_below_driver c driver p = same_side p.side side.Read && is_below_driver c driver p.stream
 
--- such a stream of this lower driver
+-- the read side of such a stream of this lower driver
 abbrev pub is_read_between : Configuration → ℕ → ℕ → Place → Bool
 is_read_between c driver lower p = is_read_below_driver c driver p && (p.stream.driver == lower)
 

@@ -82,7 +82,8 @@ fn is_read_below(tables: &Tables, place: Place, driver: u8) -> bool
     }
 }
 
-// Marks those of them that are streams of this lower driver. Where no link leads there it looks at none.
+// Marks the read sides of the lower driver's streams below the driver that have a message. Where no link leads from
+// the one to the other it looks at no stream.
 fn mark_reads_of(tables: &Tables, run: &mut PlaceMarks, driver: u8, lower: u8)
     ensures { IsMarkedWhere tables.now.configuration.flow
         (is_read_between tables.now.configuration driver lower) run.old run.new }
