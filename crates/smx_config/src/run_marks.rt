@@ -99,7 +99,8 @@ fn asks_up(tables: &Tables, first: Queued<'_>, driver: u8, addr: u32) -> bool
     first.message.addr == addr && is_read_below(tables, first.place, driver)
 }
 
-// Marks those of them that are streams of this lower driver. Where no link leads there it looks at none.
+// Marks those of them that are streams of this lower driver. Where no link leads from the upper one there, it looks
+// at none.
 fn mark_reads_of(tables: &Tables, run: &mut PlaceMarks, driver: u8, addr: u32, lower: u8)
     ensures { IsMarkedWhere tables.now.configuration.flow
         (asks_between tables.now.configuration driver addr lower) run.old run.new }
