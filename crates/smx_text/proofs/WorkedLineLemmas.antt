@@ -6,13 +6,17 @@ use Rattle.std.specs.Fmt.{digits}
 use Rattle.std.specs.List.{AllByRecursion}
 use Rattle.std.proofs.lemmas.List.{length-replicate}
 use Rattle.smx_types.specs.declared.command.Command.{Command}
+use Rattle.smx_types.specs.declared.command.Command.TheVariants as command
+use Rattle.smx_words.specs.Spellable.{FitsCommandIn}
+use Rattle.smx_words.specs.Spelling.{command_words}
+use Rattle.smx_words.specs.Words.{line_of}
 use Rattle.smx_text.specs.Grammar.{Grammar, GoesOn, IsBegun, IsFull, MayFollow, line_text}
 use Rattle.smx_text.specs.ProgramLines.{Line}
 use Rattle.smx_text.specs.ProgramsText.{FitsLine}
 use Rattle.smx_text.specs.Reading.{RefusesLine}
 use Rattle.smx_text.specs.WorkedLines.{dup, grammar, idle, idle_lines, process}
 use Rattle.smx_text.specs.declared.text_fault.Cause.TheVariants as cause
-use Rattle.smx_types.specs.declared.version.Version.TheVariants.{V1}
+use Rattle.smx_types.specs.declared.version.Version.TheVariants.{V1, V2}
 use Rattle.smx_text.proofs.ProgramsFollowLemmas.{stand_may}
 use Rattle.smx_text.proofs.ProgramsLemmas.{longer_begun, misplaced, too_many}
 
@@ -77,3 +81,13 @@ dup_fits = search (rules, arith)
 -- of a line with which some programs begin, all that it says can be spelled
 pub begun_fits : (k : Line) → IsBegun grammar (k ∷ []) → FitsLine V1 k
 begun_fits k (v, more, allowed, is) = (subst (AllByRecursion (FitsLine V1)) is allowed.fits).0
+
+abbrev pub hangup : Command
+hangup = command.Hangup (codes "ip") 0
+
+pub hangup_is : codes "hangup ip 0" ≡ line_of (command_words hangup)
+unfolding digits
+hangup_is = refl
+
+pub hangup_fits : FitsCommandIn V2 hangup
+hangup_fits = search (rules, arith)

@@ -1,12 +1,14 @@
 //! Laws of lines, each the contract of a function that does nothing: what is answered to one that comes behind others, by
 //! examples, and what is not.
 
-ghost use Rattle.std.specs.Prelude.{◌≡◌, ℕ, [], ◌∷◌, ◌++◌, List, Some, None, codes};
+ghost use Rattle.std.specs.Prelude.{◌≡◌, ℕ, [], ◌∷◌, ◌++◌, List, Ok, Err, Some, None, true, false, codes};
 ghost use Rattle.smx_types.specs.ProgramLists.{ProgramLists};
+ghost use Rattle.smx_types.specs.declared.command.Command.TheVariants as command;
 ghost use Rattle.smx_types.specs.declared.transcript.Transcript.{Transcript};
 ghost use Rattle.smx_types.specs.declared.version.Version.TheVariants.{V1, V2};
+ghost use Rattle.smx_text.specs.Growing.{IsPushed};
 ghost use Rattle.smx_text.specs.ProgramLines.{Line};
-ghost use Rattle.smx_text.specs.Reading.{AnswersLine, AnswersText, EndsAs, RefusesLine};
+ghost use Rattle.smx_text.specs.Reading.{AnswersLine, AnswersText, EndsAs, EndsText, RefusesLine};
 ghost use Rattle.smx_text.specs.TranscriptText.{transcript_grammar};
 ghost use Rattle.smx_text.specs.WorkedLines.{dup, grammar, idle, idle_lines, process, refused, taken};
 ghost use Rattle.smx_text.specs.declared.text_fault.Cause.TheVariants as cause;
@@ -69,4 +71,42 @@ pub fn answers_at_the_end()
     ensures not_made_otherwise { EndsAs grammar (λ v w. w ≡ v.version) (idle_lines 1) (Some V2) → ⊥ }
     ensures may_end { EndsAs grammar {W = ProgramLists} (λ v w. w ≡ v) (idle_lines 1) None → ⊥ }
     ensures may_not_end { EndsAs (transcript_grammar V1) {W = Transcript} (λ v w. w ≡ v) [] None }
+{}
+
+/// At the last line, which has a number, that is so where no byte follows it. A byte that does is told of as the first of
+/// the next line, where lines are all those of some programs; and a text that may not end there has a wrong last line.
+pub fn answers_at_the_last_line()
+    ensures made { EndsText grammar (λ v w. w ≡ v) (idle_lines 1) [] 3 (Ok (idle 1)) }
+    ensures not_before_a_byte { EndsText grammar (λ v w. w ≡ v) (idle_lines 1) (10 ∷ []) 3 (Ok (idle 1)) → ⊥ }
+    ensures not_of_fewer_lines { EndsText grammar (λ v w. w ≡ v) [] [] 2 (Ok (idle 1)) → ⊥ }
+    ensures not_of_another_version { EndsText grammar (λ v w. w ≡ v) [] [] 2 (Ok (record (idle 0) { version = V2 }))
+        → ⊥ }
+    ensures not_made_otherwise { EndsText grammar (λ v w. w ≡ v.version) (idle_lines 1) [] 3 (Ok V2) → ⊥ }
+    ensures trails { EndsText grammar {W = ProgramLists} (λ v w. w ≡ v) (idle_lines 1) (10 ∷ []) 3
+        (Err (record { line = 4; cause = cause.Trailing })) }
+    ensures nothing_trails { EndsText grammar {W = ProgramLists} (λ v w. w ≡ v) (idle_lines 1) [] 3
+        (Err (record { line = 4; cause = cause.Trailing })) → ⊥ }
+    ensures not_at_the_line_before { EndsText grammar {W = ProgramLists} (λ v w. w ≡ v) (idle_lines 1) (10 ∷ []) 3
+        (Err (record { line = 3; cause = cause.Trailing })) → ⊥ }
+    ensures not_behind_no_programs { EndsText grammar {W = ProgramLists} (λ v w. w ≡ v) (dup ∷ []) (10 ∷ []) 3
+        (Err (record { line = 4; cause = cause.Trailing })) → ⊥ }
+    ensures may_end { EndsText grammar {W = ProgramLists} (λ v w. w ≡ v) (idle_lines 1) [] 3
+        (Err (record { line = 3; cause = cause.Form })) → ⊥ }
+    ensures may_not_end { EndsText (transcript_grammar V1) {W = Transcript} (λ v w. w ≡ v) [] [] 2
+        (Err (record { line = 2; cause = cause.Form })) }
+    ensures not_at_another_line { EndsText (transcript_grammar V1) {W = Transcript} (λ v w. w ≡ v) [] [] 2
+        (Err (record { line = 3; cause = cause.Form })) → ⊥ }
+{}
+
+/// A command whose words a line is comes to the end of the last program, where the version can tell it; and of a line that
+/// is no such command's nothing comes.
+pub fn what_is_pushed_to_programs()
+    ensures pushed { IsPushed V1 (codes "dup 0") ([] ∷ [] ∷ []) ([] ∷ (command.Dup 0 ∷ []) ∷ []) true }
+    ensures not_to_the_first { IsPushed V1 (codes "dup 0") ([] ∷ [] ∷ []) ((command.Dup 0 ∷ []) ∷ [] ∷ []) true → ⊥ }
+    ensures not_another { IsPushed V1 (codes "dup 1") ([] ∷ []) ((command.Dup 0 ∷ []) ∷ []) true → ⊥ }
+    ensures not_a_hangup { IsPushed V1 (codes "hangup ip 0") ([] ∷ []) ((command.Hangup (codes "ip") 0 ∷ []) ∷ []) true
+        → ⊥ }
+    ensures none { IsPushed V1 (codes "hangup ip 0") ([] ∷ []) ([] ∷ []) false }
+    ensures none_of_version_2 { IsPushed V2 (codes "hangup ip 0") ([] ∷ []) ([] ∷ []) false → ⊥ }
+    ensures not_yet_pushed { IsPushed V1 (codes "hangup ip 0") ([] ∷ []) ((command.Dup 0 ∷ []) ∷ []) false → ⊥ }
 {}
