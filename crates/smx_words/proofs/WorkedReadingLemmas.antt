@@ -1,5 +1,5 @@
 -- Bytes that spell a number or a command, and bytes that spell none.
-use Rattle.std.proofs.Common.{◌≡◌, ◌≢◌, ℕ, List, [], ◌∷◌, refl, sym, ap, ◌∙◌, arith, rules}
+use Rattle.std.proofs.Common.{◌≡◌, ◌≢◌, ℕ, List, [], ◌∷◌, ◌++◌, refl, sym, ap, ◌∙◌, arith, rules}
 use Rattle.std.specs.Fmt.{decimal, digits}
 use Rattle.std.specs.Prelude.{codes}
 use Rattle.std.specs.Str.Parse.{digits_value}
@@ -10,11 +10,12 @@ use Rattle.smx_types.specs.declared.version.Version.TheVariants.{V1, V2}
 use Rattle.smx_words.specs.LineReading.{IsCommandLine}
 use Rattle.smx_words.specs.Spellable.{FitsCommand, FitsNumber}
 use Rattle.smx_words.specs.Spelling.{command_words, process_words}
-use Rattle.smx_words.specs.Words.{AreWords, line_of}
+use Rattle.smx_words.specs.Words.{AreWords, SPACE, line_of}
 use Rattle.smx_words.specs.declared.reading.verb.Verb.TheVariants as verb
+use Rattle.smx_words.proofs.CutLemmas.{apart, free_whole}
 use Rattle.smx_words.proofs.LawLemmas.{command_spelled}
 use Rattle.smx_words.proofs.LineLemmas.{same_words}
-use Rattle.smx_words.proofs.NumberLemmas.{own}
+use Rattle.smx_words.proofs.NumberLemmas.{number_free, own}
 use Rattle.smx_words.proofs.SameCommandLemmas.{verb_is, verb_of}
 
 -- ---- numbers
@@ -41,6 +42,27 @@ leading_zero n fits e =
 
 pub too_large : (n : ℕ) → FitsNumber n → codes "4294967296" ≢ decimal n
 too_large n fits e = let is : 4294967296 ≡ n = worth (codes "4294967296") n fits e in omega (arith, is, fits)
+
+-- ---- bytes that begin with a number
+
+pub seven_and_more_is : codes "7 x y" ≡ decimal 7 ++ SPACE ∷ codes "x y"
+unfolding digits
+seven_and_more_is = refl
+
+-- no other number begins them
+pub only_seven : (n : ℕ) (after : List ℕ) → FitsNumber n → codes "7 x y" ≡ decimal n ++ SPACE ∷ after
+    → (decimal n ≡ decimal 7) × (after ≡ codes "x y")
+only_seven n after fits e =
+    apart SPACE (decimal n) (decimal 7) after (codes "x y") (number_free n fits) (number_free 7 (omega arith))
+    (sym e ∙ seven_and_more_is)
+
+pub no_space : (n : ℕ) (after : List ℕ) → codes "7" ≢ decimal n ++ SPACE ∷ after
+no_space n after e = free_whole SPACE (codes "7") 1 (omega arith) (search (rules, arith)) (decimal n) after e
+
+pub begins_too_large : (n : ℕ) (after : List ℕ) → FitsNumber n → codes "4294967296 x" ≢ decimal n ++ SPACE ∷ after
+begins_too_large n after fits e =
+    too_large n fits (sym (apart SPACE (decimal n) (codes "4294967296") after (codes "x") (number_free n fits)
+    (search (rules, arith)) (sym e)).0)
 
 -- ---- lines of a process
 

@@ -1,7 +1,8 @@
 //! Laws of readings: any bytes have one, as each kind of line; and, by examples, what one is, and what is none.
 
+ghost use denote.Ref.{Bor};
 ghost use Rattle.std.specs.Fmt.{decimal};
-ghost use Rattle.std.specs.Prelude.{ℕ, List, [], ◌∷◌, Option, Some, None, true, false, codes};
+ghost use Rattle.std.specs.Prelude.{◌≡◌, ℕ, List, [], ◌∷◌, Option, Some, None, true, false, codes};
 ghost use Rattle.smx_types.specs.declared.command.Command.{Command};
 ghost use Rattle.smx_types.specs.declared.command.Entry.{Entry};
 ghost use Rattle.smx_types.specs.declared.driver.DriverSpec.{DriverSpec};
@@ -14,13 +15,14 @@ ghost use Rattle.smx_types.specs.declared.view.HungLine.{HungLine};
 ghost use Rattle.smx_types.specs.declared.view.LinkLine.{LinkLine};
 ghost use Rattle.smx_types.specs.declared.view.MessageLine.{MessageLine};
 ghost use Rattle.smx_types.specs.declared.view.RouteLine.{RouteLine};
-ghost use Rattle.smx_words.specs.LineReading.{IsCommandLine, IsFoundIn, IsPushed, IsReadAs, IsSpelled};
+ghost use Rattle.smx_words.specs.LineReading.{BeginsWith, IsCommandLine, IsFoundIn, IsPushed, IsReadAs, IsSpelled};
 ghost use Rattle.smx_words.specs.Spellable.{FitsDriver, FitsNumber, FitsCommand, FitsEntry, FitsNext};
 ghost use Rattle.smx_words.specs.Spellable.{FitsDescriptor, FitsLink, FitsBinding, FitsRoute, FitsMessage, FitsFull};
-ghost use Rattle.smx_words.specs.Spellable.{FitsHung, FitsCommandIn, FitsEntryIn};
+ghost use Rattle.smx_words.specs.Spellable.{FitsAlways, FitsHung, FitsCommandIn, FitsEntryIn};
 ghost use Rattle.smx_words.specs.Spelling.{driver_words, process_words, command_words, entry_words, next_words};
 ghost use Rattle.smx_words.specs.Spelling.{descriptor_words, link_words, bind_words, route_words};
 ghost use Rattle.smx_words.specs.Spelling.{message_words, full_words, hung_words};
+ghost use Rattle.smx_words.specs.WorkedWords.{a_or_a_b};
 
 /// Whatever bytes a line is, there is a right answer to whose words they are: a value that can be
 /// spelled, or none. The answer that `driver_of` and the other readers give is such a one.
@@ -55,6 +57,23 @@ pub fn what_is_found_in_bytes()
     ensures spelled { IsSpelled FitsNumber decimal (codes "7") }
     ensures not_spelled { IsSpelled FitsNumber decimal (codes "07") → ⊥ }
     ensures too_large_to_be_spelled { IsSpelled FitsNumber decimal (codes "4294967296") → ⊥ }
+{}
+
+/// Bytes begin with the word of a value that fits where a space stands behind that word, and all that stands behind the
+/// space is told; not where another such word begins them with other bytes behind it.
+pub fn what_begins_bytes()
+    ensures begins { (rest : Bor (List ℕ)) → rest.now ≡ codes "x y"
+        → BeginsWith FitsNumber decimal (codes "7 x y") (Some (7, rest)) }
+    ensures not_with_less_behind { (rest : Bor (List ℕ)) → rest.now ≡ codes "y"
+        → BeginsWith FitsNumber decimal (codes "7 x y") (Some (7, rest)) → ⊥ }
+    ensures not_another { (rest : Bor (List ℕ)) → BeginsWith FitsNumber decimal (codes "7 x y") (Some (8, rest)) → ⊥ }
+    ensures not_too_large { (rest : Bor (List ℕ))
+        → BeginsWith FitsNumber decimal (codes "4294967296 x") (Some (4294967296, rest)) → ⊥ }
+    ensures not_in_two_ways { (rest : Bor (List ℕ)) → rest.now ≡ codes "b c"
+        → BeginsWith FitsAlways a_or_a_b (codes "a b c") (Some (true, rest)) → ⊥ }
+    ensures none { BeginsWith FitsNumber decimal (codes "7") None }
+    ensures none_too_large { BeginsWith FitsNumber decimal (codes "4294967296 x") None }
+    ensures not_none { BeginsWith FitsNumber decimal (codes "7 x y") None → ⊥ }
 {}
 
 /// A line is read as the value whose words it is, with one space between two.
