@@ -80,9 +80,9 @@ pub fn a_worked_live_session()
     a_worked_session();
 }
 
-/// Drivers of a text are refused where it spells programs whose drivers can't be had, for the fault that they have; and for
-/// want of memory where they can be had. Nothing else that a run may be refused for is told of them, and nothing of what
-/// spells no programs.
+/// Drivers of a text are refused where it spells programs whose drivers can't be had, for the fault that they have; and
+/// for want of memory where they can be had. Nothing else that a run may be refused for is told of them, and nothing of
+/// what spells no programs.
 pub fn whose_drivers_are_refused()
     ensures refused { RefusesDriversOf (run.ConfigFault (config.BadSpec 0 BadMinors)) minorless_text }
     ensures not_for_want_of_memory { RefusesDriversOf run.NoMemory minorless_text → ⊥ }

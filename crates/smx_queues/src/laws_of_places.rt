@@ -16,8 +16,8 @@ pub fn numbers_of_an_example()
     ensures none { sides_of 1 0 ≡ [] }
 {}
 
-/// The places of two drivers, and what is none of theirs: rows for other drivers than these, or of other numbers than the
-/// places have; and a place that comes again, is wanting, or that no driver has.
+/// The places of two drivers, and what is none of theirs: rows for other drivers than these, or of other numbers than
+/// the places have; and a place that comes again, is wanting, or that no driver has.
 pub fn places_of_an_example()
     ensures are { ArePlaces few_and_small rows places }
     ensures not_with_a_row_more { ArePlaces few_and_small (rows ++ row 6 0 ∷ []) places → ⊥ }

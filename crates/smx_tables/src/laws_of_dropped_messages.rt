@@ -9,12 +9,12 @@ ghost use Rattle.smx_model.specs.Configuration.{QueuedMessage, same_place};
 ghost use Rattle.smx_model.specs.Worked.Common.{a_b_and_eth};
 ghost use Rattle.smx_tables.specs.DroppedMessages.{is_flushed_at, AreDropped, DropsMore, EmptiesPlaces, HasRoom};
 ghost use Rattle.smx_tables.specs.DroppedMessages.{NamesDropped};
-ghost use Rattle.smx_tables.specs.WorkedDrops.{at, first, message, second, stream, third, three, three_queued, two_left};
+ghost use Rattle.smx_tables.specs.WorkedDrops.{at, first, message, second, stream, three, three_queued, two_left};
 
 use smx_model::laws_of_queues::dropped_are_not_kept;
 
-/// Of some messages others are left, in their order, and the serials of those that are gone are told, in any order: each
-/// once, none that is left, and none that there wasn't.
+/// Of some messages others are left, in their order, and the serials of those that are gone are told, in any order:
+/// each once, none that is left, and none that there wasn't.
 pub fn what_is_dropped()
     ensures two { AreDropped three (second ∷ []) (3 ∷ 1 ∷ []) }
     ensures in_any_order { AreDropped three (second ∷ []) (1 ∷ 3 ∷ []) }
@@ -38,7 +38,7 @@ pub fn what_is_dropped_more()
     ensures not_back { DropsMore (second ∷ []) (1 ∷ []) (first ∷ second ∷ []) [] → ⊥ }
 {}
 
-/// A list of one serial that has place for three has room for those of two messages, and with place for two it has not.
+/// A list of one serial that can have three has room for those of two messages, and one that can have two has not.
 pub fn what_has_room()
     ensures room { (dropped : Vec ℕ Global) → dropped.items ≡ 3 ∷ [] → vec_capacity dropped ≡ 3
         → HasRoom dropped (first ∷ second ∷ []) }
@@ -46,8 +46,8 @@ pub fn what_has_room()
         → HasRoom dropped (first ∷ second ∷ []) → ⊥ }
 {}
 
-/// A place is emptied of its messages and of its full mark, and no other place is. The drivers stay, the list names what
-/// is gone, and it has room for what is left.
+/// A place is emptied of its messages and of its full mark, and no other place is. The drivers stay, the list names
+/// what is gone, and it has room for what is left.
 pub fn what_is_emptied()
     ensures emptied { (before after : Vec ℕ Global) → before.items ≡ [] → after.items ≡ 3 ∷ []
         → vec_capacity after ≡ 3
@@ -74,8 +74,8 @@ pub fn what_is_emptied()
         → EmptiesPlaces (λ p. same_place p (at 0 side.Write)) three_queued before two_left after → ⊥ }
 {}
 
-/// A reply names what was dropped before and since, in rising order, where no two messages had one serial; of messages of
-/// which two had one it says nothing.
+/// A reply names what was dropped before and since, in rising order, where no two messages had one serial; of messages
+/// of which two had one it says nothing.
 pub fn what_a_reply_names()
     ensures both { NamesDropped (first ∷ second ∷ []) (3 ∷ []) (second ∷ []) (Done (1 ∷ 3 ∷ [])) }
     ensures none { NamesDropped three [] three (Done []) }

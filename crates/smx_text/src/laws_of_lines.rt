@@ -1,5 +1,5 @@
-//! Laws of lines, each the contract of a function that does nothing: what is answered to one that comes behind others, by
-//! examples, and what is not.
+//! Laws of lines, each the contract of a function that does nothing: what is answered to one that comes behind others,
+//! by examples, and what is not.
 
 ghost use Rattle.std.specs.Prelude.{◌≡◌, ℕ, [], ◌∷◌, ◌++◌, List, Ok, Err, Some, None, true, false, codes};
 ghost use Rattle.smx_types.specs.ProgramLists.{ProgramLists};
@@ -13,8 +13,8 @@ ghost use Rattle.smx_text.specs.TranscriptText.{transcript_grammar};
 ghost use Rattle.smx_text.specs.WorkedLines.{dup, grammar, idle, idle_lines, process, refused, taken};
 ghost use Rattle.smx_text.specs.declared.text_fault.Cause.TheVariants as cause;
 
-/// A line is refused for its form where it may not follow, as one too many where it may but as many are there as may be,
-/// and for want of memory where some programs go on with it. No line is refused for what is wrong with a text.
+/// A line is refused for its form where it may not follow, as one too many where it may but as many are there as may
+/// be, and for want of memory where some programs go on with it. No line is refused for what is wrong with a text.
 pub fn lines_that_are_refused()
     ensures form { RefusesLine grammar [] dup cause.Form }
     ensures not_for_its_form { RefusesLine grammar (idle_lines 1) dup cause.Form → ⊥ }
@@ -40,8 +40,8 @@ pub fn answers_to_a_line()
         → ⊥ }
 {}
 
-/// The bytes of a line that is taken spell it; those that are refused spell no line that may follow, or one too many, or
-/// one for which memory is wanting.
+/// The bytes of a line that is taken spell it; those that are refused spell no line that may follow, or one too many,
+/// or one for which memory is wanting.
 pub fn answers_to_a_text()
     ensures taken { AnswersText grammar (idle_lines 1) (codes "dup 0") (idle_lines 1 ++ dup ∷ []) taken }
     ensures not_another { AnswersText grammar (idle_lines 1) (codes "dup 1") (idle_lines 1 ++ dup ∷ []) taken → ⊥ }
@@ -62,7 +62,7 @@ pub fn answers_to_a_text()
         → AnswersText grammar lines text longer (refused cause.Header) → ⊥ }
 {}
 
-/// At the end lines are all those of programs that are allowed, and what is made of them is; or a text may not end there.
+/// At the end lines are all those of programs that are allowed, of which this is made; or a text may not end there.
 pub fn answers_at_the_end()
     ensures made { EndsAs grammar (λ v w. w ≡ v) (idle_lines 1) (Some (idle 1)) }
     ensures not_of_fewer_lines { EndsAs grammar (λ v w. w ≡ v) [] (Some (idle 1)) → ⊥ }
@@ -73,8 +73,8 @@ pub fn answers_at_the_end()
     ensures may_not_end { EndsAs (transcript_grammar V1) {W = Transcript} (λ v w. w ≡ v) [] None }
 {}
 
-/// At the last line, which has a number, that is so where no byte follows it. A byte that does is told of as the first of
-/// the next line, where lines are all those of some programs; and a text that may not end there has a wrong last line.
+/// At the last line, which has a number, that is so where no byte follows. One that does is told of as the next line's,
+/// where lines are all those of programs that are allowed; and where a text may not end, its last line is wrong.
 pub fn answers_at_the_last_line()
     ensures made { EndsText grammar (λ v w. w ≡ v) (idle_lines 1) [] 3 (Ok (idle 1)) }
     ensures not_before_a_byte { EndsText grammar (λ v w. w ≡ v) (idle_lines 1) (10 ∷ []) 3 (Ok (idle 1)) → ⊥ }
@@ -98,8 +98,8 @@ pub fn answers_at_the_last_line()
         (Err (record { line = 3; cause = cause.Form })) → ⊥ }
 {}
 
-/// A command whose words a line is comes to the end of the last program, where the version can tell it; and of a line that
-/// is no such command's nothing comes.
+/// A command whose words a line is comes to the end of the last program, where the version can tell it; and of a line
+/// that is no such command's nothing comes.
 pub fn what_is_pushed_to_programs()
     ensures pushed { IsPushed V1 (codes "dup 0") ([] ∷ [] ∷ []) ([] ∷ (command.Dup 0 ∷ []) ∷ []) true }
     ensures not_to_the_first { IsPushed V1 (codes "dup 0") ([] ∷ [] ∷ []) ((command.Dup 0 ∷ []) ∷ [] ∷ []) true → ⊥ }

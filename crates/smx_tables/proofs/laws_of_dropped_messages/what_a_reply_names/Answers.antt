@@ -19,7 +19,8 @@ returns-clause-both c = λ old differ h.
 
 pub returns-clause-none : goal.returns-clause-none
 returns-clause-none c = λ old differ h.
-    ap Done (left_in_order old three [] [] c.dropped_are_not_kept.ensures differ h (IsPermutation-refl []) (grind arith))
+    ap Done (left_in_order old three [] [] c.dropped_are_not_kept.ensures differ h (IsPermutation-refl [])
+    (grind arith))
 
 pub returns-clause-not_falling : goal.returns-clause-not_falling
 returns-clause-not_falling c h = absurd (cc (h three apart third_dropped))

@@ -18,5 +18,6 @@ returns-clause-emptied c = λ before after none one room. record {
 
 pub returns-clause-not_untold : goal.returns-clause-not_untold
 returns-clause-not_untold c = λ before after none untold h.
-    let e = as_often three (first ∷ second ∷ []) after.items (h.dropped three (none_dropped three before.items none)) 3 in
+    let e = as_often three (first ∷ second ∷ []) after.items
+    (h.dropped three (none_dropped three before.items none)) 3 in
     let f : times 3 after.items ≡ 0 = ap (λ (ns : List ℕ). times 3 ns) untold in absurd (omega (arith, e, f))

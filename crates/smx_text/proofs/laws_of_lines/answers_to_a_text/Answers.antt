@@ -31,7 +31,8 @@ returns-clause-not_for_its_form c = λ longer h. h dup dup_fits in_place dup_is
 
 pub returns-clause-many : goal.returns-clause-many
 returns-clause-many c = λ longer.
-    refused_line V1 (idle_lines 64) (process 64) (codes "process 64") (omega arith) process_64_is cause.Many one_too_many
+    refused_line V1 (idle_lines 64) (process 64) (codes "process 64") (omega arith) process_64_is cause.Many
+    one_too_many
 
 pub returns-clause-not_many : goal.returns-clause-not_many
 returns-clause-not_many c = λ longer (k, is, fits, may, full).
