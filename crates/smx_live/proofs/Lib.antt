@@ -7,3 +7,4 @@ pub mod LiveTextLemmas
 pub mod TableLemmas
 pub mod OneOutputLemmas
 pub mod WorkedLiveLemmas
+pub mod RefusedDriverLemmas

@@ -307,8 +307,8 @@ output_is read ended output o =
       closing c = view_lines (view o.s.drivers c) ++ codes "end\n"
 
 -- the text spells one value
-value_once : HasOneReading → (text : List ℕ) (v w : Version) (x y : ProgramLists) → Spells (programs_grammar v) text x
-    → Spells (programs_grammar w) text y → x ≡ y
+pub value_once : HasOneReading → (text : List ℕ) (v w : Version) (x y : ProgramLists)
+    → Spells (programs_grammar v) text x → Spells (programs_grammar w) text y → x ≡ y
 value_once reading text v w x y h k =
     let one : Result ProgramLists TextFault = Ok x in
     let other : Result ProgramLists TextFault = Ok y in

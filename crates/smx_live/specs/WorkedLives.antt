@@ -33,6 +33,10 @@ worked_answers =
 abbrev pub worked_output : List ℕ
 worked_output = worked_answers ++ codes "config\nnext 1 1\nfd 3 0 eth 0\nend\n"
 
+-- programs whose one driver has no minor, so that it can't be had
+abbrev pub minorless_text : List ℕ
+minorless_text = codes "programs 2\ndriver eth leaf 0 8 3 16\nend\n"
+
 -- answers
 pub entry_told : answer_text (Entered (3 does OpenClone eth gets Fd 0 0)) ≡ codes "3 clone eth = fd 0 0\n"
 unfolding digits

@@ -3,7 +3,9 @@
 ghost use Rattle.std.specs.List.{AllByRecursion};
 ghost use Rattle.std.specs.Prelude.{◌≡◌, ◌≢◌, ℕ, ◌≤◌, Bool, false, List, [], length, Err, codes};
 ghost use Rattle.smx_types.specs.declared.command.Entry.{Entry};
+ghost use Rattle.smx_types.specs.declared.driver.SpecFault.TheVariants.{BadMinors};
 ghost use Rattle.smx_types.specs.declared.version.Version.TheVariants.{V2};
+ghost use Rattle.smx_config.specs.declared.config_fault.ConfigFault.TheVariants as config;
 ghost use Rattle.smx_run.specs.declared.run_fault.RunFault.{RunFault as AnyFault};
 ghost use Rattle.smx_run.specs.declared.run_fault.RunFault.TheVariants as run;
 ghost use Rattle.smx_text.specs.Grammar.{ReadsAny};
@@ -14,9 +16,9 @@ ghost use Rattle.smx_session.specs.Sessions.{State};
 ghost use Rattle.smx_session.specs.WorkedSessions.{drivers};
 ghost use Rattle.smx_filters.specs.declared.input.TheConstants.{MAX_INPUT};
 ghost use Rattle.smx_live.specs.LiveText.{HasComeSoFar, IsLegalTranscript, IsLive, IsOver, RefusesDriversOf};
-ghost use Rattle.smx_live.specs.Tables.{HasTableOf, IsTable};
+ghost use Rattle.smx_live.specs.Tables.{HasTableOf, IsTable, table_text};
 ghost use Rattle.smx_live.specs.Turns.{Entered, HadMemory, IsAnswer, NotDone};
-ghost use Rattle.smx_live.specs.WorkedLives.{worked_input, worked_output, worked_table};
+ghost use Rattle.smx_live.specs.WorkedLives.{minorless_text, worked_input, worked_output, worked_table};
 ghost use Rattle.smx_live.specs.declared.wrong.Wrong.TheVariants.{NoCommand, Full};
 
 use smx_config::laws_of_drivers::drivers_have_one_fault;
@@ -24,6 +26,7 @@ use smx_model::laws::one_entry_more;
 use smx_model::laws_of_hangups::without_a_hangup_none_is_told;
 use smx_session::laws_of_sessions::a_worked_session;
 use smx_text::laws::one_text_has_one_reading;
+use smx_text::worked_texts::wrong_programs;
 use smx_words::laws::one_value_each;
 
 /// What was written of a session that is over, but for the answers that are no entries, is the transcript of a legal
@@ -75,4 +78,20 @@ pub fn a_worked_live_session()
     ensures not_performed { (e : Entry) → IsAnswer V2 drivers [] (codes "x") (Entered e) → ⊥ }
 {
     a_worked_session();
+}
+
+/// Drivers of a text are refused where it spells programs whose drivers can't be had, for the fault that they have; and
+/// for want of memory where they can be had. Nothing else that a run may be refused for is told of them, and nothing of
+/// what spells no programs.
+pub fn whose_drivers_are_refused()
+    ensures refused { RefusesDriversOf (run.ConfigFault (config.BadSpec 0 BadMinors)) minorless_text }
+    ensures not_for_want_of_memory { RefusesDriversOf run.NoMemory minorless_text → ⊥ }
+    ensures no_memory { RefusesDriversOf run.NoMemory (table_text worked_table) }
+    ensures not_refused { RefusesDriversOf (run.ConfigFault (config.BadSpec 0 BadMinors)) (table_text worked_table)
+        → ⊥ }
+    ensures not_for_a_full_history { (text : List ℕ) → RefusesDriversOf run.HistoryFull text → ⊥ }
+    ensures not_of_what_is_cut { (fault : AnyFault) → RefusesDriversOf fault (codes "programs 2\n") → ⊥ }
+{
+    one_text_has_one_reading();
+    wrong_programs();
 }

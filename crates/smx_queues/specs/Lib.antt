@@ -2,6 +2,7 @@ pub mod QueueTable
 pub mod Chains
 pub mod Slots
 pub mod PlaceLists
+pub mod WorkedPlaces
 pub mod FlowTables
 pub mod QueuedMessages
 pub mod PlaceMarks

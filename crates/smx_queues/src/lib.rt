@@ -6,6 +6,7 @@ mod chain;
 mod first_messages;
 mod flow_table;
 mod full_places;
+pub mod laws_of_places;
 mod marked_places;
 mod node;
 mod place_marks;

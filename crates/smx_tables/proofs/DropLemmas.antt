@@ -167,7 +167,8 @@ times_sum k [] = refl
 times_sum k (n ∷ ns) =
     ap (λ (m : ℕ). cond (eqb n k) 1 0 + m) (times_sum k ns) ∙ sym (sum_by-cons (λ (m : ℕ). cond (eqb m k) 1 0) n ns)
 
-times_permuted : (k : ℕ) (ns ms : List ℕ) → IsPermutation ns ms → times k ms ≡ times k ns
+-- a number is as often in another order
+pub times_permuted : (k : ℕ) (ns ms : List ℕ) → IsPermutation ns ms → times k ms ≡ times k ns
 times_permuted k ns ms h =
     times_sum k ms ∙ (sum_by-IsPermutation (λ m. cond (eqb m k) 1 0) ns ms h ∙ sym (times_sum k ns))
 

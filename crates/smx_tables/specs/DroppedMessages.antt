@@ -19,8 +19,7 @@ pub record AreDropped (old new : List QueuedMessage) (dropped : List ℕ) : Type
   pub left : new ≡ filter keep old
   pub gone : IsPermutation (serials (filter (λ h. not (keep h)) old)) dropped
 
--- whatever messages there were at first: where these were dropped of them and a flow was left, then more are dropped of
--- them now and less is left
+-- of whichever messages these were dropped and this flow was left, now more are dropped and less is left
 abbrev pub DropsMore : List QueuedMessage → List ℕ → List QueuedMessage → List ℕ → Type 0
 DropsMore flow dropped left more = (old : List QueuedMessage) → AreDropped old flow dropped → AreDropped old left more
 

@@ -5,4 +5,5 @@ pub mod TouchedStreams
 pub mod KeptHolds
 pub mod SweepReserves
 pub mod DroppedMessages
+pub mod WorkedDrops
 pub mod ShownAddresses

@@ -31,3 +31,4 @@ pub mod WrongCommandLemmas
 pub mod WrongProgramLemmas
 pub mod WrongTranscriptLemmas
 pub mod WrongCountLemmas
+pub mod WorkedLineLemmas

@@ -12,3 +12,4 @@ pub mod Growing
 pub mod TakenPrograms
 pub mod WorkedTexts
 pub mod WorkedFaults
+pub mod WorkedLines

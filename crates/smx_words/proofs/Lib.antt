@@ -18,3 +18,4 @@ pub mod DecidedLemmas
 pub mod DecidedWordLemmas
 pub mod DecidedLineLemmas
 pub mod DecidedCommandLemmas
+pub mod WorkedReadingLemmas

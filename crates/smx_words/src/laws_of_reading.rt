@@ -1,10 +1,13 @@
-//! Laws of readings: any bytes have one, as each kind of line.
+//! Laws of readings: any bytes have one, as each kind of line; and, by examples, what one is, and what is none.
 
-ghost use Rattle.std.specs.Prelude.{ℕ, List, Option};
+ghost use denote.Ref.{Bor};
+ghost use Rattle.std.specs.Fmt.{decimal};
+ghost use Rattle.std.specs.Prelude.{◌≡◌, ℕ, List, [], ◌∷◌, Option, Some, None, true, false, codes};
 ghost use Rattle.smx_types.specs.declared.command.Command.{Command};
 ghost use Rattle.smx_types.specs.declared.command.Entry.{Entry};
 ghost use Rattle.smx_types.specs.declared.driver.DriverSpec.{DriverSpec};
 ghost use Rattle.smx_types.specs.declared.version.Version.{Version};
+ghost use Rattle.smx_types.specs.declared.version.Version.TheVariants.{V1, V2};
 ghost use Rattle.smx_types.specs.declared.view.BindingLine.{BindingLine};
 ghost use Rattle.smx_types.specs.declared.view.DescriptorLine.{DescriptorLine};
 ghost use Rattle.smx_types.specs.declared.view.FullLine.{FullLine};
@@ -12,13 +15,14 @@ ghost use Rattle.smx_types.specs.declared.view.HungLine.{HungLine};
 ghost use Rattle.smx_types.specs.declared.view.LinkLine.{LinkLine};
 ghost use Rattle.smx_types.specs.declared.view.MessageLine.{MessageLine};
 ghost use Rattle.smx_types.specs.declared.view.RouteLine.{RouteLine};
-ghost use Rattle.smx_words.specs.LineReading.{IsReadAs};
+ghost use Rattle.smx_words.specs.LineReading.{BeginsWith, IsCommandLine, IsFoundIn, IsPushed, IsReadAs, IsSpelled};
 ghost use Rattle.smx_words.specs.Spellable.{FitsDriver, FitsNumber, FitsCommand, FitsEntry, FitsNext};
 ghost use Rattle.smx_words.specs.Spellable.{FitsDescriptor, FitsLink, FitsBinding, FitsRoute, FitsMessage, FitsFull};
-ghost use Rattle.smx_words.specs.Spellable.{FitsHung, FitsCommandIn, FitsEntryIn};
+ghost use Rattle.smx_words.specs.Spellable.{FitsAlways, FitsHung, FitsCommandIn, FitsEntryIn};
 ghost use Rattle.smx_words.specs.Spelling.{driver_words, process_words, command_words, entry_words, next_words};
 ghost use Rattle.smx_words.specs.Spelling.{descriptor_words, link_words, bind_words, route_words};
 ghost use Rattle.smx_words.specs.Spelling.{message_words, full_words, hung_words};
+ghost use Rattle.smx_words.specs.WorkedWords.{a_or_a_b};
 
 /// Whatever bytes a line is, there is a right answer to whose words they are: a value that can be
 /// spelled, or none. The answer that `driver_of` and the other readers give is such a one.
@@ -40,4 +44,66 @@ pub fn each_line_has_a_reading()
     ensures message { (line : List ℕ) → (o : Option MessageLine) × IsReadAs FitsMessage message_words line o }
     ensures full { (line : List ℕ) → (o : Option FullLine) × IsReadAs FitsFull full_words line o }
     ensures hung { (line : List ℕ) → (o : Option HungLine) × IsReadAs FitsHung hung_words line o }
+{}
+
+/// What is found in bytes fits and is spelled by them; nothing is found where they spell no value that fits.
+pub fn what_is_found_in_bytes()
+    ensures found { IsFoundIn FitsNumber decimal (codes "7") (Some 7) }
+    ensures not_another { IsFoundIn FitsNumber decimal (codes "7") (Some 8) → ⊥ }
+    ensures not_too_large { IsFoundIn FitsNumber decimal (codes "4294967296") (Some 4294967296) → ⊥ }
+    ensures none { IsFoundIn FitsNumber decimal (codes "07") None }
+    ensures none_too_large { IsFoundIn FitsNumber decimal (codes "4294967296") None }
+    ensures not_none { IsFoundIn FitsNumber decimal (codes "7") None → ⊥ }
+    ensures spelled { IsSpelled FitsNumber decimal (codes "7") }
+    ensures not_spelled { IsSpelled FitsNumber decimal (codes "07") → ⊥ }
+    ensures too_large_to_be_spelled { IsSpelled FitsNumber decimal (codes "4294967296") → ⊥ }
+{}
+
+/// Bytes begin with the word of a value that fits where a space stands behind that word, and all that stands behind the
+/// space is told; not where another such word begins them with other bytes behind it.
+pub fn what_begins_bytes()
+    ensures begins { (rest : Bor (List ℕ)) → rest.now ≡ codes "x y"
+        → BeginsWith FitsNumber decimal (codes "7 x y") (Some (7, rest)) }
+    ensures not_with_less_behind { (rest : Bor (List ℕ)) → rest.now ≡ codes "y"
+        → BeginsWith FitsNumber decimal (codes "7 x y") (Some (7, rest)) → ⊥ }
+    ensures not_another { (rest : Bor (List ℕ)) → BeginsWith FitsNumber decimal (codes "7 x y") (Some (8, rest)) → ⊥ }
+    ensures not_too_large { (rest : Bor (List ℕ))
+        → BeginsWith FitsNumber decimal (codes "4294967296 x") (Some (4294967296, rest)) → ⊥ }
+    ensures not_in_two_ways { (rest : Bor (List ℕ)) → rest.now ≡ codes "b c"
+        → BeginsWith FitsAlways a_or_a_b (codes "a b c") (Some (true, rest)) → ⊥ }
+    ensures none { BeginsWith FitsNumber decimal (codes "7") None }
+    ensures none_too_large { BeginsWith FitsNumber decimal (codes "4294967296 x") None }
+    ensures not_none { BeginsWith FitsNumber decimal (codes "7 x y") None → ⊥ }
+{}
+
+/// A line is read as the value whose words it is, with one space between two.
+pub fn what_a_line_is_read_as()
+    ensures read { IsReadAs FitsNumber process_words (codes "process 7") (Some 7) }
+    ensures not_without_its_first_word { IsReadAs FitsNumber process_words (codes "7") (Some 7) → ⊥ }
+    ensures not_with_two_spaces { IsReadAs FitsNumber process_words (codes "process  7") (Some 7) → ⊥ }
+    ensures not_none { IsReadAs FitsNumber process_words (codes "process 7") None → ⊥ }
+    ensures none { IsReadAs FitsNumber process_words (codes "process 07") None }
+{}
+
+/// A line is a command's where it is the words of one that can be spelled, and that its version can tell.
+pub fn which_lines_are_commands()
+    ensures dup { IsCommandLine V1 (codes "dup 0") }
+    ensures hangup { IsCommandLine V2 (codes "hangup ip 0") }
+    ensures not_of_a_hangup { IsCommandLine V1 (codes "hangup ip 0") → ⊥ }
+    ensures not_of_a_large_number { IsCommandLine V2 (codes "dup 4294967296") → ⊥ }
+    ensures not_of_a_process { IsCommandLine V2 (codes "process 0") → ⊥ }
+{}
+
+/// A value that is pushed fits, is the one whose words the line is, and stands behind the others; where the line is the
+/// words of none that fits, nothing is pushed.
+pub fn what_is_pushed()
+    ensures pushed { IsPushed FitsNumber process_words (codes "process 7") (3 ∷ []) (3 ∷ 7 ∷ []) true }
+    ensures not_in_front { IsPushed FitsNumber process_words (codes "process 7") (3 ∷ []) (7 ∷ 3 ∷ []) true → ⊥ }
+    ensures not_another { IsPushed FitsNumber process_words (codes "process 8") (3 ∷ []) (3 ∷ 7 ∷ []) true → ⊥ }
+    ensures not_too_large { IsPushed FitsNumber process_words (codes "process 4294967296") []
+        (4294967296 ∷ []) true → ⊥ }
+    ensures none { IsPushed FitsNumber process_words (codes "process 07") (3 ∷ []) (3 ∷ []) false }
+    ensures none_too_large { IsPushed FitsNumber process_words (codes "process 4294967296") (3 ∷ []) (3 ∷ []) false }
+    ensures not_yet_pushed { IsPushed FitsNumber process_words (codes "process 07") (3 ∷ []) (3 ∷ 7 ∷ []) false → ⊥ }
+    ensures not_none { IsPushed FitsNumber process_words (codes "process 7") (3 ∷ []) (3 ∷ []) false → ⊥ }
 {}

@@ -1,0 +1,93 @@
+-- What is answered to a line behind those of idle programs.
+use Rattle.std.proofs.Common.{◌≡◌, List, [], ◌∷◌, ◌++◌, refl, sym, ap, subst, ◌∙◌, arith, rules}
+use Rattle.std.proofs.Common.{append_assoc}
+use Rattle.std.specs.Prelude.{codes}
+use Rattle.std.specs.Fmt.{digits}
+use Rattle.std.specs.List.{AllByRecursion}
+use Rattle.std.proofs.lemmas.List.{length-replicate}
+use Rattle.smx_types.specs.declared.command.Command.{Command}
+use Rattle.smx_types.specs.declared.command.Command.TheVariants as command
+use Rattle.smx_words.specs.Spellable.{FitsCommandIn}
+use Rattle.smx_words.specs.Spelling.{command_words}
+use Rattle.smx_words.specs.Words.{line_of}
+use Rattle.smx_text.specs.Grammar.{Grammar, GoesOn, IsBegun, IsFull, MayFollow, line_text}
+use Rattle.smx_text.specs.ProgramLines.{Line}
+use Rattle.smx_text.specs.ProgramsText.{FitsLine}
+use Rattle.smx_text.specs.Reading.{RefusesLine}
+use Rattle.smx_text.specs.WorkedLines.{dup, grammar, idle, idle_lines, process}
+use Rattle.smx_text.specs.declared.text_fault.Cause.TheVariants as cause
+use Rattle.smx_types.specs.declared.version.Version.TheVariants.{V1, V2}
+use Rattle.smx_text.proofs.ProgramsFollowLemmas.{stand_may}
+use Rattle.smx_text.proofs.ProgramsLemmas.{longer_begun, misplaced, too_many}
+
+module _ {V K : Type 0} (g : Grammar V K) (lines : List K) (k : K) where
+  behind : (v : V) (more : List K) → g.body v ≡ (lines ++ k ∷ []) ++ more → GoesOn g v lines k
+  behind v more is = (
+    more ++ g.end ∷ [],
+    ap (λ (ks : List K). ks ++ g.end ∷ []) is ∙ append_assoc (lines ++ k ∷ []) more (g.end ∷ [])
+        ∙ append_assoc lines (k ∷ []) (more ++ g.end ∷ []),
+  )
+
+  -- where some value goes on with a line, it may follow
+  pub goes_on : IsBegun g (lines ++ k ∷ []) → MayFollow g lines k
+  goes_on (v, more, allowed, is) = (v, behind v more is)
+
+  -- and it is none too many
+  pub none_too_many : IsBegun g (lines ++ k ∷ []) → IsFull g lines k → ⊥
+  none_too_many (v, more, allowed, is) full = full v allowed (behind v more is)
+
+-- no command comes before the first process
+pub out_of_place : RefusesLine grammar [] dup cause.Form
+out_of_place = misplaced V1 (idle 0) dup (λ e. omega (arith, e))
+
+-- behind a process it may come
+pub in_place : MayFollow grammar (idle_lines 1) dup
+in_place = stand_may V1 (idle 1) dup (omega arith)
+
+pub one_begun : IsBegun grammar (idle_lines 1)
+one_begun = (idle 1, [], search (rules, arith), refl)
+
+-- some programs go on with it
+pub dup_begun : IsBegun grammar (idle_lines 1 ++ dup ∷ [])
+dup_begun = longer_begun V1 (idle 1) dup refl one_begun (omega arith) (omega arith) (search (rules, arith))
+
+-- and with a second process
+pub two_begun : IsBegun grammar (idle_lines 1 ++ process 1 ∷ [])
+two_begun = (idle 2, [], search (rules, arith), refl)
+
+-- a 65th process may follow, and is one too many
+pub one_too_many : RefusesLine grammar (idle_lines 64) (process 64) cause.Many
+one_too_many =
+    let long = length-replicate {A = List Command} 64 [] in
+    too_many V1 (idle 64) (process 64) (sym long) (omega (arith, long))
+
+-- ---- their texts
+
+pub dup_is : codes "dup 0" ≡ line_text grammar dup
+unfolding digits
+dup_is = refl
+
+pub process_1_is : codes "process 1" ≡ line_text grammar (process 1)
+unfolding digits
+process_1_is = refl
+
+pub process_64_is : codes "process 64" ≡ line_text grammar (process 64)
+unfolding digits
+process_64_is = refl
+
+pub dup_fits : FitsLine V1 dup
+dup_fits = search (rules, arith)
+
+-- of a line with which some programs begin, all that it says can be spelled
+pub begun_fits : (k : Line) → IsBegun grammar (k ∷ []) → FitsLine V1 k
+begun_fits k (v, more, allowed, is) = (subst (AllByRecursion (FitsLine V1)) is allowed.fits).0
+
+abbrev pub hangup : Command
+hangup = command.Hangup (codes "ip") 0
+
+pub hangup_is : codes "hangup ip 0" ≡ line_of (command_words hangup)
+unfolding digits
+hangup_is = refl
+
+pub hangup_fits : FitsCommandIn V2 hangup
+hangup_fits = search (rules, arith)

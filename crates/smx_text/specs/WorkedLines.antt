@@ -1,0 +1,35 @@
+-- Lines of programs, for what is answered to one that comes behind others.
+use Rattle.std.specs.Prelude.{ℕ, [], List, replicate, Result, Ok, Err}
+use Rattle.smx_types.specs.ProgramLists.{ProgramLists}
+use Rattle.smx_types.specs.declared.command.Command.TheVariants as command
+use Rattle.smx_types.specs.declared.version.Version.TheVariants.{V1}
+use Rattle.smx_text.specs.declared.text_fault.Cause.{Cause}
+use Rattle.smx_text.specs.Grammar.{Grammar}
+use Rattle.smx_text.specs.ProgramLines.{Line}
+use Rattle.smx_text.specs.ProgramLines as line
+use Rattle.smx_text.specs.ProgramsText.{body, programs_grammar}
+
+-- programs of version 1
+abbrev pub grammar : Grammar ProgramLists Line
+grammar = programs_grammar V1
+
+-- so many of them, none with a command; and their lines
+abbrev pub idle : ℕ → ProgramLists
+idle n = record { version = V1; drivers = []; programs = replicate n [] }
+
+abbrev pub idle_lines : ℕ → List Line
+idle_lines n = body (idle n)
+
+-- the start of a program, and a command
+abbrev pub process : ℕ → Line
+process n = line.Process n
+
+abbrev pub dup : Line
+dup = line.Command (command.Dup 0)
+
+-- what is answered to a line that is taken, and to one that is refused
+abbrev pub taken : Result (Unit {0}) Cause
+taken = Ok tt
+
+abbrev pub refused : Cause → Result (Unit {0}) Cause
+refused why = Err why

@@ -1,0 +1,100 @@
+-- Bytes that spell a number or a command, and bytes that spell none.
+use Rattle.std.proofs.Common.{◌≡◌, ◌≢◌, ℕ, List, [], ◌∷◌, ◌++◌, refl, sym, ap, ◌∙◌, arith, rules}
+use Rattle.std.specs.Fmt.{decimal, digits}
+use Rattle.std.specs.Prelude.{codes}
+use Rattle.std.specs.Str.Parse.{digits_value}
+use Rattle.std.proofs.lemmas.Fmt.{decimal_digit, digits_value-decimal}
+use Rattle.smx_types.specs.declared.command.Command.{Command}
+use Rattle.smx_types.specs.declared.command.Command.TheVariants as command
+use Rattle.smx_types.specs.declared.version.Version.TheVariants.{V1, V2}
+use Rattle.smx_words.specs.LineReading.{IsCommandLine}
+use Rattle.smx_words.specs.Spellable.{FitsCommand, FitsNumber}
+use Rattle.smx_words.specs.Spelling.{command_words, process_words}
+use Rattle.smx_words.specs.Words.{AreWords, SPACE, line_of}
+use Rattle.smx_words.specs.declared.reading.verb.Verb.TheVariants as verb
+use Rattle.smx_words.proofs.CutLemmas.{apart, free_whole}
+use Rattle.smx_words.proofs.LawLemmas.{command_spelled}
+use Rattle.smx_words.proofs.LineLemmas.{same_words}
+use Rattle.smx_words.proofs.NumberLemmas.{number_free, own}
+use Rattle.smx_words.proofs.SameCommandLemmas.{verb_is, verb_of}
+
+-- ---- numbers
+
+pub seven_is : codes "7" ≡ decimal 7
+unfolding digits
+seven_is = refl
+
+-- what a number's word is worth is the number
+worth : (w : List ℕ) (n : ℕ) → FitsNumber n → w ≡ decimal n → digits_value 10 w ≡ n
+worth w n fits e = ap (digits_value 10) e ∙ digits_value-decimal own n (omega (arith, fits))
+
+pub not_eight : codes "7" ≢ decimal 8
+not_eight e = let is : 7 ≡ 8 = worth (codes "7") 8 (omega arith) e in omega (arith, is)
+
+pub not_seven : codes "8" ≢ decimal 7
+not_seven e = let is : 8 ≡ 7 = worth (codes "8") 7 (omega arith) e in omega (arith, is)
+
+pub leading_zero : (n : ℕ) → FitsNumber n → codes "07" ≢ decimal n
+leading_zero n fits e =
+    let value : 7 ≡ n = worth (codes "07") n fits e in
+    let one = e ∙ ap decimal (sym value) ∙ decimal_digit 7 (omega arith) in
+    absurd (cc one)
+
+pub too_large : (n : ℕ) → FitsNumber n → codes "4294967296" ≢ decimal n
+too_large n fits e = let is : 4294967296 ≡ n = worth (codes "4294967296") n fits e in omega (arith, is, fits)
+
+-- ---- bytes that begin with a number
+
+pub seven_and_more_is : codes "7 x y" ≡ decimal 7 ++ SPACE ∷ codes "x y"
+unfolding digits
+seven_and_more_is = refl
+
+-- no other number begins them
+pub only_seven : (n : ℕ) (after : List ℕ) → FitsNumber n → codes "7 x y" ≡ decimal n ++ SPACE ∷ after
+    → (decimal n ≡ decimal 7) × (after ≡ codes "x y")
+only_seven n after fits e =
+    apart SPACE (decimal n) (decimal 7) after (codes "x y") (number_free n fits) (number_free 7 (omega arith))
+    (sym e ∙ seven_and_more_is)
+
+pub no_space : (n : ℕ) (after : List ℕ) → codes "7" ≢ decimal n ++ SPACE ∷ after
+no_space n after e = free_whole SPACE (codes "7") 1 (omega arith) (search (rules, arith)) (decimal n) after e
+
+pub begins_too_large : (n : ℕ) (after : List ℕ) → FitsNumber n → codes "4294967296 x" ≢ decimal n ++ SPACE ∷ after
+begins_too_large n after fits e =
+    too_large n fits (sym (apart SPACE (decimal n) (codes "4294967296") after (codes "x") (number_free n fits)
+    (search (rules, arith)) (sym e)).0)
+
+-- ---- lines of a process
+
+-- the word behind the first one
+pub number_of : (w : List ℕ) (n : ℕ) → line_of (codes "process" ∷ w ∷ []) ≡ line_of (process_words n) → w ≡ decimal n
+number_of w n e = cc e
+
+pub process_is : codes "process 7" ≡ line_of (process_words 7)
+unfolding digits
+process_is = refl
+
+-- ---- lines of a command
+
+told : (ws : List (List ℕ)) (c : Command) → AreWords ws → FitsCommand c → line_of ws ≡ line_of (command_words c)
+    → ws ≡ command_words c
+told ws c are fits e = same_words ws (command_words c) are.0 (command_spelled c fits).0 e
+
+pub dup_line : IsCommandLine V1 (codes "dup 0")
+unfolding digits
+dup_line = (command.Dup 0, search (rules, arith), refl)
+
+pub hangup_line : IsCommandLine V2 (codes "hangup ip 0")
+unfolding digits
+hangup_line = (command.Hangup (codes "ip") 0, search (rules, arith), refl)
+
+large_dup : (c : Command) → FitsCommand c → verb_of c ≡ verb.Dup
+    → codes "dup" ∷ codes "4294967296" ∷ [] ≢ command_words c
+large_dup (command.Dup n) fits v e = too_large n fits (cc e)
+large_dup c fits v e = absurd (cc v)
+
+-- a number of 33 bits is none
+pub no_large_dup : IsCommandLine V2 (codes "dup 4294967296") → ⊥
+no_large_dup (c, fits, e) =
+    let same = told (codes "dup" ∷ codes "4294967296" ∷ []) c (search (rules, arith)) fits.0 e in
+    large_dup c fits.0 (verb_is c verb.Dup (codes "4294967296" ∷ []) same) same
