@@ -4,6 +4,7 @@ use Rattle.smx_types.specs.declared.stream.Place.{Place}
 use Rattle.smx_types.specs.declared.stream.Side.{Side}
 use Rattle.smx_types.specs.declared.stream.Side.TheVariants as side
 use Rattle.smx_queues.specs.declared.places.DriverRow.{DriverRow}
+use Rattle.smx_queues.specs.declared.span.Span.{Span}
 
 -- a side of a stream
 abbrev pub place : ℕ → ℕ → Side → Place
@@ -12,6 +13,10 @@ place driver minor s = record { stream = record { driver = driver; minor = minor
 -- the number of a driver's first place, and how many minors it has
 abbrev pub row : ℕ → ℕ → DriverRow
 row first minors = record { first = first; minors = minors }
+
+-- the numbers from the first one on, before the end
+abbrev pub span : ℕ → ℕ → Span
+span first end = record { first = first; end = end }
 
 abbrev pub rows : List DriverRow
 rows = row 0 2 ∷ row 4 1 ∷ []

@@ -2,9 +2,9 @@
 
 ghost use Rattle.std.specs.Prelude.{◌≡◌, [], ◌∷◌, ◌++◌, take};
 ghost use Rattle.smx_types.specs.declared.stream.Side.TheVariants as side;
-ghost use Rattle.smx_model.specs.Worked.Common.{few_and_small};
-ghost use Rattle.smx_queues.specs.PlaceLists.{number_in, sides_of, ArePlaces, HaveDriversBelow};
-ghost use Rattle.smx_queues.specs.WorkedPlaces.{place, places, row, rows};
+ghost use Rattle.smx_model.specs.Worked.Common.{eth, few_and_small, leaf};
+ghost use Rattle.smx_queues.specs.PlaceLists.{number_in, sides_of, ArePlaces, HaveDriversBelow, IsSpanOf};
+ghost use Rattle.smx_queues.specs.WorkedPlaces.{place, places, row, rows, span};
 
 /// The places of a driver are numbered from its first number on, two for each minor, the write side first.
 pub fn numbers_of_an_example()
@@ -24,10 +24,22 @@ pub fn places_of_an_example()
     ensures not_without_rows { ArePlaces few_and_small [] places → ⊥ }
     ensures not_of_fewer_minors { ArePlaces few_and_small (row 0 2 ∷ row 4 0 ∷ []) places → ⊥ }
     ensures not_from_another_number { ArePlaces few_and_small (row 0 2 ∷ row 3 1 ∷ []) places → ⊥ }
+    ensures not_past_the_end { ArePlaces (few_and_small ++ leaf eth 0 ∷ []) (rows ++ row 7 0 ∷ []) places → ⊥ }
     ensures not_with_one_wanting { ArePlaces few_and_small rows (take 5 places) → ⊥ }
     ensures not_with_one_again { ArePlaces few_and_small rows (places ++ place 0 0 side.Write ∷ []) → ⊥ }
     ensures not_with_another_minor { ArePlaces few_and_small rows (places ++ place 1 1 side.Write ∷ []) → ⊥ }
     ensures not_with_another_driver { ArePlaces few_and_small rows (places ++ place 2 0 side.Write ∷ []) → ⊥ }
+{}
+
+/// The second driver's places are the last two; a third one has none. No numbers are the second's with one of the
+/// first's among them, without one of its own, or past the last place.
+pub fn spans_of_an_example()
+    ensures second { IsSpanOf 1 places (span 4 6) }
+    ensures third { IsSpanOf 2 places (span 0 0) }
+    ensures not_with_one_of_another { IsSpanOf 1 places (span 3 6) → ⊥ }
+    ensures not_from_behind_the_first { IsSpanOf 1 places (span 5 6) → ⊥ }
+    ensures not_to_before_the_last { IsSpanOf 1 places (span 4 5) → ⊥ }
+    ensures not_past_the_end { IsSpanOf 1 places (span 4 7) → ⊥ }
 {}
 
 /// Places whose drivers are below two, of which not all are below one.

@@ -1,4 +1,4 @@
-use Rattle.std.proofs.Common.{◌≡◌, [], ◌∷◌, refl, arith, rules, ℕ, Option, Some, None, ap}
+use Rattle.std.proofs.Common.{◌≡◌, [], ◌∷◌, refl, arith, rules, ℕ, ◌+◌, ◌*◌, ◌≤◌, Option, Some, None, ap}
 use Rattle.smx_types.specs.declared.driver.DriverSpec.{DriverSpec}
 use Rattle.smx_types.specs.declared.stream.Place.{Place}
 use Rattle.smx_types.specs.declared.stream.Side.TheVariants as side
@@ -36,6 +36,11 @@ pub returns-clause-not_from_another_number : goal.returns-clause-not_from_anothe
 returns-clause-not_from_another_number c h =
     let e : 0 ≡ 1 = ap driver_at (h.numbered (place 1 0 side.Write) (row 3 1) refl (omega arith)) in
     absurd (omega (arith, e))
+
+-- the third driver's first number would be behind all places
+pub returns-clause-not_past_the_end : goal.returns-clause-not_past_the_end
+returns-clause-not_past_the_end c h =
+    let e : 7 + 2 * 0 ≤ 6 = h.ends 2 (row 7 0) refl in absurd (omega (arith, e))
 
 pub returns-clause-not_with_one_wanting : goal.returns-clause-not_with_one_wanting
 returns-clause-not_with_one_wanting c h =
