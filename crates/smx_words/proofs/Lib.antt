@@ -4,6 +4,7 @@ pub mod LineLemmas
 pub mod NumberLemmas
 pub mod WordLemmas
 pub mod HexLemmas
+pub mod DigitTableLemmas
 pub mod EntryLemmas
 pub mod ReplyLemmas
 pub mod CommandLemmas

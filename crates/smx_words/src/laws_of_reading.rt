@@ -15,6 +15,7 @@ ghost use Rattle.smx_types.specs.declared.view.HungLine.{HungLine};
 ghost use Rattle.smx_types.specs.declared.view.LinkLine.{LinkLine};
 ghost use Rattle.smx_types.specs.declared.view.MessageLine.{MessageLine};
 ghost use Rattle.smx_types.specs.declared.view.RouteLine.{RouteLine};
+ghost use Rattle.smx_words.specs.HexWords.{AreSet, IsValueOf};
 ghost use Rattle.smx_words.specs.LineReading.{BeginsWith, IsCommandLine, IsFoundIn, IsPushed, IsReadAs, IsSpelled};
 ghost use Rattle.smx_words.specs.Spellable.{FitsDriver, FitsNumber, FitsCommand, FitsEntry, FitsNext};
 ghost use Rattle.smx_words.specs.Spellable.{FitsDescriptor, FitsLink, FitsBinding, FitsRoute, FitsMessage, FitsFull};
@@ -106,4 +107,25 @@ pub fn what_is_pushed()
     ensures none_too_large { IsPushed FitsNumber process_words (codes "process 4294967296") (3 ∷ []) (3 ∷ []) false }
     ensures not_yet_pushed { IsPushed FitsNumber process_words (codes "process 07") (3 ∷ []) (3 ∷ 7 ∷ []) false → ⊥ }
     ensures not_none { IsPushed FitsNumber process_words (codes "process 7") (3 ∷ []) (3 ∷ []) false → ⊥ }
+{}
+
+/// A digit has its value, below 16, and a byte that is none has 16.
+pub fn values_of_digits()
+    ensures nine { IsValueOf 57 9 }
+    ensures ten { IsValueOf 97 10 }
+    ensures none { IsValueOf 65 16 }
+    ensures not_another { IsValueOf 57 8 → ⊥ }
+    ensures not_none_of_a_digit { IsValueOf 97 16 → ⊥ }
+    ensures not_of_a_capital { IsValueOf 65 10 → ⊥ }
+    ensures not_more_of_none { IsValueOf 65 17 → ⊥ }
+{}
+
+/// Bytes that two digits spell; and a word with a byte that is no digit, of which no bytes are known.
+pub fn bytes_of_digits()
+    ensures spelled { AreSet (codes "0a") (10 ∷ []) 10 }
+    ensures not_others { AreSet (codes "0a") (11 ∷ []) 11 → ⊥ }
+    ensures not_refused { AreSet (codes "0a") (10 ∷ []) 16 → ⊥ }
+    ensures refused { AreSet (codes "0A") (0 ∷ []) 16 }
+    ensures not_accepted { AreSet (codes "0A") (10 ∷ []) 10 → ⊥ }
+    ensures not_too_large { AreSet (codes "0A") (256 ∷ []) 16 → ⊥ }
 {}

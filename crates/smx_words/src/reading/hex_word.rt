@@ -7,7 +7,7 @@ ghost use Rattle.std.specs.Fmt.{decimal};
 ghost use Rattle.std.specs.List.{list_all};
 ghost use Rattle.std.specs.Vec.{vec_len};
 ghost use Rattle.hex.specs.Hex.{encode_lower, lower_digits};
-ghost use Rattle.smx_words.specs.HexWords.{hex_word, is_digit};
+ghost use Rattle.smx_words.specs.HexWords.{hex_word, is_digit, AreSet, IsValueOf};
 ghost use Rattle.smx_words.specs.LineReading.{IsFoundIn, IsSpelled};
 ghost use Rattle.smx_words.specs.Spellable.{FitsBytes, FitsNumber};
 ghost use Rattle.smx_words.specs.Words.{SPACE};
@@ -106,13 +106,40 @@ fn unless_bad(word: &[u8]) -> Result<Option<Bytes>, NoMemory>
     Ok(None)
 }
 
-// Sets the bytes that digits spell; 16 or more where one of them is no digit. By index, with no test in it, so that the
-// compiler takes many bytes at once.
+// From this length on it is quicker to take many bytes at once.
+const MANY: usize = 16;
+
+// Sets the bytes that digits spell; 16 or more where one of them is no digit.
 fn set_bytes(bytes: &mut [u8], digits: &[u8]) -> u8
     requires { length digits.now ≡ 2 * length bytes.old }
-    ensures spelled { result < 16 → digits.now ≡ encode_lower bytes.new }
-    ensures digits { list_all is_digit digits.now ≡ true → result < 16 }
-    ensures fits { FitsBytes bytes.new }
+    ensures { AreSet digits.now bytes.new result }
+{
+    if bytes.len() < MANY {
+        set_few(bytes, digits)
+    } else {
+        set_many(bytes, digits)
+    }
+}
+
+// By a table, one byte after the other.
+fn set_few(bytes: &mut [u8], digits: &[u8]) -> u8
+    requires { length digits.now ≡ 2 * length bytes.old }
+    ensures { AreSet digits.now bytes.new result }
+{
+    let mut worst = 0u8;
+    for i in 0..bytes.len() {
+        let high = looked_up(digits[2 * i]);
+        let low = looked_up(digits[2 * i + 1]);
+        bytes[i] = (high % 16) * 16 + low % 16;
+        worst |= high | low;
+    }
+    worst
+}
+
+// By index, with no test in it, so that the compiler takes many bytes at once.
+fn set_many(bytes: &mut [u8], digits: &[u8]) -> u8
+    requires { length digits.now ≡ 2 * length bytes.old }
+    ensures { AreSet digits.now bytes.new result }
 {
     let mut worst = 0u8;
     for i in 0..bytes.len() {
@@ -124,12 +151,32 @@ fn set_bytes(bytes: &mut [u8], digits: &[u8]) -> u8
     worst
 }
 
-// The value of a digit; 16 where a byte is none.
+// The value of each byte as a digit; 16 where it is none.
+const VALUES: [u8; 256] = [
+    16, 16, 16, 16, 16, 16, 16, 16, 16, 16, 16, 16, 16, 16, 16, 16, 16, 16, 16, 16, 16, 16, 16, 16,
+    16, 16, 16, 16, 16, 16, 16, 16, 16, 16, 16, 16, 16, 16, 16, 16, 16, 16, 16, 16, 16, 16, 16, 16,
+    0, 1, 2, 3, 4, 5, 6, 7, 8, 9, 16, 16, 16, 16, 16, 16, 16, 16, 16, 16, 16, 16, 16, 16, 16, 16,
+    16, 16, 16, 16, 16, 16, 16, 16, 16, 16, 16, 16, 16, 16, 16, 16, 16, 16, 16, 16, 16, 16, 16, 10,
+    11, 12, 13, 14, 15, 16, 16, 16, 16, 16, 16, 16, 16, 16, 16, 16, 16, 16, 16, 16, 16, 16, 16, 16,
+    16, 16, 16, 16, 16, 16, 16, 16, 16, 16, 16, 16, 16, 16, 16, 16, 16, 16, 16, 16, 16, 16, 16, 16,
+    16, 16, 16, 16, 16, 16, 16, 16, 16, 16, 16, 16, 16, 16, 16, 16, 16, 16, 16, 16, 16, 16, 16, 16,
+    16, 16, 16, 16, 16, 16, 16, 16, 16, 16, 16, 16, 16, 16, 16, 16, 16, 16, 16, 16, 16, 16, 16, 16,
+    16, 16, 16, 16, 16, 16, 16, 16, 16, 16, 16, 16, 16, 16, 16, 16, 16, 16, 16, 16, 16, 16, 16, 16,
+    16, 16, 16, 16, 16, 16, 16, 16, 16, 16, 16, 16, 16, 16, 16, 16, 16, 16, 16, 16, 16, 16, 16, 16,
+    16, 16, 16, 16, 16, 16, 16, 16, 16, 16, 16, 16, 16, 16,
+];
+
+#[inline(always)]
+fn looked_up(digit: u8) -> u8
+    ensures { IsValueOf digit result }
+{
+    VALUES[digit as usize]
+}
+
+// The same, worked out.
 #[inline(always)]
 fn value_of(digit: u8) -> u8
-    ensures value { result < 16 → slice_index lower_digits result ≡ digit }
-    ensures digit { is_digit digit ≡ true → result < 16 }
-    ensures range { result ≤ 16 }
+    ensures { IsValueOf digit result }
 {
     if b'0' <= digit && digit <= b'9' {
         digit - b'0'

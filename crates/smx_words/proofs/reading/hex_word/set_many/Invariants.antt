@@ -3,7 +3,7 @@ use Rattle.std.specs.List.{list_all}
 use Rattle.hex.specs.Hex.{encode_lower}
 use Rattle.smx_words.specs.HexWords.{is_digit}
 use Rattle.smx_words.specs.Spellable.{FitsBytes}
-use Rattle.smx_words.proofs.reading.hex_word.set_bytes.Given as goal
+use Rattle.smx_words.proofs.reading.hex_word.set_many.Given as goal
 
 abbrev pub invariant-loop-i : goal.invariant-loop-i
 invariant-loop-i l = record {
