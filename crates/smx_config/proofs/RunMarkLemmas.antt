@@ -215,7 +215,7 @@ pub not_between : (c : Configuration) (driver addr lower : ℕ) (p : Place) → 
     → asks_between c driver addr lower p ≡ false
 not_between c driver addr lower p f = rw f refl
 
--- the read sides below the driver that are asked for, at streams of the lower drivers up to a number
+-- the read sides below the driver that are asked for, at streams of the lower drivers below a number
 abbrev pub asks_before : Configuration → ℕ → ℕ → ℕ → Place → Bool
 asks_before c driver addr n p = asks_up c driver addr p && nat_lt p.stream.driver n
 
@@ -246,6 +246,7 @@ one_driver_more c driver addr n old mid new before one = record {
   drivers = one.drivers ∙ before.drivers;
 }
 
+-- where all links are among so many drivers, a stream below one of them is of one of these
 lower_within : (n : ℕ) (links : List Link) (s : StreamId) (driver : ℕ) → All (IsWithin n) links
     → list_any (λ l. same_stream l.lower s && eqb l.ctl.driver driver) links ≡ true → s.driver < n
 lower_within n links s driver within h = by links (recursion_from_All (IsWithin n) links within) h where

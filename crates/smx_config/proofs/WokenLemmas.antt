@@ -9,11 +9,9 @@ use Rattle.std.proofs.lemmas.Bool.{and_parts, cases_Bool, false≢true, not-true
 use Rattle.smx_types.specs.declared.command.Command.{Command}
 use Rattle.smx_types.specs.declared.command.Command.TheVariants as command
 use Rattle.smx_types.specs.declared.driver.DriverSpec.{DriverSpec}
-use Rattle.smx_types.specs.declared.link.Binding.{Binding}
 use Rattle.smx_types.specs.declared.link.Link.{Link}
 use Rattle.smx_types.specs.declared.message.Message.{Message}
 use Rattle.smx_types.specs.declared.reply.Fault.{Fault}
-use Rattle.smx_types.specs.declared.link.Route.{Route}
 use Rattle.smx_types.specs.declared.reply.Fault.TheVariants.{AddressInUse, NoLink}
 use Rattle.smx_types.specs.declared.reply.Reply.{Reply}
 use Rattle.smx_types.specs.declared.reply.Reply.TheVariants as reply
@@ -28,6 +26,7 @@ use Rattle.smx_model.specs.Lookups.{free_stream, live_leaf, live_stream, mux_str
 use Rattle.smx_model.specs.Ordered.{with_inserted}
 use Rattle.smx_model.specs.Outcomes.{refuse}
 use Rattle.smx_model.specs.Queues.{after_leaving, first_message}
+use Rattle.smx_model.specs.Removal.{after_sweep}
 use Rattle.smx_model.specs.RunMarks.{TurnsOnly, asks_down, asks_up, both, has_addr, is_first_at, next_of_first}
 use Rattle.smx_model.specs.Settling.{after_settling, next_open_place}
 use Rattle.smx_model.specs.SettlingByMarks.{is_first_there, turned_by_move}
@@ -48,45 +47,46 @@ use Rattle.smx_config.proofs.StayingLemmas.{read_stays, transmit_stays}
 
 -- ---- bindings and routes change no link and no message
 
--- where a change was accepted that leaves nothing to sweep of them, the links and the messages are what they were
+-- the links and the messages are what they were
 abbrev KeepsBoth : Configuration → Configuration × Reply → Type 0
 KeepsBoth c x = (x.0.links ≡ c.links) × (x.0.flow ≡ c.flow)
 
--- an accepted bind leaves the links and the messages as they were
-pub bind_keeps_both : (drivers : List DriverSpec) (c : Configuration) (process fd addr : ℕ) (x : Configuration × Reply)
+-- so it is after an accepted change of which a sweep leaves the links and the messages that it leaves without it
+done_keeps_both : (drivers : List DriverSpec) (c new : Configuration) (x : Configuration × Reply) → IsSwept drivers c
+    → (after_sweep drivers new).links ≡ (after_sweep drivers c).links
+    → (after_sweep drivers new).flow ≡ (after_sweep drivers c).flow → done_outcome drivers c new ≡ Ok x → KeepsBoth c x
+done_keeps_both drivers c new x h links flow e =
+    let is = ap (λ (y : Configuration × Reply). y.0) (sym (accepted _ x e)) in
+    let idle = swept_idle drivers c h in (
+      ap (λ (d : Configuration). d.links) is ∙ links ∙ ap (λ (d : Configuration). d.links) idle,
+      ap (λ (d : Configuration). d.flow) is ∙ flow ∙ ap (λ (d : Configuration). d.flow) idle,
+    )
+
+bind_keeps_both : (drivers : List DriverSpec) (c : Configuration) (process fd addr : ℕ) (x : Configuration × Reply)
     → IsSwept drivers c → outcome drivers c process (command.Bind fd addr) ≡ Ok x → KeepsBoth c x
 bind_keeps_both drivers c process fd addr x h e =
     let s = bound (mux_stream drivers c process fd) _ x e in
     let free = bound
     (refuse AddressInUse
     (list_any (λ b. eqb b.driver s.0.driver && (eqb b.addr addr || eqb b.minor s.0.minor)) c.binds)) _ x s.2 in
-    let binds = with_inserted bind_before c.binds (record { driver = s.0.driver; addr = addr; minor = s.0.minor }) in
-    swept_out binds free.2 where
-      swept_out : (binds : List Binding) → done_outcome drivers c (record c { binds = binds }) ≡ Ok x → KeepsBoth c x
-      swept_out binds k =
-          let is = sym (accepted _ x k) in (
-            ap (λ (y : Configuration × Reply). y.0.links) is ∙ ap (λ (d : Configuration). d.links) (swept_idle drivers c h),
-            ap (λ (y : Configuration × Reply). y.0.flow) is ∙ ap (λ (d : Configuration). d.flow) (swept_idle drivers c h),
-          )
+    done_keeps_both drivers c
+    (record c {
+      binds = with_inserted bind_before c.binds (record { driver = s.0.driver; addr = addr; minor = s.0.minor });
+    }) x h refl refl free.2
 
--- so does an accepted route
-pub route_keeps_both : (drivers : List DriverSpec) (c : Configuration) (process fd addr id : ℕ)
+route_keeps_both : (drivers : List DriverSpec) (c : Configuration) (process fd addr id : ℕ)
     (x : Configuration × Reply) → IsSwept drivers c → outcome drivers c process (command.Route fd addr id) ≡ Ok x
     → KeepsBoth c x
 route_keeps_both drivers c process fd addr id x h e =
     let s = bound (mux_stream drivers c process fd) _ x e in
     let there = bound
     (refuse NoLink (not (list_any (λ l. eqb l.id id && eqb l.ctl.driver s.0.driver) c.links))) _ x s.2 in
-    let routes = with_inserted route_before
-    (filter (λ r. not (eqb r.driver s.0.driver && eqb r.addr addr)) c.routes)
-    (record { driver = s.0.driver; addr = addr; id = id }) in
-    swept_out routes there.2 where
-      swept_out : (routes : List Route) → done_outcome drivers c (record c { routes = routes }) ≡ Ok x → KeepsBoth c x
-      swept_out routes k =
-          let is = sym (accepted _ x k) in (
-            ap (λ (y : Configuration × Reply). y.0.links) is ∙ ap (λ (d : Configuration). d.links) (swept_idle drivers c h),
-            ap (λ (y : Configuration × Reply). y.0.flow) is ∙ ap (λ (d : Configuration). d.flow) (swept_idle drivers c h),
-          )
+    done_keeps_both drivers c
+    (record c {
+      routes = with_inserted route_before
+          (filter (λ r. not (eqb r.driver s.0.driver && eqb r.addr addr)) c.routes)
+          (record { driver = s.0.driver; addr = addr; id = id });
+    }) x h refl refl there.2
 
 -- ---- the turned places
 
@@ -127,8 +127,9 @@ turns drivers c process (command.Bind fd addr) x h e p t =
 turns drivers c process (command.Route fd addr id) x h e p t =
     inl (turned_on (mux_stream drivers c process fd) _ _ x.0 p (λ s u. still s u) t) where
       still : (s : StreamId) → asks_down c s.driver addr p ≡ true → asks_down x.0 s.driver addr p ≡ true
-      still s u = subst (λ (flow : List QueuedMessage).
-          ((same_side p.side side.Write && eqb p.stream.driver s.driver) && has_addr addr (first_message flow p)) ≡ true)
+      still s u = subst (λ (messages : List QueuedMessage).
+          ((same_side p.side side.Write && eqb p.stream.driver s.driver)
+          && has_addr addr (first_message messages p)) ≡ true)
           (sym (route_keeps_both drivers c process fd addr id x h e).1) u
 turns drivers c process (command.Write fd addr bytes) x h e p t =
     inl (turned_on (live_stream c process fd) _ _ x.0 p (λ s u. arrived c x.0 (write_side s) p u) t)

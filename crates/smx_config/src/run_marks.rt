@@ -59,8 +59,8 @@ fn asks_down(first: Queued<'_>, driver: u8, addr: u32) -> bool
     is_write_of(driver, first.place) && first.message.addr == addr
 }
 
-// Marks the write sides of the driver's streams whose first message has this address. It looks at no other driver's,
-// and at no stream that has none.
+// Marks the write sides of the driver's streams whose first message has this address. It looks at those places of the
+// driver alone that have messages.
 pub fn mark_writes(tables: &Tables, run: &mut PlaceMarks, driver: u8, addr: u32)
     ensures { IsMarkedWhere tables.now.configuration.flow
         (asks_down tables.now.configuration driver addr) run.old run.new }
@@ -99,8 +99,8 @@ fn asks_up(tables: &Tables, first: Queued<'_>, driver: u8, addr: u32) -> bool
     first.message.addr == addr && is_read_below(tables, first.place, driver)
 }
 
-// Marks those of them that are streams of this lower driver. Where no link leads from the upper one there, it looks
-// at none.
+// Marks the read sides of the lower driver's streams below the upper one whose first message has this address. Where no
+// link leads from the one driver to the other it looks at none.
 fn mark_reads_of(tables: &Tables, run: &mut PlaceMarks, driver: u8, addr: u32, lower: u8)
     ensures { IsMarkedWhere tables.now.configuration.flow
         (asks_between tables.now.configuration driver addr lower) run.old run.new }
@@ -116,8 +116,8 @@ fn mark_reads_of(tables: &Tables, run: &mut PlaceMarks, driver: u8, addr: u32, l
     }
 }
 
-// Marks the read sides of the streams below the driver whose first message has this address. It looks at no link but
-// those above streams that have such a one, of drivers to which a link of this one leads.
+// The same for all drivers below the upper one. It looks at the link above a stream only where the stream's first
+// message has the address.
 pub fn mark_reads(tables: &Tables, run: &mut PlaceMarks, driver: u8, addr: u32)
     ensures { IsMarkedWhere tables.now.configuration.flow
         (asks_up tables.now.configuration driver addr) run.old run.new }

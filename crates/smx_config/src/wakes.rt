@@ -18,9 +18,9 @@ pub enum Wakes {
     // The first message leaves a place, from which none goes on to another.
     Leaves(Place),
     // Messages of an address may have another place to go to from the write sides of a driver,
-    TurnsWrites(u8, u32),
+    TurnsWrites { driver: u8, addr: u32 },
     // and so from the read sides of the streams below one.
-    TurnsReads(u8, u32),
+    TurnsReads { driver: u8, addr: u32 },
     // Any full place may be emptied.
     Frees,
 }
@@ -47,7 +47,10 @@ fn turns_writes(stream: Result<StreamId, Fault>, addr: u32) -> Wakes
     ensures { result ≡ on_stream stream (λ s. wakes.TurnsWrites s.driver addr) }
 {
     match stream {
-        Ok(stream) => Wakes::TurnsWrites(stream.driver, addr),
+        Ok(stream) => Wakes::TurnsWrites {
+            driver: stream.driver,
+            addr,
+        },
         Err(_) => Wakes::Nothing,
     }
 }
@@ -56,7 +59,10 @@ fn turns_reads(stream: Result<StreamId, Fault>, addr: u32) -> Wakes
     ensures { result ≡ on_stream stream (λ s. wakes.TurnsReads s.driver addr) }
 {
     match stream {
-        Ok(stream) => Wakes::TurnsReads(stream.driver, addr),
+        Ok(stream) => Wakes::TurnsReads {
+            driver: stream.driver,
+            addr,
+        },
         Err(_) => Wakes::Nothing,
     }
 }

@@ -79,7 +79,8 @@ fn release_freed(tables: &Tables, marks: &mut Marks, wakes: Wakes)
     match wakes {
         Wakes::Leaves(place) => release_if_open(tables, marks, place),
         Wakes::Frees => release_all(tables, marks),
-        Wakes::Nothing | Wakes::Turns(_) | Wakes::TurnsWrites(_, _) | Wakes::TurnsReads(_, _) => {}
+        Wakes::Nothing | Wakes::Turns(_) | Wakes::TurnsWrites { .. } | Wakes::TurnsReads { .. } =>
+            {}
     }
 }
 
@@ -90,8 +91,8 @@ fn mark_turned(tables: &Tables, run: &mut PlaceMarks, wakes: Wakes)
 {
     match wakes {
         Wakes::Turns(place) => mark_waiting(tables, run, place),
-        Wakes::TurnsWrites(driver, addr) => mark_writes(tables, run, driver, addr),
-        Wakes::TurnsReads(driver, addr) => mark_reads(tables, run, driver, addr),
+        Wakes::TurnsWrites { driver, addr } => mark_writes(tables, run, driver, addr),
+        Wakes::TurnsReads { driver, addr } => mark_reads(tables, run, driver, addr),
         Wakes::Nothing | Wakes::Leaves(_) | Wakes::Frees => {}
     }
 }

@@ -3,6 +3,7 @@
 
 mod id_row;
 mod ids;
+pub mod laws;
 mod link_fault;
 mod links;
 mod masks;

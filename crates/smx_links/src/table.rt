@@ -219,7 +219,7 @@ impl LinkTable {
         self.links.get(i)
     }
 
-    /// The number of drivers. No link has any other. Takes no memory.
+    /// The number of drivers, past which no link has one. Takes no memory.
     pub fn driver_count(&self) -> u8
         ensures count { result ≡ self.now.drivers }
         ensures within { All (IsWithin result) self.now.links }

@@ -81,8 +81,8 @@ pub fn a_worked_live_session()
 }
 
 /// Drivers of a text are refused where it spells programs whose drivers can't be had, for the fault that they have; and
-/// for want of memory where they can be had. Nothing else that a run may be refused for is told of them, and nothing of
-/// what spells no programs.
+/// for want of memory where they can be had. They are refused for no full history, and not at all where a text spells
+/// no programs.
 pub fn whose_drivers_are_refused()
     ensures refused { RefusesDriversOf (run.ConfigFault (config.BadSpec 0 BadMinors)) minorless_text }
     ensures not_for_want_of_memory { RefusesDriversOf run.NoMemory minorless_text → ⊥ }

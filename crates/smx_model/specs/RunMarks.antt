@@ -1,4 +1,4 @@
--- Places whose first messages wait, and marks at those that may not. Only the laws of run marks need this.
+-- Places whose first messages wait, and marks at those that may not.
 use Rattle.std.specs.Prelude.{◌≡◌, ◌⊎◌, ℕ, Bool, true, false, ◌&&◌, ◌||◌, not, ◌==◌, List, Option, Some, None}
 use Rattle.std.specs.List.{list_any}
 use Rattle.std.specs.Option.{is_some}

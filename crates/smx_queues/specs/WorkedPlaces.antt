@@ -3,6 +3,7 @@ use Rattle.std.specs.Prelude.{ℕ, List, [], ◌∷◌}
 use Rattle.smx_types.specs.declared.stream.Place.{Place}
 use Rattle.smx_types.specs.declared.stream.Side.{Side}
 use Rattle.smx_types.specs.declared.stream.Side.TheVariants as side
+use Rattle.smx_model.specs.Configuration.{QueuedMessage}
 use Rattle.smx_queues.specs.declared.places.DriverRow.{DriverRow}
 use Rattle.smx_queues.specs.declared.span.Span.{Span}
 
@@ -30,3 +31,12 @@ places =
     ∷ place 1 0 side.Write
     ∷ place 1 0 side.Read
     ∷ []
+
+-- a message of that serial at a side of a driver's first stream
+abbrev pub queued : ℕ → Side → ℕ → QueuedMessage
+queued driver s serial =
+    record { place = place driver 0 s; message = record { serial = serial; addr = 5; bytes = 1 ∷ [] } }
+
+-- one at the first driver, and three at the second, of which two are at one place
+abbrev pub flow : List QueuedMessage
+flow = queued 0 side.Read 1 ∷ queued 1 side.Write 2 ∷ queued 1 side.Write 3 ∷ queued 1 side.Read 4 ∷ []

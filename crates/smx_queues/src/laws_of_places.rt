@@ -3,8 +3,9 @@
 ghost use Rattle.std.specs.Prelude.{◌≡◌, [], ◌∷◌, ◌++◌, take};
 ghost use Rattle.smx_types.specs.declared.stream.Side.TheVariants as side;
 ghost use Rattle.smx_model.specs.Worked.Common.{eth, few_and_small, leaf};
+ghost use Rattle.smx_queues.specs.FlowTables.{fronts_of_driver};
 ghost use Rattle.smx_queues.specs.PlaceLists.{number_in, sides_of, ArePlaces, HaveDriversBelow, IsSpanOf};
-ghost use Rattle.smx_queues.specs.WorkedPlaces.{place, places, row, rows, span};
+ghost use Rattle.smx_queues.specs.WorkedPlaces.{flow, place, places, queued, row, rows, span};
 
 /// The places of a driver are numbered from its first number on, two for each minor, the write side first.
 pub fn numbers_of_an_example()
@@ -31,8 +32,8 @@ pub fn places_of_an_example()
     ensures not_with_another_driver { ArePlaces few_and_small rows (places ++ place 2 0 side.Write ∷ []) → ⊥ }
 {}
 
-/// The second driver's places are the last two; a third one has none. No numbers are the second's with one of the
-/// first's among them, without one of its own, or past the last place.
+/// The second driver's places are the last two, and a third one has none. Numbers are not the second driver's where one
+/// of the first driver's is among them, one of its own is left out, or one is past the last place.
 pub fn spans_of_an_example()
     ensures second { IsSpanOf 1 places (span 4 6) }
     ensures third { IsSpanOf 2 places (span 0 0) }
@@ -47,4 +48,12 @@ pub fn drivers_of_an_example()
     ensures below { HaveDriversBelow 2 places }
     ensures not_all_below { HaveDriversBelow 1 places → ⊥ }
     ensures none { HaveDriversBelow 0 [] }
+{}
+
+/// Of four messages at three places, the first messages at places of one driver are the first ones of its places, in
+/// order; a driver without places has none.
+pub fn first_messages_of_an_example()
+    ensures first { fronts_of_driver 0 flow ≡ queued 0 side.Read 1 ∷ [] }
+    ensures second { fronts_of_driver 1 flow ≡ queued 1 side.Write 2 ∷ queued 1 side.Read 4 ∷ [] }
+    ensures third { fronts_of_driver 2 flow ≡ [] }
 {}

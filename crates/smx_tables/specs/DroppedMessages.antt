@@ -19,7 +19,7 @@ pub record AreDropped (old new : List QueuedMessage) (dropped : List ℕ) : Type
   pub left : new ≡ filter keep old
   pub gone : IsPermutation (serials (filter (λ h. not (keep h)) old)) dropped
 
--- of whichever messages these were dropped and this flow was left, now more are dropped and less is left
+-- of whatever messages these were dropped and this flow was left, more may be dropped now, and less left
 abbrev pub DropsMore : List QueuedMessage → List ℕ → List QueuedMessage → List ℕ → Type 0
 DropsMore flow dropped left more = (old : List QueuedMessage) → AreDropped old flow dropped → AreDropped old left more
 

@@ -29,7 +29,7 @@ pub fn what_is_dropped()
         → AreDropped old new dropped → length new + length dropped ≡ length old }
 {}
 
-/// Where more is dropped, it is told behind what was dropped before, and nothing that was is forgotten or comes back.
+/// Where more is dropped it is told too, and nothing that was dropped before is forgotten or comes back.
 pub fn what_is_dropped_more()
     ensures one { DropsMore (first ∷ second ∷ []) (3 ∷ []) (second ∷ []) (3 ∷ 1 ∷ []) }
     ensures none { (flow : List QueuedMessage) (dropped : List ℕ) → DropsMore flow dropped flow dropped }

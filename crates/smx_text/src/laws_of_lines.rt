@@ -14,7 +14,8 @@ ghost use Rattle.smx_text.specs.WorkedLines.{dup, grammar, idle, idle_lines, pro
 ghost use Rattle.smx_text.specs.declared.text_fault.Cause.TheVariants as cause;
 
 /// A line is refused for its form where it may not follow, as one too many where it may but as many are there as may
-/// be, and for want of memory where some programs go on with it. No line is refused for what is wrong with a text.
+/// be, and for want of memory where some programs go on with it. A header, a cut and what trails are causes of texts,
+/// and of no line.
 pub fn lines_that_are_refused()
     ensures form { RefusesLine grammar [] dup cause.Form }
     ensures not_for_its_form { RefusesLine grammar (idle_lines 1) dup cause.Form → ⊥ }
@@ -60,6 +61,10 @@ pub fn answers_to_a_text()
         → AnswersText grammar [] (codes "dup 0") longer (refused cause.NoMemory) → ⊥ }
     ensures not_for_a_header { (lines longer : List Line) (text : List ℕ)
         → AnswersText grammar lines text longer (refused cause.Header) → ⊥ }
+    ensures not_for_a_cut { (lines longer : List Line) (text : List ℕ)
+        → AnswersText grammar lines text longer (refused cause.Cut) → ⊥ }
+    ensures not_for_what_trails { (lines longer : List Line) (text : List ℕ)
+        → AnswersText grammar lines text longer (refused cause.Trailing) → ⊥ }
 {}
 
 /// At the end lines are all those of programs that are allowed, of which this is made; or a text may not end there.
@@ -73,8 +78,8 @@ pub fn answers_at_the_end()
     ensures may_not_end { EndsAs (transcript_grammar V1) {W = Transcript} (λ v w. w ≡ v) [] None }
 {}
 
-/// At the last line, which has a number, that is so where no byte follows. One that does is told of as the next line's,
-/// where lines are all those of programs that are allowed; and where a text may not end, its last line is wrong.
+/// At the last line the same, where no byte follows. A byte that does is the fault of the next line, where the lines
+/// are those of programs that are allowed; and where a text may not end, the last line is at fault.
 pub fn answers_at_the_last_line()
     ensures made { EndsText grammar (λ v w. w ≡ v) (idle_lines 1) [] 3 (Ok (idle 1)) }
     ensures not_before_a_byte { EndsText grammar (λ v w. w ≡ v) (idle_lines 1) (10 ∷ []) 3 (Ok (idle 1)) → ⊥ }
@@ -90,6 +95,8 @@ pub fn answers_at_the_last_line()
         (Err (record { line = 3; cause = cause.Trailing })) → ⊥ }
     ensures not_behind_no_programs { EndsText grammar {W = ProgramLists} (λ v w. w ≡ v) (dup ∷ []) (10 ∷ []) 3
         (Err (record { line = 4; cause = cause.Trailing })) → ⊥ }
+    ensures not_behind_too_many { EndsText grammar {W = ProgramLists} (λ v w. w ≡ v) (idle_lines 65) (10 ∷ []) 67
+        (Err (record { line = 68; cause = cause.Trailing })) → ⊥ }
     ensures may_end { EndsText grammar {W = ProgramLists} (λ v w. w ≡ v) (idle_lines 1) [] 3
         (Err (record { line = 3; cause = cause.Form })) → ⊥ }
     ensures may_not_end { EndsText (transcript_grammar V1) {W = Transcript} (λ v w. w ≡ v) [] [] 2
@@ -102,6 +109,10 @@ pub fn answers_at_the_last_line()
 /// that is no such command's nothing comes.
 pub fn what_is_pushed_to_programs()
     ensures pushed { IsPushed V1 (codes "dup 0") ([] ∷ [] ∷ []) ([] ∷ (command.Dup 0 ∷ []) ∷ []) true }
+    ensures pushed_behind { IsPushed V1 (codes "dup 0") ((command.Dup 1 ∷ []) ∷ [])
+        ((command.Dup 1 ∷ command.Dup 0 ∷ []) ∷ []) true }
+    ensures not_in_front { IsPushed V1 (codes "dup 0") ((command.Dup 1 ∷ []) ∷ [])
+        ((command.Dup 0 ∷ command.Dup 1 ∷ []) ∷ []) true → ⊥ }
     ensures not_to_the_first { IsPushed V1 (codes "dup 0") ([] ∷ [] ∷ []) ((command.Dup 0 ∷ []) ∷ [] ∷ []) true → ⊥ }
     ensures not_another { IsPushed V1 (codes "dup 1") ([] ∷ []) ((command.Dup 0 ∷ []) ∷ []) true → ⊥ }
     ensures not_a_hangup { IsPushed V1 (codes "hangup ip 0") ([] ∷ []) ((command.Hangup (codes "ip") 0 ∷ []) ∷ []) true

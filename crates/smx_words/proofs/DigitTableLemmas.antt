@@ -34,9 +34,9 @@ all_are_right : passes_below 256 is_right ≡ true
 all_are_right = refl
 
 -- where a test fails or another passes, and the first one passes, so does the second
-second : (a b : Bool) → (not a || b) ≡ true → a ≡ true → b ≡ true
-second true b h t = h
-second false b h t = absurd (false≢true t)
+implied : (a b : Bool) → (not a || b) ≡ true → a ≡ true → b ≡ true
+implied true b h t = h
+implied false b h t = absurd (false≢true t)
 
 -- the table has the value of each byte
 pub table_is : (d : ℕ) → d < 256 → IsValueOf d (value_in_table d)
@@ -46,7 +46,7 @@ table_is d lt =
     let less : value_in_table d < 17 = ltb-true (value_in_table d) 17 h.0 in
     record {
       range = omega (arith, less);
-      digit = λ t. ltb-true (value_in_table d) 16 (second (is_digit d) _ more.0 t);
+      digit = λ t. ltb-true (value_in_table d) 16 (implied (is_digit d) _ more.0 t);
       value = λ small. eqb-true (slice_index lower_digits (value_in_table d)) d
-          (second (nat_lt (value_in_table d) 16) _ more.1 (lt-ltb (value_in_table d) 16 small));
+          (implied (nat_lt (value_in_table d) 16) _ more.1 (lt-ltb (value_in_table d) 16 small));
     }

@@ -60,8 +60,8 @@ pub fn what_is_found_in_bytes()
     ensures too_large_to_be_spelled { IsSpelled FitsNumber decimal (codes "4294967296") → ⊥ }
 {}
 
-/// Bytes begin with the word of a value that fits where a space stands behind that word, and all that stands behind the
-/// space is told; not where another such word begins them with other bytes behind it.
+/// Bytes begin with the word of a value that fits where a space stands behind that word. All that stands behind the
+/// space is told with the value, and no value is told where bytes begin with two such words.
 pub fn what_begins_bytes()
     ensures begins { (rest : Bor (List ℕ)) → rest.now ≡ codes "x y"
         → BeginsWith FitsNumber decimal (codes "7 x y") (Some (7, rest)) }
@@ -123,7 +123,7 @@ pub fn values_of_digits()
 /// Bytes that two digits spell; and a word with a byte that is no digit, of which no bytes are known.
 pub fn bytes_of_digits()
     ensures spelled { AreSet (codes "0a") (10 ∷ []) 10 }
-    ensures not_others { AreSet (codes "0a") (11 ∷ []) 11 → ⊥ }
+    ensures not_others { AreSet (codes "0f") (14 ∷ []) 15 → ⊥ }
     ensures not_refused { AreSet (codes "0a") (10 ∷ []) 16 → ⊥ }
     ensures refused { AreSet (codes "0A") (0 ∷ []) 16 }
     ensures not_accepted { AreSet (codes "0A") (10 ∷ []) 10 → ⊥ }

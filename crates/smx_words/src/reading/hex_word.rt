@@ -1,12 +1,11 @@
 //! Bytes in a word.
 
-ghost use Rattle.std.specs.Prelude.{◌≡◌, ◌≢◌, ◌<◌, ◌≤◌, ◌*◌, ◌%◌, ◌∷◌, ◌++◌, true, List, ℕ};
-ghost use Rattle.std.specs.Prelude.{length, slice_index, IfOk, IfErr};
+ghost use Rattle.std.specs.Prelude.{◌≡◌, ◌≢◌, ◌<◌, ◌*◌, ◌%◌, ◌∷◌, ◌++◌, true, List, ℕ};
+ghost use Rattle.std.specs.Prelude.{length, IfOk, IfErr};
 ghost use Rattle.std.specs.Prelude.{MatchBool, MatchOption};
 ghost use Rattle.std.specs.Fmt.{decimal};
 ghost use Rattle.std.specs.List.{list_all};
 ghost use Rattle.std.specs.Vec.{vec_len};
-ghost use Rattle.hex.specs.Hex.{encode_lower, lower_digits};
 ghost use Rattle.smx_words.specs.HexWords.{hex_word, is_digit, AreSet, IsValueOf};
 ghost use Rattle.smx_words.specs.LineReading.{IsFoundIn, IsSpelled};
 ghost use Rattle.smx_words.specs.Spellable.{FitsBytes, FitsNumber};
@@ -166,6 +165,7 @@ const VALUES: [u8; 256] = [
     16, 16, 16, 16, 16, 16, 16, 16, 16, 16, 16, 16, 16, 16,
 ];
 
+// The value of a byte as a digit, by the table.
 #[inline(always)]
 fn looked_up(digit: u8) -> u8
     ensures { IsValueOf digit result }
@@ -173,7 +173,7 @@ fn looked_up(digit: u8) -> u8
     VALUES[digit as usize]
 }
 
-// The same, worked out.
+// The same, worked out, with no look at memory.
 #[inline(always)]
 fn value_of(digit: u8) -> u8
     ensures { IsValueOf digit result }

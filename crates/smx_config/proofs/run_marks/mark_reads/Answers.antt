@@ -8,8 +8,8 @@ loop-lower-init c = none_before c.args.tables.now.configuration c.args.driver c.
 
 pub loop-lower-preserved : goal.loop-lower-preserved
 loop-lower-preserved c =
-    one_driver_more c.args.tables.now.configuration c.args.driver c.args.addr c.loop-lower.lower c.args.run.now c.loop-lower.run
-    c.mark_reads_of.new.run c.loop-lower.invariant c.mark_reads_of.ensures
+    one_driver_more c.args.tables.now.configuration c.args.driver c.args.addr c.loop-lower.lower c.args.run.now
+    c.loop-lower.run c.mark_reads_of.new.run c.loop-lower.invariant c.mark_reads_of.ensures
 
 pub returns : goal.returns
 returns c =

@@ -11,6 +11,9 @@ use Rattle.smx_text.proofs.laws_of_lines.what_is_pushed_to_programs.Goals as goa
 pub returns-clause-pushed : goal.returns-clause-pushed
 returns-clause-pushed c = (command.Dup 0, dup_fits, dup_is, refl)
 
+pub returns-clause-pushed_behind : goal.returns-clause-pushed_behind
+returns-clause-pushed_behind c = (command.Dup 0, dup_fits, dup_is, refl)
+
 pub returns-clause-not_another : goal.returns-clause-not_another
 returns-clause-not_another c (pushed, fits, is, last) =
     let same : pushed ≡ command.Dup 0 = cc last in

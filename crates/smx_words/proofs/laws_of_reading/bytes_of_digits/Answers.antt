@@ -12,7 +12,7 @@ apart x y e = ap (λ (bytes : List ℕ). get_or bytes 1 0) e
 
 pub returns-clause-not_others : goal.returns-clause-not_others
 unfolding encode_with
-returns-clause-not_others c h = absurd (omega (arith, apart 97 98 (h.spelled (omega arith))))
+returns-clause-not_others c h = absurd (omega (arith, apart 102 101 (h.spelled (omega arith))))
 
 pub returns-clause-not_accepted : goal.returns-clause-not_accepted
 unfolding encode_with
