@@ -12,15 +12,15 @@ abbrev pub place : ℕ → ℕ → Side → Place
 place driver minor s = record { stream = record { driver = driver; minor = minor }; side = s }
 
 -- the number of a driver's first place, and how many minors it has
-abbrev pub row : ℕ → ℕ → DriverRow
-row first minors = record { first = first; minors = minors }
+abbrev pub driver_row : ℕ → ℕ → DriverRow
+driver_row first minors = record { first = first; minors = minors }
 
 -- the numbers from the first one on, before the end
 abbrev pub span : ℕ → ℕ → Span
 span first end = record { first = first; end = end }
 
 abbrev pub rows : List DriverRow
-rows = row 0 2 ∷ row 4 1 ∷ []
+rows = driver_row 0 2 ∷ driver_row 4 1 ∷ []
 
 abbrev pub places : List Place
 places =

@@ -5,13 +5,13 @@ ghost use Rattle.smx_types.specs.declared.stream.Side.TheVariants as side;
 ghost use Rattle.smx_model.specs.Worked.Common.{eth, few_and_small, leaf};
 ghost use Rattle.smx_queues.specs.FlowTables.{fronts_of_driver};
 ghost use Rattle.smx_queues.specs.PlaceLists.{number_in, sides_of, ArePlaces, HaveDriversBelow, IsSpanOf};
-ghost use Rattle.smx_queues.specs.WorkedPlaces.{flow, place, places, queued, row, rows, span};
+ghost use Rattle.smx_queues.specs.WorkedPlaces.{driver_row, flow, place, places, queued, rows, span};
 
 /// The places of a driver are numbered from its first number on, two for each minor, the write side first.
 pub fn numbers_of_an_example()
-    ensures first { number_in (row 4 3) (place 1 0 side.Write) ≡ 4 }
-    ensures other_side { number_in (row 4 3) (place 1 0 side.Read) ≡ 5 }
-    ensures last { number_in (row 4 3) (place 1 2 side.Read) ≡ 9 }
+    ensures first { number_in (driver_row 4 3) (place 1 0 side.Write) ≡ 4 }
+    ensures other_side { number_in (driver_row 4 3) (place 1 0 side.Read) ≡ 5 }
+    ensures last { number_in (driver_row 4 3) (place 1 2 side.Read) ≡ 9 }
     ensures sides { sides_of 1 2 ≡ place 1 0 side.Write ∷ place 1 0 side.Read ∷ place 1 1 side.Write
         ∷ place 1 1 side.Read ∷ [] }
     ensures none { sides_of 1 0 ≡ [] }
@@ -21,11 +21,11 @@ pub fn numbers_of_an_example()
 /// the places have; and a place that comes again, is wanting, or that no driver has.
 pub fn places_of_an_example()
     ensures are { ArePlaces few_and_small rows places }
-    ensures not_with_a_row_more { ArePlaces few_and_small (rows ++ row 6 0 ∷ []) places → ⊥ }
+    ensures not_with_a_row_more { ArePlaces few_and_small (rows ++ driver_row 6 0 ∷ []) places → ⊥ }
     ensures not_without_rows { ArePlaces few_and_small [] places → ⊥ }
-    ensures not_of_fewer_minors { ArePlaces few_and_small (row 0 2 ∷ row 4 0 ∷ []) places → ⊥ }
-    ensures not_from_another_number { ArePlaces few_and_small (row 0 2 ∷ row 3 1 ∷ []) places → ⊥ }
-    ensures not_past_the_end { ArePlaces (few_and_small ++ leaf eth 0 ∷ []) (rows ++ row 7 0 ∷ []) places → ⊥ }
+    ensures not_of_fewer_minors { ArePlaces few_and_small (driver_row 0 2 ∷ driver_row 4 0 ∷ []) places → ⊥ }
+    ensures not_from_another_number { ArePlaces few_and_small (driver_row 0 2 ∷ driver_row 3 1 ∷ []) places → ⊥ }
+    ensures not_past_the_end { ArePlaces (few_and_small ++ leaf eth 0 ∷ []) (rows ++ driver_row 7 0 ∷ []) places → ⊥ }
     ensures not_with_one_wanting { ArePlaces few_and_small rows (take 5 places) → ⊥ }
     ensures not_with_one_again { ArePlaces few_and_small rows (places ++ place 0 0 side.Write ∷ []) → ⊥ }
     ensures not_with_another_minor { ArePlaces few_and_small rows (places ++ place 1 1 side.Write ∷ []) → ⊥ }
