@@ -13,4 +13,4 @@ IsFirstToRun seat =
 -- one has ended with this seat at this front
 abbrev pub HasEndedFirst : Known → Front → List Command → Type 0
 HasEndedFirst seat front program = HasEndedWith (λ k. k.process ≡ 0) (λ k. k) (λ whole commands. commands ≡ whole)
-    (record { seat = seat; front = front; program = record { value = program } })
+    (record { seat = seat; front = front; program = record { of = record {}; value = program } })
