@@ -5,6 +5,7 @@ pub mod laws;
 pub mod laws_of_lines;
 mod programs;
 mod reading;
+mod splitting;
 mod text_fault;
 mod transcript;
 mod transcript_writer;
@@ -21,6 +22,7 @@ pub use smx_types::{
     Place, Process, ProgramList, Programs, Reply, Route, RouteLine, RouteLines, Serials, Side,
     Sides, SpecFault, StreamId, Transcript, Version, Which,
 };
+pub use splitting::{SplitPrograms, next_command, split_programs};
 pub use text_fault::{Cause, TextFault};
 pub use transcript::read_transcript;
 pub use transcript_writer::{TranscriptWriter, transcript_header, write_view};
