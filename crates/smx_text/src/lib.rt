@@ -5,14 +5,16 @@ pub mod laws;
 pub mod laws_of_lines;
 mod programs;
 mod reading;
-mod splitting;
 mod text_fault;
 mod transcript;
 mod transcript_writer;
 pub mod worked_texts;
 mod write;
 
-pub use programs::{ProgramTaker, TakenPrograms, read_programs, take_programs};
+pub use programs::{
+    ProgramTaker, SplitPrograms, TakenPrograms, next_command, read_programs, split_programs,
+    take_programs,
+};
 pub use smx_types::{
     Binding, BindingLine, BindingLines, Bytes, Command, Commands, ConfigView, Copied, Descriptor,
     DescriptorLine, DescriptorLines, DriverKind, DriverSpec, Drivers, Entries, Entry, Fault,
@@ -22,7 +24,6 @@ pub use smx_types::{
     Place, Process, ProgramList, Programs, Reply, Route, RouteLine, RouteLines, Serials, Side,
     Sides, SpecFault, StreamId, Transcript, Version, Which,
 };
-pub use splitting::{SplitPrograms, next_command, split_programs};
 pub use text_fault::{Cause, TextFault};
 pub use transcript::read_transcript;
 pub use transcript_writer::{TranscriptWriter, transcript_header, write_view};
