@@ -14,10 +14,10 @@ use Rattle.smx_types.specs.declared.version.Version.{Version}
 use Rattle.smx_words.specs.Spellable.{FitsDriver}
 use Rattle.smx_words.specs.Spelling.{command_words, driver_words, process_words}
 use Rattle.smx_words.specs.Words.{LINE_FEED, line_of, text_of}
-use Rattle.smx_text.specs.Grammar.{beginning, header}
+use Rattle.smx_text.specs.Grammar.{header}
 use Rattle.smx_text.specs.ProgramLines.{Line}
 use Rattle.smx_text.specs.ProgramLines as line
-use Rattle.smx_text.specs.ProgramsText.{FitsLine, IsAllowed, SpellsPrograms, body, line_words, program_lines}
+use Rattle.smx_text.specs.ProgramsText.{FitsLine, SpellsPrograms, body, line_words, program_lines}
 use Rattle.smx_text.specs.ProgramsText.{programs_grammar}
 use Rattle.smx_text.specs.SplitPrograms.{IsProgramText, sections}
 use Rattle.smx_text.proofs.EachLemmas.{all_append, all_map}

@@ -3,6 +3,7 @@
 
 pub mod laws;
 pub mod laws_of_lines;
+pub mod laws_of_split_texts;
 mod programs;
 mod reading;
 mod text_fault;

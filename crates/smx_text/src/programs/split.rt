@@ -1,9 +1,9 @@
 //! A programs text, split into the text of each program before any of them is read.
 
-ghost use Rattle.std.specs.Prelude.{◌≡◌, ◌≤◌, ◌++◌, ◌∷◌, [], List, ℕ, length, map, codes, IfSome, IfOk, IfErr, MatchOption};
+ghost use Rattle.std.specs.Prelude.{◌≡◌, ◌≤◌, ◌++◌, ◌∷◌, [], List, length, map, codes};
+ghost use Rattle.std.specs.Prelude.{IfSome, IfOk, IfErr, MatchOption};
 ghost use Rattle.std.specs.List.{AllByRecursion, AllZip, sum_by};
 ghost use Rattle.std.specs.Vec.{vec_len};
-ghost use Rattle.smx_types.specs.ProgramLists.{ProgramLists};
 ghost use Rattle.smx_types.specs.Versions.{most_drivers};
 ghost use Rattle.smx_types.specs.declared.command.Command.{Command as AnyCommand};
 ghost use Rattle.smx_types.specs.declared.limits.TheConstants.{MAX_COMMANDS, MAX_PROCESSES};
