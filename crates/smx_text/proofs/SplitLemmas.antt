@@ -1,6 +1,6 @@
 -- The sections of a programs text, and the programs that it spells.
-use Rattle.std.proofs.Common.{◌≡◌, ℕ, ◌+◌, ◌≤◌, suc, List, [], ◌∷◌, ◌++◌, length, map, refl, sym, ap, ◌∙◌, append_assoc, arith}
-use Rattle.std.proofs.Common.{add-zero}
+use Rattle.std.proofs.Common.{◌≡◌, ℕ, ◌+◌, ◌≤◌, suc, List, [], ◌∷◌, ◌++◌, length, map, refl, sym, ap, ◌∙◌}
+use Rattle.std.proofs.Common.{add-zero, append_assoc, arith}
 use Rattle.std.specs.Borrow.{Bor}
 use Rattle.std.specs.Prelude.{codes}
 use Rattle.std.specs.List.{AllByRecursion, AllZip, sum_by}
@@ -56,7 +56,8 @@ pub section_read : (texts longer : List (Bor (List ℕ))) (text : Bor (List ℕ)
     → bytes ≡ sections 0 (bytes_of longer) ++ after
 section_read texts longer text number bytes rest after counted is parts next =
     let own : List ℕ = line_of (process_words number) ++ LINE_FEED ∷ text.now in
-    let same : 0 + length (bytes_of texts) ≡ number = omega (arith, counted, length-map {A = Bor (List ℕ)} {B = List ℕ}) in
+    let same : 0 + length (bytes_of texts) ≡ number =
+    omega (arith, counted, length-map {A = Bor (List ℕ)} {B = List ℕ}) in
     let more : sections 0 (bytes_of longer) ≡ sections 0 (bytes_of texts) ++ own =
     ap (λ (all : List (Bor (List ℕ))). sections 0 (bytes_of all)) is
     ∙ ap (sections 0) (map_push (λ (x : Bor (List ℕ)). x.now) texts text)
@@ -74,7 +75,8 @@ lines_append : (ls ks : List Line) → lines_text (ls ++ ks) ≡ lines_text ls +
 lines_append ls ks = ap text_of (map-append line_words ls ks) ∙ texts_append (map line_words ls) (map line_words ks)
 
 -- the lines of a program are its text
-commands_text : (commands : List Command) → lines_text (map line.Command commands) ≡ text_of (map command_words commands)
+commands_text : (commands : List Command)
+    → lines_text (map line.Command commands) ≡ text_of (map command_words commands)
 commands_text [] = refl
 commands_text (c ∷ cs) = ap (λ (xs : List ℕ). (line_of (command_words c) ++ LINE_FEED ∷ []) ++ xs) (commands_text cs)
 

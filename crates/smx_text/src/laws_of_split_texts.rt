@@ -1,5 +1,5 @@
-//! Laws of the texts of single programs, each the contract of a function that does nothing: what is one, by examples, why
-//! the next command of one is unread, and what is none of it.
+//! Laws of the texts of single programs, each the contract of a function that does nothing: what is one, by examples,
+//! why the next command of one is unread, and what is none of it.
 
 ghost use Rattle.std.specs.Prelude.{◌≡◌, ℕ, [], ◌∷◌, List, codes};
 ghost use Rattle.smx_types.specs.declared.command.Command.TheVariants as command;

@@ -22,8 +22,8 @@ use smx_types::{Command, DriverSpec, MAX_PROCESSES, Version};
 use smx_words::{command_of, driver_of, process_of};
 use std::alloc::Global;
 
-/// A programs text whose programs were not read yet: its version, its drivers, and for each process, from 0 on, the text
-/// of its program.
+/// A programs text whose programs were not read yet: its version, its drivers, and for each process, from 0 on, the
+/// text of its program.
 #[derive(Debug, Drop)]
 pub struct SplitPrograms<'a> {
     pub version: Version,
@@ -79,8 +79,8 @@ pub fn next_command(
     }
 }
 
-// The drivers with whose lines the bytes begin, all that stand there, and what follows them. Nothing where they are more
-// than a text of this version has, where no line follows them, or where memory is wanting.
+// The drivers with whose lines the bytes begin, all that stand there, and what follows them. Nothing where they are
+// more than a text of this version has, where no line follows them, or where memory is wanting.
 fn drivers_of(alloc: Global, version: Version, bytes: &[u8]) -> Option<(Vec<DriverSpec>, &[u8])>
     ensures few { IfSome result (λ x. vec_len x.0 ≤ most_drivers version) }
     ensures fit { IfSome result (λ x. AllByRecursion FitsDriver x.0.items) }
@@ -101,8 +101,8 @@ fn drivers_of(alloc: Global, version: Version, bytes: &[u8]) -> Option<(Vec<Driv
     }
 }
 
-// The texts of the programs of processes 0, 1 and so on, of which the bytes are the sections, and then the end. Nothing
-// where they are none, where they are too many processes, or where memory is wanting.
+// The texts of the programs of processes 0, 1 and so on, of which the bytes are the sections, and then the end.
+// Nothing where the bytes are none such, where the processes are too many, or where memory is wanting.
 fn texts_of(alloc: Global, bytes: &[u8]) -> Option<Vec<&[u8]>>
     ensures few { IfSome result (λ texts. vec_len texts ≤ MAX_PROCESSES) }
     ensures parts { IfSome result (λ texts.
