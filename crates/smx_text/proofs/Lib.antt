@@ -26,6 +26,7 @@ pub mod TranscriptDecidedLemmas
 pub mod WritingLemmas
 pub mod GrowingLemmas
 pub mod LastProgramLemmas
+pub mod SplitLemmas
 pub mod WorkedFaultLemmas
 pub mod WrongCommandLemmas
 pub mod WrongProgramLemmas

@@ -10,6 +10,7 @@ pub mod GrowingTranscripts
 pub mod Drafts
 pub mod Growing
 pub mod TakenPrograms
+pub mod SplitPrograms
 pub mod WorkedTexts
 pub mod WorkedFaults
 pub mod WorkedLines

@@ -3,6 +3,7 @@
 
 pub mod laws;
 pub mod laws_of_lines;
+pub mod laws_of_split_texts;
 mod programs;
 mod reading;
 mod text_fault;
@@ -11,7 +12,10 @@ mod transcript_writer;
 pub mod worked_texts;
 mod write;
 
-pub use programs::{ProgramTaker, TakenPrograms, read_programs, take_programs};
+pub use programs::{
+    ProgramTaker, SplitPrograms, TakenPrograms, next_command, read_programs, split_programs,
+    take_programs,
+};
 pub use smx_types::{
     Binding, BindingLine, BindingLines, Bytes, Command, Commands, ConfigView, Copied, Descriptor,
     DescriptorLine, DescriptorLines, DriverKind, DriverSpec, Drivers, Entries, Entry, Fault,

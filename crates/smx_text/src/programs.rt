@@ -5,6 +5,7 @@ ghost use Rattle.smx_text.specs.ProgramsText.{programs_grammar};
 
 mod draft;
 mod growing;
+mod split;
 mod taken;
 mod taker;
 
@@ -12,6 +13,7 @@ use crate::reading::read;
 use crate::text_fault::TextFault;
 use draft::ProgramsDraft;
 use smx_types::Programs;
+pub use split::{SplitPrograms, next_command, split_programs};
 use std::alloc::Global;
 pub use taken::TakenPrograms;
 pub use taker::ProgramTaker;

@@ -64,7 +64,7 @@ pub trait Draft: Drop {
 }
 
 // The first line, and what follows it; nothing where no line is whole.
-fn next_line(bytes: &[u8]) -> Option<(&[u8], &[u8])>
+pub(crate) fn next_line(bytes: &[u8]) -> Option<(&[u8], &[u8])>
     ensures next { MatchOption result (IsOneLine bytes.now)
         (λ x. IsOneLine x.0.now × (bytes.now ≡ x.0.now ++ LINE_FEED ∷ x.1.now)) }
 {
@@ -97,7 +97,7 @@ pub fn read<D: Draft>(alloc: Global, with: D::With, bytes: &[u8]) -> Result<D::W
 }
 
 // The version that the header names, and what follows it.
-fn after_header<D: Draft>(bytes: &[u8]) -> Result<(Version, &[u8]), TextFault>
+pub(crate) fn after_header<D: Draft>(bytes: &[u8]) -> Result<(Version, &[u8]), TextFault>
     ensures ok { IfOk result (λ x. bytes.now ≡ header (D.grammar x.0) ++ LINE_FEED ∷ x.1.now) }
     ensures err { IfErr result (λ f. (v : AnyVersion) → IsFault (D.grammar v) bytes.now f.line f.cause) }
 {
