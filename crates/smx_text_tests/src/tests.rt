@@ -7,6 +7,7 @@ mod entries;
 mod faults;
 mod program_texts;
 mod spelling;
+mod split_texts;
 mod sweeps;
 mod taken_lines;
 mod transcript_texts;

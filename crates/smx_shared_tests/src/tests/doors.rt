@@ -68,7 +68,10 @@ impl Door for OwnDoor {
 }
 
 // Three commands for a process, with a seat of its own at a system with no entry, and of one at most.
-fn job_of(rt: &(impl AllocGlobal + Abort), process: u32) -> SeatedProgram<OwnSeat, IntoIter<Command>>
+fn job_of(
+    rt: &(impl AllocGlobal + Abort),
+    process: u32,
+) -> SeatedProgram<OwnSeat, IntoIter<Command>>
     ensures { result.seat.system.history ≡ [] }
 {
     let mut commands = Commands::new(rt.alloc());
@@ -84,7 +87,11 @@ fn job_of(rt: &(impl AllocGlobal + Abort), process: u32) -> SeatedProgram<OwnSea
 }
 
 // Two processes of one worker.
-fn hand_of(rt: &(impl AllocGlobal + Abort), earlier: u32, later: u32) -> Vec<SeatedProgram<OwnSeat, IntoIter<Command>>>
+fn hand_of(
+    rt: &(impl AllocGlobal + Abort),
+    earlier: u32,
+    later: u32,
+) -> Vec<SeatedProgram<OwnSeat, IntoIter<Command>>>
     ensures { All (λ j. j.seat.system.history ≡ []) result.items }
 {
     let hand = vec![in rt.alloc(); job_of(rt, earlier), job_of(rt, later)];

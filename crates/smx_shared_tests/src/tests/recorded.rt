@@ -1,21 +1,25 @@
 //! Runs of which a recorder is told: of programs that grow while their text is read, and of several workers. What it is
 //! told, and a gate, of drivers that are refused, and where the recorder wants memory.
 
-ghost use Rattle.std.specs.Prelude.{◌<◌, ◌≤◌, length};
+ghost use Rattle.std.specs.Prelude.{◌≡◌, ◌<◌, ◌≤◌, length, vec_len};
 
 use super::gates::Told::{After, Before};
 use super::gates::{Log, Told};
 use super::growing::{Growing, Kept};
 use super::made::read;
 use super::told::{IN_TURN, SIX};
-use smx_run::{Gate, RunFault, run_recorded_together};
+use smx_run::{Gate, RunFault, Source, run_recorded_together, run_sources_together};
 use smx_text::{read_programs, take_programs};
-use smx_types::{ConfigView, Process, Programs, Transcript};
+use smx_types::{
+    Command, ConfigView, MAX_PROCESSES, NoMemory, Process, ProgramList, Programs, Transcript,
+};
+use std::alloc::Global;
 use std::mem::forget;
 use std::process::Abort;
 use std::sync::Wait;
 use std::sync::atomic::{AtomicUsize, Ordering};
 use std::thread::Threads;
+use std::vec::IntoIter;
 
 // What comes of a run.
 type Ran<'a> = Result<(Kept<'a>, ConfigView), RunFault>;
@@ -27,6 +31,45 @@ enum Way {
     Growing,
     // By so many workers, when all are read.
     Together(usize),
+    // By so many workers, from sources of which each gives so many commands.
+    Sources(usize, usize),
+}
+
+// Gives so many commands of a program at most; of the next one it can't tell.
+#[derive(Drop)]
+struct Torn {
+    commands: IntoIter<Command>,
+    most: usize,
+}
+
+impl Source for Torn {
+    ghost use Rattle.std.specs.Prelude.{◌≡◌};
+    ghost use Rattle.std.specs.Vec.Iter.{into_iter_items, into_iter_len};
+
+    ghost left = { λ torn commands. commands ≡ into_iter_items torn.commands };
+
+    ghost size = { λ torn. into_iter_len torn.commands };
+
+    fn next_command(&mut self, _alloc: Global) -> Result<Option<Command>, NoMemory> {
+        let next = self.commands.next();
+        if next.is_some() && self.most == 0 {
+            return Err(NoMemory);
+        }
+        self.most = self.most.saturating_sub(1);
+        Ok(next)
+    }
+}
+
+// These programs, as such sources.
+fn torn_sources(rt: &(impl AllocGlobal + Abort), programs: ProgramList, most: usize) -> Vec<Torn>
+    ensures { vec_len result ≡ length programs }
+{
+    let mut sources = Vec::with_capacity(rt.alloc(), programs.as_slice().len()).expect(rt, "room");
+    for commands in programs.into_vec() {
+        let commands = commands.into_vec().into_iter();
+        sources.push_reserved(Torn { commands, most });
+    }
+    sources
 }
 
 // The programs that this text spells.
@@ -88,6 +131,19 @@ fn ran<R: AllocGlobal + Abort + Threads + Wait + Sync>(
             assert!(rt; 1 <= workers);
             let programs = programs_of(rt, text);
             let ran = run_recorded_together(rt, rt.alloc(), programs, workers, room, log);
+            end_of(rt, ran, wanted)
+        }
+        Way::Sources(workers, most) => {
+            assert!(rt; 1 <= workers);
+            let programs = programs_of(rt, text);
+            let version = programs.version();
+            let (drivers, programs) = programs.into_parts();
+            let drivers = drivers.as_slice();
+            let sources = torn_sources(rt, programs, most);
+            let alloc = rt.alloc();
+            let ran = run_sources_together(
+                rt, alloc, version, drivers, sources, workers, room, log,
+            );
             end_of(rt, ran, wanted)
         }
     }
@@ -284,4 +340,80 @@ fn a_recorded_run_tells_right_before_and_right_after(rt: HostRuntime) {
     assert!(rt; runs(&rt, &told, &gate));
     assert!(rt; told.load(Ordering::SeqCst) == 14);
     assert!(rt; gate.in_time.load(Ordering::SeqCst) == 26);
+}
+
+const ONE_PROCESS: &[u8] = b"programs 1
+driver ip mux 2 8 3 16
+driver eth leaf 1 4 0 2
+process 0
+clone eth
+write 0 7 0a
+clone ip
+clone eth
+inject eth 0 5 0b
+close 1
+end
+";
+
+const OF_ONE_PROCESS: &[u8] = b"transcript 1
+driver ip mux 2 8 3 16
+driver eth leaf 1 4 0 2
+0 clone eth = fd 0 0
+0 write 0 7 0a = took 1
+0 clone ip = fd 1 0
+0 clone eth = ENXIO minor
+0 inject eth 0 5 0b = took 2
+0 close 1 = done
+config
+next 1 3
+fd 0 0 eth 0
+msg eth 0 w 1 7 0a
+msg eth 0 r 2 5 0b
+end
+";
+
+#[test]
+fn programs_from_sources_are_run_as_those_of_lists(rt: HostRuntime) {
+    for workers in 1..4 {
+        let (count, log) = (AtomicUsize::new(0), Log::of(&rt, 0));
+        let way = Way::Sources(workers, 6);
+        assert!(rt; ran(&rt, way, ONE_PROCESS, &count, 9, &log, OF_ONE_PROCESS).is_none());
+        forget(log);
+    }
+}
+
+// What a gate is told of the six commands of the one process.
+const OF_ITS_COMMANDS: [Told; 12] = [
+    Before(0, 0),
+    After(0, 0),
+    Before(0, 1),
+    After(0, 1),
+    Before(0, 2),
+    After(0, 2),
+    Before(0, 3),
+    After(0, 3),
+    Before(0, 4),
+    After(0, 4),
+    Before(0, 5),
+    After(0, 5),
+];
+
+// A source that can't tell its next command behind so many is want of memory, and its worker stops there.
+fn stops_within<R: AllocGlobal + Abort + Threads + Wait + Sync>(rt: &R, commands: usize)
+    requires { commands < 6 }
+{
+    let (count, log) = (AtomicUsize::new(0), Log::of(rt, 12));
+    let way = Way::Sources(1, commands);
+    let fault = ran(rt, way, ONE_PROCESS, &count, 9, &log, b"");
+    assert!(rt; fault == Some(RunFault::NoMemory));
+    assert_eq!(rt; count.load(Ordering::SeqCst), commands + 1);
+    assert!(rt; log.has(&OF_ITS_COMMANDS[..2 * commands]));
+    forget(log);
+}
+
+#[test]
+fn a_run_stops_where_a_source_does(rt: HostRuntime) {
+    for commands in 0..6 {
+        stops_within(&rt, commands);
+    }
 }
