@@ -4,7 +4,7 @@ use Rattle.smx_types.specs.declared.command.Command.{Command}
 use Rattle.smx_shared.specs.Seats.{Known}
 use Rattle.smx_shared.specs.declared.front.Front.{Front}
 use Rattle.smx_run.specs.Alone.{KeepsBehind, StopsWithin}
-use Rattle.smx_run.specs.Sources.{IsNextOf}
+use Rattle.smx_run.specs.CommandSources.{IsNextOf}
 use Rattle.smx_run.specs.Hands.{HasEndedWith, IsToRunWith}
 
 -- the commands of a program that is a list of them, and nothing else

@@ -8,7 +8,7 @@ ghost use Rattle.smx_run.specs.Hands.{AreFresh, EndsAt, HaveEnded, IsFresh};
 ghost use Rattle.smx_shared.specs.Seats.{SharedId};
 ghost use Rattle.smx_run.specs.ProgramOrder.{numbered};
 
-use crate::source::Source;
+use crate::command_source::CommandSource;
 use crate::worker::{EndedProgram, SeatedProgram};
 use smx_shared::{Door, Keeper, Seat, Shared};
 use smx_types::NoMemory;
@@ -16,7 +16,7 @@ use std::alloc::Global;
 use std::snapshot::Snapshot;
 
 /// A hand of processes for each of so many workers.
-pub fn deal<K: Keeper, P: Source>(
+pub fn deal<K: Keeper, P: CommandSource>(
     alloc: Global,
     seats: Vec<Seat<K>>,
     programs: Vec<P>,
@@ -40,7 +40,7 @@ pub fn deal<K: Keeper, P: Source>(
 }
 
 // Hands with nothing in them.
-fn empty_hands<K: Keeper, P: Source>(
+fn empty_hands<K: Keeper, P: CommandSource>(
     alloc: Global,
     workers: usize,
 ) -> Result<Vec<Vec<SeatedProgram<Seat<K>, P>>>, NoMemory>
@@ -56,7 +56,7 @@ fn empty_hands<K: Keeper, P: Source>(
 }
 
 // One process more for its worker.
-fn give<K: Keeper, P: Source>(
+fn give<K: Keeper, P: CommandSource>(
     hands: &mut Vec<Vec<SeatedProgram<Seat<K>, P>>>,
     seat: Seat<K>,
     program: P,
@@ -75,7 +75,7 @@ fn give<K: Keeper, P: Source>(
 }
 
 /// What came of the processes of these programs, put back into their order.
-pub fn collect<K: Keeper, P: Source>(
+pub fn collect<K: Keeper, P: CommandSource>(
     alloc: Global,
     mut hands: Vec<Vec<EndedProgram<Seat<K>, P>>>,
     processes: usize,
@@ -96,7 +96,7 @@ pub fn collect<K: Keeper, P: Source>(
 }
 
 // The first that is left of what a worker did.
-fn take_first<K: Keeper, P: Source>(
+fn take_first<K: Keeper, P: CommandSource>(
     hands: &mut Vec<Vec<EndedProgram<Seat<K>, P>>>,
     worker: usize,
 ) -> EndedProgram<Seat<K>, P>

@@ -6,7 +6,7 @@ ghost use Rattle.smx_shared.specs.Recorded.{Recorded};
 ghost use Rattle.smx_run.specs.Hands.{HaveEnded};
 ghost use Rattle.smx_run.specs.Meeting.{IsBorneOutBy};
 
-use crate::source::Source;
+use crate::command_source::CommandSource;
 use crate::worker::EndedProgram;
 use smx_shared::{Fronts, Keeper, Seat, Shared};
 use smx_types::NoMemory;
@@ -14,7 +14,7 @@ use std::alloc::Global;
 
 /// The first seat, once it has met all the others, and the fronts that they saw last. Whatever it then ends as bears
 /// all of them out.
-pub fn meet_all<K: Keeper, P: Source>(
+pub fn meet_all<K: Keeper, P: CommandSource>(
     alloc: Global,
     shared: &Shared<K>,
     mut ended: Vec<EndedProgram<Seat<K>, P>>,

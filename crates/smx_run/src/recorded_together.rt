@@ -7,11 +7,11 @@ ghost use Rattle.smx_model.specs.DriverList.{IsDriverList};
 ghost use Rattle.smx_run.specs.RecordedRuns.{IsRecordOfRun, IsRecordOfSources};
 ghost use Rattle.smx_run.specs.RunFaults.{RefusesRun};
 
+use crate::command_source::{CommandSource, sources_of};
 use crate::gate::Gate;
 use crate::recorder::{NewRecorder, Recorder};
 use crate::run_fault::RunFault;
 use crate::scribe::{About, Scribe};
-use crate::source::{Source, sources_of};
 use crate::threads::run_together;
 use smx_config::Config;
 use smx_model::laws_of_messages::few_commands_drop;
@@ -54,7 +54,7 @@ pub fn run_recorded_together<R: Threads + Wait + Sync, K: NewRecorder + Send, G:
 pub fn run_sources_together<
     R: Threads + Wait + Sync,
     K: NewRecorder + Send,
-    P: Source + Send,
+    P: CommandSource + Send,
     G: Gate + Sync,
 >(
     rt: &R,
@@ -101,7 +101,7 @@ fn run_about<
     A: About + Send,
     R: Threads + Wait + Sync,
     K: Recorder + Send,
-    P: Source + Send,
+    P: CommandSource + Send,
     G: Gate + Sync,
 >(
     rt: &R,

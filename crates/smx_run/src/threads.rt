@@ -14,11 +14,11 @@ ghost use Rattle.smx_run.specs.Hands.{HasRunAll, IsSeenFull};
 ghost use Rattle.smx_run.specs.ProgramOrder.{Calls, numbered};
 ghost use Rattle.smx_run.specs.RunFaults.{RefusesRun};
 
+use crate::command_source::CommandSource;
 use crate::gate::Gate;
 use crate::hands::{collect, deal};
 use crate::meeting::meet_all;
 use crate::run_fault::RunFault;
-use crate::source::Source;
 use crate::worker::{EndedProgram, SeatedProgram, work};
 use smx_shared::{ApplyFault, Fronts, Keeper, Seat, Shared, System};
 use std::alloc::Global;
@@ -29,7 +29,12 @@ use std::thread::{Promise, Scope, Threads};
 
 /// Has the programs run by so many workers, and gives the system back that they shared, with the fronts that were seen
 /// when each program had ended.
-pub fn run_together<R: Threads + Wait + Sync, K: Keeper + Send, P: Source + Send, G: Gate + Sync>(
+pub fn run_together<
+    R: Threads + Wait + Sync,
+    K: Keeper + Send,
+    P: CommandSource + Send,
+    G: Gate + Sync,
+>(
     rt: &R,
     alloc: Global,
     system: System<K>,
@@ -52,7 +57,7 @@ pub fn run_together<R: Threads + Wait + Sync, K: Keeper + Send, P: Source + Send
 }
 
 // Has each seat run its program, by so many workers.
-fn run_seats<R: Threads + Wait + Sync, K: Keeper + Send, P: Source + Send, G: Gate + Sync>(
+fn run_seats<R: Threads + Wait + Sync, K: Keeper + Send, P: CommandSource + Send, G: Gate + Sync>(
     rt: &R,
     alloc: Global,
     shared: &Shared<K>,
@@ -77,12 +82,12 @@ fn run_seats<R: Threads + Wait + Sync, K: Keeper + Send, P: Source + Send, G: Ga
 
 // What a worker makes of its hand, at a shared system, or why it stops.
 #[derive(Drop)]
-struct Runs<K: Keeper, P: Source>(
+struct Runs<K: Keeper, P: CommandSource>(
     Snapshot<Vec<SeatedProgram<Seat<K>, P>>>,
     Snapshot<Shared<K>>,
 );
 
-impl<K: Keeper, P: Source> Promise<Result<Vec<EndedProgram<Seat<K>, P>>, ApplyFault>>
+impl<K: Keeper, P: CommandSource> Promise<Result<Vec<EndedProgram<Seat<K>, P>>, ApplyFault>>
     for Runs<K, P> {
     ghost use Rattle.std.specs.Prelude.{ℕ, ◌≡◌, IfOk, IsErrOf};
     ghost use Rattle.smx_shared.specs.declared.shared_fault.ApplyFault.TheVariants as apply;
@@ -94,7 +99,7 @@ impl<K: Keeper, P: Source> Promise<Result<Vec<EndedProgram<Seat<K>, P>>, ApplyFa
 }
 
 // Each hand on a thread of its own, the first on this one.
-fn run_hands<R: Threads + Wait + Sync, K: Keeper + Send, P: Source + Send, G: Gate + Sync>(
+fn run_hands<R: Threads + Wait + Sync, K: Keeper + Send, P: CommandSource + Send, G: Gate + Sync>(
     rt: &R,
     alloc: Global,
     shared: &Shared<K>,
@@ -125,7 +130,7 @@ fn run_from<
     E,
     R: Threads + Wait + Sync,
     K: Keeper + Send,
-    P: Source + Send + 's,
+    P: CommandSource + Send + 's,
     G: Gate + Sync,
 >(
     scope: &'s Scope<'s, E>,
@@ -171,7 +176,7 @@ fn run_from<
 
 // What came of some hands, and of one more. Want of memory precedes a full history, which is answered where one of them
 // met it and the other wanted no memory, and nowhere else.
-fn and_then<K: Keeper, P: Source>(
+fn and_then<K: Keeper, P: CommandSource>(
     before: Result<Vec<Vec<EndedProgram<Seat<K>, P>>>, ApplyFault>,
     last: Result<Vec<EndedProgram<Seat<K>, P>>, ApplyFault>,
 ) -> Result<Vec<Vec<EndedProgram<Seat<K>, P>>>, ApplyFault>

@@ -6,9 +6,9 @@ ghost use Rattle.smx_run.specs.Alone.{StopsWithin};
 ghost use Rattle.smx_run.specs.Hands.{given, ran, HasCalled, HasCalledAll, IsToRunWith, HasEndedWith, KnowsItFull};
 ghost use Rattle.smx_run.specs.Hands.{SomeKnowsItFull};
 
+use crate::command_source::CommandSource;
 use crate::gate::Gate;
 use crate::past::Past;
-use crate::source::Source;
 use smx_shared::{ApplyFault, Door, Front};
 use std::alloc::Global;
 use std::sync::Wait;
@@ -31,7 +31,7 @@ pub struct EndedProgram<S: Drop, P: Drop> {
 
 /// Runs each process to its end, in turn, or to the first fault. A full history is answered only where one of its seats
 /// has seen it full. The door is any that keeps its promises, as a `Shared` system does.
-pub fn work<D: Door, P: Source, G: Gate, R: Wait>(
+pub fn work<D: Door, P: CommandSource, G: Gate, R: Wait>(
     rt: &R,
     alloc: Global,
     door: &D,
@@ -53,7 +53,7 @@ where
 }
 
 // Runs a process to its end, and then looks how far the history is.
-fn run_job<D: Door, P: Source, G: Gate, R: Wait>(
+fn run_job<D: Door, P: CommandSource, G: Gate, R: Wait>(
     rt: &R,
     alloc: Global,
     door: &D,
@@ -80,7 +80,7 @@ where
 
 // Has the commands of a program performed with its seat, in order, to the end of it or to the first fault. The gate is
 // told of each under the process that the seat is of.
-fn run_program<D: Door, P: Source, G: Gate, R: Wait>(
+fn run_program<D: Door, P: CommandSource, G: Gate, R: Wait>(
     rt: &R,
     alloc: Global,
     door: &D,

@@ -8,7 +8,7 @@ use super::gates::{Log, Told};
 use super::growing::{Growing, Kept};
 use super::made::read;
 use super::told::{IN_TURN, SIX};
-use smx_run::{Gate, RunFault, Source, run_recorded_together, run_sources_together};
+use smx_run::{Gate, RunFault, CommandSource, run_recorded_together, run_sources_together};
 use smx_text::{read_programs, take_programs};
 use smx_types::{
     Command, ConfigView, MAX_PROCESSES, NoMemory, Process, ProgramList, Programs, Transcript,
@@ -42,7 +42,7 @@ struct Torn {
     most: usize,
 }
 
-impl Source for Torn {
+impl CommandSource for Torn {
     ghost use Rattle.std.specs.Prelude.{◌≡◌};
     ghost use Rattle.std.specs.Vec.Iter.{into_iter_items, into_iter_len};
 

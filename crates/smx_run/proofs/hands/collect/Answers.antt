@@ -9,7 +9,7 @@ loop-process-init g c = record {
   room = omega (arith, c.in_ok-ended.ensures.capacity);
   counted = omega (arith, c.in_ok-ended.ensures.len);
   workers = refl;
-  ended = λ name all. (all, all_of_none (EndsAt g.P.Source.left name) _ c.in_ok-ended.ensures.items);
+  ended = λ name all. (all, all_of_none (EndsAt g.P.CommandSource.left name) _ c.in_ok-ended.ensures.items);
   dealt = λ k below. rw c.requires.dealt (hand_at _ _ k below);
   called = rw c.in_ok-ended.ensures.items refl;
 }
@@ -49,7 +49,7 @@ loop-process-preserved g c =
       ended = λ name all.
           let was = before.ended name all in
           let next = c.take_first.ensures.ended name was.0 in
-          (next.1, all_more (EndsAt g.P.Source.left name) _ _ _ was.1 next.0 c.push_reserved.ensures.items);
+          (next.1, all_more (EndsAt g.P.CommandSource.left name) _ _ _ was.1 next.0 c.push_reserved.ensures.items);
       dealt = taken.1;
       called = collect_next p (p + 1) _ _ _ one _ _ _ before.called
           (pushed (ran known_at) _ _ _ _ _ c.push_reserved.ensures.items refl refl) taken.0 refl next.1;

@@ -10,8 +10,8 @@ invariant-loop-process g l = record {
   room : l.processes ≤ vec_capacity l.ended;
   counted : vec_len l.ended ≡ l.process;
   workers : vec_len l.hands ≡ vec_len l.fn.hands;
-  ended : (name : SharedId) → All (HaveEnded g.P.Source.left name) l.fn.hands.items
-      → All (HaveEnded g.P.Source.left name) l.hands.items × HaveEnded g.P.Source.left name l.ended;
+  ended : (name : SharedId) → All (HaveEnded g.P.CommandSource.left name) l.fn.hands.items
+      → All (HaveEnded g.P.CommandSource.left name) l.hands.items × HaveEnded g.P.CommandSource.left name l.ended;
   dealt : (k : ℕ) → k < vec_len l.fn.hands → get_or (map ran_hand l.hands.items) k []
       ≡ hand_of (vec_len l.fn.hands) (numbered l.process (drop l.process l.programs.value.items)) k;
   called : ran_hand l.ended ++ numbered l.process (drop l.process l.programs.value.items) ≡ numbered 0 l.programs.value.items;

@@ -24,7 +24,7 @@ pub returns-then-is_empty-clause-ended : goal.returns-then-is_empty-clause-ended
 returns-then-is_empty-clause-ended g n c =
     let name = c.args.shared.now.name in
     IfOk-weaker c.and_then.result _ _
-    (λ v both. both name (all_of_none (HaveEnded g.P.Source.left name) _ c.new-then-is_empty.ensures.items) c.work-first.ensures.ended)
+    (λ v both. both name (all_of_none (HaveEnded g.P.CommandSource.left name) _ c.new-then-is_empty.ensures.items) c.work-first.ensures.ended)
     c.and_then.ensures.ended
 
 pub spawn_with-worker-requires-clause-runs : goal.spawn_with-worker-requires-clause-runs

@@ -1,6 +1,6 @@
 use Rattle.std.proofs.Common.{◌∷◌, ◌++◌, [], Option, subst, append_assoc}
 use Rattle.smx_types.specs.declared.command.Command.{Command}
-use Rattle.smx_run.specs.Sources.{IsNextOf}
+use Rattle.smx_run.specs.CommandSources.{IsNextOf}
 use Rattle.smx_run.proofs.RunLemmas.{called_more}
 use Rattle.smx_run.proofs.worker.run_program.Goals as goal
 
@@ -8,7 +8,7 @@ pub loop-program-preserved : goal.loop-program-preserved
 loop-program-preserved g c =
     let before = c.loop-program.invariant in
     let command = c.in-Some.command in
-    let next = subst (λ (o : Option Command). IsNextOf g.P.Source.left g.P.Source.size c.loop-program.program o
+    let next = subst (λ (o : Option Command). IsNextOf g.P.CommandSource.left g.P.CommandSource.size c.loop-program.program o
     c.next_command.new.self) c.in-Some.is c.in_ok-command.ensures in
     record {
       seat = c.perform-outcome.ensures.seat;

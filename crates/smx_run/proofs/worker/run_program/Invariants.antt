@@ -8,9 +8,9 @@ invariant-loop-program g l = record {
   seat : g.D.Door.is_seat l.door l.seat;
   done : List Command;
   called : HasCalled (g.D.Door.known l.fn.seat) done (g.D.Door.known l.seat);
-  behind : (commands : List Command) → g.P.Source.left l.program commands
-      → g.P.Source.left l.fn.program (done ++ commands);
+  behind : (commands : List Command) → g.P.CommandSource.left l.program commands
+      → g.P.CommandSource.left l.fn.program (done ++ commands);
 }
 
 abbrev pub decreases-loop-program : goal.decreases-loop-program
-decreases-loop-program g l = g.P.Source.size l.program
+decreases-loop-program g l = g.P.CommandSource.size l.program

@@ -10,5 +10,5 @@ invariant-loop-job g l = record {
   left : length l.yielded + into_iter_len l.job-iterator ≡ vec_len l.fn.hand;
   counted : vec_len l.done ≡ length l.yielded;
   ran : map (ran g.D.Door.known) l.done.items ≡ map (given g.D.Door.known) l.yielded;
-  ended : All (HasEndedWith (g.D.Door.is_seat l.door) g.D.Door.known g.P.Source.left) l.done.items;
+  ended : All (HasEndedWith (g.D.Door.is_seat l.door) g.D.Door.known g.P.CommandSource.left) l.done.items;
 }

@@ -8,10 +8,10 @@ use std::alloc::Global;
 use std::vec::IntoIter;
 
 /// The program of a process, whose commands come one after the other, each when it is asked for.
-pub trait Source: Drop {
+pub trait CommandSource: Drop {
     ghost use Rattle.std.specs.Prelude.{ℕ, List, IfOk};
     ghost use Rattle.smx_types.specs.declared.command.Command.{Command as AnyCommand};
-    ghost use Rattle.smx_run.specs.Sources.{IsNextOf};
+    ghost use Rattle.smx_run.specs.CommandSources.{IsNextOf};
 
     // These may be the commands that are left of it.
     ghost left: { Self → List AnyCommand → Type 0 };
@@ -25,7 +25,7 @@ pub trait Source: Drop {
         ensures { IfOk result (λ next. IsNextOf left size self.old next self.new) };
 }
 
-impl Source for IntoIter<Command> {
+impl CommandSource for IntoIter<Command> {
     ghost use Rattle.std.specs.Prelude.{◌≡◌};
     ghost use Rattle.std.specs.Vec.Iter.{into_iter_items, into_iter_len};
 
