@@ -3,6 +3,7 @@ use Rattle.std.proofs.Common.{◌≡◌, ◌≢◌, ℕ, zero, suc, ◌+◌, ◌
 use Rattle.std.proofs.Common.{get_or, refl, ap, sym, subst, ◌∙◌, arith, inl, inr, append_assoc}
 use Rattle.std.proofs.lemmas.Bool.{cases_lt}
 use Rattle.std.proofs.lemmas.List.{append-nil, map-append, get_or_past}
+use Rattle.std.specs.List.{AllZip}
 use Rattle.smx_types.specs.declared.command.Command.{Command}
 use Rattle.smx_types.specs.declared.command.Entry.{Entry}
 use Rattle.smx_types.specs.declared.driver.DriverSpec.{DriverSpec}
@@ -17,9 +18,9 @@ use Rattle.smx_shared.specs.declared.shared_fault.ApplyFault.{ApplyFault}
 use Rattle.smx_shared.specs.declared.shared_fault.ApplyFault.TheVariants as apply
 use Rattle.smx_shared.specs.declared.seat_view.MetSeat.{MetSeat}
 use Rattle.smx_run.specs.Fronts.{IsFrontAfter, AreFrontsFrom}
-use Rattle.smx_run.specs.Hands.{called, calls_in, known_at, HasCalled, IsFresh, EndsAt}
+use Rattle.smx_run.specs.Hands.{called, ran, calls_in, known_at, HasCalled, IsFresh, EndsAt}
 use Rattle.smx_run.specs.Meeting.{IsBorneOutBy}
-use Rattle.smx_run.specs.ProgramOrder.{Calls, calls_of, calls_from, numbered}
+use Rattle.smx_run.specs.ProgramOrder.{Calls, calls_of, calls_from, numbered, numbered_calls}
 use Rattle.smx_run.specs.declared.worker.EndedProgram.{EndedProgram}
 use Rattle.smx_shared.proofs.OwnEntryLemmas.{entries_none}
 use Rattle.smx_run.proofs.HandLemmas.{take_off}
@@ -67,11 +68,37 @@ commands_ended h k n commands is exact =
     ∙ of_program n commands
 
 -- where there are programs, somebody has ended
-pub some_ended : (ended : List (EndedProgram Seated)) (programs : List (List Command))
-    → map (called known_at) ended ≡ numbered 0 programs → 1 ≤ length programs → ended ≢ []
+pub some_ended : {P : Type 0} (ended : List (EndedProgram Seated P)) (programs : List P)
+    → map (ran known_at) ended ≡ numbered 0 programs → 1 ≤ length programs → ended ≢ []
 some_ended ended [] is some none = omega arith
-some_ended [] (commands ∷ programs) is some none = cc
-some_ended (d ∷ ended) (commands ∷ programs) is some none = cc
+some_ended [] (program ∷ programs) is some none = cc
+some_ended (d ∷ ended) (program ∷ programs) is some none = cc
+
+-- some commands may be all of each program, and these were called
+pub all_called : {P : Type 0} (left : P → List Command → Type 0) (name : SharedId) (n : ℕ)
+    (ended : List (EndedProgram Seated P)) (sources : List P)
+    → map (ran known_at) ended ≡ numbered n sources → All (EndsAt left name) ended
+    → (programs : List (List Command)) × AllZip left sources programs
+    × (map (called known_at) ended ≡ numbered_calls n programs)
+all_called left name n [] [] is ends = ([], tt, refl)
+all_called left name n [] (source ∷ sources) is ends = absurd cc
+all_called left name n (d ∷ ended) [] is ends = absurd cc
+all_called {P = P} left name n (d ∷ ended) (source ∷ sources) is ends =
+    let first : ran known_at d ≡ (n, source) = cc in
+    let process : d.seat.known.process ≡ n = ap (λ (x : ℕ × P). x.0) first in
+    let program : d.program.value ≡ source = ap (λ (x : ℕ × P). x.1) first in
+    let others : map (ran known_at) ended ≡ numbered (n + 1) sources = cc in
+    let end = take_off (EndsAt left name) (d ∷ ended) ended d refl ends in
+    let rest = all_called left name (n + 1) ended sources others end.1 in
+    let run = end.0.run in
+    let calls : calls_in d.seat.known.own
+    ≡ calls_of n run.commands = run.calls ∙ ap (λ (p : ℕ). calls_of p run.commands) process in
+    let one : called known_at d ≡ (n, calls_of n run.commands) = λ i. (process i, calls i) in (
+      run.commands ∷ rest.0,
+      (subst (λ (p : P). left p run.commands) program run.all_of_it, rest.1),
+      ap (λ (c : Calls). c ∷ map (called known_at) ended) one
+          ∙ ap (λ (cs : List Calls). (n, calls_of n run.commands) ∷ cs) rest.2,
+    )
 
 -- ---- a meeting
 
@@ -163,8 +190,8 @@ called_same a b c commands was more same =
 -- ---- the whole history
 
 -- each program is held by a history that bears out all who have ended
-holds_at : (s : Recorded) (k n p : ℕ) (ended : List (EndedProgram Seated)) (programs : List (List Command))
-    → map (called known_at) ended ≡ numbered n programs → All (IsBorneOutBy s) ended → k < length programs
+holds_at : {P : Type 0} (s : Recorded) (k n p : ℕ) (ended : List (EndedProgram Seated P))
+    (programs : List (List Command)) → map (called known_at) ended ≡ numbered_calls n programs → All (IsBorneOutBy s) ended → k < length programs
     → p ≡ k + n → commands_of p s.history ≡ get_or programs k []
 holds_at s k n p ended [] is borne below at = absurd (omega arith)
 holds_at s k n p [] (commands ∷ programs) is borne below at = absurd cc
@@ -173,13 +200,13 @@ holds_at s zero n p (d ∷ ended) (commands ∷ programs) is borne below at =
     let here : p ≡ n = omega arith in
     rw here (commands_ended s.history d.seat.known n commands first (borne 0 d (omega arith)).exact)
 holds_at s (suc k) n p (d ∷ ended) (commands ∷ programs) is borne below at =
-    let others : map (called known_at) ended ≡ numbered (n + 1) programs = cc in
+    let others : map (called known_at) ended ≡ numbered_calls (n + 1) programs = cc in
     holds_at s k (n + 1) p ended programs others (take_off (IsBorneOutBy s) (d ∷ ended) ended d refl borne).1
     (omega arith) (omega arith)
 
 -- and a process past the last has none
-pub holds_all : (s : Recorded) (ended : List (EndedProgram Seated)) (programs : List (List Command))
-    → map (called known_at) ended ≡ numbered 0 programs → All (IsBorneOutBy s) ended
+pub holds_all : {P : Type 0} (s : Recorded) (ended : List (EndedProgram Seated P)) (programs : List (List Command))
+    → map (called known_at) ended ≡ numbered_calls 0 programs → All (IsBorneOutBy s) ended
     → GoesOnNamed (length programs) [] s.history → HoldsPrograms s.history programs
 holds_all s ended programs is borne named p = elim (cases_lt p (length programs)) [
   | inl below ↦ holds_at s p 0 p ended programs is borne below (omega arith)
@@ -190,26 +217,27 @@ holds_all s ended programs is borne named p = elim (cases_lt p (length programs)
 ]
 
 -- each front is that of a beginning of the history, after the program
-pub fronts_all : (name : SharedId) (s : Recorded) (n : ℕ) (ended : List (EndedProgram Seated))
-    (programs : List (List Command)) → map (called known_at) ended ≡ numbered n programs → All (EndsAt name) ended
+pub fronts_all : {P : Type 0} (left : P → List Command → Type 0) (name : SharedId) (s : Recorded) (n : ℕ)
+    (ended : List (EndedProgram Seated P)) (programs : List (List Command))
+    → map (called known_at) ended ≡ numbered_calls n programs → All (EndsAt left name) ended
     → All (IsBorneOutBy s) ended
-    → AreFrontsFrom s.drivers s.history n programs (map (λ (d : EndedProgram Seated). d.front) ended)
-fronts_all name s n [] [] is ends borne = tt
-fronts_all name s n [] (commands ∷ programs) is ends borne = absurd cc
-fronts_all name s n (d ∷ ended) [] is ends borne = absurd cc
-fronts_all name s n (d ∷ ended) (commands ∷ programs) is ends borne =
+    → AreFrontsFrom s.drivers s.history n programs (map (λ (d : EndedProgram Seated P). d.front) ended)
+fronts_all left name s n [] [] is ends borne = tt
+fronts_all left name s n [] (commands ∷ programs) is ends borne = absurd cc
+fronts_all left name s n (d ∷ ended) [] is ends borne = absurd cc
+fronts_all left name s n (d ∷ ended) (commands ∷ programs) is ends borne =
     let first : ◌≡◌ {A = Calls} (d.seat.known.process, calls_in d.seat.known.own) (n, calls_of n commands) = cc in
-    let others : map (called known_at) ended ≡ numbered (n + 1) programs = cc in
-    let end = take_off (EndsAt name) (d ∷ ended) ended d refl ends in
+    let others : map (called known_at) ended ≡ numbered_calls (n + 1) programs = cc in
+    let end = take_off (EndsAt left name) (d ∷ ended) ended d refl ends in
     let out = take_off (IsBorneOutBy s) (d ∷ ended) ended d refl borne in (
       record {
         before = d.seat.known.seen;
         begins = out.0.seen;
         numbers =
-            subst (λ (ds : List DriverSpec). IsFrontOf d.front ds d.seat.known.seen) out.0.drivers end.0.1.numbers;
-        holds = commands_ended d.seat.known.seen d.seat.known n commands first (sym end.0.1.exact);
+            subst (λ (ds : List DriverSpec). IsFrontOf d.front ds d.seat.known.seen) out.0.drivers end.0.ended.numbers;
+        holds = commands_ended d.seat.known.seen d.seat.known n commands first (sym end.0.ended.exact);
       },
-      fronts_all name s (n + 1) ended programs others end.1 out.1,
+      fronts_all left name s (n + 1) ended programs others end.1 out.1,
     )
 
 -- ---- one worker alone

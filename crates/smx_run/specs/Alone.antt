@@ -16,6 +16,14 @@ pub record StopsAmong {S : Type 0} (performed : S → List Command → S → Typ
   pub all : done ++ next ∷ left ≡ commands
   pub came : performed a done b
 
+-- some commands of a program were performed, from the first on, and nothing of what was left of it behind them
+pub record StopsWithin {S P : Type 0} (left : P → List Command → Type 0) (performed : S → List Command → S → Type 0)
+    (a : S) (program : P) (b : S) : Type 0 where
+  pub done : List Command
+  pub rest : P
+  pub behind : (commands : List Command) → left rest commands → left program (done ++ commands)
+  pub came : performed a done b
+
 -- the commands are kept, and stand behind those that were kept before
 abbrev pub KeepsBehind : List Command → List Command → List Command → Type 0
 KeepsBehind before commands after = after ≡ before ++ commands

@@ -1,26 +1,32 @@
 -- What workers are given, and what they give back.
 use Rattle.std.specs.Prelude.{◌≡◌, ℕ, ◌%◌, ◌==◌, List, [], ◌++◌, All, length, map, filter, Vec}
-use Rattle.std.specs.List.{range_with_len}
+use Rattle.std.specs.List.{range_with_len, AllZip}
 use Rattle.smx_types.specs.declared.command.Command.{Command}
 use Rattle.smx_types.specs.declared.command.Entry.{Entry}
-use Rattle.smx_model.specs.Histories.{call_of}
+use Rattle.smx_types.specs.declared.driver.DriverSpec.{DriverSpec}
+use Rattle.smx_model.specs.Histories.{call_of, HoldsPrograms}
 use Rattle.smx_shared.specs.Fronts.{IsFrontOf}
 use Rattle.smx_shared.specs.Seats.{Known, Seated, SharedId, entries_of}
 use Rattle.smx_shared.specs.declared.front.Front.{Front}
+use Rattle.smx_run.specs.Fronts.{AreFrontsFrom}
 use Rattle.smx_run.specs.ProgramOrder.{Calls, calls_of}
 use Rattle.smx_run.specs.declared.worker.SeatedProgram.{SeatedProgram}
 use Rattle.smx_run.specs.declared.worker.EndedProgram.{EndedProgram}
 
--- the process of a seat, and what it is to call
-abbrev pub given : {S : Type 0} → (S → Known) → SeatedProgram S → Calls
-given known job = ((known job.seat).process, calls_of (known job.seat).process job.commands)
+-- the process of a seat, and the program that it is to run
+abbrev pub given : {S P : Type 0} → (S → Known) → SeatedProgram S P → ℕ × P
+given known job = ((known job.seat).process, job.program)
 
 -- the calls that these entries are of
 abbrev pub calls_in : List Entry → List (ℕ × Command)
 calls_in entries = map call_of entries
 
+-- the process of a seat, and the program that it has run
+abbrev pub ran : {S P : Type 0} → (S → Known) → EndedProgram S P → ℕ × P
+ran known done = ((known done.seat).process, done.program.value)
+
 -- the process of a seat, and what was called with it
-abbrev pub called : {S : Type 0} → (S → Known) → EndedProgram S → Calls
+abbrev pub called : {S P : Type 0} → (S → Known) → EndedProgram S P → Calls
 called known done = ((known done.seat).process, calls_in (known done.seat).own)
 
 -- as far as the history was seen, it has as many entries as it may
@@ -32,6 +38,19 @@ pub record HasCalled (old : Known) (commands : List Command) (new : Known) : Typ
   pub process : new.process ≡ old.process
   pub calls : calls_in new.own ≡ calls_in old.own ++ calls_of old.process commands
 
+-- some commands may be all of the program, and the process has called these since
+pub record HasCalledAll {P : Type 0} (left : P → List Command → Type 0) (old : Known) (program : P) (new : Known)
+    : Type 0 where
+  pub commands : List Command
+  pub all_of_it : left program commands
+  pub came : HasCalled old commands new
+
+-- some commands may be all of the program, and the process has called these and nothing else
+pub record HasRun {P : Type 0} (left : P → List Command → Type 0) (k : Known) (program : P) : Type 0 where
+  pub commands : List Command
+  pub all_of_it : left program commands
+  pub calls : calls_in k.own ≡ calls_of k.process commands
+
 -- what is known once a program has ended: what was made here is just what the history has of the process, as far as it
 -- was seen, and the front is that of it
 pub record HasEnded (k : Known) (front : Front) : Type 0 where
@@ -39,12 +58,15 @@ pub record HasEnded (k : Known) (front : Front) : Type 0 where
   pub numbers : IsFrontOf front k.drivers k.seen
 
 -- a process is to be run, with a seat of some door, with which nothing was called yet
-abbrev pub IsToRunWith : {S : Type 0} → (S → Type 0) → (S → Known) → SeatedProgram S → Type 0
+abbrev pub IsToRunWith : {S P : Type 0} → (S → Type 0) → (S → Known) → SeatedProgram S P → Type 0
 IsToRunWith is_seat known job = is_seat job.seat × ((known job.seat).own ≡ [])
 
--- a process has ended, with a seat of some door
-abbrev pub HasEndedWith : {S : Type 0} → (S → Type 0) → (S → Known) → EndedProgram S → Type 0
-HasEndedWith is_seat known done = is_seat done.seat × HasEnded (known done.seat) done.front
+-- a process has ended that has run its program, with a seat of some door
+pub record HasEndedWith {S P : Type 0} (is_seat : S → Type 0) (known : S → Known) (left : P → List Command → Type 0)
+    (done : EndedProgram S P) : Type 0 where
+  pub seat : is_seat done.seat
+  pub ended : HasEnded (known done.seat) done.front
+  pub run : HasRun left (known done.seat) done.program.value
 
 -- some seat of a door has seen the history full
 abbrev pub SomeKnowsItFull : {S : Type 0} → (S → Type 0) → (S → Known) → Type 0
@@ -54,47 +76,56 @@ SomeKnowsItFull {S = S} is_seat known = (seat : S) × is_seat seat × KnowsItFul
 abbrev pub known_at : Seated → Known
 known_at seat = seat.known
 
--- what a hand of processes is to call, in order
-abbrev pub given_hand : {A : Type 0} → Vec (SeatedProgram Seated) A → List Calls
+-- what a hand of processes is to run, in order
+abbrev pub given_hand : {P A : Type 0} → Vec (SeatedProgram Seated P) A → List (ℕ × P)
 given_hand hand = map (given known_at) hand.items
 
--- what a hand of processes has called, in order
-abbrev pub called_hand : {A : Type 0} → Vec (EndedProgram Seated) A → List Calls
-called_hand hand = map (called known_at) hand.items
+-- what a hand of processes has run, in order
+abbrev pub ran_hand : {P A : Type 0} → Vec (EndedProgram Seated P) A → List (ℕ × P)
+ran_hand hand = map (ran known_at) hand.items
 
 -- a seat of this shared system, with which nothing was called yet
 abbrev pub IsFresh : SharedId → Seated → Type 0
 IsFresh name seat = (seat.shared ≡ name) × (seat.known.own ≡ [])
 
 -- all seats of a hand are such
-abbrev pub AreFresh : {A : Type 0} → SharedId → Vec (SeatedProgram Seated) A → Type 0
+abbrev pub AreFresh : {P A : Type 0} → SharedId → Vec (SeatedProgram Seated P) A → Type 0
 AreFresh name hand = All (λ job. IsFresh name job.seat) hand.items
 
 -- a seat of this shared system has seen its history full
 abbrev pub IsSeenFull : SharedId → Type 0
 IsSeenFull name = (seat : Seated) × (seat.shared ≡ name) × KnowsItFull seat.known
 
--- a process has ended, at this shared system
-abbrev pub EndsAt : SharedId → EndedProgram Seated → Type 0
-EndsAt name done = (done.seat.shared ≡ name) × HasEnded done.seat.known done.front
+module _ {P : Type 0} (left : P → List Command → Type 0) where
+  -- a process has ended that has run its program, at this shared system
+  abbrev pub EndsAt : SharedId → EndedProgram Seated P → Type 0
+  EndsAt name done = HasEndedWith (λ seat. seat.shared ≡ name) known_at left done
 
--- all processes of a hand have
-abbrev pub HaveEnded : {A : Type 0} → SharedId → Vec (EndedProgram Seated) A → Type 0
-HaveEnded name hand = All (EndsAt name) hand.items
+  -- all processes of a hand have
+  abbrev pub HaveEnded : {A : Type 0} → SharedId → Vec (EndedProgram Seated P) A → Type 0
+  HaveEnded name hand = All (EndsAt name) hand.items
 
--- all processes of all hands have ended
-abbrev pub AllHaveEnded : {A B : Type 0} → SharedId → Vec (Vec (EndedProgram Seated) A) B → Type 0
-AllHaveEnded name hands = All (HaveEnded name) hands.items
+  -- all processes of all hands have ended
+  abbrev pub AllHaveEnded : {A B : Type 0} → SharedId → Vec (Vec (EndedProgram Seated P) A) B → Type 0
+  AllHaveEnded name hands = All (HaveEnded name) hands.items
 
--- each hand has called what it was to call
-abbrev pub HaveCalled : {A B : Type 0} → Vec (Vec (SeatedProgram Seated) A) B → Vec (Vec (EndedProgram Seated) A) B
+-- each hand has run what it was to run
+abbrev pub HaveRun : {P A B : Type 0} → Vec (Vec (SeatedProgram Seated P) A) B → Vec (Vec (EndedProgram Seated P) A) B
     → Type 0
-HaveCalled given ended = map called_hand ended.items ≡ map given_hand given.items
+HaveRun given ended = map ran_hand ended.items ≡ map given_hand given.items
 
 -- the processes of one worker of so many: those whose number modulo that many is its own, in their order
-abbrev pub hand_of : ℕ → List Calls → ℕ → List Calls
+abbrev pub hand_of : {P : Type 0} → ℕ → List (ℕ × P) → ℕ → List (ℕ × P)
 hand_of workers all worker = filter (λ one. one.0 % workers == worker) all
 
 -- those of each worker
-abbrev pub hands_of : ℕ → List Calls → List (List Calls)
+abbrev pub hands_of : {P : Type 0} → ℕ → List (ℕ × P) → List (List (ℕ × P))
 hands_of workers all = map (hand_of workers all) (range_with_len 0 workers)
+
+-- some commands may be all of each program, a history holds these, and the fronts were seen behind each of them
+pub record HasRunAll {P : Type 0} (left : P → List Command → Type 0) (sources : List P) (drivers : List DriverSpec)
+    (history : List Entry) (fronts : List Front) : Type 0 where
+  pub programs : List (List Command)
+  pub all_of_them : AllZip left sources programs
+  pub holds : HoldsPrograms history programs
+  pub seen : AreFrontsFrom drivers history 0 programs fronts

@@ -11,3 +11,5 @@ pub mod Recordings
 pub mod Reports
 pub mod RunFaults
 pub mod Scribes
+pub mod Sources
+pub mod WorkedRuns

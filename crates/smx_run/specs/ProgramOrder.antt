@@ -19,7 +19,12 @@ calls_from n (commands ∷ programs) = calls_of n commands ++ calls_from (n + 1)
 abbrev pub BeginsCalls : List (ℕ × Command) → ℕ → List (List Command) → Type 0
 BeginsCalls calls n programs = (left : List (ℕ × Command)) × (calls ++ left ≡ calls_from n programs)
 
--- process n with its calls, then the next with its own, and so on
-abbrev pub numbered : ℕ → List (List Command) → List Calls
+-- process n with its program, then the next with its own, and so on
+abbrev pub numbered : {P : Type 0} → ℕ → List P → List (ℕ × P)
 numbered n [] = []
-numbered n (commands ∷ programs) = (n, calls_of n commands) ∷ numbered (n + 1) programs
+numbered n (program ∷ programs) = (n, program) ∷ numbered (n + 1) programs
+
+-- process n with its calls, then the next with its own, and so on
+abbrev pub numbered_calls : ℕ → List (List Command) → List Calls
+numbered_calls n [] = []
+numbered_calls n (commands ∷ programs) = (n, calls_of n commands) ∷ numbered_calls (n + 1) programs

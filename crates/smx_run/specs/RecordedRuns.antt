@@ -1,5 +1,6 @@
 -- What a recorder was told of a run.
 use Rattle.std.specs.Prelude.{◌≡◌, ◌≤◌, List, length, map}
+use Rattle.std.specs.List.{AllZip}
 use Rattle.smx_types.specs.ProgramLists.{ProgramLists}
 use Rattle.smx_types.specs.declared.command.Command.{Command}
 use Rattle.smx_types.specs.declared.command.Entry.{Entry}
@@ -38,3 +39,11 @@ KeepsAll version drivers entries recorder = recorder ≡ (version, drivers, entr
 -- what a run is of
 abbrev pub run_of : Version → List DriverSpec → List (List Command) → ProgramLists
 run_of version drivers programs = record { version = version; drivers = drivers; programs = programs }
+
+-- the same of a run of programs whose commands came one after the other: these may be all of each
+pub record IsRecordOfSources (version : Version) (drivers : List DriverSpec) {P : Type 0}
+    (left : P → List Command → Type 0) (sources : List P) {K : Type 0}
+    (told : Version → List DriverSpec → List Entry → K → Type 0) (recorder : K) (view : ConfigView) : Type 0 where
+  pub programs : List (List Command)
+  pub all_of_them : AllZip left sources programs
+  pub recorded : IsRecordOfRun (run_of version drivers programs) told recorder view

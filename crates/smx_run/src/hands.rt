@@ -3,46 +3,47 @@
 ghost use Rattle.std.specs.Prelude.{◌≡◌, ◌≢◌, ◌≤◌, ◌<◌, ℕ, [], ◌∷◌, ◌++◌, All, length, map, slice_index_or};
 ghost use Rattle.std.specs.Prelude.{vec_len, IfOk, OnOk};
 ghost use Rattle.std.specs.List.{range_with_len};
-ghost use Rattle.smx_run.specs.Hands.{called, known_at, given_hand, called_hand, hand_of, hands_of};
+ghost use Rattle.smx_run.specs.Hands.{ran, known_at, given_hand, ran_hand, hand_of, hands_of};
 ghost use Rattle.smx_run.specs.Hands.{AreFresh, EndsAt, HaveEnded, IsFresh};
 ghost use Rattle.smx_shared.specs.Seats.{SharedId};
-ghost use Rattle.smx_run.specs.ProgramOrder.{calls_of, numbered};
+ghost use Rattle.smx_run.specs.ProgramOrder.{numbered};
 
+use crate::source::Source;
 use crate::worker::{EndedProgram, SeatedProgram};
 use smx_shared::{Door, Keeper, Seat, Shared};
-use smx_types::{Commands, NoMemory, ProgramList};
+use smx_types::NoMemory;
 use std::alloc::Global;
 use std::snapshot::Snapshot;
 
 /// A hand of processes for each of so many workers.
-pub fn deal<K: Keeper>(
+pub fn deal<K: Keeper, P: Source>(
     alloc: Global,
     seats: Vec<Seat<K>>,
-    programs: ProgramList,
+    programs: Vec<P>,
     workers: usize,
-) -> Result<Vec<Vec<SeatedProgram<Seat<K>>>>, NoMemory>
+) -> Result<Vec<Vec<SeatedProgram<Seat<K>, P>>>, NoMemory>
     requires workers { 1 ≤ workers }
-    requires seats { map (λ s. s.known.process) seats.items ≡ range_with_len 0 (length programs) }
+    requires seats { map (λ s. s.known.process) seats.items ≡ range_with_len 0 (length programs.items) }
     ensures fresh { IfOk result (λ v. (name : SharedId)
         → All (IsFresh name) seats.items → All (AreFresh name) v.items) }
-    ensures dealt { IfOk result (λ v. map given_hand v.items ≡ hands_of workers (numbered 0 programs)) }
+    ensures dealt { IfOk result (λ v. map given_hand v.items ≡ hands_of workers (numbered 0 programs.items)) }
 {
     let mut hands = empty_hands(alloc, workers)?;
-    let mut programs = programs.into_vec().into_iter();
+    let mut programs = programs.into_iter();
     for seat in seats {
-        let Some(commands) = programs.next() else {
+        let Some(program) = programs.next() else {
             unreachable!()
         };
-        give(&mut hands, seat, commands)?;
+        give(&mut hands, seat, program)?;
     }
     Ok(hands)
 }
 
 // Hands with nothing in them.
-fn empty_hands<K: Keeper>(
+fn empty_hands<K: Keeper, P: Source>(
     alloc: Global,
     workers: usize,
-) -> Result<Vec<Vec<SeatedProgram<Seat<K>>>>, NoMemory>
+) -> Result<Vec<Vec<SeatedProgram<Seat<K>, P>>>, NoMemory>
     ensures workers { IfOk result (λ v. vec_len v ≡ workers) }
     ensures none { IfOk result (λ v. map given_hand v.items ≡ hands_of workers []) }
     ensures fresh { IfOk result (λ v. (name : SharedId) → All (AreFresh name) v.items) }
@@ -55,10 +56,10 @@ fn empty_hands<K: Keeper>(
 }
 
 // One process more for its worker.
-fn give<K: Keeper>(
-    hands: &mut Vec<Vec<SeatedProgram<Seat<K>>>>,
+fn give<K: Keeper, P: Source>(
+    hands: &mut Vec<Vec<SeatedProgram<Seat<K>, P>>>,
     seat: Seat<K>,
-    commands: Commands,
+    program: P,
 ) -> Result<(), NoMemory>
     requires workers { 1 ≤ vec_len hands.old }
     ensures workers { vec_len hands.new ≡ vec_len hands.old }
@@ -66,25 +67,25 @@ fn give<K: Keeper>(
         → All (AreFresh name) hands.old.items → IsFresh name seat → All (AreFresh name) hands.new.items) }
     ensures given { OnOk result ((k : ℕ) → k < vec_len hands.old → slice_index_or (map given_hand hands.new.items) k []
         ≡ slice_index_or (map given_hand hands.old.items) k []
-        ++ hand_of (vec_len hands.old) ((seat.known.process, calls_of seat.known.process commands) ∷ []) k) }
+        ++ hand_of (vec_len hands.old) ((seat.known.process, program) ∷ []) k) }
 {
     let worker = Shared::<K>::process(&seat).get() as usize % hands.len();
-    hands[worker].push(SeatedProgram { seat, commands })?;
+    hands[worker].push(SeatedProgram { seat, program })?;
     Ok(())
 }
 
 /// What came of the processes of these programs, put back into their order.
-pub fn collect<K: Keeper>(
+pub fn collect<K: Keeper, P: Source>(
     alloc: Global,
-    mut hands: Vec<Vec<EndedProgram<Seat<K>>>>,
+    mut hands: Vec<Vec<EndedProgram<Seat<K>, P>>>,
     processes: usize,
-    programs: Snapshot<ProgramList>,
-) -> Result<Vec<EndedProgram<Seat<K>>>, NoMemory>
+    programs: Snapshot<Vec<P>>,
+) -> Result<Vec<EndedProgram<Seat<K>, P>>, NoMemory>
     requires workers { 1 ≤ vec_len hands }
-    requires dealt { map called_hand hands.items ≡ hands_of (vec_len hands) (numbered 0 programs.value) }
-    requires processes { length programs.value ≡ processes }
-    ensures ended { IfOk result (λ v. (name : SharedId) → All (HaveEnded name) hands.items → HaveEnded name v) }
-    ensures called { IfOk result (λ v. called_hand v ≡ numbered 0 programs.value) }
+    requires dealt { map ran_hand hands.items ≡ hands_of (vec_len hands) (numbered 0 programs.value.items) }
+    requires processes { length programs.value.items ≡ processes }
+    ensures ended { IfOk result (λ v. (name : SharedId) → All (HaveEnded P.left name) hands.items → HaveEnded P.left name v) }
+    ensures ran { IfOk result (λ v. ran_hand v ≡ numbered 0 programs.value.items) }
 {
     let mut ended = Vec::with_capacity(alloc, processes)?;
     for process in 0..processes {
@@ -95,19 +96,19 @@ pub fn collect<K: Keeper>(
 }
 
 // The first that is left of what a worker did.
-fn take_first<K: Keeper>(
-    hands: &mut Vec<Vec<EndedProgram<Seat<K>>>>,
+fn take_first<K: Keeper, P: Source>(
+    hands: &mut Vec<Vec<EndedProgram<Seat<K>, P>>>,
     worker: usize,
-) -> EndedProgram<Seat<K>>
+) -> EndedProgram<Seat<K>, P>
     requires worker { worker < vec_len hands.old }
-    requires some { slice_index_or (map called_hand hands.old.items) worker [] ≢ [] }
+    requires some { slice_index_or (map ran_hand hands.old.items) worker [] ≢ [] }
     ensures workers { vec_len hands.new ≡ vec_len hands.old }
-    ensures first { slice_index_or (map called_hand hands.old.items) worker []
-        ≡ called known_at result ∷ slice_index_or (map called_hand hands.new.items) worker [] }
+    ensures first { slice_index_or (map ran_hand hands.old.items) worker []
+        ≡ ran known_at result ∷ slice_index_or (map ran_hand hands.new.items) worker [] }
     ensures ended { (name : SharedId)
-        → All (HaveEnded name) hands.old.items → EndsAt name result × All (HaveEnded name) hands.new.items }
-    ensures others { (k : ℕ) → k ≢ worker → slice_index_or (map called_hand hands.new.items) k []
-        ≡ slice_index_or (map called_hand hands.old.items) k [] }
+        → All (HaveEnded P.left name) hands.old.items → EndsAt P.left name result × All (HaveEnded P.left name) hands.new.items }
+    ensures others { (k : ℕ) → k ≢ worker → slice_index_or (map ran_hand hands.new.items) k []
+        ≡ slice_index_or (map ran_hand hands.old.items) k [] }
 {
     hands[worker].remove(0)
 }

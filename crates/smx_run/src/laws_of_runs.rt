@@ -16,7 +16,8 @@ ghost use Rattle.smx_shared.specs.WorkedCalls.{front, idle, knows};
 ghost use Rattle.smx_run.specs.Alone.{KeepsBehind, StopsAmong};
 ghost use Rattle.smx_run.specs.Fronts.{AreFrontsFrom};
 ghost use Rattle.smx_run.specs.Gathering.{IsLeastStrange};
-ghost use Rattle.smx_run.specs.Hands.{HasCalled, HasEndedWith, IsToRunWith, KnowsItFull};
+ghost use Rattle.smx_run.specs.Hands.{HasCalled, KnowsItFull};
+ghost use Rattle.smx_run.specs.WorkedRuns.{HasEndedFirst, IsFirstToRun};
 ghost use Rattle.smx_run.specs.ProgramOrder.{calls_from, BeginsCalls};
 ghost use Rattle.smx_run.specs.RecordedRuns.{IsRecordOf, KeepsAll};
 ghost use Rattle.smx_run.specs.RunFaults.{RefusesAlone, RefusesRun};
@@ -95,24 +96,23 @@ pub fn what_a_process_has_called()
 {}
 
 /// A process is to be run with a seat of the door, here of one process, with which nothing was called yet, whatever was
-/// seen. It has ended with a seat of the door that knows all of its entries, and with the front that was seen then.
-pub fn what_is_to_be_run_and_what_has_ended()
-    ensures to_run { IsToRunWith (λ k. k.process ≡ 0) (λ k. k) (record { seat = knows 0 0 9; commands = [] }) }
-    ensures to_run_behind { IsToRunWith (λ k. k.process ≡ 0) (λ k. k)
-        (record { seat = idle; commands = OpenClone ip ∷ [] }) }
-    ensures not_again { IsToRunWith (λ k. k.process ≡ 0) (λ k. k) (record { seat = knows 0 1 9; commands = [] }) → ⊥ }
-    ensures not_elsewhere { IsToRunWith (λ k. k.process ≡ 0) (λ k. k) (record { seat = knows 1 0 9; commands = [] })
-        → ⊥ }
-    ensures ended { HasEndedWith (λ k. k.process ≡ 0) (λ k. k)
-        (record { seat = knows 0 1 9; front = front 1 0 false }) }
-    ensures ended_among_others { HasEndedWith (λ k. k.process ≡ 1) (λ k. k)
-        (record { seat = knows 1 1 9; front = front 1 0 false }) }
-    ensures not_ended_idle { HasEndedWith (λ k. k.process ≡ 0) (λ k. k)
-        (record { seat = idle; front = front 1 0 false }) → ⊥ }
-    ensures not_ended_elsewhere { HasEndedWith (λ k. k.process ≡ 0) (λ k. k)
-        (record { seat = knows 1 1 9; front = front 1 0 false }) → ⊥ }
-    ensures not_at_another_front { HasEndedWith (λ k. k.process ≡ 0) (λ k. k)
-        (record { seat = knows 0 1 9; front = front 0 0 false }) → ⊥ }
+/// seen.
+pub fn what_is_to_be_run()
+    ensures to_run { IsFirstToRun (knows 0 0 9) }
+    ensures to_run_behind { IsFirstToRun idle }
+    ensures not_again { IsFirstToRun (knows 0 1 9) → ⊥ }
+    ensures not_elsewhere { IsFirstToRun (knows 1 0 9) → ⊥ }
+{}
+
+/// It has ended with a seat of the door that knows all of its entries, with the front that was seen then, and with all
+/// commands of its program called.
+pub fn what_has_ended()
+    ensures ended { HasEndedFirst (knows 0 1 9) (front 1 0 false) (OpenClone ip ∷ []) }
+    ensures not_idle { HasEndedFirst idle (front 1 0 false) [] → ⊥ }
+    ensures not_elsewhere { HasEndedFirst (knows 1 1 9) (front 1 0 false) [] → ⊥ }
+    ensures not_at_another_front { HasEndedFirst (knows 0 1 9) (front 0 0 false) (OpenClone ip ∷ []) → ⊥ }
+    ensures not_before_its_end { HasEndedFirst (knows 0 1 9) (front 1 0 false) (OpenClone ip ∷ Dup 0 ∷ []) → ⊥ }
+    ensures not_with_another_program { HasEndedFirst (knows 0 1 9) (front 1 0 false) (CloseAll ∷ []) → ⊥ }
 {}
 
 /// A history of one entry is known to be full where it may have one, and not where it may have two.

@@ -15,15 +15,17 @@ mod report;
 mod run;
 mod run_fault;
 mod scribe;
+mod source;
 mod threads;
 mod worker;
 
 pub use gate::{Gate, NoGate};
 pub use gathering::gather;
 pub use growing_run::GrowingRun;
-pub use recorded_together::run_recorded_together;
+pub use recorded_together::{run_recorded_together, run_sources_together};
 pub use recorder::{NewRecorder, Recorder};
 pub use report::Report;
 pub use run::{MAX_WORKERS, run_programs};
 pub use run_fault::{GatherFault, RunFault};
+pub use source::Source;
 pub use worker::{EndedProgram, SeatedProgram, work};

@@ -6,6 +6,7 @@ ghost use Rattle.smx_shared.specs.Recorded.{Recorded};
 ghost use Rattle.smx_run.specs.Hands.{HaveEnded};
 ghost use Rattle.smx_run.specs.Meeting.{IsBorneOutBy};
 
+use crate::source::Source;
 use crate::worker::EndedProgram;
 use smx_shared::{Fronts, Keeper, Seat, Shared};
 use smx_types::NoMemory;
@@ -13,13 +14,13 @@ use std::alloc::Global;
 
 /// The first seat, once it has met all the others, and the fronts that they saw last. Whatever it then ends as bears
 /// all of them out.
-pub fn meet_all<K: Keeper>(
+pub fn meet_all<K: Keeper, P: Source>(
     alloc: Global,
     shared: &Shared<K>,
-    mut ended: Vec<EndedProgram<Seat<K>>>,
+    mut ended: Vec<EndedProgram<Seat<K>, P>>,
 ) -> Result<(Seat<K>, Fronts), NoMemory>
     requires some { ended.items ≢ [] }
-    requires ended { HaveEnded shared.now.name ended }
+    requires ended { HaveEnded P.left shared.now.name ended }
     ensures seat { IfOk result (λ r. r.0.shared ≡ shared.now.name) }
     ensures met { IfOk result (λ r. (s : Recorded) → EndsAs r.0.known r.0.met s → All (IsBorneOutBy s) ended.items) }
     ensures fronts { IfOk result (λ r. r.1 ≡ map (λ d. d.front) ended.items) }
@@ -28,6 +29,7 @@ pub fn meet_all<K: Keeper>(
     let EndedProgram {
         seat: mut first,
         front,
+        program: _,
     } = ended.remove(0);
     fronts.push_reserved(front);
     for done in ended {

@@ -19,6 +19,7 @@ use crate::gate::Gate;
 use crate::gathering::report;
 use crate::report::Report;
 use crate::run_fault::RunFault;
+use crate::source::sources_of;
 use crate::threads::run_together;
 use smx_model::laws_of_messages::few_commands_drop;
 use smx_shared::{ApplyFault, Front, Fronts, System};
@@ -100,7 +101,8 @@ fn run_all<R: Threads + Wait + Sync, G: Gate + Sync>(
         let fronts = run_alone(alloc, &mut system, programs, gate)?;
         return Ok((system, fronts));
     }
-    run_together(rt, alloc, system, programs, hands, gate)
+    let sources = sources_of(alloc, programs)?;
+    run_together(rt, alloc, system, sources, hands, gate)
 }
 
 // How many commands there are in all.

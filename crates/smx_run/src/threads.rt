@@ -1,6 +1,6 @@
 //! Many workers, each on a thread of its own.
 
-ghost use Rattle.std.specs.Prelude.{◌≡◌, ◌≢◌, ◌≤◌, ◌⊎◌, List, [], ◌∷◌, ◌++◌, All, length, map, Err};
+ghost use Rattle.std.specs.Prelude.{ℕ, ◌≡◌, ◌≢◌, ◌≤◌, ◌⊎◌, List, [], ◌∷◌, ◌++◌, All, length, map, Err};
 ghost use Rattle.std.specs.Prelude.{IfOk, IfErr, IsErrOf};
 ghost use Rattle.std.specs.List.{range_with_len};
 ghost use Rattle.smx_types.specs.declared.limits.TheConstants.{MAX_PROCESSES};
@@ -9,8 +9,8 @@ ghost use Rattle.smx_model.specs.Histories.{HoldsPrograms};
 ghost use Rattle.smx_shared.specs.Seats.{SharedId};
 ghost use Rattle.smx_shared.specs.declared.shared_fault.ApplyFault.TheVariants as apply;
 ghost use Rattle.smx_run.specs.Fronts.{AreFrontsFrom};
-ghost use Rattle.smx_run.specs.Hands.{called_hand, given_hand, AllHaveEnded, HaveCalled, AreFresh, HaveEnded, IsFresh};
-ghost use Rattle.smx_run.specs.Hands.{IsSeenFull};
+ghost use Rattle.smx_run.specs.Hands.{ran_hand, given_hand, AllHaveEnded, HaveRun, AreFresh, HaveEnded, IsFresh};
+ghost use Rattle.smx_run.specs.Hands.{HasRunAll, IsSeenFull};
 ghost use Rattle.smx_run.specs.ProgramOrder.{Calls, numbered};
 ghost use Rattle.smx_run.specs.RunFaults.{RefusesRun};
 
@@ -18,9 +18,9 @@ use crate::gate::Gate;
 use crate::hands::{collect, deal};
 use crate::meeting::meet_all;
 use crate::run_fault::RunFault;
+use crate::source::Source;
 use crate::worker::{EndedProgram, SeatedProgram, work};
 use smx_shared::{ApplyFault, Fronts, Keeper, Seat, Shared, System};
-use smx_types::ProgramList;
 use std::alloc::Global;
 use std::snapshot::Snapshot;
 use std::sync::Wait;
@@ -29,23 +29,22 @@ use std::thread::{Promise, Scope, Threads};
 
 /// Has the programs run by so many workers, and gives the system back that they shared, with the fronts that were seen
 /// when each program had ended.
-pub fn run_together<R: Threads + Wait + Sync, K: Keeper + Send, G: Gate + Sync>(
+pub fn run_together<R: Threads + Wait + Sync, K: Keeper + Send, P: Source + Send, G: Gate + Sync>(
     rt: &R,
     alloc: Global,
     system: System<K>,
-    programs: ProgramList,
+    programs: Vec<P>,
     workers: usize,
     gate: &G,
 ) -> Result<(System<K>, Fronts), RunFault>
     requires system { (system.history ≡ []) × IsDriverList system.drivers }
-    requires processes { (1 ≤ length programs) × (length programs ≤ MAX_PROCESSES) }
+    requires processes { (1 ≤ length programs.items) × (length programs.items ≤ MAX_PROCESSES) }
     requires workers { 1 ≤ workers }
     ensures drivers { IfOk result (λ r. r.0.drivers ≡ system.drivers) }
-    ensures holds { IfOk result (λ r. HoldsPrograms r.0.history programs) }
-    ensures fronts { IfOk result (λ r. AreFrontsFrom r.0.drivers r.0.history 0 programs r.1) }
+    ensures ran { IfOk result (λ r. HasRunAll P.left programs.items r.0.drivers r.0.history r.1) }
     ensures refused { IfErr result (RefusesRun system.drivers) }
 {
-    let (shared, seats) = Shared::start(alloc, system, programs.as_slice().len())?;
+    let (shared, seats) = Shared::start(alloc, system, programs.len())?;
     let ended = run_seats(rt, alloc, &shared, seats, programs, workers, gate)?;
     let (seat, fronts) = meet_all(alloc, &shared, ended)?;
     let system = shared.close(seat)?;
@@ -53,23 +52,23 @@ pub fn run_together<R: Threads + Wait + Sync, K: Keeper + Send, G: Gate + Sync>(
 }
 
 // Has each seat run its program, by so many workers.
-fn run_seats<R: Threads + Wait + Sync, K: Keeper + Send, G: Gate + Sync>(
+fn run_seats<R: Threads + Wait + Sync, K: Keeper + Send, P: Source + Send, G: Gate + Sync>(
     rt: &R,
     alloc: Global,
     shared: &Shared<K>,
     seats: Vec<Seat<K>>,
-    programs: ProgramList,
+    programs: Vec<P>,
     workers: usize,
     gate: &G,
-) -> Result<Vec<EndedProgram<Seat<K>>>, ApplyFault>
-    requires seats { map (λ s. s.known.process) seats.items ≡ range_with_len 0 (length programs) }
+) -> Result<Vec<EndedProgram<Seat<K>, P>>, ApplyFault>
+    requires seats { map (λ s. s.known.process) seats.items ≡ range_with_len 0 (length programs.items) }
     requires fresh { All (IsFresh shared.now.name) seats.items }
     requires workers { 1 ≤ workers }
-    ensures ended { IfOk result (HaveEnded shared.now.name) }
-    ensures called { IfOk result (λ v. called_hand v ≡ numbered 0 programs) }
+    ensures ended { IfOk result (HaveEnded P.left shared.now.name) }
+    ensures ran { IfOk result (λ v. ran_hand v ≡ numbered 0 programs.items) }
     ensures full { IsErrOf result apply.HistoryFull → IsSeenFull shared.now.name }
 {
-    let processes = programs.as_slice().len();
+    let processes = programs.len();
     let asked = Snapshot::of(&programs);
     let hands = deal(alloc, seats, programs, workers)?;
     let hands = run_hands(rt, alloc, shared, hands, gate)?;
@@ -78,38 +77,38 @@ fn run_seats<R: Threads + Wait + Sync, K: Keeper + Send, G: Gate + Sync>(
 
 // What a worker makes of its hand, at a shared system, or why it stops.
 #[derive(Drop)]
-struct Runs<K: Keeper>(Snapshot<Vec<SeatedProgram<Seat<K>>>>, Snapshot<Shared<K>>);
+struct Runs<K: Keeper, P: Source>(Snapshot<Vec<SeatedProgram<Seat<K>, P>>>, Snapshot<Shared<K>>);
 
-impl<K: Keeper> Promise<Result<Vec<EndedProgram<Seat<K>>>, ApplyFault>> for Runs<K> {
-    ghost use Rattle.std.specs.Prelude.{◌≡◌, IfOk, IsErrOf};
+impl<K: Keeper, P: Source> Promise<Result<Vec<EndedProgram<Seat<K>, P>>, ApplyFault>> for Runs<K, P> {
+    ghost use Rattle.std.specs.Prelude.{ℕ, ◌≡◌, IfOk, IsErrOf};
     ghost use Rattle.smx_shared.specs.declared.shared_fault.ApplyFault.TheVariants as apply;
-    ghost use Rattle.smx_run.specs.Hands.{given_hand, called_hand, HaveEnded, IsSeenFull};
+    ghost use Rattle.smx_run.specs.Hands.{given_hand, ran_hand, HaveEnded, IsSeenFull};
 
     ghost kept_by = { λ runs result.
-        IfOk result (λ v. (called_hand v ≡ given_hand runs.0.value) × HaveEnded runs.1.value.name v)
+        IfOk result (λ v. (ran_hand v ≡ given_hand runs.0.value) × HaveEnded P.left runs.1.value.name v)
         × (IsErrOf result apply.HistoryFull → IsSeenFull runs.1.value.name) };
 }
 
 // Each hand on a thread of its own, the first on this one.
-fn run_hands<R: Threads + Wait + Sync, K: Keeper + Send, G: Gate + Sync>(
+fn run_hands<R: Threads + Wait + Sync, K: Keeper + Send, P: Source + Send, G: Gate + Sync>(
     rt: &R,
     alloc: Global,
     shared: &Shared<K>,
-    hands: Vec<Vec<SeatedProgram<Seat<K>>>>,
+    hands: Vec<Vec<SeatedProgram<Seat<K>, P>>>,
     gate: &G,
-) -> Result<Vec<Vec<EndedProgram<Seat<K>>>>, ApplyFault>
+) -> Result<Vec<Vec<EndedProgram<Seat<K>, P>>>, ApplyFault>
     requires { All (AreFresh shared.now.name) hands.items }
-    ensures called { IfOk result (HaveCalled hands) }
-    ensures ended { IfOk result (AllHaveEnded shared.now.name) }
+    ensures ran { IfOk result (HaveRun hands) }
+    ensures ended { IfOk result (AllHaveEnded P.left shared.now.name) }
     ensures full { IsErrOf result apply.HistoryFull → IsSeenFull shared.now.name }
 {
     thread::scope(
         thread::scope_env(),
         rt,
-        |scope| -> Result<Vec<Vec<EndedProgram<Seat<K>>>>, ApplyFault>
+        |scope| -> Result<Vec<Vec<EndedProgram<Seat<K>, P>>>, ApplyFault>
             requires { All (AreFresh shared.now.name) hands.items }
-            ensures called { IfOk result (HaveCalled hands) }
-            ensures ended { IfOk result (AllHaveEnded shared.entry.now.name) }
+            ensures ran { IfOk result (HaveRun hands) }
+            ensures ended { IfOk result (AllHaveEnded P.left shared.entry.now.name) }
             ensures full { IsErrOf result apply.HistoryFull → IsSeenFull shared.entry.now.name }
         { run_from(scope, rt, alloc, shared, hands, gate) },
     )
@@ -117,17 +116,17 @@ fn run_hands<R: Threads + Wait + Sync, K: Keeper + Send, G: Gate + Sync>(
 
 // The last hand on a thread of its own, and those before it likewise. Where a thread can't be started, that is want of
 // memory.
-fn run_from<'s, E, R: Threads + Wait + Sync, K: Keeper + Send, G: Gate + Sync>(
+fn run_from<'s, E, R: Threads + Wait + Sync, K: Keeper + Send, P: Source + Send + 's, G: Gate + Sync>(
     scope: &'s Scope<'s, E>,
     rt: &'s R,
     alloc: Global,
     shared: &'s Shared<K>,
-    mut hands: Vec<Vec<SeatedProgram<Seat<K>>>>,
+    mut hands: Vec<Vec<SeatedProgram<Seat<K>, P>>>,
     gate: &'s G,
-) -> Result<Vec<Vec<EndedProgram<Seat<K>>>>, ApplyFault>
+) -> Result<Vec<Vec<EndedProgram<Seat<K>, P>>>, ApplyFault>
     requires { All (AreFresh shared.now.name) hands.items }
-    ensures called { IfOk result (HaveCalled hands) }
-    ensures ended { IfOk result (AllHaveEnded shared.now.name) }
+    ensures ran { IfOk result (HaveRun hands) }
+    ensures ended { IfOk result (AllHaveEnded P.left shared.now.name) }
     ensures full { IsErrOf result apply.HistoryFull → IsSeenFull shared.now.name }
 {
     let Some(hand) = hands.pop() else {
@@ -140,10 +139,10 @@ fn run_from<'s, E, R: Threads + Wait + Sync, K: Keeper + Send, G: Gate + Sync>(
     let runs = Runs(Snapshot::of(&hand), Snapshot::of(shared));
     let worker = scope.spawn_with(
         runs,
-        move || -> Result<Vec<EndedProgram<Seat<K>>>, ApplyFault>
+        move || -> Result<Vec<EndedProgram<Seat<K>, P>>, ApplyFault>
             requires { AreFresh shared.now.name hand }
-            ensures called { IfOk result (λ v. called_hand v ≡ given_hand hand) }
-            ensures ended { IfOk result (HaveEnded shared.entry.now.name) }
+            ensures ran { IfOk result (λ v. ran_hand v ≡ given_hand hand) }
+            ensures ended { IfOk result (HaveEnded P.left shared.entry.now.name) }
             ensures full { IsErrOf result apply.HistoryFull → IsSeenFull shared.entry.now.name }
         { work(rt, alloc, shared, hand, gate) },
     );
@@ -161,15 +160,15 @@ fn run_from<'s, E, R: Threads + Wait + Sync, K: Keeper + Send, G: Gate + Sync>(
 
 // What came of some hands, and of one more. Want of memory precedes a full history, which is answered where one of them
 // met it and the other wanted no memory, and nowhere else.
-fn and_then<K: Keeper>(
-    before: Result<Vec<Vec<EndedProgram<Seat<K>>>>, ApplyFault>,
-    last: Result<Vec<EndedProgram<Seat<K>>>, ApplyFault>,
-) -> Result<Vec<Vec<EndedProgram<Seat<K>>>>, ApplyFault>
-    ensures called { IfOk result (λ v. (all : List (List Calls)) (one : List Calls)
-        → IfOk before (λ b. map called_hand b.items ≡ all) → IfOk last (λ d. called_hand d ≡ one)
-        → map called_hand v.items ≡ all ++ one ∷ []) }
+fn and_then<K: Keeper, P: Source>(
+    before: Result<Vec<Vec<EndedProgram<Seat<K>, P>>>, ApplyFault>,
+    last: Result<Vec<EndedProgram<Seat<K>, P>>, ApplyFault>,
+) -> Result<Vec<Vec<EndedProgram<Seat<K>, P>>>, ApplyFault>
+    ensures ran { IfOk result (λ v. (all : List (List (ℕ × P))) (one : List (ℕ × P))
+        → IfOk before (λ b. map ran_hand b.items ≡ all) → IfOk last (λ d. ran_hand d ≡ one)
+        → map ran_hand v.items ≡ all ++ one ∷ []) }
     ensures ended { IfOk result (λ v. (name : SharedId)
-        → IfOk before (AllHaveEnded name) → IfOk last (HaveEnded name) → AllHaveEnded name v) }
+        → IfOk before (AllHaveEnded P.left name) → IfOk last (HaveEnded P.left name) → AllHaveEnded P.left name v) }
     ensures memory_first { (before ≡ Err apply.NoMemory) ⊎ (last ≡ Err apply.NoMemory) → result ≡ Err apply.NoMemory }
     ensures full { result ≡ Err apply.HistoryFull → (before ≡ Err apply.HistoryFull) ⊎ (last ≡ Err apply.HistoryFull) }
     ensures full_next { (before ≡ Err apply.HistoryFull) ⊎ (last ≡ Err apply.HistoryFull)

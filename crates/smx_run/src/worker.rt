@@ -2,44 +2,47 @@
 
 ghost use Rattle.std.specs.Prelude.{◌≡◌, All, map, IfOk, OnOk, OnErr, IsErrOf};
 ghost use Rattle.smx_shared.specs.declared.shared_fault.ApplyFault.TheVariants as apply;
-ghost use Rattle.smx_run.specs.Alone.{StopsAmong};
-ghost use Rattle.smx_run.specs.Hands.{given, called, HasCalled, IsToRunWith, HasEndedWith, KnowsItFull};
+ghost use Rattle.smx_run.specs.Alone.{StopsWithin};
+ghost use Rattle.smx_run.specs.Hands.{given, ran, HasCalled, HasCalledAll, IsToRunWith, HasEndedWith, KnowsItFull};
 ghost use Rattle.smx_run.specs.Hands.{SomeKnowsItFull};
 
 use crate::gate::Gate;
+use crate::source::Source;
 use smx_shared::{ApplyFault, Door, Front};
-use smx_types::Commands;
 use std::alloc::Global;
+use std::snapshot::Snapshot;
 use std::sync::Wait;
 
 /// A process that is to be run: its seat and its program.
 #[derive(Drop)]
-pub struct SeatedProgram<S: Drop> {
+pub struct SeatedProgram<S: Drop, P: Drop> {
     pub seat: S,
-    pub commands: Commands,
+    pub program: P,
 }
 
-/// A process whose program was run to its end: its seat, and the front that it saw then.
+/// A process whose program was run to its end: its seat, the front that it saw then, and, for contracts alone, the
+/// program as it was before.
 #[derive(Drop)]
-pub struct EndedProgram<S: Drop> {
+pub struct EndedProgram<S: Drop, P: Drop> {
     pub seat: S,
     pub front: Front,
+    pub program: Snapshot<P>,
 }
 
 /// Runs each process to its end, in turn, or to the first fault. A full history is answered only where one of its seats
 /// has seen it full. The door is any that keeps its promises, as a `Shared` system does.
-pub fn work<D: Door, G: Gate, R: Wait>(
+pub fn work<D: Door, P: Source, G: Gate, R: Wait>(
     rt: &R,
     alloc: Global,
     door: &D,
-    hand: Vec<SeatedProgram<D::Seat>>,
+    hand: Vec<SeatedProgram<D::Seat, P>>,
     gate: &G,
-) -> Result<Vec<EndedProgram<D::Seat>>, ApplyFault>
+) -> Result<Vec<EndedProgram<D::Seat, P>>, ApplyFault>
 where
     D::Seat: Drop,
     requires { All (IsToRunWith (D.is_seat door.now) D.known) hand.items }
-    ensures called { IfOk result (λ v. map (called D.known) v.items ≡ map (given D.known) hand.items) }
-    ensures ended { IfOk result (λ v. All (HasEndedWith (D.is_seat door.now) D.known) v.items) }
+    ensures ran { IfOk result (λ v. map (ran D.known) v.items ≡ map (given D.known) hand.items) }
+    ensures ended { IfOk result (λ v. All (HasEndedWith (D.is_seat door.now) D.known P.left) v.items) }
     ensures full { IsErrOf result apply.HistoryFull → SomeKnowsItFull (D.is_seat door.now) D.known }
 {
     let mut done = Vec::with_capacity(alloc, hand.len())?;
@@ -50,47 +53,52 @@ where
 }
 
 // Runs a process to its end, and then looks how far the history is.
-fn run_job<D: Door, G: Gate, R: Wait>(
+fn run_job<D: Door, P: Source, G: Gate, R: Wait>(
     rt: &R,
     alloc: Global,
     door: &D,
-    job: SeatedProgram<D::Seat>,
+    job: SeatedProgram<D::Seat, P>,
     gate: &G,
-) -> Result<EndedProgram<D::Seat>, ApplyFault>
+) -> Result<EndedProgram<D::Seat, P>, ApplyFault>
 where
     D::Seat: Drop,
     requires { IsToRunWith (D.is_seat door.now) D.known job }
-    ensures called { IfOk result (λ d. called D.known d ≡ given D.known job) }
-    ensures ended { IfOk result (HasEndedWith (D.is_seat door.now) D.known) }
+    ensures ran { IfOk result (λ d. ran D.known d ≡ given D.known job) }
+    ensures ended { IfOk result (HasEndedWith (D.is_seat door.now) D.known P.left) }
     ensures full { IsErrOf result apply.HistoryFull → SomeKnowsItFull (D.is_seat door.now) D.known }
 {
-    let SeatedProgram { mut seat, commands } = job;
-    run_program(rt, alloc, door, &mut seat, commands, gate)?;
+    let SeatedProgram { mut seat, program } = job;
+    let whole = Snapshot::of(&program);
+    run_program(rt, alloc, door, &mut seat, program, gate)?;
     let front = door.glance(&mut seat);
-    Ok(EndedProgram { seat, front })
+    Ok(EndedProgram {
+        seat,
+        front,
+        program: whole,
+    })
 }
 
 // Has the commands of a program performed with its seat, in order, to the end of it or to the first fault. The gate is
 // told of each under the process that the seat is of.
-fn run_program<D: Door, G: Gate, R: Wait>(
+fn run_program<D: Door, P: Source, G: Gate, R: Wait>(
     rt: &R,
     alloc: Global,
     door: &D,
     seat: &mut D::Seat,
-    commands: Commands,
+    mut program: P,
     gate: &G,
 ) -> Result<(), ApplyFault>
 where
     D::Seat: Drop,
     requires { D.is_seat door.now seat.old }
     ensures seat { D.is_seat door.now seat.new }
-    ensures called { OnOk result (HasCalled (D.known seat.old) commands (D.known seat.new)) }
-    ensures stops { OnErr result (StopsAmong HasCalled (D.known seat.old) commands (D.known seat.new)) }
+    ensures called { OnOk result (HasCalledAll P.left (D.known seat.old) program (D.known seat.new)) }
+    ensures stops { OnErr result (StopsWithin P.left HasCalled (D.known seat.old) program (D.known seat.new)) }
     ensures full { IsErrOf result apply.HistoryFull → KnowsItFull (D.known seat.new) }
 {
     let process = D::process(seat);
-    let mut number = 0;
-    for command in commands.into_vec() {
+    let mut number = 0usize;
+    while let Some(command) = program.next_command(alloc)? {
         gate.before(process, number);
         let outcome = door.perform(rt, alloc, seat, command);
         gate.after(process, number);

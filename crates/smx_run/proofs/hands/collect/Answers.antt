@@ -1,8 +1,7 @@
 use Rattle.std.proofs.Common.{◌≡◌, ◌+◌, ◌%◌, [], ℕ, vec_len, arith, refl, ◌∙◌}
 use Rattle.std.proofs.Math.Nat.{mod-lt}
-use Rattle.std.proofs.lemmas.List.{drop_more}
-use Rattle.smx_run.specs.Hands.{called, known_at, EndsAt}
-use Rattle.smx_run.proofs.HandLemmas.{pushed, all_more, all_of_none, hand_at, next_in_hand, take_next, collect_next}
+use Rattle.smx_run.specs.Hands.{ran, known_at, EndsAt}
+use Rattle.smx_run.proofs.HandLemmas.{next_program, pushed, all_more, all_of_none, hand_at, next_in_hand, take_next, collect_next}
 use Rattle.smx_run.proofs.hands.collect.Goals as goal
 
 pub loop-process-init : goal.loop-process-init
@@ -10,7 +9,7 @@ loop-process-init g c = record {
   room = omega (arith, c.in_ok-ended.ensures.capacity);
   counted = omega (arith, c.in_ok-ended.ensures.len);
   workers = refl;
-  ended = λ name all. (all, all_of_none (EndsAt name) _ c.in_ok-ended.ensures.items);
+  ended = λ name all. (all, all_of_none (EndsAt g.P.Source.left name) _ c.in_ok-ended.ensures.items);
   dealt = λ k below. rw c.requires.dealt (hand_at _ _ k below);
   called = rw c.in_ok-ended.ensures.items refl;
 }
@@ -21,10 +20,10 @@ take_first-requires-clause-some g c none =
     let p : ℕ = c.loop-process.process in
     let workers : ℕ = vec_len c.args.hands in
     let len : c.len.result ≡ workers = c.len.ensures ∙ before.workers in
-    let programs = drop_more c.args.programs.value p []
+    let next = next_program p c.args.programs.value.items
     (omega (arith, c.loop-process-test.true, c.requires.processes)) in
     let hand = rw (← len) at (before.dealt (p % workers) (mod-lt p c.requires.workers)
-    ∙ next_in_hand workers p _ _ _ programs) in
+    ∙ next_in_hand workers p _ _ _ next.1) in
     cc
 
 pub push_reserved-requires : goal.push_reserved-requires
@@ -38,10 +37,10 @@ loop-process-preserved g c =
     let p : ℕ = c.loop-process.process in
     let workers : ℕ = vec_len c.args.hands in
     let len : c.len.result ≡ workers = c.len.ensures ∙ before.workers in
-    let programs = drop_more c.args.programs.value p []
+    let next = next_program p c.args.programs.value.items
     (omega (arith, c.loop-process-test.true, c.requires.processes)) in
-    let one = called known_at c.take_first.result in
-    let taken = take_next workers p (p + 1) _ _ _ _ _ one programs refl before.dealt (mod-lt p c.requires.workers)
+    let one = ran known_at c.take_first.result in
+    let taken = take_next workers p (p + 1) _ _ _ _ _ one next.1 refl before.dealt (mod-lt p c.requires.workers)
     (rw len at c.take_first.ensures.first) (rw len at c.take_first.ensures.others) in
     record {
       room = omega (arith, before.room, c.push_reserved.ensures.capacity);
@@ -50,8 +49,8 @@ loop-process-preserved g c =
       ended = λ name all.
           let was = before.ended name all in
           let next = c.take_first.ensures.ended name was.0 in
-          (next.1, all_more (EndsAt name) _ _ _ was.1 next.0 c.push_reserved.ensures.items);
+          (next.1, all_more (EndsAt g.P.Source.left name) _ _ _ was.1 next.0 c.push_reserved.ensures.items);
       dealt = taken.1;
       called = collect_next p (p + 1) _ _ _ one _ _ _ before.called
-          (pushed (called known_at) _ _ _ _ _ c.push_reserved.ensures.items refl refl) taken.0 refl programs;
+          (pushed (ran known_at) _ _ _ _ _ c.push_reserved.ensures.items refl refl) taken.0 refl next.1;
     }

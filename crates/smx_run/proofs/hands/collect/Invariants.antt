@@ -1,7 +1,7 @@
 use Rattle.std.proofs.Common.{◌≡◌, ◌≤◌, ◌<◌, ℕ, ◌++◌, [], All, drop, map, get_or, vec_len}
 use Rattle.std.specs.Prelude.{vec_capacity}
 use Rattle.smx_shared.specs.Seats.{SharedId}
-use Rattle.smx_run.specs.Hands.{called_hand, hand_of, HaveEnded}
+use Rattle.smx_run.specs.Hands.{ran_hand, hand_of, HaveEnded}
 use Rattle.smx_run.specs.ProgramOrder.{numbered}
 use Rattle.smx_run.proofs.hands.collect.Given as goal
 
@@ -10,9 +10,9 @@ invariant-loop-process g l = record {
   room : l.processes ≤ vec_capacity l.ended;
   counted : vec_len l.ended ≡ l.process;
   workers : vec_len l.hands ≡ vec_len l.fn.hands;
-  ended : (name : SharedId) → All (HaveEnded name) l.fn.hands.items
-      → All (HaveEnded name) l.hands.items × HaveEnded name l.ended;
-  dealt : (k : ℕ) → k < vec_len l.fn.hands → get_or (map called_hand l.hands.items) k []
-      ≡ hand_of (vec_len l.fn.hands) (numbered l.process (drop l.process l.programs.value)) k;
-  called : called_hand l.ended ++ numbered l.process (drop l.process l.programs.value) ≡ numbered 0 l.programs.value;
+  ended : (name : SharedId) → All (HaveEnded g.P.Source.left name) l.fn.hands.items
+      → All (HaveEnded g.P.Source.left name) l.hands.items × HaveEnded g.P.Source.left name l.ended;
+  dealt : (k : ℕ) → k < vec_len l.fn.hands → get_or (map ran_hand l.hands.items) k []
+      ≡ hand_of (vec_len l.fn.hands) (numbered l.process (drop l.process l.programs.value.items)) k;
+  called : ran_hand l.ended ++ numbered l.process (drop l.process l.programs.value.items) ≡ numbered 0 l.programs.value.items;
 }

@@ -1,5 +1,4 @@
 use Rattle.std.proofs.Common.{rules, ◌≡◌, ◌+◌, ◌++◌, ◌∷◌, [], ℕ, arith, length, map, ap, ◌∙◌}
-use Rattle.std.specs.Vec.Iter.{into_iter_items}
 use Rattle.std.proofs.lemmas.List.{length-append, length-map}
 use Rattle.smx_run.specs.Hands.{given_hand, hand_of, IsFresh}
 use Rattle.smx_run.specs.ProgramOrder.{numbered}
@@ -8,8 +7,7 @@ use Rattle.smx_run.proofs.hands.deal.Goals as goal
 
 pub loop-seat-init : goal.loop-seat-init
 loop-seat-init g c =
-    let programs : into_iter_items c.into_iter-programs.result ≡ c.args.programs = c.into_iter-programs.ensures.rest
-    ∙ c.into_vec.ensures in
+    let programs = c.into_iter-programs.ensures.rest in
     let seats = c.into_iter-seat-iterator.ensures.into_iter_gives.0 in
     record {
       workers = c.in_ok-hands.ensures.workers;
@@ -19,7 +17,7 @@ loop-seat-init g c =
       fresh = λ name all. (rw seats all, c.in_ok-hands.ensures.fresh name);
       dealt = λ k below. rw programs
           (none_dealt c.args.workers _ c.in_ok-hands.ensures.none k below
-          (hand_of c.args.workers (numbered 0 c.args.programs) k));
+          (hand_of c.args.workers (numbered 0 c.args.programs.items) k));
     }
 
 pub loop-seat-preserved : goal.loop-seat-preserved
@@ -27,7 +25,7 @@ loop-seat-preserved g c =
     let before = c.loop-seat.invariant in
     let n : ℕ = length c.loop-seat.yielded in
     let items = c.in-Some-next.ensures.items in
-    let next = next_seat n _ _ c.in-Some.seat _ _ c.in-Some-next.commands c.in-Some.ensures.steps.0 items
+    let next = next_seat n _ _ c.in-Some.seat _ _ c.in-Some-next.program c.in-Some.ensures.steps.0 items
     before.seats in
     let more : length (c.loop-seat.yielded ++ c.in-Some.seat ∷ [])
     ≡ n + 1 = omega (arith, length-append c.loop-seat.yielded (c.in-Some.seat ∷ [])) in
@@ -40,7 +38,7 @@ loop-seat-preserved g c =
           let was = before.fresh name all in
           let first = take_off (IsFresh name) _ _ c.in-Some.seat c.in-Some.ensures.steps.0 was.0 in
           (first.1, c.in_ok-give.ensures.fresh name was.1 first.0);
-      dealt = λ k below. deal_next c.args.workers n _ c.in-Some.seat.known.process k _ _ _ c.in-Some-next.commands _ _
+      dealt = λ k below. deal_next c.args.workers n _ c.in-Some.seat.known.process k _ _ _ c.in-Some-next.program _ _
           (before.dealt k below)
           (rw before.workers at (c.in_ok-give.ensures.given k (omega (arith, below, before.workers)))) next.0 more
           items;
@@ -55,7 +53,7 @@ returns g c =
     let none = none_left _ _ _ end.seats (omega (arith, end.counted, c.in-None.ensures.steps.0)) in
     record {
       fresh = λ name all. (end.fresh name all).1;
-      dealt = hands_are c.args.workers (numbered 0 c.args.programs) (map given_hand c.loop-seat.hands.items)
+      dealt = hands_are c.args.workers (numbered 0 c.args.programs.items) (map given_hand c.loop-seat.hands.items)
           (omega (arith, end.workers, length-map c.loop-seat.hands.items given_hand))
           (λ k below. all_dealt _ _ _ _ k _ (end.dealt k below) none);
     }

@@ -1,14 +1,13 @@
 use Rattle.std.proofs.Common.{rules, ◌≡◌, ℕ, ◌%◌, ◌<◌, length, ap, refl, vec_len}
 use Rattle.std.proofs.Math.Nat.{mod-lt}
 use Rattle.smx_run.specs.Hands.{given, known_at, given_hand, IsFresh}
-use Rattle.smx_run.specs.ProgramOrder.{Calls, calls_of}
 use Rattle.smx_run.proofs.HandLemmas.{pushed, put_more, all_put}
 use Rattle.smx_run.proofs.hands.give.Goals as goal
 
 pub returns-clause-given : goal.returns-clause-given
 returns-clause-given g c =
     let workers : ℕ = vec_len c.args.hands.now in
-    let one : Calls = (c.args.seat.known.process, calls_of c.args.seat.known.process c.args.commands) in
+    let one = given known_at (record { seat = c.args.seat; program = c.args.program }) in
     let at : c.get.result % c.len.result ≡ one.0 % workers = rw (c.get.ensures.value, c.process.ensures, c.len.ensures)
     refl in
     let within : c.get.result % c.len.result < workers = rw at (mod-lt one.0 c.requires.workers) in

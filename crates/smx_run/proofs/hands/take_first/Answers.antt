@@ -1,5 +1,5 @@
 use Rattle.std.proofs.Common.{rules, ◌<◌, length}
-use Rattle.smx_run.specs.Hands.{called, known_at, called_hand, EndsAt}
+use Rattle.smx_run.specs.Hands.{ran, known_at, ran_hand, EndsAt}
 use Rattle.smx_run.proofs.HandLemmas.{first_and_rest, first_then_rest, take_from, keep_others, all_taken}
 use Rattle.smx_run.proofs.hands.take_first.Goals as goal
 
@@ -7,17 +7,17 @@ pub returns-clause-first : goal.returns-clause-first
 returns-clause-first g c =
     let done = c.remove.ensures in
     let within : c.args.worker < length c.args.hands.now.items = search rules in
-    take_from called_hand c.args.hands.now.items c.args.worker c.index_mut.result.now c.remove.new.self
-    (called known_at c.remove.result) within c.index_mut.ensures.value
-    (first_and_rest (called known_at) _ _ c.remove.result done.value done.items (search rules))
+    take_from ran_hand c.args.hands.now.items c.args.worker c.index_mut.result.now c.remove.new.self
+    (ran known_at c.remove.result) within c.index_mut.ensures.value
+    (first_and_rest (ran known_at) _ _ c.remove.result done.value done.items (search rules))
 
 pub returns-clause-others : goal.returns-clause-others
-returns-clause-others g c = keep_others called_hand c.args.hands.now.items c.args.worker c.remove.new.self
+returns-clause-others g c = keep_others ran_hand c.args.hands.now.items c.args.worker c.remove.new.self
 
 pub returns-clause-ended : goal.returns-clause-ended
 returns-clause-ended g c name all =
     let done = c.remove.ensures in
     let within : c.args.worker < length c.args.hands.now.items = search rules in
-    all_taken (λ hand. hand.items) (EndsAt name) c.args.hands.now.items c.args.worker c.index_mut.result.now
+    all_taken (λ hand. hand.items) (EndsAt g.P.Source.left name) c.args.hands.now.items c.args.worker c.index_mut.result.now
     c.remove.new.self c.remove.result within c.index_mut.ensures.value
     (first_then_rest _ _ c.remove.result done.value done.items (search rules)) all

@@ -1,9 +1,7 @@
 use Rattle.std.proofs.Common.{rules, ◌≡◌, ◌∷◌, [], All, length, refl, subst, sym, ap, arith, ◌∙◌}
 use Rattle.std.proofs.lemmas.List.{append-nil, length-append}
 use Rattle.std.proofs.lemmas.List.Elements.{All-cons}
-use Rattle.smx_shared.specs.Seats.{Seated}
 use Rattle.smx_run.specs.Meeting.{IsBorneOutBy}
-use Rattle.smx_run.specs.declared.worker.EndedProgram.{EndedProgram}
 use Rattle.smx_run.proofs.HandLemmas.{all_more, first_then_rest}
 use Rattle.smx_run.proofs.RunLemmas.{still_more, bears_out_first, bears_out_next, map_behind, next_taken}
 use Rattle.smx_run.proofs.RunLemmas.{all_taken_off}
@@ -34,7 +32,7 @@ loop-done-preserved g c =
         c.push_reserved-in-loop-done.ensures.len,
         length-append c.loop-done.yielded (c.in-Some.done ∷ []),
       );
-      fronts = map_behind (λ (d : EndedProgram Seated). d.front) _ _ _ _ c.in-Some.done before.fronts
+      fronts = map_behind (λ d. d.front) _ _ _ _ c.in-Some.done before.fronts
           c.push_reserved-in-loop-done.ensures.items;
     }
 

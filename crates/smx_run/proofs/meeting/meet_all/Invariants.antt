@@ -2,9 +2,8 @@ use Rattle.std.proofs.Common.{◌≡◌, ◌≤◌, ◌+◌, ◌++◌, All, drop
 use Rattle.std.specs.Prelude.{vec_capacity}
 use Rattle.std.specs.Vec.Iter.{into_iter_items, into_iter_len}
 use Rattle.smx_shared.specs.Recorded.{Recorded}
-use Rattle.smx_shared.specs.Seats.{Seated, AreMetBy}
+use Rattle.smx_shared.specs.Seats.{AreMetBy}
 use Rattle.smx_run.specs.Meeting.{IsBorneOutBy}
-use Rattle.smx_run.specs.declared.worker.EndedProgram.{EndedProgram}
 use Rattle.smx_run.proofs.RunLemmas.{StillKnows}
 use Rattle.smx_run.proofs.meeting.meet_all.Given as goal
 
@@ -18,5 +17,5 @@ invariant-loop-done g l = record {
   room : vec_len l.fn.ended ≤ vec_capacity l.fronts;
   still : length l.yielded + into_iter_len l.done-iterator + 1 ≡ vec_len l.fn.ended;
   counted : vec_len l.fronts ≡ length l.yielded + 1;
-  fronts : l.fronts.items ≡ l.initial.fronts.items ++ map (λ (d : EndedProgram Seated). d.front) l.yielded;
+  fronts : l.fronts.items ≡ l.initial.fronts.items ++ map (λ d. d.front) l.yielded;
 }

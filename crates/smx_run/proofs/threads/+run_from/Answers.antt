@@ -4,7 +4,7 @@ use Rattle.std.proofs.lemmas.List.{map-append}
 use Rattle.std.proofs.lemmas.List.Elements.{All-pop}
 use Rattle.std.proofs.lemmas.Result.{IfOk-weaker}
 use Rattle.smx_shared.specs.declared.shared_fault.ApplyFault.TheVariants as apply
-use Rattle.smx_run.specs.Hands.{called_hand, given_hand, AreFresh, HaveEnded, IsSeenFull}
+use Rattle.smx_run.specs.Hands.{ran_hand, given_hand, AreFresh, HaveEnded, IsSeenFull}
 use Rattle.smx_run.proofs.FullHistoryLemmas.{joined}
 use Rattle.smx_run.proofs.HandLemmas.{all_of_none}
 use Rattle.smx_run.proofs.threads.+run_from.Goals as goal
@@ -16,7 +16,7 @@ returns-then-is_empty-clause-called g n c =
     ap (map given_hand) c.in-Some.ensures.items ∙ map-append given_hand c.pop.new.self.items (c.in-Some.hand ∷ [])
     ∙ ap (λ hands. map given_hand hands ++ given_hand c.in-Some.hand ∷ []) none in
     IfOk-weaker c.and_then.result _ _
-    (λ v both. both [] (given_hand c.in-Some.hand) (ap (map called_hand) c.new-then-is_empty.ensures.items)
+    (λ v both. both [] (given_hand c.in-Some.hand) (ap (map ran_hand) c.new-then-is_empty.ensures.items)
     c.work-first.ensures.called ∙ sym whole)
     c.and_then.ensures.called
 
@@ -24,7 +24,7 @@ pub returns-then-is_empty-clause-ended : goal.returns-then-is_empty-clause-ended
 returns-then-is_empty-clause-ended g n c =
     let name = c.args.shared.now.name in
     IfOk-weaker c.and_then.result _ _
-    (λ v both. both name (all_of_none (HaveEnded name) _ c.new-then-is_empty.ensures.items) c.work-first.ensures.ended)
+    (λ v both. both name (all_of_none (HaveEnded g.P.Source.left name) _ c.new-then-is_empty.ensures.items) c.work-first.ensures.ended)
     c.and_then.ensures.ended
 
 pub spawn_with-worker-requires-clause-runs : goal.spawn_with-worker-requires-clause-runs
@@ -41,7 +41,7 @@ run_from-requires-after_bounds g n c κs within =
 
 pub returns-in-Ok-clause-called : goal.returns-in-Ok-clause-called
 returns-in-Ok-clause-called g n c =
-    let kept : IfOk c.join.result (λ v. (called_hand v ≡ given_hand c.in-Some.hand)
+    let kept : IfOk c.join.result (λ v. (ran_hand v ≡ given_hand c.in-Some.hand)
     × HaveEnded c.args.shared.now.name v) = search rules in
     let whole : map given_hand c.args.hands.items
     ≡ map given_hand c.pop.new.self.items ++ given_hand c.in-Some.hand ∷ [] =
@@ -53,7 +53,7 @@ returns-in-Ok-clause-called g n c =
 pub returns-in-Ok-clause-ended : goal.returns-in-Ok-clause-ended
 returns-in-Ok-clause-ended g n c =
     let name = c.args.shared.now.name in
-    let kept : IfOk c.join.result (λ v. (called_hand v ≡ given_hand c.in-Some.hand) × HaveEnded name v) = search
+    let kept : IfOk c.join.result (λ v. (ran_hand v ≡ given_hand c.in-Some.hand) × HaveEnded g.P.Source.left name v) = search
     rules in
     IfOk-weaker c.and_then-in-Ok.result _ _
     (λ v both. both name c.run_from-before.ensures.ended (IfOk-weaker c.join.result _ _ (λ d k. k.1) kept))

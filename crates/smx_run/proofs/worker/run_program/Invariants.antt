@@ -1,13 +1,16 @@
-use Rattle.std.proofs.Common.{◌≡◌, ◌++◌, length}
-use Rattle.std.specs.Vec.Iter.{into_iter_items, into_iter_len}
+use Rattle.std.proofs.Common.{◌≡◌, ◌++◌, List, length}
+use Rattle.smx_types.specs.declared.command.Command.{Command}
 use Rattle.smx_run.specs.Hands.{HasCalled}
 use Rattle.smx_run.proofs.worker.run_program.Given as goal
 
-abbrev pub invariant-loop-command : goal.invariant-loop-command
-invariant-loop-command g l = record {
+abbrev pub invariant-loop-program : goal.invariant-loop-program
+invariant-loop-program g l = record {
   seat : g.D.Door.is_seat l.door l.seat;
-  called : HasCalled (g.D.Door.known l.fn.seat) l.yielded (g.D.Door.known l.seat);
-  numbered : l.number ≡ length l.yielded;
-  all : l.yielded ++ into_iter_items l.command-iterator ≡ l.fn.commands;
-  left : into_iter_len l.command-iterator ≡ length (into_iter_items l.command-iterator);
+  done : List Command;
+  called : HasCalled (g.D.Door.known l.fn.seat) done (g.D.Door.known l.seat);
+  behind : (commands : List Command) → g.P.Source.left l.program commands
+      → g.P.Source.left l.fn.program (done ++ commands);
 }
+
+abbrev pub decreases-loop-program : goal.decreases-loop-program
+decreases-loop-program g l = g.P.Source.size l.program
