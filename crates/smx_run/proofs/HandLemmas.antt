@@ -1,7 +1,7 @@
 -- What was given to workers, and what came of it.
 use Rattle.std.proofs.Common.{◌≡◌, ◌≢◌, ℕ, zero, suc, ◌+◌, ◌%◌, ◌<◌, true, false, List, [], ◌∷◌, ◌++◌, All, length, map}
 use Rattle.std.proofs.Common.{get_or, set, drop, arith, refl, ap, sym, subst, ◌∙◌, inl, inr, append_assoc}
-use Rattle.std.specs.Prelude.{◌==◌}
+use Rattle.std.specs.Prelude.{◌==◌, Result, Ok, Err, IfOk}
 use Rattle.std.specs.List.{range_with_len}
 use Rattle.std.proofs.lemmas.List.FromFn.{length-range_with_len, length-map-range_with_len, map-range_with_len_more}
 use Rattle.std.proofs.lemmas.List.FromFn.{get_or-map-range_with_len, fill_by_all}
@@ -34,6 +34,12 @@ all_more P xs more x before here added = subst (All P) (sym added) (All-push P x
 pub all_of_none : {A : Type 0} (P : A → Type 0) (xs : List A) → xs ≡ [] → All P xs
 all_of_none P [] none k d below = absurd (omega arith)
 all_of_none P (x ∷ xs) none k d below = absurd cc
+
+-- what is so of an answer, and what else is
+pub if_both : {T E : Type 0} (P Q : T → Type 0) (result : Result T E) → IfOk result P → IfOk result Q
+    → IfOk result (λ x. P x × Q x)
+if_both P Q (Ok x) p q = (p, q)
+if_both P Q (Err e) p q = tt
 
 -- ---- dealt by number
 

@@ -3,7 +3,7 @@ use Rattle.std.proofs.Common.{◌≡◌, ℕ, ◌+◌, ◌≤◌, List, [], ◌�
 use Rattle.std.proofs.Common.{◌∙◌, arith}
 use Rattle.std.proofs.lemmas.List.{length-append, length-map}
 use Rattle.std.proofs.lemmas.List.Sums.{sum_by-cons}
-use Rattle.std.specs.List.{sum_by}
+use Rattle.std.specs.List.{sum_by, AllZip}
 use Rattle.std.specs.Prelude.{IfErr, IsErrAnd}
 use Rattle.smx_types.specs.ProgramLists.{ProgramLists, AreWithinLimits}
 use Rattle.smx_types.specs.declared.command.Command.{Command}
@@ -21,7 +21,7 @@ use Rattle.smx_config.specs.Machine.{Machine}
 use Rattle.smx_shared.specs.Recorded.{Recorded, IsSoundSystem}
 use Rattle.smx_run.specs.Recordings.{HasRecorded}
 use Rattle.smx_run.specs.ProgramOrder.{calls_of, calls_from}
-use Rattle.smx_run.specs.RecordedRuns.{IsRecordOf, IsRecordOfRun, KeepsAll, run_of}
+use Rattle.smx_run.specs.RecordedRuns.{IsRecordOf, IsRecordOfRun, IsRecordOfSources, KeepsAll, run_of}
 use Rattle.smx_run.specs.RunFaults.{RefusesAlone, RefusesRun}
 use Rattle.smx_run.specs.declared.run_fault.RunFault.{RunFault}
 use Rattle.smx_run.specs.declared.run_fault.RunFault.TheVariants as run
@@ -134,3 +134,25 @@ record_of_run told drops version drivers s programs recorder shown same sound wa
   };
   few = omega (arith, sound.within, sound.limited);
 }
+
+-- programs that are lists of commands, and nothing else
+pub of_lists : {P : Type 0} (items : P → List Command) (sources : List P) (programs : List (List Command))
+    → AllZip (λ source commands. commands ≡ items source) sources programs → programs ≡ map items sources
+of_lists items [] [] all = refl
+of_lists items [] (commands ∷ programs) all = absurd all
+of_lists items (source ∷ sources) [] all = absurd all
+of_lists items (source ∷ sources) (commands ∷ programs) all =
+    ap (λ (cs : List Command). cs ∷ programs) all.0
+    ∙ ap (λ (ps : List (List Command)). items source ∷ ps) (of_lists items sources programs all.1)
+
+-- what is recorded of these is recorded of the lists
+pub recorded_of_lists : {P : Type 0} (items : P → List Command) (programs : ProgramLists) (version : Version)
+    (drivers : List DriverSpec) (sources : List P) {K : Type 0} {told : Version → List DriverSpec → List Entry → K → Type 0}
+    {recorder : K} {view : ConfigView} → version ≡ programs.version → drivers ≡ programs.drivers
+    → map items sources ≡ programs.programs
+    → IsRecordOfSources version drivers (λ source commands. commands ≡ items source) sources told recorder view
+    → IsRecordOfRun programs told recorder view
+recorded_of_lists items programs version drivers sources {told = told} {recorder} {view} v d all is =
+    let same : is.programs ≡ programs.programs = of_lists items sources is.programs is.all_of_them ∙ all in
+    subst (λ (lists : ProgramLists). IsRecordOfRun lists told recorder view)
+    (λ i. record { version = v i; drivers = d i; programs = same i }) is.recorded

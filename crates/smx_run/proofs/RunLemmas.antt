@@ -100,6 +100,14 @@ all_called {P = P} left name n (d ∷ ended) (source ∷ sources) is ends =
           ∙ ap (λ (cs : List Calls). (n, calls_of n run.commands) ∷ cs) rest.2,
     )
 
+-- they are as many
+pub as_many : {P : Type 0} (left : P → List Command → Type 0) (sources : List P) (programs : List (List Command))
+    → AllZip left sources programs → length sources ≡ length programs
+as_many left [] [] all = refl
+as_many left [] (program ∷ programs) all = absurd all
+as_many left (source ∷ sources) [] all = absurd all
+as_many left (source ∷ sources) (program ∷ programs) all = omega (arith, as_many left sources programs all.1)
+
 -- ---- a meeting
 
 -- the same process knows as much as it did, and has made nothing since

@@ -1,7 +1,8 @@
 //! Laws of what runs tell, each the contract of a function that does nothing: an example of each, and what is none.
 
-ghost use Rattle.std.specs.Prelude.{◌≡◌, ◌≤◌, ℕ, List, [], ◌∷◌, length, map, true, false};
+ghost use Rattle.std.specs.Prelude.{◌≡◌, ◌≤◌, ℕ, List, [], ◌∷◌, length, map, true, false, Some, None};
 ghost use Rattle.smx_types.specs.ProgramLists.{ProgramLists};
+ghost use Rattle.smx_types.specs.declared.command.Command.{Command as AnyCommand};
 ghost use Rattle.smx_types.specs.declared.command.Entry.{Entry};
 ghost use Rattle.smx_types.specs.declared.driver.DriverSpec.{DriverSpec};
 ghost use Rattle.smx_types.specs.declared.limits.TheConstants.{MAX_COMMANDS};
@@ -17,7 +18,7 @@ ghost use Rattle.smx_run.specs.Alone.{KeepsBehind, StopsAmong};
 ghost use Rattle.smx_run.specs.Fronts.{AreFrontsFrom};
 ghost use Rattle.smx_run.specs.Gathering.{IsLeastStrange};
 ghost use Rattle.smx_run.specs.Hands.{HasCalled, KnowsItFull};
-ghost use Rattle.smx_run.specs.WorkedRuns.{HasEndedFirst, IsFirstToRun};
+ghost use Rattle.smx_run.specs.WorkedRuns.{HasEndedFirst, IsFirstToRun, IsNextOfList, StopsWithinList};
 ghost use Rattle.smx_run.specs.ProgramOrder.{calls_from, BeginsCalls};
 ghost use Rattle.smx_run.specs.RecordedRuns.{IsRecordOf, KeepsAll};
 ghost use Rattle.smx_run.specs.RunFaults.{RefusesAlone, RefusesRun};
@@ -79,6 +80,25 @@ pub fn stops_of_an_example()
         (Dup 1 ∷ OpenClone ip ∷ []) }
     ensures not_at_the_end { StopsAmong KeepsBehind [] (Dup 0 ∷ []) (Dup 0 ∷ []) → ⊥ }
     ensures not_behind_another { StopsAmong KeepsBehind [] (OpenClone ip ∷ Dup 0 ∷ []) (Dup 0 ∷ []) → ⊥ }
+{}
+
+/// A program that is a list of commands, and nothing else, has its first command next, behind which just the others are
+/// left, and none at its end alone.
+pub fn what_comes_next_of_an_example()
+    ensures first { IsNextOfList (OpenClone ip ∷ Dup 0 ∷ []) (Some (OpenClone ip)) (Dup 0 ∷ []) }
+    ensures none_left { IsNextOfList [] None [] }
+    ensures not_another { IsNextOfList (OpenClone ip ∷ Dup 0 ∷ []) (Some (Dup 0)) (Dup 0 ∷ []) → ⊥ }
+    ensures not_none { IsNextOfList (OpenClone ip ∷ Dup 0 ∷ []) None [] → ⊥ }
+    ensures not_less_of_it { IsNextOfList (OpenClone ip ∷ Dup 0 ∷ []) (Some (OpenClone ip)) [] → ⊥ }
+    ensures not_as_much { (program : List AnyCommand) (command : AnyCommand)
+        → IsNextOfList program (Some command) program → ⊥ }
+{}
+
+/// Who performs such a program has stopped behind some of its commands, the first ones, and not behind another.
+pub fn stops_within_an_example()
+    ensures before_the_last { StopsWithinList (Dup 1 ∷ []) (OpenClone ip ∷ Dup 0 ∷ []) (Dup 1 ∷ OpenClone ip ∷ []) }
+    ensures not_behind_another { StopsWithinList [] (OpenClone ip ∷ Dup 0 ∷ []) (Dup 0 ∷ []) → ⊥ }
+    ensures not_behind_more { StopsWithinList [] (Dup 0 ∷ []) (Dup 0 ∷ Dup 0 ∷ []) → ⊥ }
 {}
 
 /// Between two moments a process has called the commands of the entries that were made with its seat in between, in

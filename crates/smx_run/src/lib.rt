@@ -22,6 +22,7 @@ mod worker;
 pub use gate::{Gate, NoGate};
 pub use gathering::gather;
 pub use growing_run::GrowingRun;
+pub use past::Past;
 pub use recorded_together::{run_recorded_together, run_sources_together};
 pub use recorder::{NewRecorder, Recorder};
 pub use report::Report;

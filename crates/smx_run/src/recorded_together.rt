@@ -73,7 +73,9 @@ pub fn run_sources_together<
     ensures refused { IfErr result (RefusesRun drivers.now) }
 {
     let (config, recorder) = begun(alloc, version, drivers, room)?;
-    run_about::<Brand, R, K, P, G>(rt, alloc, version, config, recorder, programs, workers, gate)
+    run_about::<Brand, R, K, P, G>(
+        rt, alloc, version, config, recorder, programs, workers, gate,
+    )
 }
 
 // The empty configuration over these drivers, and a recorder that was told of them and of the version.

@@ -77,9 +77,13 @@ fn run_seats<R: Threads + Wait + Sync, K: Keeper + Send, P: Source + Send, G: Ga
 
 // What a worker makes of its hand, at a shared system, or why it stops.
 #[derive(Drop)]
-struct Runs<K: Keeper, P: Source>(Snapshot<Vec<SeatedProgram<Seat<K>, P>>>, Snapshot<Shared<K>>);
+struct Runs<K: Keeper, P: Source>(
+    Snapshot<Vec<SeatedProgram<Seat<K>, P>>>,
+    Snapshot<Shared<K>>,
+);
 
-impl<K: Keeper, P: Source> Promise<Result<Vec<EndedProgram<Seat<K>, P>>, ApplyFault>> for Runs<K, P> {
+impl<K: Keeper, P: Source> Promise<Result<Vec<EndedProgram<Seat<K>, P>>, ApplyFault>>
+    for Runs<K, P> {
     ghost use Rattle.std.specs.Prelude.{ℕ, ◌≡◌, IfOk, IsErrOf};
     ghost use Rattle.smx_shared.specs.declared.shared_fault.ApplyFault.TheVariants as apply;
     ghost use Rattle.smx_run.specs.Hands.{given_hand, ran_hand, HaveEnded, IsSeenFull};
@@ -116,7 +120,14 @@ fn run_hands<R: Threads + Wait + Sync, K: Keeper + Send, P: Source + Send, G: Ga
 
 // The last hand on a thread of its own, and those before it likewise. Where a thread can't be started, that is want of
 // memory.
-fn run_from<'s, E, R: Threads + Wait + Sync, K: Keeper + Send, P: Source + Send + 's, G: Gate + Sync>(
+fn run_from<
+    's,
+    E,
+    R: Threads + Wait + Sync,
+    K: Keeper + Send,
+    P: Source + Send + 's,
+    G: Gate + Sync,
+>(
     scope: &'s Scope<'s, E>,
     rt: &'s R,
     alloc: Global,

@@ -7,10 +7,10 @@ ghost use Rattle.smx_run.specs.Hands.{given, ran, HasCalled, HasCalledAll, IsToR
 ghost use Rattle.smx_run.specs.Hands.{SomeKnowsItFull};
 
 use crate::gate::Gate;
+use crate::past::Past;
 use crate::source::Source;
 use smx_shared::{ApplyFault, Door, Front};
 use std::alloc::Global;
-use std::snapshot::Snapshot;
 use std::sync::Wait;
 
 /// A process that is to be run: its seat and its program.
@@ -26,7 +26,7 @@ pub struct SeatedProgram<S: Drop, P: Drop> {
 pub struct EndedProgram<S: Drop, P: Drop> {
     pub seat: S,
     pub front: Front,
-    pub program: Snapshot<P>,
+    pub program: Past<P>,
 }
 
 /// Runs each process to its end, in turn, or to the first fault. A full history is answered only where one of its seats
@@ -68,7 +68,7 @@ where
     ensures full { IsErrOf result apply.HistoryFull → SomeKnowsItFull (D.is_seat door.now) D.known }
 {
     let SeatedProgram { mut seat, program } = job;
-    let whole = Snapshot::of(&program);
+    let whole = Past::new(&program);
     run_program(rt, alloc, door, &mut seat, program, gate)?;
     let front = door.glance(&mut seat);
     Ok(EndedProgram {
@@ -103,7 +103,7 @@ where
         let outcome = door.perform(rt, alloc, seat, command);
         gate.after(process, number);
         outcome?;
-        number += 1;
+        number = number.wrapping_add(1);
     }
     Ok(())
 }

@@ -13,6 +13,7 @@ use std::mem::forget;
 use std::process::Abort;
 use std::sync::Wait;
 use std::sync::atomic::{AtomicU64, Ordering};
+use std::vec::IntoIter;
 
 // Counts the calls of its seats.
 #[derive(Drop)]
@@ -67,7 +68,7 @@ impl Door for OwnDoor {
 }
 
 // Three commands for a process, with a seat of its own at a system with no entry, and of one at most.
-fn job_of(rt: &(impl AllocGlobal + Abort), process: u32) -> SeatedProgram<OwnSeat>
+fn job_of(rt: &(impl AllocGlobal + Abort), process: u32) -> SeatedProgram<OwnSeat, IntoIter<Command>>
     ensures { result.seat.system.history ≡ [] }
 {
     let mut commands = Commands::new(rt.alloc());
@@ -78,12 +79,12 @@ fn job_of(rt: &(impl AllocGlobal + Abort), process: u32) -> SeatedProgram<OwnSea
     let process = numbered(rt, process);
     SeatedProgram {
         seat: OwnSeat { process, system },
-        commands,
+        program: commands.into_vec().into_iter(),
     }
 }
 
 // Two processes of one worker.
-fn hand_of(rt: &(impl AllocGlobal + Abort), earlier: u32, later: u32) -> Vec<SeatedProgram<OwnSeat>>
+fn hand_of(rt: &(impl AllocGlobal + Abort), earlier: u32, later: u32) -> Vec<SeatedProgram<OwnSeat, IntoIter<Command>>>
     ensures { All (λ j. j.seat.system.history ≡ []) result.items }
 {
     let hand = vec![in rt.alloc(); job_of(rt, earlier), job_of(rt, later)];

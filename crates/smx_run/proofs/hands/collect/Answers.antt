@@ -1,4 +1,4 @@
-use Rattle.std.proofs.Common.{◌≡◌, ◌+◌, ◌%◌, [], ℕ, vec_len, arith, refl, ◌∙◌}
+use Rattle.std.proofs.Common.{◌≡◌, ◌+◌, ◌%◌, ℕ, vec_len, arith, refl, ◌∙◌}
 use Rattle.std.proofs.Math.Nat.{mod-lt}
 use Rattle.smx_run.specs.Hands.{ran, known_at, EndsAt}
 use Rattle.smx_run.proofs.HandLemmas.{next_program, pushed, all_more, all_of_none, hand_at, next_in_hand, take_next, collect_next}
@@ -54,3 +54,6 @@ loop-process-preserved g c =
       called = collect_next p (p + 1) _ _ _ one _ _ _ before.called
           (pushed (ran known_at) _ _ _ _ _ c.push_reserved.ensures.items refl refl) taken.0 refl next.1;
     }
+
+pub returns-clause-ended : goal.returns-clause-ended
+returns-clause-ended g c name all = (c.loop-process.invariant.ended name all).1

@@ -21,5 +21,9 @@ returns-clause-report g c =
     let same : s.drivers ≡ c.args.config.drivers = search rules in
     let shown : c.in_ok-view.view ≡ view s.drivers (after s.drivers s.history) = search rules in
     let was : told c.args.version c.args.config.drivers s.history c.in_ok-into_recorder.field-0 = search rules in
-    record_of_run told c.few_commands_drop.ensures c.args.version c.args.config.drivers s c.args.programs _ _ same
-    parts.sound was run.holds shown
+    record {
+      programs = run.ran.programs;
+      all_of_them = run.ran.all_of_them;
+      recorded = record_of_run told c.few_commands_drop.ensures c.args.version c.args.config.drivers s run.ran.programs _
+          _ same parts.sound was run.ran.holds shown;
+    }

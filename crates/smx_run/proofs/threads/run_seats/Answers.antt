@@ -7,7 +7,7 @@ use Rattle.smx_run.proofs.threads.run_seats.Goals as goal
 
 pub collect-requires-clause-dealt : goal.collect-requires-clause-dealt
 collect-requires-clause-dealt g c =
-    let dealt = c.in_ok-hands-2.ensures.called ∙ c.in_ok-hands.ensures.dealt in
+    let dealt = c.in_ok-hands-2.ensures.ran ∙ c.in_ok-hands.ensures.dealt in
     let count : vec_len c.in_ok-hands-2.hands
     ≡ c.args.workers = omega (arith, hand_count _ _ _ dealt, length-map c.in_ok-hands-2.hands.items ran_hand) in
     rw (count, c.of-asked.ensures) dealt
@@ -27,3 +27,13 @@ returns-in_err-hands-2-clause-full g c =
 
 pub returns-in_err-collect-clause-full : goal.returns-in_err-collect-clause-full
 returns-in_err-collect-clause-full g c = memory_is_not_full _ c.from_residual-in_err-collect.ensures.1
+
+pub collect-requires-clause-workers : goal.collect-requires-clause-workers
+collect-requires-clause-workers g c =
+    let dealt = c.in_ok-hands-2.ensures.ran ∙ c.in_ok-hands.ensures.dealt in
+    omega (
+      arith,
+      hand_count _ _ _ dealt,
+      length-map c.in_ok-hands-2.hands.items ran_hand,
+      c.requires.workers,
+    )

@@ -1,4 +1,4 @@
-use Rattle.std.proofs.Common.{◌≡◌, ◌++◌, List, length}
+use Rattle.std.proofs.Common.{◌++◌, List}
 use Rattle.smx_types.specs.declared.command.Command.{Command}
 use Rattle.smx_run.specs.Hands.{HasCalled}
 use Rattle.smx_run.proofs.worker.run_program.Given as goal

@@ -1,6 +1,6 @@
 use Rattle.std.proofs.Common.{arith, ◌∷◌, [], refl}
 use Rattle.std.proofs.lemmas.List.{length-append}
-use Rattle.smx_run.specs.Hands.{given, called, HasEndedWith}
+use Rattle.smx_run.specs.Hands.{given, ran, HasEndedWith}
 use Rattle.smx_run.proofs.FullHistoryLemmas.{handed_on, memory_is_not_full}
 use Rattle.smx_run.proofs.HandLemmas.{one_more, all_more}
 use Rattle.smx_run.proofs.worker.work.Goals as goal
@@ -24,8 +24,8 @@ loop-job-preserved g c =
         c.in-Some.ensures.steps.1,
         length-append c.loop-job.yielded (c.in-Some.job ∷ []),
       );
-      called = one_more (called known) (given known) _ _ _ _ _ before.called here.called c.push_reserved.ensures.items;
-      ended = all_more (HasEndedWith (g.D.Door.is_seat c.args.door.now) known) _ _ _ before.ended here.ended
+      ran = one_more (ran known) (given known) _ _ _ _ _ before.ran here.ran c.push_reserved.ensures.items;
+      ended = all_more (HasEndedWith (g.D.Door.is_seat c.args.door.now) known g.P.Source.left) _ _ _ before.ended here.ended
           c.push_reserved.ensures.items;
     }
 
@@ -51,6 +51,6 @@ loop-job-init g c =
       room = omega (arith, made.capacity, c.len.ensures);
       left = omega (arith, c.into_iter-job-iterator.ensures.into_iter_gives.1);
       counted = omega (arith, made.len);
-      called = rw made.items refl;
+      ran = rw made.items refl;
       ended = rw made.items (λ k d lt. absurd (omega arith));
     }

@@ -1,0 +1,19 @@
+use Rattle.std.proofs.Common.{◌∷◌, ◌++◌, [], Option, subst, append_assoc}
+use Rattle.smx_types.specs.declared.command.Command.{Command}
+use Rattle.smx_run.specs.Sources.{IsNextOf}
+use Rattle.smx_run.proofs.RunLemmas.{called_more}
+use Rattle.smx_run.proofs.worker.run_program.Goals as goal
+
+pub loop-program-preserved : goal.loop-program-preserved
+loop-program-preserved g c =
+    let before = c.loop-program.invariant in
+    let command = c.in-Some.command in
+    let next = subst (λ (o : Option Command). IsNextOf g.P.Source.left g.P.Source.size c.loop-program.program o
+    c.next_command.new.self) c.in-Some.is c.in_ok-command.ensures in
+    record {
+      seat = c.perform-outcome.ensures.seat;
+      done = before.done ++ command ∷ [];
+      called = called_more _ _ _ _ _ before.called c.perform-outcome.ensures.seen c.in_ok-outcome.ensures.added;
+      behind = λ commands left. rw (append_assoc before.done (command ∷ []) commands)
+          (before.behind (command ∷ commands) (next.0 commands left));
+    }
