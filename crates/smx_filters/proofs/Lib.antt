@@ -10,6 +10,7 @@ pub mod WritingFilterLemmas
 pub mod DrawTextLemmas
 pub mod ExplainTextLemmas
 pub mod OneProcessLemmas
+pub mod UnreadLemmas
 pub mod AnswerLemmas
 pub mod FrontsLawLemmas
 pub mod ExplainLawLemmas

@@ -10,11 +10,11 @@ use Rattle.smx_model.specs.Histories.{call_of, commands_of, HoldsPrograms}
 use Rattle.smx_run.specs.ProgramOrder.{calls_from, calls_of}
 
 -- an entry's command comes first among those of its process
-own : (e : Entry) (es : List Entry) (p : ℕ) → e.process ≡ p → commands_of p (e ∷ es) ≡ e.command ∷ commands_of p es
+pub own : (e : Entry) (es : List Entry) (p : ℕ) → e.process ≡ p → commands_of p (e ∷ es) ≡ e.command ∷ commands_of p es
 own e es p same = let t : eqb e.process p ≡ true = eq-eqb e.process p same in rw t refl
 
 -- and is none of another's
-another : (e : Entry) (es : List Entry) (p : ℕ) → e.process ≢ p → commands_of p (e ∷ es) ≡ commands_of p es
+pub another : (e : Entry) (es : List Entry) (p : ℕ) → e.process ≢ p → commands_of p (e ∷ es) ≡ commands_of p es
 another e es p differs = let f : eqb e.process p ≡ false = ne_eqb e.process p differs in rw f refl
 
 -- where no process has a program there is no entry

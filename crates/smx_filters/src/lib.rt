@@ -19,6 +19,7 @@ mod replay;
 mod running_programs;
 mod text;
 mod text_recorder;
+mod unread_program;
 
 pub use check::check_text;
 pub use device::{Failed, Feed, Sink, Source, Target};

@@ -19,10 +19,10 @@ use crate::output::write_all;
 use crate::refusal::Refusal;
 use crate::running_programs::RunningPrograms;
 use crate::text_recorder::TextRecorder;
-use memchr::memmem;
+use crate::unread_program::transcript_of_unread;
 use smx_model::laws_of_hangups::reports_need_no_later_version;
 use smx_run::{Gate, Report, RunFault, run_programs, run_recorded_together};
-use smx_text::{read_programs, take_programs};
+use smx_text::{read_programs, split_programs, take_programs};
 use smx_types::{NoMemory, Programs};
 use std::alloc::Global;
 use std::sync::Wait;
@@ -32,8 +32,10 @@ use std::thread::Threads;
 /// to `sink`, in the version of the programs, or with `fronts` how far the history had come when each program had
 /// ended. One worker runs one program after the other, by rising number, so that its transcript is determined. Of
 /// several, each has a thread of its own; process p is run by worker p modulo `workers`. A worker tells the gate of
-/// each command. Neither device has failed before, and no read has shown the end. Faults are found in this order:
-/// reading, text, drivers, run, writing.
+/// each command. The text is read meanwhile, so that the gate may have been told of commands of a text that then turns
+/// out to be at fault; and where several workers want memory, all is tried once more, and the gate told anew. Neither
+/// device has failed before, and no read has shown the end. Faults are found in this order: reading, text, drivers, run,
+/// writing.
 pub fn run_text<R: Threads + Wait + Sync, F: Feed, S: Sink, G: Gate + Sync>(
     rt: &R,
     alloc: Global,
@@ -58,8 +60,7 @@ pub fn run_text<R: Threads + Wait + Sync, F: Feed, S: Sink, G: Gate + Sync>(
     }
 }
 
-// The text of a run of the programs that the input spells, which is kept where it is at fault. The transcript of one
-// worker, or of one process, is written while the text is read, and that of several in the room that the input had.
+// The text of a run of the programs that the input spells, which is kept where it is at fault.
 pub(crate) fn text_for<R: Threads + Wait + Sync, G: Gate + Sync>(
     rt: &R,
     alloc: Global,
@@ -73,9 +74,58 @@ pub(crate) fn text_for<R: Threads + Wait + Sync, G: Gate + Sync>(
     ensures kept { IfErr result (λ r. (fault : TextFault) → r.fault ≡ Text fault → IsKept r.text input.items) }
     ensures given_up { IfErr result (λ r. (f : AnyFault) → r.fault ≡ Refused f → r.text ≡ None) }
 {
-    if !fronts && (workers == 1 || !has_second_process(input.as_slice())) {
+    if !fronts {
+        return transcript_for(rt, alloc, input, workers, gate);
+    }
+    text_of_read(rt, alloc, input, workers, true, gate)
+}
+
+// The transcript of such a run. That of one worker, or of one process, is written while the text is read. Of several,
+// each worker reads the programs that it runs; where nothing comes of that, the whole text is read first, which finds
+// what is at fault.
+fn transcript_for<R: Threads + Wait + Sync, G: Gate + Sync>(
+    rt: &R,
+    alloc: Global,
+    input: Vec<u8>,
+    workers: usize,
+    gate: &G,
+) -> Result<Vec<u8>, Refusal>
+    requires { (1 ≤ workers) × (workers ≤ 64) }
+    ensures answers { Answers (running false workers) input.items (items_of (answer_of result)) }
+    ensures kept { IfErr result (λ r. (fault : TextFault) → r.fault ≡ Text fault → IsKept r.text input.items) }
+    ensures given_up { IfErr result (λ r. (f : AnyFault) → r.fault ≡ Refused f → r.text ≡ None) }
+{
+    if workers == 1 {
         return transcript_on_one_thread(alloc, input, gate);
     }
+    let Some(split) = split_programs(alloc, input.as_slice()) else {
+        return text_of_read(rt, alloc, input, workers, false, gate);
+    };
+    if split.texts.len() < 2 {
+        drop(split);
+        return transcript_on_one_thread(alloc, input, gate);
+    }
+    let room = room_for_transcript(alloc, input.len());
+    match transcript_of_unread(rt, alloc, input.as_slice(), split, room, workers, gate) {
+        Some(text) => Ok(text),
+        None => text_of_read(rt, alloc, input, workers, false, gate),
+    }
+}
+
+// The text of such a run whose programs are read first, all of them. A transcript is written in the room of the input.
+fn text_of_read<R: Threads + Wait + Sync, G: Gate + Sync>(
+    rt: &R,
+    alloc: Global,
+    input: Vec<u8>,
+    workers: usize,
+    fronts: bool,
+    gate: &G,
+) -> Result<Vec<u8>, Refusal>
+    requires { (1 ≤ workers) × (workers ≤ 64) }
+    ensures answers { Answers (running fronts workers) input.items (items_of (answer_of result)) }
+    ensures kept { IfErr result (λ r. (fault : TextFault) → r.fault ≡ Text fault → IsKept r.text input.items) }
+    ensures given_up { IfErr result (λ r. (f : AnyFault) → r.fault ≡ Refused f → r.text ≡ None) }
+{
     let programs = match read_programs(alloc, input.as_slice()) {
         Ok(programs) => programs,
         Err(fault) => return Err(kept_for(MainFault::Text(fault), input)),
@@ -103,15 +153,6 @@ fn kept_for(fault: MainFault, input: Vec<u8>) -> Refusal
         | MainFault::WriteFailed => None,
     };
     Refusal { fault, text }
-}
-
-// Whether a second line begins with `process `. Without one there is one process at most.
-fn has_second_process(text: &[u8]) -> bool {
-    let begins = b"\nprocess ";
-    match memmem::find(text, begins) {
-        Some(at) => memmem::find(&text[at + begins.len()..], begins).is_some(),
-        None => false,
-    }
 }
 
 // The transcript of a run on this thread alone, which answers for any number of workers. The input is kept where it is
