@@ -12,7 +12,7 @@ ghost use Rattle.smx_filters.specs.RunText.{IsTranscriptFor};
 
 use crate::text_recorder::TextRecorder;
 use smx_model::laws_of_hangups::reports_need_no_later_version;
-use smx_run::{Gate, Source, run_sources_together};
+use smx_run::{CommandSource, Gate, run_sources_together};
 use smx_text::{SplitPrograms, next_command};
 use smx_types::{Command, NoMemory, Version};
 use std::alloc::Global;
@@ -26,7 +26,7 @@ pub struct UnreadProgram<'a> {
     pub text: &'a [u8],
 }
 
-impl<'a> Source for UnreadProgram<'a> {
+impl<'a> CommandSource for UnreadProgram<'a> {
     ghost use Rattle.std.specs.Prelude.{length};
     ghost use Rattle.smx_text.specs.SplitPrograms.{IsProgramText};
 
