@@ -1,5 +1,6 @@
-/* Preloaded before a program: its FAIL_NTH-th growth, counted from 1 over all threads, is refused, and so is its
-   FAIL_START-th start of a thread; a byte on descriptor 3 tells. The start of a thread counts as a growth. */
+/* Preloaded before a program: its FAIL_NTH-th growth, counted from 1 over all threads, is refused, and so are its
+   FAIL_START-th start of a thread and all later ones; a byte on descriptor 3 tells. The start of a thread counts as a
+   growth. */
 
 typedef unsigned long size_t;
 
@@ -17,17 +18,22 @@ static const int try_again = 11;
 static unsigned long growths;
 static unsigned long starts;
 
-static int is_refused(const char *which, unsigned long *count) {
+static unsigned long counted(unsigned long *count) {
+    return __atomic_add_fetch(count, 1, __ATOMIC_SEQ_CST);
+}
+
+static unsigned long asked_for(const char *which) {
     const char *nth = getenv(which);
-    unsigned long number = __atomic_add_fetch(count, 1, __ATOMIC_SEQ_CST);
-    if (nth == 0 || strtoul(nth, 0, 10) != number) {
-        return 0;
-    }
-    return write(3, "!", 1) == 1;
+    return nth == 0 ? 0 : strtoul(nth, 0, 10);
 }
 
 static int is_growth_refused(void) {
-    return is_refused("FAIL_NTH", &growths);
+    return counted(&growths) == asked_for("FAIL_NTH") && write(3, "!", 1) == 1;
+}
+
+static int is_start_refused(void) {
+    unsigned long number = counted(&starts), first = asked_for("FAIL_START");
+    return first != 0 && number >= first && write(3, "!", 1) == 1;
 }
 
 void *malloc(size_t size) {
@@ -40,7 +46,7 @@ void *realloc(void *block, size_t size) {
 
 int pthread_create(void *thread, const void *attributes, void *(*run)(void *), void *given) {
     start_thread *start = (start_thread *)dlsym(next_library, "pthread_create");
-    if (is_growth_refused() || is_refused("FAIL_START", &starts)) {
+    if (is_growth_refused() || is_start_refused()) {
         return try_again;
     }
     return start(thread, attributes, run, given);
