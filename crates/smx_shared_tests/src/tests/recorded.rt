@@ -1,14 +1,14 @@
 //! Runs of which a recorder is told: of programs that grow while their text is read, and of several workers. What it is
 //! told, and a gate, of drivers that are refused, and where the recorder wants memory.
 
-ghost use Rattle.std.specs.Prelude.{◌≡◌, ◌<◌, ◌≤◌, length, vec_len};
+ghost use Rattle.std.specs.Prelude.{◌<◌, ◌≤◌, length};
 
 use super::gates::Told::{After, Before};
 use super::gates::{Log, Told};
 use super::growing::{Growing, Kept};
 use super::made::read;
 use super::told::{IN_TURN, SIX};
-use smx_run::{Gate, RunFault, CommandSource, run_recorded_together, run_sources_together};
+use smx_run::{CommandSource, Gate, RunFault, run_recorded_together, run_sources_together};
 use smx_text::{read_programs, take_programs};
 use smx_types::{
     Command, ConfigView, MAX_PROCESSES, NoMemory, Process, ProgramList, Programs, Transcript,
@@ -61,13 +61,11 @@ impl CommandSource for Torn {
 }
 
 // These programs, as such sources.
-fn torn_sources(rt: &(impl AllocGlobal + Abort), programs: ProgramList, most: usize) -> Vec<Torn>
-    ensures { vec_len result ≡ length programs }
-{
-    let mut sources = Vec::with_capacity(rt.alloc(), programs.as_slice().len()).expect(rt, "room");
+fn torn_sources(rt: &(impl AllocGlobal + Abort), programs: ProgramList, most: usize) -> Vec<Torn> {
+    let mut sources = Vec::new(rt.alloc());
     for commands in programs.into_vec() {
         let commands = commands.into_vec().into_iter();
-        sources.push_reserved(Torn { commands, most });
+        assert!(rt; sources.push(Torn { commands, most }).is_ok());
     }
     sources
 }
@@ -140,6 +138,7 @@ fn ran<R: AllocGlobal + Abort + Threads + Wait + Sync>(
             let (drivers, programs) = programs.into_parts();
             let drivers = drivers.as_slice();
             let sources = torn_sources(rt, programs, most);
+            assert!(rt; 1 <= sources.len() && sources.len() <= MAX_PROCESSES as usize);
             let alloc = rt.alloc();
             let ran = run_sources_together(
                 rt, alloc, version, drivers, sources, workers, room, log,
