@@ -32,10 +32,10 @@ use std::thread::Threads;
 /// to `sink`, in the version of the programs, or with `fronts` how far the history had come when each program had
 /// ended. One worker runs one program after the other, by rising number, so that its transcript is determined. Of
 /// several, each has a thread of its own; process p is run by worker p modulo `workers`. A worker tells the gate of
-/// each command. The text is read meanwhile, so that the gate may have been told of commands of a text that then turns
-/// out to be at fault; and where several workers want memory, all is tried once more, and the gate told anew. Neither
-/// device has failed before, and no read has shown the end. Faults are found in this order: reading, text, drivers, run,
-/// writing.
+/// each command. Without `fronts` the text is read meanwhile, so that the gate may have been told of commands of a text
+/// that then turns out to be at fault; and where several workers want memory, all is tried once more, and the gate told
+/// anew. Neither device has failed before, and no read has shown the end. Faults are found in this order: reading, text,
+/// drivers, run, writing.
 pub fn run_text<R: Threads + Wait + Sync, F: Feed, S: Sink, G: Gate + Sync>(
     rt: &R,
     alloc: Global,

@@ -104,7 +104,8 @@ deal_next {P = P} workers n m p k old new goal program programs later before now
     ∙ ap (λ (cs : List (ℕ × P)). old ++ cs) (sym first) ∙ was)
 
 -- nothing was dealt yet
-pub none_dealt : {P : Type 0} (workers : ℕ) (hands : List (List (ℕ × P))) → hands ≡ hands_of workers [] → (k : ℕ) → k < workers
+pub none_dealt : {P : Type 0} (workers : ℕ) (hands : List (List (ℕ × P))) → hands ≡ hands_of workers []
+    → (k : ℕ) → k < workers
     → (goal : List (ℕ × P)) → get_or hands k [] ++ goal ≡ goal
 none_dealt workers hands none k below goal = rw (none, hand_at workers [] k below) refl
 
@@ -240,7 +241,8 @@ collect_next p m old new goal one programs later program before now is more next
     rw (now, is, more) (append_assoc old ((p, program) ∷ []) (numbered (p + 1) later) ∙ was)
 
 -- there are as many hands as workers
-pub hand_count : {P : Type 0} (workers : ℕ) (all : List (ℕ × P)) (hands : List (List (ℕ × P))) → hands ≡ hands_of workers all
+pub hand_count : {P : Type 0} (workers : ℕ) (all : List (ℕ × P)) (hands : List (List (ℕ × P)))
+    → hands ≡ hands_of workers all
     → length hands ≡ workers
 hand_count {P = P} workers all hands is =
     ap (length {A = List (ℕ × P)}) is ∙ length-map-range_with_len (hand_of workers all) 0 workers

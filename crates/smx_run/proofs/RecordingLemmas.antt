@@ -147,7 +147,8 @@ of_lists items (source ∷ sources) (commands ∷ programs) all =
 
 -- what is recorded of these is recorded of the lists
 pub recorded_of_lists : {P : Type 0} (items : P → List Command) (programs : ProgramLists) (version : Version)
-    (drivers : List DriverSpec) (sources : List P) {K : Type 0} {told : Version → List DriverSpec → List Entry → K → Type 0}
+    (drivers : List DriverSpec) (sources : List P) {K : Type 0}
+    {told : Version → List DriverSpec → List Entry → K → Type 0}
     {recorder : K} {view : ConfigView} → version ≡ programs.version → drivers ≡ programs.drivers
     → map items sources ≡ programs.programs
     → IsRecordOfSources version drivers (λ source commands. commands ≡ items source) sources told recorder view

@@ -199,7 +199,8 @@ called_same a b c commands was more same =
 
 -- each program is held by a history that bears out all who have ended
 holds_at : {P : Type 0} (s : Recorded) (k n p : ℕ) (ended : List (EndedProgram Seated P))
-    (programs : List (List Command)) → map (called known_at) ended ≡ numbered_calls n programs → All (IsBorneOutBy s) ended → k < length programs
+    (programs : List (List Command)) → map (called known_at) ended ≡ numbered_calls n programs
+    → All (IsBorneOutBy s) ended → k < length programs
     → p ≡ k + n → commands_of p s.history ≡ get_or programs k []
 holds_at s k n p ended [] is borne below at = absurd (omega arith)
 holds_at s k n p [] (commands ∷ programs) is borne below at = absurd cc

@@ -84,7 +84,8 @@ pub fn collect<K: Keeper, P: CommandSource>(
     requires workers { 1 ≤ vec_len hands }
     requires dealt { map ran_hand hands.items ≡ hands_of (vec_len hands) (numbered 0 programs.value.items) }
     requires processes { length programs.value.items ≡ processes }
-    ensures ended { IfOk result (λ v. (name : SharedId) → All (HaveEnded P.left name) hands.items → HaveEnded P.left name v) }
+    ensures ended { IfOk result (λ v. (name : SharedId)
+        → All (HaveEnded P.left name) hands.items → HaveEnded P.left name v) }
     ensures ran { IfOk result (λ v. ran_hand v ≡ numbered 0 programs.value.items) }
 {
     let mut ended = Vec::with_capacity(alloc, processes)?;
@@ -106,7 +107,8 @@ fn take_first<K: Keeper, P: CommandSource>(
     ensures first { slice_index_or (map ran_hand hands.old.items) worker []
         ≡ ran known_at result ∷ slice_index_or (map ran_hand hands.new.items) worker [] }
     ensures ended { (name : SharedId)
-        → All (HaveEnded P.left name) hands.old.items → EndsAt P.left name result × All (HaveEnded P.left name) hands.new.items }
+        → All (HaveEnded P.left name) hands.old.items
+        → EndsAt P.left name result × All (HaveEnded P.left name) hands.new.items }
     ensures others { (k : ℕ) → k ≢ worker → slice_index_or (map ran_hand hands.new.items) k []
         ≡ slice_index_or (map ran_hand hands.old.items) k [] }
 {

@@ -5,13 +5,11 @@ ghost use Rattle.std.specs.Prelude.{IfOk, IfErr, IsErrOf};
 ghost use Rattle.std.specs.List.{range_with_len};
 ghost use Rattle.smx_types.specs.declared.limits.TheConstants.{MAX_PROCESSES};
 ghost use Rattle.smx_model.specs.DriverList.{IsDriverList};
-ghost use Rattle.smx_model.specs.Histories.{HoldsPrograms};
 ghost use Rattle.smx_shared.specs.Seats.{SharedId};
 ghost use Rattle.smx_shared.specs.declared.shared_fault.ApplyFault.TheVariants as apply;
-ghost use Rattle.smx_run.specs.Fronts.{AreFrontsFrom};
 ghost use Rattle.smx_run.specs.Hands.{ran_hand, given_hand, AllHaveEnded, HaveRun, AreFresh, HaveEnded, IsFresh};
 ghost use Rattle.smx_run.specs.Hands.{HasRunAll, IsSeenFull};
-ghost use Rattle.smx_run.specs.ProgramOrder.{Calls, numbered};
+ghost use Rattle.smx_run.specs.ProgramOrder.{numbered};
 ghost use Rattle.smx_run.specs.RunFaults.{RefusesRun};
 
 use crate::command_source::CommandSource;

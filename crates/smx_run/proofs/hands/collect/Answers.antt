@@ -1,7 +1,8 @@
 use Rattle.std.proofs.Common.{◌≡◌, ◌+◌, ◌%◌, ℕ, vec_len, arith, refl, ◌∙◌}
 use Rattle.std.proofs.Math.Nat.{mod-lt}
 use Rattle.smx_run.specs.Hands.{ran, known_at, EndsAt}
-use Rattle.smx_run.proofs.HandLemmas.{next_program, pushed, all_more, all_of_none, hand_at, next_in_hand, take_next, collect_next}
+use Rattle.smx_run.proofs.HandLemmas.{pushed, all_more, all_of_none, hand_at, next_program, next_in_hand, take_next}
+use Rattle.smx_run.proofs.HandLemmas.{collect_next}
 use Rattle.smx_run.proofs.hands.collect.Goals as goal
 
 pub loop-process-init : goal.loop-process-init

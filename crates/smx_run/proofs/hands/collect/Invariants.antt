@@ -14,5 +14,6 @@ invariant-loop-process g l = record {
       → All (HaveEnded g.P.CommandSource.left name) l.hands.items × HaveEnded g.P.CommandSource.left name l.ended;
   dealt : (k : ℕ) → k < vec_len l.fn.hands → get_or (map ran_hand l.hands.items) k []
       ≡ hand_of (vec_len l.fn.hands) (numbered l.process (drop l.process l.programs.value.items)) k;
-  called : ran_hand l.ended ++ numbered l.process (drop l.process l.programs.value.items) ≡ numbered 0 l.programs.value.items;
+  called : ran_hand l.ended ++ numbered l.process (drop l.process l.programs.value.items)
+      ≡ numbered 0 l.programs.value.items;
 }

@@ -17,5 +17,6 @@ invariant-loop-seat g l = record {
       → All (IsFresh name) (into_iter_items l.seat-iterator) × All (AreFresh name) l.hands.items;
   dealt : (k : ℕ) → k < l.workers
       → get_or (map given_hand l.hands.items) k [] ++ hand_of l.workers
-      (numbered (length l.yielded) (into_iter_items l.programs)) k ≡ hand_of l.workers (numbered 0 l.fn.programs.items) k;
+      (numbered (length l.yielded) (into_iter_items l.programs)) k
+      ≡ hand_of l.workers (numbered 0 l.fn.programs.items) k;
 }

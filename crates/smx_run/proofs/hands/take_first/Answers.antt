@@ -18,6 +18,6 @@ pub returns-clause-ended : goal.returns-clause-ended
 returns-clause-ended g c name all =
     let done = c.remove.ensures in
     let within : c.args.worker < length c.args.hands.now.items = search rules in
-    all_taken (λ hand. hand.items) (EndsAt g.P.CommandSource.left name) c.args.hands.now.items c.args.worker c.index_mut.result.now
-    c.remove.new.self c.remove.result within c.index_mut.ensures.value
+    all_taken (λ hand. hand.items) (EndsAt g.P.CommandSource.left name) c.args.hands.now.items c.args.worker
+    c.index_mut.result.now c.remove.new.self c.remove.result within c.index_mut.ensures.value
     (first_then_rest _ _ c.remove.result done.value done.items (search rules)) all

@@ -24,7 +24,8 @@ pub returns-then-is_empty-clause-ended : goal.returns-then-is_empty-clause-ended
 returns-then-is_empty-clause-ended g n c =
     let name = c.args.shared.now.name in
     IfOk-weaker c.and_then.result _ _
-    (λ v both. both name (all_of_none (HaveEnded g.P.CommandSource.left name) _ c.new-then-is_empty.ensures.items) c.work-first.ensures.ended)
+    (λ v both. both name (all_of_none (HaveEnded g.P.CommandSource.left name) _ c.new-then-is_empty.ensures.items)
+    c.work-first.ensures.ended)
     c.and_then.ensures.ended
 
 pub spawn_with-worker-requires-clause-runs : goal.spawn_with-worker-requires-clause-runs
@@ -46,7 +47,8 @@ returns-in-Ok-clause-ran g n c =
     ≡ map given_hand c.pop.new.self.items ++ given_hand c.in-Some.hand ∷ [] =
     ap (map given_hand) c.in-Some.ensures.items ∙ map-append given_hand c.pop.new.self.items (c.in-Some.hand ∷ []) in
     IfOk-weaker c.and_then-in-Ok.result _ _
-    (λ v both. both _ _ c.run_from-before.ensures.ran (IfOk-weaker c.join.result _ _ (λ d k. k.0 ∙ ap given_hand hand) c.join.ensures.0) ∙ sym whole)
+    (λ v both. both _ _ c.run_from-before.ensures.ran
+    (IfOk-weaker c.join.result _ _ (λ d k. k.0 ∙ ap given_hand hand) c.join.ensures.0) ∙ sym whole)
     c.and_then-in-Ok.ensures.ran
 
 pub returns-in-Ok-clause-ended : goal.returns-in-Ok-clause-ended
@@ -54,7 +56,8 @@ returns-in-Ok-clause-ended g n c =
     let name = c.args.shared.now.name in
     let at : c.in-Ok.worker.promise.1.value.name ≡ name = search rules in
     IfOk-weaker c.and_then-in-Ok.result _ _
-    (λ v both. both name c.run_from-before.ensures.ended (IfOk-weaker c.join.result _ _ (λ d k. rw at at k.1) c.join.ensures.0))
+    (λ v both. both name c.run_from-before.ensures.ended
+    (IfOk-weaker c.join.result _ _ (λ d k. rw at at k.1) c.join.ensures.0))
     c.and_then-in-Ok.ensures.ended
 
 pub returns-then-is_empty-clause-full : goal.returns-then-is_empty-clause-full

@@ -5,7 +5,8 @@ use Rattle.smx_shared.specs.Recorded.{Recorded}
 use Rattle.smx_shared.specs.Seats.{Seated, GoesOnNamed}
 use Rattle.smx_run.specs.Fronts.{AreFrontsFrom}
 use Rattle.smx_run.specs.Hands.{IsFresh}
-use Rattle.smx_run.proofs.RunLemmas.{first_processes, first_fresh, some_ended, all_called, as_many, holds_all, fronts_all}
+use Rattle.smx_run.proofs.RunLemmas.{first_processes, first_fresh, some_ended, all_called, as_many}
+use Rattle.smx_run.proofs.RunLemmas.{holds_all, fronts_all}
 use Rattle.smx_run.proofs.threads.run_together.Goals as goal
 
 pub run_seats-requires-clause-seats : goal.run_seats-requires-clause-seats

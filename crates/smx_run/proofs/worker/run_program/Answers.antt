@@ -8,8 +8,8 @@ pub loop-program-preserved : goal.loop-program-preserved
 loop-program-preserved g c =
     let before = c.loop-program.invariant in
     let command = c.in-Some.command in
-    let next = subst (λ (o : Option Command). IsNextOf g.P.CommandSource.left g.P.CommandSource.size c.loop-program.program o
-    c.next_command.new.self) c.in-Some.is c.in_ok-command.ensures in
+    let next = subst (λ (o : Option Command). IsNextOf g.P.CommandSource.left g.P.CommandSource.size
+    c.loop-program.program o c.next_command.new.self) c.in-Some.is c.in_ok-command.ensures in
     record {
       seat = c.perform-outcome.ensures.seat;
       done = before.done ++ command ∷ [];

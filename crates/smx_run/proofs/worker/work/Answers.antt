@@ -25,8 +25,8 @@ loop-job-preserved g c =
         length-append c.loop-job.yielded (c.in-Some.job ∷ []),
       );
       ran = one_more (ran known) (given known) _ _ _ _ _ before.ran here.ran c.push_reserved.ensures.items;
-      ended = all_more (HasEndedWith (g.D.Door.is_seat c.args.door.now) known g.P.CommandSource.left) _ _ _ before.ended here.ended
-          c.push_reserved.ensures.items;
+      ended = all_more (HasEndedWith (g.D.Door.is_seat c.args.door.now) known g.P.CommandSource.left) _ _ _
+          before.ended here.ended c.push_reserved.ensures.items;
     }
 
 pub returns-in_err-done-clause-full : goal.returns-in_err-done-clause-full
