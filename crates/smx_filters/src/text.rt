@@ -112,7 +112,8 @@ fn transcript_for<R: Threads + Wait + Sync, G: Gate + Sync>(
     }
 }
 
-// The text of such a run whose programs are read first, all of them. A transcript is written in the room of the input.
+// The text of such a run whose programs are read first, all of them. The transcript of several is written in the room of
+// the input.
 fn text_of_read<R: Threads + Wait + Sync, G: Gate + Sync>(
     rt: &R,
     alloc: Global,

@@ -48,7 +48,7 @@ impl<'a> CommandSource for UnreadProgram<'a> {
 
 // The transcript of a run, by so many workers, of the programs that the input spells, of which each is read by the
 // worker that runs it. Nothing where the run comes to no end: for a line that is no command, for drivers that are
-// refused, for more commands than a history has, or for want of memory.
+// refused, for more commands than a history has, for a turn that is not given back, or for want of memory.
 pub(crate) fn transcript_of_unread<R: Threads + Wait + Sync, G: Gate + Sync>(
     rt: &R,
     alloc: Global,

@@ -18,13 +18,26 @@ use Rattle.smx_shared.specs.declared.shared_fault.ApplyFault.{ApplyFault}
 use Rattle.smx_shared.specs.declared.shared_fault.ApplyFault.TheVariants as apply
 use Rattle.smx_shared.specs.declared.seat_view.MetSeat.{MetSeat}
 use Rattle.smx_run.specs.Fronts.{IsFrontAfter, AreFrontsFrom}
-use Rattle.smx_run.specs.Hands.{called, ran, calls_in, known_at, HasCalled, IsFresh, EndsAt}
+use Rattle.smx_run.specs.Hands.{ran, calls_in, known_at, HasCalled, IsFresh, EndsAt}
 use Rattle.smx_run.specs.Meeting.{IsBorneOutBy}
-use Rattle.smx_run.specs.ProgramOrder.{Calls, calls_of, calls_from, numbered, numbered_calls}
+use Rattle.smx_run.specs.ProgramOrder.{calls_of, calls_from, numbered}
 use Rattle.smx_run.specs.declared.worker.EndedProgram.{EndedProgram}
 use Rattle.smx_shared.proofs.OwnEntryLemmas.{entries_none}
 use Rattle.smx_run.proofs.HandLemmas.{take_off}
 use Rattle.smx_run.proofs.ProgramOrderLemmas.{holds}
+
+-- a process, and commands of its own
+abbrev pub Calls : Type 0
+Calls = ℕ × List (ℕ × Command)
+
+-- the process of a seat, and what was called with it
+abbrev pub called : {S P : Type 0} → (S → Known) → EndedProgram S P → Calls
+called known done = ((known done.seat).process, calls_in (known done.seat).own)
+
+-- process n with its calls, then the next with its own, and so on
+abbrev pub numbered_calls : ℕ → List (List Command) → List Calls
+numbered_calls n [] = []
+numbered_calls n (commands ∷ programs) = (n, calls_of n commands) ∷ numbered_calls (n + 1) programs
 
 -- the commands among calls
 abbrev pub commands_in : List (ℕ × Command) → List Command

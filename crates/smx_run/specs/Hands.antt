@@ -9,7 +9,7 @@ use Rattle.smx_shared.specs.Fronts.{IsFrontOf}
 use Rattle.smx_shared.specs.Seats.{Known, Seated, SharedId, entries_of}
 use Rattle.smx_shared.specs.declared.front.Front.{Front}
 use Rattle.smx_run.specs.Fronts.{AreFrontsFrom}
-use Rattle.smx_run.specs.ProgramOrder.{Calls, calls_of}
+use Rattle.smx_run.specs.ProgramOrder.{calls_of}
 use Rattle.smx_run.specs.declared.worker.SeatedProgram.{SeatedProgram}
 use Rattle.smx_run.specs.declared.worker.EndedProgram.{EndedProgram}
 
@@ -24,10 +24,6 @@ calls_in entries = map call_of entries
 -- the process of a seat, and the program that it has run
 abbrev pub ran : {S P : Type 0} → (S → Known) → EndedProgram S P → ℕ × P
 ran known done = ((known done.seat).process, done.program.value)
-
--- the process of a seat, and what was called with it
-abbrev pub called : {S P : Type 0} → (S → Known) → EndedProgram S P → Calls
-called known done = ((known done.seat).process, calls_in (known done.seat).own)
 
 -- as far as the history was seen, it has as many entries as it may
 abbrev pub KnowsItFull : Known → Type 0

@@ -2,10 +2,6 @@
 use Rattle.std.specs.Prelude.{◌≡◌, ℕ, ◌+◌, List, [], ◌∷◌, ◌++◌, map}
 use Rattle.smx_types.specs.declared.command.Command.{Command}
 
--- a process, and commands of its own
-abbrev pub Calls : Type 0
-Calls = ℕ × List (ℕ × Command)
-
 -- each command of one process, with the process
 abbrev pub calls_of : ℕ → List Command → List (ℕ × Command)
 calls_of process commands = map (λ command. (process, command)) commands
@@ -23,8 +19,3 @@ BeginsCalls calls n programs = (left : List (ℕ × Command)) × (calls ++ left 
 abbrev pub numbered : {P : Type 0} → ℕ → List P → List (ℕ × P)
 numbered n [] = []
 numbered n (program ∷ programs) = (n, program) ∷ numbered (n + 1) programs
-
--- process n with its calls, then the next with its own, and so on
-abbrev pub numbered_calls : ℕ → List (List Command) → List Calls
-numbered_calls n [] = []
-numbered_calls n (commands ∷ programs) = (n, calls_of n commands) ∷ numbered_calls (n + 1) programs

@@ -16,7 +16,7 @@ pub trait CommandSource: Drop {
     // These may be the commands that are left of it.
     ghost left: { Self → List AnyCommand → Type 0 };
 
-    // What is left of it grows less.
+    // A number that falls with each command.
     ghost size: { Self → ℕ };
 
     /// The next command, or nothing behind the last one. Where it can't tell, it is of no more use; that counts as want

@@ -13,14 +13,15 @@ ghost use Rattle.smx_model.specs.Histories.{call_of};
 ghost use Rattle.smx_model.specs.Worked.Common.{mux, ip, OpenClone, Dup, CloseAll};
 ghost use Rattle.smx_model.specs.Worked.Reports.{copied, drivers, exited, opened, programs};
 ghost use Rattle.smx_config.specs.declared.config_fault.ConfigFault.TheVariants as config;
-ghost use Rattle.smx_shared.specs.WorkedCalls.{front, idle, knows};
+ghost use Rattle.smx_shared.specs.WorkedCalls.{front, idle, knows, passed};
 ghost use Rattle.smx_run.specs.Alone.{KeepsBehind, StopsAmong};
 ghost use Rattle.smx_run.specs.Fronts.{AreFrontsFrom};
 ghost use Rattle.smx_run.specs.Gathering.{IsLeastStrange};
-ghost use Rattle.smx_run.specs.Hands.{HasCalled, KnowsItFull};
-ghost use Rattle.smx_run.specs.WorkedRuns.{HasEndedFirst, IsFirstToRun, IsNextOfList, StopsWithinList};
-ghost use Rattle.smx_run.specs.ProgramOrder.{calls_from, BeginsCalls};
-ghost use Rattle.smx_run.specs.RecordedRuns.{IsRecordOf, KeepsAll};
+ghost use Rattle.smx_run.specs.Hands.{given, ran, HasCalled, KnowsItFull};
+ghost use Rattle.smx_run.specs.WorkedRuns.{ended_at, second, to_run, HasEndedOf, IsFirstToRun, IsListOf};
+ghost use Rattle.smx_run.specs.WorkedRuns.{IsNextOfAny, IsNextOfList, StopsWithinList};
+ghost use Rattle.smx_run.specs.ProgramOrder.{calls_from, numbered, BeginsCalls};
+ghost use Rattle.smx_run.specs.RecordedRuns.{IsRecordOf, IsRecordOfRun, IsRecordOfSources, KeepsAll};
 ghost use Rattle.smx_run.specs.RunFaults.{RefusesAlone, RefusesRun};
 ghost use Rattle.smx_run.specs.declared.run_fault.RunFault.{RunFault};
 ghost use Rattle.smx_run.specs.declared.run_fault.RunFault.TheVariants as run;
@@ -91,7 +92,7 @@ pub fn what_comes_next_of_an_example()
     ensures not_none { IsNextOfList (OpenClone ip ∷ Dup 0 ∷ []) None [] → ⊥ }
     ensures not_less_of_it { IsNextOfList (OpenClone ip ∷ Dup 0 ∷ []) (Some (OpenClone ip)) [] → ⊥ }
     ensures not_as_much { (program : List AnyCommand) (command : AnyCommand)
-        → IsNextOfList program (Some command) program → ⊥ }
+        → IsNextOfAny program (Some command) program → ⊥ }
 {}
 
 /// Who performs such a program has stopped behind some of its commands, the first ones, and not behind another.
@@ -99,6 +100,13 @@ pub fn stops_within_an_example()
     ensures before_the_last { StopsWithinList (Dup 1 ∷ []) (OpenClone ip ∷ Dup 0 ∷ []) (Dup 1 ∷ OpenClone ip ∷ []) }
     ensures not_behind_another { StopsWithinList [] (OpenClone ip ∷ Dup 0 ∷ []) (Dup 0 ∷ []) → ⊥ }
     ensures not_behind_more { StopsWithinList [] (Dup 0 ∷ []) (Dup 0 ∷ Dup 0 ∷ []) → ⊥ }
+{}
+
+/// What a recorder has of a run of such programs, from sources, is what it has of a run of the lists.
+pub fn what_is_recorded_of_lists()
+    ensures { (programs : ProgramLists) (version : Version) (drivers : List DriverSpec) (entries : List Entry)
+        (view : ConfigView) → IsRecordOfSources programs.version programs.drivers IsListOf programs.programs KeepsAll
+        (version, drivers, entries) view → IsRecordOfRun programs KeepsAll (version, drivers, entries) view }
 {}
 
 /// Between two moments a process has called the commands of the entries that were made with its seat in between, in
@@ -127,12 +135,23 @@ pub fn what_is_to_be_run()
 /// It has ended with a seat of the door that knows all of its entries, with the front that was seen then, and with all
 /// commands of its program called.
 pub fn what_has_ended()
-    ensures ended { HasEndedFirst (knows 0 1 9) (front 1 0 false) (OpenClone ip ∷ []) }
-    ensures not_idle { HasEndedFirst idle (front 1 0 false) [] → ⊥ }
-    ensures not_elsewhere { HasEndedFirst (knows 1 1 9) (front 1 0 false) [] → ⊥ }
-    ensures not_at_another_front { HasEndedFirst (knows 0 1 9) (front 0 0 false) (OpenClone ip ∷ []) → ⊥ }
-    ensures not_before_its_end { HasEndedFirst (knows 0 1 9) (front 1 0 false) (OpenClone ip ∷ Dup 0 ∷ []) → ⊥ }
-    ensures not_with_another_program { HasEndedFirst (knows 0 1 9) (front 1 0 false) (CloseAll ∷ []) → ⊥ }
+    ensures ended { HasEndedOf 0 (knows 0 1 9) (front 1 0 false) (OpenClone ip ∷ []) }
+    ensures ended_among_others { HasEndedOf 1 (knows 1 1 9) (front 1 0 false) [] }
+    ensures ended_before_others { HasEndedOf 0 passed (front 2 0 false) (OpenClone ip ∷ []) }
+    ensures ended_behind_others { HasEndedOf 1 second (front 2 0 false) (CloseAll ∷ []) }
+    ensures not_idle { HasEndedOf 0 idle (front 1 0 false) [] → ⊥ }
+    ensures not_elsewhere { HasEndedOf 0 (knows 1 1 9) (front 1 0 false) [] → ⊥ }
+    ensures not_at_another_front { HasEndedOf 0 (knows 0 1 9) (front 0 0 false) (OpenClone ip ∷ []) → ⊥ }
+    ensures not_before_its_end { HasEndedOf 0 (knows 0 1 9) (front 1 0 false) (OpenClone ip ∷ Dup 0 ∷ []) → ⊥ }
+    ensures not_with_another_program { HasEndedOf 0 (knows 0 1 9) (front 1 0 false) (CloseAll ∷ []) → ⊥ }
+{}
+
+/// What a process is to run is what it then has run: its program, under its own number. Programs are numbered in their
+/// order.
+pub fn whose_program_it_is()
+    ensures to_run { given (λ k. k) (to_run (knows 1 0 9) (Dup 0 ∷ [])) ≡ (1, Dup 0 ∷ []) }
+    ensures has_run { ran (λ k. k) (ended_at (knows 1 1 9) (front 1 0 false) (Dup 0 ∷ [])) ≡ (1, Dup 0 ∷ []) }
+    ensures in_order { numbered 3 ((Dup 0 ∷ []) ∷ [] ∷ []) ≡ (3, Dup 0 ∷ []) ∷ (4, []) ∷ [] }
 {}
 
 /// A history of one entry is known to be full where it may have one, and not where it may have two.

@@ -49,8 +49,8 @@ pub fn run_recorded_together<R: Threads + Wait + Sync, K: NewRecorder + Send, G:
 }
 
 /// The same of programs whose commands come one after the other, each when it is asked for, and of a version and
-/// drivers: whichever commands come, it is a run of these. Where a source can't tell its next command, that is refused
-/// as want of memory.
+/// drivers: it is a run of some commands that may be all of each program. Where a source can't tell its next command,
+/// that is refused as want of memory.
 pub fn run_sources_together<
     R: Threads + Wait + Sync,
     K: NewRecorder + Send,
@@ -95,8 +95,7 @@ fn begun<K: NewRecorder>(
     Ok((config, recorder))
 }
 
-// The same, of a recorder that was told of a version and of the drivers of this configuration, in which nothing is
-// open.
+// Such a run, of a recorder that was told of a version and of the drivers of this configuration, in which nothing is open.
 fn run_about<
     A: About + Send,
     R: Threads + Wait + Sync,

@@ -4,9 +4,10 @@ ghost use Rattle.std.specs.Prelude.{◌≤◌};
 
 use super::tasks::{is_judged, whole};
 use super::texts::TWO_LONG_PROGRAMS;
-use smx_filters::{Source, Target, run_text};
+use smx_filters::{MainFault, Source, Target, run_text};
 use smx_run::Gate;
 use smx_samples::Part::{Each, Once};
+use smx_text::{Cause, TextFault};
 use smx_types::Process;
 use std::process::Abort;
 use std::sync::Wait;
@@ -190,5 +191,49 @@ fn workers_tell_the_gate_of_each_command(rt: HostRuntime) {
         for fronts in [false, true] {
             is_told_of_eight(&rt, workers, fronts);
         }
+    }
+}
+
+// The last line of the second of two programs is no command.
+const AT_FAULT: &[u8] =
+    b"programs 1\ndriver ip mux 4 8 3 16\nprocess 0\nclone ip\nexit\nprocess 1\nexit\nexit 0\nend\n";
+
+// A run of it by so many workers is refused for that line; then its gate was told of so many commands.
+fn is_told_before_the_fault<R: AllocGlobal + Abort + Threads + Wait + Sync>(
+    rt: &R,
+    workers: usize,
+    fronts: bool,
+    commands: u64,
+)
+    requires { (1 ≤ workers) × (workers ≤ 64) }
+{
+    let gate = Counts {
+        before: AtomicU64::new(0),
+        after: AtomicU64::new(0),
+    };
+    let mut written = Target::new(Vec::new(rt.alloc()));
+    let mut feed = Source::new(AT_FAULT);
+    let ran = run_text(
+        rt,
+        rt.alloc(),
+        &mut feed,
+        &mut written,
+        workers,
+        fronts,
+        &gate,
+    );
+    let Err(MainFault::Text(TextFault { line, cause })) = ran else {
+        panic!(rt; "no fault of the text")
+    };
+    assert!(rt; (line, cause) == (8, Cause::Form));
+    assert!(rt; gate.before.load(Ordering::SeqCst) == commands);
+    assert!(rt; gate.after.load(Ordering::SeqCst) == commands);
+}
+
+#[test]
+fn programs_are_read_while_they_run(rt: HostRuntime) {
+    for workers in 1..4 {
+        is_told_before_the_fault(&rt, workers, false, 3);
+        is_told_before_the_fault(&rt, workers, true, 0);
     }
 }
