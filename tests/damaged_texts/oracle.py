@@ -189,11 +189,14 @@ def refusal(text, kind):
     return value, None
 
 
-def holds(transcript, programs):
-    """Whether a run on one worker may write this: the version, the drivers, and each program's commands, in turn."""
+def holds(transcript, programs, in_turn):
+    """Whether a run may write this: the version, the drivers, and each program's commands in order; in turn on one worker."""
     asked = [f"{process} {command}" for process, commands in enumerate(programs.programs) for command in commands]
     same = (transcript.version, transcript.drivers) == (programs.version, programs.drivers)
-    return same and list(map(question, transcript.entries)) == asked
+    questions = list(map(question, transcript.entries))
+    if not in_turn:
+        questions.sort(key=lambda one: int(one.partition(" ")[0]))
+    return same and questions == asked
 
 
 def question(entry):
