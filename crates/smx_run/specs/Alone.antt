@@ -16,8 +16,8 @@ pub record StopsAmong {S : Type 0} (performed : S → List Command → S → Typ
   pub all : done ++ next ∷ left ≡ commands
   pub came : performed a done b
 
--- some commands were performed, and nothing behind them: wherever anything may be left of the rest of the program, they are
--- the first ones of it
+-- some commands were performed, and nothing behind them: wherever anything may be left of the rest of the program, they
+-- are the first ones of it
 pub record StopsWithin {S P : Type 0} (left : P → List Command → Type 0) (performed : S → List Command → S → Type 0)
     (a : S) (program : P) (b : S) : Type 0 where
   pub done : List Command
