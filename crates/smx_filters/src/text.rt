@@ -34,8 +34,8 @@ use std::thread::Threads;
 /// several, each has a thread of its own; process p is run by worker p modulo `workers`. A worker tells the gate of
 /// each command. Without `fronts` the text is read meanwhile, so that the gate may have been told of commands of a text
 /// that then turns out to be at fault; and where several workers want memory, all is tried once more, and the gate told
-/// anew. Neither device has failed before, and no read has shown the end. Faults are found in this order: reading, text,
-/// drivers, run, writing.
+/// anew. Neither device has failed before, and no read has shown the end. Faults are found in this order: reading,
+/// text, drivers, run, writing.
 pub fn run_text<R: Threads + Wait + Sync, F: Feed, S: Sink, G: Gate + Sync>(
     rt: &R,
     alloc: Global,
@@ -112,8 +112,8 @@ fn transcript_for<R: Threads + Wait + Sync, G: Gate + Sync>(
     }
 }
 
-// The text of such a run whose programs are read first, all of them. The transcript of several is written in the room of
-// the input.
+// The text of such a run whose programs are read first, all of them. The transcript of several is written in the room
+// of the input.
 fn text_of_read<R: Threads + Wait + Sync, G: Gate + Sync>(
     rt: &R,
     alloc: Global,

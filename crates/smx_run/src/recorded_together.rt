@@ -95,7 +95,8 @@ fn begun<K: NewRecorder>(
     Ok((config, recorder))
 }
 
-// Such a run, of a recorder that was told of a version and of the drivers of this configuration, in which nothing is open.
+// Such a run, of a recorder that was told of a version and of the drivers of this configuration, in which nothing is
+// open.
 fn run_about<
     A: About + Send,
     R: Threads + Wait + Sync,

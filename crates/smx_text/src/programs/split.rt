@@ -31,9 +31,9 @@ pub struct SplitPrograms<'a> {
     pub texts: Vec<&'a [u8]>,
 }
 
-/// Splits a programs text into the texts of its programs, at the lines `process`. Nothing where it has no process, where
-/// it is no programs text for a reason that is seen without reading the programs, or where memory is wanting. Whatever
-/// programs the parts are texts of, the whole is the text of those.
+/// Splits a programs text into the texts of its programs, at the lines `process`. Nothing where it has no process,
+/// where it is no programs text for a reason that is seen without reading the programs, or where memory is wanting.
+/// Whatever programs the parts are texts of, the whole is the text of those.
 pub fn split_programs(alloc: Global, bytes: &[u8]) -> Option<SplitPrograms>
     ensures spelled { IfSome result (λ s. (programs : List (List AnyCommand))
         → AllZip (IsProgramText s.version) (map (λ text. text.now) s.texts.items) programs
