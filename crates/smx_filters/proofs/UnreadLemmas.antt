@@ -107,7 +107,7 @@ most V2 = omega arith
 -- whatever the unread programs say, their texts say
 pub told_by_texts : (version : Version) (texts : List (Bor (List ℕ))) (programs : List (List Command))
     → AllZip (λ (program : UnreadProgram) commands. IsProgramText program.version program.text.now commands)
-    (map (λ (text : Bor (List ℕ)). record { version = version; text = text }) texts) programs
+    (map (λ (text : Bor (List ℕ)). record { version = version; line = text; text = text }) texts) programs
     → AllZip (IsProgramText version) (map (λ (text : Bor (List ℕ)). text.now) texts) programs
 told_by_texts version [] [] each = tt
 told_by_texts version (text ∷ texts) [] each = absurd each

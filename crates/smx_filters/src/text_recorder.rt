@@ -25,6 +25,7 @@ impl Recorder for TextRecorder {
         self.writer.add_entry(process, command, reply)
     }
 
+    #[inline(always)]
     fn add_line(
         &mut self,
         process: Process,

@@ -1,6 +1,6 @@
 //! Programs that are read while they run.
 
-ghost use Rattle.std.specs.Prelude.{◌≡◌, ◌≤◌, List, length, map, IfSome};
+ghost use Rattle.std.specs.Prelude.{◌≡◌, ◌≤◌, List, None, length, map, IfSome};
 ghost use Rattle.std.specs.List.{AllZip, sum_by};
 ghost use Rattle.smx_types.specs.ProgramLists.{ProgramLists};
 ghost use Rattle.smx_types.specs.declared.command.Command.{Command as AnyCommand};
@@ -14,8 +14,9 @@ use crate::text_recorder::TextRecorder;
 use smx_model::laws_of_hangups::reports_need_no_later_version;
 use smx_run::{CommandSource, Gate, run_sources_together};
 use smx_text::{SplitPrograms, next_command};
-use smx_types::{Command, NoMemory, Version};
+use smx_types::{Bytes, Command, NoMemory, Version};
 use std::alloc::Global;
+use std::mem::replace;
 use std::sync::Wait;
 use std::thread::Threads;
 
@@ -23,27 +24,57 @@ use std::thread::Threads;
 #[derive(Drop)]
 pub struct UnreadProgram<'a> {
     pub version: Version,
+    // The line that was read last.
+    pub line: &'a [u8],
     pub text: &'a [u8],
 }
 
 impl<'a> CommandSource for UnreadProgram<'a> {
-    ghost use Rattle.std.specs.Prelude.{length};
+    ghost use Rattle.std.specs.Prelude.{◌≡◌, length};
+    ghost use Rattle.smx_words.specs.Spellable.{FitsCommand};
+    ghost use Rattle.smx_words.specs.Spelling.{command_words};
+    ghost use Rattle.smx_words.specs.Words.{line_of};
     ghost use Rattle.smx_text.specs.SplitPrograms.{IsProgramText};
 
     ghost left = { λ program commands. IsProgramText program.version program.text.now commands };
 
     ghost size = { λ program. length program.text.now };
 
-    fn next_command(&mut self, alloc: Global) -> Result<Option<Command>, NoMemory> {
-        match next_command(alloc, self.version, self.text) {
-            Ok(Some((command, behind))) => {
+    ghost spells = { λ line command. (line ≡ line_of (command_words command)) × FitsCommand command };
+
+    ghost has_read = { λ program command.
+        (program.line.now ≡ line_of (command_words command)) × FitsCommand command };
+
+    fn next_command(&mut self, alloc: Global, place: &mut Option<Command>) -> Result<(), NoMemory> {
+        let mut room = room_of(alloc, place);
+        match next_command(place, &mut room, alloc, self.version, self.text) {
+            Ok((line, behind)) => {
+                self.line = line;
                 self.text = behind;
-                Ok(Some(command))
+                Ok(())
             }
-            Ok(None) => Ok(None),
             Err(_) => Err(NoMemory),
         }
     }
+
+    fn line(&self) -> Option<&[u8]> {
+        Some(self.line)
+    }
+}
+
+// Takes away what is in the place, and answers the room of its message, where it has one.
+#[inline(always)]
+fn room_of(alloc: Global, place: &mut Option<Command>) -> Vec<u8>
+    ensures { place.new ≡ None }
+{
+    let room = match place {
+        Some(Command::Write { bytes, .. } | Command::Inject { bytes, .. }) => {
+            replace(bytes, Bytes::new(alloc)).into_vec()
+        }
+        Some(_) | None => Vec::new(alloc),
+    };
+    *place = None;
+    room
 }
 
 // The transcript of a run, by so many workers, of the programs that the input spells, of which each is read by the
@@ -95,11 +126,15 @@ pub(crate) fn transcript_of_unread<R: Threads + Wait + Sync, G: Gate + Sync>(
 // The programs of these texts, of which nothing was read yet. Nothing where memory is wanting.
 fn unread_programs(alloc: Global, version: Version, texts: Vec<&[u8]>) -> Option<Vec<UnreadProgram>>
     ensures { IfSome result (λ programs. programs.items
-        ≡ map (λ text. record { version = version; text = text }) texts.entry.items) }
+        ≡ map (λ text. record { version = version; line = text; text = text }) texts.entry.items) }
 {
     let mut programs = Vec::with_capacity(alloc, texts.len()).ok()?;
     for text in texts {
-        programs.push_reserved(UnreadProgram { version, text });
+        programs.push_reserved(UnreadProgram {
+            version,
+            line: text,
+            text,
+        });
     }
     Some(programs)
 }

@@ -9,7 +9,7 @@ use std::vec::IntoIter;
 
 /// The program of a process, whose commands come one after the other, each when it is asked for.
 pub trait CommandSource: Drop {
-    ghost use Rattle.std.specs.Prelude.{ℕ, List, IfOk};
+    ghost use Rattle.std.specs.Prelude.{ℕ, List, IfSome, OnOk};
     ghost use Rattle.smx_types.specs.declared.command.Command.{Command as AnyCommand};
     ghost use Rattle.smx_run.specs.CommandSources.{IsNextOf};
 
@@ -19,10 +19,21 @@ pub trait CommandSource: Drop {
     // A number that falls with each command.
     ghost size: { Self → ℕ };
 
-    /// The next command, or nothing behind the last one. Where it can't tell, it is of no more use; that counts as want
-    /// of memory.
-    fn next_command(&mut self, alloc: Global) -> Result<Option<Command>, NoMemory>
-        ensures { IfOk result (λ next. IsNextOf left size self.old next self.new) };
+    // The bytes are a line of this command, as its lines are.
+    ghost spells: { List ℕ → AnyCommand → Type 0 };
+
+    // This command was read from the line that it has.
+    ghost has_read: { Self → AnyCommand → Type 0 };
+
+    /// The next command, or nothing behind the last one, comes into this place. What was there before is given up, and
+    /// its room may be used. Where it can't tell, it is of no more use; that counts as want of memory.
+    fn next_command(&mut self, alloc: Global, place: &mut Option<Command>) -> Result<(), NoMemory>
+        ensures next { OnOk result (IsNextOf left size self.old place.new self.new) }
+        ensures line { OnOk result (IfSome place.new (has_read self.new)) };
+
+    /// The line that the command which came last was read from, if it was read from one. Takes no memory.
+    fn line(&self) -> Option<&[u8]>
+        ensures { (command : AnyCommand) → has_read self.now command → IfSome result (λ l. spells l.now command) };
 }
 
 impl CommandSource for IntoIter<Command> {
@@ -33,8 +44,21 @@ impl CommandSource for IntoIter<Command> {
 
     ghost size = { λ program. into_iter_len program };
 
-    fn next_command(&mut self, _alloc: Global) -> Result<Option<Command>, NoMemory> {
-        Ok(self.next())
+    ghost spells = { λ _ _. ⊥ };
+
+    ghost has_read = { λ _ _. Unit {0} };
+
+    fn next_command(
+        &mut self,
+        _alloc: Global,
+        place: &mut Option<Command>,
+    ) -> Result<(), NoMemory> {
+        *place = self.next();
+        Ok(())
+    }
+
+    fn line(&self) -> Option<&[u8]> {
+        None
     }
 }
 

@@ -15,6 +15,7 @@ ghost use Rattle.smx_model.specs.Worked.Reports.{copied, drivers, exited, opened
 ghost use Rattle.smx_config.specs.declared.config_fault.ConfigFault.TheVariants as config;
 ghost use Rattle.smx_shared.specs.WorkedCalls.{front, idle, knows, passed};
 ghost use Rattle.smx_run.specs.Alone.{KeepsBehind, StopsAmong};
+ghost use Rattle.smx_run.specs.CommandSources.{AreLinesFor};
 ghost use Rattle.smx_run.specs.Fronts.{AreFrontsFrom};
 ghost use Rattle.smx_run.specs.Gathering.{IsLeastStrange};
 ghost use Rattle.smx_run.specs.Hands.{given, ran, HasCalled, KnowsItFull};
@@ -93,6 +94,12 @@ pub fn what_comes_next_of_an_example()
     ensures not_less_of_it { IsNextOfList (OpenClone ip ∷ Dup 0 ∷ []) (Some (OpenClone ip)) [] → ⊥ }
     ensures not_as_much { (program : List AnyCommand) (command : AnyCommand)
         → IsNextOfAny program (Some command) program → ⊥ }
+{}
+
+/// A line that is empty is one to who takes any line, and not the other way round.
+pub fn whose_lines_they_are()
+    ensures any { AreLinesFor (λ line _. line ≡ []) (λ _ _. Unit {0}) }
+    ensures not_any { AreLinesFor (λ _ _. Unit {0}) (λ line _. line ≡ []) → ⊥ }
 {}
 
 /// Who performs such a program has stopped behind some of its commands, the first ones, and not behind another.

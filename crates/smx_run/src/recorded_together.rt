@@ -4,6 +4,7 @@ ghost use Rattle.std.specs.Prelude.{◌≡◌, ◌≤◌, [], length, IfOk, IfEr
 ghost use Rattle.smx_types.specs.declared.limits.TheConstants.{MAX_PROCESSES};
 ghost use Rattle.smx_model.specs.Configuration.{empty};
 ghost use Rattle.smx_model.specs.DriverList.{IsDriverList};
+ghost use Rattle.smx_run.specs.CommandSources.{AreLinesFor};
 ghost use Rattle.smx_run.specs.RecordedRuns.{IsRecordOfRun, IsRecordOfSources};
 ghost use Rattle.smx_run.specs.RunFaults.{RefusesRun};
 
@@ -66,6 +67,7 @@ pub fn run_sources_together<
     room: K::Room,
     gate: &G,
 ) -> Result<(K, ConfigView), RunFault>
+    requires lines { AreLinesFor P.spells K.spells }
     requires workers { 1 ≤ workers }
     requires processes { (1 ≤ length programs.items) × (length programs.items ≤ MAX_PROCESSES) }
     ensures report { IfOk result
@@ -113,6 +115,7 @@ fn run_about<
     workers: usize,
     gate: &G,
 ) -> Result<(K, ConfigView), RunFault>
+    requires lines { AreLinesFor P.spells K.spells }
     requires about { (version ≡ A.version) × (config.drivers ≡ A.drivers) }
     requires told { K.told A.version A.drivers [] recorder }
     requires fresh { IsDriverList config.drivers × (config.configuration ≡ empty) }

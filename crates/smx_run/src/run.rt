@@ -165,8 +165,9 @@ fn append_all<G: Gate>(
 {
     let mut number = 0;
     for command in commands.into_vec() {
+        let mut command = command;
         gate.before(process, number);
-        let outcome = system.append(process, command);
+        let outcome = system.append(process, &mut command, None);
         gate.after(process, number);
         outcome?;
         number += 1;

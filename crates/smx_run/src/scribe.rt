@@ -1,12 +1,12 @@
 //! Has a recorder told of a history, of which nothing else is kept.
 
-ghost use Rattle.std.specs.Prelude.{◌≡◌, ◌<◌, ◌++◌, [], ◌∷◌, length, IfOk};
+ghost use Rattle.std.specs.Prelude.{◌≡◌, ◌<◌, ◌++◌, [], ◌∷◌, length, IfOk, IfSome};
 ghost use Rattle.smx_types.specs.declared.limits.TheConstants.{MAX_COMMANDS};
 
 use crate::past::Past;
 use crate::recorder::Recorder;
 use smx_shared::Keeper;
-use smx_types::{Entries, Entry, NoMemory};
+use smx_types::{Command, Entries, Entry, NoMemory, Process, Reply};
 use std::marker::{Brand, Model, PhantomData};
 
 /// Which version and which drivers a recorder was told of first. No value of it is made.
@@ -72,15 +72,21 @@ impl<A: About, K: Recorder> Scribe<A, K> {
         self.recorder.ok_or(NoMemory)
     }
 
-    // Tells the recorder of an entry, if it is still there.
-    fn tell(&mut self, entry: &Entry)
+    // Tells the recorder of an entry, and of its command's line, if it is still there.
+    fn tell(&mut self, process: Process, command: &Command, line: Option<&[u8]>, reply: &Reply)
         requires few { length self.old.entries < MAX_COMMANDS }
-        ensures { self.new.entries ≡ self.old.entries ++ entry.now ∷ [] }
+        requires line { IfSome line (λ l. K.spells l.now command.now) }
+        ensures { self.new.entries ≡ self.old.entries
+            ++ record { process = process; command = command.now; reply = reply.now } ∷ [] }
     {
-        self.told = Past::new(&(&self.told, entry));
+        let entry = Past::<Entry>::new(&(process, command, reply));
+        self.told = Past::new(&(&self.told, &entry));
         self.count += 1;
         if let Some(recorder) = &mut self.recorder {
-            let outcome = recorder.add(entry.process, &entry.command, &entry.reply);
+            let outcome = match line {
+                Some(line) => recorder.add_line(process, command, line, reply),
+                None => recorder.add(process, command, reply),
+            };
             if outcome.is_err() {
                 self.recorder = None;
             }
@@ -95,6 +101,8 @@ impl<A: About, K: Recorder> Keeper for Scribe<A, K> {
 
     ghost has_room = { λ s. s.is_there ≡ true };
 
+    ghost spells = { K.spells };
+
     fn count(&self) -> usize {
         self.count
     }
@@ -106,7 +114,7 @@ impl<A: About, K: Recorder> Keeper for Scribe<A, K> {
         }
     }
 
-    fn add(&mut self, entry: Entry) {
-        self.tell(&entry);
+    fn add(&mut self, process: Process, command: &mut Command, line: Option<&[u8]>, reply: Reply) {
+        self.tell(process, command, line, &reply);
     }
 }

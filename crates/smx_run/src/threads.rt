@@ -7,6 +7,7 @@ ghost use Rattle.smx_types.specs.declared.limits.TheConstants.{MAX_PROCESSES};
 ghost use Rattle.smx_model.specs.DriverList.{IsDriverList};
 ghost use Rattle.smx_shared.specs.Seats.{SharedId};
 ghost use Rattle.smx_shared.specs.declared.shared_fault.ApplyFault.TheVariants as apply;
+ghost use Rattle.smx_run.specs.CommandSources.{AreLinesFor};
 ghost use Rattle.smx_run.specs.Hands.{ran_hand, given_hand, AllHaveEnded, HaveRun, AreFresh, HaveEnded, IsFresh};
 ghost use Rattle.smx_run.specs.Hands.{HasRunAll, IsSeenFull};
 ghost use Rattle.smx_run.specs.ProgramOrder.{numbered};
@@ -40,6 +41,7 @@ pub fn run_together<
     workers: usize,
     gate: &G,
 ) -> Result<(System<K>, Fronts), RunFault>
+    requires lines { AreLinesFor P.spells K.spells }
     requires system { (system.history ≡ []) × IsDriverList system.drivers }
     requires processes { (1 ≤ length programs.items) × (length programs.items ≤ MAX_PROCESSES) }
     requires workers { 1 ≤ workers }
@@ -66,6 +68,7 @@ fn run_seats<R: Threads + Wait + Sync, K: Keeper + Send, P: CommandSource + Send
 ) -> Result<Vec<EndedProgram<Seat<K>, P>>, ApplyFault>
     requires seats { map (λ s. s.known.process) seats.items ≡ range_with_len 0 (length programs.items) }
     requires fresh { All (IsFresh shared.now.name) seats.items }
+    requires lines { AreLinesFor P.spells K.spells }
     requires workers { 1 ≤ workers }
     ensures ended { IfOk result (HaveEnded P.left shared.now.name) }
     ensures ran { IfOk result (λ v. ran_hand v ≡ numbered 0 programs.items) }
@@ -104,7 +107,8 @@ fn run_hands<R: Threads + Wait + Sync, K: Keeper + Send, P: CommandSource + Send
     hands: Vec<Vec<SeatedProgram<Seat<K>, P>>>,
     gate: &G,
 ) -> Result<Vec<Vec<EndedProgram<Seat<K>, P>>>, ApplyFault>
-    requires { All (AreFresh shared.now.name) hands.items }
+    requires fresh { All (AreFresh shared.now.name) hands.items }
+    requires lines { AreLinesFor P.spells K.spells }
     ensures ran { IfOk result (HaveRun hands) }
     ensures ended { IfOk result (AllHaveEnded P.left shared.now.name) }
     ensures full { IsErrOf result apply.HistoryFull → IsSeenFull shared.now.name }
@@ -113,7 +117,8 @@ fn run_hands<R: Threads + Wait + Sync, K: Keeper + Send, P: CommandSource + Send
         thread::scope_env(),
         rt,
         |scope| -> Result<Vec<Vec<EndedProgram<Seat<K>, P>>>, ApplyFault>
-            requires { All (AreFresh shared.now.name) hands.items }
+            requires fresh { All (AreFresh shared.now.name) hands.items }
+            requires lines { AreLinesFor P.spells K.spells }
             ensures ran { IfOk result (HaveRun hands) }
             ensures ended { IfOk result (AllHaveEnded P.left shared.entry.now.name) }
             ensures full { IsErrOf result apply.HistoryFull → IsSeenFull shared.entry.now.name }
@@ -138,7 +143,8 @@ fn run_from<
     mut hands: Vec<Vec<SeatedProgram<Seat<K>, P>>>,
     gate: &'s G,
 ) -> Result<Vec<Vec<EndedProgram<Seat<K>, P>>>, ApplyFault>
-    requires { All (AreFresh shared.now.name) hands.items }
+    requires fresh { All (AreFresh shared.now.name) hands.items }
+    requires lines { AreLinesFor P.spells K.spells }
     ensures ran { IfOk result (HaveRun hands) }
     ensures ended { IfOk result (AllHaveEnded P.left shared.now.name) }
     ensures full { IsErrOf result apply.HistoryFull → IsSeenFull shared.now.name }
@@ -154,7 +160,8 @@ fn run_from<
     let worker = scope.spawn_with(
         runs,
         move || -> Result<Vec<EndedProgram<Seat<K>, P>>, ApplyFault>
-            requires { AreFresh shared.now.name hand }
+            requires fresh { AreFresh shared.now.name hand }
+            requires lines { AreLinesFor P.spells K.spells }
             ensures ran { IfOk result (λ v. ran_hand v ≡ given_hand hand) }
             ensures ended { IfOk result (HaveEnded P.left shared.entry.now.name) }
             ensures full { IsErrOf result apply.HistoryFull → IsSeenFull shared.entry.now.name }

@@ -3,6 +3,7 @@
 ghost use Rattle.std.specs.Prelude.{◌≡◌, All, map, IfOk, OnOk, OnErr, IsErrOf};
 ghost use Rattle.smx_shared.specs.declared.shared_fault.ApplyFault.TheVariants as apply;
 ghost use Rattle.smx_run.specs.Alone.{StopsWithin};
+ghost use Rattle.smx_run.specs.CommandSources.{AreLinesFor};
 ghost use Rattle.smx_run.specs.Hands.{given, ran, HasCalled, HasCalledAll, IsToRunWith, HasEndedWith, KnowsItFull};
 ghost use Rattle.smx_run.specs.Hands.{SomeKnowsItFull};
 
@@ -40,7 +41,8 @@ pub fn work<D: Door, P: CommandSource, G: Gate, R: Wait>(
 ) -> Result<Vec<EndedProgram<D::Seat, P>>, ApplyFault>
 where
     D::Seat: Drop,
-    requires { All (IsToRunWith (D.is_seat door.now) D.known) hand.items }
+    requires seats { All (IsToRunWith (D.is_seat door.now) D.known) hand.items }
+    requires lines { AreLinesFor P.spells D.spells }
     ensures ran { IfOk result (λ v. map (ran D.known) v.items ≡ map (given D.known) hand.items) }
     ensures ended { IfOk result (λ v. All (HasEndedWith (D.is_seat door.now) D.known P.left) v.items) }
     ensures full { IsErrOf result apply.HistoryFull → SomeKnowsItFull (D.is_seat door.now) D.known }
@@ -62,7 +64,8 @@ fn run_job<D: Door, P: CommandSource, G: Gate, R: Wait>(
 ) -> Result<EndedProgram<D::Seat, P>, ApplyFault>
 where
     D::Seat: Drop,
-    requires { IsToRunWith (D.is_seat door.now) D.known job }
+    requires seat { IsToRunWith (D.is_seat door.now) D.known job }
+    requires lines { AreLinesFor P.spells D.spells }
     ensures ran { IfOk result (λ d. ran D.known d ≡ given D.known job) }
     ensures ended { IfOk result (HasEndedWith (D.is_seat door.now) D.known P.left) }
     ensures full { IsErrOf result apply.HistoryFull → SomeKnowsItFull (D.is_seat door.now) D.known }
@@ -90,20 +93,25 @@ fn run_program<D: Door, P: CommandSource, G: Gate, R: Wait>(
 ) -> Result<(), ApplyFault>
 where
     D::Seat: Drop,
-    requires { D.is_seat door.now seat.old }
+    requires seat { D.is_seat door.now seat.old }
+    requires lines { AreLinesFor P.spells D.spells }
     ensures seat { D.is_seat door.now seat.new }
     ensures called { OnOk result (HasCalledAll P.left (D.known seat.old) program (D.known seat.new)) }
     ensures stops { OnErr result (StopsWithin P.left HasCalled (D.known seat.old) program (D.known seat.new)) }
     ensures full { IsErrOf result apply.HistoryFull → KnowsItFull (D.known seat.new) }
 {
     let process = D::process(seat);
+    let mut place = None;
     let mut number = 0usize;
-    while let Some(command) = program.next_command(alloc)? {
+    'commands: loop {
+        program.next_command(alloc, &mut place)?;
+        let Some(command) = &mut place else {
+            return Ok(());
+        };
         gate.before(process, number);
-        let outcome = door.perform(rt, alloc, seat, command);
+        let outcome = door.perform(rt, alloc, seat, command, program.line());
         gate.after(process, number);
         outcome?;
         number = number.wrapping_add(1);
     }
-    Ok(())
 }

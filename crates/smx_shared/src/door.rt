@@ -1,6 +1,6 @@
 //! What callers ask of a system that they share, so that another body can stand in.
 
-ghost use Rattle.std.specs.Prelude.{◌≡◌, IfErr, IfOk, OnOk};
+ghost use Rattle.std.specs.Prelude.{◌≡◌, IfErr, IfOk, IfSome, OnErr, OnOk};
 ghost use Rattle.smx_shared.specs.Calls.{AddsEntry, AnswersEntry, HasSeenMore, Refuses, SeesFront};
 
 use crate::front::Front;
@@ -11,7 +11,8 @@ use std::sync::Wait;
 
 /// A system that callers share, each with a seat of its own.
 pub trait Door {
-    ghost use Rattle.std.specs.Prelude.{◌≡◌, IfErr, IfOk, OnOk};
+    ghost use Rattle.std.specs.Prelude.{◌≡◌, ℕ, List, IfErr, IfOk, IfSome, OnErr, OnOk};
+    ghost use Rattle.smx_types.specs.declared.command.Command.{Command as AnyCommand};
     ghost use Rattle.smx_shared.specs.Calls.{AddsEntry, AnswersEntry, HasSeenMore, Refuses, SeesFront};
     ghost use Rattle.smx_shared.specs.Seats.{Known};
 
@@ -23,6 +24,9 @@ pub trait Door {
 
     // What the seat knows.
     ghost known: { Self.Seat → Known };
+
+    // The bytes are a line of this command, as it can use one.
+    ghost spells: { List ℕ → AnyCommand → Type 0 };
 
     /// The process of a seat. Takes no memory.
     fn process(seat: &Self::Seat) -> Process
@@ -45,21 +49,25 @@ pub trait Door {
         ensures answer { IfOk result (AnswersEntry (known seat.old) (known seat.new) command.now) }
         ensures refused { IfErr result (Refuses (known seat.old) (known seat.new)) };
 
-    /// The same for a command that is given up, whose entry nobody asks for.
+    /// The same for a command that is given up, whose entry nobody asks for, and the line that it was read from, if the
+    /// door can use that. Any command may be in its place afterwards; a refused one stays.
     fn perform<R: Wait>(
         &self,
         rt: &R,
         alloc: Global,
         seat: &mut Self::Seat,
-        command: Command,
+        command: &mut Command,
+        line: Option<&[u8]>,
     ) -> Result<(), ApplyFault>
-        requires { is_seat self.now seat.old }
+        requires seat { is_seat self.now seat.old }
+        requires line { IfSome line (λ l. spells l.now command.old) }
         ensures seat { is_seat self.now seat.new }
         ensures seen { HasSeenMore (known seat.old) (known seat.new) }
-        ensures added { OnOk result (AddsEntry (known seat.old) (known seat.new) command) }
+        ensures added { OnOk result (AddsEntry (known seat.old) (known seat.new) command.old) }
+        ensures kept { OnErr result (command.new ≡ command.old) }
         ensures refused { IfErr result (Refuses (known seat.old) (known seat.new)) }
     {
-        self.call(rt, alloc, seat, &command)?;
+        self.call(rt, alloc, seat, command)?;
         Ok(())
     }
 

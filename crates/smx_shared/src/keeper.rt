@@ -1,10 +1,12 @@
 //! What a system keeps of its history.
 
-use smx_types::{Entry, NoMemory};
+use smx_types::{Command, Entry, NoMemory, Process, Reply};
+use std::mem::replace;
 
 /// Is told of each entry of a history, in order, and keeps of it what it wants.
 pub trait Keeper: Drop {
-    ghost use Rattle.std.specs.Prelude.{◌≡◌, ◌<◌, ◌++◌, ◌∷◌, [], List, length, OnOk};
+    ghost use Rattle.std.specs.Prelude.{◌≡◌, ◌<◌, ◌++◌, ◌∷◌, [], ℕ, List, length, IfSome, OnOk};
+    ghost use Rattle.smx_types.specs.declared.command.Command.{Command as AnyCommand};
     ghost use Rattle.smx_types.specs.declared.command.Entry.{Entry as Made};
     ghost use Rattle.smx_types.specs.declared.limits.TheConstants.{MAX_COMMANDS};
 
@@ -13,6 +15,9 @@ pub trait Keeper: Drop {
 
     // Whether it can be told of one more.
     ghost has_room: { Self → Type 0 };
+
+    // The bytes are a line of this command, as it can use one.
+    ghost spells: { List ℕ → AnyCommand → Type 0 };
 
     /// How many entries it was told of. Takes no memory.
     fn count(&self) -> usize
@@ -23,11 +28,14 @@ pub trait Keeper: Drop {
         ensures same { told self.new ≡ told self.old }
         ensures room { OnOk result (has_room self.new) };
 
-    /// Tells it of the next entry, for which there is room. It can't fail.
-    fn add(&mut self, entry: Entry)
+    /// Tells it of the next entry, for which there is room, and of the line that its command was read from, if it was
+    /// read from one. The command is given up: any may be in its place afterwards. It can't fail.
+    fn add(&mut self, process: Process, command: &mut Command, line: Option<&[u8]>, reply: Reply)
         requires room { has_room self.old }
         requires few { length (told self.old) < MAX_COMMANDS }
-        ensures { told self.new ≡ told self.old ++ entry ∷ [] };
+        requires line { IfSome line (λ l. spells l.now command.old) }
+        ensures { told self.new ≡ told self.old
+            ++ record { process = process; command = command.old; reply = reply } ∷ [] };
 }
 
 /// All of them.
@@ -38,6 +46,8 @@ impl Keeper for Vec<Entry> {
 
     ghost has_room = { λ v. length v.items < vec_capacity v };
 
+    ghost spells = { λ _ _. Unit {0} };
+
     fn count(&self) -> usize {
         self.len()
     }
@@ -47,7 +57,12 @@ impl Keeper for Vec<Entry> {
         Ok(())
     }
 
-    fn add(&mut self, entry: Entry) {
-        self.push_reserved(entry);
+    fn add(&mut self, process: Process, command: &mut Command, _line: Option<&[u8]>, reply: Reply) {
+        let command = replace(command, Command::CloseAll);
+        self.push_reserved(Entry {
+            process,
+            command,
+            reply,
+        });
     }
 }

@@ -1,6 +1,6 @@
 //! A system behind one pointer, so that it goes from hand to hand without being moved.
 
-ghost use Rattle.std.specs.Prelude.{◌≡◌, ◌↔◌, length, IfOk, OnOk, OnErr, IsErrOf};
+ghost use Rattle.std.specs.Prelude.{◌≡◌, ◌↔◌, length, IfOk, IfSome, OnOk, OnErr, IsErrOf};
 ghost use Rattle.smx_shared.specs.Recorded.{IsSoundSystem, next_entry, with_entry};
 ghost use Rattle.smx_shared.specs.declared.shared_fault.ApplyFault.TheVariants.{HistoryFull};
 
@@ -60,12 +60,19 @@ impl<K: Keeper> Parked<K> {
     }
 
     /// `System::append`.
-    pub fn append(&mut self, process: Process, command: Command) -> Result<(), ApplyFault>
-        ensures ok { OnOk result (self.new ≡ with_entry self.old process command) }
+    pub fn append(
+        &mut self,
+        process: Process,
+        command: &mut Command,
+        line: Option<&[u8]>,
+    ) -> Result<(), ApplyFault>
+        requires line { IfSome line (λ l. K.spells l.now command.old) }
+        ensures ok { OnOk result (self.new ≡ with_entry self.old process command.old) }
         ensures full { IsErrOf result HistoryFull ↔ (length self.old.history ≡ self.old.limit) }
         ensures err { OnErr result (self.new ≡ self.old) }
+        ensures kept { OnErr result (command.new ≡ command.old) }
         ensures sound { IsSoundSystem self.new }
     {
-        self.system.append(process, command)
+        self.system.append(process, command, line)
     }
 }

@@ -1,6 +1,6 @@
 //! A system that many threads share: they take turns, and look on without waiting.
 
-ghost use Rattle.std.specs.Prelude.{◌≡◌, ◌≤◌, ◌+◌, [], map, vec_capacity, IfOk, IfErr, OnOk};
+ghost use Rattle.std.specs.Prelude.{◌≡◌, ◌≤◌, ◌+◌, [], map, vec_capacity, IfOk, IfErr, IfSome, OnErr, OnOk};
 ghost use Rattle.std.specs.List.{range_with_len};
 ghost use Rattle.smx_types.specs.declared.limits.TheConstants.{MAX_PROCESSES};
 ghost use Rattle.smx_shared.specs.Calls.{AddsEntry, AnswersEntry, EndsAs, GoesOnFrom, HasSeenMore, LooksOnce, Meets};
@@ -166,6 +166,8 @@ impl<K: Keeper> Door for Shared<K> {
 
     ghost known = { λ s. s.known };
 
+    ghost spells = { K.spells };
+
     fn process(seat: &Seat<K>) -> Process {
         seat.process
     }
@@ -193,18 +195,21 @@ impl<K: Keeper> Door for Shared<K> {
         rt: &R,
         _alloc: Global,
         seat: &mut Seat<K>,
-        command: Command,
+        command: &mut Command,
+        line: Option<&[u8]>,
     ) -> Result<(), ApplyFault>
-        requires { seat.old.shared ≡ self.now.name }
+        requires seat { seat.old.shared ≡ self.now.name }
+        requires line { IfSome line (λ l. K.spells l.now command.old) }
         ensures rests { Rests seat.old seat.new }
         ensures met { seat.new.met ≡ seat.old.met }
         ensures seen { HasSeenMore seat.old.known seat.new.known }
-        ensures added { OnOk result (AddsEntry seat.old.known seat.new.known command) }
+        ensures added { OnOk result (AddsEntry seat.old.known seat.new.known command.old) }
+        ensures kept { OnErr result (command.new ≡ command.old) }
         ensures refused { IfErr result (Refuses seat.old.known seat.new.known) }
     {
         self.turns.take(rt, &mut seat.token);
         self.turns
-            .serve_given(&mut seat.token, seat.process, command)
+            .serve_given(&mut seat.token, seat.process, command, line)
     }
 
     fn glance(&self, seat: &mut Seat<K>) -> Front

@@ -1,6 +1,6 @@
 //! A configuration together with the history that led to it.
 
-ghost use Rattle.std.specs.Prelude.{◌≡◌, ◌<◌, ◌≤◌, ◌↔◌, [], length, IfOk, IfErr, OnOk, OnErr, IsErrOf};
+ghost use Rattle.std.specs.Prelude.{◌≡◌, ◌<◌, ◌≤◌, ◌↔◌, [], length, IfOk, IfErr, IfSome, OnOk, OnErr, IsErrOf};
 ghost use Rattle.smx_types.specs.declared.limits.TheConstants.{MAX_COMMANDS};
 ghost use Rattle.smx_model.specs.Configuration.{empty};
 ghost use Rattle.smx_model.specs.DriverList.{IsDriverList};
@@ -159,14 +159,10 @@ impl<K: Keeper> System<K> {
     {
         lawful_after_each_entry();
         make_room(&mut self.kept, self.limit)?;
-        let kept = command.copy(self.alloc)?;
+        let mut kept = command.copy(self.alloc)?;
         let command_again = command.copy(self.alloc)?;
         let (reply, reply_again) = self.config.step_twin(process, command)?;
-        self.kept.add(Entry {
-            process,
-            command: kept,
-            reply,
-        });
+        self.kept.add(process, &mut kept, None, reply);
         Ok(Entry {
             process,
             command: command_again,
@@ -174,25 +170,28 @@ impl<K: Keeper> System<K> {
         })
     }
 
-    /// The same for a command that is given up: it is moved into the history, no entry is answered, and so nothing is
-    /// copied.
-    pub fn append(&mut self, process: Process, command: Command) -> Result<(), ApplyFault>
+    /// The same for a command that is given up, and the line that it was read from, if the keeper can use that: no
+    /// entry is answered, and so nothing is copied. Any command may be in its place afterwards; a refused one stays.
+    pub fn append(
+        &mut self,
+        process: Process,
+        command: &mut Command,
+        line: Option<&[u8]>,
+    ) -> Result<(), ApplyFault>
+        requires line { IfSome line (λ l. K.spells l.now command.old) }
         // What it does.
-        ensures ok { OnOk result (self.new ≡ with_entry self.old process command) }
+        ensures ok { OnOk result (self.new ≡ with_entry self.old process command.old) }
         // What is refused.
         ensures full { IsErrOf result HistoryFull ↔ (length self.old.history ≡ self.old.limit) }
         ensures err { OnErr result (self.new ≡ self.old) }
+        ensures kept { OnErr result (command.new ≡ command.old) }
         // What it is afterwards, either way.
         ensures sound { IsSoundSystem self.new }
     {
         lawful_after_each_entry();
         make_room(&mut self.kept, self.limit)?;
-        let reply = self.config.step(process, &command)?;
-        self.kept.add(Entry {
-            process,
-            command,
-            reply,
-        });
+        let reply = self.config.step(process, command)?;
+        self.kept.add(process, command, line, reply);
         Ok(())
     }
 

@@ -1,6 +1,6 @@
 //! The words and the slot of a shared system, and the steps on them.
 
-ghost use Rattle.std.specs.Prelude.{◌≡◌, ◌<◌, ◌≤◌, ◌+◌, ◌*◌, ◌%◌, [], true, false, Some, None, IfOk, IfErr, OnOk};
+ghost use Rattle.std.specs.Prelude.{◌≡◌, ◌<◌, ◌≤◌, ◌+◌, ◌*◌, ◌%◌, [], true, false, Some, None, IfOk, IfErr, IfSome, OnErr, OnOk};
 ghost use Rattle.smx_shared.specs.Calls.{AnswersEntry, AddsEntry, Refuses, EndsAs, GoesOnFrom};
 ghost use Rattle.smx_shared.specs.Fronts.{front_of};
 ghost use Rattle.smx_shared.specs.Recorded.{IsSoundSystem};
@@ -229,18 +229,21 @@ impl<K: Keeper> TurnTable<K> {
         &self,
         token: &mut Token<K>,
         process: Process,
-        command: Command,
+        command: &mut Command,
+        line: Option<&[u8]>,
     ) -> Result<(), ApplyFault>
         requires table { token.old.table_id ≡ self.now.table.shared.table_id }
         requires turn { HasTurn token.old.me (Some (system_of token.old.me.0)) }
         requires named { (token.old.me.0.named ≡ true) × (token.old.me.0.process ≡ process) }
+        requires line { IfSome line (λ l. K.spells l.now command.old) }
         ensures table { token.new.table_id ≡ token.old.table_id }
         ensures rest { RestsAfter token.old.me.0 token.new.me }
-        ensures added { OnOk result (AddsEntry (known_of token.old.me.0) (known_of token.new.me.0) command) }
+        ensures added { OnOk result (AddsEntry (known_of token.old.me.0) (known_of token.new.me.0) command.old) }
+        ensures kept { OnErr result (command.new ≡ command.old) }
         ensures refused { IfErr result (Refuses (known_of token.old.me.0) (known_of token.new.me.0)) }
     {
         let mut system = self.take_out(token);
-        let outcome = system.append(process, command);
+        let outcome = system.append(process, command, line);
         self.give_back(token, system);
         outcome
     }

@@ -75,6 +75,7 @@ impl TranscriptWriter {
     }
 
     /// The same of an entry whose command has this line, without a line feed. Fails only for want of memory.
+    #[inline(always)]
     pub fn add_line(&mut self, process: Process, line: &[u8], reply: &Reply) -> Result<(), NoMemory>
         ensures { OnOk result ((version : AnyVersion) (drivers : List AnyDriver) (before : List AnyEntry)
             (command : AnyCommand) → line.now ≡ line_of (command_words command) → FitsCommand command

@@ -43,6 +43,8 @@ impl Door for OwnDoor {
       own = entries_of s.process s.system.history;
     } };
 
+    ghost spells = { λ _ _. Unit {0} };
+
     fn process(seat: &OwnSeat) -> Process {
         seat.process
     }

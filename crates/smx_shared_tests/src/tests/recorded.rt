@@ -50,13 +50,25 @@ impl CommandSource for Torn {
 
     ghost size = { λ torn. into_iter_len torn.commands };
 
-    fn next_command(&mut self, _alloc: Global) -> Result<Option<Command>, NoMemory> {
-        let next = self.commands.next();
-        if next.is_some() && self.most == 0 {
+    ghost spells = { λ _ _. ⊥ };
+
+    ghost has_read = { λ _ _. Unit {0} };
+
+    fn next_command(
+        &mut self,
+        _alloc: Global,
+        place: &mut Option<Command>,
+    ) -> Result<(), NoMemory> {
+        *place = self.commands.next();
+        if place.is_some() && self.most == 0 {
             return Err(NoMemory);
         }
         self.most = self.most.saturating_sub(1);
-        Ok(next)
+        Ok(())
+    }
+
+    fn line(&self) -> Option<&[u8]> {
+        None
     }
 }
 

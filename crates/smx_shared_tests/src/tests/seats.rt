@@ -63,9 +63,9 @@ fn links<R: AllocGlobal + Abort + Wait>(rt: &R, shared: &Shared, seat: &mut Seat
     requires { seat.old.shared ≡ shared.now.name }
     ensures { seat.new.shared ≡ shared.now.name }
 {
-    let opened = shared.perform(rt, rt.alloc(), seat, clone_of(rt, "ip"));
+    let opened = shared.perform(rt, rt.alloc(), seat, &mut clone_of(rt, "ip"), None);
     assert!(rt; opened.is_ok());
-    let opened = shared.perform(rt, rt.alloc(), seat, clone_of(rt, "eth"));
+    let opened = shared.perform(rt, rt.alloc(), seat, &mut clone_of(rt, "eth"), None);
     assert!(rt; opened.is_ok());
     let link = Command::Link { fd: 0, arg: 1 };
     gets(rt, shared, seat, &link, &Reply::Id(1));
@@ -91,13 +91,14 @@ fn is_full<R: AllocGlobal + Abort + Wait>(rt: &R, shared: &Shared, seat: &mut Se
     requires { seat.old.shared ≡ shared.now.name }
     ensures { seat.new.shared ≡ shared.now.name }
 {
-    let exit = Command::CloseAll;
+    let mut exit = Command::CloseAll;
     let fault = held_once(rt, shared, seat, &exit).err();
     assert!(rt; fault == Some(ApplyFault::HistoryFull));
     let fault = shared.try_call(rt.alloc(), seat, &exit).err();
     assert!(rt; fault == Some(TryFault::HistoryFull));
-    let fault = shared.perform(rt, rt.alloc(), seat, exit).err();
+    let fault = shared.perform(rt, rt.alloc(), seat, &mut exit, None).err();
     assert!(rt; fault == Some(ApplyFault::HistoryFull));
+    assert!(rt; exit == Command::CloseAll);
     assert!(rt; shared.glance(seat) == front(5, 1, false));
 }
 

@@ -53,8 +53,8 @@ end
 fn appends(rt: &(impl Abort + AllocGlobal), system: &mut System, entries: &[Entry]) {
     assert!(rt; system.reserve(entries.len()).is_ok());
     for entry in entries {
-        let command = entry.command.copy(rt.alloc()).expect(rt, "a copy");
-        assert!(rt; system.append(entry.process, command).is_ok());
+        let mut command = entry.command.copy(rt.alloc()).expect(rt, "a copy");
+        assert!(rt; system.append(entry.process, &mut command, None).is_ok());
     }
 }
 

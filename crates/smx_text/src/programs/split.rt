@@ -1,6 +1,6 @@
 //! A programs text, split into the text of each program before any of them is read.
 
-ghost use Rattle.std.specs.Prelude.{◌≡◌, ◌≤◌, ◌++◌, ◌∷◌, [], List, length, map, codes};
+ghost use Rattle.std.specs.Prelude.{◌≡◌, ◌≤◌, ◌++◌, ◌∷◌, [], None, List, length, map, codes};
 ghost use Rattle.std.specs.Prelude.{IfSome, IfOk, IfErr, MatchOption};
 ghost use Rattle.std.specs.List.{AllByRecursion, AllZip, sum_by};
 ghost use Rattle.std.specs.Vec.{vec_len};
@@ -19,7 +19,7 @@ use crate::reading::{after_header, next_line};
 use crate::text_fault::Cause;
 use memchr::memmem;
 use smx_types::{Command, DriverSpec, MAX_PROCESSES, Version};
-use smx_words::{command_of, driver_of, process_of};
+use smx_words::{command_in, driver_of, process_of};
 use std::alloc::Global;
 
 /// A programs text whose programs were not read yet: its version, its drivers, and for each process, from 0 on, the
@@ -54,27 +54,34 @@ pub fn split_programs(alloc: Global, bytes: &[u8]) -> Option<SplitPrograms>
     })
 }
 
-/// The next command of a program's text, and what stands behind its line; nothing where no line is left. Refused where
+/// The next command of a program's text, written into a place where no command is yet, its line and what stands behind
+/// it; where nothing is left, there is still none in the place. A message takes the room that is given. Refused where
 /// what is left is no whole line, where the line is no command of this version, or where memory is wanting.
 #[inline(always)]
-pub fn next_command(
+pub fn next_command<'a>(
+    place: &mut Option<Command>,
+    room: &mut Vec<u8>,
     alloc: Global,
     version: Version,
-    text: &[u8],
-) -> Result<Option<(Command, &[u8])>, Cause>
-    ensures read { IfOk result (λ o. MatchOption o (text.now ≡ [])
-        (λ r. FitsCommandIn version r.0 × (text.now ≡ line_of (command_words r.0) ++ LINE_FEED ∷ r.1.now))) }
+    text: &'a [u8],
+) -> Result<(&'a [u8], &'a [u8]), Cause>
+    requires { place.old ≡ None }
+    ensures read { IfOk result (λ r. MatchOption place.new (text.now ≡ [])
+        (λ c. FitsCommandIn version c × (r.0.now ≡ line_of (command_words c))
+        × (text.now ≡ r.0.now ++ LINE_FEED ∷ r.1.now))) }
     ensures refused { IfErr result (IsUnreadFor version text.now) }
 {
     let Some((line, after)) = next_line(text) else {
         if text.is_empty() {
-            return Ok(None);
+            return Ok((text, text));
         }
         return Err(Cause::Cut);
     };
-    match command_of(alloc, version, line) {
-        Ok(Some(command)) => Ok(Some((command, after))),
-        Ok(None) => Err(Cause::Form),
+    match command_in(place, room, alloc, version, line) {
+        Ok(()) => match place {
+            Some(_) => Ok((line, after)),
+            None => Err(Cause::Form),
+        },
         Err(_) => Err(Cause::NoMemory),
     }
 }

@@ -93,20 +93,26 @@ fn as_many_processes_as_there_may_be_are_split(rt: HostRuntime) {
 
 // Why the next command of a text is not read.
 fn unread(rt: &(impl AllocGlobal + Abort), version: Version, text: &[u8]) -> Option<Cause> {
-    next_command(rt.alloc(), version, text).err()
+    let (mut place, mut room) = (None, Vec::new(rt.alloc()));
+    next_command(&mut place, &mut room, rt.alloc(), version, text).err()
 }
 
 #[test]
 fn commands_come_one_by_one(rt: HostRuntime) {
     let (text, version) = (b"dup 2\nhangup eth 0\n".as_slice(), Version::V1);
-    let (first, rest) = next_command(rt.alloc(), version, text)
-        .expect(&rt, "a command")
-        .expect(&rt, "one more");
-    assert!(rt; first == Command::Dup { fd: 2 });
+    let (mut place, mut room) = (None, Vec::new(rt.alloc()));
+    let (line, rest) = next_command(&mut place, &mut room, rt.alloc(), version, text).expect(
+        &rt,
+        "a command",
+    );
+    assert!(rt; place == Some(Command::Dup { fd: 2 }));
+    assert!(rt; line == b"dup 2".as_slice());
     assert!(rt; rest == b"hangup eth 0\n".as_slice());
     assert!(rt; unread(&rt, version, rest) == Some(Cause::Form));
     assert!(rt; unread(&rt, Version::V2, rest).is_none());
-    assert!(rt; matches!(next_command(rt.alloc(), version, b""), Ok(None)));
+    let mut none = None;
+    assert!(rt; next_command(&mut none, &mut room, rt.alloc(), version, b"").is_ok());
+    assert!(rt; none.is_none());
     assert!(rt; unread(&rt, version, b"dup 2") == Some(Cause::Cut));
     assert!(rt; unread(&rt, version, b"dup 02\n") == Some(Cause::Form));
     assert!(rt; unread(&rt, version, b"process 1\n") == Some(Cause::Form));

@@ -44,6 +44,7 @@ pub fn write_entry(
 }
 
 /// The same of an entry whose command has this line, without a line feed.
+#[inline(always)]
 pub fn write_entry_of_line(
     out: &mut Vec<u8>,
     process: Process,

@@ -9,5 +9,5 @@ invariant-loop-text l = record {
   left : into_iter_len l.text-iterator ≡ length (into_iter_items l.text-iterator);
   room : length l.fn.texts.items ≤ vec_capacity l.programs;
   counted : vec_len l.programs ≡ length l.yielded;
-  made : l.programs.items ≡ map (λ text. record { version = l.version; text = text }) l.yielded;
+  made : l.programs.items ≡ map (λ text. record { version = l.version; line = text; text = text }) l.yielded;
 }

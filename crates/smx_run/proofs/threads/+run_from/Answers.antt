@@ -29,16 +29,18 @@ returns-then-is_empty-clause-ended g n c =
     c.and_then.ensures.ended
 
 pub spawn_with-worker-requires-clause-runs : goal.spawn_with-worker-requires-clause-runs
-spawn_with-worker-requires-clause-runs g n c κs within =
-    (All-pop (AreFresh c.args.shared.now.name) _ _ (Some c.in-Some.hand) c.in-Some.ensures.items c.requires).1
+spawn_with-worker-requires-clause-runs g n c κs within = (
+  (All-pop (AreFresh c.args.shared.now.name) _ _ (Some c.in-Some.hand) c.in-Some.ensures.items c.requires.fresh).1,
+  c.requires.lines,
+)
 
-pub run_from-before-requires-after_bounds : goal.run_from-before-requires-after_bounds
-run_from-before-requires-after_bounds g n c κs within =
-    (All-pop (AreFresh c.args.shared.now.name) _ _ (Some c.in-Some.hand) c.in-Some.ensures.items c.requires).0
+pub run_from-before-requires-clause-fresh : goal.run_from-before-requires-clause-fresh
+run_from-before-requires-clause-fresh g n c κs within =
+    (All-pop (AreFresh c.args.shared.now.name) _ _ (Some c.in-Some.hand) c.in-Some.ensures.items c.requires.fresh).0
 
-pub run_from-requires-after_bounds : goal.run_from-requires-after_bounds
-run_from-requires-after_bounds g n c κs within =
-    (All-pop (AreFresh c.args.shared.now.name) _ _ (Some c.in-Some.hand) c.in-Some.ensures.items c.requires).0
+pub run_from-requires-clause-fresh : goal.run_from-requires-clause-fresh
+run_from-requires-clause-fresh g n c κs within =
+    (All-pop (AreFresh c.args.shared.now.name) _ _ (Some c.in-Some.hand) c.in-Some.ensures.items c.requires.fresh).0
 
 pub returns-in-Ok-clause-ran : goal.returns-in-Ok-clause-ran
 returns-in-Ok-clause-ran g n c =

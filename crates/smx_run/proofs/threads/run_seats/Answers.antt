@@ -12,8 +12,8 @@ collect-requires-clause-dealt g c =
     ≡ c.args.workers = omega (arith, hand_count _ _ _ dealt, length-map c.in_ok-hands-2.hands.items ran_hand) in
     rw (count, c.of-asked.ensures) dealt
 
-pub run_hands-requires-after_bounds : goal.run_hands-requires-after_bounds
-run_hands-requires-after_bounds g c κs within = c.in_ok-hands.ensures.fresh c.args.shared.now.name c.requires.fresh
+pub run_hands-requires-clause-fresh : goal.run_hands-requires-clause-fresh
+run_hands-requires-clause-fresh g c κs within = c.in_ok-hands.ensures.fresh c.args.shared.now.name c.requires.fresh
 
 pub returns-clause-ended : goal.returns-clause-ended
 returns-clause-ended g c = c.in_ok-collect.ensures.ended c.args.shared.now.name c.in_ok-hands-2.ensures.ended

@@ -4,12 +4,12 @@ use Rattle.smx_run.specs.CommandSources.{IsNextOf}
 use Rattle.smx_run.proofs.RunLemmas.{called_more}
 use Rattle.smx_run.proofs.worker.run_program.Goals as goal
 
-pub loop-program-preserved : goal.loop-program-preserved
-loop-program-preserved g c =
-    let before = c.loop-program.invariant in
+pub commands-preserved : goal.commands-preserved
+commands-preserved g c =
+    let before = c.commands.invariant in
     let command = c.in-Some.command in
     let next = subst (λ (o : Option Command). IsNextOf g.P.CommandSource.left g.P.CommandSource.size
-    c.loop-program.program o c.next_command.new.self) c.in-Some.is c.in_ok-command.ensures in
+    c.commands.program o c.next_command.new.self) c.in-Some.is c.in_ok-next_command.ensures.next in
     record {
       seat = c.perform-outcome.ensures.seat;
       done = before.done ++ command ∷ [];

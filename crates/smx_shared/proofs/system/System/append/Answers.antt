@@ -5,7 +5,7 @@ use Rattle.smx_shared.proofs.system.System.append.Goals as goal
 
 pub invariant_of-self-2 : goal.invariant_of-self-2
 invariant_of-self-2 g c =
-    let e : Entry = record { process = c.args.process; command = c.args.command; reply = c.in_ok-reply.reply } in
+    let e : Entry = record { process = c.args.process; command = c.args.command.now; reply = c.in_ok-reply.reply } in
     let old = c.self.inside in
     let told = g.K.Keeper.told in
     let added : told c.add.new.self ≡ told old.kept ++ e ∷ [] = rw (← c.in_ok-make_room.ensures.same) c.add.ensures in
