@@ -114,7 +114,13 @@ impl<A: About, K: Recorder> Keeper for Scribe<A, K> {
         }
     }
 
-    fn add(&mut self, process: Process, command: &mut Command, line: Option<&[u8]>, reply: Reply) {
-        self.tell(process, command, line, &reply);
+    fn add(
+        &mut self,
+        process: Process,
+        command: &mut Command,
+        line: Option<&[u8]>,
+        reply: &mut Reply,
+    ) {
+        self.tell(process, command, line, reply);
     }
 }

@@ -29,13 +29,19 @@ pub trait Keeper: Drop {
         ensures room { OnOk result (has_room self.new) };
 
     /// Tells it of the next entry, for which there is room, and of the line that its command was read from, if it was
-    /// read from one. The command is given up: any may be in its place afterwards. It can't fail.
-    fn add(&mut self, process: Process, command: &mut Command, line: Option<&[u8]>, reply: Reply)
+    /// read from one. Command and reply are given up: any may be in their places afterwards. It can't fail.
+    fn add(
+        &mut self,
+        process: Process,
+        command: &mut Command,
+        line: Option<&[u8]>,
+        reply: &mut Reply,
+    )
         requires room { has_room self.old }
         requires few { length (told self.old) < MAX_COMMANDS }
         requires line { IfSome line (λ l. spells l.now command.old) }
         ensures { told self.new ≡ told self.old
-            ++ record { process = process; command = command.old; reply = reply } ∷ [] };
+            ++ record { process = process; command = command.old; reply = reply.old } ∷ [] };
 }
 
 /// All of them.
@@ -57,12 +63,17 @@ impl Keeper for Vec<Entry> {
         Ok(())
     }
 
-    fn add(&mut self, process: Process, command: &mut Command, _line: Option<&[u8]>, reply: Reply) {
-        let command = replace(command, Command::CloseAll);
+    fn add(
+        &mut self,
+        process: Process,
+        command: &mut Command,
+        _line: Option<&[u8]>,
+        reply: &mut Reply,
+    ) {
         self.push_reserved(Entry {
             process,
-            command,
-            reply,
+            command: replace(command, Command::CloseAll),
+            reply: replace(reply, Reply::Eof),
         });
     }
 }

@@ -161,8 +161,8 @@ impl<K: Keeper> System<K> {
         make_room(&mut self.kept, self.limit)?;
         let mut kept = command.copy(self.alloc)?;
         let command_again = command.copy(self.alloc)?;
-        let (reply, reply_again) = self.config.step_twin(process, command)?;
-        self.kept.add(process, &mut kept, None, reply);
+        let (mut reply, reply_again) = self.config.step_twin(process, command)?;
+        self.kept.add(process, &mut kept, None, &mut reply);
         Ok(Entry {
             process,
             command: command_again,
@@ -190,8 +190,9 @@ impl<K: Keeper> System<K> {
     {
         lawful_after_each_entry();
         make_room(&mut self.kept, self.limit)?;
-        let reply = self.config.step(process, command)?;
-        self.kept.add(process, command, line, reply);
+        let mut reply = self.config.step(process, command)?;
+        self.kept.add(process, command, line, &mut reply);
+        self.config.take_back(reply);
         Ok(())
     }
 
