@@ -54,7 +54,7 @@ impl Tables {
             (send_outcome self.old.drivers self.old.configuration place addr bytes.now) result }
     {
         self.check_send(place, bytes)?;
-        let bytes = bytes.copy(self.alloc)?;
+        let bytes = self.lists.queues.copied_bytes(bytes.as_slice())?;
         self.lists.queues.reserve_one()?;
         let serial = self.lists.next_serial;
         let message = Message {
