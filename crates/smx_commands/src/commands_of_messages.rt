@@ -98,6 +98,16 @@ impl Tables {
         })
     }
 
+    /// Keeps the memory of a reply for a later message. Takes no memory.
+    #[inline(always)]
+    pub fn take_back(&mut self, reply: Reply)
+        ensures { self.new ≡ self.old }
+    {
+        if let Reply::Got { bytes, .. } = reply {
+            self.lists.queues.keep_bytes(bytes);
+        }
+    }
+
     // Whether the stream has hung up, and there is nothing to read.
     pub(crate) fn is_at_end(&self, stream: StreamId) -> bool
         ensures { result ≡ is_at_end self.now.configuration stream }

@@ -116,6 +116,14 @@ impl Config {
         }
     }
 
+    /// Keeps the memory of a reply for a later message. Takes no memory.
+    #[inline(always)]
+    pub fn take_back(&mut self, reply: Reply)
+        ensures { self.new ≡ self.old }
+    {
+        self.tables.take_back(reply);
+    }
+
     /// `step` with its reply twice. The memory of the second one is taken before the first change too, so that `read`
     /// and `transmit` take some, for a message that they deliver. `dup`, `unbind`, `unroute`, `hangup` and every
     /// refusal take no memory, so they are always answered.

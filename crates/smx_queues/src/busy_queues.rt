@@ -103,6 +103,14 @@ impl BusyQueues {
         self.queues.copied_bytes(bytes)
     }
 
+    /// Keeps the memory of these bytes for a later message, if they are few. Takes no memory.
+    #[inline(always)]
+    pub fn keep_bytes(&mut self, bytes: Bytes)
+        ensures { self.new ≡ self.old }
+    {
+        self.queues.keep_bytes(bytes);
+    }
+
     pub fn put(&mut self, p: PlaceId, message: Message)
         requires place { IsPlace self.old.queues p }
         requires open { (queue_at self.old.queues p).full ≡ false }

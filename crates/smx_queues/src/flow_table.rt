@@ -134,6 +134,14 @@ impl FlowTable {
         self.queues.copied_bytes(bytes)
     }
 
+    /// Keeps the memory of these bytes for a later message, if they are few. Takes no memory.
+    #[inline(always)]
+    pub fn keep_bytes(&mut self, bytes: Bytes)
+        ensures { self.new ≡ self.old }
+    {
+        self.queues.keep_bytes(bytes);
+    }
+
     /// A message arrives at a place that is not full. Takes no memory.
     pub fn put(&mut self, place: Place, message: Message)
         requires known { IsKnown self.old.drivers place.stream }

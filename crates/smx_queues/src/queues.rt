@@ -151,6 +151,14 @@ impl Queues {
         self.spare_bytes.copied(self.alloc, bytes)
     }
 
+    /// Keeps the memory of these bytes for a later message, if they are few. Takes no memory.
+    #[inline(always)]
+    pub fn keep_bytes(&mut self, bytes: Bytes)
+        ensures { self.new ≡ self.old }
+    {
+        self.spare_bytes.keep(bytes);
+    }
+
     /// A message arrives at a place that is not full. Takes no memory.
     pub fn put(&mut self, p: PlaceId, message: Message)
         requires place { IsPlace self.old.queues p }
