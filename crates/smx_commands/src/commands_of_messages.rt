@@ -98,7 +98,8 @@ impl Tables {
         })
     }
 
-    /// Keeps the memory of a reply for a later message. Takes no memory.
+    /// Keeps the memory of a reply that nobody needs any more, for a message to come: that of the bytes that were got,
+    /// where they are few. The tables stay as they are to every clause. Takes no memory.
     #[inline(always)]
     pub fn take_back(&mut self, reply: Reply)
         ensures { self.new ≡ self.old }

@@ -116,7 +116,8 @@ impl Config {
         }
     }
 
-    /// Keeps the memory of a reply for a later message. Takes no memory.
+    /// Keeps the memory of a reply that nobody needs any more, for a message to come: that of the bytes that were got,
+    /// where they are few. It may be any reply, and the configuration stays as it is. Takes no memory.
     #[inline(always)]
     pub fn take_back(&mut self, reply: Reply)
         ensures { self.new ≡ self.old }

@@ -103,7 +103,6 @@ impl BusyQueues {
         self.queues.copied_bytes(bytes)
     }
 
-    /// Keeps the memory of these bytes for a later message, if they are few. Takes no memory.
     #[inline(always)]
     pub fn keep_bytes(&mut self, bytes: Bytes)
         ensures { self.new ≡ self.old }

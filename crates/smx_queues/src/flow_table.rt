@@ -126,7 +126,7 @@ impl FlowTable {
         self.queues.reserve_one()
     }
 
-    /// These bytes for a message, in the memory of one that was dropped if there is such. Fails only for want of memory.
+    /// These bytes for a message, in the memory of one that has gone where any is kept. Fails only for want of memory.
     pub fn copied_bytes(&mut self, bytes: &[u8]) -> Result<Bytes, NoMemory>
         ensures bytes { IfOk result (λ b. b ≡ bytes.now) }
         ensures unchanged { self.new ≡ self.old }
@@ -134,7 +134,8 @@ impl FlowTable {
         self.queues.copied_bytes(bytes)
     }
 
-    /// Keeps the memory of these bytes for a later message, if they are few. Takes no memory.
+    /// Keeps the memory of these bytes for a later message, where it is that of a short one. Neither messages nor marks
+    /// change. Takes no memory.
     #[inline(always)]
     pub fn keep_bytes(&mut self, bytes: Bytes)
         ensures { self.new ≡ self.old }

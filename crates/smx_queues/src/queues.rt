@@ -143,7 +143,7 @@ impl Queues {
         self.nodes.len() < self.nodes.capacity()
     }
 
-    /// These bytes for a message, in the memory of one that was dropped if there is such. Fails only for want of memory.
+    /// These bytes for a message, in the memory of one that has gone where any is kept. Fails only for want of memory.
     pub fn copied_bytes(&mut self, bytes: &[u8]) -> Result<Bytes, NoMemory>
         ensures bytes { IfOk result (λ b. b ≡ bytes.now) }
         ensures unchanged { self.new ≡ self.old }
@@ -151,7 +151,8 @@ impl Queues {
         self.spare_bytes.copied(self.alloc, bytes)
     }
 
-    /// Keeps the memory of these bytes for a later message, if they are few. Takes no memory.
+    /// Keeps the memory of these bytes for a later message, where it is that of a short one. No place changes. Takes no
+    /// memory.
     #[inline(always)]
     pub fn keep_bytes(&mut self, bytes: Bytes)
         ensures { self.new ≡ self.old }
@@ -240,7 +241,7 @@ impl Queues {
         self.chains[to].add_last(source.first, size);
     }
 
-    /// All messages of the place are dropped, and it is not full. Takes no memory.
+    /// All messages of the place are dropped, and it is not full. Takes no memory, and keeps that of short messages.
     pub fn clear(&mut self, p: PlaceId)
         requires { IsPlace self.old.queues p }
         ensures cleared { self.new.queues
@@ -248,7 +249,7 @@ impl Queues {
         ensures spare { self.new.spare ≡ self.old.spare + length (queue_at self.old.queues p).messages }
     {
         while let Some(message) = self.take(p) {
-            self.spare_bytes.keep(message.bytes);
+            self.keep_bytes(message.bytes);
         }
         self.unmark(p);
     }
