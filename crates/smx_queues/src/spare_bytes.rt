@@ -5,9 +5,10 @@ ghost use Rattle.std.specs.Prelude.{◌≡◌, IfOk};
 use smx_types::{Bytes, NoMemory};
 use std::alloc::Global;
 
-// How many bytes a short message has at most, and how many vectors are kept at most.
+// How many bytes a short message has at most.
 const SHORT_LEN: usize = 16;
 
+// How many vectors are kept at most.
 const MOST_KEPT: usize = 1024;
 
 /// Vectors with room for a short message each. What they have is of messages that have gone: no clause speaks of it.
