@@ -54,7 +54,7 @@ impl Tables {
             (send_outcome self.old.drivers self.old.configuration place addr bytes.now) result }
     {
         self.check_send(place, bytes)?;
-        let bytes = bytes.copy(self.alloc)?;
+        let bytes = self.lists.queues.copied_bytes(bytes.as_slice())?;
         self.lists.queues.reserve_one()?;
         let serial = self.lists.next_serial;
         let message = Message {
@@ -96,6 +96,17 @@ impl Tables {
             addr: message.addr,
             bytes: message.bytes,
         })
+    }
+
+    /// Keeps the memory of a reply that nobody needs any more, for a message to come: that of the bytes that were got,
+    /// where they are few. The tables stay as they are to every clause. Takes no memory.
+    #[inline(always)]
+    pub fn take_back(&mut self, reply: Reply)
+        ensures { self.new ≡ self.old }
+    {
+        if let Reply::Got { bytes, .. } = reply {
+            self.lists.queues.keep_bytes(bytes);
+        }
     }
 
     // Whether the stream has hung up, and there is nothing to read.

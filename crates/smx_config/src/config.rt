@@ -116,6 +116,15 @@ impl Config {
         }
     }
 
+    /// Keeps the memory of a reply that nobody needs any more, for a message to come: that of the bytes that were got,
+    /// where they are few. It may be any reply, and the configuration stays as it is. Takes no memory.
+    #[inline(always)]
+    pub fn take_back(&mut self, reply: Reply)
+        ensures { self.new ≡ self.old }
+    {
+        self.tables.take_back(reply);
+    }
+
     /// `step` with its reply twice. The memory of the second one is taken before the first change too, so that `read`
     /// and `transmit` take some, for a message that they deliver. `dup`, `unbind`, `unroute`, `hangup` and every
     /// refusal take no memory, so they are always answered.

@@ -9,7 +9,7 @@ ghost use Rattle.smx_queues.specs.Slots.{busy_byte, has_messages, IsLeastFrom};
 
 use crate::queues::{PlaceId, Queues};
 use memchr::memchr;
-use smx_types::{Message, NoMemory};
+use smx_types::{Bytes, Message, NoMemory};
 use std::alloc::Global;
 use std::marker::Model;
 
@@ -94,6 +94,20 @@ impl BusyQueues {
         ensures unchanged { self.new.queues ≡ self.old.queues }
     {
         self.queues.reserve_one()
+    }
+
+    pub fn copied_bytes(&mut self, bytes: &[u8]) -> Result<Bytes, NoMemory>
+        ensures bytes { IfOk result (λ b. b ≡ bytes.now) }
+        ensures unchanged { self.new ≡ self.old }
+    {
+        self.queues.copied_bytes(bytes)
+    }
+
+    #[inline(always)]
+    pub fn keep_bytes(&mut self, bytes: Bytes)
+        ensures { self.new ≡ self.old }
+    {
+        self.queues.keep_bytes(bytes);
     }
 
     pub fn put(&mut self, p: PlaceId, message: Message)

@@ -18,7 +18,7 @@ use crate::full_places::FullPlaces;
 use crate::places::Places;
 use crate::queued_messages::QueuedMessages;
 use smx_model::laws_of_queues::the_first_leaves;
-use smx_types::{DriverSpec, Message, NoMemory, Place};
+use smx_types::{Bytes, DriverSpec, Message, NoMemory, Place};
 use std::alloc::Global;
 use std::marker::Model;
 
@@ -124,6 +124,23 @@ impl FlowTable {
         ensures unchanged { self.new ≡ record self.old { spare = self.new.spare } }
     {
         self.queues.reserve_one()
+    }
+
+    /// These bytes for a message, in the memory of one that has gone where any is kept. Fails only for want of memory.
+    pub fn copied_bytes(&mut self, bytes: &[u8]) -> Result<Bytes, NoMemory>
+        ensures bytes { IfOk result (λ b. b ≡ bytes.now) }
+        ensures unchanged { self.new ≡ self.old }
+    {
+        self.queues.copied_bytes(bytes)
+    }
+
+    /// Keeps the memory of these bytes for a later message, where it is that of a short one. Neither messages nor marks
+    /// change. Takes no memory.
+    #[inline(always)]
+    pub fn keep_bytes(&mut self, bytes: Bytes)
+        ensures { self.new ≡ self.old }
+    {
+        self.queues.keep_bytes(bytes);
     }
 
     /// A message arrives at a place that is not full. Takes no memory.

@@ -16,6 +16,7 @@ mod queued;
 mod queued_messages;
 mod queues;
 mod span;
+mod spare_bytes;
 mod waiters;
 
 pub use first_messages::FirstMessages;

@@ -15,8 +15,9 @@ ghost use Rattle.smx_queues.specs.QueueTable.{with_queue, with_arrival, without_
 
 use crate::chain::{Chain, first_gone, push_all};
 use crate::node::{Node, follow, sized};
+use crate::spare_bytes::SpareBytes;
 use slab::Slab;
-use smx_types::{Message, NoMemory};
+use smx_types::{Bytes, Message, NoMemory};
 use std::alloc::Global;
 use std::marker::Model;
 
@@ -30,6 +31,7 @@ pub struct Queues {
     alloc: Global,
     nodes: Slab<Node>,
     chains: Vec<Chain>,
+    spare_bytes: SpareBytes,
 }
 
 impl Model for Queues {
@@ -58,6 +60,7 @@ impl Queues {
             alloc,
             nodes: Slab::new(alloc),
             chains: Vec::new(alloc),
+            spare_bytes: SpareBytes::new(alloc),
         }
     }
 
@@ -138,6 +141,23 @@ impl Queues {
         ensures { IsTrue result ↔ (0 < self.now.spare) }
     {
         self.nodes.len() < self.nodes.capacity()
+    }
+
+    /// These bytes for a message, in the memory of one that has gone where any is kept. Fails only for want of memory.
+    pub fn copied_bytes(&mut self, bytes: &[u8]) -> Result<Bytes, NoMemory>
+        ensures bytes { IfOk result (λ b. b ≡ bytes.now) }
+        ensures unchanged { self.new ≡ self.old }
+    {
+        self.spare_bytes.copied(self.alloc, bytes)
+    }
+
+    /// Keeps the memory of these bytes for a later message, where it is that of a short one. No place changes. Takes no
+    /// memory.
+    #[inline(always)]
+    pub fn keep_bytes(&mut self, bytes: Bytes)
+        ensures { self.new ≡ self.old }
+    {
+        self.spare_bytes.keep(bytes);
     }
 
     /// A message arrives at a place that is not full. Takes no memory.
@@ -221,14 +241,16 @@ impl Queues {
         self.chains[to].add_last(source.first, size);
     }
 
-    /// All messages of the place are dropped, and it is not full. Takes no memory.
+    /// All messages of the place are dropped, and it is not full. Takes no memory, and keeps that of short messages.
     pub fn clear(&mut self, p: PlaceId)
         requires { IsPlace self.old.queues p }
         ensures cleared { self.new.queues
             ≡ with_queue self.old.queues p (emptied (queue_at self.old.queues p)) }
         ensures spare { self.new.spare ≡ self.old.spare + length (queue_at self.old.queues p).messages }
     {
-        while let Some(_message) = self.take(p) {}
+        while let Some(message) = self.take(p) {
+            self.keep_bytes(message.bytes);
+        }
         self.unmark(p);
     }
 

@@ -7,6 +7,7 @@ mod place_marks;
 mod queue_calls;
 mod queues;
 mod routes;
+mod short_messages;
 mod stream_tables;
 mod tried_again;
 mod waiters;
