@@ -87,13 +87,18 @@ impl<K: Recorder> Recording<K> {
         one_entry_more();
         let process = self.process;
         // Not by `?`, which moves the reply.
-        match &self.config.step(process, command) {
+        let answer = self.config.step(process, command);
+        let outcome = match &answer {
             Ok(reply) => match line {
                 Some(line) => self.recorder.add_line(process, command, line, reply),
                 None => self.recorder.add(process, command, reply),
             },
             Err(NoMemory) => Err(NoMemory),
+        };
+        if let Ok(reply) = answer {
+            self.config.take_back(reply);
         }
+        outcome
     }
 
     /// The recorder, and the view of the configuration. Fails only for want of memory.
