@@ -10,8 +10,8 @@ invariant_of-self-2 g c =
     let told = g.K.Keeper.told in
     let added : told c.add.new.self ≡ told old.kept ++ e ∷ [] = rw (← c.in_ok-make_room.ensures.same) c.add.ensures in
     let did = c.in_ok-reply.ensures in
-    one_entry_more c.lawful_after_each_entry.ensures old.config c.step.new.self old.limit (told old.kept)
-    (told c.add.new.self) e c.self.invariant c.in_ok-make_room.ensures.below did.drivers did.ok added
+    rw c.take_back.ensures (one_entry_more c.lawful_after_each_entry.ensures old.config c.step.new.self old.limit (told old.kept)
+    (told c.add.new.self) e c.self.invariant c.in_ok-make_room.ensures.below did.drivers did.ok added)
 
 pub returns-clause-sound : goal.returns-clause-sound
 returns-clause-sound g c = (invariant_of-self-2 g c).sound
