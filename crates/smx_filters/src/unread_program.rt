@@ -24,7 +24,7 @@ use std::thread::Threads;
 #[derive(Drop)]
 pub struct UnreadProgram<'a> {
     pub version: Version,
-    // The line that was read last.
+    // The line that was read last; all of the text, before the first.
     pub line: &'a [u8],
     pub text: &'a [u8],
 }
@@ -45,9 +45,14 @@ impl<'a> CommandSource for UnreadProgram<'a> {
     ghost has_read = { λ program command.
         (program.line.now ≡ line_of (command_words command)) × FitsCommand command };
 
-    fn next_command(&mut self, alloc: Global, place: &mut Option<Command>) -> Result<(), NoMemory> {
-        let mut room = room_of(alloc, place);
-        match next_command(place, &mut room, alloc, self.version, self.text) {
+    fn next_command(
+        &mut self,
+        alloc: Global,
+        place: &mut Option<Command>,
+        room: &mut Vec<u8>,
+    ) -> Result<(), NoMemory> {
+        give_up(alloc, place, room);
+        match next_command(place, room, alloc, self.version, self.text) {
             Ok((line, behind)) => {
                 self.line = line;
                 self.text = behind;
@@ -62,19 +67,15 @@ impl<'a> CommandSource for UnreadProgram<'a> {
     }
 }
 
-// Takes away what is in the place, and answers the room of its message, where it has one.
+// Nothing is in the place any more. Of a message its room stays.
 #[inline(always)]
-fn room_of(alloc: Global, place: &mut Option<Command>) -> Vec<u8>
+fn give_up(alloc: Global, place: &mut Option<Command>, room: &mut Vec<u8>)
     ensures { place.new ≡ None }
 {
-    let room = match place {
-        Some(Command::Write { bytes, .. } | Command::Inject { bytes, .. }) => {
-            replace(bytes, Bytes::new(alloc)).into_vec()
-        }
-        Some(_) | None => Vec::new(alloc),
-    };
+    if let Some(Command::Write { bytes, .. } | Command::Inject { bytes, .. }) = place {
+        *room = replace(bytes, Bytes::new(alloc)).into_vec();
+    }
     *place = None;
-    room
 }
 
 // The transcript of a run, by so many workers, of the programs that the input spells, of which each is read by the

@@ -8,6 +8,6 @@ IsNextOf left size old (Some command) new =
     ((commands : List Command) → left new commands → left old (command ∷ commands)) × (size new < size old)
 IsNextOf left size old None new = left old []
 
--- what is a line of a command to the one is one to the other
+-- each line that the one counts as a command's the other counts as that command's too
 abbrev pub AreLinesFor : (List ℕ → Command → Type 0) → (List ℕ → Command → Type 0) → Type 0
 AreLinesFor spells others = (line : List ℕ) (command : Command) → spells line command → others line command

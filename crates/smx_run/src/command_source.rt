@@ -19,15 +19,21 @@ pub trait CommandSource: Drop {
     // A number that falls with each command.
     ghost size: { Self → ℕ };
 
-    // The bytes are a line of this command, as its lines are.
+    // The bytes are a line of this command, in the form of its lines.
     ghost spells: { List ℕ → AnyCommand → Type 0 };
 
     // This command was read from the line that it has.
     ghost has_read: { Self → AnyCommand → Type 0 };
 
-    /// The next command, or nothing behind the last one, comes into this place. What was there before is given up, and
-    /// its room may be used. Where it can't tell, it is of no more use; that counts as want of memory.
-    fn next_command(&mut self, alloc: Global, place: &mut Option<Command>) -> Result<(), NoMemory>
+    /// The next command, or nothing behind the last one, comes into this place. What was there before is given up; its
+    /// message may leave its bytes' room for a later one, which may take it from there. Where it can't tell, it is of
+    /// no more use; that counts as want of memory.
+    fn next_command(
+        &mut self,
+        alloc: Global,
+        place: &mut Option<Command>,
+        room: &mut Vec<u8>,
+    ) -> Result<(), NoMemory>
         ensures next { OnOk result (IsNextOf left size self.old place.new self.new) }
         ensures line { OnOk result (IfSome place.new (has_read self.new)) };
 
@@ -52,6 +58,7 @@ impl CommandSource for IntoIter<Command> {
         &mut self,
         _alloc: Global,
         place: &mut Option<Command>,
+        _room: &mut Vec<u8>,
     ) -> Result<(), NoMemory> {
         *place = self.next();
         Ok(())

@@ -96,10 +96,14 @@ pub fn what_comes_next_of_an_example()
         → IsNextOfAny program (Some command) program → ⊥ }
 {}
 
-/// A line that is empty is one to who takes any line, and not the other way round.
+/// Who counts any line as a command's counts empty ones as well, and not the other way round; nor does who counts the
+/// lines of one command count those of another.
 pub fn whose_lines_they_are()
     ensures any { AreLinesFor (λ line _. line ≡ []) (λ _ _. Unit {0}) }
+    ensures same { AreLinesFor (λ _ command. command ≡ Dup 0) (λ _ command. command ≡ Dup 0) }
     ensures not_any { AreLinesFor (λ _ _. Unit {0}) (λ line _. line ≡ []) → ⊥ }
+    ensures not_anothers { AreLinesFor (λ _ command. command ≡ Dup 0) (λ _ command. command ≡ CloseAll) → ⊥ }
+    ensures not_the_first_ones { AreLinesFor (λ _ command. command ≡ CloseAll) (λ _ command. command ≡ Dup 0) → ⊥ }
 {}
 
 /// Who performs such a program has stopped behind some of its commands, the first ones, and not behind another.

@@ -86,7 +86,7 @@ impl<K: Recorder> Recording<K> {
     {
         one_entry_more();
         let process = self.process;
-        // Not by `?`, which moves the reply.
+        // Not by `?`, which moves the reply before its line is written.
         let answer = self.config.step(process, command);
         let outcome = match &answer {
             Ok(reply) => match line {

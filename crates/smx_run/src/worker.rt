@@ -102,9 +102,10 @@ where
 {
     let process = D::process(seat);
     let mut place = None;
+    let mut room = Vec::new(alloc);
     let mut number = 0usize;
     'commands: loop {
-        program.next_command(alloc, &mut place)?;
+        program.next_command(alloc, &mut place, &mut room)?;
         let Some(command) = &mut place else {
             return Ok(());
         };

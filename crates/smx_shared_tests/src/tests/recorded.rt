@@ -58,6 +58,7 @@ impl CommandSource for Torn {
         &mut self,
         _alloc: Global,
         place: &mut Option<Command>,
+        _room: &mut Vec<u8>,
     ) -> Result<(), NoMemory> {
         *place = self.commands.next();
         if place.is_some() && self.most == 0 {

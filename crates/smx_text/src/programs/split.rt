@@ -1,7 +1,7 @@
 //! A programs text, split into the text of each program before any of them is read.
 
 ghost use Rattle.std.specs.Prelude.{◌≡◌, ◌≤◌, ◌++◌, ◌∷◌, [], None, List, length, map, codes};
-ghost use Rattle.std.specs.Prelude.{IfSome, IfOk, IfErr, MatchOption};
+ghost use Rattle.std.specs.Prelude.{IfSome, IfOk, IfErr, OnErr, MatchOption};
 ghost use Rattle.std.specs.List.{AllByRecursion, AllZip, sum_by};
 ghost use Rattle.std.specs.Vec.{vec_len};
 ghost use Rattle.smx_types.specs.Versions.{most_drivers};
@@ -55,8 +55,9 @@ pub fn split_programs(alloc: Global, bytes: &[u8]) -> Option<SplitPrograms>
 }
 
 /// The next command of a program's text, written into a place where no command is yet, its line and what stands behind
-/// it; where nothing is left, there is still none in the place. A message takes the room that is given. Refused where
-/// what is left is no whole line, where the line is no command of this version, or where memory is wanting.
+/// it; where nothing is left, there is still none in the place, and the slices mean nothing. A message takes the room
+/// that is given. Refused, with none in the place, where what is left is no whole line, where the line is no command of
+/// this version, or where memory is wanting.
 #[inline(always)]
 pub fn next_command<'a>(
     place: &mut Option<Command>,
@@ -70,6 +71,7 @@ pub fn next_command<'a>(
         (λ c. FitsCommandIn version c × (r.0.now ≡ line_of (command_words c))
         × (text.now ≡ r.0.now ++ LINE_FEED ∷ r.1.now))) }
     ensures refused { IfErr result (IsUnreadFor version text.now) }
+    ensures none { OnErr result (place.new ≡ None) }
 {
     let Some((line, after)) = next_line(text) else {
         if text.is_empty() {

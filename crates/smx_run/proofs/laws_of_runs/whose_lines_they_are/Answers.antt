@@ -1,6 +1,12 @@
-use Rattle.std.proofs.Common.{[], ◌∷◌}
-use Rattle.smx_model.specs.Worked.Common.{Dup}
+use Rattle.std.proofs.Common.{[], ◌∷◌, refl}
+use Rattle.smx_model.specs.Worked.Common.{CloseAll, Dup}
 use Rattle.smx_run.proofs.laws_of_runs.whose_lines_they_are.Goals as goal
 
 pub returns-clause-not_any : goal.returns-clause-not_any
 returns-clause-not_any c are = let empty = are (0 ∷ []) (Dup 0) tt in absurd cc
+
+pub returns-clause-not_anothers : goal.returns-clause-not_anothers
+returns-clause-not_anothers c are = let other = are [] (Dup 0) refl in absurd cc
+
+pub returns-clause-not_the_first_ones : goal.returns-clause-not_the_first_ones
+returns-clause-not_the_first_ones c are = let other = are [] CloseAll refl in absurd cc
