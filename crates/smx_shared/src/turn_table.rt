@@ -1,6 +1,7 @@
 //! The words and the slot of a shared system, and the steps on them.
 
-ghost use Rattle.std.specs.Prelude.{◌≡◌, ◌<◌, ◌≤◌, ◌+◌, ◌*◌, ◌%◌, [], true, false, Some, None, IfOk, IfErr, IfSome, OnErr, OnOk};
+ghost use Rattle.std.specs.Prelude.{◌≡◌, ◌<◌, ◌≤◌, ◌+◌, ◌*◌, ◌%◌, [], true, false, Some, None};
+ghost use Rattle.std.specs.Prelude.{IfOk, IfErr, IfSome, OnErr, OnOk};
 ghost use Rattle.smx_shared.specs.Calls.{AnswersEntry, AddsEntry, Refuses, EndsAs, GoesOnFrom};
 ghost use Rattle.smx_shared.specs.Fronts.{front_of};
 ghost use Rattle.smx_shared.specs.Recorded.{IsSoundSystem};

@@ -8,9 +8,11 @@ invariant_of-self-2 g c =
     let e : Entry = record { process = c.args.process; command = c.args.command.now; reply = c.in_ok-reply.reply } in
     let old = c.self.inside in
     let told = g.K.Keeper.told in
-    let added : told c.add.new.self ≡ told old.kept ++ e ∷ [] = rw (← c.in_ok-make_room.ensures.same) c.add.ensures in
+    let added : told c.add.new.self ≡ told old.kept ++ e ∷ [] =
+    rw (← c.in_ok-make_room.ensures.same) c.add.ensures in
     let did = c.in_ok-reply.ensures in
-    rw c.take_back.ensures (one_entry_more c.lawful_after_each_entry.ensures old.config c.step.new.self old.limit (told old.kept)
+    rw c.take_back.ensures
+    (one_entry_more c.lawful_after_each_entry.ensures old.config c.step.new.self old.limit (told old.kept)
     (told c.add.new.self) e c.self.invariant c.in_ok-make_room.ensures.below did.drivers did.ok added)
 
 pub returns-clause-sound : goal.returns-clause-sound

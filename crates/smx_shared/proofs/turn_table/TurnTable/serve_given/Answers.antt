@@ -10,8 +10,8 @@ give_back-requires-clause-more g c =
     let did = c.append-outcome.ensures in
     let seen = ap (λ s. s.history) out.system ∙ sym (ap (λ (v : SeatView). v.seen) out.turn.0) in
     let process = sym (ap (λ (v : SeatView). v.process) out.turn.0 ∙ c.requires.named.1) in
-    adds_by c.append-outcome.result c.take_out-system.result c.append-outcome.new.self c.args.process _ _ c.args.command.now
-    did.ok did.err seen process
+    adds_by c.append-outcome.result c.take_out-system.result c.append-outcome.new.self c.args.process _ _
+    c.args.command.now did.ok did.err seen process
 
 pub returns-clause-added : goal.returns-clause-added
 returns-clause-added g c =
@@ -21,6 +21,6 @@ returns-clause-added g c =
     let v = c.args.token.now.me.0 in
     let w = c.give_back.new.token.me.0 in
     let grown = subst (λ (u : SeatView). HasGrown u w) out.turn.0 back.rest.1 in
-    adds_if c.append-outcome.result v w c.take_out-system.result c.append-outcome.new.self c.args.process c.args.command.now
-    out.system c.requires.turn.informed
+    adds_if c.append-outcome.result v w c.take_out-system.result c.append-outcome.new.self c.args.process
+    c.args.command.now out.system c.requires.turn.informed
     c.requires.named.0 c.requires.named.1 grown back.rest.2 back.seen did.ok
