@@ -10,10 +10,13 @@ use std::alloc::{AllocError, Global};
 /// The most bytes that an input may have.
 pub const MAX_INPUT: usize = 16_777_216;
 
-// Room grows by as much as was read, but by no less and no more than this.
+// Room grows by as much as was read, but by no less and no more than this. Of it a part that is as much as a sixteenth of
+// what was read, with the same bounds, is filled for the next read: a page of room that nobody fills costs nothing.
 const LEAST_PIECE: usize = 65_536;
 
 const MOST_PIECE: usize = 1_048_576;
+
+const SHARE: usize = 16;
 
 /// All bytes up to the end of the feed, which a read of none shows. `TooLong` comes exactly where
 /// more than `MAX_INPUT` bytes were read, and `ReadFailed` exactly where a read failed; else
@@ -56,7 +59,10 @@ fn make_room(all: &mut Vec<u8>, count: usize) -> Result<(), AllocError>
     if count < len {
         return Ok(());
     }
-    let piece = len.clamp(LEAST_PIECE, MOST_PIECE).min(MAX_INPUT + 1 - len);
-    all.reserve_exact(piece)?;
+    let left = MAX_INPUT + 1 - len;
+    let piece = (len / SHARE).clamp(LEAST_PIECE, MOST_PIECE).min(left);
+    if all.capacity() - len < piece {
+        all.reserve_exact(len.clamp(LEAST_PIECE, MOST_PIECE).min(left))?;
+    }
     all.resize(len + piece, 0)
 }
