@@ -11,7 +11,7 @@ ghost use Rattle.smx_model.specs.Standing.{exists};
 
 use crate::answers::refuse;
 use crate::tables::{Tables, tells_existing};
-use smx_tables::driver_specs::{driver_of, is_mux, minors_of};
+use smx_tables::driver_specs::{driver_of, is_driver_named, is_mux, minors_of};
 use smx_types::{Fault, Name, Place, Process, StreamId};
 
 impl Tables {
@@ -20,6 +20,10 @@ impl Tables {
         ensures found { result ≡ driver_of self.now.drivers name.now }
         ensures in_range { IfOk result (λ n. n < length self.now.drivers) }
     {
+        let likely = self.hints.of(name);
+        if is_driver_named(&self.drivers, likely as usize, name) {
+            return Ok(likely);
+        }
         Ok(driver_of(&self.drivers, name)? as u8)
     }
 
@@ -62,8 +66,9 @@ impl Tables {
         Ok(stream)
     }
 
-    // The same, where its device has not hung up.
-    pub(crate) fn live_stream(&self, process: Process, fd: u32) -> Result<StreamId, Fault>
+    /// The stream of a descriptor; refused as `stream_of` has it, or where it is below a link, or else where its device
+    /// has hung up. Takes no memory.
+    pub fn live_stream(&self, process: Process, fd: u32) -> Result<StreamId, Fault>
         ensures { result ≡ live_stream self.now.configuration process fd }
     {
         let free = self.free_stream(process, fd)?;

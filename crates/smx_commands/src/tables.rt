@@ -11,6 +11,7 @@ ghost use Rattle.smx_tables.specs.ModelOfLists.{configuration_of};
 use smx_links::LinkTable;
 use smx_queues::FlowTable;
 use smx_tables::copies::{copy_lists, empty_lists};
+use smx_tables::driver_hints::DriverHints;
 use smx_tables::lists::Lists;
 use smx_tables::standing;
 use smx_types::{DriverSpec, NoMemory};
@@ -23,6 +24,7 @@ use std::marker::Model;
 pub struct Tables {
     pub(crate) alloc: Global,
     pub(crate) drivers: Vec<DriverSpec>,
+    pub(crate) hints: DriverHints,
     pub(crate) lists: Lists,
 }
 
@@ -55,10 +57,12 @@ impl Tables {
         ensures { IfOk result (λ t. t ≡ record { drivers = drivers.now; configuration = empty }) }
     {
         let lists = empty_lists(alloc, drivers)?;
+        let hints = DriverHints::new(drivers);
         let drivers = Vec::from_slice(alloc, drivers)?;
         Ok(Tables {
             alloc,
             drivers,
+            hints,
             lists,
         })
     }
@@ -101,6 +105,7 @@ impl Tables {
         Ok(Tables {
             alloc,
             drivers,
+            hints: self.hints,
             lists,
         })
     }

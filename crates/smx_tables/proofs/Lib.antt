@@ -21,6 +21,7 @@ pub mod WorkedDropLemmas
 pub mod DeadLemmas
 pub mod LinesLemmas
 pub mod QueueLemmas
+pub mod DriverNameLemmas
 pub mod ShownItemLemmas
 pub mod LineOrderLemmas
 pub mod AddressLineLemmas

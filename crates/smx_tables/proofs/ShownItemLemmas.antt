@@ -1,58 +1,17 @@
 -- An item that a line shows by the name of a driver, an address and a value.
-use Rattle.std.proofs.Common.{◌≡◌, ℕ, ◌<◌, Bool, true, false, ◌&&◌, cond, eqb, List, [], ◌∷◌, length, get_or, find}
-use Rattle.std.proofs.Common.{Option, Some, None, refl, sym, ap, subst, ◌∙◌, arith}
-use Rattle.std.specs.Prelude.{position, nat_lt}
+use Rattle.std.proofs.Common.{◌≡◌, ℕ, ◌<◌, Bool, true, false, ◌&&◌, cond, eqb, List, [], ◌∷◌, length, find}
+use Rattle.std.proofs.Common.{Option, Some, None, refl, ap, subst, ◌∙◌, arith}
 use Rattle.std.specs.List.{AllByRecursion}
-use Rattle.std.specs.Option.{option_map_or}
-use Rattle.std.specs.Str.{bytes_eq}
-use Rattle.std.proofs.lemmas.Bool.{and_from, and_parts, eqb-true, eq-eqb, false_from_ne_true, lt-ltb}
+use Rattle.std.proofs.lemmas.Bool.{and_from, and_parts, eqb-true, eq-eqb}
 use Rattle.std.proofs.lemmas.Bool.Decides.{nat_tests}
-use Rattle.std.proofs.lemmas.List.Quantifiers.{position-Some}
-use Rattle.std.proofs.lemmas.List.Sums.{position_or_len_is}
-use Rattle.std.proofs.lemmas.Option.{cond_some, slice_get-get_or}
-use Rattle.std.proofs.lemmas.Slice.Eq.{bytes_eq-Decides}
-use Rattle.smx_types.specs.declared.driver.DriverKind.TheVariants.{Leaf}
+use Rattle.std.proofs.lemmas.Option.{cond_some}
 use Rattle.smx_types.specs.declared.driver.DriverSpec.{DriverSpec}
 use Rattle.smx_model.specs.Configuration.{pair_before}
 use Rattle.smx_model.specs.DriverList.{IsDriverList, name_of}
 use Rattle.smx_model.specs.Ordered.{ComesBefore, IsRising}
 use Rattle.smx_model.specs.Settling.{◌>>=◌}
+use Rattle.smx_tables.proofs.DriverNameLemmas.{found_by_name, named_at, number_of}
 use Rattle.smx_tables.proofs.FoundLemmas.{bound, found_passes}
-
--- ---- drivers by name
-
-some_driver : DriverSpec
-some_driver = record { name = []; kind = Leaf; minors = 0; high = 0; low = 0; max = 0 }
-
--- the name of a driver that there is
-name_at : (drivers : List DriverSpec) (n : ℕ) → n < length drivers
-    → name_of drivers n ≡ (get_or drivers n some_driver).name
-name_at drivers n lt =
-    ap (λ (o : Option DriverSpec). option_map_or (λ d. d.name) o []) (slice_get-get_or drivers n some_driver lt)
-
--- the number of the driver of this name
-abbrev number_of : List DriverSpec → List ℕ → Option ℕ
-number_of drivers name = position (λ d. bytes_eq d.name name) drivers
-
--- the driver that is found by a name has it
-named_at : (drivers : List DriverSpec) (name : List ℕ) (n : ℕ) → number_of drivers name ≡ Some n
-    → name_of drivers n ≡ name
-named_at drivers name n e =
-    let p = position-Some (λ (d : DriverSpec). bytes_eq d.name name) drivers n some_driver e in
-    name_at drivers n p.0 ∙ (bytes_eq-Decides _ _).0 p.1
-
--- a driver is found by its name
-found_by_name : (drivers : List DriverSpec) (n : ℕ) → IsDriverList drivers → n < length drivers
-    → number_of drivers (name_of drivers n) ≡ Some n
-found_by_name drivers n h lt =
-    let here = name_at drivers n lt in
-    let Others : Type 0 = (k : ℕ) → k < n → bytes_eq (get_or drivers k some_driver).name (name_of drivers n) ≡ false in
-    let others : Others = λ k below. false_from_ne_true _
-    (λ t. h.names k n some_driver below lt ((bytes_eq-Decides _ _).0 t ∙ here)) in
-    let first = position_or_len_is (λ (d : DriverSpec). bytes_eq d.name (name_of drivers n)) drivers n some_driver
-    (omega arith) others (λ l. (bytes_eq-Decides _ _).1 (sym here)) in
-    ap (λ m. cond (nat_lt m (length drivers)) (Some m) None) first
-    ∙ ap (λ b. cond b (Some n) None) (lt-ltb n (length drivers) lt)
 
 -- ---- an item of a list by its driver, its address and its value
 

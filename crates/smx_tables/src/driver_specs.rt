@@ -1,12 +1,13 @@
 //! What drivers are like, by their numbers.
 
-ghost use Rattle.std.specs.Prelude.{◌≡◌, ◌<◌, position, length, IfOk};
+ghost use Rattle.std.specs.Prelude.{◌≡◌, ◌<◌, position, length, IfOk, IsTrue, Ok};
 ghost use Rattle.std.specs.Str.{bytes_eq};
-ghost use Rattle.smx_model.specs.DriverList.{kind_is_mux, is_mux, minors_of, max_of};
+ghost use Rattle.smx_model.specs.DriverList.{kind_is_mux, is_mux, minors_of, max_of, IsDriverList};
 ghost use Rattle.smx_model.specs.Lookups.{driver_of};
 
 use smx_types::{DriverKind, DriverSpec, Fault, Name};
 
+#[inline(never)]
 fn position_of(drivers: &[DriverSpec], name: &Name) -> Option<usize>
     ensures { result ≡ position (λ d. bytes_eq d.name name.now) drivers.now }
 {
@@ -21,6 +22,18 @@ pub fn driver_of(drivers: &[DriverSpec], name: &Name) -> Result<usize, Fault>
     match position_of(drivers, name) {
         Some(n) => Ok(n),
         None => Err(Fault::NoDriver),
+    }
+}
+
+/// Whether the driver of this number has this name.
+#[inline(always)]
+pub fn is_driver_named(drivers: &[DriverSpec], driver: usize, name: &Name) -> bool
+    requires { IsDriverList drivers.now }
+    ensures { IsTrue result → driver_of drivers.now name.now ≡ Ok driver }
+{
+    match drivers.get(driver) {
+        Some(d) => d.name == *name,
+        None => false,
     }
 }
 

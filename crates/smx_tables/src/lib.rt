@@ -4,6 +4,7 @@
 pub mod arrivals;
 pub mod comparisons;
 pub mod copies;
+pub mod driver_hints;
 pub mod driver_specs;
 pub mod dropped_messages;
 pub mod laws_of_dropped_messages;

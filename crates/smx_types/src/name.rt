@@ -49,7 +49,7 @@ impl PartialEq for Name {
     ghost laws = { Prim.search (comparing, rules) };
 
     fn eq(&self, other: &Name) -> bool {
-        self.len == other.len && are_same(self.bytes, other.bytes)
+        are_same(self.bytes, other.bytes) && self.len == other.len
     }
 }
 
@@ -84,6 +84,15 @@ impl Name {
             len: len as u8,
             bytes: padded,
         })
+    }
+
+    /// A number that is the same for the same name, and mostly another one for another. No clause says so. Takes no
+    /// memory.
+    #[inline(always)]
+    pub fn short_hash(&self) -> u8 {
+        // The upper byte of a product with the golden ratio.
+        let word = u64::from_le_bytes(self.bytes);
+        word.wrapping_mul(0x9E37_79B9_7F4A_7C15).to_be_bytes()[0]
     }
 
     /// Its bytes, which always spell a name. Takes no memory.
