@@ -1,5 +1,5 @@
 -- Full places that are wanted no more, and what a change keeps of the marks.
-use Rattle.std.proofs.Common.{◌≡◌, Bool, true, false, ◌&&◌, not, List, [], ◌∷◌, find, Option, None, Some, refl}
+use Rattle.std.proofs.Common.{◌≡◌, Bool, true, false, ◌&&◌, ◌||◌, not, List, [], ◌∷◌, find, Option, None, Some, refl}
 use Rattle.std.proofs.Common.{sym, ap, ◌∙◌, subst, inl, inr}
 use Rattle.std.specs.Prelude.{◌≢◌}
 use Rattle.std.specs.List.{list_any}
@@ -12,7 +12,7 @@ use Rattle.smx_model.specs.Configuration.{Configuration, same_place}
 use Rattle.smx_model.specs.FreedPlaces.{FreesOnly}
 use Rattle.smx_model.specs.KnownStreams.{IsKnown}
 use Rattle.smx_model.specs.Queues.{first_message, is_full}
-use Rattle.smx_model.specs.RunMarks.{AreMarked, TurnsOnly, all_but, feeds, is_freed, is_one_of, next_of_first}
+use Rattle.smx_model.specs.RunMarks.{AreMarked, TurnsOnly, all_but, both, feeds, is_freed, is_one_of, next_of_first}
 use Rattle.smx_model.specs.SettlingByMarks.{IsMarkedAfter}
 use Rattle.smx_queues.specs.PlaceMarks.{MarkList, has_mark}
 use Rattle.smx_queues.specs.declared.waiters.Wait.{Wait}
@@ -53,6 +53,39 @@ released_one c place old new vacant gone same waits h = record {
   wanted_drivers = same;
   waits = waits;
 }
+
+-- ---- one place, and then another
+
+-- of two places, one after the other
+pub released_both : (c : Configuration) (these those : Place → Bool) (old mid new : Marks)
+    → IsReleased c these old mid → IsReleased c those mid new → IsReleased c (both these those) old new
+released_both c these those old mid new a b = record {
+  kept = λ p h. b.kept p (a.kept p h);
+  waiters = λ q p f nf w known noted. elim (cases_Bool (these q)) [
+    | inl t ↦ b.kept p (a.waiters q p t nf w known noted)
+    | inr n ↦ b.waiters q p (second q n f) nf (a.left q n w)
+        (subst (λ (ds : List DriverSpec). IsKnown ds p.stream) (sym a.run_drivers) known)
+        (noted_still old mid p q a.waits noted)
+  ];
+  wanted = λ q w full. b.wanted q (a.wanted q w full) full;
+  gone = λ q f w. elim (cases_Bool (these q)) [
+    | inl t ↦ a.gone q t (b.fewer q w)
+    | inr n ↦ b.gone q (second q n f) w
+  ];
+  left = λ q f w. b.left q (or_false q f).1 (a.left q (or_false q f).0 w);
+  fewer = λ q w. a.fewer q (b.fewer q w);
+  run_drivers = b.run_drivers ∙ a.run_drivers;
+  wanted_drivers = b.wanted_drivers ∙ a.wanted_drivers;
+  waits = b.waits ∙ a.waits;
+} where
+  second : (q : Place) → these q ≡ false → both these those q ≡ true → those q ≡ true
+  second q n f = rw n at f
+
+  or_false : (q : Place) → both these those q ≡ false → (these q ≡ false) × (those q ≡ false)
+  or_false q f = elim (cases_Bool (these q)) [
+    | inl t ↦ absurd (false≢true (sym f ∙ ap (λ (b : Bool). b || those q) t))
+    | inr n ↦ (n, rw n at f)
+  ]
 
 -- ---- each place
 

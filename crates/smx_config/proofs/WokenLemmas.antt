@@ -16,6 +16,7 @@ use Rattle.smx_types.specs.declared.reply.Fault.TheVariants.{AddressInUse, NoLin
 use Rattle.smx_types.specs.declared.reply.Reply.{Reply}
 use Rattle.smx_types.specs.declared.reply.Reply.TheVariants as reply
 use Rattle.smx_types.specs.declared.stream.Place.{Place}
+use Rattle.smx_types.specs.declared.stream.Side.{Side}
 use Rattle.smx_types.specs.declared.stream.Side.TheVariants as side
 use Rattle.smx_types.specs.declared.stream.StreamId.{StreamId}
 use Rattle.smx_model.specs.Commands.{done_outcome, outcome, step}
@@ -38,10 +39,13 @@ use Rattle.smx_commands.specs.declared.step_error.StepError.TheVariants as step_
 use Rattle.smx_config.specs.Marking.{AreMarks, IsWoken}
 use Rattle.smx_commands.specs.Machine.{Machine}
 use Rattle.smx_commands.specs.Refinement.{Refines}
-use Rattle.smx_config.specs.Wakes.{IsEnough, arrives, freed_under, on_stream, turned_under, wakes_of}
+use Rattle.smx_config.specs.Wakes.{IsEnough, arrives, freed_under, is_either_side, on_stream, turned_under}
+use Rattle.smx_config.specs.Wakes.{wakes_of}
 use Rattle.smx_config.specs.declared.wakes.Wakes.{Wakes}
 use Rattle.smx_config.specs.declared.wakes.Wakes.TheVariants as wakes
 use Rattle.smx_model.proofs.IdleSweepLemmas.{swept_idle}
+use Rattle.smx_model.proofs.SweptLemmas.{stream_self}
+use Rattle.smx_model.proofs.TurningLemmas.{same_stream_is}
 use Rattle.smx_commands.proofs.AcceptedLemmas.{accepted, bound}
 use Rattle.smx_config.proofs.StayingLemmas.{read_stays, transmit_stays}
 
@@ -162,6 +166,16 @@ freed_on : (r : Result StreamId Fault) (f : StreamId → Place → Bool) (g : St
 freed_on (Ok s) f g p h t = h s t
 freed_on (Err e) f g p h t = absurd (false≢true t)
 
+-- each place of a stream is on one of its sides
+is_on_a_side : (s : StreamId) (p : Place) → same_stream p.stream s ≡ true → is_either_side s p ≡ true
+is_on_a_side s p h = by p.side refl where
+  is : p.stream ≡ s
+  is = same_stream_is p.stream s h
+
+  by : (on : Side) → p.side ≡ on → is_either_side s p ≡ true
+  by side.Read e = rw (is, e, stream_self s) refl
+  by side.Write e = rw (is, e, stream_self s) refl
+
 -- each place that a command may free is one that `wakes_of` says may be freed
 pub frees : (drivers : List DriverSpec) (c new : Configuration) (process : ℕ) (k : Command) (p : Place)
     → freed_by drivers c process k new p ≡ true → freed_under (wakes_of drivers c process k) p ≡ true
@@ -169,6 +183,8 @@ frees drivers c new process command.CloseAll p t = refl
 frees drivers c new process (command.Read fd) p t = freed_on (free_stream c process fd) _ _ p (λ s u. u) t
 frees drivers c new process (command.Transmit name minor) p t =
     freed_on (live_leaf drivers c name minor) _ _ p (λ s u. u) t
+frees drivers c new process (command.Flush fd w) p t = freed_on (live_stream c process fd) _ _ p
+    (λ s u. is_on_a_side s p (and_parts (same_stream p.stream s) _ u).0) t
 frees drivers c new process k p t = cc
 
 -- ---- both ends of a move

@@ -11,7 +11,7 @@ use Rattle.smx_model.specs.Commands.{outcome}
 use Rattle.smx_model.specs.Configuration.{Configuration, same_place}
 use Rattle.smx_model.specs.Lookups.{free_stream, live_leaf, live_stream, mux_stream, stream_of}
 use Rattle.smx_model.specs.Queues.{first_message}
-use Rattle.smx_model.specs.RunMarks.{asks_down, asks_up, nowhere}
+use Rattle.smx_model.specs.RunMarks.{asks_down, asks_up, both, nowhere}
 use Rattle.smx_model.specs.TurnedPlaces.{read_side, write_side}
 use Rattle.smx_config.specs.Marking.{AreMarks, IsWoken}
 use Rattle.smx_config.specs.declared.marks.Marks.{Marks}
@@ -22,6 +22,10 @@ use Rattle.smx_config.specs.declared.wakes.Wakes.TheVariants as wakes
 abbrev pub everywhere : Place → Bool
 everywhere p = true
 
+-- one of the sides of the stream
+abbrev pub is_either_side : StreamId → Place → Bool
+is_either_side s = both (same_place (write_side s)) (same_place (read_side s))
+
 -- where the first message may be another one, or may have another place to go to
 abbrev pub turned_under : Configuration → Wakes → Place → Bool
 turned_under c wakes.Nothing = nowhere
@@ -29,6 +33,7 @@ turned_under c (wakes.Turns p) = same_place p
 turned_under c (wakes.Leaves p) = nowhere
 turned_under c (wakes.TurnsWrites driver addr) = asks_down c driver addr
 turned_under c (wakes.TurnsReads driver addr) = asks_up c driver addr
+turned_under c (wakes.Empties s) = nowhere
 turned_under c wakes.Frees = nowhere
 
 -- which places may stop being full
@@ -38,6 +43,7 @@ freed_under (wakes.Turns p) = nowhere
 freed_under (wakes.Leaves p) = same_place p
 freed_under (wakes.TurnsWrites driver addr) = nowhere
 freed_under (wakes.TurnsReads driver addr) = nowhere
+freed_under (wakes.Empties s) = is_either_side s
 freed_under wakes.Frees = everywhere
 
 -- by the stream that is named, or nothing where none is
@@ -73,7 +79,7 @@ wakes_of drivers c process (command.Unroute fd addr) = wakes.Nothing
 wakes_of drivers c process (command.Write fd addr bytes) =
     on_stream (live_stream c process fd) (λ s. arrives c (write_side s))
 wakes_of drivers c process (command.Read fd) = on_stream (free_stream c process fd) (λ s. wakes.Leaves (read_side s))
-wakes_of drivers c process (command.Flush fd w) = wakes.Frees
+wakes_of drivers c process (command.Flush fd w) = on_stream (live_stream c process fd) wakes.Empties
 wakes_of drivers c process (command.Inject name minor addr bytes) =
     on_stream (live_leaf drivers c name minor) (λ s. arrives c (read_side s))
 wakes_of drivers c process (command.Transmit name minor) =

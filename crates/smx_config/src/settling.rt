@@ -25,7 +25,7 @@ use smx_model::laws_of_run_marks::{
     movable_places_are_marked, places_are_known, the_least_marked_is_the_least,
     without_marks_it_is_settled,
 };
-use smx_model::laws_of_settling_by_marks::clearing_keeps_marks;
+use smx_model::laws_of_settling_by_marks::{clearing_keeps_marks, settling_goes_on};
 use smx_model::laws_of_steps::settling_suffices;
 use smx_queues::{PlaceMarks, Waiters};
 use smx_types::Place;
@@ -94,7 +94,7 @@ fn clear_mark(tables: &Tables, marks: &mut Marks, from: Place, next: Option<Plac
 }
 
 // The least movable place, with where its first message goes. Only places with a run mark are looked at, and the
-// marks of those that come before it are cleared. Apart, so that the test before it is inlined.
+// marks of those that come before it are cleared. Apart, so that the look before it is inlined.
 #[inline(never)]
 fn marked_move(tables: &Tables, marks: &mut Marks, ways: &mut Ways) -> Option<Move>
     requires sound { IsSound tables.now.drivers tables.now.configuration }
@@ -117,7 +117,7 @@ fn marked_move(tables: &Tables, marks: &mut Marks, ways: &mut Ways) -> Option<Mo
     None
 }
 
-// The same, for where mostly no place has a run mark.
+// The same, for where often no place has a run mark any more.
 fn next_move(tables: &Tables, marks: &mut Marks, ways: &mut Ways) -> Option<Move>
     requires sound { IsSound tables.now.drivers tables.now.configuration }
     requires marks { AreMarks tables.now.drivers tables.now.configuration marks.old }
@@ -134,8 +134,9 @@ fn next_move(tables: &Tables, marks: &mut Marks, ways: &mut Ways) -> Option<Move
     }
 }
 
-// Moves messages on until none can, and no run mark is left. A message that moves alone is moved once.
-pub fn settle(tables: &mut Tables, marks: &mut Marks, ways: &mut Ways)
+// Moves messages on until none can, where some place may have a run mark. A message that moves alone is moved once.
+#[inline(never)]
+fn settle_marked(tables: &mut Tables, marks: &mut Marks, ways: &mut Ways)
     requires sound { IsSound tables.old.drivers tables.old.configuration }
     requires marks { AreMarks tables.old.drivers tables.old.configuration marks.old }
     requires ways { AreWays tables.old.drivers tables.old.configuration ways.old }
@@ -161,4 +162,22 @@ pub fn settle(tables: &mut Tables, marks: &mut Marks, ways: &mut Ways)
         left = move_row(tables, marks, next, left);
     }
     let _none = next_move(tables, marks, ways);
+}
+
+// Moves messages on until none can, and no run mark is left. Where there was none, nothing moves.
+pub fn settle(tables: &mut Tables, marks: &mut Marks, ways: &mut Ways)
+    requires sound { IsSound tables.old.drivers tables.old.configuration }
+    requires marks { AreMarks tables.old.drivers tables.old.configuration marks.old }
+    requires ways { AreWays tables.old.drivers tables.old.configuration ways.old }
+    ensures value { tables.new
+        ≡ record tables.old { configuration = after_settling tables.old.drivers tables.old.configuration } }
+    ensures marks { AreMarks tables.new.drivers tables.new.configuration marks.new }
+    ensures ways { AreWays tables.new.drivers tables.new.configuration ways.new }
+    ensures none { HasNoRunMark (has_mark marks.new.run) }
+{
+    settling_goes_on();
+    without_marks_it_is_settled();
+    if !marks.run.has_none() {
+        settle_marked(tables, marks, ways);
+    }
 }

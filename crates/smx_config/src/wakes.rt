@@ -21,6 +21,8 @@ pub enum Wakes {
     TurnsWrites { driver: u8, addr: u32 },
     // and so from the read sides of the streams below one.
     TurnsReads { driver: u8, addr: u32 },
+    // Messages may be dropped on either side of a stream.
+    Empties(StreamId),
     // Any full place may be emptied.
     Frees,
 }
@@ -39,6 +41,15 @@ fn leaves(stream: Result<StreamId, Fault>, side: Side) -> Wakes
 {
     match stream {
         Ok(stream) => Wakes::Leaves(Place { stream, side }),
+        Err(_) => Wakes::Nothing,
+    }
+}
+
+fn empties(stream: Result<StreamId, Fault>) -> Wakes
+    ensures { result ≡ on_stream stream wakes.Empties }
+{
+    match stream {
+        Ok(stream) => Wakes::Empties(stream),
         Err(_) => Wakes::Nothing,
     }
 }
@@ -103,8 +114,7 @@ pub fn wakes_of(
         Command::Close { .. }
         | Command::CloseAll
         | Command::Unlink { .. }
-        | Command::Punlink { .. }
-        | Command::Flush { .. } => Wakes::Frees,
+        | Command::Punlink { .. } => Wakes::Frees,
         Command::Link { arg, .. } | Command::Plink { arg, .. } => {
             turns(tables.stream_of(process, *arg), Side::Read)
         }
@@ -112,6 +122,7 @@ pub fn wakes_of(
         Command::Route { fd, addr, .. } => turns_writes(tables.mux_stream(process, *fd), *addr),
         Command::Write { .. } => arrives(tables, named, Side::Write),
         Command::Read { .. } => leaves(named, Side::Read),
+        Command::Flush { fd, .. } => empties(tables.live_stream(process, *fd)),
         Command::Inject { .. } => arrives(tables, named, Side::Read),
         Command::Transmit { .. } => leaves(named, Side::Write),
     }

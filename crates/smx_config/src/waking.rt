@@ -6,7 +6,7 @@ ghost use Rattle.smx_model.specs.Configuration.{Configuration, same_place};
 ghost use Rattle.smx_model.specs.Queues.{is_full};
 ghost use Rattle.smx_queues.specs.PlaceMarks.{has_mark, MarkList};
 ghost use Rattle.smx_config.specs.Marking.{AreWaitersMarked, HasNeeded, IsMarkedWhere, IsReleased, IsWoken};
-ghost use Rattle.smx_config.specs.Wakes.{everywhere, freed_under, turned_under};
+ghost use Rattle.smx_config.specs.Wakes.{everywhere, freed_under, is_either_side, turned_under};
 
 use crate::marks::Marks;
 use crate::run_marks::{mark_reads, mark_waiting, mark_writes};
@@ -14,7 +14,7 @@ use crate::wakes::Wakes;
 use smx_commands::Tables;
 use smx_queues::{PlaceMarks, Waiters};
 use smx_tables::comparisons::same_place;
-use smx_types::Place;
+use smx_types::{Place, Side, StreamId};
 
 // Marks those of the waiting places that wait for this one.
 fn mark_waiters(waits: &Waiters, run: &mut PlaceMarks, place: Place)
@@ -48,6 +48,16 @@ pub fn release_if_open(tables: &Tables, marks: &mut Marks, place: Place)
     }
 }
 
+// So it is with either side of the stream.
+fn release_sides(tables: &Tables, marks: &mut Marks, stream: StreamId)
+    ensures { IsReleased tables.now.configuration (is_either_side stream) marks.old marks.new }
+{
+    let side = Side::Write;
+    release_if_open(tables, marks, Place { stream, side });
+    let side = Side::Read;
+    release_if_open(tables, marks, Place { stream, side });
+}
+
 // A wanted place that is not full, if there is one.
 fn first_open(tables: &Tables, wanted: &PlaceMarks) -> Option<Place>
     ensures some { IfSome result (λ p.
@@ -78,6 +88,7 @@ fn release_freed(tables: &Tables, marks: &mut Marks, wakes: Wakes)
 {
     match wakes {
         Wakes::Leaves(place) => release_if_open(tables, marks, place),
+        Wakes::Empties(stream) => release_sides(tables, marks, stream),
         Wakes::Frees => release_all(tables, marks),
         Wakes::Nothing | Wakes::Turns(_) | Wakes::TurnsWrites { .. } | Wakes::TurnsReads { .. } =>
             {}
@@ -93,7 +104,7 @@ fn mark_turned(tables: &Tables, run: &mut PlaceMarks, wakes: Wakes)
         Wakes::Turns(place) => mark_waiting(tables, run, place),
         Wakes::TurnsWrites { driver, addr } => mark_writes(tables, run, driver, addr),
         Wakes::TurnsReads { driver, addr } => mark_reads(tables, run, driver, addr),
-        Wakes::Nothing | Wakes::Leaves(_) | Wakes::Frees => {}
+        Wakes::Nothing | Wakes::Leaves(_) | Wakes::Empties(_) | Wakes::Frees => {}
     }
 }
 

@@ -208,6 +208,18 @@ marks_end places bytes n now many seen none =
     sym seen ∙ (marked_left places bytes n ∙ fulls_end places (map slot bytes) n (length-map bytes slot ∙ many)
     (least_slot bytes n None none))
 
+-- where the marks end before they begin, no place is marked
+pub unmarked : (places : List Place) (bytes : List ℕ) (first end : ℕ) (t : MarkList) (p : Place)
+    → length bytes ≡ length places → AreWithin first end bytes → end ≤ first → marked_of places bytes ≡ t.marked
+    → has_mark t p ≡ false
+unmarked places bytes first end t p many w less seen =
+    ap (list_any (same_place p)) (marks_end places bytes 0 t.marked many seen none) where
+      none : (k : ℕ) → 0 ≤ k → eqb (get_or bytes k 0) 1 ≡ false
+      none k le = elim (cases_lt k first) [
+        | inl lt ↦ w.none_before k lt
+        | inr past ↦ w.none_behind k (omega (arith, less, past))
+      ]
+
 -- from a number on, the marked places begin with that of the first byte there that is 1
 pub marks_step : (places : List Place) (bytes : List ℕ) (n i : ℕ) (p : Place) (now : List Place)
     → length bytes ≡ length places → marked_of (drop n places) (drop n bytes) ≡ now → IsFirstOne bytes n (Some i)

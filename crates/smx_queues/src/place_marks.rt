@@ -125,6 +125,14 @@ impl PlaceMarks {
         MarkedPlaces::new(&self.places, &self.bytes, self.span)
     }
 
+    /// Whether it is certain that no place is marked. Takes no memory.
+    #[inline(always)]
+    pub fn has_none(&self) -> bool
+        ensures { IsTrue result → (p : Place) → has_mark self.now p ≡ false }
+    {
+        self.span.end <= self.span.first
+    }
+
     /// Whether it is certain that no two places are marked. One that was marked may still count. Takes no memory.
     pub fn has_at_most_one(&self) -> bool
         ensures { IsTrue result → (p q : Place) → has_mark self.now p ≡ true → has_mark self.now q ≡ true

@@ -15,7 +15,10 @@ returns-in-Nothing c = (
     | inl nothing ↦ subst turned (sym nothing) none
     | inr other ↦ elim other [
       | inl leaves ↦ subst turned (sym leaves.1) none
-      | inr frees ↦ subst turned (sym frees) none
+      | inr others ↦ elim others [
+        | inl empties ↦ subst turned (sym empties.1) none
+        | inr frees ↦ subst turned (sym frees) none
+      ]
     ]
   ],
   needed_all c.args.tables.now.drivers c.args.tables.now.configuration c.args.run.now,

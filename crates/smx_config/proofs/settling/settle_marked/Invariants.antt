@@ -3,7 +3,7 @@ use Rattle.smx_model.specs.KeptConfigurations.{IsSound}
 use Rattle.smx_model.specs.Settling.{after_settling, after_settling_within}
 use Rattle.smx_config.specs.Marking.{AreMarks}
 use Rattle.smx_config.specs.Ways.{AreWays}
-use Rattle.smx_config.proofs.settling.settle.Given as goal
+use Rattle.smx_config.proofs.settling.settle_marked.Given as goal
 
 abbrev pub decreases-loop-left : goal.decreases-loop-left
 decreases-loop-left l = l.left
