@@ -22,12 +22,12 @@ pub trait CommandSource: Drop {
     // The bytes are a line of this command, in the form of its lines.
     ghost spells: { List ℕ → AnyCommand → Type 0 };
 
-    // This command was read from the line that it has.
+    // This command was read from the line that the source has, if it has one.
     ghost has_read: { Self → AnyCommand → Type 0 };
 
-    /// The next command, or nothing behind the last one, comes into this place. What was there before is given up; its
-    /// message may leave its bytes' room for a later one, which may take it from there. Where it can't tell, it is of
-    /// no more use; that counts as want of memory.
+    /// The next command, or nothing behind the last one, comes into this place. What was there before is given up: the
+    /// vector of its bytes may be left in `room`, where the bytes of a later one are read into it. Where it can't tell,
+    /// it is of no more use; that counts as want of memory.
     fn next_command(
         &mut self,
         alloc: Global,
@@ -37,7 +37,8 @@ pub trait CommandSource: Drop {
         ensures next { OnOk result (IsNextOf left size self.old place.new self.new) }
         ensures line { OnOk result (IfSome place.new (has_read self.new)) };
 
-    /// The line that the command which came last was read from, if it was read from one. Takes no memory.
+    /// The line from which the command was read that came last; none where it was read from none, or its line isn't
+    /// kept. Takes no memory.
     fn line(&self) -> Option<&[u8]>
         ensures { (command : AnyCommand) → has_read self.now command → IfSome result (λ l. spells l.now command) };
 }

@@ -97,13 +97,16 @@ pub fn what_comes_next_of_an_example()
 {}
 
 /// Who counts any line as a command's counts empty ones as well, and not the other way round; nor does who counts the
-/// lines of one command count those of another.
+/// lines of one command count those of another, nor who counts one line another one.
 pub fn whose_lines_they_are()
     ensures any { AreLinesFor (λ line _. line ≡ []) (λ _ _. Unit {0}) }
     ensures same { AreLinesFor (λ _ command. command ≡ Dup 0) (λ _ command. command ≡ Dup 0) }
+    ensures same_line { AreLinesFor (λ line _. line ≡ 1 ∷ []) (λ line _. line ≡ 1 ∷ []) }
     ensures not_any { AreLinesFor (λ _ _. Unit {0}) (λ line _. line ≡ []) → ⊥ }
     ensures not_anothers { AreLinesFor (λ _ command. command ≡ Dup 0) (λ _ command. command ≡ CloseAll) → ⊥ }
     ensures not_the_first_ones { AreLinesFor (λ _ command. command ≡ CloseAll) (λ _ command. command ≡ Dup 0) → ⊥ }
+    ensures not_another_line { AreLinesFor (λ line _. line ≡ 1 ∷ []) (λ line _. line ≡ []) → ⊥ }
+    ensures not_the_empty_line { AreLinesFor (λ line _. line ≡ []) (λ line _. line ≡ 1 ∷ []) → ⊥ }
 {}
 
 /// Who performs such a program has stopped behind some of its commands, the first ones, and not behind another.

@@ -28,8 +28,8 @@ pub trait Keeper: Drop {
         ensures same { told self.new ≡ told self.old }
         ensures room { OnOk result (has_room self.new) };
 
-    /// Tells it of the next entry, for which there is room, and of the line that its command was read from, if it was
-    /// read from one. Command and reply are given up: any may be in their places afterwards. It can't fail.
+    /// Tells it of the next entry, for which there is room, and of the line that its command was read from, if its
+    /// caller has that. Command and reply are given up: any may be in their places afterwards. It can't fail.
     fn add(
         &mut self,
         process: Process,

@@ -10,3 +10,9 @@ returns-clause-not_anothers c are = let other = are [] (Dup 0) refl in absurd cc
 
 pub returns-clause-not_the_first_ones : goal.returns-clause-not_the_first_ones
 returns-clause-not_the_first_ones c are = let other = are [] CloseAll refl in absurd cc
+
+pub returns-clause-not_another_line : goal.returns-clause-not_another_line
+returns-clause-not_another_line c are = let other = are (1 ∷ []) (Dup 0) refl in absurd cc
+
+pub returns-clause-not_the_empty_line : goal.returns-clause-not_the_empty_line
+returns-clause-not_the_empty_line c are = let other = are [] (Dup 0) refl in absurd cc
