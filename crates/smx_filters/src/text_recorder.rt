@@ -11,15 +11,12 @@ pub struct TextRecorder {
 }
 
 impl Recorder for TextRecorder {
-    ghost use Rattle.std.specs.Prelude.{◌≡◌};
     ghost use Rattle.smx_text.specs.GrowingTranscripts.{BeginsTranscript};
-    ghost use Rattle.smx_words.specs.Spellable.{FitsCommand};
-    ghost use Rattle.smx_words.specs.Spelling.{command_words};
-    ghost use Rattle.smx_words.specs.Words.{line_of};
+    ghost use Rattle.smx_filters.specs.CommandLines.{IsLineOf};
 
     ghost told = { λ version drivers entries recorder. BeginsTranscript version drivers entries recorder.writer };
 
-    ghost spells = { λ line command. (line ≡ line_of (command_words command)) × FitsCommand command };
+    ghost spells = { IsLineOf };
 
     fn add(&mut self, process: Process, command: &Command, reply: &Reply) -> Result<(), NoMemory> {
         self.writer.add_entry(process, command, reply)

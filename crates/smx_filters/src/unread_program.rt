@@ -30,20 +30,17 @@ pub struct UnreadProgram<'a> {
 }
 
 impl<'a> CommandSource for UnreadProgram<'a> {
-    ghost use Rattle.std.specs.Prelude.{◌≡◌, length};
-    ghost use Rattle.smx_words.specs.Spellable.{FitsCommand};
-    ghost use Rattle.smx_words.specs.Spelling.{command_words};
-    ghost use Rattle.smx_words.specs.Words.{line_of};
+    ghost use Rattle.std.specs.Prelude.{length};
     ghost use Rattle.smx_text.specs.SplitPrograms.{IsProgramText};
+    ghost use Rattle.smx_filters.specs.CommandLines.{IsLineOf};
 
     ghost left = { λ program commands. IsProgramText program.version program.text.now commands };
 
     ghost size = { λ program. length program.text.now };
 
-    ghost spells = { λ line command. (line ≡ line_of (command_words command)) × FitsCommand command };
+    ghost spells = { IsLineOf };
 
-    ghost has_read = { λ program command.
-        (program.line.now ≡ line_of (command_words command)) × FitsCommand command };
+    ghost has_read = { λ program command. IsLineOf program.line.now command };
 
     fn next_command(
         &mut self,
