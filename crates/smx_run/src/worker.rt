@@ -30,8 +30,8 @@ pub struct EndedProgram<S: Drop, P: Drop> {
     pub program: Past<P>,
 }
 
-/// Runs each process to its end, in turn, or to the first fault. A full history is answered only where one of its seats
-/// has seen it full. The door is any that keeps its promises, as a `Shared` system does.
+/// Runs each process to its end, in turn, or to the first fault. A full history is answered only where some seat of the
+/// door has seen it full. The door is any that keeps its promises, as a `Shared` system does.
 pub fn work<D: Door, P: CommandSource, G: Gate, R: Wait>(
     rt: &R,
     alloc: Global,
