@@ -10,8 +10,8 @@ use std::alloc::{AllocError, Global};
 /// The most bytes that an input may have.
 pub const MAX_INPUT: usize = 16_777_216;
 
-// Room grows by as much as was read, but by no less and no more than this. Of it a part that is as much as a sixteenth of
-// what was read, with the same bounds, is filled for the next read: a page of room that nobody fills costs nothing.
+// Room grows by as much as was read, but by no less and no more than this. For the next read a sixteenth of what was
+// read, with the same bounds, is filled of it: a page of room that nobody fills costs nothing.
 const LEAST_PIECE: usize = 65_536;
 
 const MOST_PIECE: usize = 1_048_576;
