@@ -974,7 +974,7 @@ the first line has to be 'programs 1' or 'programs 2'
      "form",
      """\
 line 2: 0123456789012345678901234567890123456789012345678901234567890123456789012345678..
-column 1: 'driver', 'process', 'end' or a command is wanted
+column 1: 'driver', 'process', 'end', a command, or in version 2 'hangup' is wanted
 """),
     ("check",
      """\
@@ -989,6 +989,48 @@ end
      """\
 line 3: 0 exit = done
 a line of this form may not stand there
+"""),
+    ("run",
+     """\
+programs 1
+process 0
+process 2
+end
+""",
+     3,
+     "form",
+     """\
+line 3: process 2
+the processes are numbered 0, 1, 2 and so on
+"""),
+    ("run",
+     """\
+programs 2
+exit
+process 0
+end
+""",
+     2,
+     "form",
+     """\
+line 2: exit
+a command stands below the line of its process
+"""),
+    ("run",
+     "programs 1\n" + "".join(f"driver d{number} leaf 1 8 3 16\n" for number in range(65)) + "end\n",
+     66,
+     "many",
+     """\
+line 66: driver d64 leaf 1 8 3 16
+there may be 64 drivers, or in version 2 128, 64 processes and 100,000 commands
+"""),
+    ("check",
+     "transcript 1\n" + "".join(f"driver d{number} leaf 1 8 3 16\n" for number in range(65)) + "config\nnext 1 1\nend\n",
+     66,
+     "many",
+     """\
+line 66: driver d64 leaf 1 8 3 16
+there may be 64 drivers, or in version 2 128, and 100,000 entries
 """),
     ("run",
      """\
@@ -1039,14 +1081,14 @@ these are programs, for 'muxsim run'
 
 # A job, a header and a line behind it that stops being one, and what may stand there.
 WANTED = [
-    ("run", "programs 1", "clone 9a", "column 7: a name is wanted"),
+    ("run", "programs 1", "clone 9a", "column 7: a name of 1 to 8 small letters and digits, a letter first, is wanted"),
     ("run", "programs 1", "driver ip tree 4 8 3 16", "column 11: 'leaf' or 'mux' is wanted"),
     ("run", "programs 1", "close 4294967296", "column 7: a number from 0 to 4294967295 is wanted"),
     ("run", "programs 1", "unlink 0 ALL", "column 10: an id or 'all' is wanted"),
     ("run", "programs 1", "flush 0 wr", "column 9: 'r', 'w' or 'rw' is wanted"),
     ("run", "programs 1", "write 0 5 AA", "column 11: hex digits in pairs, or '-', is wanted"),
-    ("run", "programs 1", "", "column 1: 'driver', 'process', 'end' or a command is wanted"),
-    ("run", "programs 1", "0 exit = done", "column 1: 'driver', 'process', 'end' or a command is wanted"),
+    ("run", "programs 1", "", "column 1: 'driver', 'process', 'end', a command, or in version 2 'hangup' is wanted"),
+    ("run", "programs 1", "0 exit = done", "column 1: 'driver', 'process', 'end', a command, or in version 2 'hangup' is wanted"),
     ("run", "programs 1", "exit = done", "column 6: the end of the line is wanted"),
     ("run", "programs 1", "exit ", "column 6: the end of the line is wanted"),
     ("run", "programs 2", "hangup eth", "column 12: a number from 0 to 4294967295 is wanted"),
@@ -1062,7 +1104,7 @@ WANTED = [
     ("check", "transcript 1", "fd 64 0 ip 0", "column 4: a process from 0 to 63 is wanted"),
     ("check", "transcript 1", "full ip 0 rw", "column 11: 'w' or 'r' is wanted"),
     ("check", "transcript 1", "link 1 ip 0 eth 0 both", "column 19: 'link' or 'plink' is wanted"),
-    ("check", "transcript 1", "0 dance = done", "column 3: a command is wanted"),
+    ("check", "transcript 1", "0 dance = done", "column 3: a command, or in version 2 'hangup' is wanted"),
     ("check", "transcript 1", "63 exit", "column 9: '=' is wanted"),
     ("check",
      "transcript 1",

@@ -1,6 +1,7 @@
 //! What the command line asks for.
 
 ghost use Rattle.std.specs.Prelude.{◌≤◌, IfOk};
+ghost use Rattle.smx_run.specs.declared.run.TheConstants.{MAX_WORKERS};
 ghost use Rattle.muxsim.specs.Jobs.{CanRun};
 
 use crate::jobs::Job;
@@ -8,12 +9,10 @@ use crate::subcommands::{self, SEE};
 use clap::error::ErrorKind;
 use clap::{ArgMatches, Command, Error};
 use smx_draw::Form;
+use smx_run::MAX_WORKERS;
 use std::alloc::{AllocError, Global};
 use std::convert::AsStr;
 use std::mem::forget;
-
-// How many threads may run the programs.
-const MOST_WORKERS: usize = 64;
 
 // What `--version` shows behind the program's name.
 const VERSION: &str = "0.1.0";
@@ -36,9 +35,6 @@ pub fn job<'a, S: AsStr>(alloc: Global, words: &'a [S]) -> Result<Job, Error>
 fn job_of(alloc: Global, matches: &ArgMatches) -> Result<Job, Error>
     ensures { IfOk result CanRun }
 {
-    if matches.subcommand_matches("commands").is_some() {
-        return Err(no_job_of_its_own(alloc)?);
-    }
     match matches.subcommand() {
         Some(("run", run)) => Ok(Job::Run {
             workers: workers_of(run),
@@ -50,20 +46,21 @@ fn job_of(alloc: Global, matches: &ArgMatches) -> Result<Job, Error>
             form: form_of(draw),
         }),
         Some(("live", _)) => Ok(Job::Live),
-        Some((_, check)) => Ok(Job::Check {
+        Some(("check", check)) => Ok(Job::Check {
             explain: check.get_flag("explain"),
         }),
-        None => Ok(Job::Check { explain: false }),
+        // `commands` is left: clap has refused all others, and words without a subcommand.
+        Some(_) | None => Err(no_job_of_its_own(alloc)?),
     }
 }
 
-// How many workers are asked for. clap has refused what is not 1 to 64 already, so what stands here for others is
-// never answered.
+// How many workers are asked for. clap has refused what is not 1 to the most already, so what stands here for others
+// is never answered.
 fn workers_of(run: &ArgMatches) -> usize
-    ensures { (1 ≤ result) × (result ≤ 64) }
+    ensures { (1 ≤ result) × (result ≤ MAX_WORKERS) }
 {
     match run.get_one::<usize>("workers") {
-        Some(workers) if 1 <= workers && workers <= MOST_WORKERS => workers,
+        Some(workers) if 1 <= workers && workers <= MAX_WORKERS => workers,
         Some(_) | None => 1,
     }
 }

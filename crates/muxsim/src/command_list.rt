@@ -26,5 +26,5 @@ pub const COMMANDS: &str = "The commands of a program, and what each asks for:
 A NAME is that of a driver. FD, ARG, MINOR, ADDR and ID are decimal numbers: a descriptor and a second
 one, a minor, an address, the id of a link. WHICH is an ID or 'all', SIDES is 'r', 'w' or 'rw', and HEX
 is the bytes of a message in hex, '-' for none.
-Refusals and replies are in docs/COMMANDS.md, the texts in docs/FORMATS.md.
+Beside the sources, docs/COMMANDS.md has refusals and replies, and docs/FORMATS.md the texts.
 ";

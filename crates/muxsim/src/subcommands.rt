@@ -2,14 +2,15 @@
 
 use crate::command_list::COMMANDS;
 use clap::{Arg, ArgAction, Command, value_parser};
+use smx_run::MAX_WORKERS;
 use std::alloc::{AllocError, Global};
 
 /// What each help ends with.
 pub const SEE: &str =
     "Exit status: 0 done or legal, 1 refused, 2 wrong words, 3 wrong text, 4 illegal or differing,
 5 input or output failed.
-The texts, in both versions, are in docs/FORMATS.md, commands and replies in docs/COMMANDS.md,
-and more in docs/MUXSIM.md. 'muxsim help commands' lists the commands of a program.";
+More is in muxsim(1), and beside the sources in docs/: the texts in FORMATS.md, commands and replies in
+COMMANDS.md. 'muxsim help commands' lists the commands of a program.";
 
 /// The one that runs programs.
 pub fn run<'a>(alloc: Global) -> Result<Command<'a>, AllocError> {
@@ -87,7 +88,7 @@ fn workers<'a>(alloc: Global) -> Arg<'a> {
         .long("workers")
         .value_name("N")
         .help("How many threads run the programs, 1 to 64")
-        .value_parser(value_parser!(usize).range(1..=64))
+        .value_parser(value_parser!(usize).range(1..=MAX_WORKERS as i64))
         .default_value("1")
 }
 

@@ -32,11 +32,37 @@ impl FaultExplanation<'_> {
     fn reason(&self, line: &[u8]) -> &'static str {
         match self.fault.cause {
             Cause::Header => self.header_reason(line),
-            Cause::Form => "a line of this form may not stand there",
-            Cause::Many => "there are as many of its kind as may be already",
+            Cause::Form => self.form_reason(line),
+            Cause::Many => self.many_reason(),
             Cause::Cut => "the text ends before a line 'end' that is whole",
             Cause::Trailing => "nothing may stand below the line 'end'",
             Cause::NoMemory => "memory was wanting",
+        }
+    }
+
+    // A line of some form may not stand where it does.
+    fn form_reason(&self, line: &[u8]) -> &'static str {
+        match self.kind {
+            TextKind::Programs if line.starts_with(b"driver ") => {
+                "the drivers stand above the first process"
+            }
+            TextKind::Programs if line.starts_with(b"process ") => {
+                "the processes are numbered 0, 1, 2 and so on"
+            }
+            TextKind::Programs => "a command stands below the line of its process",
+            TextKind::Transcript => "a line of this form may not stand there",
+        }
+    }
+
+    // There are as many of the line's kind as may be already.
+    fn many_reason(&self) -> &'static str {
+        match self.kind {
+            TextKind::Programs => {
+                "there may be 64 drivers, or in version 2 128, 64 processes and 100,000 commands"
+            }
+            TextKind::Transcript => {
+                "there may be 64 drivers, or in version 2 128, and 100,000 entries"
+            }
         }
     }
 

@@ -1,6 +1,7 @@
 //! A check and a run from bytes to bytes, whose faults are explained.
 
 ghost use Rattle.std.specs.Prelude.{◌≡◌, ◌≤◌, ◌++◌, false, IfOk};
+ghost use Rattle.smx_run.specs.declared.run.TheConstants.{MAX_WORKERS};
 ghost use Rattle.smx_filters.specs.ExplainText.{KeepsText, explained_of, explaining};
 ghost use Rattle.smx_filters.specs.Filters.{Answers};
 ghost use Rattle.smx_filters.specs.RunText.{running};
@@ -62,7 +63,7 @@ pub fn run_explained<R: Threads + Wait + Sync, F: Feed, S: Sink, G: Gate + Sync>
     requires before_the_end { F.ended feed.old ≡ false }
     requires fed { F.failures feed.old ≡ 0 }
     requires sunk { S.failures sink.old ≡ 0 }
-    requires workers { (1 ≤ workers) × (workers ≤ 64) }
+    requires workers { (1 ≤ workers) × (workers ≤ MAX_WORKERS) }
     ensures { KeepsText (running fronts workers) (F.remaining feed.old) (F.remaining feed.new) (F.ended feed.new)
         (F.failures feed.new) (S.contents sink.old) (S.contents sink.new) (S.flushed sink.new)
         (S.failures sink.new) result }

@@ -10,6 +10,7 @@ ghost use Rattle.smx_filters.specs.RunText.{items_of, running};
 ghost use Rattle.smx_filters.specs.declared.main_fault.MainFault.TheVariants.{Refused, Text};
 ghost use Rattle.smx_run.specs.declared.run_fault.RunFault.{RunFault as AnyFault};
 ghost use Rattle.smx_run.specs.RunFaults.{RefusesRun};
+ghost use Rattle.smx_run.specs.declared.run.TheConstants.{MAX_WORKERS};
 
 use crate::device::{Feed, Sink};
 use crate::fronts_text::fronts_text;
@@ -48,7 +49,7 @@ pub fn run_text<R: Threads + Wait + Sync, F: Feed, S: Sink, G: Gate + Sync>(
     requires before_the_end { F.ended feed.old ≡ false }
     requires fed { F.failures feed.old ≡ 0 }
     requires sunk { S.failures sink.old ≡ 0 }
-    requires workers { (1 ≤ workers) × (workers ≤ 64) }
+    requires workers { (1 ≤ workers) × (workers ≤ MAX_WORKERS) }
     ensures { RunsText fronts workers (F.remaining feed.old) (F.remaining feed.new) (F.ended feed.new)
         (F.failures feed.new) (S.contents sink.old) (S.contents sink.new) (S.flushed sink.new)
         (S.failures sink.new) result }
@@ -69,7 +70,7 @@ pub(crate) fn text_for<R: Threads + Wait + Sync, G: Gate + Sync>(
     fronts: bool,
     gate: &G,
 ) -> Result<Vec<u8>, Refusal>
-    requires { (1 ≤ workers) × (workers ≤ 64) }
+    requires { (1 ≤ workers) × (workers ≤ MAX_WORKERS) }
     ensures answers { Answers (running fronts workers) input.items (items_of (answer_of result)) }
     ensures kept { IfErr result (λ r. (fault : TextFault) → r.fault ≡ Text fault → IsKept r.text input.items) }
     ensures given_up { IfErr result (λ r. (f : AnyFault) → r.fault ≡ Refused f → r.text ≡ None) }
@@ -90,7 +91,7 @@ fn transcript_for<R: Threads + Wait + Sync, G: Gate + Sync>(
     workers: usize,
     gate: &G,
 ) -> Result<Vec<u8>, Refusal>
-    requires { (1 ≤ workers) × (workers ≤ 64) }
+    requires { (1 ≤ workers) × (workers ≤ MAX_WORKERS) }
     ensures answers { Answers (running false workers) input.items (items_of (answer_of result)) }
     ensures kept { IfErr result (λ r. (fault : TextFault) → r.fault ≡ Text fault → IsKept r.text input.items) }
     ensures given_up { IfErr result (λ r. (f : AnyFault) → r.fault ≡ Refused f → r.text ≡ None) }
@@ -122,7 +123,7 @@ fn text_of_read<R: Threads + Wait + Sync, G: Gate + Sync>(
     fronts: bool,
     gate: &G,
 ) -> Result<Vec<u8>, Refusal>
-    requires { (1 ≤ workers) × (workers ≤ 64) }
+    requires { (1 ≤ workers) × (workers ≤ MAX_WORKERS) }
     ensures answers { Answers (running fronts workers) input.items (items_of (answer_of result)) }
     ensures kept { IfErr result (λ r. (fault : TextFault) → r.fault ≡ Text fault → IsKept r.text input.items) }
     ensures given_up { IfErr result (λ r. (f : AnyFault) → r.fault ≡ Refused f → r.text ≡ None) }
@@ -200,7 +201,7 @@ fn fronts_of_run<R: Threads + Wait + Sync, G: Gate + Sync>(
     workers: usize,
     gate: &G,
 ) -> Result<Vec<u8>, RunFault>
-    requires { (1 ≤ workers) × (workers ≤ 64) }
+    requires { (1 ≤ workers) × (workers ≤ MAX_WORKERS) }
     ensures written { IfOk result (λ text. IsFrontsTextFor workers programs text.items) }
     ensures refused { IfErr result (IsRefusedFor workers programs) }
 {

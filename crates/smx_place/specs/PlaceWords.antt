@@ -11,7 +11,7 @@ use Rattle.smx_place.specs.declared.kinds.Wanted.TheVariants as wanted
 
 -- those of a value
 abbrev pub value_words : Value → List ℕ
-value_words Name = codes "a name"
+value_words Name = codes "a name of 1 to 8 small letters and digits, a letter first,"
 value_words DriverKind = codes "'leaf' or 'mux'"
 value_words Number = codes "a number from 0 to 4294967295"
 value_words Process = codes "a process from 0 to 63"
@@ -23,11 +23,11 @@ value_words Bytes = codes "hex digits in pairs, or '-',"
 
 -- those of what is chosen
 abbrev pub choice_words : Choice → List ℕ
-choice_words ProgramsLine = codes "'driver', 'process', 'end' or a command"
+choice_words ProgramsLine = codes "'driver', 'process', 'end', a command, or in version 2 'hangup'"
 choice_words TranscriptLine =
     codes "'driver', a process from 0 to 63, 'config', 'next', 'fd', 'link', 'bind', 'route', 'msg', 'full', 'end', "
     ++ codes "or in version 2 'hung'"
-choice_words Command = codes "a command"
+choice_words Command = codes "a command, or in version 2 'hangup'"
 choice_words Equals = codes "'='"
 choice_words Reply = codes "'fd', 'id', 'took', 'got', 'done', an error, or in version 2 'eof'"
 choice_words BadDescriptor = codes "'fd'"

@@ -67,7 +67,7 @@ impl Value {
         ensures { result.now ≡ value_words self }
     {
         match self {
-            Value::Name => "a name",
+            Value::Name => "a name of 1 to 8 small letters and digits, a letter first,",
             Value::DriverKind => "'leaf' or 'mux'",
             Value::Number => "a number from 0 to 4294967295",
             Value::Process => "a process from 0 to 63",
@@ -86,11 +86,12 @@ impl Choice {
         ensures { result.now ≡ choice_words self }
     {
         match self {
-            Choice::ProgramsLine => "'driver', 'process', 'end' or a command",
+            Choice::ProgramsLine =>
+                "'driver', 'process', 'end', a command, or in version 2 'hangup'",
             Choice::TranscriptLine => {
                 "'driver', a process from 0 to 63, 'config', 'next', 'fd', 'link', 'bind', 'route', 'msg', 'full', 'end', or in version 2 'hung'"
             }
-            Choice::Command => "a command",
+            Choice::Command => "a command, or in version 2 'hangup'",
             Choice::Equals => "'='",
             Choice::Reply => "'fd', 'id', 'took', 'got', 'done', an error, or in version 2 'eof'",
             Choice::BadDescriptor => "'fd'",
