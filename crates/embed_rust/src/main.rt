@@ -3,11 +3,11 @@
 
 ghost use Rattle.std.specs.Prelude.{◌≡◌, All, IfSome};
 
-use smx_config::{Verdict, check_history};
-use smx_shared::{Door, Seat, Shared, System};
-use smx_types::{Command, DriverKind, DriverSpec, Name};
+use smx_config::{ConfigFault, Verdict, check_history};
+use smx_shared::{CloseFault, Door, Seat, Shared, System};
+use smx_types::{Command, DriverKind, DriverSpec, Name, NoMemory, Reply};
 use std::alloc::Global;
-use std::io;
+use std::process::ExitCode;
 use std::sync::Wait;
 use std::thread::{Threads, map_vec};
 
@@ -20,6 +20,50 @@ fn driver(name: Name, kind: DriverKind) -> DriverSpec {
         high: 8,
         low: 3,
         max: 16,
+    }
+}
+
+// Why it came to nothing.
+#[derive(Clone, Copy, Debug)]
+enum Failure {
+    Memory,
+    Drivers(ConfigFault),
+    Close(CloseFault),
+    Output,
+}
+
+impl From<NoMemory> for Failure {
+    fn from(_error: NoMemory) -> Failure {
+        Failure::Memory
+    }
+}
+
+impl From<ConfigFault> for Failure {
+    fn from(error: ConfigFault) -> Failure {
+        Failure::Drivers(error)
+    }
+}
+
+impl From<CloseFault> for Failure {
+    fn from(error: CloseFault) -> Failure {
+        Failure::Close(error)
+    }
+}
+
+// What the process of a seat is answered, if the command gets an entry. A command that is refused gets one too.
+fn answer<R: Wait>(
+    rt: &R,
+    shared: &Shared,
+    seat: &mut Seat,
+    alloc: Global,
+    command: &Command,
+) -> Option<Reply>
+    requires { seat.old.shared ≡ shared.now.name }
+    ensures { seat.new.shared ≡ shared.now.name }
+{
+    match shared.call(rt, alloc, seat, command) {
+        Ok(entry) => Some(entry.reply),
+        Err(_) => None,
     }
 }
 
@@ -38,14 +82,17 @@ fn links_for_good<R: Wait>(
         Command::OpenClone { driver: ip },
         Command::OpenClone { driver: eth },
     );
-    shared.call(rt, alloc, &mut seat, &open_ip).is_ok()
-        && shared.call(rt, alloc, &mut seat, &open_eth).is_ok()
-        && shared
-            .call(rt, alloc, &mut seat, &Command::Plink { fd: 0, arg: 1 })
-            .is_ok()
-        && shared
-            .call(rt, alloc, &mut seat, &Command::CloseAll)
-            .is_ok()
+    let link = Command::Plink { fd: 0, arg: 1 };
+    let (upper, lower) = (
+        answer(rt, shared, &mut seat, alloc, &open_ip),
+        answer(rt, shared, &mut seat, alloc, &open_eth),
+    );
+    let id = answer(rt, shared, &mut seat, alloc, &link);
+    let end = answer(rt, shared, &mut seat, alloc, &Command::CloseAll);
+    matches!(upper, Some(Reply::Fd { .. }))
+        && matches!(lower, Some(Reply::Fd { .. }))
+        && matches!(id, Some(Reply::Id(_)))
+        && matches!(end, Some(Reply::Done { .. }))
 }
 
 // The last seat, and those before it.
@@ -91,41 +138,41 @@ fn shared_by_three<R: Threads + Wait + Sync>(
     system: System,
     ip: Name,
     eth: Name,
-) -> Option<(bool, System)> {
-    let Ok((shared, seats)) = Shared::start(alloc, system, 4) else {
-        return None;
+) -> Result<(bool, System), Failure> {
+    let (shared, seats) = Shared::start(alloc, system, 4)?;
+    let Some((seats, last)) = last_of(&shared, seats) else {
+        return Err(Failure::Memory);
     };
-    let (seats, last) = last_of(&shared, seats)?;
     let all = all_link(rt, &shared, seats, alloc, ip, eth);
-    match shared.close(last) {
-        Ok(system) => Some((all, system)),
-        Err(_) => None,
-    }
+    Ok((all, shared.close(last)?))
 }
 
 // The verdict on the history of the system, with its own view.
-fn verdict_of(alloc: Global, drivers: &[DriverSpec], system: &System) -> Option<Verdict> {
-    let view = system.config().show().ok()?;
-    check_history(alloc, drivers, system.entries(), &view).ok()
+fn verdict_of(alloc: Global, drivers: &[DriverSpec], system: &System) -> Result<Verdict, Failure> {
+    let view = system.config().show()?;
+    Ok(check_history(alloc, drivers, system.entries(), &view)?)
 }
 
 // What three processes made of it, as one line.
-fn history_of_three<R: Threads + Wait + Sync + Print>(
-    rt: &R,
-    alloc: Global,
-) -> Option<io::Result<()>> {
-    let (ip, eth) = (Name::new("ip")?, Name::new("eth")?);
+fn tell_of_three<R: Threads + Wait + Sync + Print>(rt: &R, alloc: Global) -> Result<(), Failure> {
+    let (ip, eth) = (Name::new("ip").unwrap(), Name::new("eth").unwrap());
     let drivers = [driver(ip, DriverKind::Mux), driver(eth, DriverKind::Leaf)];
-    let system = System::new(alloc, &drivers, 100).ok()?;
+    let system = System::new(alloc, &drivers, 100)?;
     let (all, system) = shared_by_three(rt, alloc, system, ip, eth)?;
     let verdict = verdict_of(alloc, &drivers, &system)?;
     let (entries, links) = (system.entries().len(), system.config().link_count());
-    Some(println!(rt; "{all}: {entries} entries, {links} links, {verdict:?}"))
+    match println!(rt; "{all}: {entries} entries, {links} links, {verdict:?}") {
+        Ok(()) => Ok(()),
+        Err(_) => Err(Failure::Output),
+    }
 }
 
-fn main(rt: HostRuntime) -> io::Result<()> {
-    match history_of_three(&rt, rt.alloc()) {
-        Some(printed) => printed,
-        None => println!(rt; "no memory"),
+fn main(rt: HostRuntime) -> ExitCode {
+    match tell_of_three(&rt, rt.alloc()) {
+        Ok(()) => ExitCode::SUCCESS,
+        Err(failure) => {
+            let _ = eprintln!(rt; "embed_rust: {failure:?}");
+            ExitCode::FAILURE
+        }
     }
 }
