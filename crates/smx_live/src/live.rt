@@ -23,7 +23,8 @@ use std::alloc::{AllocError, Global};
 /// answered at once. What is written is the transcript of the commands that were performed, with the configuration
 /// behind `show` and an empty line, and a line beginning with `?` for each line that is refused, which changes nothing.
 /// `end` and the end of the input end the transcript. Neither device has failed before, and no read has shown the end.
-/// Faults are found in this order: reading, text, drivers, writing; want of memory comes where it is of no command.
+/// The first fault that is met is answered: of reading, also a line that is too long; of the table, as a text and then
+/// as drivers; of writing; or want of memory, where it is of no command. What was answered before is out then.
 pub fn live_text<F: Feed, S: Sink>(
     alloc: Global,
     feed: &mut F,
@@ -110,7 +111,9 @@ fn begin(alloc: Global, table: Vec<u8>) -> Result<Talk, MainFault>
         }),
         Err(Trouble::Text(fault)) => Err(MainFault::Text(fault)),
         Err(Trouble::Drivers(fault)) => Err(MainFault::Refused(RunFault::from(fault))),
-        Err(_) => Err(MainFault::Refused(RunFault::NoMemory)),
+        Err(Trouble::NoMemory | Trouble::Line | Trouble::NoEntry) => {
+            Err(MainFault::Refused(RunFault::NoMemory))
+        }
     }
 }
 

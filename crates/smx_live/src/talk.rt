@@ -80,7 +80,9 @@ impl Talk {
                 Ok(None)
             }
             Err(Trouble::Line) => Ok(Some(Wrong::NoCommand)),
-            Err(_) => Ok(Some(Wrong::NoMemory)),
+            Err(Trouble::NoMemory | Trouble::Text(_) | Trouble::Drivers(_) | Trouble::NoEntry) => {
+                Ok(Some(Wrong::NoMemory))
+            }
         }
     }
 

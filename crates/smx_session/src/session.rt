@@ -55,7 +55,8 @@ fn asked(alloc: Global, version: Version, line: &[u8]) -> Result<Entry, Trouble>
 }
 
 impl Session {
-    /// Nothing is open, over the drivers of a programs text and in its version. Its programs aren't run.
+    /// Nothing is open, over the drivers of a programs text and in its version. Its programs aren't run. Refused at the
+    /// first fault of the text, then for drivers that a configuration can't have, or for want of memory.
     pub fn new(alloc: Global, programs: &[u8]) -> Result<Session, Trouble>
         ensures { StartsAs programs.now result }
     {

@@ -20,10 +20,10 @@ pub use smx_types::{
     Binding, BindingLine, BindingLines, Bytes, Command, Commands, ConfigView, Copied, Descriptor,
     DescriptorLine, DescriptorLines, DriverKind, DriverSpec, Drivers, Entries, Entry, Fault,
     FullLine, FullLines, HungLine, HungLines, Items, Link, LinkKind, LinkLine, LinkLines,
-    MAX_COMMANDS, MAX_DESCRIPTORS, MAX_DRIVERS, MAX_HIGH, MAX_LINKS, MAX_MESSAGE, MAX_MINORS,
-    MAX_PROCESSES, Many, Message, MessageLine, MessageLines, Messages, NUMBER_END, Name, NoMemory,
-    Place, Process, ProgramList, Programs, Reply, Route, RouteLine, RouteLines, Serials, Side,
-    Sides, SpecFault, StreamId, Transcript, Version, Which,
+    MAX_COMMANDS, MAX_DESCRIPTORS, MAX_DRIVERS, MAX_DRIVERS_OF_VERSION_1, MAX_HIGH, MAX_LINKS,
+    MAX_MESSAGE, MAX_MINORS, MAX_PROCESSES, Many, Message, MessageLine, MessageLines, Messages,
+    NUMBER_END, Name, NoMemory, Place, Process, ProgramList, Programs, Reply, Route, RouteLine,
+    RouteLines, Same, Serials, Side, Sides, SpecFault, StreamId, Transcript, Version, Which,
 };
 pub use text_fault::{Cause, TextFault};
 pub use transcript::read_transcript;

@@ -26,11 +26,13 @@ pub struct DriverSpec {
     pub kind: DriverKind,
     /// How many minors it has, 1 to 64. Their numbers start from 0.
     pub minors: u32,
-    /// The high water mark of each of its queues, in bytes: above `low`, at most 4,096.
+    /// The high water mark of each of its queues, in bytes: above `low`, at most 4,096. A queue is full from an arrival
+    /// on that brings it to so many (Programmer's Guide: STREAMS, flow control).
     pub high: u32,
-    /// The low water mark of each of its queues, in bytes: below `high`.
+    /// The low water mark of each of its queues, in bytes: below `high`. A full queue is full no longer once a removal
+    /// has brought it down to so many.
     pub low: u32,
-    /// The most bytes of a message that is written or injected to it, 1 to 1,024.
+    /// The most bytes of a message that is written or injected to it, 1 to 1,024: its maximum packet size.
     pub max: u32,
 }
 

@@ -2,12 +2,12 @@
 
 use crate::stream::StreamId;
 
-/// How long a link stays.
+/// How a link was made, and so how long it stays.
 #[derive(Clone, Copy, Debug, PartialEq, Eq)]
 pub enum LinkKind {
-    /// Until it is removed, or its controlling stream is closed for the last time.
+    /// Until it is removed, or its controlling stream is closed for the last time (streamio(7), I_LINK).
     Ordinary,
-    /// Until it is removed.
+    /// Until it is removed (streamio(7), I_PLINK).
     Persistent,
 }
 

@@ -3,7 +3,7 @@
 use std::alloc::{AllocError, AllocFailed};
 use std::fmt;
 
-/// A growth was refused, and nothing has changed.
+/// A growth was refused. What then stays, the call that answers it says.
 #[derive(Clone, Copy, Debug, PartialEq, Eq)]
 pub struct NoMemory;
 

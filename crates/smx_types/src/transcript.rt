@@ -16,7 +16,9 @@ use std::alloc::Global;
 pub struct Transcript {
     pub version: Version,
     pub drivers: Drivers,
+    /// The history, in its order.
     pub entries: Entries,
+    /// The configuration behind it, as it is said to be.
     pub view: ConfigView,
 }
 

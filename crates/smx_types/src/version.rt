@@ -9,7 +9,9 @@ use crate::limits::{MAX_DRIVERS, MAX_DRIVERS_OF_VERSION_1};
 /// A version of the texts. The second one also tells of devices that hang up, and has more drivers.
 #[derive(Clone, Copy, Debug, PartialEq, Eq)]
 pub enum Version {
+    /// The first one, with 64 drivers at most.
     V1,
+    /// The second one, with 128 drivers at most.
     V2,
 }
 
