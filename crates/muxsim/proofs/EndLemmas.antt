@@ -35,7 +35,7 @@ cause_is cause.Cut = inr refl
 cause_is cause.Trailing = inr refl
 cause_is cause.NoMemory = inl refl
 
--- a verdict has 0 where it is that of a legal history, and else 4
+-- a verdict has the status 0 where it is that of a legal history, and else 4
 verdict_is : (v : Verdict) → ((v ≡ Legal) × (status_of_verdict v ≡ 0)) ⊎ ((v ≢ Legal) × (status_of_verdict v ≡ 4))
 verdict_is Legal = inl (refl, refl)
 verdict_is (Illegal entry) = inr (λ is. cc, refl)
@@ -50,7 +50,7 @@ fault_is TooLong = inl (λ is. cc, λ is. cc, inr refl)
 fault_is ReadFailed = inr (inl refl, refl)
 fault_is WriteFailed = inr (inr refl, refl)
 
--- so it is odd
+-- the status of a fault is odd
 odd : (e : MainFault) → (k : ℕ) × (status_of e ≡ k + k + 1)
 odd e = elim (fault_is e) [
   | inl (read, write, inl one) ↦ (0, one)
@@ -65,11 +65,12 @@ not_even e n k is even = let (j, other) = odd e in omega (arith, is, even, other
 -- ---- what a filter says
 
 module _ {V K T : Type 0} (f : Filter V K T) (d : Devices) where
+  -- what a filter has read and written where it answers this
   abbrev Filtered : Result T MainFault → Type 0
   Filtered answer =
       FiltersText f d.had d.left d.ended d.read_failures d.before d.after d.flushed d.write_failures answer
 
-  -- what was written for an answer
+  -- a filter that gives an answer has written what is given for it
   gave : (a : T) → Filtered (Ok a) → (input output : List ℕ) → Writes d input output
       → (d.flushed ≡ true) × GivesFor f input a output
   gave a h input output w =
@@ -85,7 +86,7 @@ module _ {V K T : Type 0} (f : Filter V K T) (d : Devices) where
   fine a h (inl read) = let told : Ok a ≡ Err ReadFailed = h.read_failed.1 read in absurd cc
   fine a h (inr write) = let told : Ok a ≡ Err WriteFailed = h.write_failed.1 write in absurd cc
 
-  -- a fault has the status 5 just where one failed
+  -- a fault has the status 5 just where a device failed
   broken : (e : MainFault) → Filtered (Err e) → (n : ℕ) → n ≡ status_of e
       → (n ≡ 5) ↔ ((d.read_failures ≡ 1) ⊎ (d.write_failures ≡ 1))
   broken e h n is = (there, back) where
@@ -103,7 +104,7 @@ module _ {V K T : Type 0} (f : Filter V K T) (d : Devices) where
     back (inr write) = let told : Err e ≡ Err WriteFailed = h.write_failed.1 write in
         let which : e ≡ WriteFailed = cc in is ∙ ap status_of which
 
-  -- with 1 or 3 nothing was written
+  -- where a fault has the status 1 or 3, nothing was written
   nothing : (e : MainFault) → Filtered (Err e) → (n : ℕ) → n ≡ status_of e → (n ≡ 1) ⊎ (n ≡ 3) → Keeps d.before d.after
   nothing e h n is low = h.unwritten (not_write low) where
     not_write : (n ≡ 1) ⊎ (n ≡ 3) → e ≢ WriteFailed
@@ -113,14 +114,14 @@ module _ {V K T : Type 0} (f : Filter V K T) (d : Devices) where
 -- ---- what was done
 
 module _ (d : Devices) (code : ExitCode) (input output : List ℕ) (w : Writes d input output) where
-  -- of a run, a replay or a drawing
+  -- a run, a replay or a drawing with the status 0 wrote what it was asked for
   done_for : {V K : Type 0} (f : Filter V K (Unit {0})) (answer : Result (Unit {0}) MainFault) → Filtered f d answer
       → exit_status code ≡ status_of_outcome (outcome_of_writing answer) → exit_status code ≡ 0
       → (d.flushed ≡ true) × GivesFor f input tt output
   done_for f (Ok done) h is zero = gave f d tt h input output w
   done_for f (Err e) h is zero = absurd (not_even e _ 0 is zero)
 
-  -- of a check
+  -- a check with the status 0 judged the transcript legal
   judged : (explain : Bool) (answer : Result Verdict MainFault) → Filtered (judging explain) d answer
       → exit_status code ≡ status_of_outcome (outcome_of_check answer) → exit_status code ≡ 0
       → (d.flushed ≡ true) × GivesFor (judging explain) input Legal output
@@ -131,6 +132,7 @@ module _ (d : Devices) (code : ExitCode) (input output : List ℕ) (w : Writes d
   ]
   judged explain (Err e) h is zero = absurd (not_even e _ 0 is zero)
 
+  -- a check with the status 4 judged the transcript otherwise than legal
   otherwise : (explain : Bool) (answer : Result Verdict MainFault) → Filtered (judging explain) d answer
       → exit_status code ≡ status_of_outcome (outcome_of_check answer) → exit_status code ≡ 4
       → (d.flushed ≡ true) × (v : Verdict) × (v ≢ Legal) × GivesFor (judging explain) input v output
@@ -169,19 +171,19 @@ pub run_done : (fronts : Bool) (workers : ℕ) (d : Devices) (code : ExitCode) (
 run_done fronts workers d code input output h w =
     done_for d code input output w (running fronts workers) h.answer h.ran h.status
 
--- so did a replay
+-- a replay with the status 0 wrote what it was asked for
 pub replay_done : (d : Devices) (code : ExitCode) (input output : List ℕ) → EndsReplay d code
     → Writes d input output → exit_status code ≡ 0 → (d.flushed ≡ true) × GivesFor replaying input tt output
 replay_done d code input output h w = done_for d code input output w replaying h.answer h.replayed h.status
 
--- so did a drawing
+-- a drawing with the status 0 wrote what it was asked for
 pub draw_done : (form : Form) (d : Devices) (code : ExitCode) (input output : List ℕ) → EndsDraw form d code
     → Writes d input output → exit_status code ≡ 0
     → (d.flushed ≡ true) × GivesFor (drawing form) input tt output
 draw_done form d code input output h w =
     done_for d code input output w (drawing form) h.answer h.drawn h.status
 
--- a live session is over, and wrote its answers
+-- a live session with the status 0 is over, and wrote its answers
 pub live_done : (d : Devices) (code : ExitCode) (input output : List ℕ) → EndsLive d code
     → Writes d input output → exit_status code ≡ 0
     → (d.flushed ≡ true) × (read rest : List ℕ) × (input ≡ read ++ rest) × IsOver read d.ended output
@@ -199,7 +201,7 @@ pub judged_legal : (explain : Bool) (d : Devices) (code : ExitCode) (input outpu
     → (d.flushed ≡ true) × GivesFor (judging explain) input Legal output
 judged_legal explain d code input output h w = judged d code input output w explain h.answer h.judged h.status
 
--- a check with the status 4 judged it otherwise
+-- a check with the status 4 judged the transcript otherwise than legal
 pub judged_otherwise : (explain : Bool) (d : Devices) (code : ExitCode) (input output : List ℕ)
     → EndsCheck explain d code → Writes d input output → exit_status code ≡ 4
     → (d.flushed ≡ true) × (v : Verdict) × (v ≢ Legal) × GivesFor (judging explain) input v output
@@ -213,7 +215,7 @@ record Tells (Low : Type 0) (d : Devices) (n : ℕ) : Type 0 where
   unwritten : (n ≡ 1) ⊎ (n ≡ 3) → Low
   no_words : n ≡ 2 → ⊥
 
--- where it is 0 or 4, there was one
+-- what a status that is a multiple of 4 tells of a filter that gave an answer
 of_answer : {V K T : Type 0} (f : Filter V K T) (d : Devices) (a : T) → Filtered f d (Ok a) → (n k : ℕ)
     → n ≡ k + k + k + k → Tells (Keeps d.before d.after) d n
 of_answer f d a h n k fours = record {
@@ -225,7 +227,7 @@ of_answer f d a h n k fours = record {
   no_words = λ is. absurd (omega (arith, fours, is));
 }
 
--- else there was a fault
+-- what a status tells of a filter that ended with a fault
 of_fault : {V K T : Type 0} (f : Filter V K T) (d : Devices) (e : MainFault) → Filtered f d (Err e) → (n : ℕ)
     → n ≡ status_of e → Tells (Keeps d.before d.after) d n
 of_fault f d e h n is = record {
@@ -234,12 +236,14 @@ of_fault f d e h n is = record {
   no_words = not_even e n 1 is;
 }
 
+-- what a status tells of a filter that writes
 of_writing : {V K : Type 0} (f : Filter V K (Unit {0})) (d : Devices) (n : ℕ) (answer : Result (Unit {0}) MainFault)
     → Filtered f d answer
     → n ≡ status_of_outcome (outcome_of_writing answer) → Tells (Keeps d.before d.after) d n
 of_writing f d n (Ok done) h is = of_answer f d done h n 0 is
 of_writing f d n (Err e) h is = of_fault f d e h n is
 
+-- what a status tells of a filter that judges
 of_judging : {V K : Type 0} (f : Filter V K Verdict) (d : Devices) (n : ℕ) (answer : Result Verdict MainFault)
     → Filtered f d answer
     → n ≡ status_of_outcome (outcome_of_check answer) → Tells (Keeps d.before d.after) d n
@@ -249,7 +253,7 @@ of_judging f d n (Ok v) h is = elim (verdict_is v) [
 ]
 of_judging f d n (Err e) h is = of_fault f d e h n is
 
--- where none failed, none did
+-- where all devices are fine, none has failed
 none_failed : (a b : ℕ) → AreFine a b → (a ≡ 1) ⊎ (b ≡ 1) → ⊥
 none_failed a b fine (inl one) = omega (arith, fine.0, one)
 none_failed a b fine (inr one) = omega (arith, fine.1, one)
@@ -271,7 +275,7 @@ live_broken d read output (Text f) h n is =
       low (inl one) five = absurd (omega (arith, is, one, five))
       low (inr three) five = absurd (omega (arith, is, three, five))
 
--- of a live session, which may have written something before
+-- what a status tells of a live session, which may have written something before a fault
 of_living : (d : Devices) (n : ℕ) (answer : Result (Unit {0}) MainFault)
     → LivesText d.had d.left d.ended d.read_failures d.before d.after d.flushed d.write_failures answer
     → n ≡ status_of_outcome (outcome_of_writing answer) → Tells (Unit {0}) d n
@@ -294,7 +298,7 @@ Low Replay d = Keeps d.before d.after
 Low (Draw form) d = Keeps d.before d.after
 Low Live d = Unit {0}
 
--- of any job
+-- what a status tells of any job
 tells : (job : Job) (d : Devices) (code : ExitCode) → EndsJob job d code → Tells (Low job d) d (exit_status code)
 tells Live d code h = of_living d _ h.answer h.lived h.status
 tells (Run workers fronts explain) d code h = of_writing (running fronts workers) d _ h.answer h.ran h.status
@@ -320,7 +324,7 @@ unwritten Live d code other h = absurd (other refl)
 pub no_words : (job : Job) (d : Devices) (code : ExitCode) → EndsJob job d code → exit_status code ≡ 2 → ⊥
 no_words job d code h = (tells job d code h).no_words
 
--- 4 is that of a verdict alone
+-- no job that judges nothing has the status 4
 not_4 : (n : ℕ) (answer : Result (Unit {0}) MainFault) → n ≡ status_of_outcome (outcome_of_writing answer) → n ≡ 4 → ⊥
 not_4 n (Ok done) is four = absurd (omega (arith, is, four))
 not_4 n (Err e) is four = not_even e n 2 is four
@@ -330,14 +334,14 @@ pub run_not_4 : (fronts : Bool) (workers : ℕ) (d : Devices) (code : ExitCode) 
     → exit_status code ≡ 4 → ⊥
 run_not_4 fronts workers d code h = not_4 _ h.answer h.status
 
--- no replay has it
+-- no replay has the status 4
 pub replay_not_4 : (d : Devices) (code : ExitCode) → EndsReplay d code → exit_status code ≡ 4 → ⊥
 replay_not_4 d code h = not_4 _ h.answer h.status
 
--- no drawing has it
+-- no drawing has the status 4
 pub draw_not_4 : (form : Form) (d : Devices) (code : ExitCode) → EndsDraw form d code → exit_status code ≡ 4 → ⊥
 draw_not_4 form d code h = not_4 _ h.answer h.status
 
--- no live session has it
+-- no live session has the status 4
 pub live_not_4 : (d : Devices) (code : ExitCode) → EndsLive d code → exit_status code ≡ 4 → ⊥
 live_not_4 d code h = not_4 _ h.answer h.status

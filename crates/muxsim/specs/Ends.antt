@@ -38,7 +38,7 @@ pub record Devices : Type 0 where
   pub flushed : Bool
   pub write_failures : ℕ
 
--- that of two devices, by what is told of each, which were so before and are so now
+-- what a reader and a writer had and have, by what is told of each before and now
 abbrev pub devices : {F S : Type 0} → (F → Option (List ℕ)) → (F → Bool) → (F → ℕ) → (S → Option (List ℕ)) → (S → Bool)
     → (S → ℕ) → F → F → S → S → Devices
 devices remaining ended read_failures contents flushed write_failures feed feed_now sink sink_now = record {

@@ -8,7 +8,7 @@ use Rattle.smx_explain.specs.Differences.{Begin, whole_lines}
 
 -- ---- lines
 
--- with one line more
+-- lines with one more are the text of the others, then that line and its line feed
 whole_more : (lines : List (List ℕ)) (line : List ℕ)
     → whole_lines (lines ++ line ∷ []) ≡ whole_lines lines ++ (line ++ LINE_FEED ∷ [])
 whole_more [] line = append_nothing (line ++ LINE_FEED ∷ []) where
@@ -18,7 +18,7 @@ whole_more [] line = append_nothing (line ++ LINE_FEED ∷ []) where
 whole_more (l ∷ lines) line = ap (λ (xs : List ℕ). (l ++ LINE_FEED ∷ []) ++ xs) (whole_more lines line)
     ∙ sym (append_assoc (l ++ LINE_FEED ∷ []) (whole_lines lines) (line ++ LINE_FEED ∷ []))
 
--- what follows the lines goes on with one of them
+-- bytes that begin with lines and go on with one more begin with these and that one
 shifted : (lines : List (List ℕ)) (line more bytes : List ℕ) → bytes ≡ whole_lines lines ++ (line ++ LINE_FEED ∷ more)
     → bytes ≡ whole_lines (lines ++ line ∷ []) ++ more
 shifted lines line more bytes is =
@@ -28,6 +28,7 @@ shifted lines line more bytes is =
       append_assoc line (LINE_FEED ∷ []) more,
     ) is
 
+-- where no line feed stands in some lines, nor in one more, none stands in any of all
 all_more : (lines : List (List ℕ)) (line : List ℕ) → AllByRecursion IsOneLine lines → IsOneLine line
     → AllByRecursion IsOneLine (lines ++ line ∷ [])
 all_more [] line all one = (one, tt)
@@ -35,14 +36,14 @@ all_more (l ∷ lines) line all one = (all.0, all_more lines line all.1 one)
 
 -- ---- reading
 
--- so many lines were read of both, which are the same
+-- the lines of both texts before this number were read, and are the same
 pub record HasCome (one other rest behind : List ℕ) (number : ℕ) : Type 0 where
   pub lines : List (List ℕ)
   pub begin : Begin one other lines rest behind
   pub counted : number ≡ length lines + 1
 
 module _ (one other rest behind : List ℕ) (number : ℕ) (h : HasCome one other rest behind number) where
-  -- one more
+  -- where the next line of both texts is the same, one line more was read of both
   pub one_more : (told has more after : List ℕ) → IsOneLine told → rest ≡ told ++ LINE_FEED ∷ more
       → behind ≡ has ++ LINE_FEED ∷ after
       → told ≡ has → HasCome one other more after (number + 1)

@@ -38,33 +38,42 @@ use Rattle.smx_explain.proofs.TextLemmas.{are_lines, lines_before, text_at, text
 
 -- ---- what the laws of other crates say
 
+-- a transcript text has one reading, but for want of memory
 abbrev HasOneReading : Type 0
 HasOneReading = (bytes : List ℕ) (r s : Result Transcript TextFault) → ReadsAny transcript_grammar bytes r
     → ReadsAny transcript_grammar bytes s
     → IfErr r (λ f. f.cause ≢ NoMemory) → IfErr s (λ f. f.cause ≢ NoMemory) → r ≡ s
 
+-- a replay of an allowed transcript that can be spelled is allowed
 abbrev CanBeTold : Type 0
 CanBeTold = (t r : Transcript) → IsAllowed t.version t → IsReplayOf t r → IsSpellable r → IsAllowed r.version r
 
+-- a transcript has at most one replay
 abbrev HasOneReplay : Type 0
 HasOneReplay = (t r s : Transcript) → IsReplayOf t r → IsReplayOf t s → r ≡ s
 
+-- a transcript that is judged legal is its own replay
 abbrev IsItsOwn : Type 0
 IsItsOwn = (t : Transcript) → IsDriverList t.drivers → IsVerdict t.drivers t.entries t.view Legal → IsReplayOf t t
 
+-- a replay is judged legal
 abbrev IsJudgedLegal : Type 0
 IsJudgedLegal = (t r : Transcript) → IsReplayOf t r → IsVerdict r.drivers r.entries r.view Legal
 
+-- two legal histories of the same calls are the same
 abbrev AreDetermined : Type 0
 AreDetermined = (drivers : List DriverSpec) (one other : List Entry) → IsLegal drivers one → IsLegal drivers other
     → map call_of one ≡ map call_of other → one ≡ other
 
+-- a driver that can be spelled is spelled by words
 abbrev DriversAreWords : Type 0
 DriversAreWords = (d : DriverSpec) → FitsDriver d → AreWords (driver_words d)
 
+-- an entry that can be spelled is spelled by words
 abbrev EntriesAreWords : Type 0
 EntriesAreWords = (e : Entry) → FitsEntry e → AreWords (entry_words e)
 
+-- no two entries have one line
 abbrev EntriesAreTold : Type 0
 EntriesAreTold = (d e : Entry) → FitsEntry d → FitsEntry e → line_of (entry_words d) ≡ line_of (entry_words e) → d ≡ e
 
@@ -72,7 +81,7 @@ EntriesAreTold = (d e : Entry) → FitsEntry d → FitsEntry e → line_of (entr
 
 module _ (reading : HasOneReading) (t r : Transcript) (allowed : IsAllowed t.version t)
     (also : IsAllowed r.version r) where
-  -- the same text is of the same transcript
+  -- transcripts that have the same text are the same
   same_text : transcript_text r ≡ transcript_text t → r ≡ t
   same_text e =
       let one : Result Transcript TextFault = Ok r in
@@ -93,7 +102,7 @@ module _ (reading : HasOneReading) (t r : Transcript) (allowed : IsAllowed t.ver
       (t.version, (t, b, more, allowed, e, refl), λ is. absurd (cc is)) tt (λ is. cc) in
       absurd cc
 
-  -- where the one text ends, so does the other
+  -- where one of two texts has no whole line behind lines that both have, the transcripts are the same
   end_alike : (lines : List (List ℕ)) (rest behind : List ℕ) → transcript_text t ≡ whole_lines lines ++ rest
       → transcript_text r ≡ whole_lines lines ++ behind
       → IsOneLine rest → r ≡ t
@@ -138,11 +147,11 @@ module _ (t : Transcript) (text replayed : List ℕ) (spells : SpellsTranscript 
 
 -- ---- what is told below each verdict
 
--- something is told of a difference
+-- what is told of a difference is not empty
 some_told : (number : ℕ) (told has : List ℕ) → difference_text number told has ≡ [] → ⊥
 some_told number told has e = absurd (cc e)
 
--- nothing below `legal`
+-- below the verdict `legal` nothing is told
 pub legal_told : HasOneReplay → IsItsOwn → (t : Transcript) (output : List ℕ) → IsExplanation t output
     → IsVerdict t.drivers t.entries t.view Legal → output ≡ []
 legal_told one own t output h verdict =
@@ -154,7 +163,7 @@ legal_told one own t output h verdict =
           (ap transcript_text same))
     ]
 
--- and below nothing else
+-- a transcript below whose verdict nothing is told is judged legal
 pub nothing_told : IsJudgedLegal → (t : Transcript) (output : List ℕ) → IsExplanation t output → output ≡ []
     → IsVerdict t.drivers t.entries t.view Legal
 nothing_told judged t output h none =
@@ -164,29 +173,32 @@ nothing_told judged t output h none =
       | inr (number, told, has, first, is) ↦ absurd (some_told number told has (sym is ∙ none))
     ]
 
--- the header is a line
+-- the header of a transcript is one line
 header_line : (version : Version) → IsOneLine (line_of (transcript_grammar version).header_words)
 header_line V1 = search rules
 header_line V2 = search rules
 
--- so are drivers and entries that can be spelled
+-- the text of this line of a transcript is one line
 abbrev IsLine : TranscriptLine → Type 0
 IsLine k = IsOneLine (line_of ((transcript_grammar V2).line_words k))
 
+-- the text of each driver that can be spelled is one line
 driver_lines : DriversAreWords → (ds : List DriverSpec) → AllByRecursion FitsDriver ds
     → AllByRecursion IsLine (map line.Driver ds)
 driver_lines words [] all = tt
 driver_lines words (d ∷ ds) all = (one_line_of (driver_words d) (words d all.0), driver_lines words ds all.1)
 
+-- the text of each entry that can be spelled is one line
 entry_lines : EntriesAreWords → (es : List Entry) → AllByRecursion FitsEntry es
     → AllByRecursion IsLine (map line.Entry es)
 entry_lines words [] all = tt
 entry_lines words (e ∷ es) all = (one_line_of (entry_words e) (words e all.0), entry_lines words es all.1)
 
--- the lines before an entry, and what the body then is
+-- the lines before an entry: those of the drivers, and those of the entries before it
 abbrev lines_to : List DriverSpec → List Entry → List TranscriptLine
 lines_to drivers front = map line.Driver drivers ++ map line.Entry front
 
+-- the lines of a transcript are those before an entry, its own, and those behind it
 body_at : (t : Transcript) (front : List Entry) (e : Entry) (more : List Entry) → t.entries ≡ front ++ e ∷ more
     → body t ≡ lines_to t.drivers front ++ line.Entry e ∷ (map line.Entry more ++ line.Config ∷ view_body t.view)
 body_at t front e more is =
@@ -198,7 +210,7 @@ body_at t front e more is =
     (append_assoc (map line.Entry front) (line.Entry e ∷ map line.Entry more) rest)
     ∙ sym (append_assoc (map line.Driver t.drivers) (map line.Entry front) (line.Entry e ∷ map line.Entry more ++ rest))
 
--- how many they are
+-- with the header, the lines before an entry are one more than the drivers and the entries before it
 count_to : (version : Version) (drivers : List DriverSpec) (front : List Entry)
     → length (lines_before (transcript_grammar version) (lines_to drivers front)) ≡ length drivers + length front + 1
 count_to version drivers front =
@@ -213,7 +225,7 @@ count_to version drivers front =
       length-map front line.Entry,
     )
 
--- they are lines
+-- the header, and the text of each line before an entry, is one line
 lines_are : DriversAreWords → EntriesAreWords → (version : Version) (drivers : List DriverSpec) (front : List Entry)
     → AllByRecursion FitsDriver drivers
     → AllByRecursion FitsEntry front
@@ -281,7 +293,7 @@ module _ (driver : DriversAreWords) (entry : EntriesAreWords) (t : Transcript) (
             (sym (ap (λ (e : Entry). e.reply) (apart first.entry there fits fits_too same)));
       }
 
-  -- so that is told
+  -- below `illegal`, the line of the first illegal entry and that of its replay are told
   pub illegal_told : EntriesAreTold → (number : ℕ) (first : IsFirstIllegal t.drivers t.entries number)
       → output ≡ difference_text (length t.drivers + number + 1) (line_of (entry_words first.entry))
       (line_of (entry_words (answered t.drivers (after t.drivers (take first.before t.entries)) first.entry)))
@@ -303,11 +315,13 @@ module _ (driver : DriversAreWords) (entry : EntriesAreWords) (t : Transcript) (
   abbrev lines_above : List DriverSpec → List Entry → List TranscriptLine
   lines_above drivers entries = lines_to drivers entries ++ line.Config ∷ []
 
+  -- the lines of a transcript are all lines above the configuration, and then those of its view
   body_behind : (u : Transcript) → body u ≡ lines_above u.drivers u.entries ++ view_body u.view
   body_behind u =
       sym (append_assoc (map line.Driver u.drivers) (map line.Entry u.entries) (line.Config ∷ view_body u.view))
       ∙ sym (append_assoc (lines_to u.drivers u.entries) (line.Config ∷ []) (view_body u.view))
 
+  -- with the header, the lines above the configuration are two more than the drivers and the entries
   count_above : length (lines_before (transcript_grammar t.version) (lines_above t.drivers t.entries))
       ≡ length t.drivers + length t.entries + 2
   count_above =
@@ -323,9 +337,11 @@ module _ (driver : DriversAreWords) (entry : EntriesAreWords) (t : Transcript) (
         length-map t.entries line.Entry,
       )
 
+  -- the line `config` is one line
   config_line : IsLine line.Config
   config_line = search rules
 
+  -- the header, and the text of each line above the configuration, is one line
   above_are : AllByRecursion IsOneLine (lines_before (transcript_grammar t.version) (lines_above t.drivers t.entries))
   above_are =
       are_lines (transcript_grammar t.version) (header_line t.version) (lines_above t.drivers t.entries)
@@ -334,7 +350,7 @@ module _ (driver : DriversAreWords) (entry : EntriesAreWords) (t : Transcript) (
       (driver_lines driver t.drivers allowed.spellable.drivers) (entry_lines entry t.entries allowed.spellable.entries))
       (config_line, tt))
 
-  -- a line below it is told
+  -- below `config differs`, a line that stands below the line `config` is told
   pub differs_told : AreDetermined → IsVerdict t.drivers t.entries t.view ConfigDiffers
       → (number : ℕ) × (told has : List ℕ) × (output ≡ difference_text number told has)
       × (length t.drivers + length t.entries + 2 < number)

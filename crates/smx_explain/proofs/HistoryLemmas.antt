@@ -17,7 +17,7 @@ same_entry d e call reply =
     ∙ ap (λ (c : Command). record d { process = e.process; command = c }) (ap (λ (call : ℕ × Command). call.1) call)
     ∙ ap (λ (r : Reply). record e { reply = r }) reply
 
--- where this entry stands, what follows it, and the same of the replay
+-- at this index the one history has this entry and the other its answer, with the same entries before it
 pub record StandsIn (drivers : List DriverSpec) (c : Configuration) (es rs : List Entry) (b : ℕ)
     (e : Entry) : Type 0 where
   pub more : List Entry
@@ -26,7 +26,7 @@ pub record StandsIn (drivers : List DriverSpec) (c : Configuration) (es rs : Lis
   pub its_replay : rs ≡ take b es ++ answered drivers (after_from drivers c (take b es)) e ∷ more_too
 
 module _ (drivers : List DriverSpec) where
-  -- a call that was answered
+  -- an entry with the call of another, and the reply of the model, is that other as it is answered
   answers : (c : Configuration) (x y : Entry) → (step drivers c y.process y.command).1 ≡ y.reply → call_of y ≡ call_of x
       → y ≡ answered drivers c x
   answers c x y legal call =

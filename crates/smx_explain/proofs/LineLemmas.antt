@@ -11,7 +11,7 @@ use Rattle.smx_explain.specs.Differences.{AreAlike, IsFirstDifference, IsFirstLi
 
 -- ---- bytes
 
--- of nothing both parts are nothing
+-- where two parts joined are nothing, the second is nothing
 no_part : (xs ys : List ℕ) → xs ++ ys ≡ [] → ys ≡ []
 no_part [] ys e = e
 no_part (x ∷ xs) ys e = absurd (cc e)
@@ -24,12 +24,12 @@ no_rest (x ∷ xs) (y ∷ ys) rest e one = let more : xs ++ rest ≡ ys ++ LINE_
 
 -- ---- lines
 
--- one line, and then the rest
+-- lines with bytes behind them begin with the first line and its line feed
 cons : (line : List ℕ) (lines : List (List ℕ)) (rest : List ℕ)
     → whole_lines (line ∷ lines) ++ rest ≡ line ++ LINE_FEED ∷ (whole_lines lines ++ rest)
 cons line lines rest = simp append_assoc
 
--- lines of what they are made of
+-- what is written of values, each with a line feed behind it, is the lines that are made of them
 pub whole_map : {A : Type 0} (f : A → List ℕ) (xs : List A)
     → flat_map (λ x. f x ++ LINE_FEED ∷ []) xs ≡ whole_lines (map f xs)
 whole_map f [] = refl
@@ -87,7 +87,7 @@ past_front (p ∷ ps) (l ∷ ls) told has more rest x y all all_too a b differ e
 
 -- ---- differences
 
--- there is one
+-- two texts have at most one first difference
 pub one_difference : (one other : List ℕ) (n m : ℕ) (told has told_too has_too : List ℕ)
     → IsFirstDifference one other n told has
     → IsFirstDifference one other m told_too has_too → (n ≡ m) × (told ≡ told_too) × (has ≡ has_too)
@@ -105,7 +105,7 @@ no_difference one other n told has h same =
     let rests = append_cancel_left (whole_lines h.before) _ _ (sym h.begin.one_is ∙ same ∙ h.begin.other_is) in
     h.differ (one_cut told has h.more h.rest h.told_is_one h.has_is_one rests).0
 
--- behind lines where one of both has no whole line more, none differs
+-- two texts with the same lines, behind which one of them has no whole line more, have no line that differs
 alike_before : (ps ls : List (List ℕ)) (told has more rest x y : List ℕ)
     → AllByRecursion IsOneLine ps → AllByRecursion IsOneLine ls → IsOneLine told → IsOneLine has → told ≢ has
     → whole_lines ls ++ (told ++ LINE_FEED ∷ more) ≡ whole_lines ps ++ x
@@ -126,7 +126,7 @@ alike_before (p ∷ ps) (l ∷ ls) told has more rest x y all all_too a b differ
     let cut_too = one_cut l p _ _ all_too.0 all.0 (sym (cons l ls (has ++ LINE_FEED ∷ rest)) ∙ k ∙ cons p ps y) in
     alike_before ps ls told has more rest x y all.1 all_too.1 a b differ cut.1 cut_too.1 ends
 
--- so texts that are alike have no difference
+-- texts that are alike have no first difference
 pub not_both : (one other : List ℕ) (n : ℕ) (told has : List ℕ) → IsFirstDifference one other n told has
     → AreAlike one other → ⊥
 not_both one other n told has h alike =
@@ -154,7 +154,7 @@ IsFrom text number at bytes =
     → (behind : List (List ℕ)) × AllByRecursion IsOneLine behind × (length behind + at ≡ number)
     × (bytes ≡ whole_lines behind ++ rest)
 
--- one further
+-- behind a whole line, the lines from the next number on follow
 pub one_further : (text : List ℕ) (number at : ℕ) (bytes line after : List ℕ) → IsFrom text number at bytes
     → at < number → IsOneLine line
     → bytes ≡ line ++ LINE_FEED ∷ after → IsFrom text number (at + 1) after
@@ -173,7 +173,7 @@ one_further text number at bytes line after h less one is =
         (one_cut line b after (whole_lines behind ++ rest) one all.0 (sym is ∙ e ∙ cons b behind rest)).1,
       )
 
--- there is no line feed, and so no line more
+-- where no line feed stands in what follows, there is no line of the number that is wanted
 pub none_further : (text : List ℕ) (number at : ℕ) (bytes : List ℕ) → IsFrom text number at bytes → at < number
     → IsOneLine bytes
     → (before : List (List ℕ)) (rest : List ℕ) → AllByRecursion IsOneLine before → number ≡ length before + 1

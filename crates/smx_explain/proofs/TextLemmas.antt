@@ -20,13 +20,15 @@ module _ {V K : Type 0} (g : Grammar V K) where
             ∙ sym (append_assoc (text_of lines) (line_text g g.end) (LINE_FEED ∷ [])),
       )
 
-  -- the lines before one, each as bytes
+  -- the header and the lines before one, each as bytes
   abbrev pub lines_before : List K → List (List ℕ)
   lines_before lines = map line_of (g.header_words ∷ map g.line_words lines)
 
+  -- the text from some lines of a value on, with the last line
   abbrev rest_of : List K → List ℕ
   rest_of more = text_of (map g.line_words more ++ g.line_words g.end ∷ [])
 
+  -- the text of a value is the header and some lines of it, and then the text from the others on
   text_from : (v : V) (lines more : List K) → g.body v ≡ lines ++ more
       → full_text g v ≡ whole_lines (lines_before lines) ++ rest_of more
   text_from v lines more is =
@@ -40,7 +42,7 @@ module _ {V K : Type 0} (g : Grammar V K) where
       ap (λ (ws : List (List (List ℕ))). text_of ws) split ∙ texts_append before rest
       ∙ ap (λ (bytes : List ℕ). bytes ++ text_of rest) (whole_map line_of before)
 
-  -- behind some lines of the value, whatever comes
+  -- a text goes on somehow behind its header and some lines of its value
   pub text_behind : (v : V) (lines more : List K) → g.body v ≡ lines ++ more
       → (after : List ℕ) × (full_text g v ≡ whole_lines (lines_before lines) ++ after)
   text_behind v lines more is = (rest_of more, text_from v lines more is)
@@ -54,7 +56,7 @@ module _ {V K : Type 0} (g : Grammar V K) where
         (append_assoc (line_text g k) (LINE_FEED ∷ []) (rest_of more)),
   )
 
-  -- these are lines where each of them can be spelled
+  -- the header and some lines are lines where each of them is one
   pub are_lines : IsOneLine (line_of g.header_words) → (lines : List K)
       → AllByRecursion (λ k. IsOneLine (line_text g k)) lines
       → AllByRecursion IsOneLine (lines_before lines)

@@ -43,6 +43,6 @@ not_whole = record {
 pub whole_line : IsFirstLine (codes "b") (codes "b\nc\n")
 whole_line = (search (rules, arith), inr (codes "c\n", refl))
 
--- or where the text does
+-- a line without a line feed ends where the text does
 pub last_line : IsFirstLine (codes "b c") (codes "b c")
 last_line = (search (rules, arith), inl refl)

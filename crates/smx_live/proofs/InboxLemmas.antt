@@ -14,7 +14,7 @@ use Rattle.smx_filters.specs.declared.main_fault.MainFault.TheVariants.{Refused,
 use Rattle.smx_live.specs.Inboxes.{FailsToRead, HasLine, IsFound, IsLineOf, IsTooLong}
 use Rattle.smx_filters.specs.declared.input.TheConstants.{MAX_INPUT}
 
--- no line feed among the first bytes, nor among the others
+-- bytes have no line feed where none stands among the first of them, nor among the others
 pub none_in_all : (held : List ℕ) (seen : ℕ) → IsOneLine (take seen held) → IsOneLine (drop seen held) → IsOneLine held
 none_in_all held seen a b =
     subst IsOneLine (take-append-drop seen held)
@@ -40,7 +40,7 @@ found_behind held seen n within none line =
           ∙ ap (λ (b : List ℕ). take (seen + n) held ++ LINE_FEED ∷ b) back;
     }
 
--- a line that was found in the part from a place on
+-- a line that was found behind the bytes that were looked at before is, with these, the first line of all
 pub found_in : (held view : List ℕ) (seen n : ℕ) → view ≡ held → seen ≤ length held → IsOneLine (take seen held)
     → (n < length (take (length view - seen) (drop seen view)))
     × IsOneLine (take n (take (length view - seen) (drop seen view)))
@@ -53,13 +53,13 @@ found_in held view seen n is within none line =
     let there : HasLine n part = record { within = line.0; one = line.1; parts = line.2 } in
     found_behind held seen n within none (subst (HasLine n) same there)
 
--- none was found in it
+-- where no line was found behind the bytes that were looked at before, no line feed stands in what is held
 pub none_in : (held view : List ℕ) (seen : ℕ) → view ≡ held → IsOneLine (take seen held)
     → IsOneLine (take (length view - seen) (drop seen view)) → IsOneLine held
 none_in held view seen is none rest =
     none_in_all held seen none (subst IsOneLine (take_rest view seen ∙ ap (drop seen) is) rest)
 
--- none stands in what was held before more was read
+-- what was held as one line before more was read is now the first part of what is held, with no line feed in it
 pub none_before : (held piece longer : List ℕ) (k : ℕ) → k ≡ length held → longer ≡ held ++ piece → IsOneLine held
     → (k ≤ length longer) × IsOneLine (take k longer)
 none_before held piece longer k size is one = (
@@ -116,7 +116,7 @@ line_stays n held more line =
           ∙ ap (λ (bs : List ℕ). bs ++ LINE_FEED ∷ drop (n + 1) (held ++ more)) (sym front);
     }
 
--- the line at the front, with its line feed
+-- the line at the front and the byte behind it are the line and its line feed
 pub with_line_feed : (n : ℕ) (held : List ℕ) → HasLine n held → take (n + 1) held ≡ take n held ++ LINE_FEED ∷ []
 with_line_feed n held line =
     let line_is : List ℕ = take n held in
@@ -133,7 +133,7 @@ moved start read piece table held longer k was is =
     ∙ ap (λ (bs : List ℕ). table ++ bs) (sym is ∙ sym (take-append-drop k longer))
     ∙ sym (append_assoc table (take k longer) (drop k longer))
 
--- and so without one
+-- where no line was moved from what is held to a table, all bytes stay in their order
 pub unmoved : (start read piece table held longer : List ℕ) → start ++ read ≡ table ++ held → longer ≡ held ++ piece
     → start ++ (read ++ piece) ≡ table ++ longer
 unmoved start read piece table held longer was is =

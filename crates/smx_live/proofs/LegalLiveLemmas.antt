@@ -29,21 +29,24 @@ use Rattle.smx_live.specs.Turns.{Entered, Shown, NotDone, Turn, Answer, AreAnswe
 
 -- ---- what the laws of histories say
 
+-- a legal history stays legal with one entry more that has the reply of its command
 abbrev pub StaysLegal : Type 0
 StaysLegal = (drivers : List DriverSpec) (history : List Entry) (e : Entry) → IsLegal drivers history
     → (step drivers (after drivers history) e.process e.command).1 ≡ e.reply → IsLegal drivers (history ++ e ∷ [])
 
+-- a legal history in which no command is a hangup has no entry of a hangup
 abbrev pub TellsOfNone : Type 0
 TellsOfNone = (drivers : List DriverSpec) (history : List Entry) → IsLegal drivers history
     → list_any (λ e. is_hangup e.command) history ≡ false → list_any is_of_hangup history ≡ false
 
+-- a history in which no command is a hangup leaves no stream that has hung up
 abbrev pub LeavesNone : Type 0
 LeavesNone = (drivers : List DriverSpec) (history : List Entry)
     → list_any (λ e. is_hangup e.command) history ≡ false → (after drivers history).hungs ≡ []
 
 -- ---- the entries of a session
 
--- they are a legal history
+-- a legal history stays legal with the entries of the turns that were answered after it
 legal_from : StaysLegal → (v : Version) (ds : List DriverSpec) (h : List Entry) (ts : List Turn) → AreAnswered v ds h ts
     → IsLegal ds h → IsLegal ds (h ++ entries_of ts)
 legal_from stays v ds h [] was legal = subst (IsLegal ds) (sym (append-nil h)) legal
@@ -55,7 +58,7 @@ legal_from stays v ds h (t ∷ ts) was legal =
       one (Shown s) is = subst (IsLegal ds) (sym (append-nil h)) legal
       one (NotDone w) is = subst (IsLegal ds) (sym (append-nil h)) legal
 
--- each of them can be spelled
+-- each entry of turns that were answered can be spelled
 all_fit : (v : Version) (ds : List DriverSpec) (h : List Entry) (ts : List Turn) → AreAnswered v ds h ts
     → AllByRecursion FitsEntry (entries_of ts)
 all_fit v ds h [] was = tt
@@ -66,7 +69,7 @@ all_fit v ds h (t ∷ ts) was = one t.answer was.1 (all_fit v ds (h ++ entries_i
   one (Shown s) is behind = behind
   one (NotDone w) is behind = behind
 
--- in version 1 no command is a hangup
+-- in version 1 no command of turns that were answered is a hangup
 quiet : (ds : List DriverSpec) (h : List Entry) (ts : List Turn) → AreAnswered V1 ds h ts
     → list_any (λ e. is_hangup e.command) (entries_of ts) ≡ false
 quiet ds h [] was = refl
@@ -80,31 +83,37 @@ quiet ds h (t ∷ ts) was = one t.answer was.1 (quiet ds (h ++ entries_in t.answ
   one (Shown s) is behind = behind
   one (NotDone w) is behind = behind
 
--- where no stream has hung up, none is shown
+-- where no stream has hung up, the view shows none
 none_shown : (ds : List DriverSpec) (c : Configuration) → c.hungs ≡ [] → nat_lt 0 (length (view ds c).hungs) ≡ false
 none_shown ds c none = rw none refl
 
--- version 1 has few drivers
+-- as many drivers as version 1 can tell, or fewer, are no reason for version 2
 few_drivers : (n : ℕ) → n ≤ MAX_DRIVERS_OF_VERSION_1 → nat_lt MAX_DRIVERS_OF_VERSION_1 n ≡ false
 few_drivers n few = search rules
 
 module _ (stays : StaysLegal) (tells : TellsOfNone) (leaves : LeavesNone)
     {read : List ℕ} {ended : Bool} {output : List ℕ} (o : IsOver read ended output) where
+  -- the entries of the session
   abbrev es : List Entry
   es = entries_of o.live.turns
 
+  -- the entries of the session are a legal history
   legal : IsLegal o.s.drivers es
   legal = legal_from stays o.s.version o.s.drivers [] o.live.turns o.live.answered tt
 
+  -- each entry of the session can be spelled
   fit : AllByRecursion FitsEntry es
   fit = all_fit o.s.version o.s.drivers [] o.live.turns o.live.answered
 
+  -- the configuration after the entries of the session, as it is shown
   abbrev shown : ConfigView
   shown = view o.s.drivers o.s.configuration
 
+  -- the opening and the lines of the entries are the beginning of a transcript
   begins : BeginsTranscript o.s.version o.s.drivers es (o.live.opening ++ text_of (map entry_words es))
   begins = grown o.s.version o.s.drivers [] es o.live.opening _ refl fit o.live.begins
 
+  -- what was written, but for what is no entry, is the text of the session's transcript
   text : transcript_part o ≡ transcript_text (transcript_of o)
   text =
       let start : List ℕ = o.live.opening ++ text_of (map entry_words es) in
@@ -114,6 +123,7 @@ module _ (stays : StaysLegal) (tells : TellsOfNone) (leaves : LeavesNone)
       ≡ ((start ++ codes "config\n") ++ lines) ++ codes "end\n" = simp append_assoc in
       regrouped ∙ finished o.s.version o.s.drivers es shown start config _ _ refl refl refl begins
 
+  -- in version 1 the session's transcript needs no later version
   told : o.s.version ≡ V1 → least_of_transcript (transcript_of o) ≡ V1
   told first =
       let none : list_any (λ e. is_hangup e.command) es ≡ false =
@@ -130,6 +140,7 @@ module _ (stays : StaysLegal) (tells : TellsOfNone) (leaves : LeavesNone)
         drivers_few = subst (λ (ds : List DriverSpec). length ds ≤ most_drivers o.s.version) (sym o.live.drivers)
             o.live.spelled.allowed.drivers
 
+  -- the session's transcript is allowed in its version
   allowed : IsAllowed o.s.version (transcript_of o)
   allowed = record {
     version_is = refl;
@@ -140,7 +151,7 @@ module _ (stays : StaysLegal) (tells : TellsOfNone) (leaves : LeavesNone)
     told = told;
   }
 
-  -- so a check finds it legal
+  -- what was written of a session, but for what is no entry, is a transcript that a check finds legal
   pub is_legal : IsLegalTranscript o
   is_legal = record {
     spelled = record { allowed = allowed; text = text };

@@ -27,14 +27,14 @@ use Rattle.smx_live.specs.Turns.{IsEntryOf, IsTaken, IsWrong, answer_text, asked
 use Rattle.smx_live.specs.Turns.{entry_line, said_text}
 use Rattle.smx_live.proofs.TableLemmas.{flat_more, still_a_table}
 
--- what the law of one entry more says
+-- a history with one entry more leads where the command of that entry leads
 abbrev pub OneFurther : Type 0
 OneFurther = (drivers : List DriverSpec) (history : List Entry) (e : Entry)
     → after drivers (history ++ e ∷ []) ≡ (step drivers (after drivers history) e.process e.command).0
 
 -- ---- one more at the end
 
--- one line more, which is answered so
+-- turns that were answered, and then one more that is, are answered as a whole
 answered_more : (v : Version) (ds : List DriverSpec) (h : List Entry) (ts : List Turn) (t : Turn)
     → AreAnswered v ds h ts
     → IsShort t.line → IsAnswer v ds (h ++ entries_of ts) t.line t.answer → AreAnswered v ds h (ts ++ t ∷ [])
@@ -48,7 +48,7 @@ answered_more v ds h (u ∷ ts) t was one a = (
       (sym (append_assoc h (entries_in u.answer) (entries_of ts))) a),
 )
 
--- the lines with one more, before what is held behind it
+-- the lines of some turns, one line more, and the rest are the lines of the turns with that one, and the rest
 line_more : (ts : List Turn) (line rest : List ℕ) (a : Answer) → asked_text ts ++ (line ++ LINE_FEED ∷ rest)
     ≡ asked_text (ts ++ (record { line = line; answer = a }) ∷ []) ++ rest
 line_more ts line rest a =
@@ -59,7 +59,7 @@ line_more ts line rest a =
     ∙ append_assoc (asked_text ts) last rest
     ∙ ap (λ (l : List ℕ). asked_text ts ++ l) (append_assoc line (LINE_FEED ∷ []) rest) in sym inner
 
--- what was said with one answer more
+-- what was said with one answer more is the opening and the answers with that one
 said_more : (opening output : List ℕ) (ts : List Turn) (t : Turn) → output ≡ opening ++ said_text ts
     → output ++ answer_text t.answer ≡ opening ++ said_text (ts ++ t ∷ [])
 said_more opening output ts t was =
@@ -75,20 +75,20 @@ module _ (further : OneFurther) {read : List ℕ} {ended : Bool} {output : List 
   abbrev turn : Answer → Turn
   turn a = record { line = take n held; answer = a }
 
-  -- it may be taken
+  -- the line at the front may be taken
   short : IsShort (take n held)
   short = (line.one, omega (arith, small, length-take-le n held (omega (arith, line.within))))
 
-  -- what stands behind the table
+  -- the lines of the turns and what is held are the lines with this one more, and what stands behind it
   behind : (a : Answer) → asked_text l.turns ++ held ≡ asked_text (l.turns ++ turn a ∷ []) ++ drop (n + 1) held
   behind a = ap (λ (h : List ℕ). asked_text l.turns ++ h) line.parts
       ∙ line_more l.turns (take n held) (drop (n + 1) held) a
 
-  -- what was read, with this line
+  -- what was read is the table, the lines of the turns with this one more, and what stands behind it
   read_more : (a : Answer) → read ≡ l.table ++ (asked_text (l.turns ++ turn a ∷ []) ++ drop (n + 1) held)
   read_more a = l.read_is ∙ ap (λ (h : List ℕ). l.table ++ h) (behind a)
 
-  -- the table is over as before
+  -- the table is over as before, where this line is one of the turns
   over_more : (a : Answer) → IsTable ended l.table (asked_text (l.turns ++ turn a ∷ []) ++ drop (n + 1) held)
   over_more a = subst (IsTable ended l.table) (behind a) l.over
 
@@ -168,7 +168,7 @@ module _ (further : OneFurther) {read : List ℕ} {ended : Bool} {output : List 
         counted = omega (arith, h.counted, length_is, l.counted);
       }
 
-  -- whatever the line is answered
+  -- whatever the line at the front is answered, the session stands after that turn
   pub turned : (a : Answer) (next : State) (more : ℕ) → IsTaken s count (take n held) a next more
       → IsLive read ended (output ++ answer_text a) next more (drop (n + 1) held)
   turned (Entered e) next more h = enters e next more h
@@ -179,7 +179,7 @@ module _ (further : OneFurther) {read : List ℕ} {ended : Bool} {output : List 
   turned (NotDone w) next more h =
       rw (h.1, h.2) (stays (NotDone w) refl (subst (λ (k : ℕ). IsWrong s.version k (take n held) w) l.counted h.0))
 
-  -- the line asks for the end
+  -- a session whose line at the front asks for the end is over once its last lines are written
   pub ended_by_line : (whole : List ℕ) → IsClosing s (take n held) whole → IsOver read ended (output ++ whole)
   ended_by_line whole h = record {
     before = output;
@@ -193,7 +193,7 @@ module _ (further : OneFurther) {read : List ℕ} {ended : Bool} {output : List 
     spellable = h.1;
   }
 
--- the input is at its end, within a line or not
+-- a session whose input is at its end, within a line or not, is over once its last lines are written
 pub ended_by_input : {read : List ℕ} {ended : Bool} {output : List ℕ} {s : State} {count : ℕ} {held : List ℕ}
     → IsLive read ended output s count held
     → ended ≡ true → IsShort held → IsSpellableView (view s.drivers s.configuration)
@@ -212,7 +212,7 @@ ended_by_input {output = output} {s} {count} {held} l is short fits = record {
 
 -- ---- its beginning, and more that was read
 
--- nothing is answered yet
+-- a session over a table that was read, whose opening was written, has answered nothing yet
 pub begun : {read table held : List ℕ} {ended : Bool} {opening : List ℕ} {s : State} → read ≡ table ++ held
     → IsTable ended table held → length table ≤ MAX_INPUT → IsStartOf (table_text table) s
     → BeginsTranscript s.version s.drivers [] opening → IsLive read ended opening s 0 held
@@ -235,7 +235,7 @@ begun {table = table} {opening = opening} parts over fits start begins = record 
   counted = refl;
 }
 
--- more is held, which comes of an input that has not ended
+-- a session of which more is read, from an input that has not ended, stands as before and holds more
 pub with_more : {read : List ℕ} (more : List ℕ) {ended now : Bool} {output : List ℕ} {s : State} {count : ℕ}
     {held : List ℕ} → IsLive read ended output s count held → (ended ≡ true → (more ≡ []) × (now ≡ true))
     → IsLive (read ++ more) now output s count (held ++ more)
@@ -263,7 +263,7 @@ with_more more {ended} {now} {held = held} l stays =
       counted = l.counted;
     }
 
--- as many bytes were read as are held, at the least
+-- at least as many bytes were read as are held
 pub held_of_read : {read : List ℕ} {ended : Bool} {output : List ℕ} {s : State} {count : ℕ} {held : List ℕ}
     → IsLive read ended output s count held → length held ≤ length read
 held_of_read {held = held} l =

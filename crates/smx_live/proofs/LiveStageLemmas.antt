@@ -45,13 +45,16 @@ module _ (s next : State) (count more : ℕ) (line text : List ℕ) (before afte
 module _ (further : OneFurther) {read : List ℕ} {ended : Bool} {output : List ℕ} {s : State} {count n : ℕ}
     {held : List ℕ}
     (l : IsLive read ended output s count held) (line : HasLine n held) (small : n ≤ MAX_INPUT) where
+  -- what stands behind the line at the front
   abbrev rest : List ℕ
   rest = drop (n + 1) held
 
+  -- whatever the line at the front is answered, the session stands so after it
   goes_on : (a : Answer) (later : State) (many : ℕ) → IsTaken s count (take n held) a later many
       → IsLive read ended (output ++ answer_text a) later many rest
   goes_on a later many taken = turned further l line small a later many taken
 
+  -- with the text that answers the line at the front, a session has come so far, or it is over
   either : (text : List ℕ) → MaySay s count (take n held) text ⊎ IsClosing s (take n held) text
       → HasComeSoFar read ended (output ++ text) ⊎ IsOver read ended (output ++ text)
   either text (inl x) = inl (
@@ -79,10 +82,11 @@ module _ (further : OneFurther) {read : List ℕ} {ended : Bool} {output : List 
 module _ {read : List ℕ} {ended : Bool} {output : List ℕ} {s : State} {count : ℕ} {held : List ℕ} (text : List ℕ)
     (is : text ≡ cut_words held ++ closing_text s) (l : IsLive read ended output s count held) (end : ended ≡ true)
     (short : IsShort held) (fits : IsSpellableView (view s.drivers s.configuration)) where
+  -- a session at the end of its input is over with its last lines
   is_over : IsOver read ended (output ++ text)
   is_over = subst (λ (t : List ℕ). IsOver read ended (output ++ t)) (sym is) (ended_by_input l end short fits)
 
-  -- its last lines were written
+  -- a session at the end of its input is over where its last lines were written, or its writer failed
   pub finished_on : (before after : Option (List ℕ)) (flushed : Bool) (failures : ℕ) (r : Result (Unit {0}) MainFault)
       → Writes text before after flushed failures r → Finishes read output ended before after flushed failures r
   finished_on before after flushed failures (Ok done) h = (h.0, h.1, text, h.2, is_over)
@@ -106,7 +110,7 @@ pub record HasGone (read output : List ℕ) (start : ℕ) (had left before after
   -- each turn has taken a byte at the least
   pub took : turn + length held ≤ start + length more
 
--- nothing yet
+-- a session that goes on from where it stands has read, written and answered nothing more yet
 pub begins : {read output : List ℕ} {had before : Option (List ℕ)} {ended : Bool} {s : State} {count : ℕ}
     {held : List ℕ} → IsLive read ended output s count held
     → HasGone read output (length held) had had before before 0 ended s count held
@@ -123,7 +127,7 @@ begins {read} {output} {had} {before} {ended} {s} {count} {held} l = record {
 module _ {read output : List ℕ} {start : ℕ} {had left before after : Option (List ℕ)} {turn : ℕ} {ended : Bool}
     {s : State}
     {count : ℕ} {held : List ℕ} (g : HasGone read output start had left before after turn ended s count held) where
-  -- it stands so with more that was read
+  -- a session that has gone so far stands so with more that was read
   pub live_on : (now : Bool) (piece longer : List ℕ) → longer ≡ held ++ piece
       → (ended ≡ true → (piece ≡ []) × (now ≡ true))
       → IsLive (read ++ (g.more ++ piece)) now (output ++ g.said) s count longer
@@ -132,7 +136,7 @@ module _ {read output : List ℕ} {start : ℕ} {had left before after : Option 
       (subst (λ (r : List ℕ). IsLive r now (output ++ g.said) s count (held ++ piece)) (append_assoc read g.more piece)
       (with_more piece g.live stays))
 
-  -- more was read
+  -- a session that has gone so far, and has read more, has gone as far
   pub reads : {later : Option (List ℕ)} {now : Bool} {piece longer : List ℕ} → Consumes left later piece
       → longer ≡ held ++ piece → (ended ≡ true → (piece ≡ []) × (now ≡ true))
       → HasGone read output start had later before after turn now s count longer
@@ -151,7 +155,7 @@ module _ {read output : List ℕ} {start : ℕ} {had left before after : Option 
     );
   }
 
-  -- a turn was taken
+  -- a session that has gone so far, and has taken a turn, has gone one turn further
   pub turns : {later : Option (List ℕ)} (text : List ℕ) {next : State} {many n : ℕ} {rest : List ℕ}
       → Appends after later text → IsLive (read ++ g.more) ended ((output ++ g.said) ++ text) next many rest
       → n < length held → rest ≡ drop (n + 1) held

@@ -44,11 +44,13 @@ use Rattle.smx_live.specs.declared.wrong.Wrong.TheVariants.{NoCommand, NoMemory,
 
 -- ---- what other crates' laws say
 
+-- a programs text has one reading, but for want of memory
 abbrev pub HasOneReading : Type 0
 HasOneReading = (bytes : List ℕ) (r s : Result ProgramLists TextFault) → ReadsAny programs_grammar bytes r
     → ReadsAny programs_grammar bytes s → IfErr r (λ f. f.cause ≢ cause.NoMemory)
     → IfErr s (λ f. f.cause ≢ cause.NoMemory) → r ≡ s
 
+-- no two entries have one line
 abbrev pub AreToldApart : Type 0
 AreToldApart =
     (x y : Entry) → FitsEntry x → FitsEntry y → line_of (entry_words x) ≡ line_of (entry_words y) → x ≡ y
@@ -60,7 +62,7 @@ pub not_one : (xs after : List ℕ) → IsOneLine (xs ++ LINE_FEED ∷ after) �
 not_one [] after h = h.0 refl
 not_one (x ∷ xs) after h = not_one xs after h.1
 
--- one line, and then the others
+-- the text of lines with bytes behind it begins with the first line and its line feed
 cons : (l : List ℕ) (ls : List (List ℕ)) (rest : List ℕ)
     → lines_text (l ∷ ls) ++ rest ≡ l ++ LINE_FEED ∷ (lines_text ls ++ rest)
 cons l ls rest = simp append_assoc
@@ -73,11 +75,12 @@ first_is n bytes l after one is has =
 
 -- ---- tables
 
--- a line that begins otherwise stands there, or there is none more
+-- a line stands there that doesn't begin as a driver's, or the input has ended without one more
 abbrev Stops : Bool → List ℕ → Type 0
 Stops ended rest = ((n : ℕ) × HasLine n rest × (begins_driver (take n rest) ≡ false))
     ⊎ ((ended ≡ true) × IsOneLine rest)
 
+-- the lines of drivers don't stop where one more begins as a driver's
 stops_at : (ended : Bool) (rest l after : List ℕ) → IsOneLine l → begins_driver l ≡ true
     → rest ≡ l ++ LINE_FEED ∷ after → Stops ended rest → ⊥
 stops_at ended rest l after one driver is (inl (n, has, other)) =
@@ -85,7 +88,7 @@ stops_at ended rest l after one driver is (inl (n, has, other)) =
     let wrong : false ≡ true = sym other ∙ ap begins_driver same ∙ driver in absurd (cc wrong)
 stops_at ended rest l after one driver is (inr (end, whole)) = not_one l after (subst IsOneLine is whole)
 
--- the lines of drivers up to there are determined
+-- the lines of drivers, up to where they stop, are determined by the bytes
 drivers_once : (ended : Bool) (ls ms : List (List ℕ)) (rest more : List ℕ) → AllByRecursion IsOneLine ls
     → AllByRecursion IsOneLine ms → AllByRecursion (λ l. begins_driver l ≡ true) ls
     → AllByRecursion (λ l. begins_driver l ≡ true) ms → Stops ended rest → Stops ended more
@@ -101,17 +104,19 @@ drivers_once ended (l ∷ ls) (m ∷ ms) rest more all all_too are are_too stops
     let others = drivers_once ended ls ms rest more all.1 all_too.1 are.1 are_too.1 stops stops_too cut.1 in
     ap (λ (x : List ℕ). x ∷ ls) cut.0 ∙ ap (λ (xs : List (List ℕ)). m ∷ xs) others
 
+-- where a table is over, the lines of drivers stop
 stops_there : (ended : Bool) (ls : List (List ℕ)) (rest : List ℕ) → IsOverAt ended ls rest → Stops ended rest
 stops_there ended ls rest (inl (n, has, small, some, other)) = inl (n, has, other)
 stops_there ended ls rest (inr (end, short)) = inr (end, short.0)
 
--- there is a first line where there is any
+-- a table without a line is not over where there is a first line
 no_table : (ended : Bool) (m : List ℕ) (ms : List (List ℕ)) (rest more : List ℕ) → IsOverAt ended [] rest
     → rest ≡ lines_text (m ∷ ms) ++ more → ⊥
 no_table ended m ms rest more (inl (n, has, small, some, other)) is = some refl
 no_table ended m ms rest more (inr (end, short)) is =
     not_one m (lines_text ms ++ more) (subst IsOneLine (is ∙ cons m ms more) short.0)
 
+-- the lines of a table that is over are determined by the bytes
 lines_once : (ended : Bool) (ls ms : List (List ℕ)) (rest more : List ℕ) → AreOfTable ls → AreOfTable ms
     → IsOverAt ended ls rest → IsOverAt ended ms more → lines_text ls ++ rest ≡ lines_text ms ++ more → ls ≡ ms
 lines_once ended [] [] rest more are are_too over over_too e = refl
@@ -136,12 +141,12 @@ table_once ended table other rest more t u e =
 
 -- ---- entries
 
--- a line begins with its first word
+-- the first byte of a line is the first byte of its first word
 begins_so : (b c : ℕ) (w rest : List ℕ) (words : List (List ℕ)) → line_of ((c ∷ w) ∷ words) ≡ b ∷ rest → c ≡ b
 begins_so b c w rest [] is = cc is
 begins_so b c w rest (word ∷ words) is = cc is
 
--- that of an entry with a digit
+-- the line of an entry begins with a digit
 pub no_entry : (e : Entry) → FitsEntry e → (b : ℕ) (rest : List ℕ)
     → ((ds : List ℕ) → all_ascii_digits (b ∷ ds) ≡ true → ⊥) → line_of (entry_words e) ≡ b ∷ rest → ⊥
 no_entry e fits b rest no_digit = by_word (decimal e.process) refl where
@@ -156,7 +161,7 @@ no_entry e fits b rest no_digit = by_word (decimal e.process) refl where
       (subst (λ (x : List ℕ). all_ascii_digits x ≡ true) (sym same) (digits_decimal own e.process small)))
 
 module _ (version : Version) (drivers : List DriverSpec) (history : List Entry) (l : List ℕ) where
-  -- neither an empty line nor `show` is that of an entry
+  -- a line that asks for the configuration is not that of an entry
   not_shown : (e : Entry) → IsEntryOf version drivers history l e → AsksToShow l → ⊥
   not_shown e is (inl none) =
       no_entry is.asked is.told.0 32 (codes "= done") (λ ds h. absurd (cc h))
@@ -165,16 +170,17 @@ module _ (version : Version) (drivers : List DriverSpec) (history : List Entry) 
       no_entry is.asked is.told.0 115 (codes "how = done") (λ ds h. absurd (cc h))
       (sym is.is_read ∙ ap (λ (x : List ℕ). x ++ codes " = done") show)
 
-  -- nor is `end`
+  -- the line `end` is not that of an entry
   not_ended : (e : Entry) → IsEntryOf version drivers history l e → l ≡ codes "end" → ⊥
   not_ended e is end =
       no_entry is.asked is.told.0 101 (codes "nd = done") (λ ds h. absurd (cc h))
       (sym is.is_read ∙ ap (λ (x : List ℕ). x ++ codes " = done") end)
 
-  -- a line that is performed makes one entry
+  -- the entry of a call and its reply
   abbrev entry_of : ℕ × Command → Reply → Entry
   entry_of call reply = record { process = call.0; command = call.1; reply = reply }
 
+  -- a line is that of at most one entry
   entry_once : AreToldApart → (e f : Entry) → IsEntryOf version drivers history l e
       → IsEntryOf version drivers history l f → e ≡ f
   entry_once told_apart e f is is_too =
@@ -185,7 +191,7 @@ module _ (version : Version) (drivers : List DriverSpec) (history : List Entry) 
       ∙ ap (λ (c : ℕ × Command). (step drivers (after drivers history) c.0 c.1).1) call ∙ is_too.legal in
       ap (λ (c : ℕ × Command). entry_of c e.reply) call ∙ ap (λ (r : Reply). entry_of (call_of f) r) reply
 
-  -- a line has one answer
+  -- a line has at most one answer, but for want of memory
   answer_once : AreToldApart → (a b : Answer) → IsAnswer version drivers history l a
       → IsAnswer version drivers history l b
       → a ≢ NotDone NoMemory → b ≢ NotDone NoMemory → a ≡ b
@@ -216,7 +222,7 @@ module _ (version : Version) (drivers : List DriverSpec) (history : List Entry) 
   answer_once told_apart (NotDone Full) (NotDone NoMemory) is is_too had had_too = absurd (had_too refl)
   answer_once told_apart (NotDone Full) (NotDone Full) is is_too had had_too = refl
 
-  -- and the line `end` has none
+  -- the line `end` has no answer, but for want of memory
   no_answer : (a : Answer) → IsAnswer version drivers history l a → a ≢ NotDone NoMemory → l ≡ codes "end" → ⊥
   no_answer (Entered e) is had end = not_ended e is end
   no_answer (Shown v) (inl none, shown) had end =
@@ -229,7 +235,7 @@ module _ (version : Version) (drivers : List DriverSpec) (history : List Entry) 
 
 -- ---- turns
 
--- one turn, and then the others
+-- the lines of turns, and what is held behind them, begin with the line of the first turn
 asked_cons : (t : Turn) (ts : List Turn) (held : List ℕ)
     → asked_text (t ∷ ts) ++ held ≡ t.line ++ LINE_FEED ∷ (asked_text ts ++ held)
 asked_cons t ts held = simp append_assoc
@@ -247,7 +253,7 @@ words_once ended held words said (inr (end, short, cut)) (inl (more, is, none)) 
 words_once ended held words said (inr (end, short, cut)) (inr (end_too, short_too, cut_too)) = cut ∙ sym cut_too
 
 module _ (version : Version) (drivers : List DriverSpec) (told_apart : AreToldApart) (ended : Bool) where
-  -- no line is answered behind that
+  -- no line is answered at the end of a session
   none_behind : (history : List Entry) (u : Turn) (rest held words : List ℕ) → IsAtEnd ended held words
       → held ≡ u.line ++ LINE_FEED ∷ rest → IsShort u.line → IsAnswer version drivers history u.line u.answer
       → u.answer ≢ NotDone NoMemory → ⊥
@@ -294,6 +300,7 @@ whole_output version drivers turns words =
     (beginning (transcript_grammar version) (map line.Driver drivers ++ map line.Entry []) ++ said_text turns)
     ++ (words ++ (view_lines (view drivers (after drivers (entries_of turns))) ++ codes "end\n"))
 
+-- what a session that is over has written is its output by its drivers, its turns and its last words
 output_is : (read : List ℕ) (ended : Bool) (output : List ℕ) (o : IsOver read ended output)
     → output ≡ whole_output o.s.version o.s.drivers o.live.turns o.words
 output_is read ended output o =
@@ -306,7 +313,7 @@ output_is read ended output o =
       closing : Configuration → List ℕ
       closing c = view_lines (view o.s.drivers c) ++ codes "end\n"
 
--- the text spells one value
+-- a text spells one value, whatever the version
 pub value_once : HasOneReading → (text : List ℕ) (v w : Version) (x y : ProgramLists)
     → Spells (programs_grammar v) text x → Spells (programs_grammar w) text y → x ≡ y
 value_once reading text v w x y h k =
@@ -314,7 +321,7 @@ value_once reading text v w x y h k =
     let other : Result ProgramLists TextFault = Ok y in
     let same : one ≡ other = reading text one other (v, h, tt) (w, k, tt) tt tt in cc
 
--- so two sessions that came to their end have written the same
+-- two sessions that came to their end over the same bytes, and never wanted memory, have written the same
 pub one_output : HasOneReading → AreToldApart → (read : List ℕ) (ended : Bool) (one other : List ℕ)
     (o : IsOver read ended one) (p : IsOver read ended other) → HadMemory o.live.turns → HadMemory p.live.turns
     → one ≡ other
@@ -349,7 +356,7 @@ one_output reading told_apart read ended one other o p had had_too =
 
 -- ---- what a session has come of
 
--- the table spells programs, and no other text has a fault there
+-- the table of a session has no fault as a programs text but want of memory
 pub no_fault : HasOneReading → (read output : List ℕ) (ended : Bool) (fault : TextFault)
     → HasComeSoFar read ended output
     → HasTableOf read ended (λ text. ReadsAny programs_grammar text (Err fault)) → fault.cause ≢ cause.NoMemory → ⊥
@@ -361,7 +368,7 @@ no_fault reading read output ended fault (s, count, held, l) (table, rest, parts
     let wrong : one ≡ other = reading (table_text l.table) one other (s.version, l.spelled, tt) there tt known in
     absurd (cc wrong)
 
--- and its drivers are not refused
+-- the drivers of a session's table are not refused but for want of memory
 pub no_refusal : HasOneReading → HaveOneFault → (read output : List ℕ) (ended : Bool) (fault : RunFault)
     → HasComeSoFar read ended output
     → HasTableOf read ended (RefusesDriversOf fault) → fault ≡ run.NoMemory
@@ -382,7 +389,7 @@ all_short version drivers history [] was = tt
 all_short version drivers history (t ∷ ts) was =
     (was.0.1, all_short version drivers (history ++ entries_in t.answer) ts was.2)
 
--- so is the table, and each line of a session
+-- the table of a session, and each of its lines that was taken, is short
 pub are_short : (read output held : List ℕ) (ended : Bool) (s : State) (count : ℕ)
     (l : IsLive read ended output s count held)
     → (length l.table ≤ MAX_INPUT) × AllByRecursion (λ t. length t.line ≤ MAX_INPUT) l.turns

@@ -25,10 +25,12 @@ use Rattle.std.specs.Prelude.{ℕ}
 abbrev of_one : ℕ → ProgramLists
 of_one minors = record { version = V2; drivers = leaf eth minors ∷ []; programs = [] }
 
+-- the text of a driver without minors spells programs of that one driver
 minorless : Spells (programs_grammar V2) minorless_text (of_one 0)
 unfolding digits
 minorless = record { allowed = search (rules, arith); text = refl }
 
+-- the worked table spells programs of one driver with two minors
 worked : Spells (programs_grammar V2) (table_text worked_table) (of_one 2)
 unfolding digits
 worked = record { allowed = search (rules, arith); text = refl }
@@ -39,6 +41,7 @@ of_these : HasOneReading → (fault : RunFault) (text : List ℕ) (p : ProgramLi
 of_these reading fault text p spelled (version, q, also, so) =
     subst (λ (x : ProgramLists). RefusesAlone x.drivers fault) (value_once reading text version V2 q p also spelled) so
 
+-- the driver without minors is refused for its minors
 pub refused : RefusesDriversOf (run.ConfigFault (config.BadSpec 0 BadMinors)) minorless_text
 refused = (
   V2,
@@ -50,14 +53,17 @@ refused = (
   ),
 )
 
+-- the driver of the worked table may be refused for want of memory
 pub no_memory : RefusesDriversOf run.NoMemory (table_text worked_table)
 no_memory = (V2, of_one 2, worked, search (rules, arith))
 
+-- the driver without minors is not refused for want of memory
 pub not_for_want_of_memory : HasOneReading → RefusesDriversOf run.NoMemory minorless_text → ⊥
 not_for_want_of_memory reading h =
     let had : IsDriverList (leaf eth 0 ∷ []) = of_these reading run.NoMemory minorless_text (of_one 0) minorless h in
     absurd (cc (had.each 0 (leaf eth 0) (omega arith)))
 
+-- the driver of the worked table is not refused for its minors
 pub not_refused : HasOneReading
     → RefusesDriversOf (run.ConfigFault (config.BadSpec 0 BadMinors)) (table_text worked_table) → ⊥
 not_refused reading h =
@@ -67,7 +73,7 @@ not_refused reading h =
     ap spec_check (same_Some (leaf eth 2) d bad.here) ∙ check in
     absurd (cc e)
 
--- what is cut spells no programs
+-- no drivers are refused of a text that spells no programs
 pub not_of_what_is_cut : (text : List ℕ) → ((v : ProgramLists) → SpellsPrograms text v → ⊥) → (fault : RunFault)
     → RefusesDriversOf fault text → ⊥
 not_of_what_is_cut text none fault (version, p, spelled, others) =

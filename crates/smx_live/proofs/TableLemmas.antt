@@ -15,7 +15,7 @@ use Rattle.smx_live.specs.Tables.{AreOfTable, BeginsAsTable, IsEndlessTable, IsO
 use Rattle.smx_live.specs.Tables.{begins_driver, lines_text}
 use Rattle.smx_live.proofs.InboxLemmas.{line_stays, unmoved, with_line_feed}
 
--- one more item gives what it gives, behind the others
+-- what a list with one more item gives is what the others give, and then what that item gives
 pub flat_more : {A B : Type 0} (f : A → List B) (xs : List A) (x : A) → flat_map f (xs ++ x ∷ []) ≡ flat_map f xs ++ f x
 flat_more f [] x = append-nil (f x)
 flat_more f (y ∷ xs) x = ap (λ l. f y ++ l) (flat_more f xs x) ∙ sym (append_assoc (f y) (flat_map f xs) (f x))
@@ -42,7 +42,7 @@ one_line_more (l ∷ ls) line were one (inr is) = record {
   drivers = all_push (λ (x : List ℕ). begins_driver x ≡ true) ls line were.drivers is;
 }
 
--- the text of a table with the line that stands at the front
+-- the text of a table, and the line at the front with its line feed, are the text of the table with that line
 pub text_more : (table : List ℕ) (lines : List (List ℕ)) (n : ℕ) (held : List ℕ) → table ≡ lines_text lines
     → HasLine n held
     → table ++ take (n + 1) held ≡ lines_text (lines ++ take n held ∷ [])
@@ -88,7 +88,7 @@ fails_with start read piece table held lines parts text were failures e = by_fau
 
 -- ---- the end of a table
 
--- it is over where the next line begins otherwise
+-- a table with a line is over where the next line doesn't begin as a driver's
 pub over_at_a_line : (ended : Bool) (table : List ℕ) (lines : List (List ℕ)) (n : ℕ) (held : List ℕ)
     → table ≡ lines_text lines → AreOfTable lines → HasLine n held → n ≤ MAX_INPUT → length table ≢ 0
     → begins_driver (take n held) ≡ false → IsTable ended table held
@@ -106,7 +106,7 @@ over_at_a_line ended table lines n held text were line small some other = record
   );
 }
 
--- it is over at the end of the input
+-- a table is over where the input has ended without one line more
 pub over_at_the_end : (ended : Bool) (table : List ℕ) (lines : List (List ℕ)) (held : List ℕ) → table ≡ lines_text lines
     → AreOfTable lines → ended ≡ true → IsShort held → IsTable ended table held
 over_at_the_end ended table lines held text were end short = record {
@@ -116,7 +116,7 @@ over_at_the_end ended table lines held text were end short = record {
   over = inr (end, short);
 }
 
--- it stays over where more is read, which comes of an input that has not ended
+-- a table that is over stays so where more is read, which comes of an input that has not ended
 over_still : (ended now : Bool) (lines : List (List ℕ)) (rest more : List ℕ) → IsOverAt ended lines rest
     → (ended ≡ true → (more ≡ []) × (now ≡ true)) → IsOverAt now lines (rest ++ more)
 over_still ended now lines rest more (inl (n, line, small, some, other)) stays =
@@ -126,7 +126,7 @@ over_still ended now lines rest more (inr (end, short)) stays =
     let (none, still) = stays end in
     inr (still, subst IsShort (sym (ap (λ (m : List ℕ). rest ++ m) none ∙ append-nil rest)) short)
 
--- so does the table
+-- bytes that are a table stay one where more is read, which comes of an input that has not ended
 pub still_a_table : (ended now : Bool) (table rest more : List ℕ) → IsTable ended table rest
     → (ended ≡ true → (more ≡ []) × (now ≡ true)) → IsTable now table (rest ++ more)
 still_a_table ended now table rest more t stays = record {

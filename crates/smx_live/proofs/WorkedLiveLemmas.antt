@@ -24,11 +24,11 @@ use Rattle.smx_live.proofs.OneOutputLemmas.{no_entry, not_one, table_once}
 
 -- ---- tables
 
--- lines that are not none
+-- a list of one line or more is not empty
 no_lines : (l : List ℕ) (ls : List (List ℕ)) → l ∷ ls ≡ [] → ⊥
 no_lines l ls none = absurd (cc none)
 
--- a table of these lines, behind which this line stands
+-- the worked table is over where `3 clone eth` stands behind it
 pub is_over : IsTable false worked_table (codes "3 clone eth\n")
 is_over = record {
   lines = codes "programs 2" ∷ codes "driver eth leaf 2 8 3 16" ∷ [];
@@ -43,7 +43,7 @@ is_over = record {
   );
 }
 
--- one of a header alone
+-- a table of the header alone is over where `show` stands behind it
 header_alone : IsTable false (codes "programs 2\n") (codes "show\nend\n")
 header_alone = record {
   lines = codes "programs 2" ∷ [];
@@ -58,23 +58,27 @@ header_alone = record {
   );
 }
 
+-- a table is not over where the line of a driver stands behind it
 pub not_too_early : IsTable false (codes "programs 2\n") (codes "driver eth leaf 2 8 3 16\n3 clone eth\n") → ⊥
 not_too_early t =
     let same = table_once false worked_table (codes "programs 2\n") _ _ is_over t refl in absurd (cc same.0)
 
+-- the line `show` is none of a table behind its header
 pub not_too_late : IsTable false (codes "programs 2\nshow\n") (codes "end\n") → ⊥
 not_too_late t =
     let same = table_once false (codes "programs 2\n") (codes "programs 2\nshow\n") _ _ header_alone t refl in
     absurd (cc same.0)
 
+-- a table is not over before its header
 pub not_before_its_header : IsTable false [] (codes "programs 2\nshow\nend\n") → ⊥
 not_before_its_header t =
     let same = table_once false (codes "programs 2\n") [] _ _ header_alone t refl in absurd (cc same.0)
 
--- the bytes of a line that has not ended
+-- `3 clone eth` has no line feed in it
 one_clone : IsOneLine (codes "3 clone eth")
 one_clone = search (rules, arith)
 
+-- a table is not over where the input has not ended and no whole line stands behind it
 pub not_within_a_line : IsTable false worked_table (codes "3 clone eth") → ⊥
 not_within_a_line t = elim t.over [
   | inl (n, has, small, some, other) ↦ not_one (take n (codes "3 clone eth")) (drop (n + 1) (codes "3 clone eth"))
@@ -84,21 +88,26 @@ not_within_a_line t = elim t.over [
 
 -- ---- answers
 
+-- the line `show` is not refused as no command
 pub show_is_asked : IsAnswer V2 drivers [] (codes "show") (NotDone NoCommand) → ⊥
 show_is_asked is = is.0.0 (inr refl)
 
+-- the line `end` is not refused as no command
 pub end_is_asked : IsAnswer V2 drivers [] (codes "end") (NotDone NoCommand) → ⊥
 end_is_asked is = is.0.1 refl
 
+-- the line `x` is not refused for a full history where no entry was made yet
 pub not_full : IsAnswer V2 drivers [] (codes "x") (NotDone Full) → ⊥
 not_full is = omega (arith, is.1)
 
+-- the line `x` is not answered by an entry
 pub not_performed : (e : Entry) → IsAnswer V2 drivers [] (codes "x") (Entered e) → ⊥
 not_performed e is =
     no_entry is.asked is.told.0 120 (codes " = done") (λ ds h. absurd (cc h)) (sym is.is_read)
 
 -- ---- the session
 
+-- the line `x` asks neither for the configuration nor for the end
 asks_for_neither : AsksForNeither (codes "x")
 asks_for_neither = (
   λ asks. elim asks [
@@ -108,6 +117,7 @@ asks_for_neither = (
   λ end. absurd (cc end),
 )
 
+-- the line `x` is no command of a process that version 2 can tell
 no_call : IsNoCall V2 (codes "x")
 no_call e fits is = no_entry e fits.0 120 (codes " = done") (λ ds h. absurd (cc h)) (sym is)
 
@@ -116,6 +126,7 @@ abbrev call_in : Option Entry → ℕ × Command
 call_in (Some e) = call_of e
 call_in None = (64, CloseAll)
 
+-- the line `3 clone eth` is that of the entry of a clone by process 3, which the model answers so
 cloned : Performs begun (codes "3 clone eth") opened → IsEntryOf V2 drivers [] (codes "3 clone eth")
     (3 does OpenClone eth gets Fd 0 0)
 cloned p = record {
@@ -128,23 +139,26 @@ cloned p = record {
   room = search arith;
 }
 
+-- the first two lines that the worked session writes are the beginning of its transcript
 opening_is : codes "transcript 2\ndriver eth leaf 2 8 3 16\n"
     ≡ beginning (transcript_grammar V2) (map line.Driver drivers ++ map line.Entry [])
 unfolding digits
 opening_is = refl
 
+-- what the worked session has answered is its opening and the answers of its turns
 said_is : worked_answers
     ≡ codes "transcript 2\ndriver eth leaf 2 8 3 16\n" ++ said_text worked_turns
 unfolding digits
 said_is = refl
 
+-- what the worked session has written is what it has answered, and the last lines of its transcript
 whole_is : worked_output
     ≡ worked_answers
     ++ ([] ++ closing_text opened)
 unfolding digits
 whole_is = refl
 
--- the table is over where the first of these lines stands
+-- the worked table is over where the lines of the worked turns stand behind it
 table_over : IsTable false worked_table (asked_text worked_turns ++ codes "end\n3 exit\n")
 table_over = record {
   lines = codes "programs 2" ∷ codes "driver eth leaf 2 8 3 16" ∷ [];
@@ -159,6 +173,7 @@ table_over = record {
   );
 }
 
+-- the worked session is over, and its output is the worked one
 pub over : IsStartOf table begun → Performs begun (codes "3 clone eth") opened → IsOver worked_input false worked_output
 over start opens = record {
   before = worked_answers;

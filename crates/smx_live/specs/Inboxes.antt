@@ -49,12 +49,12 @@ pub record IsPiece (had left : Option (List ℕ)) (ended : Bool) (failures : ℕ
   pub fine : OnOk result (failures ≡ 0)
   pub fault : IfErr result (FailsToRead ⊥ (read ≡ []) failures)
 
--- what a whole line is found in, or that none comes any more
+-- a line of so many bytes is held as a whole, and may be taken; or none is, and none comes any more
 abbrev pub IsFound : Bool → List ℕ → Option ℕ → Type 0
 IsFound ended held (Some n) = HasLine n held × (n ≤ MAX_INPUT)
 IsFound ended held None = (ended ≡ true) × IsShort held
 
--- the same of reads up to a whole line, of which none is made once one is there or the end was shown
+-- these bytes were read, and no others, by reads up to a whole line: none where one is there or the end was shown
 pub record IsNextLine (had left : Option (List ℕ)) (ended : Bool) (failures : ℕ) (old new : Inbox) (read : List ℕ)
     (result : Result (Option ℕ) MainFault) : Type 0 where
   pub consumed : Consumes had left read

@@ -92,7 +92,7 @@ pub record IsOver (read : List ℕ) (ended : Bool) (output : List ℕ) : Type 0 
   pub spellable : IsSpellableView (view s.drivers s.configuration)
 
 module _ {read : List ℕ} {ended : Bool} {output : List ℕ} (o : IsOver read ended output) where
-  -- its entries, with the configuration after them
+  -- the entries of a session, with the configuration after them
   abbrev pub transcript_of : Transcript
   transcript_of = transcript_with o.s.version o.s.drivers (entries_of o.live.turns) (view o.s.drivers o.s.configuration)
 
@@ -100,7 +100,7 @@ module _ {read : List ℕ} {ended : Bool} {output : List ℕ} (o : IsOver read e
   abbrev pub transcript_part : List ℕ
   transcript_part = o.live.opening ++ text_of (map entry_words (entries_of o.live.turns)) ++ closing_text o.s
 
-  -- that is the transcript of a legal history, which a check finds legal
+  -- that part is the transcript of a legal history, which a check finds legal
   pub record IsLegalTranscript : Type 0 where
     pub spelled : SpellsTranscript transcript_part transcript_of
     pub legal : IsVerdict o.s.drivers (entries_of o.live.turns) (view o.s.drivers o.s.configuration) Legal

@@ -42,7 +42,7 @@ BeginsAsTable read AreSo = (lines : List (List ℕ)) × (rest : List ℕ) × (re
 abbrev pub IsUnfinished : List ℕ → Type 0
 IsUnfinished read = BeginsAsTable read (λ text rest. IsOneLine rest)
 
--- it has more than 16,777,216 bytes, or the line behind it has
+-- the table has more than 16,777,216 bytes, or the line behind it has
 abbrev pub IsEndlessTable : List ℕ → Type 0
 IsEndlessTable read = BeginsAsTable read (λ text rest. (MAX_INPUT < length text) ⊎ IsTooLong rest)
 

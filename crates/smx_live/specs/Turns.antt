@@ -41,7 +41,7 @@ pub data Answer : Type 0 where
   Shown : ConfigView → Answer
   NotDone : Wrong → Answer
 
--- what is written of it
+-- what is written of an answer
 abbrev pub answer_text : Answer → List ℕ
 answer_text (Entered e) = entry_line e
 answer_text (Shown v) = view_lines v ++ codes "shown\n"
@@ -52,19 +52,21 @@ pub record Turn : Type 0 where
   pub line : List ℕ
   pub answer : Answer
 
--- the lines of these turns, and what is written of their answers
+-- the lines of these turns, each with its line feed
 abbrev pub asked_text : List Turn → List ℕ
 asked_text turns = flat_map (λ t. t.line ++ LINE_FEED ∷ []) turns
 
+-- what is written of the answers to these turns
 abbrev pub said_text : List Turn → List ℕ
 said_text turns = flat_map (λ t. answer_text t.answer) turns
 
--- the entries among the answers
+-- the entry of an answer, if it is one
 abbrev pub entries_in : Answer → List Entry
 entries_in (Entered e) = e ∷ []
 entries_in (Shown v) = []
 entries_in (NotDone w) = []
 
+-- the entries among the answers to these turns
 abbrev pub entries_of : List Turn → List Entry
 entries_of turns = flat_map (λ t. entries_in t.answer) turns
 
@@ -85,7 +87,7 @@ pub record IsEntryOf (version : Version) (drivers : List DriverSpec) (history : 
   pub spelled : FitsEntry e
   pub room : length history < MAX_COMMANDS
 
--- neither that nor the end is asked for
+-- neither the configuration nor the end is asked for
 abbrev pub AsksForNeither : List ℕ → Type 0
 AsksForNeither line = (AsksToShow line → ⊥) × (line ≢ codes "end")
 
@@ -101,19 +103,19 @@ IsAnswer version drivers history line (Entered e) = IsEntryOf version drivers hi
 IsAnswer version drivers history line (Shown v) = AsksToShow line × (v ≡ view drivers (after drivers history))
 IsAnswer version drivers history line (NotDone w) = IsWrong version (length history) line w
 
--- each of these is one line, and not too long, and is answered so, where these entries came before
+-- the line of each turn is one line, and not too long, and is answered so, where these entries came before
 abbrev pub AreAnswered : Version → List DriverSpec → List Entry → List Turn → Type 0
 AreAnswered version drivers history [] = Unit {0}
 AreAnswered version drivers history (t ∷ ts) = IsShort t.line × IsAnswer version drivers history t.line t.answer
     × AreAnswered version drivers (history ++ entries_in t.answer) ts
 
--- none of them for want of memory
+-- none of these turns is refused for want of memory
 abbrev pub HadMemory : List Turn → Type 0
 HadMemory turns = AllByRecursion (λ t. t.answer ≢ NotDone NoMemory) turns
 
 -- ---- how a session takes a turn
 
--- it performs the line as this entry, one more
+-- a session performs the line as this entry, one more than before
 pub record IsEntered (s : State) (count : ℕ) (line : List ℕ) (e : Entry) (next : State) (more : ℕ) : Type 0 where
   pub performs : Performs s line next
   pub last : next.last ≡ Some e
@@ -121,7 +123,7 @@ pub record IsEntered (s : State) (count : ℕ) (line : List ℕ) (e : Entry) (ne
   pub room : count < MAX_COMMANDS
   pub counted : more ≡ count + 1
 
--- it answers the line so, and goes on as this
+-- a session answers the line so, and goes on as this, with so many entries
 abbrev pub IsTaken : State → ℕ → List ℕ → Answer → State → ℕ → Type 0
 IsTaken s count line (Entered e) next more = IsEntered s count line e next more
 IsTaken s count line (Shown v) next more =

@@ -9,11 +9,11 @@ use Rattle.smx_live.specs.Tables.{table_text}
 use Rattle.smx_live.specs.Turns.{Entered, NotDone, Shown, Turn, answer_text, wrong_line}
 use Rattle.smx_live.specs.declared.wrong.Wrong.TheVariants.{NoCommand, NoMemory, Full}
 
--- the table
+-- the table of a worked session
 abbrev pub worked_table : List ℕ
 worked_table = codes "programs 2\ndriver eth leaf 2 8 3 16\n"
 
--- a command, an empty line, and a line that is none; with what they are answered
+-- a command, an empty line, and a line that is no command; with what they are answered
 abbrev pub worked_turns : List Turn
 worked_turns =
     record { line = codes "3 clone eth"; answer = Entered (3 does OpenClone eth gets Fd 0 0) }
@@ -24,12 +24,13 @@ worked_turns =
 abbrev pub worked_input : List ℕ
 worked_input = codes "programs 2\ndriver eth leaf 2 8 3 16\n3 clone eth\n\nx\nend\n3 exit\n"
 
--- what is written up to the end, and in all
+-- what is written up to the line `end`
 abbrev pub worked_answers : List ℕ
 worked_answers =
     codes "transcript 2\ndriver eth leaf 2 8 3 16\n3 clone eth = fd 0 0\n"
     ++ codes "config\nnext 1 1\nfd 3 0 eth 0\nshown\n? no command\n"
 
+-- what is written in all
 abbrev pub worked_output : List ℕ
 worked_output = worked_answers ++ codes "config\nnext 1 1\nfd 3 0 eth 0\nend\n"
 
@@ -37,40 +38,46 @@ worked_output = worked_answers ++ codes "config\nnext 1 1\nfd 3 0 eth 0\nend\n"
 abbrev pub minorless_text : List ℕ
 minorless_text = codes "programs 2\ndriver eth leaf 0 8 3 16\nend\n"
 
--- answers
+-- what is answered to a clone is the line of its entry
 pub entry_told : answer_text (Entered (3 does OpenClone eth gets Fd 0 0)) ≡ codes "3 clone eth = fd 0 0\n"
 unfolding digits
 entry_told = refl
 
+-- what is answered to an empty line is the configuration, and `shown` behind it
 pub view_told : answer_text (Shown (view drivers hung.configuration))
     ≡ codes "config\nnext 1 1\nfd 3 0 eth 0\nhung eth 0\nshown\n"
 unfolding digits
 view_told = refl
 
--- last lines
+-- the last lines of a session without an entry
 pub end_told : closing_text begun ≡ codes "config\nnext 1 1\nend\n"
 unfolding digits
 end_told = refl
 
--- words of a line that is refused, or cut
+-- a line that is no command is refused in these words
 pub no_command_told : wrong_line NoCommand ≡ codes "? no command\n"
 no_command_told = refl
 
+-- a line for which memory is wanting is refused in these words
 pub no_memory_told : wrong_line NoMemory ≡ codes "? no memory\n"
 no_memory_told = refl
 
+-- a command for which the history is full is refused in these words
 pub full_told : wrong_line Full ≡ codes "? history full\n"
 full_told = refl
 
+-- a last line that is not whole is answered by these words
 pub cut_told : cut_words (codes "en") ≡ codes "? cut\n"
 cut_told = refl
 
+-- where no last line stands, nothing is said of it
 pub no_cut_told : cut_words [] ≡ []
 no_cut_told = refl
 
--- tables as programs
+-- a table as programs has the line `end` behind it
 pub table_ends : table_text worked_table ≡ codes "programs 2\ndriver eth leaf 2 8 3 16\nend\n"
 table_ends = refl
 
+-- a table of no line as programs has none
 pub no_table_ends : table_text [] ≡ []
 no_table_ends = refl

@@ -30,6 +30,7 @@ pub record HasForm (version : Version) (c : AnyCommand) : Type 0 where
 -- ---- each command has a form
 
 module _ (version : Version) where
+  -- a command whose words are those of a row, and words for its values, has a form
   formed : (c : AnyCommand) (word : List ℕ) (values : List Value) (args : List (List ℕ))
       → command_words c ≡ word ∷ args → IsRow commands word values Equals → Takes values args → HasForm version c
   formed c word values args are is takes = record {
@@ -105,7 +106,7 @@ abbrev pub IsCommand : Version → List (List ℕ) → Type 0
 IsCommand version words = (c : AnyCommand) × FitsCommandIn version c × (command_words c ≡ words)
 
 module _ (version : Version) where
-  -- of version 1
+  -- a word of version 1's commands, and words for the values behind it, are the words of a command
   of_row : (word : List ℕ) (values : List Value) (next : Choice) (args : List (List ℕ))
       → IsRow commands word values next → Takes values args → IsCommand version (word ∷ args)
   of_row word values next args (inl is) takes =
@@ -183,7 +184,7 @@ module _ (version : Version) where
       takes =
       absurd is
 
--- of a version
+-- a fixed word of a command, and words for the values behind it, are the words of a command of that version
 pub of_form : (version : Version) (word : List ℕ) (values : List Value) (next : Choice) (args : List (List ℕ))
     → IsFixed version Command word values next → Takes values args → IsCommand version (word ∷ args)
 of_form V1 word values next args is takes = of_row V1 word values next args is takes

@@ -42,22 +42,25 @@ module _ (version : Version) where
   abbrev pub CanEnd : List Value → Choice → Type 0
   CanEnd values choice = (words : List (List ℕ)) × Spells version values choice words
 
-  -- behind a fixed word
+  -- a line can go on to an end where a fixed word may stand behind which it can
   behind : (choice : Choice) (word : List ℕ) (next : Choice) → IsRow (rows choice) word [] next → CanEnd [] next
       → CanEnd [] choice
   behind choice word next is more =
       (word ∷ more.0, ([], next, inl (fixed_in version choice word [] next is), more.1))
 
+  -- a line can go on to an end where the end is chosen
   at_end : CanEnd [] End
   at_end = ([], tt)
 
+  -- a line can go on to an end where a reply is chosen
   at_reply : CanEnd [] Reply
   at_reply = behind Reply (codes "EMFILE") End (search rules) at_end
 
+  -- a line can go on to an end where the equals sign is chosen
   at_equals : CanEnd [] Equals
   at_equals = behind Equals (codes "=") Reply (search rules) at_reply
 
-  -- wherever something is chosen
+  -- wherever something is chosen, a line can go on to an end
   at_choice : (choice : Choice) → CanEnd [] choice
   at_choice ProgramsLine = behind ProgramsLine (codes "end") End (search rules) at_end
   at_choice TranscriptLine = behind TranscriptLine (codes "end") End (search rules) at_end
@@ -71,7 +74,7 @@ module _ (version : Version) where
   at_choice Serials = ([], tt)
   at_choice End = at_end
 
-  -- wherever values are wanted
+  -- wherever values are wanted and then something is chosen, a line can go on to an end
   pub can_end : (values : List Value) (choice : Choice) → CanEnd values choice
   can_end [] choice = at_choice choice
   can_end (value ∷ values) choice =

@@ -28,10 +28,12 @@ abbrev differ : List WordRow → Bool
 differ [] = true
 differ (row ∷ rows) = is_new row.0 rows && differ rows
 
+-- where two tests hold together, each of them does
 both : (a b : Bool) → a && b ≡ true → (a ≡ true) × (b ≡ true)
 both true b h = (refl, h)
 both false b h = absurd (cc h)
 
+-- a test that fails doesn't hold
 not_true : (a : Bool) → not a ≡ true → a ≡ true → ⊥
 not_true true h k = absurd (cc h)
 not_true false h k = absurd (cc k)
@@ -46,7 +48,7 @@ not_new (k ∷ ks) word values next h (inl is) =
 not_new (k ∷ ks) word values next h (inr more) =
     not_new ks word values next (both (not (bytes_eq word k.0)) (is_new word ks) h).1 more
 
--- what two ways to go on have to be
+-- two ways to go on want the same values, and choose the same behind them
 abbrev pub Same : List Value → Choice → List Value → Choice → Type 0
 Same values next others then = (values ≡ others) × (next ≡ then)
 
@@ -82,19 +84,19 @@ all_differ V1 ProgramsLine = refl
 all_differ V2 ProgramsLine = refl
 all_differ version choice = refl
 
--- and so do those of the lines of programs and of the commands
+-- the words of the lines of programs, and those of the commands, differ from one another
 lines_differ : (version : Version) → differ (told_rows version ProgramsLine ++ told_rows version Command) ≡ true
 lines_differ V1 = refl
 lines_differ V2 = refl
 
 -- ---- words that are no numbers
 
--- no word is digits alone
+-- no word of these rows is digits alone
 abbrev no_digits : List WordRow → Bool
 no_digits [] = true
 no_digits (row ∷ rows) = not (all_ascii_digits row.0) && no_digits rows
 
--- so a number is the word of none
+-- where no word of some rows is digits alone, the word of a number is that of no row
 no_number : (ks : List WordRow) → no_digits ks ≡ true → (n : ℕ) → n < 2 ^ 32 → (word : List ℕ) (values : List Value)
     (next : Choice) → word ≡ decimal n → IsRow ks word values next → ⊥
 no_number [] h n small word values next number is = is
@@ -105,6 +107,7 @@ no_number (k ∷ ks) h n small word values next number (inl is) =
 no_number (k ∷ ks) h n small word values next number (inr more) =
     no_number ks (both (not (all_ascii_digits k.0)) (no_digits ks) h).1 n small word values next number more
 
+-- no word with which a line of a transcript begins is digits alone
 no_line_digits : (version : Version) → no_digits (told_rows version TranscriptLine) ≡ true
 no_line_digits V1 = refl
 no_line_digits V2 = refl
@@ -127,7 +130,7 @@ module _ (version : Version) (word : List ℕ) where
     no_serials V2 h = h
   fixed_alone choice values next others then is other = other
 
-  -- what is of another kind goes on in one way
+  -- a word that is of another kind goes on in one way
   one_other : (choice : Choice) (values : List Value) (next : Choice) (others : List Value) (then : Choice)
       → IsOther version choice word values next → IsOther version choice word others then
       → Same values next others then
@@ -139,6 +142,7 @@ module _ (version : Version) (word : List ℕ) where
   one_other Serials values next others then is is_too = (is.1 ∙ sym is_too.1, is.2 ∙ sym is_too.2)
   one_other choice values next others then is is_too = absurd is
 
+  -- a word goes on in one way where something is chosen
   one_choice : (choice : Choice) (values : List Value) (next : Choice) (others : List Value) (then : Choice)
       → IsChosen version choice word values next → IsChosen version choice word others then
       → Same values next others then

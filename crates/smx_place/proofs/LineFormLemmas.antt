@@ -40,19 +40,22 @@ use Rattle.smx_place.proofs.WalkLemmas.{cut, ended, ended_as, from_row, number, 
 
 -- ---- drivers
 
+-- the values that are wanted behind the word `driver`
 abbrev driver_values : List Value
 driver_values = Name ∷ DriverKind ∷ Number ∷ Number ∷ Number ∷ Number ∷ []
 
+-- the words of a driver behind its first
 abbrev driver_args : DriverSpec → List (List ℕ)
 driver_args d = d.name ∷ kind_word d.kind ∷ decimal d.minors ∷ decimal d.high ∷ decimal d.low ∷ decimal d.max ∷ []
 
+-- the words of a driver that can be spelled are one for each value that is wanted
 driver_takes : (d : DriverSpec) → FitsDriver d → Takes driver_values (driver_args d)
 driver_takes d f = (f.name, ((d.kind, tt, refl), numbers)) where
   numbers : Takes (Number ∷ Number ∷ Number ∷ Number ∷ [])
       (decimal d.minors ∷ decimal d.high ∷ decimal d.low ∷ decimal d.max ∷ [])
   numbers = (number d.minors f.minors, (number d.high f.high, (number d.low f.low, (number d.max f.max, tt))))
 
--- words for the values of a driver are those of one
+-- words for the values of a driver are those of some driver that can be spelled
 driver_of : (words : List (List ℕ)) → ((ws : Words driver_values) × (words ≡ words_of driver_values ws))
     → (d : DriverSpec) × FitsDriver d × (words ≡ driver_args d)
 driver_of words (((a, is_a), ((b, is_b), ((c, is_c), ((d, is_d), ((e, is_e), ((f, is_f), end)))))), are) = (
@@ -64,6 +67,7 @@ driver_of words (((a, is_a), ((b, is_b), ((c, is_c), ((d, is_d), ((e, is_e), ((f
 -- ---- lines of programs
 
 module _ (version : Version) where
+  -- the words of a command that a version can tell go on to the end of a line of programs
   command_spelled : (c : AnyCommand) → FitsCommandIn version c → Spells version [] ProgramsLine (command_words c)
   command_spelled c fits =
       let f = form version c fits in
@@ -75,6 +79,7 @@ module _ (version : Version) where
             (append-nil f.args) (with_args version f.values f.args End [] f.takes tt),
       )
 
+  -- the words of any line of programs that a version can tell go on to the end of one
   programs_line : (k : Line) → programs.FitsLine version k → Spells version [] ProgramsLine (programs.line_words k)
   programs_line (line.Driver d) f =
       from_row version ProgramsLine (codes "driver") driver_values End (driver_args d) []
@@ -89,6 +94,7 @@ module _ (version : Version) where
       (search rules) tt tt
   programs_line (line.Command c) f = command_spelled c f
 
+  -- a first word of a line of programs, and words that go on behind it to the end, are those of such a line
   programs_row : (word : List ℕ) (values : List Value) (next : Choice) (words : List (List ℕ))
       → IsRow programs_lines word values next → Spells version values next words
       → IsLine Programs version (word ∷ words)
@@ -103,6 +109,7 @@ module _ (version : Version) where
       (line.End, tt, cc (is.0, are))
   programs_row word values next words (inr (inr (inr is))) h = absurd is
 
+  -- words that go on from the first one to the end of a line are those of a line of programs
   of_programs_line : (words : List (List ℕ)) → Spells version [] ProgramsLine words → IsLine Programs version words
   of_programs_line [] h = absurd h
   of_programs_line (word ∷ words) (values, next, inl is, h) =
@@ -114,7 +121,7 @@ module _ (version : Version) where
 -- ---- lines of a transcript
 
 module _ (version : Version) where
-  -- an entry behind its process
+  -- the words of an entry behind its process go on to the end of a line
   call_spelled : (c : AnyCommand) (r : AnyReply) → FitsCommandIn version c → FitsReplyIn version r
       → Spells version [] Command (command_words c ++ codes "=" ∷ reply_words r)
   call_spelled c r fits fits_too =
@@ -125,6 +132,7 @@ module _ (version : Version) where
       let rest = with_args version f.values f.args Equals (codes "=" ∷ reply_words r) f.takes reply in
       (f.values, Equals, inl f.fixed, rest)
 
+  -- the words of an entry that a version can tell go on to the end of a line of a transcript
   entry_spelled : (e : Entry) → FitsEntryIn version e → Spells version [] TranscriptLine (entry_words e)
   entry_spelled e (fits, told) =
       let parts = can_tell_each version (is_hangup e.command) (tells_of_hangup e.reply) told in (
@@ -134,6 +142,7 @@ module _ (version : Version) where
         call_spelled e.command e.reply (fits.command, parts.0) (fits.reply, parts.1),
       )
 
+  -- the words of a hung-up stream that a version can tell go on to the end of a line of a transcript
   hung_spelled : (h : HungLine) → FitsHung h → CanTell version true
       → Spells version [] TranscriptLine (hung_words h)
   hung_spelled h fits told = of_version_2 version told where
@@ -147,6 +156,7 @@ module _ (version : Version) where
           (fits.driver, (number h.minor fits.minor, tt)) tt,
     )
 
+  -- the words of any line of a transcript that a version can tell go on to the end of one
   transcript_line : (k : AnyTranscriptLine) → transcript.FitsLine version k
       → Spells version [] TranscriptLine (transcript.line_words k)
   transcript_line (told.Driver d) f =
@@ -223,6 +233,7 @@ module _ (version : Version) where
   transcript_line (told.Entry e) f = entry_spelled e f
   transcript_line (told.Hung h) f = hung_spelled h f.0 f.1
 
+  -- a first word of a line of a transcript, and words that go on behind it to the end, are those of such a line
   transcript_row : (word : List ℕ) (values : List Value) (next : Choice) (words : List (List ℕ))
       → IsRow transcript_lines word values next → Spells version values next words
       → IsLine Transcript version (word ∷ words)
@@ -315,6 +326,7 @@ module _ (version : Version) where
     fits_too : FitsReplyIn version reply
     are : words ≡ command_words command ++ codes "=" ∷ reply_words reply
 
+  -- words that go on where the equals sign is chosen are that sign and a reply
   equals : (words : List (List ℕ)) → Spells version [] Equals words
       → (rest : List (List ℕ)) × (words ≡ codes "=" ∷ rest) × IsReply version rest
   equals [] h = absurd h
@@ -325,6 +337,7 @@ module _ (version : Version) where
     from (inr is) = absurd is
   equals (word ∷ words) (values, next, inr is, h) = absurd is
 
+  -- words that go on where a command is chosen are a command, the equals sign and a reply
   call : (words : List (List ℕ)) → Spells version [] Command words → IsCall words
   call [] h = absurd h
   call (word ∷ words) (values, next, inl is, h) =
@@ -343,6 +356,7 @@ module _ (version : Version) where
       }
   call (word ∷ words) (values, next, inr is, h) = absurd is
 
+  -- the word of a process, and words that go on behind it to the end, are those of an entry's line
   entry : (word : List ℕ) (values : List Value) (next : Choice) (words : List (List ℕ)) (process : ℕ) → process < 64
       → word ≡ decimal process → values ≡ [] → next ≡ Command → Spells version values next words
       → IsLine Transcript version (word ∷ words)
@@ -356,6 +370,7 @@ module _ (version : Version) where
         cc (is, t.are),
       )
 
+-- words that go on from the first one to the end of a line are those of a line of a transcript
 of_transcript_line : (version : Version) (words : List (List ℕ)) → Spells version [] TranscriptLine words
     → IsLine Transcript version words
 of_transcript_line version [] h = absurd h
@@ -370,7 +385,7 @@ of_transcript_line V2 (word ∷ words) (values, next, inl (inr is), h) = transcr
 of_transcript_line version (word ∷ words) (values, next, inr ((process, small, is), none, then), h) =
     entry version word values next words process small is none then h
 
--- ---- both
+-- ---- both texts
 
 -- a line of a text is what goes on from its first word
 pub line_is : (kind : TextKind) (version : Version) (words : List (List ℕ))

@@ -11,7 +11,7 @@ use Rattle.smx_place.specs.Places.{AreParts, Begins, EndsThere, IsLine, IsPlace,
 use Rattle.smx_place.specs.declared.kinds.TextKind.{TextKind}
 use Rattle.smx_place.specs.declared.place.LinePlace.{LinePlace}
 
--- one part, and then the others
+-- parts, each with a space behind it, are the first with its space and then the others with theirs
 first_part : (part : List ℕ) (parts : List (List ℕ)) → spaced (part ∷ parts) ≡ part ++ SPACE ∷ spaced parts
 first_part part parts = append_assoc part (SPACE ∷ []) (spaced parts)
 
@@ -30,7 +30,7 @@ one_cut (x ∷ xs) (y ∷ ys) all all_too e =
     let t = apart SPACE x y (spaced xs) (spaced ys) all.0 all_too.0 (sym (first_part x xs) ∙ e ∙ first_part y ys) in
     ap (λ (z : List ℕ). z ∷ xs) t.0 ∙ ap (λ (zs : List (List ℕ)). y ∷ zs) (one_cut xs ys all.1 all_too.1 t.1)
 
--- so a line has its parts
+-- a line is of one list of parts
 one_line : (line : List ℕ) (xs ys : List (List ℕ)) → AreParts line xs → AreParts line ys → xs ≡ ys
 one_line line xs ys parts others = one_cut xs ys parts.0 others.0 (sym parts.1 ∙ others.1)
 
@@ -42,6 +42,7 @@ record GoesTo (front behind other : List (List ℕ)) : Type 0 where
   is : behind ≡ word ∷ rest
   to : other ≡ (front ++ word ∷ []) ++ more
 
+-- two fronts of the same parts are the same, or one of them goes on to the other
 two_fronts : (xs ws ys bs : List (List ℕ)) → xs ++ ws ≡ ys ++ bs
     → (xs ≡ ys) ⊎ (GoesTo xs ws ys ⊎ GoesTo ys bs xs)
 two_fronts [] ws [] bs e = inl refl
@@ -81,7 +82,7 @@ module _ (kind : TextKind) (version : Version) where
       subst (Stops kind version front) h.is stops
       (begins_with (front ++ h.word ∷ []) h.more (subst (Begins kind version) h.to begun))
 
-  -- nor is the line whole
+  -- where no line goes on behind a front, the line is not whole
   stops_whole : (front behind : List (List ℕ)) → Stops kind version front behind
       → IsLine kind version (front ++ behind) → ⊥
   stops_whole front [] stops is = stops (subst (IsLine kind version) (append-nil front) is)

@@ -21,24 +21,26 @@ use Rattle.smx_place.proofs.Spelling.{Spells}
 
 -- ---- parts
 
--- one part more
+-- parts with one more, each with a space behind it, are the others with theirs and then that one with its space
 spaced_more : (front : List (List ℕ)) (word : List ℕ)
     → spaced (front ++ word ∷ []) ≡ spaced front ++ (word ++ SPACE ∷ [])
 spaced_more [] word = append-nil (word ++ SPACE ∷ [])
 spaced_more (w ∷ front) word = ap (λ (xs : List ℕ). (w ++ SPACE ∷ []) ++ xs) (spaced_more front word)
     ∙ sym (append_assoc (w ++ SPACE ∷ []) (spaced front) (word ++ SPACE ∷ []))
 
+-- where no space stands in the parts in front, nor in those behind, none stands in any of all
 all_more : (front : List (List ℕ)) (behind : List (List ℕ)) → AllByRecursion (IsFree SPACE) front
     → AllByRecursion (IsFree SPACE) behind → AllByRecursion (IsFree SPACE) (front ++ behind)
 all_more [] behind all more = more
 all_more (w ∷ front) behind all more = (all.0, all_more front behind all.1 more)
 
+-- joined parts, each with a space behind it, are the parts in front with theirs and then those behind with theirs
 spaced_both : (front behind : List (List ℕ)) → spaced (front ++ behind) ≡ spaced front ++ spaced behind
 spaced_both [] behind = refl
 spaced_both (w ∷ front) behind = ap (λ (xs : List ℕ). (w ++ SPACE ∷ []) ++ xs) (spaced_both front behind)
     ∙ sym (append_assoc (w ++ SPACE ∷ []) (spaced front) (spaced behind))
 
--- any bytes are parts, one or more
+-- these bytes are parts, one or more
 record HasParts (bytes : List ℕ) : Type 0 where
   first : List ℕ
   others : List (List ℕ)
@@ -46,6 +48,7 @@ record HasParts (bytes : List ℕ) : Type 0 where
   all_free : AllByRecursion (IsFree SPACE) others
   are : bytes ++ SPACE ∷ [] ≡ first ++ SPACE ∷ spaced others
 
+-- any bytes are parts, one or more
 parts_of : (bytes : List ℕ) → HasParts bytes
 parts_of [] = record { first = []; others = []; free = tt; all_free = tt; are = refl }
 parts_of (b ∷ bytes) =
@@ -77,7 +80,7 @@ left_parts (Some text) =
 
 -- ---- reading
 
--- so far the line goes on as some line of the text
+-- up to this column, the line goes on as some line of the text
 pub record HasCome (kind : TextKind) (version : Version) (line : List ℕ) (at : ℕ)
     (rest : Option (Bor (List ℕ))) (values : List Value) (next : Choice) : Type 0 where
   pub front : List (List ℕ)
@@ -86,7 +89,7 @@ pub record HasCome (kind : TextKind) (version : Version) (line : List ℕ) (at :
   pub column : at ≡ length (spaced front) + 1
   pub goes_on : (more : List (List ℕ)) → IsLine kind version (front ++ more) ↔ Spells version values next more
 
--- at its begin
+-- before its first part, a line goes on as some line of the text
 pub at_begin : (kind : TextKind) (version : Version) (line : Bor (List ℕ))
     → HasCome kind version line.now 1 (Some line) [] (first_choice kind)
 at_begin kind version line =
@@ -99,6 +102,7 @@ wanted_word : (version : Version) (values : List Value) (next : Choice) (word : 
 wanted_word version [] next word h = h
 wanted_word version (value ∷ values) next word h = (values, next, (h, refl, refl))
 
+-- the next word of a way to go on is what is wanted
 word_wanted : (version : Version) (values : List Value) (next : Choice) (word : List ℕ) (behind : List Value)
     (then : Choice) → GoesOn version values next word behind then → IsWanted version (wanted_of values next) word
 word_wanted version [] next word behind then h = (behind, then, h)
@@ -106,7 +110,7 @@ word_wanted version (value ∷ values) next word behind then h = h.0
 
 module _ (kind : TextKind) (version : Version) (line : List ℕ) (column : ℕ) (rest : Option (Bor (List ℕ)))
     (values : List Value) (next : Choice) (h : HasCome kind version line column rest values next) where
-  -- behind the next word
+  -- where a line goes on with its next part, it has come as far as behind that part
   pub one_more : (text : Bor (List ℕ)) → rest ≡ Some text → (word : List ℕ) (behind : Option (Bor (List ℕ)))
       → IsFree SPACE word → text.now ++ SPACE ∷ [] ≡ word ++ SPACE ∷ left_of behind
       → (wanted : List Value) (then : Choice) → GoesOn version values next word wanted then
@@ -139,11 +143,11 @@ module _ (kind : TextKind) (version : Version) (line : List ℕ) (column : ℕ) 
         let same = one_way version word values next behind chosen wanted then also goes in
         rw (← same.0, ← same.1) spells
 
-  -- some line begins so
+  -- some line of the text begins with the parts that were passed
   begins : Begins kind version h.front
   begins = let t = can_end version values next in (t.0, (h.goes_on t.0).1 t.1)
 
-  -- and just the words that are wanted go on
+  -- with the words that are wanted, and with no others, lines of the text go on behind the parts that were passed
   goes_with : (word : List ℕ)
       → Begins kind version (h.front ++ word ∷ []) ↔ IsWanted version (wanted_of values next) word
   goes_with word = (there, back) where
@@ -162,7 +166,7 @@ module _ (kind : TextKind) (version : Version) (line : List ℕ) (column : ℕ) 
               ((h.goes_on (word ∷ t.0)).1 (behind, then, goes, t.1)),
         )
 
-  -- and it ends where it may
+  -- the parts that were passed are a whole line just where a line may end
   ends_there : IsLine kind version h.front ↔ EndsThere (wanted_of values next)
   ends_there = (
     λ is. (h.goes_on []).0 (subst (IsLine kind version) (sym (append-nil h.front)) is),
@@ -213,12 +217,12 @@ module _ (kind : TextKind) (version : Version) (line : List ℕ) (column : ℕ) 
     ends_there.1 ends,
   )
 
-  -- and the place is at its end where it may not
+  -- where nothing is left and a line may not end, the place is at the end of the line
   pub ends_here : rest ≡ None → (EndsThere (wanted_of values next) → ⊥)
       → IsPlace kind version line (record { column = column; wanted = wanted_of values next })
   ends_here is stops = place_here [] tt (ap left_of is) (λ whole. stops (ends_there.0 whole))
 
-  -- one of both, as the code tells at the end
+  -- where nothing is left, the line is whole, or the place is at its end, as the code tells
   pub at_end : rest ≡ None → (o : Option LinePlace)
       → MatchOption o (EndsThere (wanted_of values next)) (λ place. (EndsThere (wanted_of values next) → ⊥)
       × (place ≡ record { column = column; wanted = wanted_of values next }))

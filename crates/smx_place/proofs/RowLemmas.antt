@@ -28,12 +28,12 @@ abbrev Tells : List StoredRow → List ℕ → Option FoundRow → Type 0
 Tells rows word o =
     MatchOption o (IsNoRow (rows_of rows) word) (λ row. IsRow (rows_of rows) word row.values.now row.next)
 
--- what the code's test says of other bytes
+-- bytes that a comparison tells apart are not the same
 differ : (xs ys : List ℕ) → bytes_eq xs ys ≡ false → ys ≢ xs
 differ xs ys other e =
     let same : bytes_eq xs ys ≡ true = (bytes_eq-Decides xs ys).1 (sym e) in absurd (cc (other, same))
 
--- one row more, which has another word
+-- what is said of a word in some rows is said of it with a row more in front, which has another word
 one_more : (row : StoredRow) (rows : List StoredRow) (word : List ℕ) (o : Option FoundRow) → word ≢ row.0.now
     → Tells rows word o → Tells (row ∷ rows) word o
 one_more row rows word None other h = (other, h)
@@ -50,7 +50,7 @@ passed (row ∷ rows) word first d o test some is says other h =
 
 -- ---- two tables
 
--- a row of the second
+-- a row of the second of two tables is a row of both joined
 pub in_second : (ks ls : List WordRow) (word : List ℕ) (values : List Value) (next : Choice)
     → IsRow ls word values next → IsRow (ks ++ ls) word values next
 in_second [] ls word values next is = is
@@ -71,12 +71,14 @@ no_process word n fits is large (p, small, same) =
 abbrev AllChoose : Choice → List WordRow → Type 0
 AllChoose next rows = AllByRecursion (λ row. row.2 ≡ next) rows
 
+-- where the same is chosen behind each row, it is chosen behind the row of any word
 chosen_by_all : (ks : List WordRow) (next : Choice) → AllChoose next ks → (word : List ℕ) (values : List Value)
     (found : Choice) → IsRow ks word values found → found ≡ next
 chosen_by_all [] next all word values found is = absurd is
 chosen_by_all (k ∷ ks) next all word values found (inl is) = is.2 ∙ all.0
 chosen_by_all (k ∷ ks) next all word values found (inr more) = chosen_by_all ks next all.1 word values found more
 
+-- behind each command of a version the equals sign is chosen
 all_equals : (version : Version) → AllChoose Equals (told_rows version Command)
 all_equals V1 = search rules
 all_equals V2 = search rules

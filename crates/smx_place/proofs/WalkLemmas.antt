@@ -18,12 +18,12 @@ pub tells : (version : Version) → CanTell version false
 tells V1 = refl
 tells V2 = tt
 
--- the word of a number
+-- the word of a number of 32 bits is a word for the value of a number
 pub number : (n : ℕ) → FitsNumber n → IsValue Number (decimal n)
 number n fits = (n, fits, refl)
 
 module _ (version : Version) where
-  -- words for the values, and then those of what is chosen
+  -- words for the values that are wanted, and then words that go on from what is chosen, go on from both
   pub with_args : (values : List Value) (args : List (List ℕ)) (next : Choice) (rest : List (List ℕ))
       → Takes values args → Spells version [] next rest → Spells version values next (args ++ rest)
   with_args [] [] next rest takes more = more
@@ -32,7 +32,7 @@ module _ (version : Version) where
   with_args (value ∷ values) (arg ∷ args) next rest takes more =
       (values, next, (takes.0, refl, refl), with_args values args next rest takes.1 more)
 
-  -- a fixed word, and what stands behind it
+  -- a fixed word, words for its values, and words that go on behind them, go on from where that word is chosen
   pub from_row : (choice : Choice) (word : List ℕ) (values : List Value) (next : Choice) (args rest : List (List ℕ))
       → IsRow (rows choice) word values next → Takes values args → Spells version [] next rest
       → Spells version [] choice (word ∷ (args ++ rest))
@@ -47,7 +47,7 @@ module _ (version : Version) where
     pub takes : Takes values args
     pub more : Spells version [] next rest
 
-  -- words that go on so begin with those of the values
+  -- words that go on where values are wanted begin with a word for each of the values
   pub cut : (values : List Value) (next : Choice) (words : List (List ℕ)) → Spells version values next words
       → Cut values next words
   cut [] next words h = record { args = []; rest = words; are = refl; takes = tt; more = h }
@@ -83,13 +83,13 @@ module _ (version : Version) where
       ∙ append-nil t.args in
       rw whole t.takes
 
-  -- a word for each of them
+  -- where the line ends behind some values, it is a word for each of them
   pub ended_as : (values : List Value) (next : Choice) (words : List (List ℕ)) (wanted : List Value)
       → values ≡ wanted → next ≡ End → Spells version values next words
       → (ws : Words wanted) × (words ≡ words_of wanted ws)
   ended_as values next words wanted same then h = given wanted words refl (ended values next words wanted same then h)
 
--- of a choice that version 2 adds nothing to
+-- a fixed word of a choice to which version 2 adds nothing is one of the rows of version 1
 pub plain : (version : Version) (choice : Choice) → later_rows choice ≡ [] → (word : List ℕ) (values : List Value)
     (next : Choice) → IsFixed version choice word values next → IsRow (rows choice) word values next
 plain V1 choice none word values next is = is

@@ -99,7 +99,7 @@ in_version_2 =
 
 -- ---- transcripts
 
--- behind the process and the word `exit` of an entry
+-- behind `0 exit ` the line of an entry goes on in column 8, with the equals sign
 behind_exit : (version : Version) (line rest : List ℕ) → line ≡ codes "0 exit " ++ rest
     → IsFixed version choice.Command (codes "exit") [] choice.Equals
     → HasCome Transcript version line 8 (Some (seen rest)) [] choice.Equals
@@ -126,7 +126,7 @@ no_equals =
     values then refl)
     (λ values then is. is))
 
--- behind the equals sign too
+-- behind `0 exit = ` the line of an entry goes on in column 10, with a reply
 behind_equals : (line rest : List ℕ) → line ≡ codes "0 exit = " ++ rest
     → HasCome Transcript V1 line 10 (Some (seen rest)) [] choice.Reply
 behind_equals line rest is =
@@ -148,11 +148,12 @@ other_cause =
     (codes "full") values then refl)
     (λ values then is. is))
 
--- numbers of one digit
+-- the word `7` may stand among serials, and more may stand behind it
 seven : GoesOn V1 [] choice.Serials (codes "7") [] choice.Serials
 unfolding digits
 seven = inr ((7, omega arith, refl), refl, refl)
 
+-- the word `5` may stand among serials, and more may stand behind it
 five : GoesOn V1 [] choice.Serials (codes "5") [] choice.Serials
 unfolding digits
 five = inr ((5, omega arith, refl), refl, refl)

@@ -9,7 +9,7 @@ use Rattle.smx_place.specs.declared.kinds.Value.TheVariants.{LinkKind, Bytes}
 use Rattle.smx_place.specs.declared.kinds.Wanted.{Wanted}
 use Rattle.smx_place.specs.declared.kinds.Wanted.TheVariants as wanted
 
--- those of a value
+-- the words for a value
 abbrev pub value_words : Value → List ℕ
 value_words Name = codes "a name of 1 to 8 small letters and digits, a letter first,"
 value_words DriverKind = codes "'leaf' or 'mux'"
@@ -21,7 +21,7 @@ value_words Side = codes "'w' or 'r'"
 value_words LinkKind = codes "'link' or 'plink'"
 value_words Bytes = codes "hex digits in pairs, or '-',"
 
--- those of what is chosen
+-- the words for what is chosen
 abbrev pub choice_words : Choice → List ℕ
 choice_words ProgramsLine = codes "'driver', 'process', 'end', a command, or in version 2 'hangup'"
 choice_words TranscriptLine =
@@ -37,7 +37,7 @@ choice_words NoDevice = codes "'driver', 'minor', or in version 2 'hangup'"
 choice_words Serials = codes "a number from 0 to 4294967295, or the end of the line"
 choice_words End = codes "the end of the line"
 
--- those of what is wanted
+-- the words for what is wanted
 abbrev pub wanted_words : Wanted → List ℕ
 wanted_words (wanted.Value value) = value_words value
 wanted_words (wanted.Choice choice) = choice_words choice

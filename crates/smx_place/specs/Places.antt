@@ -29,7 +29,7 @@ abbrev pub first_choice : TextKind → Choice
 first_choice Programs = choice.ProgramsLine
 first_choice Transcript = choice.TranscriptLine
 
--- such a line begins with these words
+-- some line of the text begins with these words
 abbrev pub Begins : TextKind → Version → List (List ℕ) → Type 0
 Begins kind version front = (more : List (List ℕ)) × IsLine kind version (front ++ more)
 
@@ -41,7 +41,7 @@ spaced words = flat_map (λ word. word ++ SPACE ∷ []) words
 abbrev pub AreParts : List ℕ → List (List ℕ) → Type 0
 AreParts line parts = AllByRecursion (IsFree SPACE) parts × (line ++ SPACE ∷ [] ≡ spaced parts)
 
--- no line goes on so; and where nothing is left, the line is not whole
+-- no line goes on with the next part; and where no part is left, the line is not whole
 abbrev pub Stops : TextKind → Version → List (List ℕ) → List (List ℕ) → Type 0
 Stops kind version front [] = IsLine kind version front → ⊥
 Stops kind version front (word ∷ behind) = Begins kind version (front ++ word ∷ []) → ⊥

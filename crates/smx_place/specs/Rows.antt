@@ -43,7 +43,7 @@ programs_lines =
     ∷ (codes "end", [], End)
     ∷ []
 
--- those of the lines of a transcript that are no entries
+-- the first words of the lines of a transcript that are no entries
 abbrev pub transcript_lines : List WordRow
 transcript_lines =
     (codes "driver", Name ∷ DriverKind ∷ Number ∷ Number ∷ Number ∷ Number ∷ [], End)
@@ -124,7 +124,7 @@ rows NoDevice = (codes "driver", [], End) ∷ (codes "minor", [], End) ∷ []
 rows Serials = []
 rows End = []
 
--- those of version 2 alone
+-- the fixed words among which is chosen in version 2 alone
 abbrev pub later_rows : Choice → List WordRow
 later_rows ProgramsLine = []
 later_rows TranscriptLine = (codes "hung", Name ∷ Number ∷ [], End) ∷ []
@@ -138,18 +138,18 @@ later_rows NoDevice = (codes "hangup", [], End) ∷ []
 later_rows Serials = []
 later_rows End = []
 
--- those of a version
+-- the fixed words among which is chosen in a version
 abbrev pub told_rows : Version → Choice → List WordRow
 told_rows V1 choice = rows choice
 told_rows V2 choice = later_rows choice ++ rows choice
 
--- this is the word of a row, and the rest of it
+-- some row has this word, these values and this choice
 abbrev pub IsRow : List WordRow → List ℕ → List Value → Choice → Type 0
 IsRow [] word values next = ⊥
 IsRow (row ∷ rows) word values next =
     ((word ≡ row.0) × (values ≡ row.1) × (next ≡ row.2)) ⊎ IsRow rows word values next
 
--- this is the word of none
+-- no row has this word
 abbrev pub IsNoRow : List WordRow → List ℕ → Type 0
 IsNoRow [] word = Unit {0}
 IsNoRow (row ∷ rows) word = (word ≢ row.0) × IsNoRow rows word
@@ -185,7 +185,7 @@ abbrev pub IsChosen : Version → Choice → List ℕ → List Value → Choice 
 IsChosen version choice word values next =
     IsFixed version choice word values next ⊎ IsOther version choice word values next
 
--- the word may stand where these values are wanted, and then this is chosen; behind it, those
+-- the word may stand where these values are wanted and then this is chosen; behind it, those are, and then that is
 abbrev pub GoesOn : Version → List Value → Choice → List ℕ → List Value → Choice → Type 0
 GoesOn version [] choice word values next = IsChosen version choice word values next
 GoesOn version (value ∷ more) choice word values next = IsValue value word × (values ≡ more) × (next ≡ choice)

@@ -18,10 +18,12 @@ use Rattle.smx_replay.specs.Replays.{IsReplayOf}
 
 -- ---- what the laws of hangups say of a history without one
 
+-- a legal history in which no command is a hangup has no entry of a hangup
 abbrev TellsOfNone : Type 0
 TellsOfNone = (drivers : List DriverSpec) (history : List Entry) → IsLegal drivers history
     → list_any (λ e. is_hangup e.command) history ≡ false → list_any is_of_hangup history ≡ false
 
+-- a history in which no command is a hangup leaves no stream that has hung up
 abbrev LeavesNone : Type 0
 LeavesNone = (drivers : List DriverSpec) (history : List Entry)
     → list_any (λ e. is_hangup e.command) history ≡ false → (after drivers history).hungs ≡ []
@@ -35,7 +37,7 @@ no_command (e ∷ es) h =
     let p = or_parts (is_of_hangup e) (list_any is_of_hangup es) h in
     or_from (is_hangup e.command) _ (or_parts (is_hangup e.command) (tells_of_hangup e.reply) p.0).0 (no_command es p.1)
 
--- which the calls tell
+-- whether some command of a history is a hangup is told by its calls
 by_calls : (es : List Entry) → list_any (λ e. is_hangup e.command) es
     ≡ list_any (λ (call : ℕ × Command). is_hangup call.1) (map call_of es)
 by_calls [] = refl
@@ -55,7 +57,7 @@ quiet tells leaves t r h least =
     let shown : nat_lt 0 (length r.view.hungs) ≡ false = rw (h.shown, hung) refl in
     ap version_2_where (or_from _ _ few (or_from _ _ (tells t.drivers r.entries h.legal none) shown))
 
--- so it is within the limits of its version
+-- a replay of an allowed transcript that can be spelled is allowed in its version
 pub can_be_told : TellsOfNone → LeavesNone → (t r : Transcript) → IsAllowed t.version t → IsReplayOf t r → IsSpellable r
     → IsAllowed r.version r
 can_be_told tells leaves t r allowed h spellable =

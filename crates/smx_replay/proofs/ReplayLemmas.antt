@@ -20,23 +20,25 @@ use Rattle.smx_replay.specs.Replays.{IsReplayOf, IsReplayText}
 
 -- ---- what the laws of histories say
 
+-- a history with one entry more leads where the command of that entry leads
 abbrev OneStepFurther : Type 0
 OneStepFurther = (drivers : List DriverSpec) (history : List Entry) (e : Entry)
     → after drivers (history ++ e ∷ []) ≡ (step drivers (after drivers history) e.process e.command).0
 
+-- two legal histories of the same calls are the same
 abbrev AreDetermined : Type 0
 AreDetermined = (drivers : List DriverSpec) (one other : List Entry) → IsLegal drivers one → IsLegal drivers other
     → map call_of one ≡ map call_of other → one ≡ other
 
 -- ---- the entries of a replay
 
--- they are a legal history
+-- the entries of a replay are a legal history
 legal_from : (drivers : List DriverSpec) (c : Configuration) (es : List Entry)
     → IsLegalFrom drivers c (answers_from drivers c es)
 legal_from drivers c [] = tt
 legal_from drivers c (e ∷ es) = (refl, legal_from drivers (step drivers c e.process e.command).0 es)
 
--- of these calls
+-- the entries of a replay are of the same calls as those that are replayed
 calls_from : (drivers : List DriverSpec) (c : Configuration) (es : List Entry)
     → map call_of (answers_from drivers c es) ≡ map call_of es
 calls_from drivers c [] = refl
@@ -44,7 +46,7 @@ calls_from drivers c (e ∷ es) =
     ap (λ (calls : List (ℕ × Command)). call_of e ∷ calls)
     (calls_from drivers (step drivers c e.process e.command).0 es)
 
--- they lead where the entries lead, whose replies play no part in it
+-- the entries of a replay lead where those that are replayed lead: their replies play no part in it
 led_from : (drivers : List DriverSpec) (c : Configuration) (es : List Entry)
     → after_from drivers c (answers_from drivers c es) ≡ after_from drivers c es
 led_from drivers c [] = refl
@@ -60,7 +62,7 @@ more_from drivers c (d ∷ es) e =
 
 -- ---- there is one
 
--- with such a view they make the replay
+-- the entries of a replay, with the view after them, make a replay of the transcript
 pub replayed : (t : Transcript) (shown : ConfigView) → IsDriverList t.drivers
     → shown ≡ view t.drivers (after t.drivers t.entries)
     → IsReplayOf t (transcript_with t.version t.drivers (answers t.drivers t.entries) shown)
@@ -73,7 +75,7 @@ replayed t shown can is = record {
   shown = is ∙ ap (view t.drivers) (sym (led_from t.drivers empty t.entries));
 }
 
--- so there is a replay
+-- a transcript whose drivers can be had has a replay
 pub always : (t : Transcript) → IsDriverList t.drivers → (r : Transcript) × IsReplayOf t r
 always t can =
     let shown = view t.drivers (after t.drivers t.entries) in
@@ -88,7 +90,7 @@ same_parts r s version drivers entries shown =
     ∙ ap (λ (es : List Entry). record r { version = s.version; drivers = s.drivers; entries = es }) entries
     ∙ ap (λ (v : ConfigView). record s { view = v }) shown
 
--- and no other
+-- a transcript has at most one replay
 pub one : AreDetermined → (t r s : Transcript) → IsReplayOf t r → IsReplayOf t s → r ≡ s
 one determined t r s h k =
     let entries : r.entries ≡ s.entries = determined t.drivers r.entries s.entries h.legal k.legal
@@ -96,7 +98,7 @@ one determined t r s h k =
     same_parts r s (h.version ∙ sym k.version) (h.drivers ∙ sym k.drivers) entries
     (h.shown ∙ ap (λ (es : List Entry). view t.drivers (after t.drivers es)) entries ∙ sym k.shown)
 
--- replies and views play no part
+-- transcripts of one version with the same drivers and calls have the same replays, whatever their replies and views
 pub calls_alone : (t u r : Transcript) → u.version ≡ t.version → u.drivers ≡ t.drivers
     → map call_of u.entries ≡ map call_of t.entries
     → IsReplayOf t r → IsReplayOf u r
@@ -111,13 +113,13 @@ calls_alone t u r version drivers calls h = record {
 
 -- ---- what was written
 
--- at first it has come as far as no entry
+-- before its first entry a replay has come as far as no entry
 pub begun : (version : Version) (drivers : List DriverSpec) (m : Machine) (bytes : List ℕ)
     → m.drivers ≡ drivers → m.configuration ≡ empty → BeginsTranscript version drivers [] bytes
     → HasCome version drivers [] m bytes
 begun version drivers m bytes same now written = record { same = same; now = now; written = written }
 
--- as far as one entry more
+-- a replay that answers one entry more has come as far as that entry
 pub one_more : OneStepFurther → (version : Version) (drivers : List DriverSpec) (asked : List Entry) (e : Entry)
     (old new : Machine) (bytes more : List ℕ)
     → HasCome version drivers asked old bytes → new.drivers ≡ old.drivers
@@ -139,7 +141,7 @@ one_more further version drivers asked e old new bytes more h same next tells =
           (tells version drivers (answers drivers asked) h.written);
     }
 
--- with the view at the end it is the text of the replay
+-- what a replay has written, with the view at its end, is the text of a replay
 pub whole : (t : Transcript) (m : Machine) (bytes output : List ℕ) (shown : ConfigView) → IsDriverList t.drivers
     → HasCome t.version t.drivers t.entries m bytes → shown ≡ view m.drivers m.configuration
     → ((v : Version) (ds : List DriverSpec) (es : List Entry) → BeginsTranscript v ds es bytes

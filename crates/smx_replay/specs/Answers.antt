@@ -18,7 +18,7 @@ abbrev pub answers_from : List DriverSpec → Configuration → List Entry → L
 answers_from drivers c [] = []
 answers_from drivers c (e ∷ es) = answered drivers c e ∷ answers_from drivers (step drivers c e.process e.command).0 es
 
--- and from the empty one on
+-- the same calls, each with the reply that it gets, from the empty configuration on
 abbrev pub answers : List DriverSpec → List Entry → List Entry
 answers drivers es = answers_from drivers empty es
 

@@ -14,15 +14,19 @@ told entries shown = record { version = V1; drivers = drivers; entries = entries
 abbrev pub claimed : Transcript
 claimed = told history (no_lines 7 9)
 
+-- process 0 opens minor 0
 abbrev pub opened : Entry
 opened = 0 does OpenClone ip gets Fd 0 0
 
+-- process 1 opens minor 1
 abbrev pub another : Entry
 another = 1 does OpenClone ip gets Fd 0 1
 
+-- process 0 has its descriptor once more
 abbrev pub copied : Entry
 copied = 0 does Dup 0 gets Fd 1 0
 
+-- process 1 exits
 abbrev pub exited : Entry
 exited = 1 does CloseAll gets Done []
 
@@ -30,14 +34,15 @@ exited = 1 does CloseAll gets Done []
 abbrev pub two : ConfigView
 two = record (no_lines 1 1) { fds = fd_of 0 0 ip 0 ∷ fd_of 0 1 ip 0 ∷ [] }
 
--- what the calls give
+-- the replay: what the calls give
 abbrev pub put_right : Transcript
 put_right = told (opened ∷ another ∷ copied ∷ exited ∷ []) two
 
--- the same without the last call, and with two of them exchanged
+-- the replay without the last call
 abbrev pub left_out : Transcript
 left_out = told (opened ∷ another ∷ copied ∷ [])
     (record (no_lines 1 1) { fds = fd_of 0 0 ip 0 ∷ fd_of 0 1 ip 0 ∷ fd_of 1 0 ip 1 ∷ [] })
 
+-- the replay with two calls exchanged
 abbrev pub exchanged : Transcript
 exchanged = told (opened ∷ copied ∷ another ∷ exited ∷ []) two

@@ -17,12 +17,12 @@ use Rattle.smx_words.specs.Words.{LINE_FEED, line_of, text_of}
 use Rattle.smx_session.specs.Sessions.{IsAfter, IsLastLine, IsStartOf, Performs, State, shown_lines}
 use Rattle.smx_session.proofs.LawLemmas.{entry_of}
 
--- what the model's law says of one entry more
+-- a history with one entry more leads where the command of that entry leads
 abbrev pub IsOneFurther : Type 0
 IsOneFurther = (drivers : List DriverSpec) (history : List Entry) (e : Entry)
     → after drivers (history ++ e ∷ []) ≡ (step drivers (after drivers history) e.process e.command).0
 
--- what it says of legal histories
+-- a legal history stays legal with one entry more that has the reply of its command
 abbrev pub StaysLegal : Type 0
 StaysLegal = (drivers : List DriverSpec) (history : List Entry) (e : Entry) → IsLegal drivers history
     → (step drivers (after drivers history) e.process e.command).1 ≡ e.reply → IsLegal drivers (history ++ e ∷ [])
@@ -31,7 +31,7 @@ StaysLegal = (drivers : List DriverSpec) (history : List Entry) (e : Entry) → 
 pub begins : (text : List ℕ) (s : State) → IsStartOf text s → IsAfter [] s
 begins text s h = record { legal = tt; now = h.nothing }
 
--- and one that performs a line is after one entry more
+-- a session that performs a line is after one entry more
 pub goes_on : IsOneFurther → StaysLegal → (history : List Entry) (old new : State) (line : List ℕ)
     → IsAfter history old → Performs old line new
     → (e : Entry) × (new.last ≡ Some e) × IsAfter (history ++ e ∷ []) new
@@ -53,7 +53,7 @@ goes_on further stays history old new line come h =
       },
     )
 
--- the line of the last entry goes on with the transcript
+-- the line of the last entry, behind the beginning of a transcript, is the beginning with that entry too
 pub grows : (s : State) (before : List Entry) (e : Entry) (text line : List ℕ)
     → BeginsTranscript s.version s.drivers before text → s.last ≡ Some e → FitsEntry e → IsLastLine s line
     → BeginsTranscript s.version s.drivers (before ++ e ∷ []) (text ++ line)
@@ -64,7 +64,7 @@ grows s before e text line was last fits (made, is, written) =
     written ∙ (ap (λ (x : Entry). line_of (entry_words x) ++ LINE_FEED ∷ []) one ∙ sym (append-nil _)) in
     grown s.version s.drivers before (e ∷ []) text (text ++ line) (ap (λ (t : List ℕ). text ++ t) said) (fits, tt) was
 
--- and the lines of the configuration end it
+-- the lines of the configuration, and `end`, make the beginning of a transcript the whole of it
 pub ends : (s : State) (entries : List Entry) (text : List ℕ) → BeginsTranscript s.version s.drivers entries text
     → text ++ (shown_lines s ++ codes "end\n")
     ≡ transcript_text (transcript_with s.version s.drivers entries (view s.drivers s.configuration))

@@ -38,7 +38,7 @@ abbrev pub HaveOneFault : Type 0
 HaveOneFault =
     (drivers : List DriverSpec) (f g : ConfigFault) → RefusesDrivers drivers f → RefusesDrivers drivers g → f ≡ g
 
--- entries are told apart by their lines
+-- no two entries have one line
 abbrev pub AreToldApart : Type 0
 AreToldApart =
     (x y : Entry) → FitsEntry x → FitsEntry y → line_of (entry_words x) ≡ line_of (entry_words y) → x ≡ y
@@ -49,10 +49,11 @@ HaveReadings = (v : Version) (line : List ℕ) → (o : Option Entry) × IsReadA
 
 -- ---- starts
 
--- states of the same parts are the same
+-- the state with these parts
 abbrev state_of : Version → List DriverSpec → Configuration → Option Entry → State
 state_of v ds c last = record { version = v; drivers = ds; configuration = c; last = last }
 
+-- states with the same parts are the same
 same_state : (a b : State) → a.version ≡ b.version → a.drivers ≡ b.drivers → a.configuration ≡ b.configuration
     → a.last ≡ b.last → a ≡ b
 same_state a b v d c l =
@@ -62,7 +63,7 @@ same_state a b v d c l =
     ∙ ap (λ (x : Option Entry). state_of b.version b.drivers b.configuration x) l))
 
 module _ (text : List ℕ) (reading : HasOneReading) (one_fault : HaveOneFault) where
-  -- the text spells one value
+  -- a text spells one value, whatever the version
   one_value : (v w : Version) (x y : ProgramLists) → Spells (programs_grammar v) text x
       → Spells (programs_grammar w) text y → x ≡ y
   one_value v w x y h k =
@@ -71,7 +72,7 @@ module _ (text : List ℕ) (reading : HasOneReading) (one_fault : HaveOneFault) 
       let same : one ≡ other = reading text one other (v, h, tt) (w, k, tt) tt tt in
       cc
 
-  -- and what spells a value has no fault
+  -- a text that spells programs has no fault, but for want of memory
   no_fault : (v : Version) (x : ProgramLists) (f : TextFault) → Spells (programs_grammar v) text x
       → ReadsAny programs_grammar text (Err f) → f.cause ≢ cause.NoMemory → ⊥
   no_fault v x f h k known =
@@ -80,7 +81,7 @@ module _ (text : List ℕ) (reading : HasOneReading) (one_fault : HaveOneFault) 
       let same : one ≡ other = reading text one other (v, h, tt) k tt known in
       absurd cc
 
-  -- it has one fault
+  -- a text has at most one fault, but for want of memory
   one_text_fault : (f e : TextFault) → ReadsAny programs_grammar text (Err f) → ReadsAny programs_grammar text (Err e)
       → f.cause ≢ cause.NoMemory → e.cause ≢ cause.NoMemory → f ≡ e
   one_text_fault f e h k known known_too =
@@ -89,7 +90,7 @@ module _ (text : List ℕ) (reading : HasOneReading) (one_fault : HaveOneFault) 
       let same : one ≡ other = reading text one other h k known known_too in
       cc
 
-  -- two sessions that start over it are the same
+  -- two sessions that start over one text are the same
   one_session : (a b : State) → IsStartOf text a → IsStartOf text b → a ≡ b
   one_session a b h k =
       let same : h.programs ≡ k.programs =
@@ -108,14 +109,14 @@ module _ (text : List ℕ) (reading : HasOneReading) (one_fault : HaveOneFault) 
       subst IsDriverList (h.drivers ∙ ap (λ (q : ProgramLists). q.drivers) same) h.can_be_had in
       known (one_fault p.drivers f config.NoMemory bad can)
 
-  -- its drivers have one fault
+  -- the drivers of a text are refused for at most one fault
   one_refusal : (f g : ConfigFault) → HasDrivers text (λ ds. RefusesDrivers ds f)
       → HasDrivers text (λ ds. RefusesDrivers ds g) → f ≡ g
   one_refusal f g (v, p, spelled, bad) (w, q, spelled_too, bad_too) =
       let same : p ≡ q = one_value v w p q spelled spelled_too in
       one_fault q.drivers f g (subst (λ (x : ProgramLists). RefusesDrivers x.drivers f) same bad) bad_too
 
-  -- so it has one start
+  -- a text has at most one start, but for want of memory
   pub one_start : (one other : Result State Trouble) → StartsAs text one → StartsAs text other
       → IfErr one (λ t. t ≢ NoMemory) → IfErr other (λ t. t ≢ NoMemory) → one ≡ other
   one_start (Ok a) (Ok b) h k known known_too = ap Ok (one_session a b h k)
@@ -165,11 +166,11 @@ one_step apart old new other line h k =
     same_state new other (h.version ∙ sym k.version) (h.drivers ∙ sym k.drivers)
     (ap (λ (p : Configuration × Reply). p.0) same) (h.last ∙ (ap Some last ∙ sym k.last))
 
--- and then it has a command
+-- a line that is performed has a command
 pub not_both : (old new : State) (line : List ℕ) → Performs old line new → IsNoCall old.version line → ⊥
 not_both old new line h none = none h.asked h.fits h.is_read
 
--- it is performed, or has none
+-- a line is performed, or it has no command
 pub always : HaveReadings → (old : State) (line : List ℕ)
     → ((new : State) × Performs old line new) ⊎ IsNoCall old.version line
 always readings old line = found (readings old.version (line ++ done_behind)) where

@@ -18,7 +18,7 @@ use Rattle.smx_session.specs.Sessions.{IsStartOf, StartsAs}
 use Rattle.smx_session.specs.declared.trouble.Trouble.{Trouble}
 use Rattle.smx_session.specs.declared.trouble.Trouble.TheVariants.{NoMemory, Text, Drivers}
 
--- the text is at fault, or memory was wanting
+-- a session doesn't start over a text that is at fault, or for which memory was wanting
 pub at_fault : (text : List ℕ) (fault : TextFault) (t : Trouble) → ReadsAny programs_grammar text (Err fault)
     → ((t ≡ NoMemory) × (fault.cause ≡ cause.NoMemory)) ⊎ ((t ≡ Text fault) × (fault.cause ≢ cause.NoMemory))
     → StartsAs text (Err t)
@@ -27,7 +27,7 @@ at_fault text fault t read (inl (is, wanting)) =
 at_fault text fault t read (inr (is, other)) =
     subst (λ (x : Trouble). StartsAs text (Err x)) (sym is) (read, other)
 
--- its drivers are refused, or memory was wanting
+-- a session doesn't start over drivers that are refused, or for which memory was wanting
 pub refused : (text : List ℕ) (p : ProgramLists) (ds : List DriverSpec) (fault : ConfigFault) (t : Trouble)
     → ReadsAny programs_grammar text (Ok p) → ds ≡ p.drivers → RefusesDrivers ds fault
     → ((t ≡ NoMemory) × (fault ≡ config.NoMemory)) ⊎ ((t ≡ Drivers fault) × (fault ≢ config.NoMemory))
@@ -40,7 +40,7 @@ refused text p ds fault t read same bad (inr (is, other)) =
     let why : RefusesDrivers p.drivers fault = subst (λ (xs : List DriverSpec). RefusesDrivers xs fault) same bad in
     subst (λ (x : Trouble). StartsAs text (Err x)) (sym is) ((read.0, p, read.1, why), other)
 
--- nothing is open over its drivers
+-- a session starts over a text with nothing open, where its drivers can be had
 pub started : (text : List ℕ) (p : ProgramLists) (v : Version) (ds : List DriverSpec) (m : Machine)
     → ReadsAny programs_grammar text (Ok p) → v ≡ p.version → ds ≡ p.drivers → m.drivers ≡ ds → IsDriverList ds
     → m.configuration ≡ empty

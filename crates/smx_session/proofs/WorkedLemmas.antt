@@ -14,18 +14,20 @@ use Rattle.smx_session.specs.Sessions.{IsLastLine, IsStartOf, Performs, State, d
 use Rattle.smx_session.specs.WorkedSessions.{begun, drivers, hung, opened, table}
 use Rattle.smx_session.proofs.LawLemmas.{AreToldApart, one_step}
 
--- the text spells the drivers, and no program
+-- programs of the worked drivers, without a process
 abbrev programs : ProgramLists
 programs = raised (program_lists drivers [])
 
+-- the worked table is the text of these programs
 is_table : table ≡ programs_text programs
 unfolding digits
 is_table = refl
 
+-- the worked table spells these programs
 spelled : Spells (programs_grammar V2) table programs
 spelled = record { allowed = search (rules, arith); text = is_table }
 
--- the table starts a session
+-- the worked table starts a session
 pub starts : IsStartOf table begun
 starts =
     record {
@@ -37,19 +39,21 @@ starts =
       no_entry = refl;
     }
 
--- a call of process 3, and the same of process 2
+-- the entry of a clone of `eth` by this process, with the reply `done`
 abbrev clone_of : ℕ → Entry
 clone_of process = process does OpenClone eth gets Done []
 
+-- `3 clone eth` with ` = done` behind it is the line of a clone of `eth` by process 3
 three : codes "3 clone eth" ++ done_behind ≡ line_of (entry_words (clone_of 3))
 unfolding digits
 three = refl
 
+-- `2 clone eth` with ` = done` behind it is the line of a clone of `eth` by process 2
 two : codes "2 clone eth" ++ done_behind ≡ line_of (entry_words (clone_of 2))
 unfolding digits
 two = refl
 
--- a clone opens
+-- `3 clone eth` opens a stream for process 3
 pub opens : Performs begun (codes "3 clone eth") opened
 opens =
     record {
@@ -63,11 +67,12 @@ opens =
       version = refl;
     }
 
+-- `5 hangup eth 0` with ` = done` behind it is the line of the entry of a hangup by process 5
 hangup_is_read : codes "5 hangup eth 0" ++ done_behind ≡ line_of (entry_words (5 does Hangup eth 0 gets Done []))
 unfolding digits
 hangup_is_read = refl
 
--- a hangup hangs up
+-- `5 hangup eth 0` hangs the open stream up
 pub hangs_up : Performs opened (codes "5 hangup eth 0") hung
 hangs_up =
     record {
@@ -81,19 +86,20 @@ hangs_up =
       version = refl;
     }
 
+-- `3 clone eth = fd 0 0` is the line of the entry of a clone with that reply
 told : codes "3 clone eth = fd 0 0\n" ≡ line_of (entry_words (3 does OpenClone eth gets Fd 0 0)) ++ LINE_FEED ∷ []
 unfolding digits
 told = refl
 
--- the last line tells the reply
+-- the last line of the session tells the reply of the clone
 pub tells : IsLastLine opened (codes "3 clone eth = fd 0 0\n")
 tells = (3 does OpenClone eth gets Fd 0 0, refl, told)
 
--- before the first command there is none
+-- before the first command there is no last line
 pub tells_none : IsLastLine begun (codes "3 clone eth = fd 0 0\n") → ⊥
 tells_none (e, none, line) = absurd cc
 
--- what process 2 would open
+-- the state in which process 2 has opened a stream
 abbrev opened_by_2 : State
 opened_by_2 =
     record opened {
@@ -103,6 +109,7 @@ opened_by_2 =
       last = Some (2 does OpenClone eth gets Fd 0 0);
     }
 
+-- `2 clone eth` opens a stream for process 2
 opens_by_2 : Performs begun (codes "2 clone eth") opened_by_2
 opens_by_2 =
     record {
@@ -121,14 +128,14 @@ abbrev process_of : Option Entry → ℕ
 process_of (Some e) = e.process
 process_of None = 64
 
--- no other process is performed for
+-- `2 clone eth` doesn't open a stream for process 3
 pub no_other_process : AreToldApart → Performs begun (codes "2 clone eth") opened → ⊥
 no_other_process apart h =
     let same : opened_by_2 ≡ opened = one_step apart begun opened_by_2 opened (codes "2 clone eth") opens_by_2 h in
     let numbers : 2 ≡ 3 = ap (λ (s : State). process_of s.last) same in
     omega (arith, numbers)
 
--- what was performed has changed the state
+-- a command that was performed has changed the state
 pub not_undone : AreToldApart → Performs begun (codes "3 clone eth") begun → ⊥
 not_undone apart h =
     let same : opened ≡ begun = one_step apart begun opened begun (codes "3 clone eth") opens h in

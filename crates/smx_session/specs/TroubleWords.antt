@@ -6,7 +6,7 @@ use Rattle.smx_text.specs.FaultWords.{text_fault_words}
 use Rattle.smx_session.specs.declared.trouble.Trouble.{Trouble}
 use Rattle.smx_session.specs.declared.trouble.Trouble.TheVariants.{NoMemory, Text, Drivers, Line, NoEntry}
 
--- those of a text's fault, or of a fault of its drivers, or a few words
+-- the words of a text's fault, or of a fault of its drivers, or a few words
 abbrev pub trouble_words : Trouble → List ℕ
 trouble_words NoMemory = no_memory_words
 trouble_words (Text fault) = text_fault_words fault

@@ -10,10 +10,11 @@ use Rattle.smx_session.specs.Sessions.{State, shown_lines}
 use Rattle.smx_session.specs.TroubleWords.{trouble_words}
 use Rattle.smx_session.specs.declared.trouble.Trouble.TheVariants.{Line, NoEntry, NoMemory}
 
--- one driver of two minors
+-- the table of one driver of two minors
 abbrev pub table : List ℕ
 table = codes "programs 2\ndriver eth leaf 2 8 3 16\nend\n"
 
+-- the one driver of the table
 abbrev pub drivers : List DriverSpec
 drivers = leaf eth 2 ∷ []
 
@@ -37,25 +38,29 @@ hung =
       last = Some (5 does Hangup eth 0 gets Done []);
     }
 
--- what is shown in between
+-- before a command, nothing is shown but the next id and the next serial
 pub nothing_is_shown : shown_lines begun ≡ codes "config\nnext 1 1\n"
 unfolding digits
 nothing_is_shown = refl
 
+-- after the clone, its descriptor is shown
 pub one_is_shown : shown_lines opened ≡ codes "config\nnext 1 1\nfd 3 0 eth 0\n"
 unfolding digits
 one_is_shown = refl
 
+-- after the hangup, the hung-up stream is shown too
 pub a_hangup_is_shown : shown_lines hung ≡ codes "config\nnext 1 1\nfd 3 0 eth 0\nhung eth 0\n"
 unfolding digits
 a_hangup_is_shown = refl
 
--- words of troubles
+-- want of memory is told in these words
 pub memory_words : trouble_words NoMemory ≡ codes "no memory"
 memory_words = refl
 
+-- a line that is no command is told in these words
 pub line_words : trouble_words Line ≡ codes "no command"
 line_words = refl
 
+-- that there is no entry yet is told in these words
 pub entry_words : trouble_words NoEntry ≡ codes "no entry yet"
 entry_words = refl

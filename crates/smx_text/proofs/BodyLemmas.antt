@@ -9,7 +9,7 @@ use Rattle.smx_text.specs.ProgramLines.{Line}
 use Rattle.smx_text.specs.ProgramLines as line
 use Rattle.smx_text.specs.ProgramsText.{program_lines}
 
--- one program more
+-- the lines of one program more are those of the others, the line of its process, and its commands
 pub lines_add : (n : ℕ) (ps : List (List Command)) (cs : List Command)
     → program_lines n (ps ++ cs ∷ []) ≡ program_lines n ps
     ++ line.Process (n + length ps) ∷ map line.Command cs
@@ -18,7 +18,7 @@ lines_add n (p ∷ ps) cs =
     let k : (n + 1) + length ps ≡ n + suc (length ps) = omega arith in
     rw (lines_add (n + 1) ps cs, k, append_assoc) refl
 
--- a process whose program has no command yet
+-- programs with a process more, whose program has no command yet, have the line of that process behind theirs
 pub added_process : (ds : List DriverSpec) (ps : List (List Command)) (k : ℕ) → k ≡ length ps
     → map line.Driver ds ++ program_lines 0 (ps ++ [] ∷ []) ≡ (map line.Driver ds ++ program_lines 0 ps)
     ++ line.Process k ∷ []

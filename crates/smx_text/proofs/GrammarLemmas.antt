@@ -24,6 +24,7 @@ pub record IsWellMade {V K : Type 0} (g : Grammar V K) : Type 0 where
   pub end_is_last : (v : V) (lines more : List K) → g.body v ≡ lines ++ g.end ∷ more → ⊥
   pub one_value : (v w : V) → g.IsAllowed v → g.IsAllowed w → g.body v ≡ g.body w → v ≡ w
 
+-- faults at the same line for the same cause are the same fault
 same_fault : (f h : TextFault) → f.line ≡ h.line → f.cause ≡ h.cause → f ≡ h
 same_fault f h e k = ap (λ (n : ℕ). record { line = n; cause = f.cause }) e
     ∙ ap (λ (c : Cause). record { line = h.line; cause = c }) k
@@ -33,10 +34,12 @@ module _ {V K : Type 0} (g : Grammar V K) (made : IsWellMade g) where
   abbrev pub texts : List K → List ℕ
   texts lines = text_of (map g.line_words lines)
 
+  -- the bytes of lines, and others behind them, begin with the first line and its line feed
   texts_cons : (k : K) (lines : List K) (rest : List ℕ)
       → texts (k ∷ lines) ++ rest ≡ line_text g k ++ LINE_FEED ∷ (texts lines ++ rest)
   texts_cons k lines rest = simp append_assoc
 
+  -- each of these lines can be spelled
   abbrev AreFit : List K → Type 0
   AreFit lines = AllByRecursion g.FitsLine lines
 
@@ -83,19 +86,23 @@ module _ {V K : Type 0} (g : Grammar V K) (made : IsWellMade g) where
   end_may : (v : V) (lines : List K) → g.body v ≡ lines → GoesOn g v lines g.end
   end_may v lines e = ([], ap (λ (ls : List K). ls ++ g.end ∷ []) e)
 
+  -- behind all lines of a value, the text of the last line spells a line that may follow
   no_form : (v : V) (lines : List K) (text : List ℕ) → g.body v ≡ lines → text ≡ line_text g g.end
       → IsNoLine g lines text → ⊥
   no_form v lines text e end h = h g.end made.fits_end (v, end_may v lines e) end
 
+  -- behind all lines of an allowed value, the text of the last line spells none that is one too many
   no_many : (v : V) (lines : List K) (text : List ℕ) → g.IsAllowed v → g.body v ≡ lines
       → text ≡ line_text g g.end → IsOneTooMany g lines text → ⊥
   no_many v lines text allowed e end (k, is, fits, may, full) =
       let same : k ≡ g.end = made.tells_apart k g.end fits made.fits_end (sym is ∙ end) in
       full v allowed (subst (λ (x : K). GoesOn g v lines x) (sym same) (end_may v lines e))
 
+  -- a text that spells no line which may follow spells none that is one too many
   no_both : (lines : List K) (text : List ℕ) → IsNoLine g lines text → IsOneTooMany g lines text → ⊥
   no_both lines text h (k, is, fits, may, full) = h k fits may is
 
+  -- a whole line behind others is refused in at most one way
   one_judgement : (lines : List K) (text after : List ℕ) (n m : ℕ) (c d : Cause) → Judges lines text after n c
       → Judges lines text after m d → (n ≡ m) × (c ≡ d)
   one_judgement lines text after n m cause.Form cause.Form h k = (h.1 ∙ sym k.1, refl)
@@ -114,6 +121,7 @@ module _ {V K : Type 0} (g : Grammar V K) (made : IsWellMade g) where
       (w, c, others, also, e', end', _, at') = (at ∙ sym at', refl)
   one_judgement lines text after n m c d h k = absurd (search rules)
 
+  -- a whole line behind others that ends an allowed value is not refused
   no_value : (v : V) (lines : List K) (text after : List ℕ) (n : ℕ) (c : Cause)
       → Answers lines text after (Ok v) → Judges lines text after n c → ⊥
   no_value v lines text after n cause.Form (allowed, e, end, none) h = no_form v lines text e end h.0
@@ -122,6 +130,7 @@ module _ {V K : Type 0} (g : Grammar V K) (made : IsWellMade g) where
       let both : [] ≡ b ∷ more = sym none ∙ some in absurd (cc both)
   no_value v lines text after n c a h = absurd h
 
+  -- at a whole line behind others there is at most one answer
   one_answer : (lines : List K) (text after : List ℕ) (r s : Result V TextFault) → Answers lines text after r
       → Answers lines text after s → r ≡ s
   one_answer lines text after (Ok v) (Ok w) (allowed, e, _, _) (also, k, _, _) =
@@ -132,19 +141,22 @@ module _ {V K : Type 0} (g : Grammar V K) (made : IsWellMade g) where
       let t = one_judgement lines text after f.line h.line f.cause h.cause a b in
       ap (λ (x : TextFault). Err x) (same_fault f h t.0 t.1)
 
-  -- a line that some allowed value has there is answered nothing
+  -- where a value's lines are some lines and then others, it goes on with the first of the others
   goes_on : (lines more : List K) (k : K) (v : V) → g.body v ≡ lines ++ k ∷ more → GoesOn g v lines k
   goes_on lines more k v e = (
     more ++ g.end ∷ [],
     ap (λ (ls : List K). ls ++ g.end ∷ []) e ∙ append_assoc lines (k ∷ more) (g.end ∷ []),
   )
 
+  -- a line that can be spelled and has the text of the last line is the last line
   is_end : (k : K) (text : List ℕ) → g.FitsLine k → text ≡ line_text g k → text ≡ line_text g g.end → k ≡ g.end
   is_end k text fits is end = made.tells_apart k g.end fits made.fits_end (sym is ∙ end)
 
+  -- a line of a value between the header and the end is not the last line
   not_end : (k : K) (lines more : List K) (v : V) → g.body v ≡ lines ++ k ∷ more → k ≡ g.end → ⊥
   not_end k lines more v e same = made.end_is_last v lines more (e ∙ ap (λ (x : K). lines ++ x ∷ more) same)
 
+  -- at a line that an allowed value has there, no answer is given
   no_stop : (lines more : List K) (k : K) (v : V) (text after : List ℕ) (r : Result V TextFault)
       → g.IsAllowed v → g.body v ≡ lines ++ k ∷ more → g.FitsLine k → text ≡ line_text g k
       → Answers lines text after r → ⊥
@@ -167,6 +179,7 @@ module _ {V K : Type 0} (g : Grammar V K) (made : IsWellMade g) where
       (IsOneLine rest × (r ≡ Err (record { line = length lines + 2; cause = cause.Cut })))
       ⊎ ((text after : List ℕ) × IsOneLine text × (rest ≡ text ++ LINE_FEED ∷ after) × Answers lines text after r)
 
+  -- where some bytes are left, there is at most one answer
   one_stop : (lines : List K) (rest : List ℕ) (r s : Result V TextFault) → Stops lines rest r
       → Stops lines rest s → r ≡ s
   one_stop lines rest r s (inl (_, e)) (inl (_, k)) = e ∙ sym k
@@ -185,7 +198,7 @@ module _ {V K : Type 0} (g : Grammar V K) (made : IsWellMade g) where
   pub begun_fits : (lines : List K) → IsBegun g lines → AreFit lines
   begun_fits lines (v, more, allowed, e) = all_left g.FitsLine lines more (subst AreFit e (made.fits v allowed))
 
-  -- an answer isn't given where longer lines are begun
+  -- where the bytes left behind some lines begin longer lines of an allowed value, no answer is given there
   pub too_early : (lines longer : List K) (rest : List ℕ) (r : Result V TextFault) → IsBegun g longer
       → HasMore lines rest longer → Stops lines rest r → ⊥
   too_early lines longer rest r begun (k, more, after, is, e) (inl (one, _)) =
@@ -213,6 +226,7 @@ module _ {V K : Type 0} (g : Grammar V K) (made : IsWellMade g) where
   Place bytes r = (IsOneLine bytes × (r ≡ Err (record { line = 1; cause = cause.Cut })))
       ⊎ (Header bytes r ⊎ Behind bytes r)
 
+  -- bytes have at most one answer behind the header
   both_behind : (bytes : List ℕ) (r s : Result V TextFault) → Behind bytes r → Behind bytes s → r ≡ s
   both_behind bytes r s (ls, rest, begun, e, stops) (ms, rest', begun', e', stops') =
       let t = one_cut (header g) (header g) (texts ls ++ rest) (texts ms ++ rest') made.header_line
@@ -230,6 +244,7 @@ module _ {V K : Type 0} (g : Grammar V K) (made : IsWellMade g) where
   wrong_header bytes r s (text, after, one, e, differ, _) (ls, rest, begun, e', _) =
       differ (one_cut text (header g) after (texts ls ++ rest) one made.header_line (sym e ∙ e')).0
 
+  -- bytes have at most one answer that stands in one of these places
   one_place : (bytes : List ℕ) (r s : Result V TextFault) → Place bytes r → Place bytes s → r ≡ s
   one_place bytes r s (inl (_, e)) (inl (_, k)) = e ∙ sym k
   one_place bytes r s (inl (one, _)) (inr (inl (text, after, _, e, _, _))) =
@@ -252,23 +267,28 @@ module _ {V K : Type 0} (g : Grammar V K) (made : IsWellMade g) where
       → beginning g lines ++ rest ≡ header g ++ LINE_FEED ∷ (texts lines ++ rest)
   beginning_and lines rest = simp append_assoc
 
+  -- an allowed value begins with all its lines
   value_begun : (v : V) → g.IsAllowed v → IsBegun g (g.body v)
   value_begun v allowed = (v, [], allowed, sym (append-nil (g.body v)))
 
+  -- an answer given behind the header and lines that are begun stands in one of these places
   stands_behind : (bytes : List ℕ) (lines : List K) (rest : List ℕ) (r : Result V TextFault) → IsBegun g lines
       → bytes ≡ beginning g lines ++ rest → Stops lines rest r → Place bytes r
   stands_behind bytes lines rest r begun e stops =
       inr (inr (lines, rest, begun, e ∙ beginning_and lines rest, stops))
 
+  -- a value that bytes spell is an answer in one of these places
   value_place : (bytes : List ℕ) (v : V) → Spells g bytes v → Place bytes (Ok v)
   value_place bytes v spells =
       let all = spells.text ∙ sym (append-nil (full_text g v)) ∙ full_and g v [] in
       stands_behind bytes (g.body v) (line_text g g.end ++ LINE_FEED ∷ []) (Ok v) (value_begun v spells.allowed) all
       (inr (line_text g g.end, [], made.one_line g.end made.fits_end, refl, (spells.allowed, refl, refl, refl)))
 
+  -- the answer that line `n` is at fault for this cause
   abbrev Refused : ℕ → Cause → Result V TextFault
   Refused n c = Err (record { line = n; cause = c })
 
+  -- a whole line that is refused behind lines that are begun is an answer in one of these places
   judged : (bytes : List ℕ) (lines : List K) (text : List ℕ) (n : ℕ) (c : Cause)
       → Reaches g bytes lines text n → ((after : List ℕ) → Judges lines text after n c)
       → Place bytes (Refused n c)
@@ -277,6 +297,7 @@ module _ {V K : Type 0} (g : Grammar V K) (made : IsWellMade g) where
       stands_behind bytes lines (text ++ LINE_FEED ∷ after) (Refused n c) at.begun at.next.2
       (inr (text, after, at.next.1, refl, judges after))
 
+  -- a fault of bytes that is not want of memory is an answer in one of these places
   fault_place : (bytes : List ℕ) (n : ℕ) (c : Cause) → IsFault g bytes n c → c ≢ cause.NoMemory
       → Place bytes (Refused n c)
   fault_place bytes n cause.Header (text, (after, one, e), differ, at) ample =
@@ -309,7 +330,7 @@ module _ {V K : Type 0} (g : Grammar V K) (made : IsWellMade g) where
   place bytes (Ok v) reads ample = value_place bytes v reads
   place bytes (Err f) reads ample = fault_place bytes f.line f.cause reads ample
 
-  -- ---- so the laws
+  -- ---- the laws
 
   -- any bytes have at most one answer that is not want of memory
   pub one_reading : (bytes : List ℕ) (r s : Result V TextFault) → Reads g bytes r → Reads g bytes s

@@ -20,22 +20,23 @@ use Rattle.smx_text.proofs.ReadingLemmas.{texts_append}
 use Rattle.smx_types.specs.declared.version.Version.{Version}
 use Rattle.smx_types.specs.declared.version.Version.TheVariants.{V1, V2}
 
--- the header
+-- the header of a transcript of this version, with its line feed
 abbrev first : Version → List ℕ
 first version = header (transcript_grammar version) ++ LINE_FEED ∷ []
 
--- the header, the lines of drivers and the lines of entries
+-- the header of a transcript, then the lines of these drivers, then the lines of these entries
 abbrev begun_text : Version → List DriverSpec → List Entry → List ℕ
 begun_text version drivers entries =
     first version ++ text_of (map driver_words drivers) ++ text_of (map entry_words entries)
 
+-- the beginning of a transcript with some drivers and entries is its header, the drivers' lines and the entries'
 begun_is : (version : Version) (drivers : List DriverSpec) (entries : List Entry)
     → beginning (transcript_grammar version) (map row.Driver drivers ++ map row.Entry entries)
     ≡ begun_text version drivers entries
 begun_is V1 drivers entries = simp (map-append, map-map, texts_append, append_assoc)
 begun_is V2 drivers entries = simp (map-append, map-map, texts_append, append_assoc)
 
--- the drivers, and no entry yet
+-- the header and the lines of drivers begin a transcript that has these drivers and no entry yet
 pub begun : (version : Version) (drivers : List DriverSpec) (cleared start text : List ℕ) → cleared ≡ []
     → start ≡ cleared ++ first version → text ≡ start ++ text_of (map driver_words drivers)
     → AllByRecursion FitsDriver drivers → BeginsTranscript version drivers [] text
@@ -48,13 +49,14 @@ begun version drivers cleared start text none a b fits = record {
   entries_fit = tt;
 }
 
+-- the beginning of a transcript and then the lines of more entries is the beginning with all these entries
 more_text : (version : Version) (drivers : List DriverSpec) (before more : List Entry)
     → begun_text version drivers before ++ text_of (map entry_words more)
     ≡ begun_text version drivers (before ++ more)
 more_text V1 drivers before more = simp (map-append, texts_append, append_assoc)
 more_text V2 drivers before more = simp (map-append, texts_append, append_assoc)
 
--- entries more
+-- what begins a transcript, with the lines of more entries behind it, begins one that has these entries too
 pub grown : (version : Version) (drivers : List DriverSpec) (before more : List Entry) (old new : List ℕ)
     → new ≡ old ++ text_of (map entry_words more) → AllByRecursion FitsEntry more
     → BeginsTranscript version drivers before old → BeginsTranscript version drivers (before ++ more) new
@@ -67,9 +69,11 @@ grown version drivers before more old new added fits was = record {
   entries_fit = all_append FitsEntry before more was.entries_fit fits;
 }
 
+-- the text of the lines of a view
 abbrev view_text : ConfigView → List ℕ
 view_text v = text_of (map transcript_words (view_body v))
 
+-- the text of a transcript is its beginning, the line `config`, the lines of its view, and the line `end`
 whole_text : (version : Version) (drivers : List DriverSpec) (entries : List Entry) (v : ConfigView)
     → transcript_text (transcript_with version drivers entries v)
     ≡ begun_text version drivers entries ++ codes "config\n" ++ view_text v ++ codes "end\n"
@@ -81,7 +85,7 @@ whole_text version drivers entries v = by_version version (view_body v) where
   by_version V1 ls = simp (map-append, map-map, texts_append, append_assoc)
   by_version V2 ls = simp (map-append, map-map, texts_append, append_assoc)
 
--- and the view
+-- what begins a transcript, then `config`, the lines of a view and `end`, is the text of it with that view
 pub finished : (version : Version) (drivers : List DriverSpec) (entries : List Entry) (v : ConfigView)
     (start config view end : List ℕ) → config ≡ start ++ codes "config\n" → view ≡ config ++ view_text v
     → end ≡ view ++ codes "end\n" → BeginsTranscript version drivers entries start
@@ -90,7 +94,7 @@ finished version drivers entries v start config view end a b c was =
     let begins : start ≡ begun_text version drivers entries = was.written ∙ begun_is version drivers entries in
     c ∙ rw (b, a, begins) (sym (whole_text version drivers entries v))
 
--- each line of it can be spelled
+-- a transcript can be spelled whose beginning was written and whose view can be spelled
 pub finished_fits : (version : Version) (drivers : List DriverSpec) (entries : List Entry) (v : ConfigView)
     (start : List ℕ) → IsSpellableView v → BeginsTranscript version drivers entries start
     → IsSpellable (transcript_with version drivers entries v)

@@ -37,9 +37,11 @@ HasReading {V} g bytes = (r : Result V TextFault) × Reads g bytes r × IfErr r 
 
 module _ {V K : Type 0} (g : Grammar V K) (made : IsWellMade g) (decides : (lines : List K) → IsBegun g lines
     → (text : List ℕ) → Decision g lines text) where
+  -- bytes with a fault that is not want of memory have a reading
   stops : (bytes : List ℕ) (n : ℕ) (c : Cause) → IsFault g bytes n c → c ≢ cause.NoMemory → HasReading g bytes
   stops bytes n c fault other = (Err (record { line = n; cause = c }), fault, other)
 
+  -- bytes that have come to the last line, behind all lines of an allowed value, have a reading
   ends : (bytes rest : List ℕ) (lines : List K) (number : ℕ) (text after : List ℕ)
       → IsBetween g bytes rest lines number → IsOneLine text × (rest ≡ text ++ LINE_FEED ∷ after)
       → (text ≡ line_text g g.end) → (v : V) → g.IsAllowed v → g.body v ≡ lines → HasReading g bytes
@@ -56,6 +58,7 @@ module _ {V K : Type 0} (g : Grammar V K) (made : IsWellMade g) (decides : (line
         λ c. cc,
       )
 
+  -- bytes of which lines were taken in have a reading, by how many bytes are left
   goes : (n : ℕ) (bytes rest : List ℕ) (lines : List K) (number : ℕ) → length rest < n
       → IsBetween g bytes rest lines number → HasReading g bytes
   goes zero bytes rest lines number short at = absurd (omega arith)

@@ -14,26 +14,26 @@ use Rattle.smx_words.specs.Spelling.{command_words}
 use Rattle.smx_text.specs.Growing.{IsPushed}
 use Rattle.smx_types.specs.GrowingPrograms.{with_last, last_of}
 
--- the last one behind others is changed
+-- a list whose last element is set to another is the others and then that one
 set_at_end : {X : Type 0} (xs : List X) (x y : X) → slice_set (xs ++ x ∷ []) (length xs) y ≡ xs ++ y ∷ []
 set_at_end [] x y = refl
 set_at_end {X} (z ∷ xs) x y = ap (λ (l : List X). z ∷ l) (set_at_end xs x y)
 
--- one more without commands stands behind the others
+-- programs behind which an empty one was added have no command in their last one yet
 pub begun : (programs made : List (List Command)) (last : List Command) → made ≡ programs ++ [] ∷ [] → last ≡ []
     → with_last made last ≡ programs ++ [] ∷ []
 begun programs made last is none =
     let one : length (programs ++ [] ∷ []) - 1 ≡ length programs = omega (arith, length-append programs ([] ∷ [])) in
     rw (is, none, one) (set_at_end programs [] [])
 
--- the last program of these
+-- programs whose last one was set to these commands have these commands as their last one
 last_is : (programs : List (List Command)) (last : List Command) → 0 < length (with_last programs last)
     → last_of (with_last programs last) ≡ last
 last_is programs last some =
     let many = length-set programs (length programs - 1) last in
     rw many (get_or-set_same programs (length programs - 1) last [] (omega (arith, many, some)))
 
--- with another last program
+-- programs whose last one is set twice have what it was set to last
 last_again : (programs : List (List Command)) (last more : List Command)
     → with_last (with_last programs last) more ≡ with_last programs more
 last_again programs last more =
@@ -56,7 +56,7 @@ pushed_one version line view programs last before after true some is same more =
 pushed_one version line view programs last before after false some is same none =
     (ap (with_last programs) (none.0 ∙ same) ∙ is, none.1)
 
--- the same where memory may have been wanting
+-- a command pushed behind those of the last program, unless memory is wanting, is pushed into the programs
 pub pushed : {E : Type 0} (version : Version) (line : List ℕ) (view programs : List (List Command))
     (last before after : List Command) (r : Result Bool E) → 0 < length view → with_last programs last ≡ view
     → before ≡ last → IfOk r (IsPushedBehind (FitsCommandIn version) command_words line before after)

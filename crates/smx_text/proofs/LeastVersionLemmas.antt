@@ -12,7 +12,7 @@ pub is_first : (b : Bool) → version_2_where b ≡ V1 → b ≡ false
 is_first true h = absurd cc
 is_first false h = refl
 
--- as many drivers as version 1 has, or more
+-- drivers that are at most as many as version 1 can tell are no reason for version 2
 pub few_drivers : (ds : List DriverSpec) → length ds ≤ most_drivers V1 → are_more_drivers ds ≡ false
 few_drivers ds few =
     false_from_ne_true (are_more_drivers ds)

@@ -10,7 +10,7 @@ pub not_one : (xs after : List ℕ) → IsOneLine (xs ++ LINE_FEED ∷ after) �
 not_one [] after h = h.0 refl
 not_one (x ∷ xs) after h = not_one xs after h.1
 
--- the first line of some bytes, and what follows it, are what they are
+-- bytes have one first line, and one rest behind it
 pub one_cut : (xs ys cs ds : List ℕ) → IsOneLine xs → IsOneLine ys
     → xs ++ LINE_FEED ∷ cs ≡ ys ++ LINE_FEED ∷ ds → (xs ≡ ys) × (cs ≡ ds)
 one_cut [] [] cs ds h k e = (refl, cc)
@@ -22,7 +22,7 @@ one_cut (x ∷ xs) (y ∷ ys) cs ds h k e =
     let t = one_cut xs ys cs ds h.1 k.1 rest in
     (ap (λ (z : ℕ). z ∷ xs) first ∙ ap (λ (zs : List ℕ). y ∷ zs) t.0, t.1)
 
--- bytes are one line, or have a first one
+-- any bytes are one line without a line feed, or have a first line that is whole
 pub first_line : (xs : List ℕ) → IsOneLine xs
     ⊎ ((text after : List ℕ) × IsOneLine text × (xs ≡ text ++ LINE_FEED ∷ after))
 first_line [] = inl tt

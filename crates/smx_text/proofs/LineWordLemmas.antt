@@ -28,7 +28,7 @@ end_spelled = (search rules, omega arith)
 pub one_line_of : (ws : List (List ℕ)) → AreWords ws → IsOneLine (line_of ws)
 one_line_of ws h = line_free LINE_FEED (λ e. cc) ws (words_free LINE_FEED (omega arith) ws h.0)
 
--- bytes that a test tells apart
+-- bytes that a comparison tells apart are not the same
 pub differ : (w v : List ℕ) → bytes_eq w v ≡ false → w ≢ v
 differ w v other e =
     let same = (bytes_eq-Decides w v).1 e in

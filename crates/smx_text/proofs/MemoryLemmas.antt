@@ -14,7 +14,7 @@ use Rattle.smx_text.proofs.GrammarLemmas.{IsWellMade, texts, Judges, Answers, St
 use Rattle.smx_text.proofs.GrammarLemmas.{begun_fits, compare, too_early, beginning_and, place}
 
 module _ {V K : Type 0} (g : Grammar V K) (made : IsWellMade g) where
-  -- an answer behind some lines is given at the next line, or behind it
+  -- a line that is refused behind others is the one behind them, or a later one
   at_judgement : (lines : List K) (text after : List ℕ) (n : ℕ) (c : Cause)
       → Judges g made lines text after n c → length lines + 2 ≤ n
   at_judgement lines text after n cause.Form h = omega (arith, h.1)
@@ -22,17 +22,19 @@ module _ {V K : Type 0} (g : Grammar V K) (made : IsWellMade g) where
   at_judgement lines text after n cause.Trailing (v, b, more, allowed, e, end, _, at) = omega (arith, at)
   at_judgement lines text after n c h = absurd h
 
+  -- an answer given at a whole line behind others stands at that line, or at a later one
   at_answer : (lines : List K) (text after : List ℕ) (r : Result V TextFault)
       → Answers g made lines text after r → length lines + 2 ≤ last_line g r
   at_answer lines text after (Ok v) (allowed, e, end, none) = omega (arith, ap (length {A = K}) e)
   at_answer lines text after (Err f) a = at_judgement lines text after f.line f.cause a
 
+  -- an answer given where bytes are left behind lines stands at the line behind them, or at a later one
   at_stop : (lines : List K) (rest : List ℕ) (r : Result V TextFault) → Stops g made lines rest r
       → length lines + 2 ≤ last_line g r
   at_stop lines rest r (inl (one, e)) = omega (arith, ap (last_line g) e)
   at_stop lines rest r (inr (text, after, one, e, a)) = at_answer lines text after r a
 
-  -- so it is given behind lines that some allowed value begins with, and that the bytes begin with
+  -- an answer behind the header stands behind all lines that the bytes begin with and some allowed value begins with
   behind : (bytes : List ℕ) (lines : List K) (rest : List ℕ) (r : Result V TextFault) → IsBegun g lines
       → bytes ≡ header g ++ LINE_FEED ∷ (texts g made lines ++ rest) → Behind g made bytes r
       → length lines + 2 ≤ last_line g r
@@ -46,6 +48,7 @@ module _ {V K : Type 0} (g : Grammar V K) (made : IsWellMade g) where
         | inr (inr more) ↦ absurd (too_early g made ms ls rest' r begun more stops)
       ]
 
+  -- an answer to bytes that begin with lines of an allowed value stands behind these lines
   placed : (bytes : List ℕ) (lines : List K) (rest : List ℕ) (r : Result V TextFault) → IsBegun g lines
       → bytes ≡ header g ++ LINE_FEED ∷ (texts g made lines ++ rest) → Place g made bytes r
       → length lines + 2 ≤ last_line g r

@@ -28,6 +28,7 @@ use Rattle.smx_types.specs.declared.version.Version.{Version}
 use Rattle.smx_types.specs.Versions.{most_drivers}
 use Rattle.smx_words.proofs.ToldLemmas.{told_command}
 
+-- a line may stand behind those of some programs, or it may not
 stands_or_not : (v : ProgramLists) (k : Line) → MayStand v k ⊎ (MayStand v k → ⊥)
 stands_or_not v (line.Driver d) = cases_eq (length v.programs) 0
 stands_or_not v (line.Process n) = cases_eq n (length v.programs)
@@ -38,10 +39,12 @@ stands_or_not v (line.Command c) =
     ]
 stands_or_not v line.End = inl tt
 
+-- any bytes are read as a command that a version can tell, or as none
 told_reading : (version : Version) (text : List ℕ)
     → (o : Option Command) × IsReadAs (FitsCommandIn version) command_words text o
 told_reading version text = let c = command_reading text in told_command version text c.0 c.1
 
+-- programs have room for a line that is not the end, or have as many of its kind as may be
 room_or_many : (version : Version) → (v : ProgramLists) (k : Line) → k ≢ line.End
     → HasRoom version v k ⊎ AreMany version v k
 room_or_many version v (line.Driver d) other = cases_lt (length v.drivers) (most_drivers version)
@@ -49,10 +52,11 @@ room_or_many version v (line.Process n) other = cases_lt (length v.programs) MAX
 room_or_many version v (line.Command c) other = cases_lt (sum_by length v.programs) MAX_COMMANDS
 room_or_many version v line.End other = absurd (other refl)
 
+-- the lines of allowed programs are lines that some allowed programs begin with
 begun_by : (version : Version) → (v : ProgramLists) → IsAllowed version v → IsBegun (programs_grammar version) (body v)
 begun_by version v allowed = (v, [], allowed, sym (append-nil (body v)))
 
--- a line that was read
+-- behind the lines of allowed programs, the text of a line that can be told and is not the end is decided
 judged : (version : Version) → (v : ProgramLists) → IsAllowed version v → (text : List ℕ) (k : Line) → k ≢ line.End
     → FitsLine version k
     → text ≡ line_text (programs_grammar version) k → Decision (programs_grammar version) (body v) text
@@ -67,6 +71,7 @@ judged version v allowed text k other fits is = elim (stands_or_not v k) [
   ]
 ]
 
+-- behind the lines of allowed programs, any text is decided
 behind : (version : Version) → (v : ProgramLists) → IsAllowed version v → (text : List ℕ)
     → Decision (programs_grammar version) (body v) text
 behind version v allowed text =
@@ -80,6 +85,7 @@ behind version v allowed text =
           inr (inl (no_line version (body v) text commands drivers processes other)))))
     ]
 
+-- behind lines that some allowed programs begin with, any text is decided
 decides : (version : Version) → (lines : List Line) → IsBegun (programs_grammar version) lines → (text : List ℕ)
     → Decision (programs_grammar version) lines text
 decides version lines begun text =

@@ -51,7 +51,7 @@ may_stand version v k (w, (more, e)) =
     stands v (0 + sum_by a_process (body v)) k more (omega (arith, c.processes))
     (order_behind 0 (body v) (k ∷ more) (subst (InOrder 0) e (body_in_order w)))
 
--- the counts of a longer list of lines
+-- what is counted of some lines of a text of programs and of the next is at most what is counted of all its lines
 longer : (w : Line → ℕ) (v u : ProgramLists) (k : Line) (more : List Line)
     → body v ++ line.End ∷ [] ≡ body u ++ k ∷ more → sum_by w (body u) + w k ≤ sum_by w (body v) + w line.End
 longer w v u k more e =
@@ -87,7 +87,7 @@ with_line v (line.Command c) =
     }
 with_line v line.End = v
 
--- the version stays
+-- a line that is added to programs doesn't change their version
 pub version_stays : (v : ProgramLists) (k : Line) → (with_line v k).version ≡ v.version
 version_stays v line.End = refl
 version_stays v k = refl
@@ -108,6 +108,7 @@ body_more v (line.Command c) h other =
     ∙ sym (append_assoc (map line.Driver v.drivers) (program_lines 0 v.programs) (line.Command c ∷ []))
 body_more v line.End h other = absurd (other refl)
 
+-- programs whose last line before the end is this one go on with it behind the other lines
 goes_on : (version : Version) (w : ProgramLists) (lines : List Line) (k : Line) → body w ≡ lines ++ k ∷ []
     → GoesOn (programs_grammar version) w lines k
 goes_on version w lines k e = (

@@ -28,6 +28,7 @@ use Rattle.smx_types.specs.declared.version.Version.TheVariants.{V1, V2}
 
 -- ---- the first word of a command
 
+-- whether a word is one with which a command begins
 abbrev is_verb : List ℕ → Bool
 is_verb w =
     bytes_eq w (codes "clone") || bytes_eq w (codes "open") || bytes_eq w (codes "dup") || bytes_eq w
@@ -39,6 +40,7 @@ is_verb w =
     || bytes_eq w (codes "flush") || bytes_eq w (codes "inject") || bytes_eq w (codes "transmit")
     || bytes_eq w (codes "hangup")
 
+-- the first word of a command is one with which a command begins
 verb_first : (c : Command) → is_verb (first_word (command_words c)) ≡ true
 verb_first command.CloseAll = refl
 verb_first c = refl
@@ -50,12 +52,14 @@ not_verb c ws e h = let t = verb_first c in
 
 -- ---- lines
 
+-- the words of a line that can be told are one or more, of bytes that can be seen
 spelling : (version : Version) (k : Line) → FitsLine version k → AreWords (line_words k)
 spelling version (line.Driver d) fits = driver_spelled d fits
 spelling version (line.Process n) fits = process_spelled n fits
 spelling version (line.Command c) fits = command_spelled c fits.0
 spelling version line.End fits = end_spelled
 
+-- two lines of programs that can be told in a version and have the same words are the same line
 words_apart : (version : Version) (k l : Line) → FitsLine version k → FitsLine version l → line_words k ≡ line_words l
     → line_text (programs_grammar version) k ≡ line_text (programs_grammar version) l → k ≡ l
 words_apart version (line.Driver d) (line.Driver e) fits also ws same =
@@ -90,7 +94,7 @@ pub refused_line : (version : Version) (lines : List Line) (k : Line) (text : Li
 refused_line version lines k text fits is why h =
     refuses (programs_grammar version) (tells_apart version) lines k text fits is why h
 
--- what is none of these is no line
+-- a text that is no command, no driver, no process and not the end is no line of programs
 pub no_line : (version : Version) (lines : List Line) (text : List ℕ)
     → ((c : Command) → FitsCommandIn version c → text ≢ line_of (command_words c))
     → ((d : DriverSpec) → FitsDriver d → text ≢ line_of (driver_words d))
@@ -101,6 +105,7 @@ no_line version lines text commands drivers processes end (line.Driver d) fits m
 no_line version lines text commands drivers processes end (line.Process n) fits may is = processes n fits is
 no_line version lines text commands drivers processes end line.End fits may is = end is
 
+-- the header of programs has no line feed in it
 header_is_line : (version : Version) → IsOneLine (header (programs_grammar version))
 header_is_line V1 = search rules
 header_is_line V2 = search rules

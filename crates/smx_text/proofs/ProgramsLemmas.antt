@@ -23,34 +23,37 @@ use Rattle.smx_types.specs.declared.version.Version.{Version}
 use Rattle.smx_types.specs.declared.version.Version.TheVariants.{V1, V2}
 use Rattle.smx_types.specs.Versions.{most_drivers}
 
--- what is counted of some programs is counted of the same ones
+-- what is counted of some programs is counted of programs that are equal to them
 pub counted : {v w : ProgramLists} {version : Version} {drivers programs commands : ℕ}
     → IsCounted v version drivers programs commands → v ≡ w → IsCounted w version drivers programs commands
 counted {version = version} {drivers = drivers} {programs = programs} {commands = commands} h same =
     subst (λ (p : ProgramLists). IsCounted p version drivers programs commands) same h
 
--- it is not one too many
+-- the line is not the end, and programs have fewer of its kind than there may be
 abbrev pub HasRoom : Version → ProgramLists → Line → Type 0
 HasRoom version v (line.Driver d) = length v.drivers < most_drivers version
 HasRoom version v (line.Process number) = length v.programs < MAX_PROCESSES
 HasRoom version v (line.Command c) = sum_by length v.programs < MAX_COMMANDS
 HasRoom version v line.End = ⊥
 
+-- a line for which programs have room is not the end
 not_end : (version : Version) (v : ProgramLists) (k : Line) → HasRoom version v k → k ≢ line.End
 not_end version v line.End h e = h
 not_end version v k h e = cc
 
--- as many as may be of each kind
+-- programs have at most as many drivers, programs and commands as there may be
 record IsFew (version : Version) (v : ProgramLists) : Type 0 where
   drivers : length v.drivers ≤ most_drivers version
   programs : length v.programs ≤ MAX_PROCESSES
   commands : sum_by length v.programs ≤ MAX_COMMANDS
 
+-- what is counted of lines with one more at their end is what is counted of the others and of that one
 sums : (weight : Line → ℕ) (v w : ProgramLists) (k : Line) → body w ≡ body v ++ k ∷ []
     → sum_by weight (body w) ≡ sum_by weight (body v) + weight k
 sums weight v w k e =
     omega (arith, ap (sum_by weight) e, sum_by-append weight (body v) (k ∷ []), sum_by-cons weight k [])
 
+-- programs with one line more than allowed ones, which had room for it, have no more of each kind than there may be
 few_by : (version : Version) (v w : ProgramLists) (k : Line) → IsAllowed version v → HasRoom version v k
     → body w ≡ body v ++ k ∷ [] → IsFew version w
 few_by version v w line.End within room e = absurd room
@@ -60,7 +63,7 @@ few_by version v w k within room e = let a = counts v in let b = counts w in rec
   commands = omega (arith, sums a_command v w k e, a.commands, b.commands, within.commands, room);
 }
 
--- programs with this line more
+-- where programs have room for a line, some allowed programs begin with their lines and this one
 pub adds : (version : Version) (v w : ProgramLists) (k : Line) → v.version ≡ version → w.version ≡ version
     → IsBegun (programs_grammar version) (body v) → HasRoom version v k → FitsLine version k
     → body w ≡ body v ++ k ∷ []
@@ -79,7 +82,7 @@ adds version v w k of_v of_w begun room fits e =
     } in
     (e, (w, [], kept, sym (append-nil (body w))))
 
--- their lines and this one begin some programs
+-- where a line may stand and there is room for it, some allowed programs begin with the others and this one
 pub longer_begun : (version : Version) (v : ProgramLists) (k : Line) → v.version ≡ version
     → IsBegun (programs_grammar version) (body v) → MayStand v k → HasRoom version v k → FitsLine version k
     → IsBegun (programs_grammar version) (body v ++ k ∷ [])
@@ -88,17 +91,17 @@ longer_begun version v k is begun may room fits =
     subst (IsBegun (programs_grammar version)) more
     (adds version v (with_line v k) k is (version_stays v k ∙ is) begun room fits more).1
 
--- one that may not stand there
+-- a line that may not stand behind those of some programs is refused for its form
 pub misplaced : (version : Version) (v : ProgramLists) (k : Line) → (MayStand v k → ⊥)
     → RefusesLine (programs_grammar version) (body v) k cause.Form
 misplaced version v k h may = h (may_stand version v k may)
 
--- and one that may, of which there are as many as may be
+-- a line that may stand behind those of some programs, but of which there are as many as may be, is one too many
 pub too_many : (version : Version) (v : ProgramLists) (k : Line) → MayStand v k → AreMany version v k
     → RefusesLine (programs_grammar version) (body v) k cause.Many
 too_many version v k may many = (stand_may version v k may, are_full version v k many)
 
--- programs with this line more, which may stand there
+-- where a line may stand and there is room for it, it is added to programs with which some allowed ones begin
 pub taken_more : (version : Version) (v w : ProgramLists) (k : Line) → v.version ≡ version → w ≡ with_line v k
     → IsBegun (programs_grammar version) (body v) → MayStand v k → HasRoom version v k → FitsLine version k
     → AddsLine (programs_grammar version) (body v) k (body w)
@@ -121,7 +124,7 @@ begun_within v begun =
       few V1 h = search rules
       few V2 h = h
 
--- they end as what is made of them
+-- programs whose lines some allowed programs begin with may end there, as what is made of them
 pub finished : {W : Type 0} (makes : ProgramLists → W → Type 0) (v : ProgramLists) (w : W)
     → IsBegun (programs_grammar v.version) (body v) → makes v w
     → EndsAs (programs_grammar v.version) makes (body v) (Some w)

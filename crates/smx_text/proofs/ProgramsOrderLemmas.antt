@@ -32,13 +32,14 @@ abbrev pub an_end : Line → ℕ
 an_end line.End = 1
 an_end k = 0
 
--- so many lines of each kind, and none is the end
+-- there are so many lines of drivers, of processes and of commands, and none is the end
 pub record HasCounts (d p c : ℕ) (lines : List Line) : Type 0 where
   pub drivers : sum_by a_driver lines ≡ d
   pub processes : sum_by a_process lines ≡ p
   pub commands : sum_by a_command lines ≡ c
   pub ends : sum_by an_end lines ≡ 0
 
+-- a line in front of others that is not the end is counted with its kind, and the others as before
 one_first : {d p c e q b : ℕ} (k : Line) (ls : List Line) → an_end k ≡ 0 → HasCounts d p c ls
     → (e ≡ a_driver k + d) × (q ≡ a_process k + p) × (b ≡ a_command k + c) → HasCounts e q b (k ∷ ls)
 one_first k ls none h are = record {
@@ -48,6 +49,7 @@ one_first k ls none h are = record {
   ends = omega (arith, sum_by-cons an_end k ls, none, h.ends);
 }
 
+-- the counts of two lists of lines add up to those of both joined
 both : {d p c e q b : ℕ} (ls ks : List Line) → HasCounts d p c ls → HasCounts e q b ks
     → HasCounts (d + e) (p + q) (c + b) (ls ++ ks)
 both ls ks h k = record {
@@ -57,16 +59,19 @@ both ls ks h k = record {
   ends = omega (arith, sum_by-append an_end ls ks, h.ends, k.ends);
 }
 
+-- the lines of some drivers are one for each driver, and no others
 of_drivers : (ds : List DriverSpec) → HasCounts (length ds) 0 0 (map line.Driver ds)
 of_drivers [] = record { drivers = refl; processes = refl; commands = refl; ends = refl }
 of_drivers (d ∷ ds) =
     one_first (line.Driver d) (map line.Driver ds) refl (of_drivers ds) (omega arith, omega arith, omega arith)
 
+-- the lines of some commands are one for each command, and no others
 of_commands : (cs : List Command) → HasCounts 0 0 (length cs) (map line.Command cs)
 of_commands [] = record { drivers = refl; processes = refl; commands = refl; ends = refl }
 of_commands (c ∷ cs) =
     one_first (line.Command c) (map line.Command cs) refl (of_commands cs) (omega arith, omega arith, omega arith)
 
+-- the lines of some programs are one for each program and one for each command, and no others
 of_programs : (n : ℕ) (ps : List (List Command)) → HasCounts 0 (length ps) (sum_by length ps) (program_lines n ps)
 of_programs n [] = record { drivers = refl; processes = refl; commands = refl; ends = refl }
 of_programs n (p ∷ ps) =
@@ -87,7 +92,7 @@ counts v =
       ends = all.ends;
     }
 
--- the line `end` is none of them
+-- the line `end` is none of the lines of programs between the header and the end
 pub end_is_last : (v : ProgramLists) (lines more : List Line) → body v ≡ lines ++ line.End ∷ more → ⊥
 end_is_last v lines more e =
     let c = counts v in
@@ -109,15 +114,18 @@ InOrder n (line.Process m ∷ ls) = (m ≡ n) × InOrder (n + 1) ls
 InOrder n (line.Command c ∷ ls) = (0 < n) × InOrder n ls
 InOrder n (line.End ∷ ls) = InOrder n ls
 
+-- lines that are in order behind no process are so with lines of drivers in front of them
 drivers_in_order : (ds : List DriverSpec) (rest : List Line) → InOrder 0 rest → InOrder 0 (map line.Driver ds ++ rest)
 drivers_in_order [] rest h = h
 drivers_in_order (d ∷ ds) rest h = (refl, drivers_in_order ds rest h)
 
+-- lines that are in order behind one process or more are so with lines of commands in front of them
 commands_in_order : (n : ℕ) (cs : List Command) (rest : List Line) → 0 < n → InOrder n rest
     → InOrder n (map line.Command cs ++ rest)
 commands_in_order n [] rest some h = h
 commands_in_order n (c ∷ cs) rest some h = (some, commands_in_order n cs rest some h)
 
+-- the lines of programs from process n on, with the end behind them, are in order behind n processes
 lines_in_order : (n : ℕ) (ps : List (List Command)) → InOrder n (program_lines n ps ++ line.End ∷ [])
 lines_in_order n [] = tt
 lines_in_order n (p ∷ ps) = (

@@ -19,54 +19,64 @@ use Rattle.smx_types.specs.declared.version.Version.{Version}
 
 -- ---- the lines tell the programs
 
+-- the drivers that lines tell
 abbrev drivers_of : List Line → List DriverSpec
 drivers_of [] = []
 drivers_of (line.Driver d ∷ ls) = d ∷ drivers_of ls
 drivers_of (k ∷ ls) = drivers_of ls
 
--- the commands before the first process, and the programs
+-- the commands that lines tell before the first line of a process
 abbrev commands_of : List Line → List Command
 commands_of [] = []
 commands_of (line.Process n ∷ ls) = []
 commands_of (line.Command c ∷ ls) = c ∷ commands_of ls
 commands_of (k ∷ ls) = commands_of ls
 
+-- the programs that lines tell: for each line of a process, the commands up to the next one
 abbrev programs_of : List Line → List (List Command)
 programs_of [] = []
 programs_of (line.Process n ∷ ls) = commands_of ls ∷ programs_of ls
 programs_of (k ∷ ls) = programs_of ls
 
+-- lines of drivers, and others behind them, tell these drivers and then those of the others
 drivers_again : (ds : List DriverSpec) (rest : List Line)
     → drivers_of (map line.Driver ds ++ rest) ≡ ds ++ drivers_of rest
 drivers_again [] rest = refl
 drivers_again (d ∷ ds) rest = ap (λ (es : List DriverSpec). d ∷ es) (drivers_again ds rest)
 
+-- lines behind those of drivers tell the same programs as without them
 programs_behind : (ds : List DriverSpec) (rest : List Line)
     → programs_of (map line.Driver ds ++ rest) ≡ programs_of rest
 programs_behind [] rest = refl
 programs_behind (d ∷ ds) rest = programs_behind ds rest
 
+-- lines behind those of commands tell the same drivers as without them
 no_drivers_of : (cs : List Command) (rest : List Line) → drivers_of (map line.Command cs ++ rest) ≡ drivers_of rest
 no_drivers_of [] rest = refl
 no_drivers_of (c ∷ cs) rest = no_drivers_of cs rest
 
+-- the lines of processes and their programs tell no driver
 no_drivers : (n : ℕ) (ps : List (List Command)) → drivers_of (program_lines n ps) ≡ []
 no_drivers n [] = refl
 no_drivers n (p ∷ ps) = no_drivers_of p (program_lines (n + 1) ps) ∙ no_drivers (n + 1) ps
 
+-- lines of commands, and others behind them, tell these commands first and then those of the others
 commands_again : (cs : List Command) (rest : List Line)
     → commands_of (map line.Command cs ++ rest) ≡ cs ++ commands_of rest
 commands_again [] rest = refl
 commands_again (c ∷ cs) rest = ap (λ (es : List Command). c ∷ es) (commands_again cs rest)
 
+-- lines behind those of commands tell the same programs as without them
 programs_after : (cs : List Command) (rest : List Line) → programs_of (map line.Command cs ++ rest) ≡ programs_of rest
 programs_after [] rest = refl
 programs_after (c ∷ cs) rest = programs_after cs rest
 
+-- the lines of processes and their programs tell no command before the first process
 none_first : (n : ℕ) (ps : List (List Command)) → commands_of (program_lines n ps) ≡ []
 none_first n [] = refl
 none_first n (p ∷ ps) = refl
 
+-- the lines of processes and their programs tell these programs
 programs_again : (n : ℕ) (ps : List (List Command)) → programs_of (program_lines n ps) ≡ ps
 programs_again n [] = refl
 programs_again n (p ∷ ps) =
@@ -99,9 +109,11 @@ one_value v w same e = sym (told v) ∙ ap (told_of v.version) e
 
 -- ---- lines that some programs begin with are those of some programs
 
+-- a line that is not counted as an end is not the end
 same_end : (k : Line) → an_end k ≡ 0 → k ≢ line.End
 same_end k none e = let one : an_end k ≡ 1 = ap an_end e in omega (arith, none, one)
 
+-- where lines are in order behind some programs, all but the first are so behind the programs with the first added
 order_next : (v : ProgramLists) (n : ℕ) (k : Line) (more : List Line) → n ≡ length v.programs → k ≢ line.End
     → InOrder n (k ∷ more) → InOrder (length (with_line v k).programs) more
 order_next v n (line.Driver d) more e other h = subst (λ (m : ℕ). InOrder m more) e h.1
@@ -113,6 +125,7 @@ order_next v n (line.Command c) more e other h =
     (get_or v.programs (length v.programs - 1) [] ++ c ∷ []))) h.1
 order_next v n line.End more e other h = absurd (other refl)
 
+-- behind lines of programs, lines in order without an end make the lines of some longer programs of that version
 lead : (v : ProgramLists) (ks : List Line) → InOrder (length v.programs) ks → sum_by an_end ks ≡ 0
     → (w : ProgramLists) × (w.version ≡ v.version) × (body w ≡ body v ++ ks)
 lead v [] order none = (v, refl, sym (append-nil (body v)))
@@ -155,7 +168,7 @@ begun_is_body version lines (w, more, allowed, e) =
           → sum_by weight (body v) ≤ sum_by weight (body w)
       fewer weight v is = omega (arith, ap (sum_by weight) e, sum_by-append weight lines more, ap (sum_by weight) is)
 
--- so where their lines begin an allowed value, they are allowed
+-- programs whose lines some allowed programs begin with are allowed themselves
 pub allowed_of : (version : Version) (v : ProgramLists) → v.version ≡ version
     → IsBegun (programs_grammar version) (body v) → IsAllowed version v
 allowed_of version v is begun =

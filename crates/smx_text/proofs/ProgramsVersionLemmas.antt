@@ -16,12 +16,14 @@ use Rattle.smx_text.proofs.LeastVersionLemmas.{few_drivers, is_first, not_more}
 
 -- ---- what version 1 tells line by line needs no later one
 
+-- where version 1 can tell lines of commands and others behind them, no command is a hangup and it can tell the others
 told_commands : (cs : List Command) (rest : List Line)
     → AllByRecursion (FitsLine V1) (map line.Command cs ++ rest)
     → (list_any is_hangup cs ≡ false) × AllByRecursion (FitsLine V1) rest
 told_commands [] rest h = (refl, h)
 told_commands (c ∷ cs) rest h = let more = told_commands cs rest h.1 in (rw (h.0.1, more.0) refl, more.1)
 
+-- programs whose lines version 1 can tell have no hangup
 told_programs : (n : ℕ) (ps : List (List Command)) → AllByRecursion (FitsLine V1) (program_lines n ps)
     → list_any (list_any is_hangup) ps ≡ false
 told_programs n [] h = refl
@@ -29,6 +31,7 @@ told_programs n (p ∷ ps) h =
     let own = told_commands p (program_lines (n + 1) ps) h.1 in
     rw (own.0, told_programs (n + 1) ps own.1) refl
 
+-- where version 1 can tell lines of drivers and others behind them, it can tell the others
 told_behind : (ds : List DriverSpec) (rest : List Line) → AllByRecursion (FitsLine V1) (map line.Driver ds ++ rest)
     → AllByRecursion (FitsLine V1) rest
 told_behind [] rest h = h
@@ -42,9 +45,9 @@ least_is_first v allowed =
     told_programs 0 v.programs (told_behind v.drivers (program_lines 0 v.programs) allowed.fits) in
     rw (few, none) refl
 
--- ---- and what needs no later version, version 1 tells line by line
+-- ---- what needs no later version, version 1 tells line by line
 
--- a line of version 2 is one of version 1 where no hangup is told
+-- lines of commands without a hangup that fit version 2 fit version 1, with lines behind them for which that holds
 first_commands : (cs : List Command) (rest : List Line) → list_any is_hangup cs ≡ false
     → AllByRecursion (FitsLine V2) (map line.Command cs ++ rest)
     → (AllByRecursion (FitsLine V2) rest → AllByRecursion (FitsLine V1) rest)
@@ -54,6 +57,7 @@ first_commands (c ∷ cs) rest none h more =
     let both = or_parts (is_hangup c) (list_any is_hangup cs) none in
     ((h.0.0, both.0), first_commands cs rest both.1 h.1 more)
 
+-- lines of programs without a hangup that fit version 2 fit version 1
 first_programs : (n : ℕ) (ps : List (List Command)) → list_any (list_any is_hangup) ps ≡ false
     → AllByRecursion (FitsLine V2) (program_lines n ps) → AllByRecursion (FitsLine V1) (program_lines n ps)
 first_programs n [] none h = tt

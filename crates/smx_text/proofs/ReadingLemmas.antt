@@ -14,11 +14,11 @@ use Rattle.smx_text.specs.Grammar.{Grammar, IsOneLine, header, line_text, beginn
 use Rattle.smx_text.specs.Grammar.{Continues, IsNoLine, MayFollow, Reaches, IsFault, MakesAny, ReadsAny, Spells}
 use Rattle.smx_text.specs.Reading.{Refuses, RefusesLine, EndsText, AnswersLine, AnswersText}
 
--- a text of some lines and of others
+-- the text of two joined lists of lines is the text of the first and then that of the second
 pub texts_append : (ls ks : List (List (List ℕ))) → text_of (ls ++ ks) ≡ text_of ls ++ text_of ks
 texts_append ls ks = flat_map-append (λ words. line_of words ++ LINE_FEED ∷ []) ls ks
 
--- with bytes behind it, a line is its words, its line feed and those bytes
+-- bytes that stand behind a whole line stand behind its line feed
 behind : (before text after : List ℕ) → (before ++ (text ++ LINE_FEED ∷ [])) ++ after
     ≡ before ++ (text ++ LINE_FEED ∷ after)
 behind before text after = append_assoc before (text ++ LINE_FEED ∷ []) after
@@ -30,7 +30,7 @@ MakesIn {V} {K} {W} g makes bytes (Ok w) = (v : V) × Spells g bytes v × makes 
 MakesIn {V} {K} {W} g makes bytes (Err f) = IsFault g bytes f.line f.cause
 
 module _ {V K : Type 0} (g : Grammar V K) where
-  -- with one line more
+  -- a beginning with one line more is the beginning and then that line with its line feed
   pub beginning_more : (lines : List K) (k : K)
       → beginning g (lines ++ k ∷ []) ≡ beginning g lines ++ (line_text g k ++ LINE_FEED ∷ [])
   beginning_more lines k =
@@ -146,14 +146,14 @@ module _ {V K : Type 0} (g : Grammar V K) where
   refuses tells_apart lines k text fits is cause.NoMemory h = (lines ++ k ∷ [], (k, is, refl, h))
   refuses tells_apart lines k text fits is why h = absurd h
 
-  -- the same of each answer
+  -- where texts tell lines apart, what is answered to a line that was read is answered to its text
   pub answers : {A : Type 0} → ((k l : K) → g.FitsLine k → g.FitsLine l → line_text g k ≡ line_text g l → k ≡ l)
       → (lines longer : List K) (k : K) (text : List ℕ) → g.FitsLine k × (text ≡ line_text g k) → (r : Result A Cause)
       → AnswersLine g lines k longer r → AnswersText g lines text longer r
   answers tells_apart lines longer k text (fits, is) (Ok x) h = (k, is, h.0, h.1)
   answers tells_apart lines longer k text (fits, is) (Err why) h = refuses tells_apart lines k text fits is why h
 
-  -- behind the header nothing is wrong with it
+  -- no line behind the header is refused as a wrong header
   pub refused_behind : (lines : List K) (text : List ℕ) (why : Cause) → Refuses g lines text why → why ≢ cause.Header
   refused_behind lines text cause.Header h e = absurd h
   refused_behind lines text why h e = cc
@@ -168,12 +168,12 @@ module _ {V K : Type 0} (g : Grammar V K) where
 -- ---- texts of several versions
 
 module _ {V K : Type 0} (g : Version → Grammar V K) (bytes : List ℕ) where
-  -- a fault of one version that is none of the header
+  -- a fault that a text has in one version, and that is not its header, may be answered by a reader of all versions
   pub any_fault : (version : Version) (f : TextFault) → IsFault (g version) bytes f.line f.cause
       → f.cause ≢ cause.Header → ReadsAny g bytes (Err f)
   any_fault version f fault behind = (version, fault, λ header. absurd (behind header))
 
-  -- an answer of one version that says nothing of the header
+  -- an answer in one version that is not a wrong header may be given by a reader of all versions
   pub any_of : {W : Type 0} (makes : V → W → Type 0) (version : Version) (r : Result W TextFault)
       → MakesIn (g version) makes bytes r → IfErr r (λ f. f.cause ≢ cause.Header) → MakesAny g makes bytes r
   any_of makes version (Ok w) (v, spells, made) behind = (v, (version, spells, tt), made)
@@ -184,7 +184,7 @@ module _ {V K : Type 0} (g : Version → Grammar V K) (bytes : List ℕ) where
   made_is_read (Ok w) (v, reads, is) = subst (λ (x : V). ReadsAny g bytes (Ok x)) (sym is) reads
   made_is_read (Err f) reads = reads
 
-  -- an answer of each version
+  -- a fault that a text has in each version may be answered by a reader of all versions
   pub any_of_each : (f : TextFault) → ((version : Version) → IsFault (g version) bytes f.line f.cause)
       → ReadsAny g bytes (Err f)
   any_of_each f each = (

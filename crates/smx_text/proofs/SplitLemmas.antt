@@ -23,17 +23,17 @@ use Rattle.smx_text.specs.SplitPrograms.{IsProgramText, sections}
 use Rattle.smx_text.proofs.EachLemmas.{all_append, all_map}
 use Rattle.smx_text.proofs.ReadingLemmas.{full_is, texts_append}
 
--- a line, and then three parts of bytes
+-- a line with two parts of bytes behind it, and then a third, is the line with the three parts joined
 regroup : (line first second last : List ℕ) → line ++ LINE_FEED ∷ (first ++ (second ++ last))
     ≡ (line ++ LINE_FEED ∷ (first ++ second)) ++ last
 regroup line first second last = simp append_assoc
 
--- bytes, a line with what follows it, and then the rest
+-- bytes with a line and its text behind them, and then the rest, are the bytes and then all of these joined
 behind : (before line text after : List ℕ) → before ++ (line ++ LINE_FEED ∷ (text ++ after))
     ≡ (before ++ (line ++ LINE_FEED ∷ text)) ++ after
 behind before line text after = simp append_assoc
 
--- one section more
+-- the sections of texts with one more are those of the others, the line of the next process, and that text
 pub sections_more : (n : ℕ) (texts : List (List ℕ)) (text : List ℕ) → sections n (texts ++ text ∷ [])
     ≡ sections n texts ++ (line_of (process_words (n + length texts)) ++ LINE_FEED ∷ text)
 sections_more n [] text = rw (append-nil, add-zero) refl
@@ -49,7 +49,7 @@ sections_more n (t ∷ ts) text =
 abbrev pub bytes_of : List (Bor (List ℕ)) → List (List ℕ)
 bytes_of texts = map (λ (text : Bor (List ℕ)). text.now) texts
 
--- bytes of which the next section is read
+-- where sections were read and the next one follows, the sections with that one were read, and the rest follows
 pub section_read : (texts longer : List (Bor (List ℕ))) (text : Bor (List ℕ)) (number : ℕ) (bytes rest after : List ℕ)
     → length texts ≡ number → longer ≡ texts ++ text ∷ [] → bytes ≡ sections 0 (bytes_of texts) ++ rest
     → rest ≡ line_of (process_words number) ++ LINE_FEED ∷ (text.now ++ after)
@@ -71,16 +71,17 @@ section_read texts longer text number bytes rest after counted is parts next =
 abbrev pub lines_text : List Line → List ℕ
 lines_text lines = text_of (map line_words lines)
 
+-- the bytes of two joined lists of lines are those of the first and then those of the second
 lines_append : (ls ks : List Line) → lines_text (ls ++ ks) ≡ lines_text ls ++ lines_text ks
 lines_append ls ks = ap text_of (map-append line_words ls ks) ∙ texts_append (map line_words ls) (map line_words ks)
 
--- the lines of a program are its text
+-- the bytes of the lines of commands are the text of these commands
 commands_text : (commands : List Command)
     → lines_text (map line.Command commands) ≡ text_of (map command_words commands)
 commands_text [] = refl
 commands_text (c ∷ cs) = ap (λ (xs : List ℕ). (line_of (command_words c) ++ LINE_FEED ∷ []) ++ xs) (commands_text cs)
 
--- the lines of some drivers are theirs
+-- the bytes of the lines of drivers are the text of these drivers
 drivers_text : (drivers : List DriverSpec) → lines_text (map line.Driver drivers) ≡ text_of (map driver_words drivers)
 drivers_text [] = refl
 drivers_text (d ∷ ds) = ap (λ (xs : List ℕ). (line_of (driver_words d) ++ LINE_FEED ∷ []) ++ xs) (drivers_text ds)
@@ -99,7 +100,7 @@ sections_are version n (text ∷ texts) (commands ∷ programs) h =
     sym (ap (λ (xs : List ℕ). (line_of (process_words n) ++ LINE_FEED ∷ []) ++ xs) more
     ∙ append_assoc (line_of (process_words n)) (LINE_FEED ∷ []) (text ++ sections (n + 1) texts))
 
--- as many texts as programs
+-- where each text is that of a program, there are as many texts as programs
 pub as_many : (version : Version) (texts : List (List ℕ)) (programs : List (List Command))
     → AllZip (IsProgramText version) texts programs → length texts ≡ length programs
 as_many version [] [] h = refl
@@ -107,7 +108,7 @@ as_many version [] (commands ∷ programs) h = absurd h
 as_many version (text ∷ texts) [] h = absurd h
 as_many version (text ∷ texts) (commands ∷ programs) h = ap suc (as_many version texts programs h.1)
 
--- their lines can be spelled
+-- where texts are those of programs, and no more than processes may be, the lines of these programs can be told
 pub lines_fit : (version : Version) (n : ℕ) (texts : List (List ℕ)) (programs : List (List Command))
     → n + length texts ≤ MAX_PROCESSES → AllZip (IsProgramText version) texts programs
     → AllByRecursion (FitsLine version) (program_lines n programs)

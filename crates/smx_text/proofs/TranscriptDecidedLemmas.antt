@@ -29,10 +29,12 @@ use Rattle.smx_text.proofs.TranscriptDrafts.{takes, is_full}
 use Rattle.smx_text.proofs.TranscriptGrammarLemmas.{refused_line, not_at_end, well_made, no_line}
 use Rattle.smx_text.proofs.TranscriptLemmas.{misplaced, too_many, longer_begun, whole, begun_is_draft, nothing_begun}
 
+-- any bytes are read as an entry that a version can tell, or as none
 told_entry_reading : (version : Version) (text : List ℕ)
     → (o : Option Entry) × IsReadAs (FitsEntryIn version) entry_words text o
 told_entry_reading version text = let e = entry_reading text in told_entry version text e.0 e.1
 
+-- any bytes are read as a hung-up stream that a version can tell, or as none
 told_hung_reading : (version : Version) (text : List ℕ)
     → (o : Option HungLine) × IsReadAs (FitsHungIn version) hung_words text o
 told_hung_reading V1 text = (None, λ x told e. absurd (cc told.1))
@@ -40,7 +42,7 @@ told_hung_reading V2 text =
     by_reading hung_words (hung_reading text) (λ x fits is. (Some x, ((fits, tt), is)))
     (λ none. (None, λ x told e. none x told.0 e))
 
--- a line that was read
+-- behind the lines of a draft, the text of a line that can be told and is not the end is decided
 judged : (d : TranscriptDraft) → IsBegun (grammar_of d) (lines d) → (text : List ℕ) (k : TranscriptLine)
     → k ≢ line.End → FitsLine d.transcript.version k → text ≡ line_text (grammar_of d) k
     → Decision (grammar_of d) (lines d) text
@@ -55,12 +57,13 @@ judged d begun text k other fits is = by_place (takes d k) refl where
   by_place false no_place = inr (inl (refused_line d.transcript.version (lines d) k text fits is cause.Form
       (misplaced d k no_place)))
 
+-- a stage at which groups are read is that of the view
 view_of : (s : Stage) → is_view s ≡ true → s ≡ stage.View
 view_of stage.History h = absurd cc
 view_of stage.Config h = absurd cc
 view_of stage.View h = refl
 
--- the last line
+-- behind the lines of a draft, the text of the line `end` is decided
 at_end : (d : TranscriptDraft) → IsBegun (grammar_of d) (lines d) → (text : List ℕ)
     → text ≡ line_text (grammar_of d) line.End → Decision (grammar_of d) (lines d) text
 at_end d begun text end = by_stage (is_view d.stage) refl where
@@ -69,6 +72,7 @@ at_end d begun text end = by_stage (is_view d.stage) refl where
       inr (inr (inr (end, d.transcript, all.0, all.1)))
   by_stage false early = inr (inl (subst (IsNoLine (grammar_of d) (lines d)) (sym end) (not_at_end d early)))
 
+-- behind the lines of a draft, any text is decided
 behind : (d : TranscriptDraft) → IsBegun (grammar_of d) (lines d) → (text : List ℕ)
     → Decision (grammar_of d) (lines d) text
 behind d begun text =
@@ -95,6 +99,7 @@ behind d begun text =
           ])))
     ]
 
+-- behind lines that some allowed transcript begins with, any text is decided
 decides : (version : Version) (ls : List TranscriptLine) → IsBegun (transcript_grammar version) ls → (text : List ℕ)
     → Decision (transcript_grammar version) ls text
 decides version ls begun text =

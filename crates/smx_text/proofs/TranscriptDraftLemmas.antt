@@ -44,31 +44,37 @@ pub not_end : (k : TranscriptLine) → k ≢ line.End → is_line k ≡ true
 not_end line.End h = absurd (h refl)
 not_end k h = refl
 
--- one more behind the history
+-- a line behind the last of three lists of lines stands behind all three joined
 behind : (xs bs vs ws : List TranscriptLine) (k : TranscriptLine) → ws ≡ vs ++ k ∷ []
     → xs ++ (bs ++ ws) ≡ (xs ++ (bs ++ vs)) ++ k ∷ []
 behind xs bs vs ws k e = rw e (simp append_assoc)
 
 -- ---- where a line of a group may come, the groups behind it are empty
 
+-- where a test holds together with one for an empty list, the list is empty and the first test holds
 empty : {A : Type 0} (may : Bool) (xs : List A) → may && eqb (length xs) 0 ≡ true → (xs ≡ []) × (may ≡ true)
 empty may xs h = let p = and_parts may (eqb (length xs) 0) h in (nil_from_length xs (grind (arith, nat_tests)), p.0)
 
 module _ (t : Transcript) where
+  -- where a full place may come, no hung-up stream came
   no_hungs : takes_fulls (draft stage.View t) ≡ true → t.view.hungs ≡ []
   no_hungs h = (empty (takes_hungs (draft stage.View t)) t.view.hungs h).0
 
+  -- where a message may come, no full place and no hung-up stream came
   no_fulls : takes_msgs (draft stage.View t) ≡ true → (t.view.fulls ≡ []) × (t.view.hungs ≡ [])
   no_fulls h = let p = empty (takes_fulls (draft stage.View t)) t.view.fulls h in (p.0, no_hungs p.1)
 
+  -- where a route may come, no line of a later group came
   no_msgs : takes_routes (draft stage.View t) ≡ true
       → (t.view.msgs ≡ []) × ((t.view.fulls ≡ []) × (t.view.hungs ≡ []))
   no_msgs h = let p = empty (takes_msgs (draft stage.View t)) t.view.msgs h in (p.0, no_fulls p.1)
 
+  -- where a binding may come, no line of a later group came
   no_routes : takes_binds (draft stage.View t) ≡ true
       → (t.view.routes ≡ []) × ((t.view.msgs ≡ []) × ((t.view.fulls ≡ []) × (t.view.hungs ≡ [])))
   no_routes h = let p = empty (takes_routes (draft stage.View t)) t.view.routes h in (p.0, no_msgs p.1)
 
+  -- where a link may come, no line of a later group came
   no_binds : takes_links (draft stage.View t) ≡ true → (t.view.binds ≡ []) × ((t.view.routes ≡ [])
       × ((t.view.msgs ≡ []) × ((t.view.fulls ≡ []) × (t.view.hungs ≡ []))))
   no_binds h = let p = empty (takes_binds (draft stage.View t)) t.view.binds h in (p.0, no_routes p.1)
@@ -79,17 +85,18 @@ groups v =
     (line.Config ∷ line.Next v.next_id v.next_serial ∷ []) ∷ map line.Fd v.fds ∷ map line.Link v.links
     ∷ map line.Bind v.binds ∷ map line.Route v.routes ∷ map line.Msg v.msgs ∷ map line.Full v.fulls ∷ []
 
+-- the lines of these groups, one group after the other, and then these lines
 abbrev behind_all : List (List TranscriptLine) → List TranscriptLine → List TranscriptLine
 behind_all [] ls = ls
 behind_all (g ∷ gs) ls = g ++ behind_all gs ls
 
--- one more in the group behind some groups is one more behind all
+-- one more line in a group behind others is one more line behind all of them
 last_of : {A : Type 0} (gs : List (List TranscriptLine)) (f : A → TranscriptLine) (xs : List A) (x : A)
     → behind_all gs (map f (xs ++ x ∷ []) ++ []) ≡ behind_all gs (map f xs ++ []) ++ f x ∷ []
 last_of [] f xs x = rw map_push (simp append-nil)
 last_of (g ∷ gs) f xs x = rw (last_of gs f xs x) (simp append_assoc)
 
--- so it is behind all others of the view
+-- a line that is taken in a view stands behind all other lines of that view
 view_more : (t : Transcript) (k : TranscriptLine) → takes (draft stage.View t) k ≡ true → is_line k ≡ true
     → shown stage.View (with_line (draft stage.View t) k).transcript.view ≡ shown stage.View t.view ++ k ∷ []
 view_more t (line.Fd x) h l =
@@ -109,7 +116,7 @@ view_more t (line.Hung x) h l =
     (last_of (groups t.view) line.Hung t.view.hungs x)
 view_more t k h l = absurd cc
 
--- a line that is taken is the last
+-- a transcript that takes a line at a stage, other than the end, has it behind the lines it had
 pub more_by : (s : Stage) (t : Transcript) (k : TranscriptLine) → takes (draft s t) k ≡ true
     → is_line k ≡ true → lines (with_line (draft s t) k) ≡ lines (draft s t) ++ k ∷ []
 more_by stage.History t (line.Driver x) h l =
@@ -142,6 +149,7 @@ abbrev pub run : TranscriptDraft → List TranscriptLine → Option TranscriptDr
 run d [] = Some d
 run d (k ∷ ks) = cond (takes d k && is_line k) (run (with_line d k) ks) None
 
+-- what follows on a value that a test lets through is itself let through by that test
 cond_then : {A B : Type 0} (b : Bool) (o : Option A) (f : A → Option B) → cond b o None >>= f ≡ cond b (o >>= f) None
 cond_then true o f = refl
 cond_then false o f = refl
@@ -153,7 +161,7 @@ run_append d (k ∷ ks) ls =
     rw (run_append (with_line d k) ks ls)
     (sym (cond_then (takes d k && is_line k) (run (with_line d k) ks) (λ (e : TranscriptDraft). run e ls)))
 
--- what a test lets through
+-- where a value comes through a test, the test holds and the value is there
 pub let_through : {A : Type 0} (b : Bool) (o : Option A) (x : A) → cond b o None ≡ Some x → (b ≡ true) × (o ≡ Some x)
 let_through true o x e = (refl, e)
 let_through false o x e = absurd cc
@@ -186,6 +194,7 @@ run_each {X} line_of put rest one xs (y ∷ ys) = one xs y (map line_of ys ++ re
     ∙ run_each line_of put rest one (xs ++ y ∷ []) ys
     ∙ ap (λ (zs : List X). run (put zs) rest) (append_assoc xs (y ∷ []) ys)
 
+-- a draft that has read these drivers and entries, and no line `config` yet
 abbrev in_history : Version → List DriverSpec → List Entry → TranscriptDraft
 in_history version ds es =
     draft stage.History (record { version = version; drivers = ds; entries = es; view = new_view 0 0 })
@@ -202,6 +211,7 @@ pub run_entries : (version : Version) (ds : List DriverSpec) (es0 es : List Entr
 run_entries version ds es0 es rest =
     run_each line.Entry (λ es. in_history version ds es) rest (λ xs x ks. refl) es0 es
 
+-- a draft that has come to its view, with these groups in it
 abbrev in_view : Transcript → List DescriptorLine → List LinkLine → List BindingLine → List RouteLine
     → List MessageLine → List FullLine → List HungLine → TranscriptDraft
 in_view t fds links binds routes msgs fulls hungs =

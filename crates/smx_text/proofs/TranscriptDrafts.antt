@@ -64,7 +64,7 @@ takes d (line.Full x) = takes_fulls d
 takes d (line.Hung x) = takes_hungs d
 takes d line.End = is_view d.stage
 
--- as many as there may be of it
+-- there are as many drivers or entries as may be, and the line would be one more
 abbrev pub is_full : TranscriptDraft → TranscriptLine → Bool
 is_full d (line.Driver x) = nat_le (most_drivers d.transcript.version) (length d.transcript.drivers)
 is_full d (line.Entry x) = nat_le MAX_COMMANDS (length d.transcript.entries)
@@ -76,7 +76,7 @@ abbrev pub ◌>>=◌ : {A B : Type 0} → Option A → (A → Option B) → Opti
 (Some x) >>= f = f x
 None >>= f = None
 
--- with another view
+-- a draft that has come to its view, with this view
 abbrev pub with_view : TranscriptDraft → ConfigView → TranscriptDraft
 with_view d v =
     record {
@@ -89,7 +89,7 @@ with_view d v =
       };
     }
 
--- with one line more
+-- a draft with one line more
 abbrev pub with_line : TranscriptDraft → TranscriptLine → TranscriptDraft
 with_line d (line.Driver x) = record d { transcript = record d.transcript { drivers = d.transcript.drivers ++ x ∷ [] } }
 with_line d (line.Entry x) = record d { transcript = record d.transcript { entries = d.transcript.entries ++ x ∷ [] } }

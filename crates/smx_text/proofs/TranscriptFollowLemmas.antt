@@ -24,7 +24,7 @@ use Rattle.smx_text.proofs.EachLemmas.{all_push}
 use Rattle.smx_text.proofs.TranscriptDraftLemmas.{draft, is_line, lines_more, run, run_append, run_body, taken}
 use Rattle.smx_text.proofs.TranscriptWholeLemmas.{ended, completed, completes, still, IsWithin, allowed}
 
--- of the same version there are as many or more
+-- the second draft is of the same version as the first, and has as many drivers and entries or more
 pub record Grows (d e : TranscriptDraft) : Type 0 where
   pub version : e.transcript.version ≡ d.transcript.version
   pub drivers : length d.transcript.drivers ≤ length e.transcript.drivers
@@ -36,6 +36,7 @@ pub version_stays : (d : TranscriptDraft) (k : TranscriptLine)
 version_stays d line.End = refl
 version_stays d k = refl
 
+-- a draft with one line more is of the same version, and has as many drivers and entries or more
 one_grows : (d : TranscriptDraft) (k : TranscriptLine) → Grows d (with_line d k)
 one_grows d (line.Driver x) =
     let more = length-append d.transcript.drivers (x ∷ []) in
@@ -67,7 +68,7 @@ within_before d e grows within =
       entries = omega (arith, grows.entries, within.entries);
     }
 
--- one that is taken is not one too many, where what it leads to is within the limits
+-- a line that leads to a draft within the limits is not one too many
 pub not_full : (d : TranscriptDraft) (k : TranscriptLine) → IsWithin (with_line d k) → is_full d k ≡ false
 not_full d (line.Driver x) within = let len = length-append d.transcript.drivers (x ∷ []) in
     let most = within.drivers in grind (arith, nat_tests)
@@ -75,7 +76,7 @@ not_full d (line.Entry x) within = let len = length-append d.transcript.entries 
     let most = within.entries in grind (arith, nat_tests)
 not_full d k within = refl
 
--- and what is not one too many is within the limits
+-- a draft within the limits is so with one line more that is not one too many
 pub still_within : (d : TranscriptDraft) (k : TranscriptLine) → IsWithin d → is_full d k ≡ false
     → IsWithin (with_line d k)
 still_within d (line.Driver x) within h = let len = length-append d.transcript.drivers (x ∷ []) in
@@ -99,11 +100,12 @@ split_end (x ∷ xs) (l ∷ ls) more k e =
       | inr (rest, all) ↦ inr (rest, cc (same, all))
     ]
 
+-- what follows on a value that is there is what is made of that value
 bind_some : {A B : Type 0} (f : A → Option B) (o : Option A) (x : A) (y : B) → o ≡ Some x → o >>= f ≡ Some y
     → f x ≡ Some y
 bind_some f o x y e h = rw e at h
 
--- the same in another version, whose lines are the same
+-- a transcript as one of this version, which has the same lines
 abbrev pub of_version : Version → Transcript → Transcript
 of_version version t = record t { version = version }
 
@@ -117,7 +119,7 @@ rest_leads version t ls rest d led e =
     (sym (run_append (new_draft version) ls rest) ∙ sym (ap (run (new_draft version)) e)
     ∙ run_body (of_version version t))
 
--- what may follow is taken
+-- a draft takes a line with which some transcript goes on behind its lines
 pub may_takes : (version : Version) (ls : List TranscriptLine) (d : TranscriptDraft) (k : TranscriptLine)
     (t : Transcript) → run (new_draft version) ls ≡ Some d → GoesOn (transcript_grammar version) t ls k
     → takes d k ≡ true
@@ -129,7 +131,7 @@ may_takes version ls d k t led (more, e) =
       | inr (rest, all) ↦ (taken d (draft stage.View u) k rest (rest_leads version t ls (k ∷ rest) d led all)).0
     ]
 
--- where there are as many as may be, no transcript within the limits goes on so
+-- where a line is one too many for a draft, no allowed transcript goes on with it behind the draft's lines
 pub full_stops : (version : Version) (ls : List TranscriptLine) (d : TranscriptDraft) (k : TranscriptLine)
     (t : Transcript) → run (new_draft version) ls ≡ Some d → is_full d k ≡ true → IsAllowed version t
     → GoesOn (transcript_grammar version) t ls k → ⊥
@@ -147,7 +149,7 @@ full_stops version ls d k t led full allowed (more, e) =
           absurd (cc (full, room))
     ]
 
--- the least transcript that goes on so
+-- the least transcript that has a draft's lines and then this one
 abbrev pub next_of : TranscriptDraft → TranscriptLine → Transcript
 next_of d k = completed (with_line d k)
 
@@ -181,7 +183,7 @@ takes_may version d k h = by_kind (is_line k) refl where
       )
   by_kind false l = is_end d k l h
 
--- and it is allowed where these lines and this one are
+-- the least transcript with a draft's lines and one it takes is allowed, within the limits and where all can be told
 pub next_allowed : (d : TranscriptDraft) (k : TranscriptLine) → takes d k ≡ true → is_full d k ≡ false
     → IsWithin d → AllByRecursion (FitsLine d.transcript.version) (lines d) → FitsLine d.transcript.version k
     → IsAllowed d.transcript.version (next_of d k)

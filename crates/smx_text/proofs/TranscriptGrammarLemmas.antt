@@ -100,6 +100,7 @@ spelling version (line.Hung h) fits = hung_spelled h fits.0
 spelling version line.End fits = end_spelled
 
 module _ (version : Version) where
+  -- two lines of one kind that can be told in a version and have the same text are the same line
   kinds_apart : (k l : TranscriptLine) → FitsLine version k → FitsLine version l → kind_of k ≡ kind_of l
       → line_text (transcript_grammar version) k ≡ line_text (transcript_grammar version) l → k ≡ l
   kinds_apart (line.Driver d) (line.Driver e) fits also kinds same =
@@ -132,6 +133,7 @@ module _ (version : Version) where
 
 -- ---- the whole
 
+-- the line `end` is none of the lines of a transcript between the header and the end
 end_is_last : (t : Transcript) (ls more : List TranscriptLine) → body t ≡ ls ++ line.End ∷ more → ⊥
 end_is_last t ls more e =
     let start = new_draft t.version in
@@ -141,6 +143,7 @@ end_is_last t ls more e =
     let last = taken d.0 (draft stage.View t) line.End more d.2 in
     absurd (cc last.1)
 
+-- transcripts of one version that have the same lines are the same
 one_value : (t u : Transcript) → t.version ≡ u.version → body t ≡ body u → t ≡ u
 one_value t u version e =
     same_value (sym (run_body t) ∙ ap (run (new_draft t.version)) e
@@ -149,6 +152,7 @@ one_value t u version e =
       same_value e = let same : draft stage.View t ≡ draft stage.View u = cc e in
           ap (λ (d : TranscriptDraft). d.transcript) same
 
+-- the header of a transcript has no line feed in it
 header_is_line : (version : Version) → IsOneLine (header (transcript_grammar version))
 header_is_line V1 = search rules
 header_is_line V2 = search rules
@@ -204,7 +208,7 @@ not_at_end d h =
     refused_line d.transcript.version (lines d) line.End (line_text (grammar_of d) line.End) tt refl cause.Form
     (misplaced d line.End h)
 
--- what is none of these is no line
+-- what is none of the lines of a transcript, kind by kind
 module _ (version : Version) (ls : List TranscriptLine) (text : List ℕ)
     (entries : (x : Entry) → FitsEntryIn version x → text ≢ line_of (entry_words x))
     (messages : (x : MessageLine) → FitsMessage x → text ≢ line_of (message_words x))

@@ -27,15 +27,17 @@ use Rattle.smx_text.proofs.TranscriptFollowLemmas.{full_stops, next_of, takes_ma
 
 -- ---- a draft, and what its lines lead to
 
--- with nothing in its view that was not read
+-- a draft with an empty view where no line of a view was read
 abbrev clean_by : Stage → Transcript → TranscriptDraft
 clean_by stage.History t = draft stage.History (record t { view = new_view 0 0 })
 clean_by stage.Config t = draft stage.Config (record t { view = new_view 0 0 })
 clean_by stage.View t = draft stage.View t
 
+-- this draft with an empty view where no line of its view was read
 abbrev clean : TranscriptDraft → TranscriptDraft
 clean d = clean_by d.stage d.transcript
 
+-- the lines of a transcript read up to a stage lead to its draft, with an empty view where none was read
 led_by : (s : Stage) (t : Transcript) → run (new_draft t.version) (lines (draft s t)) ≡ Some (clean_by s t)
 led_by stage.History t = run_drivers t.version [] t.drivers (map line.Entry t.entries ++ [])
     ∙ run_entries t.version t.drivers [] t.entries []
@@ -43,20 +45,24 @@ led_by stage.Config t = run_drivers t.version [] t.drivers (map line.Entry t.ent
     ∙ run_entries t.version t.drivers [] t.entries (line.Config ∷ [])
 led_by stage.View t = run_body t
 
+-- the lines of a draft, taken from the first on, lead to it with an empty view where none was read
 led : (d : TranscriptDraft) → run (new_draft d.transcript.version) (lines d) ≡ Some (clean d)
 led d = led_by d.stage d.transcript
 
+-- a draft takes the same lines once a view that was not read is emptied
 takes_clean_by : (s : Stage) (t : Transcript) (k : TranscriptLine) → takes (clean_by s t) k ≡ takes (draft s t) k
 takes_clean_by stage.History t line.End = refl
 takes_clean_by stage.Config t line.End = refl
 takes_clean_by s t k = refl
 
+-- a line that is one too many for a draft is still so once a view that was not read is emptied
 full_clean_by : (s : Stage) (t : Transcript) (k : TranscriptLine) → is_full (draft s t) k ≡ true
     → is_full (clean_by s t) k ≡ true
 full_clean_by stage.History t line.End h = h
 full_clean_by stage.Config t line.End h = h
 full_clean_by s t k h = h
 
+-- a draft is within the limits where it is so once a view that was not read is emptied
 within_clean_by : (s : Stage) (t : Transcript) → IsWithin (clean_by s t) → IsWithin (draft s t)
 within_clean_by stage.View t h = h
 within_clean_by s t h = record { drivers = h.drivers; entries = h.entries }
@@ -69,6 +75,7 @@ pub fits_of : (version : Version) (lines : List TranscriptLine) → IsBegun (tra
 fits_of version lines (t, more, allowed, e) =
     all_left (FitsLine version) lines more (subst (AllByRecursion (FitsLine version)) e (fits_body version t allowed))
 
+-- a draft to which lines lead that some allowed transcript begins with is within the limits
 within_of : (version : Version) (ls : List TranscriptLine) (d : TranscriptDraft) → run (new_draft version) ls ≡ Some d
     → IsBegun (transcript_grammar version) ls → IsWithin d
 within_of version ls d to (t, more, allowed, e) =
@@ -88,7 +95,7 @@ pub some_of : (o : Option TranscriptDraft) (ks : List TranscriptLine) (e : Trans
 some_of (Some d) ks e h = (d, refl, h)
 some_of None ks e h = absurd cc
 
--- they are those of some draft
+-- lines that some allowed transcript begins with are those of some draft of that version
 pub begun_is_draft : (version : Version) (ls : List TranscriptLine) → IsBegun (transcript_grammar version) ls
     → (d : TranscriptDraft) × (lines d ≡ ls) × (d.transcript.version ≡ version)
 begun_is_draft version ls (t, more, allowed, e) =
@@ -119,7 +126,7 @@ too_many d k may full = (
       (full_clean_by d.stage d.transcript k full) allowed goes,
 )
 
--- a line that is taken is the last
+-- a line that a draft takes, that is not too many and not the end, is its last, and some allowed transcript begins so
 pub adds : (d e : TranscriptDraft) (k : TranscriptLine) → IsBegun (grammar_of d) (lines d)
     → takes d k ≡ true → is_full d k ≡ false → FitsLine d.transcript.version k → k ≢ line.End
     → lines e ≡ lines (with_line d k) → AddsLine (grammar_of d) (lines d) k (lines e)
@@ -130,7 +137,7 @@ adds d e k begun may room fits other same =
     let all = completes (with_line d k) ∙ ap (λ (ls : List TranscriptLine). ls ++ rest) (sym same) in
     (same ∙ more, (next_of d k, rest, next, all))
 
--- so its lines and this one begin some transcript
+-- some allowed transcript begins with a draft's lines and one that it takes, which is not too many and not the end
 pub longer_begun : (d : TranscriptDraft) (k : TranscriptLine) → IsBegun (grammar_of d) (lines d)
     → takes d k ≡ true → is_full d k ≡ false → FitsLine d.transcript.version k → k ≢ line.End
     → IsBegun (grammar_of d) (lines d ++ k ∷ [])
@@ -138,7 +145,7 @@ longer_begun d k begun may room fits other =
     subst (IsBegun (grammar_of d)) (lines_more d k may (not_end k other))
     (adds d (with_line d k) k begun may room fits other refl).1
 
--- the end
+-- the transcript of a draft that has come to its view is allowed, and its lines are those that were read
 pub whole : (d : TranscriptDraft) → IsBegun (grammar_of d) (lines d) → d.stage ≡ stage.View
     → IsAllowed d.transcript.version d.transcript × (body d.transcript ≡ lines d)
 whole d begun view =
@@ -161,6 +168,7 @@ is_group (line.Next id serial) = false
 is_group line.End = false
 is_group k = true
 
+-- a draft takes a line of a group of the view only at the stage of the view
 in_view_by : (s : Stage) (t : Transcript) (k : TranscriptLine) → is_group k ≡ true
     → takes (draft s t) k ≡ true → s ≡ stage.View
 in_view_by stage.View t k group may = refl
@@ -171,7 +179,7 @@ in_view_by s t k group may = absurd cc
 -- what is answered to a line of a group of the view, which is not too many
 module _ (d : TranscriptDraft) (k : TranscriptLine) (begun : IsBegun (grammar_of d) (lines d))
     (group : is_group k ≡ true) (room : is_full d k ≡ false) (other : k ≢ line.End) where
-  -- where it is spelled and taken, it is the last of its group
+  -- a line of a group that can be told and is taken is the last of that group
   added : (v : ConfigView) → FitsLine d.transcript.version k → takes d k ≡ true → with_line d k ≡ with_view d v
       → AddsLine (grammar_of d) (lines d) k (lines (draft d.stage (record d.transcript { view = v })))
   added v fits may is =
@@ -179,13 +187,13 @@ module _ (d : TranscriptDraft) (k : TranscriptLine) (begun : IsBegun (grammar_of
       adds d (draft d.stage (record d.transcript { view = v })) k begun may room fits other
       (ap (λ (s : Stage). lines (draft s (record d.transcript { view = v }))) view ∙ sym (ap lines is))
 
-  -- where it is not, that is for its form, or for want of memory if it may come
+  -- a line of a group is refused for its form where it may not come, and for want of memory where it may
   pub group_refused : (takes_it : Bool) → takes_it ≡ takes d k → FitsLine d.transcript.version k → (why : Cause)
       → why ≡ (if takes_it then cause.NoMemory else cause.Form) → RefusesLine (grammar_of d) (lines d) k why
   group_refused true may fits why is = rw is (longer_begun d k begun (sym may) room fits other)
   group_refused false may fits why is = rw is (misplaced d k (sym may))
 
-  -- so it is answered by who puts it behind the others of its group, if it may come
+  -- what is answered to a line of a group by who puts it behind the others of that group, if it may come
   pub group_answers : {A X : Type 0} (put : List X → ConfigView) (old new : List X) (x : X) (takes_it : Bool)
       → takes_it ≡ takes d k → with_line d k ≡ with_view d (put (old ++ x ∷ [])) → FitsLine d.transcript.version k
       → (r : Result A Cause) → OnOk r ((takes_it ≡ true) × (new ≡ old ++ x ∷ []))

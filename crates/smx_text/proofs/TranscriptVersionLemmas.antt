@@ -20,23 +20,26 @@ AreToldEntries version es = AllByRecursion (λ e. CanTell version (is_of_hangup 
 abbrev pub AreToldHungs : Version → List HungLine → Type 0
 AreToldHungs version hs = AllByRecursion (λ h. CanTell version true) hs
 
--- version 2 can tell all
+-- version 2 can tell all entries
 each_entry : (es : List Entry) → AreToldEntries V2 es
 each_entry [] = tt
 each_entry (e ∷ es) = (tt, each_entry es)
 
+-- version 2 can tell all hung-up streams
 each_hung : (hs : List HungLine) → AreToldHungs V2 hs
 each_hung [] = tt
 each_hung (h ∷ hs) = (tt, each_hung hs)
 
 -- ---- version 1 can tell what needs no later one
 
+-- version 1 can tell entries of which none is of a hangup
 none_of_hangup : (es : List Entry) → list_any is_of_hangup es ≡ false → AreToldEntries V1 es
 none_of_hangup [] h = tt
 none_of_hangup (e ∷ es) h =
     let both = or_parts (is_of_hangup e) (list_any is_of_hangup es) h in
     (both.0, none_of_hangup es both.1)
 
+-- version 1 can tell the hung-up streams where there are none
 none_hung : (hs : List HungLine) → nat_lt 0 (length hs) ≡ false → AreToldHungs V1 hs
 none_hung [] h = tt
 none_hung (x ∷ hs) h = let some : nat_lt 0 (length (x ∷ hs)) ≡ true = grind (arith, nat_tests) in absurd cc
@@ -57,12 +60,14 @@ told_hungs V1 t told =
     none_hung t.view.hungs (or_parts (list_any is_of_hangup t.entries) _ two.1).1
 told_hungs V2 t told = each_hung t.view.hungs
 
--- ---- and what it can tell line by line needs no later one
+-- ---- what version 1 can tell line by line needs no later one
 
+-- of entries that version 1 can tell, none is of a hangup
 no_hangup : (es : List Entry) → AreToldEntries V1 es → list_any is_of_hangup es ≡ false
 no_hangup [] h = refl
 no_hangup (e ∷ es) h = rw (h.0, no_hangup es h.1) refl
 
+-- where version 1 can tell the hung-up streams, there are none
 no_hung : (hs : List HungLine) → AreToldHungs V1 hs → nat_lt 0 (length hs) ≡ false
 no_hung [] h = refl
 no_hung (x ∷ hs) h = absurd (cc h.0)

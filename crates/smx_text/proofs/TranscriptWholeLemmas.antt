@@ -34,13 +34,15 @@ still stage.History = line.Config ∷ line.Next 0 0 ∷ []
 still stage.Config = line.Next 0 0 ∷ []
 still stage.View = []
 
--- these lines and the least that they lack
+-- the transcript of a draft's lines and the least that they lack
 abbrev pub completed : TranscriptDraft → Transcript
 completed d = ended d.stage d.transcript
 
+-- lines behind two lists that stand behind another stand behind all three joined
 behind_both : (xs ys zs ws : List TranscriptLine) → xs ++ (ys ++ (zs ++ ws)) ≡ (xs ++ (ys ++ zs)) ++ ws
 behind_both xs ys zs ws = simp append_assoc
 
+-- a transcript read up to a stage and completed has the lines that were read, and the least that were wanting
 completes_by : (s : Stage) (t : Transcript) → body (ended s t) ≡ lines (draft s t) ++ still s
 completes_by stage.History t =
     behind_both (map line.Driver t.drivers) (map line.Entry t.entries) [] (line.Config ∷ line.Next 0 0 ∷ [])
@@ -52,20 +54,22 @@ completes_by stage.View t = sym (append-nil (body t))
 pub completes : (d : TranscriptDraft) → body (completed d) ≡ lines d ++ still d.stage
 completes d = completes_by d.stage d.transcript
 
--- as many drivers and entries as may be, or fewer
+-- a draft has as many drivers and entries as there may be, or fewer
 pub record IsWithin (d : TranscriptDraft) : Type 0 where
   pub drivers : length d.transcript.drivers ≤ most_drivers d.transcript.version
   pub entries : length d.transcript.entries ≤ MAX_COMMANDS
 
 module _ (version : Version) where
+  -- each of these lines can be told in the version
   abbrev AreFit : List TranscriptLine → Type 0
   AreFit ls = AllByRecursion (FitsLine version) ls
 
-  -- the lines of a group and those behind them
+  -- where each of a group's values and each line behind them can be told, the lines of the group and those can be
   joined : {X : Type 0} (f : X → TranscriptLine) (xs : List X) (rest : List TranscriptLine)
       → AllByRecursion (λ x. FitsLine version (f x)) xs → AreFit rest → AreFit (map f xs ++ rest)
   joined f xs rest h k = all_append (FitsLine version) (map f xs) rest (all_map (FitsLine version) f xs h) k
 
+  -- where the lines of a group and those behind them can be told, each of the group's values and each of those can be
   parted : {X : Type 0} (f : X → TranscriptLine) (xs : List X) (rest : List TranscriptLine)
       → AreFit (map f xs ++ rest) → AllByRecursion (λ x. FitsLine version (f x)) xs × AreFit rest
   parted f xs rest h = (
@@ -92,7 +96,7 @@ module _ (version : Version) where
         ),
       ))
 
-  -- what holds of the lines of a view holds of its parts
+  -- where the lines of a view can be told, it can be spelled, and its hung-up streams can be told
   view_fits : (v : ConfigView) → AreFit (view_body v) → IsSpellableView v × AreToldHungs version v.hungs
   view_fits v h =
       let fds = parted line.Fd v.fds _ h.1 in
@@ -121,12 +125,14 @@ module _ (version : Version) where
 pub nothing_fits : IsSpellableView (new_view 0 0)
 nothing_fits = search (rules, arith)
 
+-- where the lines of a view as far as it was read can be told, that view can be spelled, and its hung-up streams told
 ended_view : (version : Version) (s : Stage) (t : Transcript) → AllByRecursion (FitsLine version) (shown s t.view)
     → IsSpellableView (ended s t).view × AreToldHungs version (ended s t).view.hungs
 ended_view version stage.History t h = (nothing_fits, tt)
 ended_view version stage.Config t h = (nothing_fits, tt)
 ended_view version stage.View t h = view_fits version t.view h.1
 
+-- a transcript with a draft's history, within the limits, is allowed where the draft's lines and its view can be told
 allowed_by : (version : Version) (s : Stage) (t u : Transcript) → t.version ≡ version → u.version ≡ t.version
     → u.drivers ≡ t.drivers → u.entries ≡ t.entries
     → IsSpellableView u.view × AreToldHungs version u.view.hungs → IsWithin (draft s t)
@@ -149,13 +155,14 @@ allowed_by version s t u is v d e (spelled, hungs) within h =
       told = needs_no_later version u few told hungs;
     }
 
+-- a transcript as far as it was read has the version, the drivers and the entries that were read
 same_history : (s : Stage) (t : Transcript)
     → ((ended s t).version ≡ t.version) × ((ended s t).drivers ≡ t.drivers) × ((ended s t).entries ≡ t.entries)
 same_history stage.History t = (refl, refl, refl)
 same_history stage.Config t = (refl, refl, refl)
 same_history stage.View t = (refl, refl, refl)
 
--- so it is allowed where these lines are
+-- a draft within the limits whose lines can be told is completed to an allowed transcript
 pub allowed : (version : Version) (d : TranscriptDraft) → d.transcript.version ≡ version → IsWithin d
     → AllByRecursion (FitsLine version) (lines d) → IsAllowed version (completed d)
 allowed version d is within h =

@@ -23,16 +23,18 @@ abbrev pub HasAnyReading : {V K : Type 0} → (Version → Grammar V K) → List
 HasAnyReading {V} g bytes = (r : Result V TextFault) × ReadsAny g bytes r × IfErr r (λ f. f.cause ≢ cause.NoMemory)
 
 module _ {V K : Type 0} (g : Version → Grammar V K) (are : AreVersions g) where
-  -- a header is of one version
+  -- versions with the same header are the same version
   same_version : (v w : Version) → header (g v) ≡ header (g w) → v ≡ w
   same_version V1 V1 e = refl
   same_version V1 V2 e = absurd (are.differ e)
   same_version V2 V1 e = absurd (are.differ (sym e))
   same_version V2 V2 e = refl
 
+  -- the answer that line `n` is at fault for this cause
   abbrev Refused : ℕ → Cause → Result V TextFault
   Refused n c = Err (record { line = n; cause = c })
 
+  -- where the answer is a wrong header, the header is wrong in each version
   abbrev IsWrongInEach : List ℕ → Result V TextFault → Type 0
   IsWrongInEach bytes r = IfErr r (λ f. f.cause ≡ cause.Header → (other : Version)
       → IsFault (g other) bytes f.line cause.Header)
@@ -46,6 +48,7 @@ module _ {V K : Type 0} (g : Version → Grammar V K) (are : AreVersions g) wher
       inl (subst (Reads (g w) bytes) (sym e) (subst (IsWrongInEach bytes) e each refl w))
   moved v w bytes r each (inr (inr behind)) = inr behind
 
+  -- an answer of a reader of all versions that is not want of memory stands in one of the places of its version
   at_place : (bytes : List ℕ) (r : Result V TextFault) (reads : ReadsAny g bytes r)
       → IfErr r (λ f. f.cause ≢ cause.NoMemory) → Place (g reads.0) (are.made reads.0) bytes r
   at_place bytes r reads ample = place (g reads.0) (are.made reads.0) bytes r reads.1 ample
@@ -63,7 +66,7 @@ module _ {V K : Type 0} (g : Version → Grammar V K) (are : AreVersions g) wher
             subst (λ (n : Version). Reads (g n) bytes r) (same_version v version same) reads
       ]
 
-  -- ---- so the laws
+  -- ---- the laws
 
   -- any bytes have at most one answer in all versions that is not want of memory
   pub one_reading_of_all : (bytes : List ℕ) (r s : Result V TextFault) → ReadsAny g bytes r → ReadsAny g bytes s
@@ -76,6 +79,7 @@ module _ {V K : Type 0} (g : Version → Grammar V K) (are : AreVersions g) wher
             (in_version w bytes (texts (g w) (are.made w) lines ++ rest) r reads ample e) again ample plenty
       ]
 
+  -- the text of an allowed value may be read as that value by a reader of all versions
   spelled : (version : Version) (v : V) → (g version).IsAllowed v → ReadsAny g (full_text (g version) v) (Ok v)
   spelled version v allowed = (version, record { allowed = allowed; text = refl }, tt)
 

@@ -21,6 +21,7 @@ use Rattle.smx_text.proofs.ProgramsFollowLemmas.{stand_may}
 use Rattle.smx_text.proofs.ProgramsLemmas.{longer_begun, misplaced, too_many}
 
 module _ {V K : Type 0} (g : Grammar V K) (lines : List K) (k : K) where
+  -- where a value's lines begin with these and one more, it goes on with that one behind these
   behind : (v : V) (more : List K) → g.body v ≡ (lines ++ k ∷ []) ++ more → GoesOn g v lines k
   behind v more is = (
     more ++ g.end ∷ [],
@@ -32,26 +33,27 @@ module _ {V K : Type 0} (g : Grammar V K) (lines : List K) (k : K) where
   pub goes_on : IsBegun g (lines ++ k ∷ []) → MayFollow g lines k
   goes_on (v, more, allowed, is) = (v, behind v more is)
 
-  -- and it is none too many
+  -- where some allowed value goes on with a line, it is none too many
   pub none_too_many : IsBegun g (lines ++ k ∷ []) → IsFull g lines k → ⊥
   none_too_many (v, more, allowed, is) full = full v allowed (behind v more is)
 
--- no command comes before the first process
+-- the line `dup 0` before the first process is refused for its form
 pub out_of_place : RefusesLine grammar [] dup cause.Form
 out_of_place = misplaced V1 (idle 0) dup (λ e. omega (arith, e))
 
--- behind a process it may come
+-- the line `dup 0` may come behind the line of a process
 pub in_place : MayFollow grammar (idle_lines 1) dup
 in_place = stand_may V1 (idle 1) dup (omega arith)
 
+-- some programs begin with the line of one process that has no command
 pub one_begun : IsBegun grammar (idle_lines 1)
 one_begun = (idle 1, [], search (rules, arith), refl)
 
--- some programs go on with it
+-- some programs begin with the line of a process and then `dup 0`
 pub dup_begun : IsBegun grammar (idle_lines 1 ++ dup ∷ [])
 dup_begun = longer_begun V1 (idle 1) dup refl one_begun (omega arith) (omega arith) (search (rules, arith))
 
--- and with a second process
+-- some programs begin with the lines of two processes, the first of which has no command
 pub two_begun : IsBegun grammar (idle_lines 1 ++ process 1 ∷ [])
 two_begun = (idle 2, [], search (rules, arith), refl)
 
@@ -61,20 +63,24 @@ one_too_many =
     let long = length-replicate {A = List Command} 64 [] in
     too_many V1 (idle 64) (process 64) (sym long) (omega (arith, long))
 
--- ---- their texts
+-- ---- the texts of these lines
 
+-- `dup 0` is the text of its line
 pub dup_is : codes "dup 0" ≡ line_text grammar dup
 unfolding digits
 dup_is = refl
 
+-- `process 1` is the text of its line
 pub process_1_is : codes "process 1" ≡ line_text grammar (process 1)
 unfolding digits
 process_1_is = refl
 
+-- `process 64` is the text of its line
 pub process_64_is : codes "process 64" ≡ line_text grammar (process 64)
 unfolding digits
 process_64_is = refl
 
+-- `dup 0` can be spelled, and told in version 1
 pub dup_fits : FitsLine V1 dup
 dup_fits = search (rules, arith)
 
@@ -82,12 +88,15 @@ dup_fits = search (rules, arith)
 pub begun_fits : (k : Line) → IsBegun grammar (k ∷ []) → FitsLine V1 k
 begun_fits k (v, more, allowed, is) = (subst (AllByRecursion (FitsLine V1)) is allowed.fits).0
 
+-- a hangup of minor 0 of the driver `ip`
 abbrev pub hangup : Command
 hangup = command.Hangup (codes "ip") 0
 
+-- `hangup ip 0` is the line of the words of this hangup
 pub hangup_is : codes "hangup ip 0" ≡ line_of (command_words hangup)
 unfolding digits
 hangup_is = refl
 
+-- `hangup ip 0` can be spelled, and told in version 2
 pub hangup_fits : FitsCommandIn V2 hangup
 hangup_fits = search (rules, arith)

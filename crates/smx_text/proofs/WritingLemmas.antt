@@ -27,13 +27,13 @@ use Rattle.smx_text.proofs.ReadingLemmas.{texts_append}
 use Rattle.smx_text.proofs.ProgramsVersionLemmas.{drivers_few, programs_fit}
 use Rattle.smx_words.specs.Words.{line_of, text_of}
 
--- one line more
+-- bytes with a line and its line feed behind them are the bytes and then the text of that line
 pub one_line_more : (before : List ℕ) (ws : List (List ℕ))
     → before ++ line_of ws ++ LINE_FEED ∷ [] ≡ before ++ text_of (ws ∷ [])
 one_line_more before ws = append_assoc before (line_of ws) (LINE_FEED ∷ [])
     ∙ ap (λ (more : List ℕ). before ++ more) (sym (append-nil (line_of ws ++ LINE_FEED ∷ [])))
 
--- the lines of one program more
+-- the lines of the first programs with the next one are theirs, the line of its process, and its commands
 one_more : (ps : List (List Command)) (i : ℕ) (cs : List Command) → i < length ps → cs ≡ get_or ps i cs
     → program_lines 0 (take (i + 1) ps) ≡ program_lines 0 (take i ps) ++ line.Process i ∷ map line.Command cs
 one_more ps i cs lt e =
@@ -74,7 +74,7 @@ body_text v = by_version v.version where
   by_version V1 = simp (map-append, map-map, texts_append, append_assoc)
   by_version V2 = simp (map-append, map-map, texts_append, append_assoc)
 
--- so these programs are allowed
+-- programs within the limits whose drivers and lines can be spelled are allowed in their version
 pub written_allowed : (v : ProgramLists) → AreWithinLimits v → AllByRecursion FitsDriver v.drivers
     → AllByRecursion (FitsLine V2) (program_lines 0 v.programs) → IsAllowed v.version v
 written_allowed v within drivers programs = record {
@@ -89,6 +89,7 @@ written_allowed v within drivers programs = record {
 
 -- ---- the groups of a view
 
+-- what is written in eight groups, one after the other, is the text of the lines of all of them
 eight_groups : (start : List ℕ) (x : List (List ℕ)) (a b c d e f g : List (List (List ℕ)))
     → start ++ text_of (x ∷ []) ++ text_of a ++ text_of b ++ text_of c ++ text_of d ++ text_of e ++ text_of f
     ++ text_of g ≡ start ++ text_of (x ∷ (a ++ (b ++ (c ++ (d ++ (e ++ (f ++ g)))))))
@@ -103,10 +104,11 @@ view_lines v =
     ++ (map route_words v.routes ++ (map message_words v.msgs
     ++ (map full_words v.fulls ++ map hung_words v.hungs))))))
 
+-- the words of the lines of a view are those of its values, group by group
 view_is : (v : ConfigView) → map transcript_words (view_body v) ≡ view_lines v
 view_is v = simp (map-append, map-map)
 
--- the groups of a view, one after the other
+-- the groups of a view, written one after the other, are the text of the lines of that view
 pub view_written : (v : ConfigView) (start next fds links binds routes msgs fulls hungs : List ℕ)
     → next ≡ start ++ text_of (next_words (v.next_id, v.next_serial) ∷ [])
     → fds ≡ next ++ text_of (map descriptor_words v.fds)

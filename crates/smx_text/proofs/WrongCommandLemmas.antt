@@ -38,7 +38,7 @@ use Rattle.smx_text.proofs.WorkedFaultLemmas.{told, wrong_programs}
 
 -- ---- line 4 of a text
 
--- the lines before it
+-- the programs whose lines stand before line 4: one driver, and one process without a command
 abbrev pub before : ProgramLists
 before = program_lists (record { name = codes "ip"; kind = kind.Mux; minors = 4; high = 8; low = 3; max = 16 }
     ∷ []) ([] ∷ [])
@@ -47,17 +47,18 @@ before = program_lists (record { name = codes "ip"; kind = kind.Mux; minors = 4;
 pub before_allowed : IsAllowed V1 before
 before_allowed = search (rules, arith)
 
+-- line 4 is whole behind one driver and one process, with which allowed programs begin
 reaches : (text : List ℕ) → IsOneLine text → Reaches (programs_grammar V1) (with_line_4 text) (body before) text 4
 unfolding digits
 reaches text one =
     record { begun = (before, [], before_allowed, refl); next = (codes "end\n", one, refl); numbered = refl }
 
--- text that spells no line which may stand behind them makes line 4 go wrong for its form
+-- a text that spells no line which may stand behind one driver and one process makes line 4 go wrong for its form
 pub wrong_at_4 : (text : List ℕ) → IsOneLine text → IsNoLine (programs_grammar V1) (body before) text
     → AreWrongPrograms (with_line_4 text) 4 cause.Form
 wrong_at_4 text one none = wrong_programs V1 refl (body before, text, reaches text one, none)
 
--- words that are no command's, no driver's and no process'
+-- words of no command, driver or process, and not the end, spell no line behind one driver and one process
 no_words : (ws : List (List ℕ)) → AllByRecursion (IsFree SPACE) ws × (0 < length ws)
     → ((c : Command) → FitsCommandIn V1 c → ws ≢ command_words c)
     → bytes_eq (first_word ws) (codes "driver") ≡ false → bytes_eq (first_word ws) (codes "process") ≡ false
@@ -80,40 +81,49 @@ no_words ws free none driver process end =
 worth : (w : List ℕ) (n : ℕ) → FitsNumber n → w ≡ decimal n → digits_value 10 w ≡ n
 worth w n fits e = ap (digits_value 10) e ∙ digits_value-decimal own n (omega (arith, fits))
 
+-- `00` is not the word of a number
 zeros : (n : ℕ) → FitsNumber n → codes "00" ≢ decimal n
 zeros n fits e =
     let none : 0 ≡ n = worth (codes "00") n fits e in
     let one = e ∙ ap decimal (sym none) ∙ decimal_digit 0 (omega arith) in
     absurd (cc one)
 
+-- `+1` is not the word of a number
 signed : (n : ℕ) → FitsNumber n → codes "+1" ≢ decimal n
 signed n fits e = let all : false ≡ true = ap all_ascii_digits e ∙ decimal_digits n fits in absurd (cc all)
 
+-- `4294967296` is not the word of a number of 32 bits
 too_large : (n : ℕ) → FitsNumber n → codes "4294967296" ≢ decimal n
 too_large n fits e = let is : 4294967296 ≡ n = worth (codes "4294967296") n fits e in omega (arith, is, fits)
 
+-- bytes that are no name are not the name of a driver
 no_name : (w d : List ℕ) → is_name w ≡ false → FitsName d → w ≢ d
 no_name w d none fits e = let is : false ≡ true = sym none ∙ ap is_name e ∙ fits in absurd (cc is)
 
+-- `ALL` is not the word for one link, or for all
 no_capitals : (x : Which) → FitsWhich x → codes "ALL" ≢ which_word x
 no_capitals (which.Id n) fits e =
     let all : all_ascii_digits (codes "ALL") ≡ true = ap all_ascii_digits e ∙ decimal_digits n fits in
     absurd (cc all)
 no_capitals which.All fits e = differ (codes "ALL") (codes "all") refl e
 
+-- `wr` is not the word for the sides of a flush
 turned : (s : Sides) → codes "wr" ≢ sides_word s
 turned sides.R e = differ (codes "wr") (codes "r") refl e
 turned sides.W e = differ (codes "wr") (codes "w") refl e
 turned sides.RW e = differ (codes "wr") (codes "rw") refl e
 
+-- `AA` is not the word of any bytes
 no_capital_digits : (bs : List ℕ) → FitsBytes bs → codes "AA" ≢ hex_word bs
 no_capital_digits bs fits e = let by = by_digits (codes "AA") bs (λ h. cc) fits e in absurd (cc by.1)
 
+-- `aab` is not the word of any bytes
 no_odd_digits : (bs : List ℕ) → FitsBytes bs → codes "aab" ≢ hex_word bs
 no_odd_digits bs fits e = let by = by_digits (codes "aab") bs (λ h. cc) fits e in omega (arith, by.2)
 
--- ---- and so commands that are none, each as line 4
+-- ---- words that are no command, each as line 4
 
+-- words of no command, driver or process, and not the end, make line 4 go wrong for its form
 wrong_words : (ws : List (List ℕ)) → AllByRecursion (IsFree SPACE) ws × (0 < length ws)
     → IsOneLine (line_of ws) → ((c : Command) → FitsCommand c → ws ≢ command_words c)
     → bytes_eq (first_word ws) (codes "driver") ≡ false → bytes_eq (first_word ws) (codes "process") ≡ false
@@ -127,12 +137,13 @@ wrong_words ws free one none driver process end =
 abbrev IsNone : Verb → List (List ℕ) → Type 0
 IsNone v ws = (c : Command) → FitsCommand c → verb_of c ≡ v → verb_word v ∷ ws ≢ command_words c
 
+-- no verb is the word `driver` or the word `process`
 no_other : (v : Verb) → (bytes_eq (verb_word v) (codes "driver") ≡ false)
     × (bytes_eq (verb_word v) (codes "process") ≡ false)
 no_other verb.Clone = (refl, refl)
 no_other v = (refl, refl)
 
--- words that are none of this verb, as the words of line 4, make it go wrong for its form
+-- words that stand behind a verb in no command of it make line 4 go wrong for its form
 pub wrong_verb : (v : Verb) (ws : List (List ℕ)) → AllByRecursion (IsFree SPACE) (verb_word v ∷ ws)
     × IsOneLine (line_of (verb_word v ∷ ws)) × (bytes_eq (line_of (verb_word v ∷ ws)) (codes "end") ≡ false)
     → IsNone v ws → AreWrongPrograms (with_line_4 (line_of (verb_word v ∷ ws))) 4 cause.Form
@@ -211,7 +222,7 @@ no_word =
     wrong_words ([] ∷ []) (search rules, omega arith) (search rules)
     (λ c fits e. not_verb c ([] ∷ []) (sym e) refl) refl refl refl
 
--- ---- and one that is of version 2 alone
+-- ---- a command of version 2 alone
 
 -- version 1 has no hangup
 pub hangup : AreWrongPrograms (with_line_4 (codes "hangup ip 0")) 4 cause.Form

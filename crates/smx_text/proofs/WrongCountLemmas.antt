@@ -38,32 +38,36 @@ use Rattle.smx_text.proofs.WorkedFaultLemmas.{wrong_programs, wrong_transcript}
 
 -- ---- the same line again and again
 
--- this many of one
+-- a list of so many elements, all of them this one
 abbrev pub repeated : {X : Type 0} → X → ℕ → List X
 repeated x zero = []
 repeated x (suc n) = repeated x n ++ x ∷ []
 
--- so many they are
+-- a list of one element repeated n times has n elements
 pub many : {X : Type 0} (x : X) (n : ℕ) → length (repeated x n) ≡ n
 many x zero = refl
 many x (suc n) = omega (arith, length-append (repeated x n) (x ∷ []), many x n)
 
+-- what holds of an element holds of each one in a list that repeats it
 all_same : {X : Type 0} (P : X → Type 0) (x : X) (n : ℕ) → P x → AllByRecursion P (repeated x n)
 all_same P x zero h = tt
 all_same P x (suc n) h = all_append P (repeated x n) (x ∷ []) (all_same P x n h) (h, tt)
 
+-- the images of one element repeated n times are its image repeated n times
 map_same : {X Y : Type 0} (f : X → Y) (x : X) (n : ℕ) → map f (repeated x n) ≡ repeated (f x) n
 map_same f x zero = refl
 map_same {Y} f x (suc n) = map_push f (repeated x n) x ∙ ap (λ (ys : List Y). ys ++ f x ∷ []) (map_same f x n)
 
+-- the text of the line of the driver `ip`
 abbrev driver_text : List ℕ
 driver_text = codes "driver ip mux 4 8 3 16"
 
 module _ {V K : Type 0} (g : Grammar V K) (k : K) (is : line_text g k ≡ driver_text) where
-  -- the header
+  -- the header of this kind of text, with its line feed
   abbrev first : List ℕ
   first = header g ++ LINE_FEED ∷ []
 
+  -- the beginning of a text with the driver `ip` n times is the header and n times its line
   text_of_drivers : (n : ℕ) → beginning g (repeated k n) ≡ first ++ driver_lines n
   text_of_drivers zero = refl
   text_of_drivers (suc n) =
@@ -72,6 +76,7 @@ module _ {V K : Type 0} (g : Grammar V K) (k : K) (is : line_text g k ≡ driver
       ∙ ap (λ (xs : List ℕ). (first ++ driver_lines n) ++ (xs ++ LINE_FEED ∷ [])) is
       ∙ append_assoc first (driver_lines n) (driver_text ++ LINE_FEED ∷ [])
 
+  -- a text with one driver more is the beginning with the others, the line of that driver, and the rest
   one_more_is : (n : ℕ) → with_drivers first (suc n)
       ≡ beginning g (repeated k n) ++ (driver_text ++ LINE_FEED ∷ codes "end\n")
   one_more_is n =
@@ -79,7 +84,7 @@ module _ {V K : Type 0} (g : Grammar V K) (k : K) (is : line_text g k ≡ driver
       ∙ sym (append_assoc first (driver_lines n) (driver_text ++ LINE_FEED ∷ codes "end\n"))
       ∙ ap (λ (xs : List ℕ). xs ++ (driver_text ++ LINE_FEED ∷ codes "end\n")) (sym (text_of_drivers n))
 
-  -- so the next one is at fault
+  -- where the driver `ip` is one too many behind n of it, a text with one more goes wrong at line n + 2
   pub one_too_many : (n : ℕ) → IsBegun g (repeated k n) → IsOneTooMany g (repeated k n) driver_text
       → IsFault g (with_drivers first (suc n)) (n + 2) cause.Many
   one_too_many n begun full = (
@@ -93,20 +98,25 @@ module _ {V K : Type 0} (g : Grammar V K) (k : K) (is : line_text g k ≡ driver
     full,
   )
 
+-- the driver `ip`, a multiplexer of four minors
 abbrev ip : DriverSpec
 ip = record { name = codes "ip"; kind = kind.Mux; minors = 4; high = 8; low = 3; max = 16 }
 
+-- the driver `ip` can be spelled
 ip_fits : FitsDriver ip
 ip_fits = search (rules, arith)
 
 -- ---- in programs
 
+-- programs of a version with the driver `ip` so many times, and no process
 abbrev programs : Version → ℕ → ProgramLists
 programs version n = record { version = version; drivers = repeated ip n; programs = [] }
 
+-- the lines of programs with the driver `ip` n times and no process are its line n times
 body_is : (version : Version) (n : ℕ) → body (programs version n) ≡ repeated (row.Driver ip) n
 body_is version n = append-nil (map row.Driver (repeated ip n)) ∙ map_same row.Driver ip n
 
+-- programs with the driver `ip` at most as often as a version has drivers are allowed in it
 are_allowed : (version : Version) (n : ℕ) → n ≤ most_drivers version → AreAllowed version (programs version n)
 are_allowed version n few = record {
   version_is = refl;
@@ -117,10 +127,12 @@ are_allowed version n few = record {
       (all_map (FitsRow version) row.Driver (repeated ip n) (all_same FitsDriver ip n ip_fits));
 }
 
+-- the line of the driver `ip` in programs has its text
 driver_is : (version : Version) → line_text (programs_grammar version) (row.Driver ip) ≡ driver_text
 unfolding digits
 driver_is version = refl
 
+-- programs with one driver more than a version can tell go wrong at its line, as one too many
 too_many_drivers : (version : Version) (n : ℕ) → n ≡ most_drivers version
     → IsFault (programs_grammar version) (with_drivers (header (programs_grammar version) ++ LINE_FEED ∷ []) (suc n))
     (n + 2) cause.Many
@@ -147,15 +159,19 @@ driver_129 = wrong_programs V2 refl (too_many_drivers V2 128 refl)
 
 -- ---- in transcripts
 
+-- a transcript of a version with the driver `ip` so many times, no entry and an empty view
 abbrev transcript : Version → ℕ → Transcript
 transcript version n = record { version = version; drivers = repeated ip n; entries = []; view = new_view 1 1 }
 
+-- a transcript of which so many lines of the driver `ip` were read
 abbrev behind_drivers : Version → ℕ → TranscriptDraft
 behind_drivers version n = draft stage.History (transcript version n)
 
+-- the lines of a transcript of which the driver `ip` was read n times are its line n times
 lines_are : (version : Version) (n : ℕ) → lines (behind_drivers version n) ≡ repeated (line.Driver ip) n
 lines_are version n = append-nil (map line.Driver (repeated ip n)) ∙ map_same line.Driver ip n
 
+-- a transcript with the driver `ip` at most as often as a version has drivers is allowed in it
 is_allowed : (version : Version) (n : ℕ) → n ≤ most_drivers version → IsAllowed version (transcript version n)
 is_allowed version n few = record {
   version_is = refl;
@@ -169,10 +185,12 @@ is_allowed version n few = record {
   told = needs_no_later version (transcript version n) (omega (arith, many ip n, few)) tt tt;
 }
 
+-- the line of the driver `ip` in a transcript has its text
 driver_of_transcript_is : (version : Version) → line_text (transcript_grammar version) (line.Driver ip) ≡ driver_text
 unfolding digits
 driver_of_transcript_is version = refl
 
+-- a transcript with one driver more than a version can tell goes wrong at its line, as one too many
 too_many_of_transcript : (version : Version) (n : ℕ) → n ≡ most_drivers version
     → is_full (behind_drivers version n) (line.Driver ip) ≡ true
     → IsFault (transcript_grammar version) (with_drivers

@@ -39,6 +39,7 @@ nothing = wrong_programs V1 refl ([], [], inl (refl, refl), tt, refl)
 pub cut_header : AreWrongPrograms (codes "programs 1") 1 cause.Cut
 cut_header = wrong_programs V1 refl ([], codes "programs 1", inl (refl, refl), search rules, refl)
 
+-- `programs 3` is the header of no version
 other_number : (version : Version) → codes "programs 3" ≢ header (programs_grammar version)
 other_number V1 = differ (codes "programs 3") (codes "programs 1") refl
 other_number V2 = differ (codes "programs 3") (codes "programs 2") refl
@@ -47,16 +48,17 @@ other_number V2 = differ (codes "programs 3") (codes "programs 2") refl
 pub version_3 : AreWrongPrograms (codes "programs 3\n") 1 cause.Header
 version_3 = wrong_in_each (λ version. (codes "programs 3", ([], search rules, refl), other_number version, refl))
 
--- a header with nothing behind it is cut at line 2
+-- a header of version 1 with nothing behind it is cut at line 2
 pub header_alone : AreWrongPrograms (codes "programs 1\n") 2 cause.Cut
 header_alone = wrong_programs V1 refl (codes "programs 1\n", [], inr ([], nothing_begun V1, refl, refl), tt, refl)
 
--- so is the header of version 2
+-- a header of version 2 with nothing behind it is cut at line 2
 pub version_2_alone : AreWrongPrograms (codes "programs 2\n") 2 cause.Cut
 version_2_alone = wrong_programs V2 refl (codes "programs 2\n", [], inr ([], nothing_begun V2, refl, refl), tt, refl)
 
 -- ---- lines out of their places
 
+-- a leaf driver, `eth`
 abbrev eth : DriverSpec
 eth = record { name = codes "eth"; kind = kind.Leaf; minors = 2; high = 8; low = 3; max = 16 }
 
@@ -76,6 +78,7 @@ late_driver =
     (refused_line V1 (body before) (line.Driver eth) _ (search rules) refl cause.Form
     (misplaced V1 before (line.Driver eth) (λ e. omega (arith, e))))
 
+-- the line `clone ip`
 abbrev clone : Line
 clone = line.Command (command.OpenClone (codes "ip"))
 
@@ -92,11 +95,11 @@ no_process =
 
 -- ---- the end
 
--- a process with one command
+-- programs with one driver and one process, which has one command
 abbrev one_command : ProgramLists
 one_command = program_lists before.drivers ((command.OpenClone (codes "ip") ∷ []) ∷ [])
 
--- a process with none
+-- programs with no driver and one process, which has no command
 abbrev no_command : ProgramLists
 no_command = program_lists [] ([] ∷ [])
 
@@ -131,13 +134,15 @@ a_space_behind = wrong_programs V1 refl (no_command, 32, [], search (rules, arit
 
 -- ---- one process too many
 
+-- programs of version 1 with one driver and so many processes, none of which has a command
 abbrev processes : ℕ → ProgramLists
 processes n = record { version = V1; drivers = before.drivers; programs = repeated [] n }
 
--- their lines, one more at a time
+-- with one process more, the line of that process stands behind the others
 body_of : (n : ℕ) → body (processes (suc n)) ≡ body (processes n) ++ line.Process n ∷ []
 body_of n = added_process before.drivers (repeated [] n) n (sym (many [] n))
 
+-- a text of one driver and so many processes begins with its header, the driver and the processes' lines
 text_of_processes : (n : ℕ) → beginning (programs_grammar V1) (body (processes n))
     ≡ codes "programs 1\ndriver ip mux 4 8 3 16\n" ++ process_lines n
 unfolding digits
@@ -148,6 +153,7 @@ text_of_processes (suc n) =
     ∙ ap (λ (xs : List ℕ). xs ++ (codes "process " ++ (decimal n ++ codes "\n"))) (text_of_processes n)
     ∙ append_assoc (codes "programs 1\ndriver ip mux 4 8 3 16\n") (process_lines n) _
 
+-- some allowed programs begin with one driver and the lines of up to 64 processes
 begun_by : (n : ℕ) → n ≤ 64 → IsBegun (programs_grammar V1) (body (processes n))
 begun_by zero most = (before, line.Process 0 ∷ [], before_allowed, refl)
 begun_by (suc n) most =
@@ -156,6 +162,7 @@ begun_by (suc n) most =
     (longer_begun V1 (processes n) (line.Process n) refl (begun_by n (omega (arith, most))) (sym long)
     (omega (arith, long, most)) (omega (arith, most)))
 
+-- one driver and n processes without a command have n + 1 lines
 body_long : (n : ℕ) → length (body (processes n)) ≡ n + 1
 body_long zero = refl
 body_long (suc n) =
@@ -166,6 +173,7 @@ body_long (suc n) =
       body_long n,
     )
 
+-- a text of 65 processes begins with the lines of 64, and then come `process 64` and `end`
 process_65_is : with_processes 65 ≡ beginning (programs_grammar V1) (body (processes 64))
     ++ (codes "process 64" ++ LINE_FEED ∷ codes "end\n")
 unfolding digits

@@ -48,11 +48,11 @@ use Rattle.smx_words.proofs.ToldLemmas.{no_told_entry}
 
 -- ---- what stands before
 
--- no driver, no entry and an empty view
+-- a transcript with no driver, no entry and an empty view
 abbrev nothing : Transcript
 nothing = record { version = V1; drivers = []; entries = []; view = new_view 1 1 }
 
--- the same with a driver
+-- a transcript with one driver, no entry and an empty view
 abbrev one_driver : Transcript
 one_driver =
     record nothing {
@@ -66,7 +66,7 @@ one_driver =
       } ∷ [];
     }
 
--- the same with a link
+-- a transcript with no driver, no entry and a view of one link
 abbrev one_link : Transcript
 one_link = record nothing {
   view = record (new_view 2 1) {
@@ -88,20 +88,22 @@ wrong_line : (version : Version) {bytes : List ℕ} {n : ℕ} (ls : List Transcr
 wrong_line version ls text begun next at none =
     wrong_transcript version refl (ls, text, record { begun = begun; next = next; numbered = at }, none)
 
--- below `config`
+-- a transcript of which `config` was read, and no line before it
 abbrev below_config : TranscriptDraft
 below_config = draft stage.Config nothing
 
+-- a text that spells no line which may stand behind `config` makes line 3 go wrong for its form
 wrong_below_config : (text rest : List ℕ) → IsOneLine text → IsNoLine (transcript_grammar V1) (lines below_config) text
     → IsWrongTranscript (codes "transcript 1\nconfig\n" ++ (text ++ 10 ∷ rest)) 3 cause.Form
 wrong_below_config text rest one none =
     wrong_line V1 (lines below_config) text (nothing, line.Next 1 1 ∷ [], search (rules, arith), refl)
     (rest, one, refl) refl none
 
--- behind the driver
+-- a transcript of which the line of one driver was read
 abbrev behind_driver : TranscriptDraft
 behind_driver = draft stage.History one_driver
 
+-- a text that spells no line which may stand behind one driver makes line 3 go wrong for its form
 wrong_at_3 : (text : List ℕ) → IsOneLine text → IsNoLine (transcript_grammar V1) (lines behind_driver) text
     → IsWrongTranscript (with_line_3 text) 3 cause.Form
 unfolding digits
@@ -110,10 +112,11 @@ wrong_at_3 text one none =
     (one_driver, line.Config ∷ line.Next 1 1 ∷ [], search (rules, arith), refl)
     (codes "config\nnext 1 1\nend\n", one, refl) refl none
 
--- behind the link
+-- a transcript of which the line of one link was read, and no group behind it
 abbrev behind_link : TranscriptDraft
 behind_link = draft stage.View one_link
 
+-- a text that spells no line which may stand behind one link makes line 5 go wrong for its form
 wrong_at_5 : (text : List ℕ) → IsOneLine text → IsNoLine (transcript_grammar V1) (lines behind_link) text
     → IsWrongTranscript (with_line_5 text) 5 cause.Form
 unfolding digits
@@ -121,6 +124,7 @@ wrong_at_5 text one none =
     wrong_line V1 (lines behind_link) text (one_link, [], search (rules, arith), refl)
     (codes "end\n", one, refl) refl none
 
+-- a line that may not come behind one link makes line 5 go wrong for its form
 misplaced_at_5 : (text : List ℕ) → IsOneLine text → (k : TranscriptLine) → FitsLine V1 k
     → text ≡ line_text (transcript_grammar V1) k → takes behind_link k ≡ false
     → IsWrongTranscript (with_line_5 text) 5 cause.Form
@@ -129,6 +133,7 @@ misplaced_at_5 text one k fits is never =
 
 -- ---- lines out of their places
 
+-- `programs 1` is not the header of a transcript
 no_header : (version : Version) → codes "programs 1" ≢ header (transcript_grammar version)
 no_header V1 = differ (codes "programs 1") (codes "transcript 1") refl
 no_header V2 = differ (codes "programs 1") (codes "transcript 2") refl
@@ -139,6 +144,7 @@ other_header =
     wrong_transcript_in_each
     (λ version. (codes "programs 1", (codes "end\n", search rules, refl), no_header version, refl))
 
+-- `transcript 3` is the header of no version
 other_number : (version : Version) → codes "transcript 3" ≢ header (transcript_grammar version)
 other_number V1 = differ (codes "transcript 3") (codes "transcript 1") refl
 other_number V2 = differ (codes "transcript 3") (codes "transcript 2") refl
@@ -153,6 +159,7 @@ pub version_2_alone : IsWrongTranscript (codes "transcript 2\n") 2 cause.Cut
 version_2_alone =
     wrong_transcript V2 refl (codes "transcript 2\n", [], inr ([], nothing_begun V2, refl, refl), tt, refl)
 
+-- the line of a descriptor of process 0, open on minor 0 of `ip`
 abbrev descriptor : TranscriptLine
 descriptor = line.Fd (record { process = 0; fd = 0; driver = codes "ip"; minor = 0 })
 
@@ -198,7 +205,7 @@ no_end =
       refl,
     )
 
--- a hung-up stream, and nothing else
+-- a transcript of version 2 with one hung-up stream, and nothing else
 abbrev one_hung : Transcript
 one_hung = record {
   version = V2;
@@ -207,9 +214,11 @@ one_hung = record {
   view = record (new_view 1 1) { hungs = record { driver = codes "eth"; minor = 0 } ∷ [] };
 }
 
+-- a transcript of which the line of one hung-up stream was read
 abbrev behind_hung : TranscriptDraft
 behind_hung = draft stage.View one_hung
 
+-- the line of a full place, on the read side of minor 0 of `eth`
 abbrev full_place : TranscriptLine
 full_place = line.Full (record { driver = codes "eth"; minor = 0; side = side.Read })
 
@@ -225,6 +234,7 @@ late_full_place =
 
 -- ---- lines of one kind that are none
 
+-- words of none of the lines of the kind that their first word tells are no line of a transcript
 no_kind : (ls : List TranscriptLine) (n : ℕ) (ws : List (List ℕ)) → AllByRecursion (IsFree SPACE) ws × (0 < length ws)
     → kind_at (first_word ws) ≡ n
     → ((k : TranscriptLine) → FitsLine V1 k → ws ≡ line_words k → kind_of k ≡ n → ⊥)
@@ -234,6 +244,7 @@ no_kind ls n ws free is none k fits may e =
     none k fits same (sym (kind_first V1 k fits)
     ∙ ap (λ (vs : List (List ℕ)). kind_at (first_word vs)) (sym same) ∙ is)
 
+-- words of the kind of an entry that are no entry are no line behind one driver
 no_entry : (ws : List (List ℕ)) → AllByRecursion (IsFree SPACE) ws × (0 < length ws)
     → kind_at (first_word ws) ≡ 0 → ((e : AnyEntry) → FitsEntryIn V1 e → ws ≢ entry_words e)
     → IsNoLine (transcript_grammar V1) (lines behind_driver) (line_of ws)
@@ -242,6 +253,7 @@ no_entry ws free digit none = no_kind (lines behind_driver) 0 ws free digit by_k
   by_kind (line.Entry x) fits same entry = none x fits same
   by_kind k fits same entry = absurd (cc entry)
 
+-- the process of an entry is not 64
 process_wrong : (e : AnyEntry) → FitsEntry e → codes "64" ≢ decimal e.process
 process_wrong e fits is =
     let value : 64 ≡ e.process = ap (digits_value 10) is
@@ -255,18 +267,20 @@ process_64 =
     (no_entry (codes "64" ∷ codes "clone" ∷ codes "ip" ∷ codes "=" ∷ codes "fd" ∷ codes "0" ∷ codes "0" ∷ [])
     (search rules, omega arith) refl (λ e fits is. process_wrong e fits.0 (cc is)))
 
--- a fault of one word is none of two
+-- `EINVAL` alone is not the words of a fault, which are two
 no_fault : (f : Fault) → codes "EINVAL" ∷ [] ≢ fault_words f
 no_fault f e =
     let none : None ≡ Some f = ap fault_at e ∙ found_fault f in
     absurd (cc none)
 
+-- `EINVAL` alone is not the words of a reply
 no_reply : (r : Reply) → codes "EINVAL" ∷ [] ≢ reply_words r
 no_reply r e = by_kind r (sym (verb_again r) ∙ ap verb_at (sym e)) e where
   by_kind : (r : Reply) → reply_verb_of r ≡ None → codes "EINVAL" ∷ [] ≢ reply_words r
   by_kind (reply.Fault f) v e = no_fault f e
   by_kind r v e = absurd (cc v)
 
+-- no command with its reply has the words `clone ip = EINVAL`
 half_reply : (c : Command) (r : Reply) → codes "clone" ∷ codes "ip" ∷ codes "=" ∷ codes "EINVAL"
     ∷ [] ≢ command_words c ++ codes "=" ∷ reply_words r
 half_reply c r e = by_kind c (verb_first c verb.Clone _ _ e) e where

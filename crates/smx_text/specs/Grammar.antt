@@ -21,7 +21,7 @@ pub record Grammar (V K : Type 0) : Type 1 where
   -- the value is within the limits, and each of its lines can be spelled
   pub IsAllowed : V → Type 0
 
--- no line feed stands in it
+-- no line feed stands in these bytes
 abbrev pub IsOneLine : List ℕ → Type 0
 IsOneLine text = IsFree LINE_FEED text
 
@@ -79,7 +79,7 @@ module _ {V K : Type 0} (g : Grammar V K) where
   abbrev pub IsOneTooMany : List K → List ℕ → Type 0
   IsOneTooMany lines text = (k : K) × (text ≡ line_text k) × g.FitsLine k × MayFollow lines k × IsFull lines k
 
-  -- it spells a line with which some allowed value goes on behind these; then they are these
+  -- it spells a line with which some allowed value goes on behind these; with that one, the lines are the longer ones
   abbrev pub Continues : List K → List ℕ → List K → Type 0
   Continues lines text longer = (k : K) × (text ≡ line_text k) × (longer ≡ lines ++ k ∷ []) × IsBegun longer
 
@@ -125,7 +125,7 @@ module _ {V K : Type 0} (g : Grammar V K) where
   Reads bytes (Ok v) = Spells bytes v
   Reads bytes (Err f) = IsFault bytes f.line f.cause
 
-  -- the line at which it ends: the last one, or the one at fault
+  -- the line at which an answer ends: the last one, or the one at fault
   abbrev pub last_line : Result V TextFault → ℕ
   last_line (Ok v) = length (g.body v) + 2
   last_line (Err f) = f.line
@@ -138,7 +138,7 @@ abbrev pub ReadsAny : {V K : Type 0} → (Version → Grammar V K) → List ℕ 
 ReadsAny {V} {K} g bytes r = (version : Version) × Reads (g version) bytes r
     × IfErr r (λ f. f.cause ≡ cause.Header → (other : Version) → IsFault (g other) bytes f.line cause.Header)
 
--- What may be answered by who makes something of the value that the bytes spell: what may be made of it, or the fault
+-- What may be answered where something is made of the value that the bytes spell: what may be made of it, or the fault
 -- that a reader of all versions may answer.
 abbrev pub MakesAny : {V K W : Type 0} → (Version → Grammar V K) → (V → W → Type 0) → List ℕ → Result W TextFault
     → Type 0

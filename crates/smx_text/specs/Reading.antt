@@ -9,7 +9,7 @@ use Rattle.smx_text.specs.Grammar.{Continues}
 module _ {V K : Type 0} (g : Grammar V K) where
   -- ---- a line as bytes
 
-  -- why it is refused behind these lines
+  -- why a line as bytes is refused behind these lines
   abbrev pub Refuses : List K → List ℕ → Cause → Type 0
   Refuses lines text cause.Form = IsNoLine g lines text
   Refuses lines text cause.Many = IsOneTooMany g lines text
@@ -34,11 +34,11 @@ module _ {V K : Type 0} (g : Grammar V K) where
 
   -- ---- a line that was read
 
-  -- it is the last of these lines now, with which some allowed value begins
+  -- a line that was read stands behind these, and some allowed value begins with them and with it
   abbrev pub AddsLine : List K → K → List K → Type 0
   AddsLine lines k longer = (longer ≡ lines ++ k ∷ []) × IsBegun g longer
 
-  -- why it is refused behind these lines
+  -- why a line that was read is refused behind these lines
   abbrev pub RefusesLine : List K → K → Cause → Type 0
   RefusesLine lines k cause.Form = MayFollow g lines k → ⊥
   RefusesLine lines k cause.Many = MayFollow g lines k × IsFull g lines k
@@ -49,12 +49,12 @@ module _ {V K : Type 0} (g : Grammar V K) where
 
   -- ---- what is answered to a line
 
-  -- to one that was read: it is the last of longer lines, or why it is refused behind these
+  -- to a line that was read: with it the lines are the longer ones, or why it is refused behind these
   abbrev pub AnswersLine : {A : Type 0} → List K → K → List K → Result A Cause → Type 0
   AnswersLine lines k longer (Ok x) = AddsLine lines k longer
   AnswersLine lines k longer (Err why) = RefusesLine lines k why
 
-  -- to one as bytes: some allowed value goes on with it behind these lines, or why it is refused there
+  -- to a line as bytes: some allowed value goes on with it behind these lines, or why it is refused there
   abbrev pub AnswersText : {A : Type 0} → List K → List ℕ → List K → Result A Cause → Type 0
   AnswersText lines text longer (Ok x) = Continues g lines text longer
   AnswersText lines text longer (Err why) = Refuses lines text why

@@ -8,13 +8,13 @@ use Rattle.smx_text.specs.Grammar.{ReadsAny}
 use Rattle.smx_text.specs.ProgramsText.{SpellsPrograms, programs_grammar}
 use Rattle.smx_text.specs.TranscriptText.{SpellsTranscript, transcript_grammar}
 
--- they go wrong at this line for this cause, and spell no programs
+-- these bytes go wrong at this line for this cause, and spell no programs
 abbrev pub AreWrongPrograms : List ℕ → ℕ → Cause → Type 0
 AreWrongPrograms bytes line why =
     ReadsAny programs_grammar bytes (Err (record { line = line; cause = why }))
     × ((v : ProgramLists) → SpellsPrograms bytes v → ⊥)
 
--- they go wrong at this line for this cause, and spell no transcript
+-- these bytes go wrong at this line for this cause, and spell no transcript
 abbrev pub IsWrongTranscript : List ℕ → ℕ → Cause → Type 0
 IsWrongTranscript bytes line why =
     ReadsAny transcript_grammar bytes (Err (record { line = line; cause = why }))

@@ -13,23 +13,26 @@ use Rattle.smx_text.specs.ProgramsText.{body, programs_grammar}
 abbrev pub grammar : Grammar ProgramLists Line
 grammar = programs_grammar V1
 
--- so many of them, none with a command; and their lines
+-- so many processes, none with a command
 abbrev pub idle : ℕ → ProgramLists
 idle n = record { version = V1; drivers = []; programs = replicate n [] }
 
+-- the lines of so many processes, none with a command
 abbrev pub idle_lines : ℕ → List Line
 idle_lines n = body (idle n)
 
--- the start of a program, and a command
+-- the line with which a program starts
 abbrev pub process : ℕ → Line
 process n = line.Process n
 
+-- the line of a command
 abbrev pub dup : Line
 dup = line.Command (command.Dup 0)
 
--- what is answered to a line that is taken, and to one that is refused
+-- what is answered to a line that is taken
 abbrev pub taken : Result (Unit {0}) Cause
 taken = Ok tt
 
+-- what is answered to a line that is refused
 abbrev pub refused : Cause → Result (Unit {0}) Cause
 refused why = Err why

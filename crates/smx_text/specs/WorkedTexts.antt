@@ -57,7 +57,7 @@ programs = program_lists drivers ((
     ∷ command.Transmit (codes "eth") 0
     ∷ []) ∷ [] ∷ (command.Punlink 1 which.All ∷ []) ∷ [])
 
--- their text
+-- the text of these programs
 abbrev pub programs_bytes : List ℕ
 programs_bytes =
     codes "programs 1\ndriver ip mux 4 8 3 16\ndriver eth leaf 0 4294967295 10 100\n"
@@ -70,19 +70,20 @@ programs_bytes =
     ++ codes "inject eth 0 9 ab\ntransmit eth 0\n"
     ++ codes "process 1\nprocess 2\npunlink 1 all\nend\n"
 
+-- these programs have this text
 pub is_text : programs_text programs ≡ programs_bytes
 unfolding digits encode_with
 is_text = refl
 
--- the line `end` of it
+-- the text of these programs ends at line 30, with its line `end`
 pub ends_at : last_line (programs_grammar V1) (Ok programs) ≡ 30
 ends_at = refl
 
--- and of a fault, its line
+-- a fault at line 4 ends at line 4
 pub stops_at : last_line (programs_grammar V1) (Err (record { line = 4; cause = cause.Form })) ≡ 4
 stops_at = refl
 
--- no driver and no process
+-- programs with no driver and no process have the shortest text
 pub is_shortest_text : programs_text (program_lists [] []) ≡ codes "programs 1\nend\n"
 is_shortest_text = refl
 
@@ -90,17 +91,18 @@ is_shortest_text = refl
 abbrev pub hangups : ProgramLists
 hangups = program_lists drivers ((command.Hangup (codes "eth") 1 ∷ command.Hangup (codes "ip") 4294967295 ∷ []) ∷ [])
 
--- their text
+-- the text of these programs of hangups
 abbrev pub hangups_bytes : List ℕ
 hangups_bytes =
     codes "programs 2\ndriver ip mux 4 8 3 16\ndriver eth leaf 0 4294967295 10 100\n"
     ++ codes "process 0\nhangup eth 1\nhangup ip 4294967295\nend\n"
 
+-- these programs of hangups have this text
 pub is_text_of_hangups : programs_text hangups ≡ hangups_bytes
 unfolding digits
 is_text_of_hangups = refl
 
--- what version 1 can tell, in version 2
+-- programs that version 1 can tell have a text in version 2 too
 pub is_raised_text : programs_text (raised (program_lists [] [])) ≡ codes "programs 2\nend\n"
 is_raised_text = refl
 
@@ -176,7 +178,7 @@ view = record {
 abbrev pub transcript : Transcript
 transcript = record { version = V1; drivers = drivers; entries = entries; view = view }
 
--- its text
+-- the text of this transcript
 abbrev pub transcript_bytes : List ℕ
 transcript_bytes =
     codes "transcript 1\ndriver ip mux 4 8 3 16\ndriver eth leaf 0 4294967295 10 100\n"
@@ -191,11 +193,12 @@ transcript_bytes =
     ++ codes "config\nnext 2 6\nfd 0 1 eth 2\nfd 63 15 ip 3\nlink 1 ip 0 eth 3 plink\nlink 4 ip 2 eth 1 link\n"
     ++ codes "bind ip 9 0\nroute ip 5 1\nmsg ip 0 w 5 7 0005\nfull eth 1 r\nend\n"
 
+-- this transcript has this text
 pub is_transcript : transcript_text transcript ≡ transcript_bytes
 unfolding digits encode_with
 is_transcript = refl
 
--- the line `end` of it
+-- the text of this transcript ends at line 36, with its line `end`
 pub transcript_ends_at : last_line (transcript_grammar V1) (Ok transcript) ≡ 36
 transcript_ends_at = refl
 
@@ -220,7 +223,7 @@ transcript_of_hangups = record {
       };
 }
 
--- its text
+-- the text of this transcript of hangups
 abbrev pub transcript_of_hangups_bytes : List ℕ
 transcript_of_hangups_bytes =
     codes "transcript 2\ndriver ip mux 4 8 3 16\ndriver eth leaf 0 4294967295 10 100\n"
@@ -230,11 +233,12 @@ transcript_of_hangups_bytes =
     ++ codes "bind ip 9 0\nroute ip 5 1\nmsg ip 0 w 5 7 0005\nfull eth 1 r\n"
     ++ codes "hung eth 1\nhung ip 4294967295\nend\n"
 
+-- this transcript of hangups has this text
 pub is_transcript_of_hangups : transcript_text transcript_of_hangups ≡ transcript_of_hangups_bytes
 unfolding digits encode_with
 is_transcript_of_hangups = refl
 
--- what version 1 can tell, in version 2
+-- a transcript that version 1 can tell, in version 2
 abbrev pub shortest_transcript : Transcript
 shortest_transcript = record {
   version = V2;
@@ -254,6 +258,7 @@ shortest_transcript = record {
       };
 }
 
+-- that transcript has the shortest text
 pub is_shortest_transcript : transcript_text shortest_transcript ≡ codes "transcript 2\nconfig\nnext 1 1\nend\n"
 unfolding digits
 is_shortest_transcript = refl

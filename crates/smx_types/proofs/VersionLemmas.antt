@@ -8,27 +8,28 @@ use Rattle.smx_types.specs.declared.driver.DriverSpec.{DriverSpec}
 use Rattle.smx_types.specs.declared.limits.TheConstants.{MAX_DRIVERS_OF_VERSION_1}
 use Rattle.smx_types.specs.declared.version.Version.TheVariants.{V1}
 
--- the first version can tell what doesn't need the second
+-- where version 1 is the least that can tell something, version 2 is not needed for it
 not_needed : (b : Bool) → version_2_where b ≡ V1 → b ≡ false
 not_needed true e = cc
 not_needed false e = refl
 
--- so neither of two needs it
+-- where neither of two things holds, the first doesn't
 neither_left : (a b : Bool) → (a || b) ≡ false → a ≡ false
 neither_left true b e = e
 neither_left false b e = refl
 
+-- where neither of two things holds, the second doesn't
 neither_right : (a b : Bool) → (a || b) ≡ false → b ≡ false
 neither_right true b e = cc
 neither_right false b e = e
 
--- they have no hangup
+-- programs of version 1 within their limits have no hangup
 pub no_hangup : (p : ProgramLists) → AreWithinLimits p → p.version ≡ V1
     → list_any (list_any is_hangup) p.programs ≡ false
 no_hangup p h e =
     neither_right (are_more_drivers p.drivers) (list_any (list_any is_hangup) p.programs) (not_needed _ (h.version e))
 
--- they have no more drivers than it has
+-- drivers that are no reason for version 2 are at most as many as version 1 can tell
 few : (drivers : List DriverSpec) → are_more_drivers drivers ≡ false → length drivers ≤ MAX_DRIVERS_OF_VERSION_1
 few drivers e = grind (arith, nat_tests, e)
 

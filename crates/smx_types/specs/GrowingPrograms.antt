@@ -13,14 +13,14 @@ with_last programs last = slice_set programs (length programs - 1) last
 abbrev pub last_of : List (List Command) → List Command
 last_of programs = slice_index_or programs (length programs - 1) []
 
--- with one driver more
+-- these programs with one driver more
 abbrev pub with_driver : ProgramLists → DriverSpec → ProgramLists
 with_driver p driver = record p { drivers = p.drivers ++ driver ∷ [] }
 
--- with one program more, which has no command yet
+-- these programs with one more, which has no command yet
 abbrev pub with_program : ProgramLists → ProgramLists
 with_program p = record p { programs = p.programs ++ [] ∷ [] }
 
--- with one command more, the last of the last program
+-- these programs with one command more, the last of the last program
 abbrev pub with_command : ProgramLists → Command → ProgramLists
 with_command p c = record p { programs = with_last p.programs (last_of p.programs ++ c ∷ []) }

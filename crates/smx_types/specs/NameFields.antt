@@ -14,7 +14,7 @@ pub record IsPadded (n : Inside) : Type 0 where
 abbrev inside : ℕ → List ℕ → Inside
 inside len bytes = record { len = len; bytes = bytes }
 
--- so the text gives the fields back
+-- the text that the fields of a name hold gives these fields back
 pub padded_view : (n : Inside) → IsPadded n
     → record { len = length (take n.len n.bytes); bytes = padded (take n.len n.bytes) } ≡ n
 padded_view n h =

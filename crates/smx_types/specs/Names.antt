@@ -38,6 +38,6 @@ is_name_byte b = is_letter b || is_digit b
 abbrev pub is_name : List ℕ → Bool
 is_name text = is_letter (slice_index text 0) && (nat_le (length text) max_name && list_all is_name_byte text)
 
--- with zeros up to eight bytes, which is how a name is kept
+-- a name with zeros up to eight bytes, which is how it is kept
 abbrev pub padded : List ℕ → List ℕ
 padded text = text ++ drop (length text) (0 ∷ 0 ∷ 0 ∷ 0 ∷ 0 ∷ 0 ∷ 0 ∷ 0 ∷ [])

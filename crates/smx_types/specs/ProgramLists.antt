@@ -19,7 +19,7 @@ abbrev pub program_lists : List DriverSpec → List (List Command) → ProgramLi
 program_lists drivers programs =
     record { version = least_of_programs drivers programs; drivers = drivers; programs = programs }
 
--- the same in version 2
+-- these programs in version 2
 abbrev pub raised : ProgramLists → ProgramLists
 raised p = record p { version = V2 }
 

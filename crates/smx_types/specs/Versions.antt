@@ -19,7 +19,7 @@ abbrev pub most_drivers : Version → ℕ
 most_drivers V1 = MAX_DRIVERS_OF_VERSION_1
 most_drivers V2 = MAX_DRIVERS
 
--- a device hangs up
+-- the command makes a device hang up
 abbrev pub is_hangup : Command → Bool
 is_hangup (command.OpenClone name) = false
 is_hangup (command.OpenMinor name minor) = false
@@ -41,7 +41,7 @@ is_hangup (command.Inject name minor addr bytes) = false
 is_hangup (command.Transmit name minor) = false
 is_hangup (command.Hangup name minor) = true
 
--- refused for a device that has hung up
+-- the command was refused since its device has hung up
 abbrev pub is_hung_up : Fault → Bool
 is_hung_up fault.BadDescriptor = false
 is_hung_up fault.Below = false
@@ -61,7 +61,7 @@ is_hung_up fault.Empty = false
 is_hung_up fault.BadSize = false
 is_hung_up fault.HungUp = true
 
--- it tells of a device that has hung up: end of file, or that refusal
+-- the reply tells of a device that has hung up: end of file, or that refusal
 abbrev pub tells_of_hangup : Reply → Bool
 tells_of_hangup (reply.Fd fd minor) = false
 tells_of_hangup (reply.Id id) = false
@@ -71,11 +71,11 @@ tells_of_hangup (reply.Done dropped) = false
 tells_of_hangup reply.Eof = true
 tells_of_hangup (reply.Fault f) = is_hung_up f
 
--- an entry that only version 2 has: of that command, or of such a reply
+-- an entry that only version 2 has: of a hangup, or of a reply that tells of one
 abbrev pub is_of_hangup : Entry → Bool
 is_of_hangup e = is_hangup e.command || tells_of_hangup e.reply
 
--- the second version where the first can't tell it
+-- version 2 where version 1 can't tell something, and else version 1
 abbrev pub version_2_where : Bool → Version
 version_2_where true = V2
 version_2_where false = V1

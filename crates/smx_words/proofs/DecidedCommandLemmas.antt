@@ -19,6 +19,7 @@ use Rattle.smx_words.proofs.SameCommandLemmas.{same_command}
 use Rattle.smx_words.proofs.SameReplyLemmas.{same_reply}
 use Rattle.smx_words.proofs.SameWordLemmas.{every_fault, flush_sides}
 
+-- any words are those of a command, or of none
 command_answer : (ws : List (List ℕ)) → Answer FitsCommand command_words ws
 command_answer ws =
     or_else command.OpenClone (after (codes "clone") refl (last name)) (λ p h. h) (λ no_clone.
@@ -70,7 +71,7 @@ command_answer ws =
       | command.Hangup d n ↦ no_hangup (d, n)
     ])))))))))))))))))))))
 
--- a command
+-- each command has words of its own, and whether words are a command's is told
 pub command_has_words : HasWords FitsCommand command_words
 command_has_words = record {
   answer = command_answer;
@@ -78,6 +79,7 @@ command_has_words = record {
   are_words = λ c h. plain_words (command_words c) (command_plain c h);
 }
 
+-- any words are those of a reply, or of none
 reply_answer : (ws : List (List ℕ)) → Answer FitsReply reply_words ws
 reply_answer ws =
     or_else (λ p. reply.Fd p.0 p.1) (after (codes "fd") refl two_numbers) (λ p h. h) (λ no_fd.
@@ -98,7 +100,7 @@ reply_answer ws =
       | reply.Fault f ↦ no_fault f
     ])))))))))
 
--- a reply
+-- each reply has words of its own, and whether words are a reply's is told
 pub reply_has_words : HasWords FitsReply reply_words
 reply_has_words = record {
   answer = reply_answer;
@@ -106,7 +108,7 @@ reply_has_words = record {
   are_words = λ r h. plain_words (reply_words r) (reply_plain r h);
 }
 
--- an entry
+-- each entry has words of its own, and whether words are an entry's is told
 pub entry_has_words : HasWords FitsEntry entry_words
 entry_has_words = via (λ p. record { process = p.0; command = p.1.0; reply = p.1.1 })
     (first process (joined (codes "=") refl command_has_words no_sign reply_has_words))
@@ -116,7 +118,7 @@ entry_has_words = via (λ p. record { process = p.0; command = p.1.0; reply = p.
       no_sign c h = all_weaker (λ w k e. (subst (IsFree EQUALS) e k).0 refl) (command_words c)
           (plain_words_free (command_words c) (command_plain c h))
 
--- ---- so each line has a reading
+-- ---- each line has a reading
 
 -- each line is that of a command, or of none
 pub command_reading : (line : List ℕ) → (o : Option Command) × IsReadAs FitsCommand command_words line o

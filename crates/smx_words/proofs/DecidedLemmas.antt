@@ -11,11 +11,11 @@ use Rattle.smx_words.specs.LineReading.{IsReadAs}
 use Rattle.smx_words.specs.Words.{IsWord, SPACE, line_of}
 use Rattle.smx_words.proofs.LineLemmas.{all_append, same_free_words, same_words, words_free, words_in}
 
--- a value that fits and is spelled so
+-- some value fits and is spelled so
 abbrev Has : {X S : Type 0} → (X → Type 0) → (X → S) → S → Type 0
 Has {X} {S} Fits spelling s = (x : X) × Fits x × (s ≡ spelling x)
 
--- there is one, or none
+-- some value that fits is spelled so, or none is
 abbrev pub Answer : {X S : Type 0} → (X → Type 0) → (X → S) → S → Type 0
 Answer {X} {S} Fits spelling s = Has Fits spelling s ⊎ ((x : X) → Fits x → s ≢ spelling x)
 
@@ -25,7 +25,7 @@ pub record HasWord {X : Type 0} (Fits : X → Type 0) (word : X → List ℕ) : 
   pub one : (x y : X) → Fits x → Fits y → word x ≡ word y → x ≡ y
   pub is_word : (x : X) → Fits x → IsWord (word x)
 
--- each has words of its own, and whether words are those of one is told
+-- each value that fits has words of its own, and whether words are those of one is told
 pub record HasWords {X : Type 0} (Fits : X → Type 0) (words : X → List (List ℕ)) : Type 0 where
   pub answer : (ws : List (List ℕ)) → Answer Fits words ws
   pub one : (x y : X) → Fits x → Fits y → words x ≡ words y → x ≡ y
@@ -40,18 +40,21 @@ same_or_not w v = by_test (bytes_eq w v) refl where
     wrong : true ≡ false → ⊥
     wrong bad = absurd (cc bad)
 
--- some bytes that can be seen, as a test
+-- each of these bytes can be seen, as a test
 abbrev is_seen : List ℕ → Bool
 is_seen w = list_all (λ b. nat_le 0x21 b && nat_le b 0x7E) w
 
+-- these are one or more bytes that can be seen, as a test
 abbrev is_word : List ℕ → Bool
 is_word [] = false
 is_word (b ∷ w) = is_seen (b ∷ w)
 
+-- of bytes that pass this test each can be seen
 seen : (w : List ℕ) → is_seen w ≡ true → AllByRecursion (λ b. (0x21 ≤ b) × (b ≤ 0x7E)) w
 seen [] h = tt
 seen (b ∷ w) h = ((grind (arith, nat_tests), grind (arith, nat_tests)), seen w (grind (arith, nat_tests)))
 
+-- bytes that pass the test of a word are a word
 word_is : (w : List ℕ) → is_word w ≡ true → IsWord w
 word_is [] h = absurd (cc h)
 word_is (b ∷ w) h = (omega arith, seen (b ∷ w) h)
@@ -62,14 +65,14 @@ both {X} {Y} p q h k = let same : ◌≡◌ {A = X × Y} (p.0, p.1) (q.0, q.1) =
 
 -- ---- words in order
 
--- no words
+-- a value that has no words is told where there are none
 pub nothing : HasWords (λ (x : Unit {0}). Unit {0}) (λ (x : Unit {0}). [])
 nothing = record { answer = answer; one = λ x y h k e. refl; are_words = λ x h. tt } where
   answer : (ws : List (List ℕ)) → Answer (λ (x : Unit {0}). Unit {0}) (λ (x : Unit {0}). []) ws
   answer [] = inl (tt, tt, refl)
   answer (w ∷ ws) = inr (λ x fits e. absurd (cc e))
 
--- one word, then no more
+-- values that are told by a word are told by it where no more words follow
 pub last : {X : Type 0} {Fits : X → Type 0} {word : X → List ℕ} → HasWord Fits word → HasWords Fits (λ x. word x ∷ [])
 last {X} {Fits} {word} d = record {
   answer = answer;
@@ -85,7 +88,7 @@ last {X} {Fits} {word} d = record {
       ]
   answer (w ∷ v ∷ ws) = inr (λ x fits e. absurd (cc e))
 
--- one word, then others
+-- values told by a word, and others told by the words behind it, are told together by all of these
 pub first : {X Y : Type 0} {Fits : X → Type 0} {word : X → List ℕ} {FitsMore : Y → Type 0}
     {words : Y → List (List ℕ)} → HasWord Fits word → HasWords FitsMore words
     → HasWords (λ (p : X × Y). Fits p.0 × FitsMore p.1) (λ (p : X × Y). word p.0 ∷ words p.1)
@@ -106,7 +109,7 @@ first {X} {Y} {Fits} {word} {FitsMore} {words} d more = record {
         | inr none ↦ inr (λ x fits e. none x.0 fits.0 (cc e))
       ]
 
--- a word that stands for nothing, then others
+-- values that are told by their words are told by them behind a word that stands for nothing
 pub after : {X : Type 0} {Fits : X → Type 0} {words : X → List (List ℕ)} (word : List ℕ) → is_word word ≡ true
     → HasWords Fits words → HasWords Fits (λ x. word ∷ words x)
 after {X} {Fits} {words} word is d = record {
@@ -125,7 +128,7 @@ after {X} {Fits} {words} word is d = record {
         | inr other ↦ inr (λ x fits e. other (cc e))
       ]
 
--- a word for each of some values
+-- lists of values, each told by a word, are told by these words in order
 pub each : {X : Type 0} {Fits : X → Type 0} {word : X → List ℕ} → HasWord Fits word
     → HasWords (AllByRecursion Fits) (map word)
 each {X} {Fits} {word} d = record { answer = answer; one = one; are_words = are_words } where
@@ -158,7 +161,7 @@ each {X} {Fits} {word} d = record { answer = answer; one = one; are_words = are_
         no_first none [] fits e = absurd (cc e)
         no_first none (x ∷ xs) fits e = none x fits.0 (cc e)
 
--- words of one value, a word that is none of them, and words of another value
+-- pairs are told by the words of the first value, a word that is none of them, and the words of the second
 pub joined : {X Y : Type 0} {Fits : X → Type 0} {words : X → List (List ℕ)} {FitsMore : Y → Type 0}
     {more : Y → List (List ℕ)} (sign : List ℕ) → is_word sign ≡ true → HasWords Fits words
     → ((x : X) → Fits x → AllByRecursion (λ w. w ≢ sign) (words x)) → HasWords FitsMore more
@@ -220,7 +223,7 @@ joined {X} {Y} {Fits} {words} {FitsMore} {more} sign is d free m = record {
 
 -- ---- other values for the same words
 
--- the values that others stand for
+-- values for which others stand are told by their words where the others are
 pub via : {X Y : Type 0} {Fits : X → Type 0} {words : X → List (List ℕ)} {FitsOther : Y → Type 0} (make : Y → X)
     → HasWords FitsOther (λ y. words (make y)) → (back : X → Y) → ((y : Y) → FitsOther y → Fits (make y))
     → ((x : X) → Fits x → FitsOther (back x)) → ((x : X) → make (back x) ≡ x) → HasWords Fits words
@@ -240,7 +243,7 @@ via {X} {Y} {Fits} {words} {FitsOther} make d back to from same = record {
         | inr none ↦ inr (λ x fits e. none (back x) (from x fits) (e ∙ sym (was x)))
       ]
 
--- the values of one form, or else others
+-- whether words are a value's is told where it is told once they are known to be those of no value of one form
 pub or_else : {X Y : Type 0} {Fits : X → Type 0} {words : X → List (List ℕ)} {FitsOther : Y → Type 0}
     {ws : List (List ℕ)} (make : Y → X) → HasWords FitsOther (λ y. words (make y))
     → ((y : Y) → FitsOther y → Fits (make y))
@@ -250,13 +253,13 @@ or_else {ws = ws} make d to rest =
 
 -- ---- lines
 
--- no two values have one line
+-- no two values that have words of their own have one line
 pub one_line : {X : Type 0} {Fits : X → Type 0} {words_of : X → List (List ℕ)} → HasWords Fits words_of
     → (x y : X) → Fits x → Fits y → line_of (words_of x) ≡ line_of (words_of y) → x ≡ y
 one_line {words_of = words_of} d x y h k e =
     d.one x y h k (same_words (words_of x) (words_of y) (d.are_words x h) (d.are_words y k) e)
 
--- and each line has a reading
+-- each line is that of one of the values that have words of their own, or of none
 pub reading : {X : Type 0} {Fits : X → Type 0} {words_of : X → List (List ℕ)} → HasWords Fits words_of
     → ((x : X) → 0 < length (words_of x)) → (line : List ℕ) → (o : Option X) × IsReadAs Fits words_of line o
 reading {X} {Fits} {words_of} d some line =

@@ -18,15 +18,15 @@ use Rattle.smx_words.proofs.DecidedWordLemmas.{bytes, name, number, process}
 use Rattle.smx_words.proofs.SameWordLemmas.{driver_kind, link_kind, stream_side}
 use Rattle.smx_types.specs.declared.view.HungLine.{HungLine}
 
--- where a process begins
+-- the start of each process has words of its own, and whether words are such a start is told
 pub process_has_words : HasWords FitsNumber process_words
 process_has_words = after (codes "process") refl (last number)
 
--- the next id and the next serial
+-- each next id and next serial have words of their own, and whether words are such two is told
 pub next_has_words : HasWords FitsNext next_words
 next_has_words = after (codes "next") refl (first number (last number))
 
--- a driver
+-- each driver has words of its own, and whether words are a driver's is told
 pub driver_has_words : HasWords FitsDriver driver_words
 driver_has_words =
     via
@@ -36,13 +36,13 @@ driver_has_words =
     (λ d. (d.name, (d.kind, (d.minors, (d.high, (d.low, d.max))))))
     (λ p h. search rules) (λ d h. search rules) (λ d. refl)
 
--- an open descriptor
+-- each open descriptor has words of its own, and whether words are a descriptor's is told
 pub descriptor_has_words : HasWords FitsDescriptor descriptor_words
 descriptor_has_words = via (λ p. record { process = p.0; fd = p.1.0; driver = p.1.1.0; minor = p.1.1.1 })
     (after (codes "fd") refl (first process (first number (first name (last number)))))
     (λ d. (d.process, (d.fd, (d.driver, d.minor)))) (λ p h. search rules) (λ d h. search rules) (λ d. refl)
 
--- a link
+-- each link has words of its own, and whether words are a link's is told
 pub link_has_words : HasWords FitsLink link_words
 link_has_words =
     via (λ p. record {
@@ -58,19 +58,19 @@ link_has_words =
     (λ l. (l.id, (l.ctl_driver, (l.ctl_minor, (l.lower_driver, (l.lower_minor, l.kind))))))
     (λ p h. search rules) (λ l h. search rules) (λ l. refl)
 
--- a binding
+-- each binding has words of its own, and whether words are a binding's is told
 pub bind_has_words : HasWords FitsBinding bind_words
 bind_has_words = via (λ p. record { driver = p.0; addr = p.1.0; minor = p.1.1 })
     (after (codes "bind") refl (first name (first number (last number))))
     (λ b. (b.driver, (b.addr, b.minor))) (λ p h. search rules) (λ b h. search rules) (λ b. refl)
 
--- a route
+-- each route has words of its own, and whether words are a route's is told
 pub route_has_words : HasWords FitsRoute route_words
 route_has_words = via (λ p. record { driver = p.0; addr = p.1.0; id = p.1.1 })
     (after (codes "route") refl (first name (first number (last number))))
     (λ r. (r.driver, (r.addr, r.id))) (λ p h. search rules) (λ r h. search rules) (λ r. refl)
 
--- a queued message
+-- each queued message has words of its own, and whether words are a queued message's is told
 pub message_has_words : HasWords FitsMessage message_words
 message_has_words =
     via (λ p. record {
@@ -84,18 +84,18 @@ message_has_words =
     (λ m. (m.driver, (m.minor, (m.side, (m.message.serial, (m.message.addr, m.message.bytes))))))
     (λ p h. search rules) (λ m h. search rules) (λ m. refl)
 
--- a hung-up stream
+-- each hung-up stream has words of its own, and whether words are a hung-up stream's is told
 pub hung_has_words : HasWords FitsHung hung_words
 hung_has_words = via (λ p. record { driver = p.0; minor = p.1 }) (after (codes "hung") refl (first name (last number)))
     (λ s. (s.driver, s.minor)) (λ p h. search rules) (λ s h. search rules) (λ s. refl)
 
--- a full place
+-- each full place has words of its own, and whether words are a full place's is told
 pub full_has_words : HasWords FitsFull full_words
 full_has_words = via (λ p. record { driver = p.0; minor = p.1.0; side = p.1.1 })
     (after (codes "full") refl (first name (first number (last stream_side))))
     (λ f. (f.driver, (f.minor, f.side))) (λ p h. search rules) (λ f h. search rules) (λ f. refl)
 
--- ---- so each line has a reading
+-- ---- each line has a reading
 
 -- each line is that with which a process begins, or is none
 pub process_reading : (line : List ℕ) → (o : Option ℕ) × IsReadAs FitsNumber process_words line o

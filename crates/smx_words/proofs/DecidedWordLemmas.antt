@@ -19,7 +19,7 @@ use Rattle.smx_words.proofs.NumberLemmas.{own, same_number}
 use Rattle.smx_words.proofs.PlainLemmas.{hex_plain, name_plain, number_plain, plain_word, which_plain}
 use Rattle.smx_words.proofs.SameWordLemmas.{same_bytes, same_which}
 
--- a word of a number below a limit is the word of its digits' value
+-- each word is that of a number below the limit, or of none
 below : (limit : ℕ) → limit ≤ 2 ^ 32 → HasWord (λ n. n < limit) decimal
 below limit le = record {
   answer = answer;
@@ -60,7 +60,7 @@ name = record {
     wrong : true ≡ false → ⊥
     wrong bad = absurd (cc bad)
 
--- bytes are a dash, or an even number of digits
+-- each word is that of bytes, a dash or digits of even length, or of none
 pub bytes : HasWord FitsBytes hex_word
 bytes = record {
   answer = answer;
@@ -110,10 +110,10 @@ id_or_all = record {
 
 -- ---- words in order that several values have
 
--- two numbers
+-- any words are those of two numbers, or of none
 pub two_numbers : HasWords (λ p. FitsNumber p.0 × FitsNumber p.1) (λ (p : ℕ × ℕ). decimal p.0 ∷ decimal p.1 ∷ [])
 two_numbers = first number (last number)
 
--- a number, and an id or all
+-- any words are those of a number and of an id or all, or of none
 pub number_which : HasWords (λ p. FitsNumber p.0 × FitsWhich p.1) (λ (p : ℕ × Which). decimal p.0 ∷ which_word p.1 ∷ [])
 number_which = first number (last id_or_all)

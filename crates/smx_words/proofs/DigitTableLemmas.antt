@@ -11,11 +11,12 @@ use Rattle.smx_words.specs.declared.reading.hex_word.TheConstants.{VALUES}
 abbrev pub value_in_table : ℕ → ℕ
 value_in_table d = slice_index_or VALUES d 0
 
--- a test of each number below some number
+-- each number below this one passes a test, as a test
 abbrev passes_below : ℕ → (ℕ → Bool) → Bool
 passes_below zero test = true
 passes_below (suc n) test = test n && passes_below n test
 
+-- where all numbers below one pass a test, each of them does
 each_passes : (n : ℕ) (test : ℕ → Bool) → passes_below n test ≡ true → (d : ℕ) → d < n → test d ≡ true
 each_passes zero test h d lt = absurd (omega (arith, lt))
 each_passes (suc n) test h d lt =
@@ -25,11 +26,12 @@ each_passes (suc n) test h d lt =
       | inr more ↦ let e : n ≡ d = omega (arith, lt, more) in subst (λ (k : ℕ). test k ≡ true) e parts.0
     ]
 
--- a value is at most 16; below that it is the byte's as a digit, and a digit has such a one
+-- the table's value of a byte is at most 16, is below 16 where the byte is a digit, and is then that digit's value
 abbrev is_right : ℕ → Bool
 is_right d = nat_lt (value_in_table d) 17 && ((not (is_digit d) || nat_lt (value_in_table d) 16)
     && (not (nat_lt (value_in_table d) 16) || eqb (slice_index lower_digits (value_in_table d)) d))
 
+-- the value that the table has is right for each byte
 all_are_right : passes_below 256 is_right ≡ true
 all_are_right = refl
 

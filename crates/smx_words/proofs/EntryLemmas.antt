@@ -14,20 +14,21 @@ use Rattle.smx_words.proofs.NumberLemmas.{number_free, same_number}
 use Rattle.smx_words.proofs.PlainLemmas.{command_plain, plain_words_free, some_command, some_reply}
 use Rattle.smx_words.proofs.LineLemmas.{all_append, line_free}
 
--- the sign and its spaces, cut at the sign
+-- two sides with ` = ` between them are, cut at the sign, the sides with one space each
 pub regrouped : (command reply : List ℕ) → command ++ codes " = " ++ reply ≡ (command ++ 32 ∷ []) ++ EQUALS ∷ 32 ∷ reply
 regrouped command reply = append_assoc command (codes " = ") reply
     ∙ sym (append_assoc command (32 ∷ []) (EQUALS ∷ 32 ∷ reply))
 
--- no equals sign is a space
+-- a space is no equals sign
 space_free : IsFree EQUALS (SPACE ∷ [])
 space_free = ((λ e. cc), tt)
 
+-- bytes that are free of a byte are so in their front
 free_left : (byte : ℕ) (xs ys : List ℕ) → IsFree byte (xs ++ ys) → IsFree byte xs
 free_left byte [] ys h = tt
 free_left byte (x ∷ xs) ys h = (h.0, free_left byte xs ys h.1)
 
--- what stands before the first sign and behind it are the sides with their spaces
+-- what stands before the first sign of an entry and behind it are its two sides, each with its space
 pub same_sides : (text front back command reply : List ℕ) → IsFree EQUALS front
     → text ≡ front ++ EQUALS ∷ back → IsFree EQUALS command → text ≡ command ++ codes " = " ++ reply
     → (front ≡ command ++ 32 ∷ []) × (back ≡ 32 ∷ reply)
@@ -35,7 +36,7 @@ same_sides text front back command reply free is h e =
     apart EQUALS front (command ++ 32 ∷ []) back (32 ∷ reply) free
     (all_append (λ b. b ≢ EQUALS) command (32 ∷ []) h space_free) (sym is ∙ e ∙ regrouped command reply)
 
--- and the sides with their spaces are the sides
+-- bytes that are two sides with a space each, cut at the sign, are these sides with ` = ` between them
 pub sides_are : (text front back command reply space : List ℕ) → space ≡ codes " " → IsFree EQUALS front
     → text ≡ front ++ EQUALS ∷ back → front ≡ command ++ space → back ≡ space ++ reply
     → IsFree EQUALS command × (text ≡ command ++ codes " = " ++ reply)
@@ -54,10 +55,12 @@ sides_are text front back command reply space one free is before after =
 abbrev pub sides_text : Entry → List ℕ
 sides_text e = line_of (command_words e.command) ++ codes " = " ++ line_of (reply_words e.reply)
 
+-- the line of a word and others is that word, a space, and the line of the others
 front : (w : List ℕ) (ws : List (List ℕ)) → 0 < length ws → line_of (w ∷ ws) ≡ w ++ SPACE ∷ line_of ws
 front w [] some = absurd (omega arith)
 front w (v ∷ ws) some = refl
 
+-- the line of two joined lists of words is the line of the first, a space, and the line of the second
 line_append : (ws vs : List (List ℕ)) → 0 < length ws → 0 < length vs
     → line_of (ws ++ vs) ≡ line_of ws ++ SPACE ∷ line_of vs
 line_append [] vs some more = absurd (omega arith)
@@ -94,7 +97,7 @@ sides_of line rest n e fits small is all =
     (number_free e.process process) (sym is ∙ all ∙ entry_line e) in
     (same_number n e.process small process words.0, words.1)
 
--- and each side is its own
+-- the two sides of an entry's line are the line of its command and the line of its reply
 pub each_side : (rest command reply : List ℕ) (e : Entry) → FitsEntry e → IsFree EQUALS command
     → rest ≡ command ++ codes " = " ++ reply → rest ≡ sides_text e
     → (command ≡ line_of (command_words e.command)) × (reply ≡ line_of (reply_words e.reply))
@@ -107,7 +110,7 @@ each_side rest command reply e fits free is all =
     (free_command e.command fits.command) all in
     (append_cancel_right command c (32 ∷ []) same.0, cc same.1)
 
--- the entry of a process, a command and a reply
+-- the number of a process, a command's line and a reply's line make the line of the entry of these three
 pub entry_is : (line rest command reply : List ℕ) (p : ℕ) (c : Command) (r : Reply) → FitsProcess p
     → line ≡ decimal p ++ SPACE ∷ rest → rest ≡ command ++ codes " = " ++ reply
     → FitsCommand c × (command ≡ line_of (command_words c)) → FitsReply r × (reply ≡ line_of (reply_words r))

@@ -16,14 +16,16 @@ use Rattle.smx_words.specs.Spellable.{FitsBytes}
 
 -- ---- the sixteen digits
 
--- `0` to `9`, then `a` to `f`
+-- the byte of the digit with this value: `0` to `9`, then `a` to `f`
 abbrev pub digit : ℕ → ℕ
 digit n = cond (ltb n 10) (48 + n) (87 + n)
 
+-- so many of the library's lower-case digits are these, as a test
 abbrev are_digits : ℕ → Bool
 are_digits zero = true
 are_digits (suc n) = eqb (slice_index lower_digits n) (digit n) && are_digits n
 
+-- where so many of the library's lower-case digits are these, each one of them is
 digit_below : (n k : ℕ) → are_digits n ≡ true → k < n → slice_index lower_digits k ≡ digit k
 digit_below zero k h lt = absurd (omega arith)
 digit_below (suc n) k h lt =
@@ -49,7 +51,7 @@ digit_range k lt = elim (cases_lt k 10) [
       (omega (arith, is), omega (arith, is), λ e. omega (arith, is, e), grind (arith, nat_tests))
 ]
 
--- the value of each
+-- a digit from `0` to `9` is the digit of its value
 pub of_number : (d : ℕ) → 48 ≤ d → d ≤ 57 → slice_index lower_digits (d - 48) ≡ d
 of_number d low high = let small : ltb (d - 48) 10 ≡ true = grind (arith, nat_tests) in
     digit_is (d - 48) (omega arith) ∙ (rw small (omega arith))
@@ -67,7 +69,7 @@ are_bytes [] h i = omega arith
 are_bytes (b ∷ bs) h zero = h.0
 are_bytes (b ∷ bs) h (suc i) = are_bytes bs h.1 i
 
--- a byte has two digits
+-- bytes, one or more, are encoded as two digits or more
 pub long : (b : ℕ) (bs : List ℕ) → 1 < length (encode_lower (b ∷ bs))
 unfolding encode_with
 long b bs = omega arith
@@ -89,13 +91,14 @@ encoded_digits (b ∷ bs) h =
     let z = digit_range (b % 16) low in
     rw (digit_is (b / 16) high, digit_is (b % 16) low, a.3, z.3, encoded_digits bs h.1) refl
 
--- one byte more behind others
+-- one byte more behind others is encoded as two digits more
 pub encode_push : (bs : List ℕ) (b : ℕ) → encode_lower (bs ++ b ∷ [])
     ≡ encode_lower bs ++ slice_index lower_digits (b / 16) ∷ slice_index lower_digits (b % 16) ∷ []
 unfolding encode_with
 encode_push [] b = refl
 encode_push (a ∷ bs) b = rw (encode_push bs b) refl
 
+-- bytes are encoded as twice as many digits
 encoded_long : (bs : List ℕ) → length (encode_lower bs) ≡ 2 * length bs
 unfolding encode_with
 encoded_long [] = refl
@@ -125,6 +128,7 @@ all_at [] i lt h = absurd (omega arith)
 all_at (b ∷ w) zero lt h = (and_parts (is_digit b) (list_all is_digit w) h).0
 all_at (b ∷ w) (suc i) lt h = all_at w i (omega arith) (and_parts (is_digit b) (list_all is_digit w) h).1
 
+-- the first bytes of a word with two more are those and then these two
 two_more : (w : List ℕ) (i : ℕ) → 2 * i + 1 < length w
     → take (2 * (i + 1)) w ≡ take (2 * i) w ++ get_or w (2 * i) 0 ∷ get_or w (2 * i + 1) 0 ∷ []
 two_more w i lt =
@@ -154,9 +158,11 @@ one_byte_more w bs i high low even lt h l first second so_far =
 
 -- ---- the bytes that digits spell
 
+-- the value of a digit
 abbrev digit_value : ℕ → ℕ
 digit_value d = cond (ltb d 58) (d - 48) (d - 97 + 10)
 
+-- a digit has a value below 16, and is the digit of that value
 value_back : (d : ℕ) → is_digit d ≡ true → (digit_value d < 16) × (slice_index lower_digits (digit_value d) ≡ d)
 value_back d h = elim (cases_lt d 58) [
   | inl small ↦ let low : 48 ≤ d = grind (arith, nat_tests) in
@@ -167,11 +173,13 @@ value_back d h = elim (cases_lt d 58) [
       rw is (omega arith, of_letter d low high)
 ]
 
+-- the bytes that digits spell, two digits each
 abbrev bytes_at : List ℕ → List ℕ
 bytes_at [] = []
 bytes_at (a ∷ []) = []
 bytes_at (a ∷ b ∷ w) = (digit_value a * 16 + digit_value b) ∷ bytes_at w
 
+-- digits of even length spell bytes that can be spelled, and that are encoded as these digits
 spelled_by : (w : List ℕ) (n : ℕ) → length w ≡ 2 * n → list_all is_digit w ≡ true
     → FitsBytes (bytes_at w) × (w ≡ encode_lower (bytes_at w))
 unfolding encode_with
@@ -224,7 +232,7 @@ odd_is_none w odd other bs fits e =
 pub no_dash : (w : List ℕ) → length w % 2 ≢ 1 → w ≢ codes "-"
 no_dash w even e = even (ap (λ (x : List ℕ). length x % 2) e)
 
--- a word with another byte spells none
+-- a word of even length with a byte that is no digit spells no bytes
 pub no_digits : (w : List ℕ) → length w % 2 ≢ 1 → list_all is_digit w ≡ false → (bs : List ℕ) → FitsBytes bs
     → w ≢ hex_word bs
 no_digits w even bad bs fits e = let by = by_digits w bs (no_dash w even) fits e in
@@ -235,7 +243,7 @@ pub too_bad : (w : List ℕ) (r : ℕ) → length w % 2 ≢ 1 → (list_all is_d
     → (bs : List ℕ) → FitsBytes bs → w ≢ hex_word bs
 too_bad w r even good bad bs fits e = let by = by_digits w bs (no_dash w even) fits e in omega (arith, good by.1, bad)
 
--- and the bytes that were set are a word's
+-- where the bytes that digits spell were put in front of others, that many of the first bytes are what the word spells
 pub set_are : (w new old got : List ℕ) (n : ℕ) → 0 < length w → got ≡ take n (new ++ old) → length new ≡ n
     → FitsBytes new → w ≡ encode_lower new → FitsBytes got × (w ≡ hex_word got)
 set_are w new old got n some kept long fits e =
@@ -246,7 +254,7 @@ set_are w new old got n some kept long fits e =
 pub not_empty : (w : List ℕ) (r : Bool) → r ≡ eqb (length w) 0 → r ≡ false → 0 < length w
 not_empty w r test differs = let e = sym test ∙ differs in grind (arith, nat_tests)
 
--- and one whose length was found to be 0 has none
+-- a word whose length was found to be 0 has no byte
 pub when_empty : (w : List ℕ) (r : Bool) → r ≡ eqb (length w) 0 → r ≡ true → 0 < length w → ⊥
 when_empty w r test same some = let e = sym test ∙ same in grind (arith, nat_tests)
 

@@ -43,7 +43,7 @@ line_free byte other (w ∷ v ∷ ws) h =
 
 -- ---- a line tells its words
 
--- a line is some words
+-- any bytes are the line of some words, one or more, that have no space in them
 pub words_in : (line : List ℕ) → (ws : List (List ℕ)) × AllByRecursion (IsFree SPACE) ws × (0 < length ws)
     × (line ≡ line_of ws)
 words_in [] = ([] ∷ [], (tt, tt), omega arith, refl)
@@ -61,7 +61,7 @@ words_in (b ∷ line) = let more = words_in line in by_byte (eqb b SPACE) refl m
   by_byte false e (w ∷ v ∷ ws) free some is =
       ((b ∷ w) ∷ v ∷ ws, ((λ s. no_space s e, free.0), free.1), omega arith, cc is)
 
--- and no others
+-- a line is that of one list of words that have no space in them, and of no other
 pub same_free_words : (ws vs : List (List ℕ)) → AllByRecursion (IsFree SPACE) ws
     → AllByRecursion (IsFree SPACE) vs → 0 < length ws → 0 < length vs → line_of ws ≡ line_of vs → ws ≡ vs
 same_free_words [] vs h k some more e = absurd (omega (arith, some))
@@ -74,11 +74,12 @@ same_free_words (w ∷ u ∷ ws) (v ∷ t ∷ vs) h k some more e =
     let rest = same_free_words (u ∷ ws) (t ∷ vs) h.1 k.1 (omega arith) (omega arith) one.1 in
     cc (one.0, rest)
 
+-- the line of one word or more is not empty
 some_line : (w : List ℕ) (ws : List (List ℕ)) → IsWord w → line_of (w ∷ ws) ≡ [] → ⊥
 some_line w [] h e = omega (arith, h.0, ap (length {A = ℕ}) e)
 some_line w (v ∷ ws) h e = omega (arith, h.0, ap (length {A = ℕ}) e, length-append w (SPACE ∷ line_of (v ∷ ws)))
 
--- so the same line is made of the same words
+-- lists of words that have the same line are the same
 pub same_words : (ws vs : List (List ℕ)) → AllByRecursion IsWord ws → AllByRecursion IsWord vs
     → line_of ws ≡ line_of vs → ws ≡ vs
 same_words [] [] h k e = refl

@@ -31,6 +31,7 @@ decimal_digits n fits = digits_decimal own n (omega arith)
 
 -- ---- one digit more
 
+-- first bytes of a word that are digits are so with the next one, where that is a digit
 one_more : (w : List ℕ) (i : ℕ) → i < length w → all_ascii_digits (take i w) ≡ true
     → is_ascii_digit (get_or w i 0) ≡ true → all_ascii_digits (take (suc i) w) ≡ true
 one_more [] i lt h k = absurd (omega arith)
@@ -64,11 +65,12 @@ digits_front (d ∷ v) (c ∷ w) a b h k e =
     let first : c ≡ d = cc e in
     (more.0, cc (first, more.1))
 
+-- bytes that begin with others, and are not longer, are those others
 nothing_more : (v w r : List ℕ) → w ≡ v ++ r → length w ≤ length v → v ≡ w
 nothing_more v w [] e le = sym (e ∙ append-nil v)
 nothing_more v w (d ∷ r) e le = absurd (omega (arith, ap (length {A = ℕ}) e ∙ length-append v (d ∷ r)))
 
--- all the digits that bytes begin with
+-- bytes begin with one list of digits behind which no digit stands
 pub same_digits : (v w a b : List ℕ) → all_ascii_digits v ≡ true → all_ascii_digits w ≡ true → NoDigitFirst a
     → NoDigitFirst b → v ++ a ≡ w ++ b → v ≡ w
 same_digits v w a b h k no_a no_b e =
@@ -85,7 +87,7 @@ ends w i clear = elim (cases_lt i (length w)) [
 
 -- ---- what the leading digits spell
 
--- more than any number
+-- bytes whose leading digits are worth 2^32 or more begin with no number
 pub too_large : (w : List ℕ) (i : ℕ) → all_ascii_digits (take i w) ≡ true
     → 2 ^ 32 ≤ digits_value 10 (take i w) → (n : ℕ) (after : List ℕ) → FitsNumber n → NoDigitFirst after
     → w ≢ decimal n ++ after
@@ -117,15 +119,17 @@ digits_are w i all clear n after fits nothing_more e =
     same_digits (take i w) (decimal n) (drop i w) after all (decimal_digits n fits) clear nothing_more
     (take-append-drop i w ∙ e)
 
+-- leading digits that begin wrong, one or more, are a zero before others
 is_wrong : (w : List ℕ) (i : ℕ) → 0 < i → (eqb i 0 || (eqb (get_or w 0 0) 48 && ltb 1 i)) ≡ true
     → (get_or w 0 0 ≡ 48) × (1 < i)
 is_wrong w i pos h = (grind (arith, nat_tests), grind (arith, nat_tests))
 
+-- leading digits that don't begin wrong are one or more, and one alone where the first is a zero
 is_right : (w : List ℕ) (i : ℕ) → (eqb i 0 || (eqb (get_or w 0 0) 48 && ltb 1 i)) ≡ false
     → (0 < i) × (get_or w 0 0 ≡ 48 → i ≤ 1)
 is_right w i h = (grind (arith, nat_tests), λ z. grind (arith, nat_tests))
 
--- digits that begin wrong spell no number
+-- bytes whose leading digits are none, or a zero before others, begin with no number
 pub wrong_start : (w : List ℕ) (i : ℕ) → i ≤ length w → all_ascii_digits (take i w) ≡ true
     → NoDigitFirst (drop i w) → (eqb i 0 || (eqb (get_or w 0 0) 48 && ltb 1 i)) ≡ true
     → (n : ℕ) (after : List ℕ) → FitsNumber n → NoDigitFirst after → w ≢ decimal n ++ after
@@ -139,7 +143,7 @@ wrong_start w i le all clear wrong n after fits none e =
     ap (λ (x : List ℕ). get_or x 0 0) (sym same) ∙ get_or-take i w 0 0 pos ∙ bad.0 in
     omega (arith, start.1 first, ap (length {A = ℕ}) same, long, bad.1)
 
--- and others spell theirs
+-- leading digits, one or more and without a zero before others, are the word of the number that they are worth
 pub right_start : (w : List ℕ) (i n : ℕ) → i ≤ length w → all_ascii_digits (take i w) ≡ true
     → n ≡ digits_value 10 (take i w) → n < 2 ^ 32
     → (eqb i 0 || (eqb (get_or w 0 0) 48 && ltb 1 i)) ≡ false → take i w ≡ decimal n
@@ -153,6 +157,7 @@ right_start w i n le all value small right =
 
 -- ---- numbers as words, and before a space
 
+-- digits have no space among them
 all_free : (w : List ℕ) → all_ascii_digits w ≡ true → IsFree SPACE w
 all_free [] h = tt
 all_free (b ∷ w) h = (λ e. space_is_none b w e h, all_free w (grind (arith, nat_tests))) where
@@ -163,11 +168,11 @@ all_free (b ∷ w) h = (λ e. space_is_none b w e h, all_free w (grind (arith, n
 pub number_free : (n : ℕ) → FitsNumber n → IsFree SPACE (decimal n)
 number_free n fits = all_free (decimal n) (decimal_digits n fits)
 
--- where the digits are all of a word, it is the number's
+-- where leading digits are the word of a number, and are all of a word, it is the word of that number
 pub whole : (w : List ℕ) (i n : ℕ) → take i w ≡ decimal n → i ≡ length w → w ≡ decimal n
 whole w i n front e = sym (take-length w) ∙ ap (λ (k : ℕ). take k w) (sym e) ∙ front
 
--- and where they are not, it is no number's
+-- where leading digits are the word of a number, but are not all of a word, it is no number's
 pub not_whole : (w : List ℕ) (i n : ℕ) → FitsNumber n → i ≤ length w → take i w ≡ decimal n
     → NoDigitFirst (drop i w) → i ≢ length w → (m : ℕ) → FitsNumber m → w ≢ decimal m
 not_whole w i n small le front clear part m fits e =
@@ -175,7 +180,7 @@ not_whole w i n small le front clear part m fits e =
     let same = digits_are w i all clear m [] fits tt (e ∙ sym (append-nil (decimal m))) in
     part (omega (arith, ap (length {A = ℕ}) same, ap (length {A = ℕ}) e, length-take-le i w le))
 
--- where a space follows, the number is the first word, and no other word is
+-- where a space follows a number's digits, that number begins the bytes, and no other rest stands behind one
 pub is_first : (w : List ℕ) (i n : ℕ) → FitsNumber n → i < length w → take i w ≡ decimal n → slice_index w i ≡ 32
     → FitsNumber n × (w ≡ decimal n ++ SPACE ∷ take (length w - (i + 1)) (drop (i + 1) w))
     × ((m : ℕ) (after : List ℕ) → FitsNumber m → w ≡ decimal m ++ SPACE ∷ after
@@ -191,7 +196,7 @@ is_first w i n small lt front space =
           (sym e ∙ cut)).1,
     )
 
--- where none follows, no number is
+-- where a number and a space begin some bytes, a space stands behind their leading digits
 pub not_first : (w : List ℕ) (i n : ℕ) → FitsNumber n → i ≤ length w → take i w ≡ decimal n → NoDigitFirst (drop i w)
     → (m : ℕ) (after : List ℕ) → FitsNumber m → w ≡ decimal m ++ SPACE ∷ after → (i < length w) × (slice_index w i ≡ 32)
 not_first w i n small le front clear m after fits e =

@@ -31,11 +31,11 @@ use Rattle.smx_words.proofs.NumberLemmas.{decimal_digits}
 abbrev pub IsPlainByte : ℕ → Type 0
 IsPlainByte b = (0x21 ≤ b) × (b ≤ 0x7E) × (b ≢ EQUALS)
 
--- some of them
+-- one or more bytes that can be seen, none an equals sign
 abbrev pub IsPlain : List ℕ → Type 0
 IsPlain w = (0 < length w) × AllByRecursion IsPlainByte w
 
--- where each passes a test that lets nothing else through, they are such bytes
+-- bytes that pass a test which lets no other through can be seen, and none is an equals sign
 all_plain : (test : ℕ → Bool) → ((b : ℕ) → test b ≡ true → IsPlainByte b) → (w : List ℕ) → list_all test w ≡ true
     → AllByRecursion IsPlainByte w
 all_plain test plain [] h = tt
@@ -49,6 +49,7 @@ number_plain n fits =
       plain : (b : ℕ) → is_ascii_digit b ≡ true → IsPlainByte b
       plain b h = (grind (arith, nat_tests), grind (arith, nat_tests), λ e. grind (arith, nat_tests))
 
+-- where three tests hold, the last of them does
 and_right : (a b c : Bool) → (a && (b && c)) ≡ true → c ≡ true
 and_right true true c h = h
 and_right true false c h = absurd cc
@@ -72,9 +73,11 @@ sides_plain sides.R = search rules
 sides_plain sides.W = search rules
 sides_plain sides.RW = search rules
 
+-- a digit can be seen, and is no equals sign
 digit_plain : (k : ℕ) → k < 16 → IsPlainByte (digit k)
 digit_plain k lt = let r = digit_range k lt in (omega (arith, r.0), omega (arith, r.1), r.2)
 
+-- bytes are encoded as bytes that can be seen, none an equals sign
 encoded_plain : (bs : List ℕ) → FitsBytes bs → AllByRecursion IsPlainByte (encode_lower bs)
 unfolding encode_with
 encoded_plain [] h = tt
@@ -94,6 +97,7 @@ hex_plain (b ∷ bs) fits = (omega (arith, long b bs), encoded_plain (b ∷ bs) 
 
 -- ---- commands and replies
 
+-- the words of numbers are bytes that can be seen, none an equals sign
 numbers_plain : (ns : List ℕ) → AllByRecursion FitsNumber ns → AllByRecursion IsPlain (map decimal ns)
 numbers_plain [] h = tt
 numbers_plain (n ∷ ns) h = (number_plain n h.0, numbers_plain ns h.1)
@@ -125,16 +129,16 @@ pub some_reply : (r : Reply) → 0 < length (reply_words r)
 some_reply (reply.Fault f) = (fault_plain f).0
 some_reply r = omega arith
 
--- ---- so they are words, and no equals sign stands in their lines
+-- ---- bytes that can be seen are words, and where none is an equals sign, none stands in their lines
 
 -- some bytes that can be seen, with no equals sign, are a word
 pub plain_word : (w : List ℕ) → IsPlain w → IsWord w
 plain_word w h = (h.0, all_weaker (λ b k. (k.0, k.1)) w h.1)
 
--- lists of such bytes are words
+-- lists of bytes that can be seen, with no equals sign, are words
 pub plain_words : (ws : List (List ℕ)) → AllByRecursion IsPlain ws → AllByRecursion IsWord ws
 plain_words = all_weaker plain_word
 
--- in lists of such bytes stands no equals sign
+-- in lists of bytes that can be seen, with no equals sign, none stands anywhere
 pub plain_words_free : (ws : List (List ℕ)) → AllByRecursion IsPlain ws → AllByRecursion (IsFree EQUALS) ws
 plain_words_free = all_weaker (λ w h. all_weaker (λ b k. k.2) w h.1)

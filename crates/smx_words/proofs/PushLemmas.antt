@@ -3,7 +3,7 @@ use Rattle.std.proofs.Common.{◌≡◌, ℕ, List, [], ◌∷◌, ◌++◌, Boo
 use Rattle.std.specs.Prelude.{MatchOption}
 use Rattle.smx_words.specs.LineReading.{IsReadAs, IsPushed}
 
--- what was read stands behind the others, or nothing does
+-- a value that a line was read as is pushed behind the others, and nothing is where it was read as none
 pub is_pushed : {X : Type 0} (Fits : X → Type 0) (words_of : X → List (List ℕ)) (line : List ℕ) (before after : List X)
     (read : Option X) (pushed : Bool) → IsReadAs Fits words_of line read
     → MatchOption read ((pushed ≡ false) × (after ≡ before)) (λ x. (pushed ≡ true) × (after ≡ before ++ x ∷ []))

@@ -33,10 +33,11 @@ pub record AreThen (line before rest : List ℕ) : Type 0 where
 pub at_first : (line : List ℕ) → AreThen line [] line
 at_first line = record { fit = tt; then = λ more h. h; only = λ all h. (all, refl, h) }
 
+-- the word of a number is not that of another with a space behind it
 no_space : (m n : ℕ) (after : List ℕ) → FitsNumber m → decimal n ++ SPACE ∷ after ≡ decimal m → ⊥
 no_space m n after fits_m bad = no_space_in (decimal n) after (decimal m) (number_free m fits_m) bad
 
--- one more serial before a space
+-- a serial with a space behind it, read at the rest, is one more, and what stands behind the space is the rest then
 pub one_more : (line before rest after : List ℕ) (n : ℕ) → AreThen line before rest → FitsNumber n
     → rest ≡ decimal n ++ SPACE ∷ after → AreThen line (before ++ n ∷ []) after
 one_more line before rest after n h fits is =
@@ -67,7 +68,7 @@ one_more line before rest after n h fits is =
               ((omega arith, t.0.1.1), sym words.1),
             )
 
--- the last serial, behind which no space stands
+-- where no serial with a space begins the rest, whether it is one serial tells whether the line is serials
 pub last : {E : Type 0} (line before rest : List ℕ) (r : Result (Option (List ℕ)) E) → AreThen line before rest
     → ((n : ℕ) (after : List ℕ) → FitsNumber n → rest ≢ decimal n ++ SPACE ∷ after)
     → IfOk r (λ o. MatchOption o ((n : ℕ) → FitsNumber n
@@ -92,10 +93,11 @@ pub none_left : (line before rest : List ℕ) → AreThen line before rest
     → (all : List ℕ) → FitsSerials all → line ≢ line_of (map decimal all)
 none_left line before rest h none all fits e = let o = h.only all (fits, e) in none o.0 o.2.0 o.2.1
 
--- the one serial that is left
+-- a rest that is the word of one serial is the line of some serials
 pub last_is : (rest : List ℕ) (n : ℕ) → FitsNumber n → rest ≡ decimal n → IsLineOf FitsSerials (map decimal) rest
 last_is rest n fits is = (n ∷ [], (omega arith, (fits, tt)), is)
 
+-- a rest that is no serial, and begins with none that has a space behind it, is the line of no serials
 last_is_none : (rest : List ℕ) → ((n : ℕ) (after : List ℕ) → FitsNumber n → rest ≢ decimal n ++ SPACE ∷ after)
     → ((n : ℕ) → FitsNumber n → rest ≢ decimal n)
     → (all : List ℕ) → FitsSerials all → rest ≢ line_of (map decimal all)
@@ -115,7 +117,7 @@ tells_last line before rest (Some n) r test h alone found =
 tells_last line before rest None r test h alone found =
     rw test (none_left line before rest h (last_is_none rest alone found))
 
--- a reply of dropped serials
+-- `done` and the line of some serials behind it are the line of a reply
 pub done_line : (rest : List ℕ) → IsLineOf FitsSerials (map decimal) rest
     → IsLineOf (FitsReplyIn V1) reply_words (line_of (codes "done" ∷ rest ∷ []))
 done_line rest h = by_serials h.0 h.1 h.2 where
@@ -151,7 +153,7 @@ pub last_wanted : {A E : Type 0} (line before rest : List ℕ) (r : Result A E) 
 last_wanted line before rest (Ok o) h wanted = tt
 last_wanted line before rest (Err e) h wanted = went_on line before rest h (last_is rest wanted.0 wanted.1 wanted.2)
 
--- no memory for a serial: the rest decides
+-- where memory is wanting for a serial, whether the rest is serials tells whether the line is
 pub went_bad : {E : Type 0} (line before rest : List ℕ) (r : Result (Option (List ℕ)) E) → AreThen line before rest
     → MatchResult r (λ o. (o ≡ None) × ((all : List ℕ) → FitsSerials all → rest ≢ line_of (map decimal all)))
     (λ _. IsLineOf FitsSerials (map decimal) rest)

@@ -34,10 +34,12 @@ verb_of (command.Inject d n m bs) = verb.Inject
 verb_of (command.Transmit d n) = verb.Transmit
 verb_of (command.Hangup d n) = verb.Hangup
 
+-- the words of a command begin with the word of its verb
 first_word : (c : Command) → (ws : List (List ℕ)) × (command_words c ≡ verb_word (verb_of c) ∷ ws)
 first_word command.CloseAll = (_, refl)
 first_word c = (_, refl)
 
+-- commands that have the same words have the same verb
 one_verb : (c d : Command) → command_words c ≡ command_words d → verb_of c ≡ verb_of d
 one_verb c d e =
     let f = first_word c in
@@ -58,12 +60,13 @@ verb_first c v ws more e =
 pub verb_is : (c : Command) (v : Verb) (ws : List (List ℕ)) → verb_word v ∷ ws ≡ command_words c → verb_of c ≡ v
 verb_is c v ws e = verb_first c v ws [] (e ∙ sym (append-nil (command_words c)))
 
--- what is made of two parts is told by the words of these
+-- values that are made of two parts, each told by its word, are told by these two words
 pub two : {X Y C : Type 0} {FitsX : X → Type 0} {FitsY : Y → Type 0} {word_x : X → List ℕ} {word_y : Y → List ℕ}
     → HasWord FitsX word_x → HasWord FitsY word_y → (make : X → Y → C) (a x : X) (b y : Y) → FitsX a × FitsY b
     → FitsX x × FitsY y → word_x a ∷ word_y b ∷ [] ≡ word_x x ∷ word_y y ∷ [] → make a b ≡ make x y
 two one other make a x b y h k e = cc (one.one a x h.0 k.0 (cc e), other.one b y h.1 k.1 (cc e))
 
+-- two commands of one verb that have the same words are the same
 by_verb : (c d : Command) → FitsCommand c → FitsCommand d → verb_of c ≡ verb_of d
     → command_words c ≡ command_words d → c ≡ d
 by_verb (command.OpenClone d) (command.OpenClone x) h k v e = ap command.OpenClone (cc e)

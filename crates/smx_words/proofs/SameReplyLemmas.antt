@@ -32,6 +32,7 @@ verb_at (w ∷ ws) =
     first_of_these bytes_eq reply_verb_word
     (reply_verb.Fd ∷ reply_verb.Id ∷ reply_verb.Took ∷ reply_verb.Got ∷ reply_verb.Done ∷ []) w
 
+-- no verb is found in the words of a fault
 fault_verb : (f : Fault) → verb_at (fault_words f) ≡ None
 fault_verb fault.BadDescriptor = refl
 fault_verb f = refl
@@ -41,10 +42,11 @@ pub verb_again : (r : Reply) → verb_at (reply_words r) ≡ reply_verb_of r
 verb_again (reply.Fault f) = fault_verb f
 verb_again r = refl
 
--- no fault is the end of file
+-- no fault has the words of the end of file
 no_end : (f : Fault) → fault_words f ≢ codes "eof" ∷ []
 no_end f e = let none : ◌≡◌ {A = Option Fault} (Some f) None = sym (found_fault f) ∙ ap fault_at e in absurd (cc none)
 
+-- two replies of one verb, or of none, that have the same words are the same
 by_reply_verb : (r s : Reply) → FitsReply r → FitsReply s → reply_verb_of r ≡ reply_verb_of s
     → reply_words r ≡ reply_words s → r ≡ s
 by_reply_verb (reply.Fd n m) (reply.Fd x y) h k v e = two number number reply.Fd n x m y h k (cc e)

@@ -35,19 +35,19 @@ use Rattle.smx_words.proofs.PlainLemmas.{fault_plain, plain_words}
 
 -- ---- values of few, each of which has its spelling
 
--- the first of some that is spelled so, as a test of spellings tells
+-- the first of these values that is spelled so, as a test of spellings tells
 abbrev pub first_of_these : {X S : Type 0} → (S → S → Bool) → (X → S) → List X → S → Option X
 first_of_these same spelling [] s = None
 first_of_these same spelling (x ∷ xs) s = cond (same s (spelling x)) (Some x) (first_of_these same spelling xs s)
 
--- where each is found by its spelling, no two are spelled alike
+-- where each of few values is found by its spelling, no two are spelled alike
 pub told : {X S : Type 0} (same : S → S → Bool) (spelling : X → S) (all : List X)
     → ((x : X) → first_of_these same spelling all (spelling x) ≡ Some x) → (x y : X)
     → spelling x ≡ spelling y → x ≡ y
 told same spelling all found x y e =
     let both : Some x ≡ Some y = sym (found x) ∙ ap (first_of_these same spelling all) e ∙ found y in cc both
 
--- and whether one is spelled so is told
+-- where each of few values is found by its spelling, whether one of them is spelled so is told
 pub few : {X S : Type 0} (same : S → S → Bool) → ((s t : S) → Decides (same s t) (s ≡ t)) → (spelling : X → S)
     (all : List X) → ((x : X) → first_of_these same spelling all (spelling x) ≡ Some x)
     → (s : S) → Answer FitsAlways spelling s
@@ -67,11 +67,11 @@ few {X} same tells spelling all found s = by_first (first_of_these same spelling
   by_first None e = inr (λ x fits is.
       let bad : None ≡ Some x = sym e ∙ ap (first_of_these same spelling all) is ∙ found x in absurd (cc bad))
 
--- it is found by its word
+-- a value is found among these by what spells it, which is a word
 abbrev IsTold : {X : Type 0} → (X → List ℕ) → List X → X → Type 0
 IsTold word all x = (first_of_these bytes_eq word all (word x) ≡ Some x) × IsWord (word x)
 
--- values of few that have a word each
+-- few values, each found by its word, have a word each of their own, and whether a word is one of theirs is told
 word_of_few : {X : Type 0} (word : X → List ℕ) (all : List X) → ((x : X) → IsTold word all x) → HasWord FitsAlways word
 word_of_few word all found = record {
   answer = few bytes_eq bytes_eq-Decides word all (λ x. (found x).0);
@@ -79,45 +79,47 @@ word_of_few word all found = record {
   is_word = λ x h. (found x).1;
 }
 
--- the two kinds of drivers
+-- each of the two kinds of drivers has a word of its own, and whether a word is one of theirs is told
 pub driver_kind : HasWord FitsAlways kind_word
 driver_kind = word_of_few kind_word (kind.Leaf ∷ kind.Mux ∷ []) found where
   found : (k : DriverKind) → IsTold kind_word (kind.Leaf ∷ kind.Mux ∷ []) k
   found kind.Leaf = search rules
   found kind.Mux = search rules
 
--- the two kinds of links
+-- each of the two kinds of links has a word of its own, and whether a word is one of theirs is told
 pub link_kind : HasWord FitsAlways link_kind_word
 link_kind = word_of_few link_kind_word (link.Ordinary ∷ link.Persistent ∷ []) found where
   found : (k : LinkKind) → IsTold link_kind_word (link.Ordinary ∷ link.Persistent ∷ []) k
   found link.Ordinary = search rules
   found link.Persistent = search rules
 
--- the two sides of a stream
+-- each of the two sides of a stream has a word of its own, and whether a word is one of theirs is told
 pub stream_side : HasWord FitsAlways side_word
 stream_side = word_of_few side_word (side.Write ∷ side.Read ∷ []) found where
   found : (s : Side) → IsTold side_word (side.Write ∷ side.Read ∷ []) s
   found side.Write = search rules
   found side.Read = search rules
 
--- the choices of a flush
+-- each choice of a flush has a word of its own, and whether a word is one of theirs is told
 pub flush_sides : HasWord FitsAlways sides_word
 flush_sides = word_of_few sides_word (sides.R ∷ sides.W ∷ sides.RW ∷ []) found where
   found : (s : Sides) → IsTold sides_word (sides.R ∷ sides.W ∷ sides.RW ∷ []) s
   found sides.R = search rules
   found s = search rules
 
+-- all verbs
 abbrev all_verb : List Verb
 all_verb =
     verb.Clone ∷ verb.Open ∷ verb.Dup ∷ verb.Close ∷ verb.Exit ∷ verb.Link ∷ verb.Plink ∷ verb.Unlink
     ∷ verb.Punlink ∷ verb.Bind ∷ verb.Unbind ∷ verb.Route ∷ verb.Unroute ∷ verb.Write ∷ verb.Read
     ∷ verb.Flush ∷ verb.Inject ∷ verb.Transmit ∷ verb.Hangup ∷ []
 
+-- each verb is found by its word
 found_verb : (v : Verb) → first_of_these bytes_eq verb_word all_verb (verb_word v) ≡ Some v
 found_verb verb.Clone = refl
 found_verb v = refl
 
--- no two commands begin with one word
+-- no two verbs have one word
 pub same_verb : (x y : Verb) → verb_word x ≡ verb_word y → x ≡ y
 same_verb = told bytes_eq verb_word all_verb found_verb
 
@@ -133,12 +135,12 @@ all_fault =
 abbrev pub fault_at : List (List ℕ) → Option Fault
 fault_at = first_of_these (pointwise bytes_eq) fault_words all_fault
 
--- is that which they spell
+-- the fault that is found by a fault's words is that fault
 pub found_fault : (f : Fault) → fault_at (fault_words f) ≡ Some f
 found_fault fault.BadDescriptor = refl
 found_fault f = refl
 
--- so each has words of its own, and whether words are those of one is told
+-- each fault has words of its own, and whether words are a fault's is told
 pub every_fault : HasWords FitsAlways fault_words
 every_fault = record {
   answer = few (pointwise bytes_eq) (pointwise_decides bytes_eq-Decides) fault_words all_fault found_fault;

@@ -50,7 +50,7 @@ command_fits v e fits = (fits.0.command, (can_tell_each v (is_hangup e.command) 
 pub reply_fits : (v : Version) (e : Entry) → FitsEntryIn v e → FitsReplyIn v e.reply
 reply_fits v e fits = (fits.0.reply, (can_tell_each v (is_hangup e.command) (tells_of_hangup e.reply) fits.1).1)
 
--- the entry of a process, a command and a reply
+-- a process, and the lines of a command and a reply that can be told, make the line of an entry that can be told
 pub told_entry_is : (v : Version) (line rest command reply : List ℕ) (p : ℕ) (c : Command) (r : Reply) → FitsProcess p
     → line ≡ decimal p ++ SPACE ∷ rest → rest ≡ command ++ codes " = " ++ reply
     → FitsCommandIn v c × (command ≡ line_of (command_words c)) → FitsReplyIn v r × (reply ≡ line_of (reply_words r))
@@ -76,6 +76,7 @@ told_entry_spelled v line rest command reply p process is sides c r =
 
 -- ---- whether a line is a told command's or entry's is decided
 
+-- whether a version can tell something is decided
 can_tell_or : (v : Version) (hangup : Bool) → Dec (CanTell v hangup)
 can_tell_or V1 true = no (λ e. cc e)
 can_tell_or V1 false = yes refl

@@ -20,7 +20,7 @@ pub reply_verb_free : (v : ReplyVerb) → FitsAlways v → IsFree SPACE (reply_v
 reply_verb_free reply_verb.Fd fits = search rules
 reply_verb_free v fits = search rules
 
--- the name before the first space, and no other
+-- a name before the first space begins the bytes, and no other rest stands behind a name and a space
 pub first_name_is : (text word rest called : List ℕ) → IsFree SPACE word → text ≡ word ++ SPACE ∷ rest
     → FitsName called → word ≡ called
     → FitsName called × (text ≡ called ++ SPACE ∷ rest)

@@ -20,6 +20,7 @@ use Rattle.smx_words.proofs.SameCommandLemmas.{verb_is, verb_of}
 
 -- ---- numbers
 
+-- `7` is the word of 7
 pub seven_is : codes "7" ≡ decimal 7
 unfolding digits
 seven_is = refl
@@ -28,37 +29,44 @@ seven_is = refl
 worth : (w : List ℕ) (n : ℕ) → FitsNumber n → w ≡ decimal n → digits_value 10 w ≡ n
 worth w n fits e = ap (digits_value 10) e ∙ digits_value-decimal own n (omega (arith, fits))
 
+-- `7` is not the word of 8
 pub not_eight : codes "7" ≢ decimal 8
 not_eight e = let is : 7 ≡ 8 = worth (codes "7") 8 (omega arith) e in omega (arith, is)
 
+-- `8` is not the word of 7
 pub not_seven : codes "8" ≢ decimal 7
 not_seven e = let is : 8 ≡ 7 = worth (codes "8") 7 (omega arith) e in omega (arith, is)
 
+-- `07` is the word of no number
 pub leading_zero : (n : ℕ) → FitsNumber n → codes "07" ≢ decimal n
 leading_zero n fits e =
     let value : 7 ≡ n = worth (codes "07") n fits e in
     let one = e ∙ ap decimal (sym value) ∙ decimal_digit 7 (omega arith) in
     absurd (cc one)
 
+-- `4294967296` is the word of no number of 32 bits
 pub too_large : (n : ℕ) → FitsNumber n → codes "4294967296" ≢ decimal n
 too_large n fits e = let is : 4294967296 ≡ n = worth (codes "4294967296") n fits e in omega (arith, is, fits)
 
 -- ---- bytes that begin with a number
 
+-- `7 x y` is the word of 7, a space, and `x y`
 pub seven_and_more_is : codes "7 x y" ≡ decimal 7 ++ SPACE ∷ codes "x y"
 unfolding digits
 seven_and_more_is = refl
 
--- no other number begins them
+-- `7 x y` begins with no number but 7
 pub only_seven : (n : ℕ) (after : List ℕ) → FitsNumber n → codes "7 x y" ≡ decimal n ++ SPACE ∷ after
     → (decimal n ≡ decimal 7) × (after ≡ codes "x y")
 only_seven n after fits e =
     apart SPACE (decimal n) (decimal 7) after (codes "x y") (number_free n fits) (number_free 7 (omega arith))
     (sym e ∙ seven_and_more_is)
 
+-- `7` begins with no number that has a space behind it
 pub no_space : (n : ℕ) (after : List ℕ) → codes "7" ≢ decimal n ++ SPACE ∷ after
 no_space n after e = free_whole SPACE (codes "7") 1 (omega arith) (search (rules, arith)) (decimal n) after e
 
+-- `4294967296 x` begins with no number of 32 bits
 pub begins_too_large : (n : ℕ) (after : List ℕ) → FitsNumber n → codes "4294967296 x" ≢ decimal n ++ SPACE ∷ after
 begins_too_large n after fits e =
     too_large n fits (sym (apart SPACE (decimal n) (codes "4294967296") after (codes "x") (number_free n fits)
@@ -66,34 +74,39 @@ begins_too_large n after fits e =
 
 -- ---- lines of a process
 
--- the word behind the first one
+-- where `process` and a word are the line of a process, the word is that of its number
 pub number_of : (w : List ℕ) (n : ℕ) → line_of (codes "process" ∷ w ∷ []) ≡ line_of (process_words n) → w ≡ decimal n
 number_of w n e = cc e
 
+-- `process 7` is the line with which process 7 begins
 pub process_is : codes "process 7" ≡ line_of (process_words 7)
 unfolding digits
 process_is = refl
 
 -- ---- lines of a command
 
+-- words that have the line of a command are the words of that command
 told : (ws : List (List ℕ)) (c : Command) → AreWords ws → FitsCommand c → line_of ws ≡ line_of (command_words c)
     → ws ≡ command_words c
 told ws c are fits e = same_words ws (command_words c) are.0 (command_spelled c fits).0 e
 
+-- `dup 0` is the line of a command that version 1 can tell
 pub dup_line : IsCommandLine V1 (codes "dup 0")
 unfolding digits
 dup_line = (command.Dup 0, search (rules, arith), refl)
 
+-- `hangup ip 0` is the line of a command that version 2 can tell
 pub hangup_line : IsCommandLine V2 (codes "hangup ip 0")
 unfolding digits
 hangup_line = (command.Hangup (codes "ip") 0, search (rules, arith), refl)
 
+-- no `dup` has the words `dup 4294967296`
 large_dup : (c : Command) → FitsCommand c → verb_of c ≡ verb.Dup
     → codes "dup" ∷ codes "4294967296" ∷ [] ≢ command_words c
 large_dup (command.Dup n) fits v e = too_large n fits (cc e)
 large_dup c fits v e = absurd (cc v)
 
--- a number of 33 bits is none
+-- `dup 4294967296`, whose number has 33 bits, is the line of no command
 pub no_large_dup : IsCommandLine V2 (codes "dup 4294967296") → ⊥
 no_large_dup (c, fits, e) =
     let same = told (codes "dup" ∷ codes "4294967296" ∷ []) c (search (rules, arith)) fits.0 e in

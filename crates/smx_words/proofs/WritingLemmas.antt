@@ -12,19 +12,19 @@ use Rattle.smx_words.specs.Words.{LINE_FEED, line_of, text_of}
 use Rattle.smx_words.proofs.HexLemmas.{encode_push}
 use Rattle.smx_words.proofs.LineLemmas.{all_append}
 
--- a word and then numbers
+-- the line of a word and numbers is that word, and then a space and the digits of each number
 pub numbers_line : (w : List ℕ) (ns : List ℕ) → line_of (w ∷ map decimal ns) ≡ w ++ flat_map (λ n. 32 ∷ decimal n) ns
 numbers_line w [] = sym (append-nil w)
 numbers_line w (n ∷ ns) = ap (λ (l : List ℕ). w ++ 32 ∷ l) (numbers_line (decimal n) ns)
 
 -- ---- what a loop has written, with one more
 
--- the pieces of some, and that of one more
+-- the pieces of some values with one more are those of the values and then that of the one more
 pieces : {X : Type 0} (f : X → List ℕ) (xs : List X) (x : X) → flat_map f (xs ++ x ∷ []) ≡ flat_map f xs ++ f x
 pieces f xs x = flat_map-append f xs (x ∷ [])
     ∙ ap (λ (l : List ℕ). flat_map f xs ++ l) (flat_map-cons f x [] ∙ append-nil (f x))
 
--- the lines of some, and that of one more
+-- the lines of some values with one more are those of the values and then that of the one more
 pub lines_more : {X : Type 0} (words : X → List (List ℕ)) (xs : List X) (i : ℕ) (x : X) (new old start : List ℕ)
     → take (i + 1) xs ≡ take i xs ++ x ∷ [] → new ≡ old ++ line_of (words x) ++ LINE_FEED ∷ []
     → old ≡ start ++ text_of (map words (take i xs)) → new ≡ start ++ text_of (map words (take (i + 1) xs))
@@ -37,7 +37,7 @@ lines_more {X} words xs i x new old start one line before =
     ∙ sym (append_assoc (text_of (map words (take i xs))) (line_of (words x)) (LINE_FEED ∷ [])) in
     line ∙ ap (λ (l : List ℕ). l ++ line_of (words x) ++ LINE_FEED ∷ []) before ∙ simp (text, append_assoc)
 
--- what holds of some and of one more holds of all of them
+-- what holds of the first elements of a list and of the next one holds of all of these
 pub all_more : {X : Type 0} (P : X → Type 0) (xs : List X) (i : ℕ) (x : X) → take (i + 1) xs ≡ take i xs ++ x ∷ []
     → P x → AllByRecursion P (take i xs) → AllByRecursion P (take (i + 1) xs)
 all_more P xs i x one holds before = rw one (all_append P (take i xs) (x ∷ []) before (holds, tt))
@@ -48,7 +48,7 @@ all_more P xs i x one holds before = rw one (all_append P (take i xs) (x ∷ [])
 pub decimal_one : (n : ℕ) → n < 10 → decimal n ≡ (48 + n % 10) ∷ []
 decimal_one n most = decimal_digit n most ∙ ap (λ (d : ℕ). (48 + d) ∷ []) (omega arith)
 
--- the last digit behind the others
+-- the digits of a number from 10 on are those of a tenth of it, and then its last digit
 one_more : (n : ℕ) (ds : List ℕ) → 10 ≤ n → n < 2 ^ 32 → decimal (n / 10) ≡ ds → decimal n ≡ ds ++ (48 + n % 10) ∷ []
 one_more n ds least most before = decimal_step n least (omega arith)
     ∙ ap (λ (l : List ℕ). l ++ (48 + n % 10) ∷ []) before

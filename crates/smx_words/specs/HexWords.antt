@@ -19,8 +19,7 @@ pub record IsValueOf (byte v : ℕ) : Type 0 where
   pub digit : is_digit byte ≡ true → v < 16
   pub range : v ≤ 16
 
--- where the worst value is below 16 the word spells these, which are bytes; and it is below 16 where all of the word
--- are digits
+-- where the worst value is below 16, the word spells these bytes; and it is below 16 where the word is digits alone
 pub record AreSet (word bytes : List ℕ) (worst : ℕ) : Type 0 where
   pub spelled : worst < 16 → word ≡ encode_lower bytes
   pub digits : list_all is_digit word ≡ true → worst < 16

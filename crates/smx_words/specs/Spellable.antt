@@ -38,7 +38,7 @@ FitsBytes bytes = AllByRecursion (λ b. b < 256) bytes
 abbrev pub FitsProcess : ℕ → Type 0
 FitsProcess process = process < MAX_PROCESSES
 
--- each value of a few that have a word each
+-- any value of a kind with a few values, each of which has a word
 abbrev pub FitsAlways : {X : Type 0} → X → Type 0
 FitsAlways x = Unit {0}
 
@@ -51,7 +51,7 @@ FitsWhich which.All = Unit {0}
 abbrev pub FitsNext : ℕ × ℕ → Type 0
 FitsNext next = FitsNumber next.0 × FitsNumber next.1
 
--- its name and its numbers can be spelled
+-- a driver's name and numbers can be spelled
 pub record FitsDriver (d : DriverSpec) : Type 0 where
   pub name : FitsName d.name
   pub minors : FitsNumber d.minors
@@ -59,7 +59,7 @@ pub record FitsDriver (d : DriverSpec) : Type 0 where
   pub low : FitsNumber d.low
   pub max : FitsNumber d.max
 
--- its names, numbers and bytes can be spelled
+-- a command's names, numbers and bytes can be spelled
 abbrev pub FitsCommand : Command → Type 0
 FitsCommand (command.OpenClone driver) = FitsName driver
 FitsCommand (command.OpenMinor driver minor) = FitsName driver × FitsNumber minor
@@ -82,11 +82,11 @@ FitsCommand (command.Inject driver minor addr bytes) =
 FitsCommand (command.Transmit driver minor) = FitsName driver × FitsNumber minor
 FitsCommand (command.Hangup driver minor) = FitsName driver × FitsNumber minor
 
--- serials of which there is one or more
+-- serials of which there are one or more, each a number
 abbrev pub FitsSerials : List ℕ → Type 0
 FitsSerials serials = (0 < length serials) × AllByRecursion FitsNumber serials
 
--- its numbers and bytes can be spelled
+-- a reply's numbers and bytes can be spelled
 abbrev pub FitsReply : Reply → Type 0
 FitsReply (reply.Fd fd minor) = FitsNumber fd × FitsNumber minor
 FitsReply (reply.Id id) = FitsNumber id
@@ -96,16 +96,16 @@ FitsReply (reply.Done dropped) = AllByRecursion FitsNumber dropped
 FitsReply reply.Eof = Unit {0}
 FitsReply (reply.Fault f) = Unit {0}
 
--- a version can tell it: what tells of a hangup is of the second one alone
+-- a version can tell something: what tells of a hangup is of version 2 alone
 abbrev pub CanTell : Version → Bool → Type 0
 CanTell V1 hangup = hangup ≡ false
 CanTell V2 hangup = Unit {0}
 
--- it can be spelled, and told in this version
+-- a command can be spelled, and told in this version
 abbrev pub FitsCommandIn : Version → Command → Type 0
 FitsCommandIn version c = FitsCommand c × CanTell version (is_hangup c)
 
--- the same of a reply
+-- a reply can be spelled, and told in this version
 abbrev pub FitsReplyIn : Version → Reply → Type 0
 FitsReplyIn version r = FitsReply r × CanTell version (tells_of_hangup r)
 
@@ -115,7 +115,7 @@ pub record FitsEntry (e : Entry) : Type 0 where
   pub command : FitsCommand e.command
   pub reply : FitsReply e.reply
 
--- the same, and both can be told in this version
+-- an entry can be spelled, and its command and its reply can be told in this version
 abbrev pub FitsEntryIn : Version → Entry → Type 0
 FitsEntryIn version e = FitsEntry e × CanTell version (is_of_hangup e)
 

@@ -54,7 +54,7 @@ abbrev pub link_kind_word : LinkKind → List ℕ
 link_kind_word link.Ordinary = codes "link"
 link_kind_word link.Persistent = codes "plink"
 
--- its name and kind, its minors, its high and its low water mark, and its longest message
+-- a driver: its name and kind, its minors, its high and its low water mark, and its longest message
 abbrev pub driver_words : DriverSpec → List (List ℕ)
 driver_words d =
     codes "driver" ∷ d.name ∷ kind_word d.kind ∷ decimal d.minors ∷ decimal d.high ∷ decimal

@@ -14,7 +14,7 @@ EQUALS = 61
 abbrev pub LINE_FEED : ℕ
 LINE_FEED = 10
 
--- some bytes, each of which can be seen
+-- one or more bytes, each of which can be seen
 abbrev pub IsWord : List ℕ → Type 0
 IsWord w = (0 < length w) × AllByRecursion (λ b. (0x21 ≤ b) × (b ≤ 0x7E)) w
 
@@ -22,7 +22,7 @@ IsWord w = (0 < length w) × AllByRecursion (λ b. (0x21 ≤ b) × (b ≤ 0x7E))
 abbrev pub AreWords : List (List ℕ) → Type 0
 AreWords words = AllByRecursion IsWord words × (0 < length words)
 
--- a byte that stands nowhere in these
+-- this byte stands nowhere in these bytes
 abbrev pub IsFree : ℕ → List ℕ → Type 0
 IsFree byte bytes = AllByRecursion (λ b. b ≢ byte) bytes
 
