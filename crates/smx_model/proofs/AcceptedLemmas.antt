@@ -34,7 +34,7 @@ use Rattle.smx_model.specs.Removal.{without_queues_at, without_links}
 use Rattle.smx_model.specs.Standing.{is_below}
 use Rattle.smx_model.proofs.OutcomeLemmas.{IfAccepted, at_ok, after_ok, after_test, after_some, after_choice}
 
--- a message more, under the next serial
+-- the configuration with one more message at a place, under the next serial
 abbrev pub taken : List DriverSpec → Configuration → Place → ℕ → List ℕ → Configuration
 taken drivers c p addr bytes =
     record (after_arrival drivers c p (record { serial = c.next_serial; addr = addr; bytes = bytes })) {

@@ -26,6 +26,7 @@ use Rattle.smx_model.proofs.SettledLemmas.{after_found, after_refusal, settled_a
 use Rattle.smx_model.proofs.SweptLemmas.{swept_accepted}
 use Rattle.smx_model.proofs.TestLemmas.{all_filter}
 
+-- the stream that a binding is of
 abbrev stream : Binding → StreamId
 stream b = record { driver = b.driver; minor = b.minor }
 
@@ -35,6 +36,7 @@ stream b = record { driver = b.driver; minor = b.minor }
 record LosesBindings (c d : Configuration) (goes : Binding → Bool) : Type 0 where
   each : (b : Binding) → Contains c.binds b → Contains d.binds b ↔ (not (goes b) ≡ true)
 
+-- where a command that is done takes nothing but bindings from a swept configuration, just those are left that don't go
 loosed_fewer : (drivers : List DriverSpec) (c : Configuration) (goes : Binding → Bool) → IsSwept drivers c
     → LosesBindings c (after_outcome drivers c
     (done_outcome drivers c (record c { binds = filter (λ b. not (goes b)) c.binds }))).0 goes
@@ -70,41 +72,49 @@ unbind_looses drivers c process fd s h e = all_in _ c.binds left.each where
 record KeepsBindings (drivers : List DriverSpec) (c d : Configuration) : Type 0 where
   each : (b : Binding) → Contains c.binds b → exists drivers d (stream b) ≡ true → Contains d.binds b
 
+-- where the bindings are as they were, the old ones of streams that exist are left
 bound_same : (drivers : List DriverSpec) (c d : Configuration) → d.binds ≡ c.binds → KeepsBindings drivers c d
 bound_same drivers c d e = record { each = λ b h t. subst (λ (bs : List Binding). Contains bs b) (sym e) h }
 
+-- where no binding goes before the sweep, the old ones of streams that exist are left after it
 bound_done : (drivers : List DriverSpec) (c d : Configuration)
     → ((b : Binding) → Contains c.binds b → Contains d.binds b)
     → IfAccepted (λ d r. KeepsBindings drivers c d) (done_outcome drivers c d)
 bound_done drivers c d f = record { holds = record { each = λ b h t. in_filtered _ d.binds b (f b h) t } }
 
+-- where the bindings are as they were before the sweep, the old ones of streams that exist are left after it
 bound_like : (drivers : List DriverSpec) (c d : Configuration) → d.binds ≡ c.binds
     → IfAccepted (λ d r. KeepsBindings drivers c d) (done_outcome drivers c d)
 bound_like drivers c d e = bound_done drivers c d (λ b h. subst (λ (bs : List Binding). Contains bs b) (sym e) h)
 
+-- where one more binding is made before the sweep, the old ones of streams that exist are left after it
 bound_bind : (drivers : List DriverSpec) (c : Configuration) (x : Binding)
     → IfAccepted (λ d r. KeepsBindings drivers c d)
     (done_outcome drivers c (record c { binds = with_inserted bind_before c.binds x }))
 bound_bind drivers c x = bound_done drivers c (record c { binds = with_inserted bind_before c.binds x })
     (λ b h. in_placed bind_before c.binds b x h)
 
+-- an accepted command that is no unbind leaves the old bindings of streams that exist
 bound_accepted : (drivers : List DriverSpec) (c : Configuration) (process : ℕ) (k : Command)
     → ((fd : ℕ) → k ≡ command.Unbind fd → ⊥)
     → IfAccepted (λ d r. KeepsBindings drivers c d) (outcome drivers c process k)
 bound_accepted drivers c process k never =
     search (of_rows, bound_same, bound_bind, bound_like, at_none, never, rules) depth 24
 
--- and no others
+-- no old bindings of streams that don't exist are left
 
--- those are left, and no other old ones
+-- of the old bindings just those are left whose streams exist
 record JustBound (drivers : List DriverSpec) (c d : Configuration) : Type 0 where
   each : (b : Binding) → Contains c.binds b → Contains d.binds b ↔ (exists drivers d (stream b) ≡ true)
 
+-- where of the old bindings just those are left whose streams exist, moves change nothing in that
 just_settled : (drivers : List DriverSpec) (c : Configuration) (n : ℕ) (d : Configuration) → JustBound drivers c d
     → JustBound drivers c (after_settling_within drivers n d)
 just_settled drivers c n d h =
     let s = settled_alone drivers n d in record { each = λ b k. rw (s.binds, s.links, s.fds) (h.each b k) }
 
+-- of a swept configuration's bindings a command leaves just those whose streams exist, if what it is accepted with is
+-- swept and has these
 just_finished : (drivers : List DriverSpec) (c : Configuration) (o : Outcome) → IsSwept drivers c
     → IfAccepted (λ d r. IsSwept drivers d) o → IfAccepted (λ d r. KeepsBindings drivers c d) o
     → JustBound drivers c (after_outcome drivers c o).0

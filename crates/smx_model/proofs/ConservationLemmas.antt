@@ -28,18 +28,21 @@ use Rattle.smx_model.proofs.OutcomeLemmas.{IfAccepted}
 
 -- serials of a flow
 
+-- with one more message in the flow its serial is there once more, and each other one as often as before
 serials_placed : (n : ℕ) (hs : List QueuedMessage) (h : QueuedMessage)
     → times n (serials (with_inserted queued_before hs h)) ≡ cond (eqb h.message.serial n) 1 0 + times n (serials hs)
 serials_placed n [] h = refl
 serials_placed n (k ∷ hs) h =
     elim (cases_Bool (queued_before h k)) [ inl t ↦ rw t refl | inr f ↦ rw f (omega (arith, serials_placed n hs h)) ]
 
+-- a filtered flow has no serial more often than the flow
 serials_filter : (n : ℕ) (test : QueuedMessage → Bool) (hs : List QueuedMessage)
     → times n (serials (filter test hs)) ≤ times n (serials hs)
 serials_filter n test [] = omega arith
 serials_filter n test (h ∷ hs) = elim (cases_Bool (test h))
     [ inl t ↦ rw t (omega (arith, serials_filter n test hs)) | inr f ↦ rw f (omega (arith, serials_filter n test hs)) ]
 
+-- without the first message of a place its serial is in the flow once less, and each other one as often as before
 serials_front : (n : ℕ) (hs : List QueuedMessage) (p : Place) (m : Message) → first_message hs p ≡ Some m
     → times n (serials hs) ≡ cond (eqb m.serial n) 1 0 + times n (serials (without_first (is_at p) hs))
 serials_front n [] p m e = cc
@@ -62,17 +65,22 @@ pub record IsNumbered (c : Configuration) : Type 0 where
   pub once : (n : ℕ) → times n (serials c.flow) ≤ 1
   pub below : (n : ℕ) → c.next_serial ≤ n → times n (serials c.flow) ≡ 0
 
+-- no serial is queued more often than before
 record IsFewer (c d : Configuration) : Type 0 where
   each : (n : ℕ) → times n (serials d.flow) ≤ times n (serials c.flow)
 
+-- a flow that is filtered twice has no serial more often than the flow
 two_filters : (n : ℕ) (f g : QueuedMessage → Bool) (hs : List QueuedMessage)
     → times n (serials (filter g (filter f hs))) ≤ times n (serials hs)
 two_filters n f g hs = omega (arith, serials_filter n g (filter f hs), serials_filter n f hs)
 
+-- a sweep leaves no serial more often in the flow
 fewer_swept : (n : ℕ) (drivers : List DriverSpec) (c : Configuration)
     → times n (serials (after_sweep drivers c).flow) ≤ times n (serials c.flow)
 fewer_swept n drivers c = two_filters n _ _ c.flow
 
+-- a command that is done loses and doubles no message, where each queued one has a serial of its own, no serial is
+-- queued more often before the sweep, and the next serial is as it was
 goes_done : (drivers : List DriverSpec) (c d : Configuration) → IsNumbered c → d.next_serial ≡ c.next_serial
     → IsFewer c d → IfAccepted (Goes c) (done_outcome drivers c d)
 goes_done drivers c d h same fewer = record {
@@ -88,6 +96,7 @@ goes_done drivers c d h same fewer = record {
   };
 }
 
+-- where the flow and the next serial are as they were, and the reply names no message, none is lost or doubled
 goes_still : (c d : Configuration) (r : Reply) → d.flow ≡ c.flow → d.next_serial ≡ c.next_serial → taken_by r ≡ []
     → delivered_by r ≡ [] → dropped_by r ≡ [] → Goes c d r
 goes_still c d r e same none given gone = record {
@@ -96,6 +105,7 @@ goes_still c d r e same none given gone = record {
   next = rw none (omega (arith, same));
 }
 
+-- where a message is taken in under the next serial, none is lost or doubled
 goes_took : (drivers : List DriverSpec) (c : Configuration) (p : Place) (addr : ℕ) (bytes : List ℕ)
     → Goes c (taken drivers c p addr bytes) (reply.Took c.next_serial)
 goes_took drivers c p addr bytes = record {
@@ -109,6 +119,7 @@ goes_took drivers c p addr bytes = record {
   next = refl;
 }
 
+-- where the first message of a place is delivered, none is lost or doubled
 goes_got : (drivers : List DriverSpec) (c : Configuration) (p : Place) (m : Message) → first_message c.flow p ≡ Some m
     → Goes c (after_leaving drivers c p) (reply.Got m.serial m.addr m.bytes)
 goes_got drivers c p m e =
@@ -137,10 +148,12 @@ pub moved_next : (drivers : List DriverSpec) (c : Configuration) (p : Place)
     → (after_move drivers c p).next_serial ≡ c.next_serial
 moved_next drivers c p = moved_by (λ d. d.next_serial ≡ c.next_serial) drivers c p refl (λ q m e. refl)
 
+-- the same serials are queued, each as often, and the next serial is as it was
 record KeepsSerials (c d : Configuration) : Type 0 where
   same : (n : ℕ) → times n (serials d.flow) ≡ times n (serials c.flow)
   next : d.next_serial ≡ c.next_serial
 
+-- any number of moves leave the same serials in the flow, each as often, and the next serial as it is
 settled_keeps : (drivers : List DriverSpec) (n : ℕ) (c : Configuration)
     → KeepsSerials c (after_settling_within drivers n c)
 settled_keeps drivers n c = settled_by (KeepsSerials c) drivers n c (record {
@@ -150,6 +163,7 @@ settled_keeps drivers n c = settled_by (KeepsSerials c) drivers n c (record {
 
 -- a step
 
+-- a command loses and doubles no message, if none is lost or doubled in what it is accepted with
 goes_finished : (drivers : List DriverSpec) (c : Configuration) (o : Outcome) → IfAccepted (Goes c) o
     → Goes c (after_outcome drivers c o).0 (after_outcome drivers c o).1
 goes_finished drivers c (Ok x) k = let s = settled_keeps drivers _ x.0 in record {
@@ -165,17 +179,19 @@ pub goes_step : (drivers : List DriverSpec) (c : Configuration) (process : ℕ) 
 goes_step drivers c process k h =
     goes_finished drivers c (outcome drivers c process k) (goes_accepted drivers c process k h)
 
--- a number among those from a on
+-- a number below a is none of the numbers from a on
 times_range_below : (n a k : ℕ) → n < a → times n (range_with_len a k) ≡ 0
 times_range_below n a zero lt = refl
 times_range_below n a (suc k) lt =
     rw (ne_eqb a n (λ e. omega (arith, e))) (omega (arith, times_range_below n (a + 1) k (omega arith)))
 
+-- a number from a + k on is none of the k numbers from a on
 times_range_above : (n a k : ℕ) → a + k ≤ n → times n (range_with_len a k) ≡ 0
 times_range_above n a zero le = refl
 times_range_above n a (suc k) le =
     rw (ne_eqb a n (λ e. omega (arith, e))) (omega (arith, times_range_above n (a + 1) k (omega arith)))
 
+-- no number is there twice among the k numbers from a on
 times_range_once : (n a k : ℕ) → times n (range_with_len a k) ≤ 1
 times_range_once n a zero = omega arith
 times_range_once n a (suc k) = elim (cases_eq a n) [
@@ -206,6 +222,7 @@ numbered_goes c d r h g = record { once = at_most; below = λ n le. none n le } 
     | inr le ↦ omega (arith, g.balance n, count n, times_range_once n c.next_serial (length (taken_by r)), h.below n le)
   ]
 
+-- the k numbers from a on, and then the m numbers from a + k on, are the k + m numbers from a on
 range_join : (a k m : ℕ) → range_with_len a k ++ range_with_len (a + k) m ≡ range_with_len a (k + m)
 range_join a zero m = let e : a + 0 ≡ a = omega arith in let f : m ≡ 0 + m = omega arith in
     ap (λ (x : ℕ). range_with_len x m) e ∙ ap (range_with_len a) f
@@ -215,11 +232,14 @@ range_join a (suc k) m =
     ap (λ (xs : List ℕ). a ∷ xs) (ap (λ (x : ℕ). range_with_len (a + 1) k ++ range_with_len x m) e
     ∙ range_join (a + 1) k m) ∙ ap (range_with_len a) f
 
+-- over these entries each message that was taken in or queued is delivered, dropped or queued, and serials are taken
+-- from the next one on
 record Ends (drivers : List DriverSpec) (c : Configuration) (es : List Entry) : Type 0 where
   balance : (n : ℕ) → times n (taken_serials es) + times n (serials c.flow) ≡ times n (delivered_serials es)
       + (times n (dropped_serials es) + times n (serials (after_from drivers c es).flow))
   numbered : taken_serials es ≡ range_with_len c.next_serial (length (taken_serials es))
 
+-- entries that are legal from a configuration lose and double no message, where each queued one has a serial of its own
 ends : (drivers : List DriverSpec) (c : Configuration) (es : List Entry) → IsNumbered c → IsLegalFrom drivers c es
     → Ends drivers c es
 ends drivers c [] h legal = record { balance = λ n. omega arith; numbered = refl }

@@ -6,7 +6,7 @@ use Rattle.std.specs.List.Sorted.{IsPermutation}
 use Rattle.std.proofs.lemmas.Bool.{cases_Bool, cases_eq, eqb-true, eq-eqb, ne_eqb, false≢true, or_cases, or_parts}
 use Rattle.std.proofs.lemmas.List.Sorted.{IsPermutation-refl, IsPermutation-cons, IsPermutation-trans}
 use Rattle.std.proofs.lemmas.List.Sorted.{IsPermutation-sym, IsPermutation-to_front, IsPermutation-append_left}
-use Rattle.smx_model.specs.Ordered.{with_inserted, in_rising_order}
+use Rattle.smx_model.specs.Ordered.{with_inserted, in_rising_order, without_first}
 
 -- how often the number n is in a list
 abbrev pub times : ℕ → List ℕ → ℕ
@@ -18,6 +18,7 @@ pub times_append : (n : ℕ) (xs ys : List ℕ) → times n (xs ++ ys) ≡ times
 times_append n [] ys = omega arith
 times_append n (x ∷ xs) ys = omega (arith, times_append n xs ys)
 
+-- a number is once more in a list into which it is inserted, and as often as before if another is
 times_placed : (n : ℕ) (xs : List ℕ) (x : ℕ) → times n (with_inserted ltb xs x) ≡ cond (eqb x n) 1 0 + times n xs
 times_placed n [] x = refl
 times_placed n (y ∷ ys) x =
@@ -67,7 +68,8 @@ times_some n [] h = absurd (false≢true h)
 times_some n (x ∷ xs) h = elim (or_cases (eqb n x) (list_any (λ m. eqb n m) xs) h)
     [ inl e ↦ rw (eq-eqb x n (sym (eqb-true n x e))) (omega arith) | inr r ↦ omega (arith, times_some n xs r) ]
 
--- what left, and what is left
+-- a number that is at most once in an old list, and no more often in a new one, is as often among those that left and
+-- in the new list together as it was in the old one
 pub times_gone : (n : ℕ) (old new : List ℕ) → times n new ≤ times n old → times n old ≤ 1
     → times n (in_rising_order (filter (λ m. not (list_any (λ k. eqb m k) new)) old)) + times n new ≡ times n old
 times_gone n old new fewer once =
@@ -80,24 +82,28 @@ times_gone n old new fewer once =
           omega (arith, g, r, times_none n new u)
     ]
 
-abbrev without : ℕ → List ℕ → List ℕ
-without n [] = []
-without n (m ∷ ms) = cond (eqb m n) ms (m ∷ without n ms)
+-- a list without the first of it that is this number
+abbrev without_one : ℕ → List ℕ → List ℕ
+without_one n ms = without_first (λ m. eqb m n) ms
 
+-- a list is the same but for the order when its first two numbers are exchanged
 swap_two : (x y : ℕ) (xs : List ℕ) → IsPermutation (x ∷ y ∷ xs) (y ∷ x ∷ xs)
 swap_two x y xs = IsPermutation-append_left xs (x ∷ y ∷ []) (y ∷ x ∷ [])
     (IsPermutation-sym (y ∷ x ∷ []) (x ∷ y ∷ []) (IsPermutation-to_front (y ∷ []) x))
 
-brought : (n : ℕ) (xs : List ℕ) → 1 ≤ times n xs → IsPermutation (n ∷ without n xs) xs
-brought n [] h = absurd (omega arith)
-brought n (x ∷ xs) h = elim (cases_eq x n) [
+-- a list is the same but for the order when a number of it is brought to the front
+one_in_front : (n : ℕ) (xs : List ℕ) → 1 ≤ times n xs → IsPermutation (n ∷ without_one n xs) xs
+one_in_front n [] h = absurd (omega arith)
+one_in_front n (x ∷ xs) h = elim (cases_eq x n) [
   | inl e ↦ rw (eq-eqb x n e) (subst (λ (y : ℕ). IsPermutation (n ∷ xs) (y ∷ xs)) (sym e) (IsPermutation-refl (n ∷ xs)))
   | inr ne ↦ let z : eqb x n ≡ false = ne_eqb x n ne in
-      rw z (IsPermutation-trans (n ∷ x ∷ without n xs) (x ∷ n ∷ without n xs) (x ∷ xs) (swap_two n x (without n xs))
-      (IsPermutation-cons x (n ∷ without n xs) xs (brought n xs (omega (arith, rw z at h)))))
+      rw z (IsPermutation-trans (n ∷ x ∷ without_one n xs) (x ∷ n ∷ without_one n xs) (x ∷ xs)
+      (swap_two n x (without_one n xs))
+      (IsPermutation-cons x (n ∷ without_one n xs) xs (one_in_front n xs (omega (arith, rw z at h)))))
 ]
 
-times_without : (n m : ℕ) (xs : List ℕ) → 1 ≤ times m xs → times n xs ≡ cond (eqb m n) 1 0 + times n (without m xs)
+-- with a number taken out of a list once, that number is once less in it, and each other as often as before
+times_without : (n m : ℕ) (xs : List ℕ) → 1 ≤ times m xs → times n xs ≡ cond (eqb m n) 1 0 + times n (without_one m xs)
 times_without n m [] h = absurd (omega arith)
 times_without n m (x ∷ xs) h = elim (cases_eq x m) [
   | inl e ↦ rw (eq-eqb x m e) (rw e refl)
@@ -105,17 +111,18 @@ times_without n m (x ∷ xs) h = elim (cases_eq x m) [
       rw z (omega (arith, times_without n m xs (omega (arith, rw z at h))))
 ]
 
-nothing : (xs : List ℕ) → ((n : ℕ) → 0 ≡ times n xs) → xs ≡ []
-nothing [] h = refl
-nothing (x ∷ xs) h = let k = h x in absurd (omega (arith, rw (eq-eqb x x refl) at k))
+-- a list in which each number is 0 times is empty
+none_counted : (xs : List ℕ) → ((n : ℕ) → 0 ≡ times n xs) → xs ≡ []
+none_counted [] h = refl
+none_counted (x ∷ xs) h = let k = h x in absurd (omega (arith, rw (eq-eqb x x refl) at k))
 
--- lists in which each number is as often
+-- lists in which each number is as often are the same but for the order
 pub permuted : (xs ys : List ℕ) → ((n : ℕ) → times n xs ≡ times n ys) → IsPermutation xs ys
-permuted [] ys h = subst (λ (zs : List ℕ). IsPermutation [] zs) (sym (nothing ys h)) (IsPermutation-refl [])
+permuted [] ys h = subst (λ (zs : List ℕ). IsPermutation [] zs) (sym (none_counted ys h)) (IsPermutation-refl [])
 permuted (x ∷ xs) ys h =
     let k = h x in
     let some : 1 ≤ times x ys = omega (arith, rw (eq-eqb x x refl) at k) in
-    IsPermutation-trans (x ∷ xs) (x ∷ without x ys) ys
-    (IsPermutation-cons x xs (without x ys)
-    (permuted xs (without x ys) (λ n. omega (arith, h n, times_without n x ys some))))
-    (brought x ys some)
+    IsPermutation-trans (x ∷ xs) (x ∷ without_one x ys) ys
+    (IsPermutation-cons x xs (without_one x ys)
+    (permuted xs (without_one x ys) (λ n. omega (arith, h n, times_without n x ys some))))
+    (one_in_front x ys some)

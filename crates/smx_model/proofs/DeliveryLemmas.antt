@@ -1,7 +1,7 @@
 -- Messages keep their serial, address and bytes from where they are taken in to where they are delivered.
 use Rattle.std.proofs.Common.{◌≡◌, ◌⊎◌, ℕ, Bool, List, [], ◌∷◌, ◌++◌, Some, Ok, Err, refl}
 use Rattle.std.proofs.Common.{rules, ap, sym, ◌∙◌, subst, inl, inr, arith}
-use Rattle.std.specs.List.{All, Contains}
+use Rattle.std.specs.List.{All}
 use Rattle.std.specs.List.Sorted.{IsPermutation}
 use Rattle.std.proofs.lemmas.Bool.{cases_Bool}
 use Rattle.smx_types.specs.declared.command.Command.{Command}
@@ -18,31 +18,24 @@ use Rattle.smx_model.specs.Histories.{after, after_from, IsLegal, IsLegalFrom}
 use Rattle.smx_model.specs.Ordered.{without_first}
 use Rattle.smx_model.specs.Outcomes.{Outcome}
 use Rattle.smx_model.specs.Queues.{first_message, after_leaving}
-use Rattle.smx_model.specs.LawfulHistories.{delivered_by, dropped_by, taken_by}
+use Rattle.smx_model.specs.LawfulHistories.{delivered_by, dropped_by, taken_by, IsTakenIn, Sends}
 use Rattle.smx_model.specs.Removal.{serials}
 use Rattle.smx_model.specs.Settling.{after_settling}
 use Rattle.smx_model.proofs.SettledLemmas.{MovesKeep, moved_by, settled_by}
 use Rattle.smx_model.proofs.ConservationLemmas.{Goes, goes_step, IsNumbered, numbered_empty, numbered_goes}
 use Rattle.smx_model.proofs.CountLemmas.{permuted, times_append}
-use Rattle.smx_model.proofs.EachLemmas.{Each, all_of_each, each_filter, each_map, each_placed}
+use Rattle.smx_model.proofs.EachLemmas.{each_filter, each_map, each_placed}
 use Rattle.smx_model.proofs.MemberLemmas.{is_first, is_later}
 use Rattle.smx_model.proofs.AcceptedLemmas.{of_rows, taken}
 use Rattle.smx_model.proofs.OutcomeLemmas.{IfAccepted}
-
--- a command that sends these bytes to this address
-abbrev Sends : Command → ℕ → List ℕ → Type 0
-Sends k addr bytes = ((fd : ℕ) × (k ≡ command.Write fd addr bytes))
-    ⊎ ((name : List ℕ) × (minor : ℕ) × (k ≡ command.Inject name minor addr bytes))
-
--- an entry took the message in
-abbrev TakenIn : List Entry → Message → Type 0
-TakenIn history m =
-    (took : Entry) × Contains history took × (took.reply ≡ reply.Took m.serial) × Sends took.command m.addr m.bytes
+use Rattle.std.specs.List.{AllByRecursion}
+use Rattle.std.proofs.lemmas.List.Elements.{All-from_recursion}
 
 -- P of each queued message
 abbrev OfEach : (Message → Type 0) → List QueuedMessage → Type 0
-OfEach P hs = Each (λ h. P h.message) hs
+OfEach P hs = AllByRecursion (λ h. P h.message) hs
 
+-- what holds of each message of a flow holds of the first one at a place
 first_has : (P : Message → Type 0) (hs : List QueuedMessage) (p : Place) (m : Message) → first_message hs p ≡ Some m
     → OfEach P hs → P m
 first_has P [] p m e h = cc
@@ -51,50 +44,60 @@ first_has P (k ∷ ks) p m e h = elim (cases_Bool (is_at p k)) [
   | inr f ↦ first_has P ks p m (rw f at e) h.1
 ]
 
+-- what holds of each message of a flow holds of each without the first that passes a test
 rest_has : (P : Message → Type 0) (test : QueuedMessage → Bool) (hs : List QueuedMessage) → OfEach P hs
     → OfEach P (without_first test hs)
 rest_has P test [] h = tt
 rest_has P test (k ∷ ks) h =
     elim (cases_Bool (test k)) [ inl t ↦ rw t h.1 | inr f ↦ rw f (h.0, rest_has P test ks h.1) ]
 
--- a reply to a command leaves messages that were there or that it took in, and delivers one that was there
+-- what a command leaves and delivers
 
--- P is of the messages that were there
+-- each message that is left was there, so that P holds of it, or was taken in by this command under the serial of its
+-- reply, and one that is delivered was there
 pub record Carries (P : Message → Type 0) (k : Command) (d : Configuration) (r : Reply) : Type 0 where
   pub flow : OfEach (λ m. P m ⊎ ((r ≡ reply.Took m.serial) × Sends k m.addr m.bytes)) d.flow
   pub got : (m : Message) → r ≡ reply.Got m.serial m.addr m.bytes → P m
 
-old : (P : Message → Type 0) (k : Command) (r : Reply) (hs : List QueuedMessage) → OfEach P hs
+-- messages of which P holds were there, and so are among those that were there or were taken in
+each_was_there : (P : Message → Type 0) (k : Command) (r : Reply) (hs : List QueuedMessage) → OfEach P hs
     → OfEach (λ m. P m ⊎ ((r ≡ reply.Took m.serial) × Sends k m.addr m.bytes)) hs
-old P k r hs h = each_map _ _ hs (λ x p. inl p) h
+each_was_there P k r hs h = each_map _ _ hs (λ x p. inl p) h
 
+-- where all messages that are left were there, and the reply delivers none, no message comes from elsewhere
 carries_still : (P : Message → Type 0) (k : Command) (d : Configuration) (r : Reply) → OfEach P d.flow
     → delivered_by r ≡ [] → Carries P k d r
 carries_still P k d r h none = record {
-  flow = old P k r d.flow h;
+  flow = each_was_there P k r d.flow h;
   got = λ m e. let none_is : [] ≡ m.serial ∷ [] = sym none ∙ ap delivered_by e in cc;
 }
 
+-- where all messages were there before a sweep, those that are left after it were, and none is delivered
 carries_done : (P : Message → Type 0) (k : Command) (drivers : List DriverSpec) (c d : Configuration) → OfEach P d.flow
     → IfAccepted (Carries P k) (done_outcome drivers c d)
 carries_done P k drivers c d h =
-    record { holds = record { flow = old P k _ _ (each_filter _ _ _ (each_filter _ _ d.flow h)); got = λ m e. cc } }
+    record {
+      holds = record { flow = each_was_there P k _ _ (each_filter _ _ _ (each_filter _ _ d.flow h)); got = λ m e. cc };
+    }
 
+-- where a message is taken in under the next serial, it has the address and the bytes that were sent, and all others
+-- were there
 carries_took : (P : Message → Type 0) (k : Command) (drivers : List DriverSpec) (c : Configuration) (p : Place)
     (addr : ℕ) (bytes : List ℕ) → Sends k addr bytes → OfEach P c.flow
     → Carries P k (taken drivers c p addr bytes) (reply.Took c.next_serial)
 carries_took P k drivers c p addr bytes sends h = record {
   flow = each_placed _ queued_before c.flow
       (record { place = p; message = record { serial = c.next_serial; addr = addr; bytes = bytes } })
-      (inr (refl, sends)) (old P k (reply.Took c.next_serial) c.flow h);
+      (inr (refl, sends)) (each_was_there P k (reply.Took c.next_serial) c.flow h);
   got = λ m e. cc;
 }
 
+-- where the first message of a place is delivered, it was there, as were all that are left
 carries_got : (P : Message → Type 0) (k : Command) (drivers : List DriverSpec) (c : Configuration) (p : Place)
     (m : Message) → first_message c.flow p ≡ Some m → OfEach P c.flow
     → Carries P k (after_leaving drivers c p) (reply.Got m.serial m.addr m.bytes)
 carries_got P k drivers c p m e h = record {
-  flow = old P k _ _ (rest_has P (is_at p) c.flow h);
+  flow = each_was_there P k _ _ (rest_has P (is_at p) c.flow h);
   got = λ n f. subst P (same m.serial m.addr n.serial n.addr m.bytes n.bytes f) (first_has P c.flow p m e h);
 } where
   message : ℕ → ℕ → List ℕ → Message
@@ -104,6 +107,7 @@ carries_got P k drivers c p m e h = record {
   same a b x y bs zs e = let f : a ≡ x = cc in let g : b ≡ y = cc in let i : bs ≡ zs = cc in
       ap (λ (n : ℕ). message n b bs) f ∙ (ap (λ (n : ℕ). message x n bs) g ∙ ap (message x y) i)
 
+-- an accepted command leaves messages that were there or that it took in, and delivers one that was there
 carries_accepted : (P : Message → Type 0) (drivers : List DriverSpec) (c : Configuration) (process : ℕ) (k : Command)
     → OfEach P c.flow → IfAccepted (Carries P k) (outcome drivers c process k)
 carries_accepted P drivers c process k h = search (
@@ -126,6 +130,7 @@ carries_accepted P drivers c process k h = search (
 
 -- moves and settling keep messages
 
+-- what holds of each message of a flow holds of each after a move
 moved_has : (P : Message → Type 0) (drivers : List DriverSpec) → MovesKeep (λ d. OfEach P d.flow) drivers
 moved_has P drivers = record {
   each = λ c p h. moved_by (λ d. OfEach P d.flow) drivers c p h
@@ -133,8 +138,10 @@ moved_has P drivers = record {
       (rest_has P (is_at p) c.flow h));
 }
 
--- so each step
+-- a step
 
+-- a command leaves messages that were there or that it took in, and delivers one that was there, if so does what it is
+-- accepted with
 carries_finished : (P : Message → Type 0) (drivers : List DriverSpec) (c : Configuration) (k : Command) (o : Outcome)
     → OfEach P c.flow → IfAccepted (Carries P k) o
     → Carries P k (after_outcome drivers c o).0 (after_outcome drivers c o).1
@@ -144,12 +151,15 @@ carries_finished P drivers c k (Ok x) h m = record { flow = settled; got = m.hol
 
   settled : OfEach Q (after_settling drivers x.0).flow
   settled = settled_by (λ d. OfEach Q d.flow) drivers _ x.0 (moved_has Q drivers) m.holds.flow
-carries_finished P drivers c k (Err f) h m = record { flow = old P k (reply.Fault f) c.flow h; got = λ m e. cc }
+carries_finished P drivers c k (Err f) h m =
+    record { flow = each_was_there P k (reply.Fault f) c.flow h; got = λ m e. cc }
 
--- it was taken in by this entry or known before
+-- P holds of the message, or this entry took it in
 abbrev Known : (Message → Type 0) → Entry → Message → Type 0
 Known P e m = P m ⊎ ((e.reply ≡ reply.Took m.serial) × Sends e.command m.addr m.bytes)
 
+-- a step with the reply of an entry leaves messages that were there or that the entry took in, and delivers one that
+-- was there
 carries_step : (P : Message → Type 0) (drivers : List DriverSpec) (c : Configuration) (e : Entry)
     → (step drivers c e.process e.command).1 ≡ e.reply → OfEach P c.flow
     → Carries P e.command (step drivers c e.process e.command).0 e.reply
@@ -157,52 +167,60 @@ carries_step P drivers c e is h = subst (Carries P e.command (step drivers c e.p
     (carries_finished P drivers c e.command (outcome drivers c e.process e.command) h
     (carries_accepted P drivers c e.process e.command h))
 
--- and each history
+-- a history
 
-told : (P : Message → Type 0) (e : Entry) (es : List Entry) (m : Message) → Known P e m ⊎ TakenIn es m
-    → P m ⊎ TakenIn (e ∷ es) m
-told P e es m (inl (inl p)) = inl p
-told P e es m (inl (inr k)) = inr (e, is_first e es, k.0, k.1)
-told P e es m (inr k) = inr (k.0, is_later k.0 e es k.1, k.2, k.3)
+-- a message that was there, or was taken in by an entry or by those behind it, was there or was taken in by all of
+-- these
+known_or_taken_in : (P : Message → Type 0) (e : Entry) (es : List Entry) (m : Message) → Known P e m ⊎ IsTakenIn es m
+    → P m ⊎ IsTakenIn (e ∷ es) m
+known_or_taken_in P e es m (inl (inl p)) = inl p
+known_or_taken_in P e es m (inl (inr k)) = inr (e, is_first e es, k.0, k.1)
+known_or_taken_in P e es m (inr k) = inr (k.0, is_later k.0 e es k.1, k.2, k.3)
 
+-- a message that an entry of a legal history from a configuration delivers was there at first, or was taken in by an
+-- earlier entry
 got_from : (P : Message → Type 0) (drivers : List DriverSpec) (c : Configuration) (early late : List Entry) (e : Entry)
     (m : Message) → OfEach P c.flow → IsLegalFrom drivers c (early ++ e ∷ late)
-    → e.reply ≡ reply.Got m.serial m.addr m.bytes → P m ⊎ TakenIn early m
+    → e.reply ≡ reply.Got m.serial m.addr m.bytes → P m ⊎ IsTakenIn early m
 got_from P drivers c [] late e m h legal is = inl ((carries_step P drivers c e legal.0 h).got m is)
 got_from P drivers c (x ∷ xs) late e m h legal is =
-    told P x xs m (got_from (Known P x) drivers (step drivers c x.process x.command).0 xs late e m
+    known_or_taken_in P x xs m (got_from (Known P x) drivers (step drivers c x.process x.command).0 xs late e m
     (carries_step P drivers c x legal.0 h).flow legal.1 is)
 
 -- a message that is delivered was taken in before, with the same serial, address and bytes
 pub arrive_whole : (drivers : List DriverSpec) (early late : List Entry) (e : Entry) (serial addr : ℕ) (bytes : List ℕ)
     → IsLegal drivers (early ++ e ∷ late) → e.reply ≡ reply.Got serial addr bytes
-    → TakenIn early (record { serial = serial; addr = addr; bytes = bytes })
+    → IsTakenIn early (record { serial = serial; addr = addr; bytes = bytes })
 arrive_whole drivers early late e serial addr bytes legal is =
     elim (got_from (λ m. ⊥) drivers empty early late e
     (record { serial = serial; addr = addr; bytes = bytes }) tt legal is) [ inl none ↦ absurd none | inr k ↦ k ]
 
+-- a message that is queued after a legal history from a configuration was there at first, or was taken in by an entry
 queued_from : (P : Message → Type 0) (drivers : List DriverSpec) (c : Configuration) (es : List Entry) → OfEach P c.flow
-    → IsLegalFrom drivers c es → OfEach (λ m. P m ⊎ TakenIn es m) (after_from drivers c es).flow
+    → IsLegalFrom drivers c es → OfEach (λ m. P m ⊎ IsTakenIn es m) (after_from drivers c es).flow
 queued_from P drivers c [] h legal = each_map _ _ c.flow (λ x p. inl p) h
-queued_from P drivers c (e ∷ es) h legal = each_map _ _ _ (λ x k. told P e es x.message k)
+queued_from P drivers c (e ∷ es) h legal = each_map _ _ _ (λ x k. known_or_taken_in P e es x.message k)
     (queued_from (Known P e) drivers (step drivers c e.process e.command).0 es
     (carries_step P drivers c e legal.0 h).flow legal.1)
 
 -- a message that is queued after a legal history was taken in by it, with its serial, address and bytes
 pub stay_whole : (drivers : List DriverSpec) (history : List Entry) → IsLegal drivers history
-    → All (λ h. TakenIn history h.message) (after drivers history).flow
-stay_whole drivers history legal = all_of_each (λ h. TakenIn history h.message) (after drivers history).flow
-    (each_map (λ h. ⊥ ⊎ TakenIn history h.message) (λ h. TakenIn history h.message) (after drivers history).flow
+    → All (λ h. IsTakenIn history h.message) (after drivers history).flow
+stay_whole drivers history legal = All-from_recursion (λ h. IsTakenIn history h.message) (after drivers history).flow
+    (each_map (λ h. ⊥ ⊎ IsTakenIn history h.message) (λ h. IsTakenIn history h.message) (after drivers history).flow
     (λ h k. elim k [ inl none ↦ absurd none | inr t ↦ t ]) (queued_from (λ m. ⊥) drivers empty history tt legal))
 
 -- a command keeps, delivers or drops each message that was queued
 
+-- after any entries each queued message has a serial of its own, if each had before them
 numbered_from : (drivers : List DriverSpec) (c : Configuration) (es : List Entry) → IsNumbered c
     → IsNumbered (after_from drivers c es)
 numbered_from drivers c [] h = h
 numbered_from drivers c (e ∷ es) h = numbered_from drivers (step drivers c e.process e.command).0 es
     (numbered_goes c _ _ h (goes_step drivers c e.process e.command h))
 
+-- where no message is lost or doubled, what was taken in or queued is, but for the order, what is delivered, dropped or
+-- queued then
 balanced : (c d : Configuration) (r : Reply) → Goes c d r
     → IsPermutation (taken_by r ++ serials c.flow) (delivered_by r ++ (dropped_by r ++ serials d.flow))
 balanced c d r g =

@@ -20,7 +20,7 @@ use Rattle.smx_model.proofs.AcceptedLemmas.{of_rows, at_none}
 use Rattle.smx_model.proofs.OutcomeLemmas.{IfAccepted}
 use Rattle.smx_model.proofs.SettledLemmas.{settled_alone}
 
--- what no search found fails the test
+-- where a search finds nothing, no element passes its test
 none_found : {X : Type 0} (t : X → Bool) (xs : List X) → find t xs ≡ None → list_any t xs ≡ false
 none_found t [] e = refl
 none_found t (x ∷ xs) e = elim (cases_Bool (t x))
@@ -32,6 +32,7 @@ none_found t (x ∷ xs) e = elim (cases_Bool (t x))
 record LosesDescriptors (c d : Configuration) (goes : Descriptor → Bool) : Type 0 where
   each : (x : Descriptor) → Contains c.fds x → Contains d.fds x ↔ (not (goes x) ≡ true)
 
+-- what takes some descriptors away and is swept and settled leaves just the others
 shut_done : (drivers : List DriverSpec) (c : Configuration) (goes : Descriptor → Bool)
     → LosesDescriptors c
     (after_settling drivers (after_sweep drivers (record c { fds = filter (λ d. not (goes d)) c.fds }))) goes
@@ -41,6 +42,7 @@ shut_done drivers c goes = record {
       (λ k. filtered_passes (λ d. not (goes d)) c.fds x k, λ e. in_filtered (λ d. not (goes d)) c.fds x h e);
 }
 
+-- where no descriptor is to go, just those are left that don't go
 shut_none : (c : Configuration) (goes : Descriptor → Bool) → list_any goes c.fds ≡ false → LosesDescriptors c c goes
 shut_none c goes e = record { each = λ x h. (λ k. rw (none_in goes c.fds e x h) refl, λ e. h) }
 
@@ -72,23 +74,28 @@ exit_shuts drivers c process = all_in _ c.fds (shut_done drivers c (λ d. eqb d.
 record KeepsDescriptors (c d : Configuration) : Type 0 where
   each : (x : Descriptor) → Contains c.fds x → Contains d.fds x
 
+-- where the descriptors are the same, all are left
 open_same : (c d : Configuration) → d.fds ≡ c.fds → KeepsDescriptors c d
 open_same c d e = record { each = λ x h. subst (λ (ds : List Descriptor). Contains ds x) (sym e) h }
 
+-- with one more descriptor all of the old ones are left
 open_fd : (c : Configuration) (process fd : ℕ) (s : StreamId) → KeepsDescriptors c (with_fd c process fd s)
 open_fd c process fd s =
     record { each = λ x h. in_placed fd_before c.fds x (record { process = process; fd = fd; stream = s }) h }
 
+-- a sweep leaves all descriptors
 open_done : (drivers : List DriverSpec) (c d : Configuration) → d.fds ≡ c.fds
     → IfAccepted (λ d r. KeepsDescriptors c d) (done_outcome drivers c d)
 open_done drivers c d e = record { holds = open_same c (after_sweep drivers d) e }
 
+-- an accepted command that is neither close nor exit leaves all descriptors
 open_accepted : (drivers : List DriverSpec) (c : Configuration) (process : ℕ) (k : Command)
     → ((fd : ℕ) → k ≡ command.Close fd → ⊥) → (k ≡ command.CloseAll → ⊥)
     → IfAccepted (λ d r. KeepsDescriptors c d) (outcome drivers c process k)
 open_accepted drivers c process k no_close no_exit =
     search (of_rows, open_fd, open_same, open_done, at_none, no_close, no_exit, rules) depth 24
 
+-- where an outcome leaves all descriptors, so does settling after it
 open_finished : (drivers : List DriverSpec) (c : Configuration) (o : Outcome)
     → IfAccepted (λ d r. KeepsDescriptors c d) o → KeepsDescriptors c (after_outcome drivers c o).0
 open_finished drivers c (Ok x) h = record { each = λ d k. rw ((settled_alone drivers _ x.0).fds) (h.holds.each d k) }

@@ -3,6 +3,8 @@ use Rattle.std.proofs.Common.{◌≡◌, ℕ, Bool, true, false, not, eqb, List,
 use Rattle.std.proofs.Common.{sym, ap, ◌∙◌, inl, inr}
 use Rattle.std.specs.List.{list_any, list_all}
 use Rattle.std.proofs.lemmas.Bool.{cases_Bool, and_parts, and_from, or_left, or_right, eq-eqb, false≢true}
+use Rattle.std.specs.List.{AllByRecursion}
+use Rattle.std.proofs.lemmas.List.Elements.{All-from_recursion}
 use Rattle.smx_types.specs.declared.command.Command.{Command}
 use Rattle.smx_types.specs.declared.command.Entry.{Entry}
 use Rattle.smx_types.specs.declared.driver.DriverSpec.{DriverSpec}
@@ -21,7 +23,6 @@ use Rattle.smx_model.specs.Outcomes.{Outcome}
 use Rattle.smx_model.specs.Removal.{serials_that_left, serials}
 use Rattle.smx_model.specs.Standing.{exists}
 use Rattle.smx_model.specs.Swept.{IsSwept}
-use Rattle.smx_model.proofs.EachLemmas.{Each, all_of_each}
 use Rattle.smx_model.proofs.IdleSweepLemmas.{swept_idle}
 use Rattle.smx_model.proofs.KeptLemmas.{empty_kept, step_keeps}
 use Rattle.smx_model.proofs.AcceptedLemmas.{of_rows, at_none}
@@ -31,23 +32,25 @@ use Rattle.smx_model.proofs.SweptLemmas.{free_exists, leaf_exists}
 use Rattle.smx_model.proofs.TestLemmas.{all_filter, all_placed}
 use Rattle.smx_model.specs.Hangups.{is_hung, with_hung}
 
--- from the same flow no message has gone
-
+-- of numbers that are all in a list none is left without those of the list
 all_there : (ms ns : List ℕ) → list_all (λ n. list_any (λ m. eqb n m) ms) ns ≡ true
     → filter (λ n. not (list_any (λ m. eqb n m) ms)) ns ≡ []
 all_there ms [] h = refl
 all_there ms (n ∷ ns) h = let p = and_parts (list_any (λ m. eqb n m) ms) _ h in rw p.0 (all_there ms ns p.1)
 
+-- numbers that are all in a list are all in it with one more in front
 in_more : (m : ℕ) (ms ns : List ℕ) → list_all (λ n. list_any (λ k. eqb n k) ms) ns ≡ true
     → list_all (λ n. list_any (λ k. eqb n k) (m ∷ ms)) ns ≡ true
 in_more m ms [] h = refl
 in_more m ms (n ∷ ns) h =
     let p = and_parts (list_any (λ k. eqb n k) ms) _ h in and_from _ _ (or_right _ _ p.0) (in_more m ms ns p.1)
 
+-- the numbers of a list are all in it
 in_itself : (ns : List ℕ) → list_all (λ n. list_any (λ k. eqb n k) ns) ns ≡ true
 in_itself [] = refl
 in_itself (n ∷ ns) = and_from _ _ (or_left _ _ (eq-eqb n n refl)) (in_more n ns ns (in_itself ns))
 
+-- no serial has left a flow that is as it was
 none_gone : (flow : List QueuedMessage) → serials_that_left flow flow ≡ []
 none_gone flow = ap in_rising_order (all_there (serials flow) (serials flow) (in_itself (serials flow)))
 
@@ -59,10 +62,11 @@ done_idle drivers c new clean same =
     ∙ (ap (λ (f : List QueuedMessage). Ok (new, Done (serials_that_left c.flow f))) same
     ∙ ap (λ (ns : List ℕ). Ok (new, Done ns)) (none_gone c.flow))
 
--- it is accepted with no dropped messages
+-- if an outcome is accepted, it names no dropped messages
 abbrev DropsNone : Outcome → Type 0
 DropsNone o = IfAccepted (λ d r. dropped_by r ≡ []) o
 
+-- what leaves nothing to sweep, and the flow as it was, is done with no message dropped
 idle_drops : (drivers : List DriverSpec) (c d : Configuration) → IsSwept drivers d → d.flow ≡ c.flow
     → DropsNone (done_outcome drivers c d)
 idle_drops drivers c d clean same = rw (done_idle drivers c d clean same) (at_ok _ d (Done []) refl)
@@ -72,8 +76,6 @@ pub mux_exists : (drivers : List DriverSpec) (c : Configuration) (process fd : �
     → mux_stream drivers c process fd ≡ Ok s → exists drivers c s ≡ true
 mux_exists drivers c process fd s e = free_exists drivers c process fd s
     (tested NotMux (free_stream c process fd) (λ t. not (is_mux drivers t.driver)) s e).0
-
--- a hung-up stream that exists
 
 -- a configuration that is swept stays so when a stream that exists hangs up
 pub hung_swept : (drivers : List DriverSpec) (c : Configuration) (s : StreamId) → IsSwept drivers c
@@ -89,8 +91,7 @@ hung_swept drivers c s h e = record {
   by true t = rw t h.hungs
   by false f = rw f (all_placed _ stream_before c.hungs s e h.hungs)
 
--- each command that may not drop
-
+-- an accepted command that may not drop names no dropped messages
 drops_accepted : (drivers : List DriverSpec) (c : Configuration) (process : ℕ) (k : Command) → may_drop k ≡ false
     → IsSwept drivers c → DropsNone (outcome drivers c process k)
 drops_accepted drivers c process k never h = search (
@@ -120,10 +121,9 @@ step_drops drivers c process k h some = elim (cases_Bool (may_drop k)) [
   by (Ok x) m = m.holds
   by (Err f) m = refl
 
--- and so each entry
-
+-- each entry of a legal history from here on names dropped messages only if its command may drop
 drops_from : (drivers : List DriverSpec) (c : Configuration) (es : List Entry) → IsKept drivers c
-    → IsLegalFrom drivers c es → Each (λ e. (dropped_by e.reply ≡ [] → ⊥) → may_drop e.command ≡ true) es
+    → IsLegalFrom drivers c es → AllByRecursion (λ e. (dropped_by e.reply ≡ [] → ⊥) → may_drop e.command ≡ true) es
 drops_from drivers c [] h legal = tt
 drops_from drivers c (e ∷ es) h legal = (
   λ some. step_drops drivers c e.process e.command h.sound.swept (λ none. some (ap dropped_by (sym legal.0) ∙ none)),
@@ -132,4 +132,5 @@ drops_from drivers c (e ∷ es) h legal = (
 
 -- in a legal history only commands that may drop messages name dropped ones
 pub few_drop : (drivers : List DriverSpec) (history : List Entry) → IsLegal drivers history → AreDropsAllowed history
-few_drop drivers history legal = all_of_each _ history (drops_from drivers empty history (empty_kept drivers) legal)
+few_drop drivers history legal =
+    All-from_recursion _ history (drops_from drivers empty history (empty_kept drivers) legal)

@@ -1,5 +1,5 @@
 -- Which places the commands free.
-use Rattle.std.proofs.Common.{◌≡◌, ℕ, Bool, true, false, ◌+◌, ◌&&◌, not, cond, List, [], filter, None, Result, Ok, Err}
+use Rattle.std.proofs.Common.{◌≡◌, ℕ, Bool, true, false, ◌+◌, ◌&&◌, not, cond, List, [], filter, None}
 use Rattle.std.proofs.Common.{refl, rules, sym, ap, ◌∙◌, subst, inl, inr}
 use mathlib.Core.Logic.{◌⊎◌}
 use Rattle.std.specs.Prelude.{slice_get}
@@ -11,44 +11,42 @@ use Rattle.smx_types.specs.declared.driver.DriverSpec.{DriverSpec}
 use Rattle.smx_types.specs.declared.link.Link.{Link}
 use Rattle.smx_types.specs.declared.link.LinkKind.{LinkKind}
 use Rattle.smx_types.specs.declared.message.Message.{Message}
-use Rattle.smx_types.specs.declared.reply.Fault.{Fault}
 use Rattle.smx_types.specs.declared.stream.Descriptor.{Descriptor}
 use Rattle.smx_types.specs.declared.stream.Place.{Place}
 use Rattle.smx_types.specs.declared.stream.StreamId.{StreamId}
 use Rattle.smx_model.specs.Commands.{outcome, done_outcome, link_outcome, send_outcome, receive_outcome}
 use Rattle.smx_model.specs.Commands.{with_fd}
-use Rattle.smx_model.specs.Configuration.{Configuration, QueuedMessage, same_place}
+use Rattle.smx_model.specs.Configuration.{Configuration, QueuedMessage, same_place, read_side, write_side}
 use Rattle.smx_model.specs.FreedPlaces.{FreesOnly, freed_by, is_empty_at, is_side_of}
 use Rattle.smx_model.specs.Lookups.{free_stream, live_stream, live_leaf}
-use Rattle.smx_model.specs.Outcomes.{Outcome, ◌>>=◌}
 use Rattle.smx_model.specs.Queues.{after_arrival, after_leaving, first_message, is_full, queue}
 use Rattle.smx_model.specs.Removal.{after_sweep, is_read_below, without_links, without_queues_at}
 use Rattle.smx_model.specs.RunMarks.{nowhere}
 use Rattle.smx_model.specs.Standing.{exists, is_persistent}
 use Rattle.smx_model.specs.Swept.{IsSwept}
-use Rattle.smx_model.specs.TurnedPlaces.{of_stream, read_side, write_side}
 use Rattle.smx_model.proofs.DropLemmas.{mux_exists, hung_swept}
 use Rattle.smx_model.proofs.IdleSweepLemmas.{swept_idle}
 use Rattle.smx_model.proofs.AcceptedLemmas.{unlinked}
 use Rattle.smx_model.proofs.OutcomeLemmas.{IfAccepted, at_ok, after_ok, after_test, after_some, after_choice}
 use Rattle.smx_model.proofs.QueueLemmas.{emptied_full, emptied_queue, front_is}
 use Rattle.smx_model.proofs.TestLemmas.{all_filter, all_placed}
-use Rattle.smx_model.proofs.TurningLemmas.{arrived_more, left_keeps}
+use Rattle.smx_model.proofs.TurningCommandLemmas.{at_stream}
+use Rattle.smx_model.proofs.FeederLemmas.{arrived_more, left_keeps}
 use Rattle.smx_model.proofs.SweptLemmas.{leaf_exists}
 
 -- ---- what frees which places
 
--- no place is full and isn't
+-- nothing is so and is not so
 never_freed : (b : Bool) → (b && not b) ≡ true → ⊥
 never_freed true h = false≢true h
 never_freed false h = false≢true h
 
--- with the same full places
+-- where the full places are the same, none is freed
 same_frees : (c d : Configuration) (t : Place → Bool) → d.fulls ≡ c.fulls → FreesOnly c d t
 same_frees c d t e p h = absurd (never_freed (is_full c p)
     (sym (ap (λ (ps : List Place). is_full c p && not (list_any (same_place p) ps)) e) ∙ h))
 
--- where a place is one of these, or is as full as it was
+-- where each full place that is none of these stays full, only these are freed
 frees_by : (c d : Configuration) (t : Place → Bool)
     → ((p : Place) → t p ≡ false → is_full c p ≡ true → is_full d p ≡ true) → FreesOnly c d t
 frees_by c d t f p h = elim (cases_Bool (t p)) [
@@ -57,16 +55,19 @@ frees_by c d t f p h = elim (cases_Bool (t p)) [
       absurd (both_ways (not (is_full d p)) (ap not (f p n a.0)) a.1)
 ]
 
+-- an arrival frees no place
 frees_at_arrival : (drivers : List DriverSpec) (c : Configuration) (p : Place) (m : Message) (n : ℕ)
     → FreesOnly c (record (after_arrival drivers c p m) { next_serial = n }) nowhere
 frees_at_arrival drivers c p m n = frees_by c (record (after_arrival drivers c p m) { next_serial = n }) nowhere
     (λ q _ h. arrived_more drivers c p q m h)
 
+-- where a message leaves, only its place may stop being full
 frees_at_leaving : (drivers : List DriverSpec) (c : Configuration) (p : Place)
     → FreesOnly c (after_leaving drivers c p) (same_place p)
 frees_at_leaving drivers c p =
     frees_by c (after_leaving drivers c p) (same_place p) (λ q n h. left_keeps drivers c p q n ∙ h)
 
+-- where some places are emptied, only those may stop being full
 frees_emptied : (c : Configuration) (goes : Place → Bool) → FreesOnly c (without_queues_at c goes) goes
 frees_emptied c goes = frees_by c (without_queues_at c goes) goes (λ q n h. emptied_full c.fulls goes q ∙ rw n h)
 
@@ -77,6 +78,7 @@ abbrev KeepsOrEmpties : Configuration → Configuration → Type 0
 KeepsOrEmpties c d = (q : Place) → ((is_full d q ≡ is_full c q) × (first_message d.flow q ≡ first_message c.flow q))
     ⊎ (first_message d.flow q ≡ None)
 
+-- two changes that each keep or empty each place do so one after the other
 keeps_then : (c d e : Configuration) → KeepsOrEmpties c d → KeepsOrEmpties d e → KeepsOrEmpties c e
 keeps_then c d e f g q = by (f q) (g q) where
   by : ((is_full d q ≡ is_full c q) × (first_message d.flow q ≡ first_message c.flow q))
@@ -89,6 +91,7 @@ keeps_then c d e f g q = by (f q) (g q) where
   by (inl a) (inl b) = inl (b.0 ∙ a.0, b.1 ∙ a.1)
   by (inr z) (inl b) = inr (b.1 ∙ z)
 
+-- to empty some places keeps or empties each place
 emptied_keeps : (c d : Configuration) (goes : Place → Bool) → d.flow ≡ filter (λ h. not (goes h.place)) c.flow
     → d.fulls ≡ filter (λ p. not (goes p)) c.fulls → KeepsOrEmpties c d
 emptied_keeps c d goes e f q = by (goes q) refl where
@@ -109,9 +112,11 @@ emptied_keeps c d goes e f q = by (goes q) refl where
         ∙ (ap (λ (ms : List Message). slice_get ms 0) (queues false g) ∙ sym (front_is c.flow q)),
   )
 
+-- to remove links keeps or empties each place
 removed_keeps : (c : Configuration) (goes : Link → Bool) → KeepsOrEmpties c (without_links c goes)
 removed_keeps c goes = emptied_keeps c (without_links c goes) (is_read_below (filter goes c.links)) refl refl
 
+-- a sweep keeps or empties each place
 swept_keeps : (drivers : List DriverSpec) (c : Configuration) → KeepsOrEmpties c (after_sweep drivers c)
 swept_keeps drivers c = keeps_then c (without_links c loose) (after_sweep drivers c) (removed_keeps c loose)
     (emptied_keeps (without_links c loose) (after_sweep drivers c)
@@ -119,6 +124,7 @@ swept_keeps drivers c = keeps_then c (without_links c loose) (after_sweep driver
       loose : Link → Bool
       loose l = not (is_persistent l) && not (exists drivers c l.ctl)
 
+-- what keeps or empties each place frees only places that are empty then
 frees_empty : (c d : Configuration) → KeepsOrEmpties c d → FreesOnly c d (is_empty_at d)
 frees_empty c d h p freed = elim (h p) [
   | inl k ↦ absurd (never_freed (is_full c p) (sym (ap (λ (b : Bool). is_full c p && not b) k.0) ∙ freed))
@@ -127,23 +133,24 @@ frees_empty c d h p freed = elim (h p) [
 
 -- ---- the rows of the command table
 
--- what leaves nothing to sweep
+-- a change that leaves nothing to sweep frees no more places with its sweep
 frees_done : (drivers : List DriverSpec) (c new : Configuration) (t : Place → Bool) → IsSwept drivers new
     → FreesOnly c new t → IfAccepted (λ d r. FreesOnly c d t) (done_outcome drivers c new)
 frees_done drivers c new t clean h =
     record { holds = subst (λ (d : Configuration). FreesOnly c d t) (sym (swept_idle drivers new clean)) h }
 
--- and no full place changed
+-- a change that leaves nothing to sweep, and the same full places, frees none with its sweep
 frees_still : (drivers : List DriverSpec) (c new : Configuration) → IsSwept drivers new → new.fulls ≡ c.fulls
     → IfAccepted (λ d r. FreesOnly c d nowhere) (done_outcome drivers c new)
 frees_still drivers c new clean e = frees_done drivers c new nowhere clean (same_frees c new nowhere e)
 
+-- a flush frees only the places that it empties
 frees_flush : (drivers : List DriverSpec) (c : Configuration) (goes : Place → Bool) → IsSwept drivers c
     → IfAccepted (λ d r. FreesOnly c d goes) (done_outcome drivers c (without_queues_at c goes))
 frees_flush drivers c goes h = frees_done drivers c (without_queues_at c goes) goes (search (all_filter, rules))
     (frees_emptied c goes)
 
--- what is swept frees only places that are empty then
+-- where descriptors go, only places that are empty after the sweep stop being full
 frees_closed : (drivers : List DriverSpec) (c : Configuration) (fds : List Descriptor)
     → IfAccepted (λ d r. FreesOnly c d (is_empty_at d)) (done_outcome drivers c (record c { fds = fds }))
 frees_closed drivers c fds = record {
@@ -151,6 +158,7 @@ frees_closed drivers c fds = record {
       (swept_keeps drivers (record c { fds = fds }));
 }
 
+-- where links are removed, only places that are empty after the sweep stop being full
 frees_removed : (drivers : List DriverSpec) (c : Configuration) (goes : Link → Bool)
     → IfAccepted (λ d r. FreesOnly c d (is_empty_at d)) (done_outcome drivers c (without_links c goes))
 frees_removed drivers c goes = record {
@@ -159,18 +167,22 @@ frees_removed drivers c goes = record {
       (swept_keeps drivers (without_links c goes)));
 }
 
+-- one more descriptor frees no place
 frees_with_fd : (drivers : List DriverSpec) (c : Configuration) (process fd : ℕ) (s : StreamId)
     → FreesOnly c (with_fd c process fd s) nowhere
 frees_with_fd drivers c process fd s = same_frees c (with_fd c process fd s) nowhere refl
 
+-- other links and another next id free no place
 frees_new_link : (c : Configuration) (links : List Link) (next : ℕ)
     → FreesOnly c (record c { links = links; next_id = next }) nowhere
 frees_new_link c links next = same_frees c (record c { links = links; next_id = next }) nowhere refl
 
+-- a link that is made frees no place
 frees_linked : (drivers : List DriverSpec) (c : Configuration) (process fd arg : ℕ) (k : LinkKind)
     → IfAccepted (λ d r. FreesOnly c d nowhere) (link_outcome drivers c process fd arg k)
 frees_linked drivers c process fd arg k = search (after_ok, after_test, at_ok, frees_new_link, rules) depth 24
 
+-- a message that is sent frees no place
 frees_sent : (drivers : List DriverSpec) (c : Configuration) (p : Place) (addr : ℕ) (bytes : List ℕ)
     → IfAccepted (λ d r. FreesOnly c d nowhere) (send_outcome drivers c p addr bytes)
 frees_sent drivers c p addr bytes = search (
@@ -181,16 +193,10 @@ frees_sent drivers c p addr bytes = search (
   rules,
 ) depth 12
 
+-- a message that is delivered frees at most its own place
 frees_received : (drivers : List DriverSpec) (c : Configuration) (p : Place)
     → IfAccepted (λ d r. FreesOnly c d (same_place p)) (receive_outcome drivers c p)
 frees_received drivers c p = search (after_some, at_ok, frees_at_leaving, rules) depth 12
-
--- places by the stream that a lookup names, which the rest of the command is about
-at_stream : (c : Configuration) (named : Result StreamId Fault) (t : StreamId → Place → Bool) (f : StreamId → Outcome)
-    → ((s : StreamId) → IfAccepted (λ d r. FreesOnly c d (t s)) (f s))
-    → IfAccepted (λ d r. FreesOnly c d (of_stream named t)) (named >>= f)
-at_stream c (Ok s) t f h = h s
-at_stream c (Err e) t f h = record { holds = tt }
 
 -- an accepted command, from a swept configuration, frees no place but those of `freed_by`
 pub frees : (drivers : List DriverSpec) (c : Configuration) (process : ℕ) (k : Command) → IsSwept drivers c
@@ -213,7 +219,7 @@ frees drivers c process (command.Route fd addr id) h = search (after_test, after
 frees drivers c process (command.Unroute fd addr) h = search (after_test, after_ok, frees_still, rules) depth 20
 frees drivers c process (command.Write fd addr bytes) h = search (after_ok, frees_sent, rules) depth 20
 frees drivers c process (command.Read fd) h = search (
-  at_stream c (free_stream c process fd) (λ s. same_place (read_side s)),
+  at_stream (FreesOnly c) (free_stream c process fd) (λ s. same_place (read_side s)),
   after_choice,
   at_ok,
   same_frees,
@@ -221,9 +227,12 @@ frees drivers c process (command.Read fd) h = search (
   rules,
 ) depth 20
 frees drivers c process (command.Flush fd w) h =
-    search (at_stream c (live_stream c process fd) (λ s. is_side_of s w), frees_flush, rules) depth 20
+    search (at_stream (FreesOnly c) (live_stream c process fd) (λ s. is_side_of s w), frees_flush, rules) depth 20
 frees drivers c process (command.Inject name minor addr bytes) h = search (after_ok, frees_sent, rules) depth 20
-frees drivers c process (command.Transmit name minor) h = search
-    (at_stream c (live_leaf drivers c name minor) (λ s. same_place (write_side s)), frees_received, rules) depth 20
+frees drivers c process (command.Transmit name minor) h = search (
+  at_stream (FreesOnly c) (live_leaf drivers c name minor) (λ s. same_place (write_side s)),
+  frees_received,
+  rules,
+) depth 20
 frees drivers c process (command.Hangup name minor) h =
     search (after_ok, frees_still, hung_swept, leaf_exists, rules) depth 20

@@ -13,6 +13,7 @@ use Rattle.smx_model.specs.LawfulHistories.{taken_serials, IsLawful, IsLawfulThr
 use Rattle.smx_model.proofs.ConservationLemmas.{conserving}
 use Rattle.smx_model.proofs.KeptLemmas.{always_is_kept}
 
+-- a beginning of entries that are legal from a configuration is legal from it
 prefix_from : (drivers : List DriverSpec) (c : Configuration) (xs ys : List Entry) → IsLegalFrom drivers c (xs ++ ys)
     → IsLegalFrom drivers c xs
 prefix_from drivers c [] ys h = tt
@@ -28,7 +29,7 @@ after_push_from : (drivers : List DriverSpec) (c : Configuration) (es : List Ent
 after_push_from drivers c [] e = refl
 after_push_from drivers c (d ∷ es) e = after_push_from drivers (step drivers c d.process d.command).0 es e
 
--- and so from the empty one
+-- one entry more is one step further, starting from the empty configuration
 pub after_push : (drivers : List DriverSpec) (es : List Entry) (e : Entry)
     → after drivers (es ++ e ∷ []) ≡ (step drivers (after drivers es) e.process e.command).0
 after_push drivers es e = after_push_from drivers empty es e
@@ -41,7 +42,7 @@ legal_push_from drivers c [] e h r = (r, tt)
 legal_push_from drivers c (d ∷ es) e h r =
     (h.0, legal_push_from drivers (step drivers c d.process d.command).0 es e h.1 r)
 
--- and so from the empty one
+-- an entry with the reply of its command may follow a legal history
 pub legal_push : (drivers : List DriverSpec) (es : List Entry) (e : Entry)
     → IsLegal drivers es → (step drivers (after drivers es) e.process e.command).1 ≡ e.reply
     → IsLegal drivers (es ++ e ∷ [])
@@ -51,9 +52,11 @@ legal_push drivers es e h r = legal_push_from drivers empty es e h r
 abbrev entry_of : ℕ × Command → Reply → Entry
 entry_of asked reply = record { process = asked.0; command = asked.1; reply = reply }
 
+-- the step of a process's command
 abbrev step_of : List DriverSpec → Configuration → ℕ × Command → Configuration × Reply
 step_of drivers c asked = step drivers c asked.0 asked.1
 
+-- entries that are legal from one configuration are the same if their calls are the same in the same order
 determined_from : (drivers : List DriverSpec) (c : Configuration) (xs ys : List Entry) → IsLegalFrom drivers c xs
     → IsLegalFrom drivers c ys → map call_of xs ≡ map call_of ys → xs ≡ ys
 determined_from drivers c [] [] h k e = refl

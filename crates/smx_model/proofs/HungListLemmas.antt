@@ -4,65 +4,57 @@ use Rattle.std.proofs.Common.{arith, inl, inr}
 use Rattle.std.proofs.lemmas.Bool.{both_ways, cases_Bool, false≢true, or_from, or_left}
 use Rattle.std.proofs.lemmas.Bool.Decides.{nat_tests}
 use Rattle.smx_types.specs.declared.stream.StreamId.{StreamId}
-use Rattle.smx_model.specs.Configuration.{same_stream, stream_before}
+use Rattle.smx_model.specs.Configuration.{pair_before, same_stream, stream_before}
 use Rattle.smx_model.specs.Hangups.{is_hung, with_hung}
 use Rattle.smx_model.specs.Ordered.{ComesBefore, IsRising}
+use Rattle.smx_model.proofs.EachLemmas.{each_map}
+use Rattle.smx_model.proofs.RisingLemmas.{stream_trans}
 use Rattle.smx_model.proofs.SweptLemmas.{stream_self}
 use Rattle.smx_model.proofs.TestLemmas.{any_of_placed}
 use Rattle.smx_model.proofs.TurningLemmas.{same_stream_is}
 
--- two streams that come neither way are the same
+-- where a pair of numbers comes before another, the other isn't that one
+later_differs : (a b c d : ℕ) → pair_before a b c d ≡ true → (eqb c a && eqb d b) ≡ false
+later_differs a b c d h = grind (arith, nat_tests)
 
-later_other : (a b c d : ℕ) → stream_before (record { driver = a; minor = b }) (record { driver = c; minor = d }) ≡ true
-    → (eqb c a && eqb d b) ≡ false
-later_other a b c d h = grind (arith, nat_tests)
-
-either_way : (a b c d : ℕ) → stream_before (record { driver = a; minor = b }) (record { driver = c; minor = d }) ≡ false
-    → stream_before (record { driver = c; minor = d }) (record { driver = a; minor = b }) ≡ false
+-- two pairs of numbers neither of which comes before the other are the same
+neither_is_same : (a b c d : ℕ) → pair_before a b c d ≡ false → pair_before c d a b ≡ false
     → (eqb a c && eqb b d) ≡ true
-either_way a b c d h k = grind (arith, nat_tests)
+neither_is_same a b c d h k = grind (arith, nat_tests)
 
-trans : (a b c d e f : ℕ) → stream_before (record { driver = a; minor = b }) (record { driver = c; minor = d }) ≡ true
-    → stream_before (record { driver = c; minor = d }) (record { driver = e; minor = f }) ≡ true
-    → stream_before (record { driver = a; minor = b }) (record { driver = e; minor = f }) ≡ true
-trans a b c d e f h k = grind (arith, nat_tests)
-
--- what comes before all of them is none of them
+-- a stream that comes before each of some is none of them
 before_none : (s : StreamId) (xs : List StreamId) → ComesBefore stream_before s xs → is_hung xs s ≡ false
 before_none s [] h = refl
-before_none s (x ∷ xs) h = or_from _ _ (later_other s.driver s.minor x.driver x.minor h.0) (before_none s xs h.1)
+before_none s (x ∷ xs) h = or_from _ _ (later_differs s.driver s.minor x.driver x.minor h.0) (before_none s xs h.1)
 
-before_more : (s x : StreamId) (xs : List StreamId) → stream_before s x ≡ true → ComesBefore stream_before x xs
-    → ComesBefore stream_before s xs
-before_more s x [] h k = tt
-before_more s x (y ∷ ys) h k =
-    (trans s.driver s.minor x.driver x.minor y.driver y.minor h k.0, before_more s x ys h k.1)
+-- the first of a list of hung-up streams has hung up
+first_is_hung : (x : StreamId) (xs : List StreamId) → is_hung (x ∷ xs) x ≡ true
+first_is_hung x xs = or_left _ _ (stream_self x)
 
-there : (x : StreamId) (xs : List StreamId) → is_hung (x ∷ xs) x ≡ true
-there x xs = or_left _ _ (stream_self x)
+-- where a or b is as a or c, and neither b nor c holds with a, b is as c
+same_others : (a b c : Bool) → (a || b) ≡ (a || c) → (a ≡ true → b ≡ false) → (a ≡ true → c ≡ false) → b ≡ c
+same_others true b c e m n = m refl ∙ sym (n refl)
+same_others false b c e m n = e
 
--- without what is in neither
-without : (a b c : Bool) → (a || b) ≡ (a || c) → (a ≡ true → b ≡ false) → (a ≡ true → c ≡ false) → b ≡ c
-without true b c e m n = m refl ∙ sym (n refl)
-without false b c e m n = e
-
--- rising lists of the same streams are the same
+-- two rising lists that hold the same streams are the same
 pub one_list : (xs ys : List StreamId) → IsRising stream_before xs → IsRising stream_before ys
     → ((s : StreamId) → is_hung xs s ≡ is_hung ys s) → xs ≡ ys
 one_list [] [] h k same = refl
-one_list [] (y ∷ ys) h k same = absurd (false≢true (same y ∙ there y ys))
-one_list (x ∷ xs) [] h k same = absurd (false≢true (sym (same x) ∙ there x xs))
+one_list [] (y ∷ ys) h k same = absurd (false≢true (same y ∙ first_is_hung y ys))
+one_list (x ∷ xs) [] h k same = absurd (false≢true (sym (same x) ∙ first_is_hung x xs))
 one_list (x ∷ xs) (y ∷ ys) h k same = elim (cases_Bool (stream_before x y)) [
   | inl t ↦
-      absurd (both_ways (is_hung (y ∷ ys) x) (before_none x (y ∷ ys) (t, before_more x y ys t k.0))
-      (sym (same x) ∙ there x xs))
+      absurd (both_ways (is_hung (y ∷ ys) x)
+      (before_none x (y ∷ ys) (t, each_map _ _ ys (λ z. stream_trans x y z t) k.0))
+      (sym (same x) ∙ first_is_hung x xs))
   | inr f ↦ elim (cases_Bool (stream_before y x)) [
     | inl t ↦
-        absurd (both_ways (is_hung (x ∷ xs) y) (before_none y (x ∷ xs) (t, before_more y x xs t h.0))
-        (same y ∙ there y ys))
+        absurd (both_ways (is_hung (x ∷ xs) y)
+        (before_none y (x ∷ xs) (t, each_map _ _ xs (λ z. stream_trans y x z t) h.0))
+        (same y ∙ first_is_hung y ys))
     | inr g ↦
-        let e : x ≡ y = same_stream_is x y (either_way x.driver x.minor y.driver y.minor f g) in
-        let tails : xs ≡ ys = one_list xs ys h.1 k.1 (λ s. without (same_stream x s) (is_hung xs s) (is_hung ys s)
+        let e : x ≡ y = same_stream_is x y (neither_is_same x.driver x.minor y.driver y.minor f g) in
+        let tails : xs ≡ ys = one_list xs ys h.1 k.1 (λ s. same_others (same_stream x s) (is_hung xs s) (is_hung ys s)
         (same s ∙ ap (λ (z : StreamId). same_stream z s || is_hung ys s) (sym e))
         (λ t. ap (is_hung xs) (sym (same_stream_is x s t)) ∙ before_none x xs h.0)
         (λ t. ap (is_hung ys) (sym (same_stream_is x s t)) ∙ ap (is_hung ys) e ∙ before_none y ys k.0)) in

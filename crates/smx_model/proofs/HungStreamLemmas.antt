@@ -1,9 +1,8 @@
 -- Which streams have hung up after a command.
-use Rattle.std.proofs.Common.{◌≡◌, ℕ, Bool, true, false, List, [], filter, Option, Some, None, Result, Ok, Err, refl}
+use Rattle.std.proofs.Common.{◌≡◌, ℕ, true, false, List, [], filter, Option, Some, None, Result, Ok, Err, refl}
 use Rattle.std.proofs.Common.{rules, sym, ap, ◌∙◌, subst, inl, inr, ◌*◌, length}
 use mathlib.Core.Logic.{◌⊎◌}
 use Rattle.std.specs.Option.{is_some}
-use Rattle.std.specs.List.{list_any}
 use Rattle.std.proofs.lemmas.Bool.{cases_Bool, both_ways, false_from_ne_true, false≢true, or_cases}
 use Rattle.smx_types.specs.Versions.{is_hangup}
 use Rattle.smx_types.specs.declared.command.Command.{Command}
@@ -14,7 +13,7 @@ use Rattle.smx_types.specs.declared.reply.Reply.TheVariants as reply
 use Rattle.smx_types.specs.declared.stream.Place.{Place}
 use Rattle.smx_types.specs.declared.stream.StreamId.{StreamId}
 use Rattle.smx_model.specs.Commands.{outcome, step, after_outcome, done_outcome}
-use Rattle.smx_model.specs.Configuration.{Configuration, same_stream, stream_before}
+use Rattle.smx_model.specs.Configuration.{Configuration, same_stream}
 use Rattle.smx_model.specs.Hangups.{is_hung, with_hung}
 use Rattle.smx_model.specs.KeptConfigurations.{IsKept}
 use Rattle.smx_model.specs.Lookups.{leaf_stream}
@@ -26,33 +25,36 @@ use Rattle.smx_model.specs.Standing.{exists}
 use Rattle.smx_model.specs.Swept.{IsSwept}
 use Rattle.smx_model.proofs.DropLemmas.{done_idle, hung_swept}
 use Rattle.smx_model.proofs.AcceptedLemmas.{of_rows, at_none}
+use Rattle.smx_model.proofs.HungListLemmas.{hung_kept_by, hung_with}
 use Rattle.smx_model.proofs.OutcomeLemmas.{IfAccepted}
 use Rattle.smx_model.proofs.SettledLemmas.{settled_alone}
 use Rattle.smx_model.proofs.SettlingByMarksLemmas.{none_is_least, settling_stays}
 use Rattle.smx_model.proofs.SweptLemmas.{leaf_exists, swept_accepted}
-use Rattle.smx_model.proofs.TestLemmas.{any_filter, any_found, any_of_placed, keep_all}
+use Rattle.smx_model.proofs.TestLemmas.{any_found, keep_all}
 use Rattle.smx_model.proofs.TurningCommandLemmas.{more_hung_turn_none, hung_more}
 use Rattle.smx_model.proofs.TurningLemmas.{same_stream_is}
 use Rattle.smx_model.proofs.WaitingLemmas.{if_open, movable_by}
 use Rattle.smx_model.proofs.EachLemmas.{each_of_list_all}
 use Rattle.smx_model.proofs.MemberLemmas.{any_filtered}
-use Rattle.smx_model.specs.Ordered.{with_inserted}
 use Rattle.smx_types.specs.declared.reply.Reply.{Reply}
 
 -- each command but a hangup leaves those that exist
 
--- the same, or of the same those that exist
+-- after a command the same streams have hung up, or of these those that exist
 record LeavesHungs (drivers : List DriverSpec) (c d : Configuration) : Type 0 where
   either : (d.hungs ≡ c.hungs) ⊎ (d.hungs ≡ filter (λ s. exists drivers d s) c.hungs)
 
+-- a configuration with the same hung-up streams leaves all of them
 hungs_same : (drivers : List DriverSpec) (c d : Configuration) → d.hungs ≡ c.hungs → LeavesHungs drivers c d
 hungs_same drivers c d e = record { either = inl e }
 
+-- the sweep leaves of the hung-up streams those that exist
 hungs_done : (drivers : List DriverSpec) (c d : Configuration) → d.hungs ≡ c.hungs
     → IfAccepted (λ d r. LeavesHungs drivers c d) (done_outcome drivers c d)
 hungs_done drivers c d e =
     record { holds = record { either = inr (ap (filter (λ s. exists drivers (without_links d _) s)) e) } }
 
+-- an accepted command that is no hangup leaves of the hung-up streams all, or those that exist
 hungs_accepted : (drivers : List DriverSpec) (c : Configuration) (process : ℕ) (k : Command) → is_hangup k ≡ false
     → IfAccepted (λ d r. LeavesHungs drivers c d) (outcome drivers c process k)
 hungs_accepted drivers c process k other =
@@ -64,6 +66,7 @@ hungs_accepted drivers c process k other =
 abbrev existing : List DriverSpec → Configuration → List StreamId → List StreamId
 existing drivers d hungs = filter (λ s. exists drivers d s) hungs
 
+-- after an outcome that leaves all hung-up streams, or those that exist, those of them that exist have hung up
 hungs_finished : (drivers : List DriverSpec) (c : Configuration) (o : Outcome) → IsSwept drivers c
     → IfAccepted (λ d r. IsSwept drivers d) o → IfAccepted (λ d r. LeavesHungs drivers c d) o
     → (after_outcome drivers c o).0.hungs ≡ existing drivers (after_outcome drivers c o).0 c.hungs
@@ -83,12 +86,14 @@ others_leave_hungs drivers c process k h other = hungs_finished drivers c (outco
 
 -- a hangup moves nothing
 
+-- a next place that is missing or full isn't open later, if it is the same then or missing, and the full places are too
 stays_stuck : (c d : Configuration) (o n : Option Place) → Stays o n → d.fulls ≡ c.fulls → is_some (if_open c o) ≡ false
     → is_some (if_open d n) ≡ false
 stays_stuck c d o n (inr e) f h = rw e refl
 stays_stuck c d None n (inl e) f h = rw e refl
 stays_stuck c d (Some q) n (inl e) f h = rw (e, f) h
 
+-- a settled configuration stays so when a stream hangs up
 hung_settled : (drivers : List DriverSpec) (c : Configuration) (s : StreamId) → IsSettled drivers c
     → IsSettled drivers (record c { hungs = with_hung s c.hungs })
 hung_settled drivers c s h p = let d = record c { hungs = with_hung s c.hungs } in
@@ -106,21 +111,16 @@ hangup_is drivers c process name minor s h e =
     (done_idle drivers c hung (hung_swept drivers c s h.sound.swept (leaf_exists drivers c name minor s e)) refl)
     ∙ ap (λ (d : Configuration). (d, reply.Done []))
     (settling_stays drivers _ hung
-    (none_is_least drivers hung h.sound.ordered.flow (hung_settled drivers c s h.settled)))) where
+    (none_is_least drivers hung (hung_settled drivers c s h.settled)))) where
       hung : Configuration
       hung = record c { hungs = with_hung s c.hungs }
 
--- so a stream that has hung up stays so, and one that is opened anew hasn't
+-- what has hung up stays so, and what is opened anew hasn't
 
 -- to hang up a stream that has hung up changes nothing
 pub hung_kept : (drivers : List DriverSpec) (c : Configuration) (s : StreamId) → is_hung c.hungs s ≡ true
     → (record c { hungs = with_hung s c.hungs }) ≡ c
 hung_kept drivers c s h = rw h refl
-
--- what is hung up, of a list that is filtered
-hung_filter : (hungs : List StreamId) (keep : StreamId → Bool) (s : StreamId) → keep s ≡ true
-    → is_hung (filter keep hungs) s ≡ is_hung hungs s
-hung_filter hungs keep s k = any_filter (λ t. same_stream t s) keep hungs (λ t e. ap keep (same_stream_is t s e) ∙ k)
 
 -- a second hangup of a device's stream is accepted, drops nothing and changes nothing
 pub hangup_again : (drivers : List DriverSpec) (c : Configuration) (process : ℕ) (name : List ℕ) (minor : ℕ)
@@ -129,23 +129,25 @@ pub hangup_again : (drivers : List DriverSpec) (c : Configuration) (process : �
 hangup_again drivers c process name minor s h e again = hangup_is drivers c process name minor s h e
     ∙ ap (λ (d : Configuration). (d, reply.Done [])) (hung_kept drivers c s again)
 
--- a hangup is that of a driver and a minor
+-- a command is a hangup of a driver's minor
 record IsHangup (k : Command) : Type 0 where
   name : List ℕ
   minor : ℕ
   is : k ≡ command.Hangup name minor
 
+-- a command that is a hangup names a driver and a minor
 hangup_of : (k : Command) → is_hangup k ≡ true → IsHangup k
 hangup_of (command.Hangup name minor) h = record { name = name; minor = minor; is = refl }
 hangup_of k h = absurd (false≢true h)
 
--- after it the same have hung up, or one more that exists
+-- afterwards the same streams have hung up, or one more that existed before
 record HangsUp (drivers : List DriverSpec) (c d : Configuration) : Type 0 where
   either : (d.hungs ≡ c.hungs) ⊎ ((s : StreamId) × (exists drivers c s ≡ true) × (d.hungs ≡ with_hung s c.hungs))
 
-hangs : (drivers : List DriverSpec) (c : Configuration) (process : ℕ) (name : List ℕ) (minor : ℕ) → IsKept drivers c
-    → HangsUp drivers c (step drivers c process (command.Hangup name minor)).0
-hangs drivers c process name minor h = by (leaf_stream drivers c name minor) refl where
+-- after a hangup the same streams have hung up as before, or one more that exists
+hangup_leaves : (drivers : List DriverSpec) (c : Configuration) (process : ℕ) (name : List ℕ) (minor : ℕ)
+    → IsKept drivers c → HangsUp drivers c (step drivers c process (command.Hangup name minor)).0
+hangup_leaves drivers c process name minor h = by (leaf_stream drivers c name minor) refl where
   by : (r : Result StreamId Fault) → leaf_stream drivers c name minor ≡ r
       → HangsUp drivers c (step drivers c process (command.Hangup name minor)).0
   by (Ok s) e =
@@ -170,7 +172,7 @@ pub hung_stays : (drivers : List DriverSpec) (c : Configuration) (process : ℕ)
     → is_hung (step drivers c process k).0.hungs s ≡ true
 hung_stays drivers c process k s h was there = elim (cases_Bool (is_hangup k)) [
   | inr other ↦ ap (λ (hs : List StreamId). is_hung hs s) (others_leave_hungs drivers c process k h.sound.swept other)
-      ∙ (hung_filter c.hungs (λ t. exists drivers (step drivers c process k).0 t) s there ∙ was)
+      ∙ (hung_kept_by (λ t. exists drivers (step drivers c process k).0 t) s c.hungs ∙ rw there was)
   | inl hangs_up ↦ let w = hangup_of k hangs_up in
       subst (λ (x : Command). is_hung (step drivers c process x).0.hungs s ≡ true) (sym w.is) (more w.name w.minor)
 ] where
@@ -181,24 +183,15 @@ hung_stays drivers c process k s h was there = elim (cases_Bool (is_hangup k)) [
 
   more : (name : List ℕ) (minor : ℕ) → is_hung (step drivers c process (command.Hangup name minor)).0.hungs s ≡ true
   more name minor =
-      by (step drivers c process (command.Hangup name minor)).0 (hangs drivers c process name minor h).either
+      by (step drivers c process (command.Hangup name minor)).0 (hangup_leaves drivers c process name minor h).either
 
+-- in a swept configuration each stream that has hung up exists
 hung_exists : (drivers : List DriverSpec) (c : Configuration) (s : StreamId) → IsSwept drivers c
     → is_hung c.hungs s ≡ true → exists drivers c s ≡ true
 hung_exists drivers c s h e =
     let f = any_found (λ t. same_stream t s) (λ t. exists drivers c t ≡ true) c.hungs
     (each_of_list_all (λ t. exists drivers c t) (λ t. exists drivers c t ≡ true) c.hungs (λ t p. p) h.hungs) e in
     subst (λ (x : StreamId). exists drivers c x ≡ true) (same_stream_is f.one s f.passes) f.has
-
--- what has hung up had before, or is the one
-hung_before : (t s : StreamId) (hungs : List StreamId) → is_hung (with_hung t hungs) s ≡ true
-    → (is_hung hungs s ≡ true) ⊎ (same_stream t s ≡ true)
-hung_before t s hungs h = elim (cases_Bool (is_hung hungs t)) [
-  | inl y ↦ inl (rw y at h)
-  | inr n ↦ let k : list_any (λ u. same_stream u s) (with_inserted stream_before hungs t) ≡ true = rw n at h in
-      elim (or_cases (same_stream t s) (is_hung hungs s)
-      (sym (any_of_placed (λ u. same_stream u s) stream_before hungs t) ∙ k)) [ inl a ↦ inr a | inr b ↦ inl b ]
-]
 
 -- a stream that didn't exist before a command has not hung up after it
 pub hung_anew : (drivers : List DriverSpec) (c : Configuration) (process : ℕ) (k : Command) (s : StreamId)
@@ -216,13 +209,15 @@ hung_anew drivers c process k s h gone =
           ⊎ ((t : StreamId) × (exists drivers c t ≡ true) × (d.hungs ≡ with_hung t c.hungs)) → is_hung d.hungs s ≡ true
           → exists drivers c s ≡ true
       by d (inl e) now = hung_exists drivers c s h.sound.swept (rw e at now)
-      by d (inr (t, x, e)) now = elim (hung_before t s c.hungs (rw e at now)) [
-        | inl was ↦ hung_exists drivers c s h.sound.swept was
-        | inr same ↦ subst (λ (y : StreamId). exists drivers c y ≡ true) (same_stream_is t s same) x
-      ]
+      by d (inr (t, x, e)) now =
+          elim (or_cases (same_stream t s) (is_hung c.hungs s) (sym (hung_with t s c.hungs) ∙ rw e at now)) [
+            | inl same ↦ subst (λ (y : StreamId). exists drivers c y ≡ true) (same_stream_is t s same) x
+            | inr was ↦ hung_exists drivers c s h.sound.swept was
+          ]
 
       there : (name : List ℕ) (minor : ℕ) → is_hung (step drivers c process (command.Hangup name minor)).0.hungs s
           ≡ true
           → exists drivers c s ≡ true
       there name minor now =
-          by (step drivers c process (command.Hangup name minor)).0 (hangs drivers c process name minor h).either now
+          by (step drivers c process (command.Hangup name minor)).0
+          (hangup_leaves drivers c process name minor h).either now

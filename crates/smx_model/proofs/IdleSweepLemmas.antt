@@ -15,9 +15,11 @@ use Rattle.smx_model.specs.Standing.{is_persistent, exists}
 use Rattle.smx_model.specs.Swept.{IsSwept}
 use Rattle.smx_model.proofs.TestLemmas.{keep_all, all_same, all_true, none_kept}
 
+-- two tests don't both fail exactly where one of them passes
 not_gone : (a b : Bool) → not (not a && not b) ≡ (a || b)
 not_gone a b = grind arith
 
+-- a test that is negated twice is as it was
 not_not : (b : Bool) → not (not b) ≡ b
 not_not b = grind arith
 
@@ -25,6 +27,7 @@ not_not b = grind arith
 abbrev with_lists : Configuration → List Link → List Route → List QueuedMessage → List Place → Configuration
 with_lists c links routes flow fulls = record c { links = links; routes = routes; flow = flow; fulls = fulls }
 
+-- where no link goes, the removal of links changes nothing
 removed_none : (c : Configuration) (goes : Link → Bool) → list_all (λ l. not (goes l)) c.links ≡ true
     → without_links c goes ≡ c
 removed_none c goes h = by (filter goes c.links) (none_kept goes c.links h) where
@@ -53,6 +56,7 @@ removed_none c goes h = by (filter goes c.links) (none_kept goes c.links h) wher
       ∙ ap (with_lists c c.links c.routes c.flow)
       (keep_all _ c.fulls (all_true (λ p. not (is_read_below [] p)) c.fulls (λ p. off p.side))))))
 
+-- in a swept configuration there is nothing to take away of streams that don't exist
 dead_none : (drivers : List DriverSpec) (c : Configuration) → IsSwept drivers c → without_dead_streams drivers c ≡ c
 dead_none drivers c h =
     ap (λ (x : List StreamId).

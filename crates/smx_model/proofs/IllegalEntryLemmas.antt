@@ -28,7 +28,7 @@ same_or_not r s = elim (cases_Bool _) [
   | inr f ↦ inr (not_from_Decides _ (reply_tells r s) f)
 ]
 
--- below a number of entries that are legal, each entry has the reply of its command
+-- below a number of entries that are legal from a configuration, each entry has the reply that its command gets
 reply_before : (drivers : List DriverSpec) (c : Configuration) (es : List Entry) (m n : ℕ) (e : Entry)
     → m < n → IsLegalFrom drivers c (take n es) → slice_get es m ≡ Some e
     → reply_to drivers (after_from drivers c (take m es)) e ≡ e.reply
@@ -41,13 +41,13 @@ reply_before drivers c (x ∷ es) zero (suc n) e lt legal here =
 reply_before drivers c (x ∷ es) (suc m) (suc n) e lt legal here =
     reply_before drivers (step drivers c x.process x.command).0 es m n e (omega (arith, lt)) legal.1 here
 
--- a first entry that is illegal, starting from this configuration
+-- an entry that is the first illegal one, starting from this configuration
 abbrev FirstFrom : List DriverSpec → Configuration → List Entry → Type 0
 FirstFrom drivers c es =
     (before : ℕ) × (e : Entry) × (slice_get es before ≡ Some e) × IsLegalFrom drivers c (take before es)
     × (reply_to drivers (after_from drivers c (take before es)) e ≢ e.reply)
 
--- one of the two holds, starting from this configuration
+-- entries are legal from a configuration, or one of them is the first that is illegal
 either_from : (drivers : List DriverSpec) (c : Configuration) (es : List Entry)
     → IsLegalFrom drivers c es ⊎ FirstFrom drivers c es
 either_from drivers c [] = inl tt
@@ -59,7 +59,7 @@ either_from drivers c (e ∷ es) = elim (same_or_not (reply_to drivers c e) e.re
   ]
 ]
 
--- and so from the empty one
+-- a history is legal, or one of its entries is the first that is illegal
 pub legal_or_first : (drivers : List DriverSpec) (es : List Entry)
     → IsLegal drivers es ⊎ ((n : ℕ) × IsFirstIllegal drivers es n)
 legal_or_first drivers es = elim (either_from drivers empty es) [
@@ -85,7 +85,7 @@ not_before : (drivers : List DriverSpec) (es : List Entry) (m n : ℕ) → (h : 
 not_before drivers es m n h k lt =
     h.other_reply (reply_before drivers empty es h.before k.before h.entry lt k.legal_before h.here)
 
--- so there is one number
+-- a history has its first illegal entry at one number alone
 pub one_number : (drivers : List DriverSpec) (es : List Entry) (m n : ℕ)
     → IsFirstIllegal drivers es m → IsFirstIllegal drivers es n → m ≡ n
 one_number drivers es m n h k = elim (cases_order h.before k.before) [

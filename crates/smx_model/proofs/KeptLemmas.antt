@@ -1,9 +1,10 @@
 -- What every configuration is, is kept by each command.
-use Rattle.std.proofs.Common.{◌≡◌, ◌↔◌, ℕ, zero, suc, ◌+◌, ◌<◌, Ok, Err, true, ◌≤◌, ltb, List, [], ◌∷◌}
+use Rattle.std.proofs.Common.{◌≡◌, ◌↔◌, ℕ, zero, suc, ◌+◌, ◌<◌, Ok, Err, true, ◌≤◌, List, [], ◌∷◌}
 use Rattle.std.proofs.Common.{length, get_or, refl, sym, ◌∙◌, subst, arith, inl, inr}
 use Rattle.std.specs.Prelude.{IfOk}
 use Rattle.std.specs.List.{All, AllPairs}
 use Rattle.std.proofs.lemmas.Bool.{cases_eq, cases_lt, eq-eqb, ltb-true, ne_eqb}
+use Rattle.std.proofs.lemmas.List.Elements.{recursion_from_All}
 use Rattle.smx_types.specs.declared.command.Command.{Command}
 use Rattle.smx_types.specs.declared.command.Entry.{Entry}
 use Rattle.smx_types.specs.declared.driver.DriverSpec.{DriverSpec}
@@ -36,21 +37,24 @@ use Rattle.smx_model.proofs.SweptLemmas.{stands_exists, swept_accepted, swept_mo
 use Rattle.smx_model.proofs.ViewLemmas.{EachKnown, each_known, known_of_each, one_configuration}
 use Rattle.smx_types.specs.declared.stream.Place.{Place}
 use Rattle.smx_types.specs.declared.stream.StreamId.{StreamId}
-use Rattle.smx_model.proofs.EachLemmas.{apart_rising, each_both}
-use Rattle.smx_model.proofs.EachLemmas.{each_map, each_of_all}
+use Rattle.smx_model.proofs.EachLemmas.{each_both, later_map}
+use Rattle.smx_model.proofs.EachLemmas.{each_map}
 
--- a number that is in a list is there at least once
+-- numbers in a list, by index and by how often they are there
 
+-- the number at an index within a list is there at least once
 times_at : (xs : List ℕ) (j d : ℕ) → j < length xs → 1 ≤ times (get_or xs j d) xs
 times_at [] j d lt = absurd (omega arith)
 times_at (x ∷ xs) zero d lt = rw (eq-eqb x x refl) (omega arith)
 times_at (x ∷ xs) (suc j) d lt = omega (arith, times_at xs j d (omega arith))
 
+-- the number is in the list, at this index
 record IsAt (n : ℕ) (xs : List ℕ) : Type 0 where
   index : ℕ
   within : index < length xs
   is : (d : ℕ) → get_or xs index d ≡ n
 
+-- a number that is in a list at least once has an index there
 at_some : (n : ℕ) (xs : List ℕ) → 1 ≤ times n xs → IsAt n xs
 at_some n [] h = absurd (omega arith)
 at_some n (x ∷ xs) h = elim (cases_eq x n) [
@@ -59,8 +63,9 @@ at_some n (x ∷ xs) h = elim (cases_eq x n) [
       record { index = suc r.index; within = omega (arith, r.within); is = r.is }
 ]
 
--- none is there twice where they differ
+-- numbers that differ
 
+-- where each number is in a list at most once, no two of its elements are the same
 once_apart : (xs : List ℕ) → ((n : ℕ) → times n xs ≤ 1) → AllPairs (λ m n. m ≡ n → ⊥) xs
 once_apart [] h i j d lt within e = absurd (omega arith)
 once_apart (x ∷ xs) h zero zero d lt within e = absurd (omega arith)
@@ -73,6 +78,7 @@ once_apart (x ∷ xs) h (suc i) zero d lt within e = absurd (omega (arith, lt))
 once_apart (x ∷ xs) h (suc i) (suc j) d lt within e =
     once_apart xs (λ n. omega (arith, h n)) i j d (omega (arith, lt)) (omega (arith, within)) e
 
+-- where no two elements of a list are the same, each number is there at most once
 apart_once : (xs : List ℕ) → AllPairs (λ m n. m ≡ n → ⊥) xs → (n : ℕ) → times n xs ≤ 1
 apart_once [] h n = omega arith
 apart_once (x ∷ xs) h n =
@@ -86,33 +92,37 @@ apart_once (x ∷ xs) h n =
       | inr ne ↦ rw (ne_eqb x n ne) (omega (arith, rest))
     ]
 
+-- where all elements of a list are below a number, none from that on is in it
 none_from : (xs : List ℕ) (next : ℕ) → All (λ n. n < next) xs → (n : ℕ) → next ≤ n → times n xs ≡ 0
 none_from [] next h n le = refl
 none_from (x ∷ xs) next h n le = rw (ne_eqb x n (λ e. omega (arith, e, le, h 0 0 (omega arith))))
     (omega (arith, none_from xs next (λ k d lt. h (suc k) d (omega (arith, lt))) n le))
 
+-- where no number from one on is in a list, all its elements are below that
 all_below : (xs : List ℕ) (next : ℕ) → ((n : ℕ) → next ≤ n → times n xs ≡ 0) → All (λ n. n < next) xs
 all_below xs next h k d lt = elim (cases_lt (get_or xs k d) next)
     [ inl below ↦ below | inr le ↦ absurd (omega (arith, h (get_or xs k d) le, times_at xs k d lt)) ]
 
 -- from what the laws say to what the lemmas take, and back
 
+-- where each part has a stream that the drivers have, descriptors and links do
 named_of : (drivers : List DriverSpec) (c : Configuration) → AreStreamsKnown drivers c → AreNamed drivers c
 named_of drivers c h = record {
-  fds = each_of_all _ c.fds h.fds;
-  links = each_both _ _ c.links (each_of_all _ c.links h.controlling) (each_of_all _ c.links h.lowers);
+  fds = recursion_from_All _ c.fds h.fds;
+  links = each_both _ _ c.links (recursion_from_All _ c.links h.controlling) (recursion_from_All _ c.links h.lowers);
 }
 
+-- where ids rise and routes are sound, links and routes are as `AreRouted` says
 routed_of : (drivers : List DriverSpec) (c : Configuration) → AreIdsRising c.links c.next_id → AreRoutesSound drivers c
     → AreRouted drivers c
 routed_of drivers c h k = record {
-  rise = apart_rising _ (λ l k. ltb l.id k.id) (λ l k. ltb-true l.id k.id) c.links h.rise;
-  ids = each_both _ _ c.links (each_of_all _ c.links h.from_one) (each_of_all _ c.links h.below_next);
+  rise = later_map _ _ c.links (λ l k. ltb-true l.id k.id) h.rise;
+  ids = each_both _ _ c.links (recursion_from_All _ c.links h.from_one) (recursion_from_All _ c.links h.below_next);
   start = h.next;
-  routes = each_both _ _ c.routes (each_of_all _ c.routes k.mux) (each_of_all _ c.routes k.lead);
+  routes = each_both _ _ c.routes (recursion_from_All _ c.routes k.mux) (recursion_from_All _ c.routes k.lead);
 }
 
--- all that is kept, as the lemmas take it
+-- what a sound configuration is, as the lemmas take it
 record Parts (drivers : List DriverSpec) (c : Configuration) : Type 0 where
   links : AreLinksSound c.links
   named : AreNamed drivers c
@@ -121,6 +131,7 @@ record Parts (drivers : List DriverSpec) (c : Configuration) : Type 0 where
   numbered : IsNumbered c
   swept_ : IsSwept drivers c
 
+-- a sound configuration has all parts of `Parts`
 parts_of : (drivers : List DriverSpec) (c : Configuration) → IsSound drivers c → Parts drivers c
 parts_of drivers c h = record {
   links = h.links;
@@ -134,6 +145,7 @@ parts_of drivers c h = record {
   swept_ = h.swept;
 }
 
+-- a configuration with all parts of `Parts` is sound
 of_parts : (drivers : List DriverSpec) (c : Configuration) → Parts drivers c → IsSound drivers c
 of_parts drivers c h = record {
   links = h.links;
@@ -150,6 +162,7 @@ of_parts drivers c h = record {
 
 -- each accepted outcome
 
+-- an accepted command keeps all parts of `Parts`
 parts_accepted : (drivers : List DriverSpec) (c : Configuration) (process : ℕ) (k : Command) → Parts drivers c
     → IfAccepted (λ d r. Parts drivers d) (outcome drivers c process k)
 parts_accepted drivers c process k h = by (outcome drivers c process k) (sound_accepted drivers c process k h.links)
@@ -179,6 +192,7 @@ outcome_sound drivers c process k h = if_ok (Parts drivers) _ (outcome drivers c
 
 -- each move
 
+-- a move leaves to each queued message a serial of its own, below the next one
 numbered_moved : (drivers : List DriverSpec) (c : Configuration) (p : Place) → IsNumbered c
     → IsNumbered (after_move drivers c p)
 numbered_moved drivers c p h = record {
@@ -186,6 +200,7 @@ numbered_moved drivers c p h = record {
   below = λ n le. omega (arith, moved_same n drivers c p, h.below n (omega (arith, moved_next drivers c p, le)));
 }
 
+-- a move keeps all parts of `Parts`
 parts_moved : (drivers : List DriverSpec) (c : Configuration) (p : Place) → Parts drivers c
     → Parts drivers (after_move drivers c p)
 parts_moved drivers c p h = record {
@@ -194,7 +209,7 @@ parts_moved drivers c p h = record {
   routed = routed_moved drivers c p h.routed;
   ordered = rising_moved drivers c p h.ordered;
   numbered = numbered_moved drivers c p h.numbered;
-  swept_ = swept_moved drivers c p (record { none = h.links.no_cycle; named = h.named; swept_ = h.swept_ });
+  swept_ = swept_moved drivers c p (record { no_cycle = h.links.no_cycle; named = h.named; swept_ = h.swept_ });
 }
 
 -- a move leaves a sound configuration sound
@@ -202,7 +217,7 @@ pub moved_sound : (drivers : List DriverSpec) (c : Configuration) (p : Place) �
     → IsSound drivers (after_move drivers c p)
 moved_sound drivers c p h = of_parts drivers (after_move drivers c p) (parts_moved drivers c p (parts_of drivers c h))
 
--- and so settling
+-- settling
 
 -- a sound configuration that is settled stays sound, and no message can move on
 pub settled_kept : (drivers : List DriverSpec) (c : Configuration) → IsSound drivers c
@@ -213,8 +228,9 @@ settled_kept drivers c h = let p = parts_of drivers c h in record {
   settled = settled_is drivers c p.links p.named p.routed;
 }
 
--- and so each command
+-- each command
 
+-- a command leaves a sound and settled configuration sound and settled, if what it is accepted with is sound
 finished_kept : (drivers : List DriverSpec) (c : Configuration) (o : Outcome) → IsKept drivers c
     → IfOk o (λ x. IsSound drivers x.0) → IsKept drivers (after_outcome drivers c o).0
 finished_kept drivers c (Ok x) h k = settled_kept drivers x.0 k
@@ -241,6 +257,7 @@ empty_kept drivers = record {
   settled = λ p. refl;
 }
 
+-- after any entries a configuration that was sound and settled is so
 after_keeps : (drivers : List DriverSpec) (c : Configuration) (es : List Entry) → IsKept drivers c
     → IsKept drivers (after_from drivers c es)
 after_keeps drivers c [] h = h
@@ -260,7 +277,7 @@ exists_is_stands drivers c s sound known = (
   λ h. record { climbs = length drivers; within = h },
   λ h. stands_exists drivers c s sound.no_cycle
       (each_map (λ l. IsKnown drivers l.ctl) (λ l. l.ctl.driver < length drivers) c.links (λ l p. p.0)
-      (each_of_all _ c.links known)) h,
+      (recursion_from_All _ c.links known)) h,
 )
 
 -- after any history a stream exists just where it stands within some number of climbs
@@ -269,6 +286,7 @@ pub always_exists_is_stands : (drivers : List DriverSpec) (history : List Entry)
 always_exists_is_stands drivers history s = let k = (always_is_kept drivers history).sound in
     exists_is_stands drivers (after drivers history) s k.links k.known.controlling
 
+-- each part of a sound configuration has a stream, and each route a driver, that the drivers have
 known_parts : (drivers : List DriverSpec) (c : Configuration) → IsSound drivers c → EachKnown drivers c
 known_parts drivers c h = let p = parts_of drivers c h in each_known drivers c p.named p.routed p.swept_
 

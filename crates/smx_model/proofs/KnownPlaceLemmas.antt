@@ -3,6 +3,8 @@ use Rattle.std.proofs.Common.{◌≡◌, ℕ, Bool, ◌&&◌, eqb, List, [], ◌
 use Rattle.std.proofs.Common.{inl, inr}
 use Rattle.std.specs.Prelude.{◌≢◌}
 use Rattle.std.proofs.lemmas.Bool.{cases_Bool}
+use Rattle.std.specs.List.{AllByRecursion}
+use Rattle.std.proofs.lemmas.List.Elements.{recursion_from_All}
 use Rattle.smx_types.specs.declared.driver.DriverSpec.{DriverSpec}
 use Rattle.smx_types.specs.declared.link.Binding.{Binding}
 use Rattle.smx_types.specs.declared.link.Link.{Link}
@@ -16,14 +18,15 @@ use Rattle.smx_model.specs.DriverList.{is_mux}
 use Rattle.smx_model.specs.KnownStreams.{AreStreamsKnown, IsKnown}
 use Rattle.smx_model.specs.Queues.{first_message}
 use Rattle.smx_model.proofs.WaitingLemmas.{next_by, next_is}
-use Rattle.smx_model.proofs.EachLemmas.{Each, each_of_all, each_find}
+use Rattle.smx_model.proofs.EachLemmas.{each_find}
 use Rattle.smx_model.proofs.SettlingLemmas.{same_place_is}
 use Rattle.smx_model.specs.RunMarks.{next_of_first, next_of}
 use Rattle.smx_model.proofs.TurningLemmas.{lower_side, down_by, bound_side, up_by}
 use Rattle.smx_model.proofs.LookupLemmas.{live_is_side}
 
+-- where all messages are at places of streams that the drivers have, a place with a message is of such a stream
 held_by_known : (drivers : List DriverSpec) (hs : List QueuedMessage) (p : Place)
-    → Each (λ h. IsKnown drivers h.place.stream) hs → first_message hs p ≢ None → IsKnown drivers p.stream
+    → AllByRecursion (λ h. IsKnown drivers h.place.stream) hs → first_message hs p ≢ None → IsKnown drivers p.stream
 held_by_known drivers [] p k some = absurd (some refl)
 held_by_known drivers (h ∷ hs) p k some = elim (cases_Bool (is_at p h)) [
   | inl t ↦ subst (λ (x : Place). IsKnown drivers x.stream) (same_place_is h.place p t) k.0
@@ -33,20 +36,21 @@ held_by_known drivers (h ∷ hs) p k some = elim (cases_Bool (is_at p h)) [
 -- a place with a message is one of a stream that the drivers have
 pub held_known : (drivers : List DriverSpec) (c : Configuration) (p : Place) → AreStreamsKnown drivers c
     → first_message c.flow p ≢ None → IsKnown drivers p.stream
-held_known drivers c p k some = held_by_known drivers c.flow p (each_of_all _ c.flow k.flow) some
+held_known drivers c p k some = held_by_known drivers c.flow p (recursion_from_All _ c.flow k.flow) some
 
 -- where a first message goes next is a place of a stream that the drivers have
 pub next_known : (drivers : List DriverSpec) (c : Configuration) (p q : Place) → AreStreamsKnown drivers c
     → next_of_first drivers c p ≡ Some q → IsKnown drivers q.stream
 next_known drivers c p q k e = by (first_message c.flow p) e where
   at_lower : (o : Option Link) (links : List Link) (t : Link → Bool) → find t links ≡ o
-      → Each (λ l. IsKnown drivers l.lower) links → lower_side c.hungs o ≡ Some q → IsKnown drivers q.stream
+      → AllByRecursion (λ l. IsKnown drivers l.lower) links → lower_side c.hungs o ≡ Some q → IsKnown drivers q.stream
   at_lower None links t f h e = cc
   at_lower (Some l) links t f h e = let is : record { stream = l.lower; side = side.Write } ≡ q =
       live_is_side c.hungs l.lower q e in subst (λ (x : Place). IsKnown drivers x.stream) is (each_find _ t links l f h)
 
   at_bound : (o : Option Binding) (binds : List Binding) (t : Binding → Bool) → find t binds ≡ o
-      → Each (λ b. IsKnown drivers (record { driver = b.driver; minor = b.minor })) binds → bound_side o ≡ Some q
+      → AllByRecursion (λ b. IsKnown drivers (record { driver = b.driver; minor = b.minor })) binds
+      → bound_side o ≡ Some q
       → IsKnown drivers q.stream
   at_bound None binds t f h e = cc
   at_bound (Some b) binds t f h e = let is : record {
@@ -57,12 +61,13 @@ next_known drivers c p q k e = by (first_message c.flow p) e where
   down : (o : Option Route) → down_by c.links c.hungs o ≡ Some q → IsKnown drivers q.stream
   down None e = cc
   down (Some r) e =
-      at_lower (find (λ l. eqb l.id r.id) c.links) c.links (λ l. eqb l.id r.id) refl (each_of_all _ c.links k.lowers) e
+      at_lower (find (λ l. eqb l.id r.id) c.links) c.links (λ l. eqb l.id r.id) refl
+      (recursion_from_All _ c.links k.lowers) e
 
   up : (a : ℕ) (o : Option Link) → up_by c.binds a o ≡ Some q → IsKnown drivers q.stream
   up a None e = cc
   up a (Some l) e = at_bound (find (λ b. eqb b.driver l.ctl.driver && eqb b.addr a) c.binds) c.binds
-      (λ b. eqb b.driver l.ctl.driver && eqb b.addr a) refl (each_of_all _ c.binds k.binds) e
+      (λ b. eqb b.driver l.ctl.driver && eqb b.addr a) refl (recursion_from_All _ c.binds k.binds) e
 
   at : (a : ℕ) (x : Side) → next_by drivers c p.stream a x ≡ Some q → IsKnown drivers q.stream
   at a side.Write e = elim (cases_Bool (is_mux drivers p.stream.driver)) [

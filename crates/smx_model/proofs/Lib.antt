@@ -27,7 +27,7 @@ pub mod MemberLemmas
 pub mod SettledLemmas
 pub mod RemovalLemmas
 pub mod DeliveryLemmas
-pub mod MarkLemmas
+pub mod WaterMarkLemmas
 pub mod DescriptorLemmas
 pub mod BindingLemmas
 pub mod RoutingLemmas
@@ -35,10 +35,15 @@ pub mod ReportLemmas
 pub mod IllegalEntryLemmas
 pub mod IdLemmas
 pub mod WaitingLemmas
+pub mod FindLemmas
 pub mod TurningLemmas
+pub mod FewerLemmas
+pub mod FeederLemmas
 pub mod TurningCommandLemmas
 pub mod KnownPlaceLemmas
 pub mod SettlingByMarksLemmas
+pub mod MoveBetweenLemmas
+pub mod LoneWaitingLemmas
 pub mod LoneMessageLemmas
 pub mod MarkedPlaceLemmas
 pub mod FreedPlaceLemmas

@@ -5,8 +5,9 @@ use Rattle.std.proofs.Common.{inr}
 use Rattle.std.specs.List.{count_by, list_any}
 use Rattle.std.proofs.lemmas.Bool.{cases_Bool, eqb-true, leb-false, or_parts}
 use Rattle.std.proofs.lemmas.List.{length_push}
-use Rattle.std.proofs.lemmas.List.Sums.{length-filter}
+use Rattle.std.proofs.lemmas.List.Sums.{count_by-le-length, length-filter}
 use Rattle.std.proofs.lemmas.Bool.Decides.{nat_tests}
+use Rattle.std.specs.List.{AllByRecursion}
 use Rattle.smx_types.specs.declared.command.Command.{Command}
 use Rattle.smx_types.specs.declared.command.Entry.{Entry}
 use Rattle.smx_types.specs.declared.driver.DriverSpec.{DriverSpec}
@@ -20,46 +21,42 @@ use Rattle.smx_model.specs.Histories.{after}
 use Rattle.smx_model.specs.Lookups.{free_fd}
 use Rattle.smx_model.specs.Ordered.{ComesBefore, IsRising}
 use Rattle.smx_model.proofs.SettledLemmas.{MovesKeep, after_by, moved_by}
-use Rattle.smx_model.proofs.EachLemmas.{Each, each_filter, each_placed}
+use Rattle.smx_model.proofs.EachLemmas.{each_filter, each_map, each_of_every, each_placed}
 use Rattle.smx_model.proofs.KeptLemmas.{always_is_kept}
 use Rattle.smx_model.proofs.AcceptedLemmas.{of_rows}
 use Rattle.smx_model.proofs.LookupLemmas.{there_is}
 use Rattle.smx_model.proofs.RangeLemmas.{range_below}
 use Rattle.smx_model.proofs.OutcomeLemmas.{IfAccepted}
 
--- it keeps to the limits
+-- a configuration keeps to the limits
 pub record IsWithin (c : Configuration) : Type 0 where
   pub links : length c.links ≤ MAX_LINKS
-  pub numbers : Each (λ d. d.fd < MAX_DESCRIPTORS) c.fds
+  pub numbers : AllByRecursion (λ d. d.fd < MAX_DESCRIPTORS) c.fds
   pub ids : c.next_id ≤ NUMBER_END
   pub serials : c.next_serial ≤ NUMBER_END
 
--- a free number is below the limit
-
+-- a free number of a process is below the most descriptors that it may have
 free_below : (c : Configuration) (process fd : ℕ) → free_fd c process ≡ Ok fd → fd < MAX_DESCRIPTORS
 free_below c process fd e =
     range_below (λ n. not (list_any (is_fd process n) c.fds)) 0 MAX_DESCRIPTORS fd (there_is TooManyDescriptors _ fd e)
 
 -- links, one more and fewer
 
-fewer : {X : Type 0} (test : X → Bool) (xs : List X) → length (filter test xs) ≤ length xs
-fewer test [] = omega arith
-fewer test (x ∷ xs) = elim (cases_Bool (test x))
-    [ inl t ↦ rw t (omega (arith, fewer test xs)) | inr f ↦ rw f (omega (arith, fewer test xs)) ]
-
+-- links that are no more than there may be are so when they are filtered
 fewer_fit : (test : Link → Bool) (ls : List Link) → length ls ≤ MAX_LINKS → length (filter test ls) ≤ MAX_LINKS
-fewer_fit test ls h = omega (arith, h, fewer test ls)
+fewer_fit test ls h = omega (arith, h, length-filter test ls, count_by-le-length test ls)
 
+-- where there is room for a link, links with one more are no more than there may be
 link_fits : (ls : List Link) (l : Link) (b : Bool) → (leb MAX_LINKS (length ls) || b) ≡ false
     → length (ls ++ l ∷ []) ≤ MAX_LINKS
 link_fits ls l b room =
     omega (arith, length_push ls l, leb-false MAX_LINKS (length ls) (or_parts (leb MAX_LINKS (length ls)) b room).0)
 
--- the next number, below its end
-
+-- where a next number is below its end, the one after it is at most the end
 number_fits : (b : Bool) (n : ℕ) → (b || leb NUMBER_END n) ≡ false → n + 1 ≤ NUMBER_END
 number_fits b n room = omega (arith, leb-false NUMBER_END n (or_parts b (leb NUMBER_END n) room).1)
 
+-- an accepted command keeps to the limits
 within_accepted : (drivers : List DriverSpec) (c : Configuration) (process : ℕ) (k : Command) → IsWithin c
     → IfAccepted (λ d r. IsWithin d) (outcome drivers c process k)
 within_accepted drivers c process k h = of_rows _ drivers c process k
@@ -67,6 +64,7 @@ within_accepted drivers c process k h = of_rows _ drivers c process k
 
 -- moves, settling, histories
 
+-- each move keeps to the limits
 within_moved : (drivers : List DriverSpec) → MovesKeep IsWithin drivers
 within_moved drivers = record {
   each = λ c p h. moved_by IsWithin drivers c p h
@@ -80,15 +78,17 @@ always_within drivers history = after_by IsWithin drivers empty history (within_
 
 -- of a process there are as many descriptors as numbers
 
+-- a process's descriptors that stand behind one of its own have higher numbers
 later_numbers : (d : Descriptor) (ds : List Descriptor) → ComesBefore fd_before d ds
-    → Each (λ e. e.process ≡ d.process → d.fd < e.fd) ds
-later_numbers d [] h = tt
-later_numbers d (e ∷ ds) h = (λ same. after d.process d.fd e.process e.fd same h.0, later_numbers d ds h.1) where
+    → AllByRecursion (λ e. e.process ≡ d.process → d.fd < e.fd) ds
+later_numbers d ds h = each_map _ _ ds (λ e before same. after d.process d.fd e.process e.fd same before) h where
   after : (a b x y : ℕ) → x ≡ a → pair_before a b x y ≡ true → b < y
   after a b x y same h = grind (arith, nat_tests)
 
+-- of a process there are no more descriptors, numbered from a number on, than numbers from there to the limit
 few_from : (ds : List Descriptor) (process a : ℕ) → IsRising fd_before ds
-    → Each (λ d. d.process ≡ process → a ≤ d.fd) ds → Each (λ d. d.fd < MAX_DESCRIPTORS) ds → a ≤ MAX_DESCRIPTORS
+    → AllByRecursion (λ d. d.process ≡ process → a ≤ d.fd) ds → AllByRecursion (λ d. d.fd < MAX_DESCRIPTORS) ds
+    → a ≤ MAX_DESCRIPTORS
     → a + length (filter (λ d. eqb d.process process) ds) ≤ MAX_DESCRIPTORS
 few_from [] process a r h k le = omega (arith, le)
 few_from (d ∷ ds) process a r h k le = elim (cases_Bool (eqb d.process process)) [
@@ -98,15 +98,12 @@ few_from (d ∷ ds) process a r h k le = elim (cases_Bool (eqb d.process process
         h.0 is,
         k.0,
         few_from ds process (d.fd + 1) r.1
-            (subst (λ (p : ℕ). Each (λ e. e.process ≡ p → d.fd + 1 ≤ e.fd) ds) is (next ds (later_numbers d ds r.0)))
+            (subst (λ (p : ℕ). AllByRecursion (λ e. e.process ≡ p → d.fd + 1 ≤ e.fd) ds) is
+            (each_map _ _ ds (λ e above same. omega (arith, above same)) (later_numbers d ds r.0)))
             k.1 (omega (arith, k.0)),
       ))
   | inr f ↦ rw f (few_from ds process a r.1 h.1 k.1 le)
-] where
-  next : (es : List Descriptor) → Each (λ e. e.process ≡ d.process → d.fd < e.fd) es
-      → Each (λ e. e.process ≡ d.process → d.fd + 1 ≤ e.fd) es
-  next [] h = tt
-  next (e ∷ es) h = (λ same. omega (arith, h.0 same), next es h.1)
+]
 
 -- after any history a process has no more descriptors than it may have
 pub always_few : (drivers : List DriverSpec) (history : List Entry) (process : ℕ)
@@ -117,8 +114,6 @@ always_few drivers history process =
       arith,
       length-filter (λ d. eqb d.process process) (after drivers history).fds,
       few_from (after drivers history).fds process 0 (always_is_kept drivers history).sound.ordered.fds
-          (any (after drivers history).fds) (always_within drivers history).numbers (omega arith),
-    ) where
-      any : (es : List Descriptor) → Each (λ e. e.process ≡ process → 0 ≤ e.fd) es
-      any [] = tt
-      any (e ∷ es) = (λ same. omega arith, any es)
+          (each_of_every _ (after drivers history).fds (λ e same. omega arith))
+          (always_within drivers history).numbers (omega arith),
+    )

@@ -15,18 +15,18 @@ use Rattle.smx_model.specs.Lookups.{free_stream, leaf_stream, live_leaf, live_st
 use Rattle.smx_model.specs.Outcomes.{◌>>=◌, or_fault, refuse}
 use Rattle.smx_model.specs.Settling.{live_write_side}
 
--- where a lookup gives no fault, what it looked for is there
+-- where the want of something would be a fault and there is none, it is there
 pub there_is : {A : Type 0} (f : Fault) (o : Option A) (x : A) → or_fault f o ≡ Ok x → o ≡ Some x
 there_is f None x e = cc
 there_is f (Some y) x e = let same : y ≡ x = cc in ap Some same
 
--- what comes after a lookup comes after what that names
+-- where two steps are accepted, the first was accepted with some value, and the second with that value
 pub looked_up : {A B : Type 0} (r : Result A Fault) (g : A → Result B Fault) (x : B) → (r >>= g) ≡ Ok x
     → (y : A) × (r ≡ Ok y) × (g y ≡ Ok x)
 looked_up (Ok y) g x e = (y, refl, e)
 looked_up (Err f) g x e = cc
 
--- what comes after a refusal comes where the test of that fails
+-- where a refusal and what follows it are accepted, the test of the refusal fails, and what follows is accepted
 pub passed : {A : Type 0} (f : Fault) (b : Bool) (g : Unit {0} → Result A Fault) (x : A) → (refuse f b >>= g) ≡ Ok x
     → (b ≡ false) × (g tt ≡ Ok x)
 passed f true g x e = cc

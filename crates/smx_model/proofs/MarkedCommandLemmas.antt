@@ -13,7 +13,7 @@ use Rattle.smx_model.specs.FreedPlaces.{FreesOnly, freed_by}
 use Rattle.smx_model.specs.KeptConfigurations.{IsKept, IsSound}
 use Rattle.smx_model.specs.Outcomes.{Outcome}
 use Rattle.smx_model.specs.Queues.{is_full}
-use Rattle.smx_model.specs.RunMarks.{AreMarked, TurnsOnly, both, feeds, is_freed, is_held_up, is_one_of, is_waiting}
+use Rattle.smx_model.specs.RunMarks.{AreMarked, TurnsOnly, either, feeds, is_freed, is_held_up, is_one_of, is_waiting}
 use Rattle.smx_model.specs.RunMarks.{next_of_first, nowhere, woken_by}
 use Rattle.smx_model.specs.Settling.{IsSettled, after_settling, is_movable}
 use Rattle.smx_model.specs.SettlingByMarks.{AreHoldingWanted, AreMovableMarked, HasItsMarks, HoldsUp, IsAtRest}
@@ -38,12 +38,14 @@ held_up_by c wanted (Some q) h f = elim (cases_Bool (is_full c q)) [
   | inr n ↦ let k : true ≡ false = rw n at h in absurd (cc)
 ]
 
+-- a place that isn't movable waits, where each place that holds it up is wanted
 waits_where : (drivers : List DriverSpec) (c : Configuration) (wanted : Place → Bool) (p : Place)
     → is_movable drivers c p ≡ false → ((q : Place) → HoldsUp drivers c q p → wanted q ≡ true)
     → is_waiting drivers c wanted p ≡ true
 waits_where drivers c wanted p h f =
     held_up_by c wanted (next_of_first drivers c p) (sym (movable_by drivers c p) ∙ h) (λ q e t. f q (e, t))
 
+-- where a place waits and its first message has a next place, that is wanted
 wanted_of : (drivers : List DriverSpec) (c : Configuration) (wanted : Place → Bool) (p q : Place)
     → is_waiting drivers c wanted p ≡ true → next_of_first drivers c p ≡ Some q → wanted q ≡ true
 wanted_of drivers c wanted p q h e = (and_parts (is_full c q) (wanted q) (sym (ap (is_held_up c wanted) e) ∙ h)).1
@@ -124,19 +126,22 @@ all_wait : (drivers : List DriverSpec) (c : Configuration) → IsSettled drivers
     → AreMarked drivers c nowhere (λ q. true)
 all_wait drivers c s p f = waits_where drivers c (λ q. true) p (s p) (λ q up. refl)
 
+-- where no place has a run mark and all are wanted, a change wakes none but those that it turned and those that feed
+-- one that it freed
 not_woken : (drivers : List DriverSpec) (c d : Configuration) (turned : Place → Bool) (p : Place)
-    → both turned (feeds drivers d (is_freed c d)) p ≡ false
-    → both nowhere (woken_by drivers c d (λ q. true) turned) p ≡ false
+    → either turned (feeds drivers d (is_freed c d)) p ≡ false
+    → either nowhere (woken_by drivers c d (λ q. true) turned) p ≡ false
 not_woken drivers c d turned p f = let a = or_parts (turned p) (feeds drivers d (is_freed c d) p) f in
     rw a.0 (by (next_of_first drivers d p) a.1) where
       by : (o : Option Place) → is_one_of (is_freed c d) o ≡ false → is_one_of (λ q. is_freed c d q && true) o ≡ false
       by None e = refl
       by (Some q) e = rw e refl
 
+-- after a change from a settled configuration a movable place was turned, or feeds one that was freed
 few_woken : (drivers : List DriverSpec) (c d : Configuration) (turned : Place → Bool) (p : Place) → IsSettled drivers c
     → TurnsOnly drivers c d turned → is_movable drivers d p ≡ true
-    → both turned (feeds drivers d (is_freed c d)) p ≡ true
-few_woken drivers c d turned p s t m = elim (cases_Bool (both turned (feeds drivers d (is_freed c d)) p)) [
+    → either turned (feeds drivers d (is_freed c d)) p ≡ true
+few_woken drivers c d turned p s t m = elim (cases_Bool (either turned (feeds drivers d (is_freed c d)) p)) [
   | inl y ↦ y
   | inr n ↦
       absurd (both_ways (is_movable drivers d p)
@@ -148,11 +153,11 @@ few_woken drivers c d turned p s t m = elim (cases_Bool (both turned (feeds driv
 pub few_movable : (drivers : List DriverSpec) (c : Configuration) (process : ℕ) (k : Command) (p : Place)
     → IsKept drivers c
     → IfOk (outcome drivers c process k) (λ x. is_movable drivers x.0 p ≡ true
-    → both (turned_by drivers c process k) (feeds drivers x.0 (is_freed c x.0)) p ≡ true)
+    → either (turned_by drivers c process k) (feeds drivers x.0 (is_freed c x.0)) p ≡ true)
 few_movable drivers c process k p h = by (outcome drivers c process k) (outcomes_turn drivers c process k h.sound) where
   by : (o : Outcome) → IfOk o (λ x. TurnsOnly drivers c x.0 (turned_by drivers c process k))
       → IfOk o (λ x. is_movable drivers x.0 p ≡ true
-      → both (turned_by drivers c process k) (feeds drivers x.0 (is_freed c x.0)) p ≡ true)
+      → either (turned_by drivers c process k) (feeds drivers x.0 (is_freed c x.0)) p ≡ true)
   by (Ok x) t = few_woken drivers c x.0 (turned_by drivers c process k) p h.settled t
   by (Err f) t = tt
 

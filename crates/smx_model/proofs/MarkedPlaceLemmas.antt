@@ -5,15 +5,16 @@ use mathlib.Core.Logic.{◌⊎◌}
 use Rattle.std.specs.List.{Contains, list_any}
 use Rattle.std.proofs.lemmas.Bool.{both_ways, cases_Bool, and_parts, false_from_ne_true, false≢true, or_cases, or_left}
 use Rattle.std.proofs.lemmas.Bool.{or_parts, or_right}
+use Rattle.std.specs.List.{AllByRecursion}
 use Rattle.smx_types.specs.declared.driver.DriverSpec.{DriverSpec}
 use Rattle.smx_types.specs.declared.message.Message.{Message}
 use Rattle.smx_types.specs.declared.stream.Place.{Place}
 use Rattle.smx_model.specs.Configuration.{Configuration, QueuedMessage, is_at, place_before, queued_before, same_place}
-use Rattle.smx_model.specs.FlowOrder.{IsInOrder, NoneBefore}
+use Rattle.smx_model.specs.FlowOrder.{IsInOrder}
 use Rattle.smx_model.specs.KeptConfigurations.{IsSound}
 use Rattle.smx_model.specs.Ordered.{with_inserted, without_first}
 use Rattle.smx_model.specs.Queues.{first_message}
-use Rattle.smx_model.specs.RunMarks.{AreMarked, all_but, both, feeds, is_next_of_first, is_one_of, next_of}
+use Rattle.smx_model.specs.RunMarks.{AreMarked, all_but, either, feeds, is_next_of_first, is_one_of, next_of}
 use Rattle.smx_model.specs.RunMarks.{wanted_after, woken_by}
 use Rattle.smx_model.specs.Settling.{IsSettled, after_move, after_move_to, after_settling_within, is_movable}
 use Rattle.smx_model.specs.Settling.{next_open_place}
@@ -36,7 +37,8 @@ abbrev AreWithin : List QueuedMessage → (Place → Bool) → Type 0
 AreWithin hs run = (p : Place) → run p ≡ true → list_any (is_at p) hs ≡ true
 
 -- a place before the first one is none of theirs
-not_there : (h : QueuedMessage) (hs : List QueuedMessage) (q : Place) → NoneBefore h hs → place_before q h.place ≡ true
+not_there : (h : QueuedMessage) (hs : List QueuedMessage) (q : Place)
+    → AllByRecursion (λ j. queued_before j h ≡ false) hs → place_before q h.place ≡ true
     → list_any (is_at q) hs ≡ true → ⊥
 not_there h [] q n b k = false≢true k
 not_there h (g ∷ hs) q n b k = elim (or_cases (is_at q g) (list_any (is_at q) hs) k) [
@@ -45,6 +47,8 @@ not_there h (g ∷ hs) q n b k = elim (or_cases (is_at q g) (list_any (is_at q) 
   | inr later ↦ not_there h hs q n.1 b later
 ]
 
+-- where messages are in order and the run marks stand at their places, the first message's place is the least marked
+-- one, if it has a mark
 least_there : (h : QueuedMessage) (hs : List QueuedMessage) (run : Place → Bool) → IsInOrder (h ∷ hs)
     → AreWithin (h ∷ hs) run → run h.place ≡ true → IsLeastMarked run h.place
 least_there h hs run o w t = record {
@@ -57,7 +61,7 @@ least_there h hs run o w t = record {
       (subst (λ (x : Place). place_before q x ≡ true) (same_place_is h.place q e) b)
   none q b (inr k) = not_there h hs q o.0 b k
 
--- the place of the first one has no mark, or it is cleared
+-- where the first message's place has no run mark, the run marks stand at the places of the others
 within_rest : (h : QueuedMessage) (hs : List QueuedMessage) (run : Place → Bool) → AreWithin (h ∷ hs) run
     → run h.place ≡ false → AreWithin hs run
 within_rest h hs run w f p t = elim (or_cases (is_at p h) (list_any (is_at p) hs) (w p t)) [
@@ -65,6 +69,7 @@ within_rest h hs run w f p t = elim (or_cases (is_at p h) (list_any (is_at p) hs
   | inr k ↦ k
 ]
 
+-- once the run mark of the first message's place is cleared, the run marks stand at the places of the others
 within_cleared : (h : QueuedMessage) (hs : List QueuedMessage) (run : Place → Bool) → AreWithin (h ∷ hs) run
     → AreWithin hs (all_but run h.place)
 within_cleared h hs run w p t = let a = and_parts (run p) (not (same_place h.place p)) t in
@@ -81,6 +86,8 @@ MovesGoOn drivers c = (hs : List QueuedMessage) (run wanted : Place → Bool) (p
     → AreWithin hs run → AreMarked drivers c run wanted → IsLeastMarked run p → is_movable drivers c p ≡ true
     → CanSettleByMarks drivers (record { configuration = c; run = run; wanted = wanted })
 
+-- settling by marks can end from run marks at the places of messages in order, if it goes on to the end from each move
+-- of the least marked place
 looks_end : (drivers : List DriverSpec) (c : Configuration) → MovesGoOn drivers c
     → (hs : List QueuedMessage) (run wanted : Place → Bool) → IsInOrder hs → AreWithin hs run
     → AreMarked drivers c run wanted
@@ -96,7 +103,7 @@ looks_end drivers c go (h ∷ hs) run wanted o w a = elim (cases_Bool (run h.pla
   | inl t ↦ elim (cases_Bool (is_movable drivers c h.place)) [
     | inl m ↦ go (h ∷ hs) run wanted h.place o w a (least_there h hs run o w t) m
     | inr s ↦
-        clear t s (looks_end drivers c go hs (all_but run h.place) (both wanted (is_next_of_first drivers c h.place))
+        clear t s (looks_end drivers c go hs (all_but run h.place) (either wanted (is_next_of_first drivers c h.place))
         o.1 (within_cleared h hs run w) (cleared drivers c run wanted h.place a s))
   ]
 ] where
@@ -105,7 +112,7 @@ looks_end drivers c go (h ∷ hs) run wanted o w a = elim (cases_Bool (run h.pla
       (record {
         configuration = c;
         run = all_but run h.place;
-        wanted = both wanted (is_next_of_first drivers c h.place);
+        wanted = either wanted (is_next_of_first drivers c h.place);
       })
       → CanSettleByMarks drivers (record { configuration = c; run = run; wanted = wanted })
   clear t s rest = record {
@@ -115,7 +122,7 @@ looks_end drivers c go (h ∷ hs) run wanted o w a = elim (cases_Bool (run h.pla
         (record {
           configuration = c;
           run = all_but run h.place;
-          wanted = both wanted (is_next_of_first drivers c h.place);
+          wanted = either wanted (is_next_of_first drivers c h.place);
         }) rest.end h.place rest.moves
         (record { least = least_there h hs run o w t; waits = s; same = refl; run = λ q. refl; wanted = λ q k. k })
         rest.settles;
@@ -128,10 +135,12 @@ abbrev joined : List QueuedMessage → List QueuedMessage → List QueuedMessage
 joined [] hs = hs
 joined (g ∷ gs) hs = with_inserted queued_before (joined gs hs) g
 
+-- messages that are joined to messages in order are in order with them
 joined_in_order : (gs hs : List QueuedMessage) → IsInOrder hs → IsInOrder (joined gs hs)
 joined_in_order [] hs o = o
 joined_in_order (g ∷ gs) hs o = order_placed (joined gs hs) g (joined_in_order gs hs o)
 
+-- where some message of either list passes a test, some message of both joined does
 in_either : (t : QueuedMessage → Bool) (gs hs : List QueuedMessage) → (list_any t gs ≡ true) ⊎ (list_any t hs ≡ true)
     → list_any t (joined gs hs) ≡ true
 in_either t [] hs (inl k) = absurd (false≢true k)
@@ -142,11 +151,12 @@ in_either t (g ∷ gs) hs (inl k) = any_of_placed t queued_before (joined gs hs)
 in_either t (g ∷ gs) hs (inr k) =
     any_of_placed t queued_before (joined gs hs) g ∙ or_right _ _ (in_either t gs hs (inr k))
 
--- a place of no message has no first one
+-- a place at which no message is has no first one
 none_first : (hs : List QueuedMessage) (p : Place) → list_any (is_at p) hs ≡ false → first_message hs p ≡ None
 none_first [] p e = refl
 none_first (h ∷ hs) p e = let a = or_parts (is_at p h) (list_any (is_at p) hs) e in rw a.0 (none_first hs p a.1)
 
+-- a place whose first message goes next to one of some places has a message in the flow
 feeds_there : (drivers : List DriverSpec) (c : Configuration) (places : Place → Bool) (p : Place)
     → feeds drivers c places p ≡ true → list_any (is_at p) c.flow ≡ true
 feeds_there drivers c places p k = elim (cases_Bool (list_any (is_at p) c.flow)) [
@@ -156,7 +166,7 @@ feeds_there drivers c places p k = elim (cases_Bool (list_any (is_at p) c.flow))
       (sym (ap (λ (o : Option Message). is_one_of places (next_of drivers c p o)) (none_first c.flow p f)) ∙ k))
 ]
 
--- the place that a message arrives at has one
+-- a place that was empty when a move brought its message there has a message after the move
 arrives_there : (drivers : List DriverSpec) (c : Configuration) (p r : Place)
     → is_first_there drivers c p (next_open_place drivers c p) r ≡ true
     → list_any (is_at r) (after_move drivers c p).flow ≡ true
@@ -177,11 +187,13 @@ arrives_there drivers c p r k = by (next_open_place drivers c p) refl k where
 abbrev marked_move : List DriverSpec → MarkedConfiguration → Place → MarkedConfiguration
 marked_move drivers m p = record {
   configuration = after_move drivers m.configuration p;
-  run = both m.run (woken_by drivers m.configuration (after_move drivers m.configuration p) m.wanted
+  run = either m.run (woken_by drivers m.configuration (after_move drivers m.configuration p) m.wanted
       (turned_by_move drivers m.configuration p));
   wanted = wanted_after m.configuration (after_move drivers m.configuration p) m.wanted;
 }
 
+-- where run marks stand at the places of some messages, after a move of a marked place they stand at those and at
+-- places of the flow
 within_moved : (drivers : List DriverSpec) (m : MarkedConfiguration) (p : Place) (hs : List QueuedMessage)
     → AreWithin hs m.run → m.run p ≡ true
     → AreWithin (joined hs (after_move drivers m.configuration p).flow) (marked_move drivers m p).run
@@ -205,7 +217,7 @@ EndsWithin drivers n = (m : MarkedConfiguration) (hs : List QueuedMessage) → I
     → HasItsMarks drivers m → IsSettled drivers (after_settling_within drivers n m.configuration)
     → IsInOrder hs → AreWithin hs m.run → CanSettleByMarks drivers m
 
--- the first of these moves, and the others
+-- settling by marks can end where it can after the move of the least marked place
 moves_then : (drivers : List DriverSpec) (old : MarkedConfiguration) (p : Place) → IsLeastMarked old.run p
     → is_movable drivers old.configuration p ≡ true → CanSettleByMarks drivers (marked_move drivers old p)
     → CanSettleByMarks drivers old
@@ -217,6 +229,8 @@ moves_then drivers old p l t rest = record {
       rest.settles;
 }
 
+-- where one move more than always leads to the end settles a configuration, the move of the least marked place goes on
+-- to the end
 moves_go_on : (drivers : List DriverSpec) (n : ℕ) (c : Configuration) → IsInOrder c.flow
     → IsSettled drivers (after_settling_within drivers (suc n) c) → EndsWithin drivers n → MovesGoOn drivers c
 moves_go_on drivers n c o s later hs run wanted p ordered within a l t = moves_then drivers old p l t
@@ -229,6 +243,7 @@ moves_go_on drivers n c o s later hs run wanted p ordered within a l t = moves_t
       old : MarkedConfiguration
       old = record { configuration = c; run = run; wanted = wanted }
 
+-- from any marks over a configuration that so many moves settle, settling by marks can end
 ends_within : (drivers : List DriverSpec) (n : ℕ) → EndsWithin drivers n
 ends_within drivers zero m hs o h s ordered w = looks_end drivers m.configuration
     (λ gs run wanted p _ _ _ _ t. absurd (both_ways (is_movable drivers m.configuration p) (s p) t)) hs m.run m.wanted
@@ -236,16 +251,18 @@ ends_within drivers zero m hs o h s ordered w = looks_end drivers m.configuratio
 ends_within drivers (suc n) m hs o h s ordered w = looks_end drivers m.configuration
     (moves_go_on drivers n m.configuration o s (ends_within drivers n)) hs m.run m.wanted ordered w h
 
--- messages at these places
+-- a message for each of these places, in order
 abbrev messages_at : List Place → List QueuedMessage
 messages_at [] = []
 messages_at (p ∷ ps) = with_inserted queued_before (messages_at ps)
     (record { place = p; message = record { serial = 0; addr = 0; bytes = [] } })
 
+-- the messages that stand for some places are in order
 messages_in_order : (ps : List Place) → IsInOrder (messages_at ps)
 messages_in_order [] = tt
 messages_in_order (p ∷ ps) = order_placed (messages_at ps) _ (messages_in_order ps)
 
+-- at each of the places there is one of the messages that stand for them
 message_there : (p : Place) (ps : List Place) → Contains ps p → list_any (is_at p) (messages_at ps) ≡ true
 message_there p [] h = absurd (in_none p h)
 message_there p (q ∷ ps) h = any_of_placed (is_at p) queued_before (messages_at ps) _ ∙ elim (first_or_later p q ps h) [
@@ -276,13 +293,15 @@ pub least_clear : (drivers : List DriverSpec) (p : Place) (m : MarkedConfigurati
     (record {
       configuration = m.configuration;
       run = all_but m.run p;
-      wanted = both m.wanted (is_next_of_first drivers m.configuration p);
+      wanted = either m.wanted (is_next_of_first drivers m.configuration p);
     })
 least_clear drivers p m l t = record { least = l; waits = t; same = refl; run = λ q. refl; wanted = λ q k. k }
 
+-- the conjunction of a test and one that passes is that test
 and_true : (b : Bool) → (b && true) ≡ b
 and_true b = grind arith
 
+-- the conjunction of a test and one that fails fails
 and_false : (b : Bool) → (b && false) ≡ false
 and_false b = grind arith
 

@@ -27,8 +27,6 @@ first_or_later x y ys h = by h.0 h.1 h.2 where
 pub in_none : {X : Type 0} (x : X) → Contains [] x → ⊥
 in_none x h = let lt = h.1 in omega arith
 
--- what passes stays, and what is left was there and passes
-
 -- what is in a list and passes a test is left by a filter
 pub in_filtered : {X : Type 0} (test : X → Bool) (xs : List X) (x : X) → Contains xs x → test x ≡ true
     → Contains (filter test xs) x
@@ -58,7 +56,7 @@ in_all test [] x e h = absurd (in_none x h)
 in_all test (y ∷ ys) x e h = let p = and_parts (test y) (list_all test ys) e in
     elim (first_or_later x y ys h) [ inl same ↦ ap test (sym same) ∙ p.0 | inr k ↦ in_all test ys x p.1 k ]
 
--- one more, and those of before
+-- what is in a list is in it with one more inserted
 pub in_placed : {X : Type 0} (before : X → X → Bool) (xs : List X) (x y : X) → Contains xs x
     → Contains (with_inserted before xs y) x
 in_placed before [] x y h = absurd (in_none x h)
@@ -76,14 +74,14 @@ in_placed before (z ∷ zs) x y h = elim (cases_Bool (before y z)) [
 pub all_in : {X : Type 0} (P : X → Type 0) (xs : List X) → ((x : X) → Contains xs x → P x) → All P xs
 all_in P xs f k d lt = f (get_or xs k d) (Contains-get_or xs k d lt)
 
--- and where none passes, it does not
+-- where no element of a list passes a test, what is in it doesn't
 pub none_in : {X : Type 0} (t : X → Bool) (xs : List X) → list_any t xs ≡ false → (x : X) → Contains xs x → t x ≡ false
 none_in t xs e x h = not-true (t x) (in_all (λ y. not (t y)) xs x (all_not xs e) h) where
   all_not : (ys : List _) → list_any t ys ≡ false → list_all (λ y. not (t y)) ys ≡ true
   all_not [] e = refl
   all_not (y ∷ ys) e = let p = or_parts (t y) (list_any t ys) e in rw p.0 (all_not ys p.1)
 
--- what passes among those that are left passed before
+-- where some element that a filter leaves passes a test, some element of the list does
 pub any_filtered : {X : Type 0} (t keep : X → Bool) (xs : List X) → list_any t (filter keep xs) ≡ true
     → list_any t xs ≡ true
 any_filtered t keep [] h = h

@@ -11,13 +11,13 @@ use Rattle.smx_model.specs.FreedPlaces.{FreesOnly}
 use Rattle.smx_model.specs.KeptConfigurations.{IsSound}
 use Rattle.smx_model.specs.NearMarks.{AreAwaitedKnown, IsMarkedNear, awaits}
 use Rattle.smx_model.specs.Queues.{first_message}
-use Rattle.smx_model.specs.RunMarks.{Stays, TurnsOnly, both, can_feed, is_freed, is_one_of, next_of, next_of_first}
+use Rattle.smx_model.specs.RunMarks.{Stays, TurnsOnly, either, can_feed, is_freed, is_one_of, next_of, next_of_first}
 use Rattle.smx_model.specs.RunMarks.{nowhere, wanted_after, woken_by}
 use Rattle.smx_model.specs.SettlingByMarks.{IsCleared, IsMarkedAfter, MarkedConfiguration}
 use Rattle.smx_model.proofs.OrderLemmas.{same_self}
 use Rattle.smx_model.proofs.SettlingLemmas.{same_place_is}
 use Rattle.smx_model.proofs.TurningCommandLemmas.{keyed}
-use Rattle.smx_model.proofs.TurningLemmas.{feeders}
+use Rattle.smx_model.proofs.FeederLemmas.{feeders}
 
 -- what feeds a freed place had a run mark, was turned, or may wait for it
 abbrev WaitsNear : List DriverSpec → (Place → Bool) → (Place → Place → Bool) → MarkedConfiguration → MarkedConfiguration
@@ -25,6 +25,7 @@ abbrev WaitsNear : List DriverSpec → (Place → Bool) → (Place → Place →
 WaitsNear drivers turned may_wait old new = (p q : Place) → old.run p ≡ false → turned p ≡ false
     → next_of_first drivers new.configuration p ≡ Some q → may_wait q p ≡ true
 
+-- marks near what a change turned and freed are enough, where all that feeds a freed place may wait for it
 near_is_enough : (drivers : List DriverSpec) (turned freed : Place → Bool) (may_wait : Place → Place → Bool)
     (old new : MarkedConfiguration) → WaitsNear drivers turned may_wait old new
     → FreesOnly old.configuration new.configuration freed
@@ -38,7 +39,7 @@ near_is_enough drivers turned freed may_wait old new waits frees m = record { ru
       m.waiting_ones q p (frees q a.0) a.0 a.1 some (waits p q r t e)
 
   run : (p : Place) → first_message new.configuration.flow p ≢ None
-      → both old.run (woken_by drivers old.configuration new.configuration old.wanted turned) p ≡ true
+      → either old.run (woken_by drivers old.configuration new.configuration old.wanted turned) p ≡ true
       → new.run p ≡ true
   run p some h = elim (cases_Bool (old.run p)) [
     | inl k ↦ m.kept p some k
@@ -61,7 +62,7 @@ feeders_enough drivers turned freed old new sound frees m =
 
 -- what is known to wait for a place
 
--- where a first message goes next, that was known before
+-- of a place that had no run mark and wasn't turned, it was known before where its first message goes next
 known_before : (drivers : List DriverSpec) (turned : Place → Bool) (awaited : Place → Option Place)
     (old new : MarkedConfiguration) → TurnsOnly drivers old.configuration new.configuration turned
     → AreAwaitedKnown drivers old awaited
@@ -84,7 +85,7 @@ waiters_enough drivers turned freed awaited old new turns frees known m =
     (λ p q r t e. ap (is_one_of (same_place q)) (known_before drivers turned awaited old new turns known p q r t e)
     ∙ same_self q) frees m
 
--- a first message that goes somewhere is there
+-- a place from which something goes next has a first message
 has_first : (drivers : List DriverSpec) (m : MarkedConfiguration) (p q : Place)
     → next_of_first drivers m.configuration p ≡ Some q → first_message m.configuration.flow p ≢ None
 has_first drivers m p q e none = let k : None ≡ Some q = sym (ap (next_of drivers m.configuration p) none) ∙ e in cc
@@ -119,17 +120,18 @@ cleared_known drivers p old new awaited known before k here others r q f e = eli
   unmarked true h = h
   unmarked false h = refl
 
--- of the empty configuration nothing need be known
+-- in the empty configuration it need not be known for which place any waits
 pub none_known : (drivers : List DriverSpec) (awaited : Place → Option Place)
     → AreAwaitedKnown drivers (record { configuration = empty; run = nowhere; wanted = nowhere }) awaited
 none_known drivers awaited p q f e = let k : None ≡ Some q = e in absurd (cc)
 
--- the least marks are enough
+-- marks at what had one, at what was turned and at what is known to wait for a freed wanted place are near enough
 pub least_near : (turned freed : Place → Bool) (awaited : Place → Option Place) (old : MarkedConfiguration)
     (c : Configuration) → IsMarkedNear turned freed (awaits awaited) old (record {
       configuration = c;
-      run = both old.run
-          (both turned (λ p. is_one_of (λ q. freed q && (is_freed old.configuration c q && old.wanted q)) (awaited p)));
+      run = either old.run
+          (either turned (λ p.
+          is_one_of (λ q. freed q && (is_freed old.configuration c q && old.wanted q)) (awaited p)));
       wanted = wanted_after old.configuration c old.wanted;
     })
 least_near turned freed awaited old c = record {

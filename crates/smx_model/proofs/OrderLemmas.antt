@@ -1,16 +1,18 @@
 -- A flow in order is what its queues are.
-use Rattle.std.proofs.Common.{◌≡◌, Bool, true, false, List, [], ◌∷◌, ◌++◌, filter, refl, sym}
+use Rattle.std.proofs.Common.{◌≡◌, true, false, List, [], ◌∷◌, ◌++◌, refl, sym}
 use Rattle.std.proofs.Common.{ap, ◌∙◌, subst, arith, inl, inr}
+use Rattle.std.specs.List.{AllByRecursion}
 use Rattle.std.proofs.lemmas.Bool.{both_ways, cases_Bool}
 use Rattle.std.proofs.lemmas.Bool.Decides.{nat_tests}
 use Rattle.smx_types.specs.declared.message.Message.{Message}
 use Rattle.smx_types.specs.declared.stream.Place.{Place}
 use Rattle.smx_types.specs.declared.driver.DriverSpec.{DriverSpec}
 use Rattle.smx_model.specs.Configuration.{Configuration, QueuedMessage, is_at, queued_before, place_before, same_place}
-use Rattle.smx_model.specs.FlowOrder.{NoneBefore, IsInOrder}
-use Rattle.smx_model.specs.Ordered.{with_inserted, without_first}
+use Rattle.smx_model.specs.FlowOrder.{IsInOrder}
+use Rattle.smx_model.specs.Ordered.{with_inserted}
 use Rattle.smx_model.specs.Queues.{queue}
 use Rattle.smx_model.specs.Settling.{after_move}
+use Rattle.smx_model.proofs.EachLemmas.{each_of_every, later_placed, later_without_first}
 use Rattle.smx_model.proofs.SettledLemmas.{moved_by}
 use Rattle.smx_model.proofs.SettlingLemmas.{same_place_is}
 
@@ -18,12 +20,15 @@ use Rattle.smx_model.proofs.SettlingLemmas.{same_place_is}
 pub place_either : (p q : Place) → same_place p q ≡ false → place_before p q ≡ false → place_before q p ≡ true
 place_either p q h k = grind (arith, nat_tests)
 
-place_apart : (p q r : Place) → place_before p q ≡ true → place_before r q ≡ false → same_place r p ≡ false
-place_apart p q r h k = grind (arith, nat_tests)
+-- where a place comes before another, one that doesn't come before that other isn't the first
+place_differs : (p q r : Place) → place_before p q ≡ true → place_before r q ≡ false → same_place r p ≡ false
+place_differs p q r h k = grind (arith, nat_tests)
 
-place_trans : (p q r : Place) → place_before p q ≡ true → place_before r q ≡ false → place_before r p ≡ false
-place_trans p q r h k = grind (arith, nat_tests)
+-- where a place comes before another, one that doesn't come before that other doesn't come before the first
+place_not_before : (p q r : Place) → place_before p q ≡ true → place_before r q ≡ false → place_before r p ≡ false
+place_not_before p q r h k = grind (arith, nat_tests)
 
+-- of two places at most one comes before the other
 place_not_after : (p q : Place) → place_before p q ≡ true → place_before q p ≡ false
 place_not_after p q h = grind (arith, nat_tests)
 
@@ -35,7 +40,8 @@ place_before_trans p q r h k = elim (cases_Bool (place_before p r)) [
     | inl s ↦
         absurd (both_ways (place_before q p) (place_not_after p q h)
         (subst (λ (x : Place). place_before q x ≡ true) (sym (same_place_is p r s)) k))
-    | inr n ↦ absurd (both_ways (place_before q r) (place_trans r p q (place_either p r n f) (place_not_after p q h)) k)
+    | inr n ↦ absurd (both_ways (place_before q r)
+        (place_not_before r p q (place_either p r n f) (place_not_after p q h)) k)
   ]
 ]
 
@@ -47,68 +53,30 @@ same_self p = grind (arith, nat_tests)
 pub same_not_before : (p : Place) → place_before p p ≡ false
 same_not_before p = grind (arith, nat_tests)
 
-abbrev made_of : Place → Message → QueuedMessage
-made_of p m = record { place = p; message = m }
+-- a message, queued at a place
+abbrev queued_at : Place → Message → QueuedMessage
+queued_at p m = record { place = p; message = m }
 
-no_head : (m : Message) (ms : List Message) → m ∷ ms ≡ [] → ⊥
-no_head m ms e = cc
+-- a list with a first message isn't empty
+not_empty : (m : Message) (ms : List Message) → m ∷ ms ≡ [] → ⊥
+not_empty m ms e = cc
 
 -- order is kept
-
-none_before_less : (h k : QueuedMessage) (hs : List QueuedMessage) → queued_before h k ≡ true → NoneBefore k hs
-    → NoneBefore h hs
-none_before_less h k [] lt n = tt
-none_before_less h k (j ∷ hs) lt n = (place_trans h.place k.place j.place lt n.0, none_before_less h k hs lt n.1)
-
-none_before_placed : (k h : QueuedMessage) (hs : List QueuedMessage) → queued_before h k ≡ false → NoneBefore k hs
-    → NoneBefore k (with_inserted queued_before hs h)
-none_before_placed k h [] lt n = (lt, tt)
-none_before_placed k h (j ∷ hs) lt n = elim (cases_Bool (queued_before h j))
-    [ inl t ↦ rw t (lt, n) | inr f ↦ rw f (n.0, none_before_placed k h hs lt n.1) ]
 
 -- a flow in order stays so when a message is inserted by its place
 pub order_placed : (hs : List QueuedMessage) (h : QueuedMessage) → IsInOrder hs
     → IsInOrder (with_inserted queued_before hs h)
-order_placed [] h o = (tt, tt)
-order_placed (k ∷ hs) h o = elim (cases_Bool (queued_before h k)) [
-  | inl t ↦ rw t ((place_not_after h.place k.place t, none_before_less h k hs t o.0), o)
-  | inr f ↦ rw f (none_before_placed k h hs f o.0, order_placed hs h o.1)
-]
-
-none_before_filter : (k : QueuedMessage) (test : QueuedMessage → Bool) (hs : List QueuedMessage) → NoneBefore k hs
-    → NoneBefore k (filter test hs)
-none_before_filter k test [] n = tt
-none_before_filter k test (h ∷ hs) n = elim (cases_Bool (test h))
-    [ inl t ↦ rw t (n.0, none_before_filter k test hs n.1) | inr f ↦ rw f (none_before_filter k test hs n.1) ]
-
--- a flow in order stays so when it is filtered
-pub order_filter : (test : QueuedMessage → Bool) (hs : List QueuedMessage) → IsInOrder hs → IsInOrder (filter test hs)
-order_filter test [] o = tt
-order_filter test (h ∷ hs) o = elim (cases_Bool (test h)) [
-  | inl t ↦ rw t (none_before_filter h test hs o.0, order_filter test hs o.1)
-  | inr f ↦
-      rw f (order_filter test hs o.1)
-]
-
-none_before_without : (k : QueuedMessage) (test : QueuedMessage → Bool) (hs : List QueuedMessage) → NoneBefore k hs
-    → NoneBefore k (without_first test hs)
-none_before_without k test [] n = tt
-none_before_without k test (h ∷ hs) n =
-    elim (cases_Bool (test h)) [ inl t ↦ rw t n.1 | inr f ↦ rw f (n.0, none_before_without k test hs n.1) ]
-
--- a flow in order stays so without the first message that passes a test
-pub order_without : (test : QueuedMessage → Bool) (hs : List QueuedMessage) → IsInOrder hs
-    → IsInOrder (without_first test hs)
-order_without test [] o = tt
-order_without test (h ∷ hs) o = elim (cases_Bool (test h))
-    [ inl t ↦ rw t o.1 | inr f ↦ rw f (none_before_without h test hs o.0, order_without test hs o.1) ]
+order_placed hs h o = later_placed (λ k j. queued_before j k ≡ false) queued_before h
+    (λ k t. place_not_after h.place k.place t) (λ k j t n. place_not_before h.place k.place j.place t n) hs
+    (each_of_every (λ k. queued_before h k ≡ false → queued_before h k ≡ false) hs (λ k f. f)) o
 
 -- what arrives goes to the end of its queue, and no other changes
 
+-- nothing is queued at a place that comes before the first place of a flow in order
 none_queued : (h : QueuedMessage) (hs : List QueuedMessage) (k : QueuedMessage) → queued_before h k ≡ true
-    → NoneBefore k hs → queue hs h.place ≡ []
+    → AllByRecursion (λ j. queued_before j k ≡ false) hs → queue hs h.place ≡ []
 none_queued h [] k lt n = refl
-none_queued h (j ∷ hs) k lt n = rw (place_apart h.place k.place j.place lt n.0) (none_queued h hs k lt n.1)
+none_queued h (j ∷ hs) k lt n = rw (place_differs h.place k.place j.place lt n.0) (none_queued h hs k lt n.1)
 
 -- a message that is inserted by its place goes to the end of the queue there
 pub queue_placed : (hs : List QueuedMessage) (h : QueuedMessage) → IsInOrder hs
@@ -138,11 +106,13 @@ queue_elsewhere (k ∷ hs) h q apart_ = elim (cases_Bool (queued_before h k)) [
 
 -- one flow for given queues
 
-tail_queue : (m n : Message) (xs ys : List Message) → m ∷ xs ≡ n ∷ ys → xs ≡ ys
-tail_queue m n xs ys e = cc
+-- where two lists of messages are the same, they are so without their first messages
+same_tails : (m n : Message) (xs ys : List Message) → m ∷ xs ≡ n ∷ ys → xs ≡ ys
+same_tails m n xs ys e = cc
 
-held_is : (h k : QueuedMessage) → h.place ≡ k.place → h.message ≡ k.message → h ≡ k
-held_is h k e f = ap (λ (p : Place). made_of p h.message) e ∙ ap (made_of k.place) f
+-- two queued messages with the same place and the same message are the same
+queued_is : (h k : QueuedMessage) → h.place ≡ k.place → h.message ≡ k.message → h ≡ k
+queued_is h k e f = ap (λ (p : Place). queued_at p h.message) e ∙ ap (queued_at k.place) f
 
 -- two flows in order that have the same queue at each place are the same
 pub one_flow : (xs ys : List QueuedMessage) → IsInOrder xs → IsInOrder ys → ((p : Place) → queue xs p ≡ queue ys p)
@@ -158,26 +128,26 @@ one_flow (h ∷ xs) (k ∷ ys) o u same = elim (cases_Bool (same_place h.place k
       let e = same k.place in
       let f : h.message ∷ queue xs k.place ≡ k.message ∷ queue ys k.place = rw (t, same_self k.place) at e in
       let message : h.message ≡ k.message = cc in
-      let head : h ≡ k = held_is h k place message in
+      let head : h ≡ k = queued_is h k place message in
       ap (λ (x : QueuedMessage). x ∷ xs) head ∙ ap (λ (zs : List QueuedMessage). k ∷ zs)
       (one_flow xs ys o.1 u.1 (rest head))
   | inr not_same ↦ elim (cases_Bool (place_before h.place k.place)) [
     | inl t ↦ let e = same h.place in let g = none_queued h (k ∷ ys) k t (same_not_before k.place, u.0) in
         let f : h.message ∷ queue xs h.place ≡ queue (k ∷ ys) h.place = rw (same_self h.place) at e in
-        absurd (no_head h.message (queue xs h.place) (f ∙ g))
+        absurd (not_empty h.message (queue xs h.place) (f ∙ g))
     | inr w ↦ let t = place_either h.place k.place not_same w in let e = same k.place in
         let g = none_queued k (h ∷ xs) h t (same_not_before h.place, o.0) in
         let f : queue (h ∷ xs) k.place ≡ k.message ∷ queue ys k.place = rw (same_self k.place) at e in
-        absurd (no_head k.message (queue ys k.place) (sym f ∙ g))
+        absurd (not_empty k.message (queue ys k.place) (sym f ∙ g))
   ]
 ] where
   rest : h ≡ k → (p : Place) → queue xs p ≡ queue ys p
   rest head p = let s = subst (λ (x : QueuedMessage). queue (x ∷ xs) p ≡ queue (k ∷ ys) p) head (same p) in
       elim (cases_Bool (is_at p k))
-      [ inl t ↦ tail_queue k.message k.message (queue xs p) (queue ys p) (rw t at s) | inr f ↦ rw f at s ]
+      [ inl t ↦ same_tails k.message k.message (queue xs p) (queue ys p) (rw t at s) | inr f ↦ rw f at s ]
 
 -- a move keeps the flow in order of places
 pub order_moved : (drivers : List DriverSpec) (c : Configuration) (p : Place) → IsInOrder c.flow
     → IsInOrder (after_move drivers c p).flow
 order_moved drivers c p h = moved_by (λ d. IsInOrder d.flow) drivers c p h
-    (λ q m e. order_placed _ (record { place = q; message = m }) (order_without (is_at p) c.flow h))
+    (λ q m e. order_placed _ (record { place = q; message = m }) (later_without_first _ (is_at p) c.flow h))

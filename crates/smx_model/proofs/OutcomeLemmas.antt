@@ -6,11 +6,12 @@ use Rattle.smx_types.specs.declared.reply.Reply.{Reply}
 use Rattle.smx_model.specs.Configuration.{Configuration}
 use Rattle.smx_model.specs.Outcomes.{◌>>=◌, or_fault, refuse, Outcome}
 
+-- P holds of the configuration and the reply, if the outcome is accepted
 abbrev of_accepted : (Configuration → Reply → Type 0) → Outcome → Type 0
 of_accepted P (Ok x) = P x.0 x.1
 of_accepted P (Err f) = Unit {0}
 
--- a record, so that search finds the parts of the outcome
+-- what `of_accepted` says, as a record, so that search finds the parts of the outcome
 pub record IfAccepted (P : Configuration → Reply → Type 0) (o : Outcome) : Type 0 where
   pub holds : of_accepted P o
 

@@ -7,20 +7,24 @@ use Rattle.std.proofs.lemmas.Bool.{or_left, or_right, eqb-true, eq-eqb}
 use Rattle.std.proofs.lemmas.List.Elements.{Contains-append_cases, Contains-append_left, Contains-append_right}
 use Rattle.smx_types.specs.declared.link.Link.{Link}
 use Rattle.smx_model.specs.Paths.{IsPath, Path, HasNoCycle, reaches}
+use Rattle.smx_model.proofs.MemberLemmas.{is_first, is_later}
 
+-- driver a is driver b, or reaches it
 abbrev comes : List Link → ℕ → ℕ → Bool
 comes links a b = eqb a b || reaches links a b
 
+-- links that lead from driver a to driver b, or none where they are the same
 record Walk (links : List Link) (a b : ℕ) : Type 0 where
   path : List Link
   leads : IsPath links a path b
 
+-- links that lead from driver a to b, and others that lead from b to c, together lead from a to c
 walk_join : (links : List Link) (a : ℕ) (p : List Link) (b : ℕ) (q : List Link) (c : ℕ) → IsPath links a p b
     → IsPath links b q c → IsPath links a (p ++ q) c
 walk_join links a [] b q c h k = subst (λ (x : ℕ). IsPath links x q c) (sym h) k
 walk_join links a (l ∷ p) b q c h k = (h.0, h.1, walk_join links l.lower.driver p b q c h.2 k)
 
--- a path over more links
+-- links that lead over some links lead so over any list that has them all
 walk_more : (xs ys : List Link) → ((l : Link) → Contains xs l → Contains ys l) → (a : ℕ) (p : List Link) (b : ℕ)
     → IsPath xs a p b → IsPath ys a p b
 walk_more xs ys more a [] b h = h
@@ -31,42 +35,41 @@ pub path_more : (xs ys : List Link) → ((l : Link) → Contains xs l → Contai
     → Path ys a b
 path_more xs ys more a b h = record { path = h.path; some = h.some; leads = walk_more xs ys more a h.path b h.leads }
 
+-- where driver a is driver b, or reaches it, links lead from a to b
 comes_walk : (links : List Link) (a b : ℕ) → (reaches links a b ≡ true → Path links a b) → comes links a b ≡ true
     → Walk links a b
 comes_walk links a b f h = elim (or_cases (eqb a b) (reaches links a b) h)
     [ inl e ↦ record { path = []; leads = eqb-true a b e } | inr r ↦ record { path = (f r).path; leads = (f r).leads } ]
 
-skip_first : (l : Link) (ls : List Link) (k : Link) → Contains ls k → Contains (l ∷ ls) k
-skip_first l ls k h = Contains-append_right (l ∷ []) ls k h
-
-is_first : (l : Link) (ls : List Link) → Contains (l ∷ ls) l
-is_first l ls = (0, omega arith, refl)
-
-around : (l : Link) (ls : List Link) (a b : ℕ) → Walk ls a l.ctl.driver → Walk ls l.lower.driver b → Path (l ∷ ls) a b
-around l ls a b h k = record {
+-- links to the upper driver of a link, the link, and links from its lower driver make a path
+path_over : (l : Link) (ls : List Link) (a b : ℕ) → Walk ls a l.ctl.driver → Walk ls l.lower.driver b
+    → Path (l ∷ ls) a b
+path_over l ls a b h k = record {
   path = h.path ++ l ∷ k.path;
   some = omega (arith, length-append h.path (l ∷ k.path));
   leads = walk_join (l ∷ ls) a h.path l.ctl.driver (l ∷ k.path) b
-      (walk_more ls (l ∷ ls) (skip_first l ls) a h.path l.ctl.driver h.leads)
-      (is_first l ls, refl, walk_more ls (l ∷ ls) (skip_first l ls) l.lower.driver k.path b k.leads);
+      (walk_more ls (l ∷ ls) (λ k. is_later k l ls) a h.path l.ctl.driver h.leads)
+      (is_first l ls, refl, walk_more ls (l ∷ ls) (λ k. is_later k l ls) l.lower.driver k.path b k.leads);
 }
 
 -- where the test says that a driver reaches another, a path leads from it to that
 pub reaches_path : (links : List Link) (a b : ℕ) → reaches links a b ≡ true → Path links a b
 reaches_path [] a b h = absurd (false≢true h)
 reaches_path (l ∷ ls) a b h = elim (or_cases (reaches ls a b) _ h) [
-  | inl r ↦ path_more ls (l ∷ ls) (skip_first l ls) a b (reaches_path ls a b r)
+  | inl r ↦ path_more ls (l ∷ ls) (λ k. is_later k l ls) a b (reaches_path ls a b r)
   | inr via ↦ let v = and_parts (comes ls a l.ctl.driver) (comes ls l.lower.driver b) via in
-      around l ls a b (comes_walk ls a l.ctl.driver (reaches_path ls a l.ctl.driver) v.0)
+      path_over l ls a b (comes_walk ls a l.ctl.driver (reaches_path ls a l.ctl.driver) v.0)
       (comes_walk ls l.lower.driver b (reaches_path ls l.lower.driver b) v.1)
 ]
 
+-- a driver that reaches another reaches what that one is or reaches
 reaches_comes : (links : List Link) (a b c : ℕ)
     → ((x y z : ℕ) → reaches links x y ≡ true → reaches links y z ≡ true → reaches links x z ≡ true)
     → reaches links a b ≡ true → comes links b c ≡ true → reaches links a c ≡ true
 reaches_comes links a b c trans h k = elim (or_cases (eqb b c) (reaches links b c) k)
     [ inl e ↦ subst (λ (x : ℕ). reaches links a x ≡ true) (eqb-true b c e) h | inr r ↦ trans a b c h r ]
 
+-- a driver that is another, or reaches it, reaches what that one reaches
 comes_reaches : (links : List Link) (a b c : ℕ)
     → ((x y z : ℕ) → reaches links x y ≡ true → reaches links y z ≡ true → reaches links x z ≡ true)
     → comes links a b ≡ true → reaches links b c ≡ true → reaches links a c ≡ true
@@ -103,6 +106,7 @@ reaches_at (m ∷ ls) zero l lt e = subst (λ (x : Link). reaches (x ∷ ls) l.c
     (or_left _ _ (eq-eqb l.lower.driver l.lower.driver refl))))
 reaches_at (m ∷ ls) (suc k) l lt e = or_left _ _ (reaches_at ls k l (omega arith) e)
 
+-- where links that begin with one lead from a driver to another, the test says that it reaches that
 walk_reaches : (links : List Link) (a : ℕ) (l : Link) (p : List Link) (b : ℕ) → IsPath links a (l ∷ p) b
     → reaches links a b ≡ true
 walk_reaches links a l [] b h = subst (λ (x : ℕ). reaches links x b ≡ true) h.1
@@ -111,6 +115,7 @@ walk_reaches links a l (m ∷ p) b h = subst (λ (x : ℕ). reaches links x b �
     (reaches_trans links l.ctl.driver l.lower.driver b (reaches_at links h.0.0 l h.0.1 h.0.2)
     (walk_reaches links l.lower.driver m p b h.2))
 
+-- where a nonempty list of links leads from a driver to another, the test says that it reaches that
 nonempty_reaches : (links : List Link) (a : ℕ) (p : List Link) (b : ℕ) → 0 < length p → IsPath links a p b
     → reaches links a b ≡ true
 nonempty_reaches links a [] b some h = absurd (omega arith)
@@ -120,16 +125,17 @@ nonempty_reaches links a (l ∷ p) b some h = walk_reaches links a l p b h
 pub path_reaches : (links : List Link) (a b : ℕ) → Path links a b → reaches links a b ≡ true
 path_reaches links a b h = nonempty_reaches links a h.path b h.some h.leads
 
-last_or : (ls : List Link) (l k : Link) → Contains (ls ++ l ∷ []) k → Contains (l ∷ ls) k
-last_or ls l k h = elim (Contains-append_cases ls (l ∷ []) k h)
-    [ inl c ↦ skip_first l ls k c | inr c ↦ Contains-append_left (l ∷ []) ls k c ]
+-- what is among some links with one more at the end is among them with that one at the head
+end_to_head : (ls : List Link) (l k : Link) → Contains (ls ++ l ∷ []) k → Contains (l ∷ ls) k
+end_to_head ls l k h = elim (Contains-append_cases ls (l ∷ []) k h)
+    [ inl c ↦ is_later k l ls c | inr c ↦ Contains-append_left (l ∷ []) ls k c ]
 
--- one link more, where no path leads back
+-- links without a cycle have none with one more, where its lower driver is not its upper one and doesn't reach it
 pub no_cycle_push : (ls : List Link) (l : Link) → HasNoCycle ls → comes ls l.lower.driver l.ctl.driver ≡ false
     → HasNoCycle (ls ++ l ∷ [])
 no_cycle_push ls l none back d h =
     elim (or_cases (reaches ls d d) (comes ls d l.ctl.driver && comes ls l.lower.driver d)
-    (path_reaches (l ∷ ls) d d (path_more (ls ++ l ∷ []) (l ∷ ls) (last_or ls l) d d h))) [
+    (path_reaches (l ∷ ls) d d (path_more (ls ++ l ∷ []) (l ∷ ls) (end_to_head ls l) d d h))) [
       | inl r ↦ none d (reaches_path ls d d r)
       | inr via ↦ let v = and_parts (comes ls d l.ctl.driver) (comes ls l.lower.driver d) via in
           both_ways _ back (comes_trans ls l.lower.driver d l.ctl.driver v.1 v.0)
@@ -145,7 +151,7 @@ no_cycle_push ls l none back d h =
 pub no_cycle_fewer : (xs ys : List Link) → ((l : Link) → Contains ys l → Contains xs l) → HasNoCycle xs → HasNoCycle ys
 no_cycle_fewer xs ys less none d h = none d (path_more ys xs less d d h)
 
--- a link that a search finds
+-- the upper driver of a link that a search finds reaches its lower driver
 pub reaches_link : (links : List Link) (test : Link → Bool) (l : Link) → find test links ≡ Some l
     → reaches links l.ctl.driver l.lower.driver ≡ true
 reaches_link [] test l e = cc
@@ -154,18 +160,20 @@ reaches_link (m ∷ ls) test l e = elim (cases_Bool (test m)) [
   | inr f ↦ or_left _ _ (reaches_link ls test l (rw f at e))
 ]
 
-first_or : (ls : List Link) (l k : Link) → Contains (l ∷ ls) k → Contains (ls ++ l ∷ []) k
-first_or ls l k h = elim (Contains-append_cases (l ∷ []) ls k h)
+-- what is among some links with one more at the head is among them with that one at the end
+head_to_end : (ls : List Link) (l k : Link) → Contains (l ∷ ls) k → Contains (ls ++ l ∷ []) k
+head_to_end ls l k h = elim (Contains-append_cases (l ∷ []) ls k h)
     [ inl c ↦ Contains-append_right ls (l ∷ []) k c | inr c ↦ Contains-append_left ls (l ∷ []) k c ]
 
--- a link at the end counts as one at the head
+-- what is reached over links is the same with one more at the end or at the head
 pub reaches_push : (links : List Link) (l : Link) (a b : ℕ) → reaches (links ++ l ∷ []) a b ≡ reaches (l ∷ links) a b
 reaches_push links l a b = elim (cases_Bool (reaches (l ∷ links) a b)) [
   | inl t ↦ path_reaches (links ++ l ∷ []) a b
-      (path_more (l ∷ links) (links ++ l ∷ []) (first_or links l) a b (reaches_path (l ∷ links) a b t)) ∙ sym t
+      (path_more (l ∷ links) (links ++ l ∷ []) (head_to_end links l) a b (reaches_path (l ∷ links) a b t)) ∙ sym t
   | inr f ↦
       false_from_ne_true _
       (λ t. both_ways _ f
       (path_reaches (l ∷ links) a b
-      (path_more (links ++ l ∷ []) (l ∷ links) (last_or links l) a b (reaches_path (links ++ l ∷ []) a b t)))) ∙ sym f
+      (path_more (links ++ l ∷ []) (l ∷ links) (end_to_head links l) a b
+      (reaches_path (links ++ l ∷ []) a b t)))) ∙ sym f
 ]

@@ -9,7 +9,7 @@ use Rattle.smx_types.specs.declared.driver.DriverSpec.{DriverSpec}
 use Rattle.smx_types.specs.declared.message.Message.{Message}
 use Rattle.smx_types.specs.declared.stream.Place.{Place}
 use Rattle.smx_model.specs.Configuration.{Configuration, QueuedMessage, queued_before, is_at, place_before, same_place}
-use Rattle.smx_model.specs.FlowOrder.{IsInOrder, NoneBefore}
+use Rattle.smx_model.specs.FlowOrder.{IsInOrder}
 use Rattle.smx_model.specs.LeastMovable.{IsLeastMovable}
 use Rattle.smx_model.specs.Ordered.{with_inserted, in_rising_order, without_first}
 use Rattle.smx_model.specs.Queues.{first_message, with_mark, queue}
@@ -17,13 +17,16 @@ use Rattle.smx_model.specs.Removal.{serials_that_left, serials}
 use Rattle.smx_model.specs.Settling.{is_movable, least_movable}
 use Rattle.smx_model.proofs.OrderLemmas.{queue_elsewhere, queue_placed, same_self, same_not_before}
 use Rattle.smx_model.proofs.SettlingLemmas.{no_front, none_least, same_place_is, some_least}
-use Rattle.smx_model.proofs.EachLemmas.{Apart, apart_pairs, Each}
+use Rattle.smx_model.proofs.EachLemmas.{later_pairs}
 use Rattle.smx_model.proofs.TestLemmas.{find_passes, any_of_placed}
+use Rattle.std.specs.List.{AllByRecursion}
+use Rattle.smx_model.specs.Ordered.{AllLater}
 
 -- where places are the same, either may stand for the other
 same_places : (p q r : Place) → same_place p q ≡ true → same_place p r ≡ same_place q r
 same_places p q r h = ap (λ (x : Place). same_place x r) (same_place_is p q h)
 
+-- two places that are the same are so the other way round
 same_turned : (p q : Place) → same_place p q ≡ true → same_place q p ≡ true
 same_turned p q h = subst (λ (x : Place). same_place x p ≡ true) (same_place_is p q h) (same_self p)
 
@@ -92,6 +95,7 @@ emptied_queue (k ∷ ks) goes q = elim (cases_Bool (same_place k.place q)) [
 
 -- full marks
 
+-- once the mark of a place is taken away that is not full, and each other place is as it was
 any_unmarked : (p q : Place) (ps : List Place) → list_any (same_place q) (filter (λ r. not (same_place p r)) ps)
     ≡ cond (same_place p q) false (list_any (same_place q) ps)
 any_unmarked p q [] = elim (cases_Bool (same_place p q)) [ inl t ↦ rw t refl | inr f ↦ rw f refl ]
@@ -139,7 +143,9 @@ emptied_full (r ∷ rs) goes q = let i = emptied_full rs goes q in elim (cases_B
 
 -- the least movable place
 
-no_front_before : (k : QueuedMessage) (hs : List QueuedMessage) (q : Place) → NoneBefore k hs
+-- where no message has a place before that of a given one, no place before that has a message
+no_front_before : (k : QueuedMessage) (hs : List QueuedMessage) (q : Place)
+    → AllByRecursion (λ j. queued_before j k ≡ false) hs
     → place_before q k.place ≡ true → first_message hs q ≡ None
 no_front_before k [] q n h = refl
 no_front_before k (j ∷ hs) q n h = elim (cases_Bool (is_at q j)) [
@@ -149,6 +155,8 @@ no_front_before k (j ∷ hs) q n h = elim (cases_Bool (is_at q j)) [
   | inr f ↦ rw f (no_front_before k hs q n.1 h)
 ]
 
+-- where a message is the first of a flow in order whose place passes a test, no place before its own that has a message
+-- passes
 first_is_least : (t : Place → Bool) (hs : List QueuedMessage) (h : QueuedMessage) (q : Place) (m : Message)
     → IsInOrder hs → find (λ h. t h.place) hs ≡ Some h → place_before q h.place ≡ true → first_message hs q ≡ Some m
     → t q ≡ false
@@ -193,38 +201,42 @@ least_is drivers c o = by (least_movable drivers c) refl where
 -- the serials that are dropped
 
 -- a serial that differs from all is not kept
-not_kept : (n : ℕ) (keep : QueuedMessage → Bool) (hs : List QueuedMessage) → Each (λ m. eqb n m ≡ false) (serials hs)
+not_kept : (n : ℕ) (keep : QueuedMessage → Bool) (hs : List QueuedMessage)
+    → AllByRecursion (λ m. eqb n m ≡ false) (serials hs)
     → list_any (λ m. eqb n m) (serials (filter keep hs)) ≡ false
 not_kept n keep [] h = refl
 not_kept n keep (k ∷ ks) h =
     elim (cases_Bool (keep k)) [ inl t ↦ rw (t, h.0) (not_kept n keep ks h.1) | inr f ↦ rw f (not_kept n keep ks h.1) ]
 
+-- two numbers that differ do so the other way round
 turned_eqb : (m n : ℕ) → eqb m n ≡ false → eqb n m ≡ false
 turned_eqb m n h = false_from_ne_true _ (λ t. both_ways (eqb m n) h (eq-eqb m n (sym (eqb-true n m t))))
 
 -- a serial is kept exactly where its message is
-kept_or_not : (keep : QueuedMessage → Bool) (hs : List QueuedMessage) → Apart (λ m n. eqb m n ≡ false) (serials hs)
-    → Each (λ h. list_any (λ m. eqb h.message.serial m) (serials (filter keep hs)) ≡ keep h) hs
+kept_or_not : (keep : QueuedMessage → Bool) (hs : List QueuedMessage) → AllLater (λ m n. eqb m n ≡ false) (serials hs)
+    → AllByRecursion (λ h. list_any (λ m. eqb h.message.serial m) (serials (filter keep hs)) ≡ keep h) hs
 kept_or_not keep [] a = tt
 kept_or_not keep (k ∷ ks) a = elim (cases_Bool (keep k)) [
   | inl t ↦ (rw (t, eq-eqb k.message.serial k.message.serial refl) refl, rest_kept t ks (kept_or_not keep ks a.1) a.0)
   | inr f ↦ (rw f (not_kept k.message.serial keep ks a.0), rest_not f ks (kept_or_not keep ks a.1))
 ] where
   rest_kept : keep k ≡ true → (hs : List QueuedMessage)
-      → Each (λ h. list_any (λ m. eqb h.message.serial m) (serials (filter keep ks)) ≡ keep h) hs
-      → Each (λ m. eqb k.message.serial m ≡ false) (serials hs)
-      → Each (λ h. list_any (λ m. eqb h.message.serial m) (serials (filter keep (k ∷ ks))) ≡ keep h) hs
+      → AllByRecursion (λ h. list_any (λ m. eqb h.message.serial m) (serials (filter keep ks)) ≡ keep h) hs
+      → AllByRecursion (λ m. eqb k.message.serial m ≡ false) (serials hs)
+      → AllByRecursion (λ h. list_any (λ m. eqb h.message.serial m) (serials (filter keep (k ∷ ks))) ≡ keep h) hs
   rest_kept t [] e n = tt
   rest_kept t (h ∷ hs) e n = (rw (t, turned_eqb k.message.serial h.message.serial n.0) e.0, rest_kept t hs e.1 n.1)
 
   rest_not : keep k ≡ false → (hs : List QueuedMessage)
-      → Each (λ h. list_any (λ m. eqb h.message.serial m) (serials (filter keep ks)) ≡ keep h) hs
-      → Each (λ h. list_any (λ m. eqb h.message.serial m) (serials (filter keep (k ∷ ks))) ≡ keep h) hs
+      → AllByRecursion (λ h. list_any (λ m. eqb h.message.serial m) (serials (filter keep ks)) ≡ keep h) hs
+      → AllByRecursion (λ h. list_any (λ m. eqb h.message.serial m) (serials (filter keep (k ∷ ks))) ≡ keep h) hs
   rest_not f [] e = tt
   rest_not f (h ∷ hs) e = (rw f e.0, rest_not f hs e.1)
 
+-- where the new serials are those of the messages that are kept, the old serials that are no new ones are those of the
+-- others
 those_gone : (keep : QueuedMessage → Bool) (new : List ℕ) (hs : List QueuedMessage)
-    → Each (λ h. list_any (λ m. eqb h.message.serial m) new ≡ keep h) hs
+    → AllByRecursion (λ h. list_any (λ m. eqb h.message.serial m) new ≡ keep h) hs
     → filter (λ n. not (list_any (λ m. eqb n m) new)) (serials hs) ≡ serials (filter (λ h. not (keep h)) hs)
 those_gone keep new [] h = refl
 those_gone keep new (k ∷ ks) h = elim (cases_Bool (keep k)) [
@@ -237,4 +249,4 @@ pub gone_is : (flow : List QueuedMessage) (keep : QueuedMessage → Bool) → Al
     → serials_that_left flow (filter keep flow) ≡ in_rising_order (serials (filter (λ h. not (keep h)) flow))
 gone_is flow keep apart =
     ap in_rising_order (those_gone keep (serials (filter keep flow)) flow (kept_or_not keep flow
-    (apart_pairs _ (serials flow) (λ i j d lt within. ne_eqb _ _ (apart i j d lt within)))))
+    (later_pairs _ (serials flow) (λ i j d lt within. ne_eqb _ _ (apart i j d lt within)))))

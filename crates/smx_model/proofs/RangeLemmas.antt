@@ -6,6 +6,7 @@ use Rattle.std.specs.Str.{bytes_eq}
 use Rattle.std.specs.List.{range_with_len}
 use Rattle.std.proofs.lemmas.Bool.{cases_Bool, leb-false}
 use Rattle.std.proofs.lemmas.List.Quantifiers.{position-Some}
+use Rattle.std.specs.List.{AllByRecursion}
 use Rattle.smx_types.specs.declared.command.Command.{Command}
 use Rattle.smx_types.specs.declared.reply.Fault.TheVariants.{NoDriver, NoMinor}
 use Rattle.smx_types.specs.declared.driver.DriverSpec.{DriverSpec}
@@ -23,24 +24,26 @@ use Rattle.smx_model.proofs.SettledLemmas.{moved_by}
 use Rattle.smx_model.proofs.AcceptedLemmas.{of_rows}
 use Rattle.smx_model.proofs.LookupLemmas.{descriptor_of, there_is}
 use Rattle.smx_model.proofs.OutcomeLemmas.{IfAccepted}
-use Rattle.smx_model.proofs.EachLemmas.{Each, each_filter, each_placed, each_push, each_find, each_map}
+use Rattle.smx_model.proofs.EachLemmas.{each_filter, each_placed, each_push, each_find, each_map}
 
 -- each descriptor has a stream, and each link a controlling and a lower one, that the drivers have
 pub record AreNamed (drivers : List DriverSpec) (c : Configuration) : Type 0 where
-  pub fds : Each (λ d. IsKnown drivers d.stream) c.fds
-  pub links : Each (λ l. IsKnown drivers l.ctl × IsKnown drivers l.lower) c.links
+  pub fds : AllByRecursion (λ d. IsKnown drivers d.stream) c.fds
+  pub links : AllByRecursion (λ l. IsKnown drivers l.ctl × IsKnown drivers l.lower) c.links
 
--- so their drivers are there
+-- where links have streams that the drivers have, both drivers of each link are in range
 pub links_below : (drivers : List DriverSpec) (links : List Link)
-    → Each (λ l. IsKnown drivers l.ctl × IsKnown drivers l.lower) links
-    → Each (λ l. (l.ctl.driver < length drivers) × (l.lower.driver < length drivers)) links
+    → AllByRecursion (λ l. IsKnown drivers l.ctl × IsKnown drivers l.lower) links
+    → AllByRecursion (λ l. (l.ctl.driver < length drivers) × (l.lower.driver < length drivers)) links
 links_below drivers links h = each_map _ _ links (λ l p. (p.0.0, p.1.0)) h
 
+-- a position at which a search in the drivers finds one is in range
 position_below : (drivers : List DriverSpec) (test : DriverSpec → Bool) (k : ℕ) → position test drivers ≡ Some k
     → k < length drivers
 position_below [] test k e = cc
 position_below (d ∷ ds) test k e = (position-Some test (d ∷ ds) k d e).0
 
+-- the number of a driver that is found by its name is in range
 driver_below : (drivers : List DriverSpec) (name : List ℕ) (n : ℕ) → driver_of drivers name ≡ Ok n → n < length drivers
 driver_below drivers name n e = position_below drivers (λ d. bytes_eq d.name name) n (there_is NoDriver _ n e)
 
@@ -62,13 +65,16 @@ minor_free drivers c n m e =
           (there_is NoMinor _ m e),
     )
 
+-- a minor that is not past those of its driver is one of them
 minor_in : (drivers : List DriverSpec) (n m : ℕ) → leb (minors_of drivers n) m ≡ false → m < minors_of drivers n
 minor_in drivers n m e = leb-false (minors_of drivers n) m e
 
+-- a driver in range and one of its minors make a stream that the drivers have
 known_made : (drivers : List DriverSpec) (n m : ℕ) → n < length drivers → m < minors_of drivers n
     → IsKnown drivers (record { driver = n; minor = m })
 known_made drivers n m lt lt2 = (lt, lt2)
 
+-- where descriptors have streams that the drivers have, the stream of a process's descriptor is one of them
 stream_known : (drivers : List DriverSpec) (c : Configuration) (process fd : ℕ) (s : StreamId) → AreNamed drivers c
     → stream_of c process fd ≡ Ok s → IsKnown drivers s
 stream_known drivers c process fd s h e =

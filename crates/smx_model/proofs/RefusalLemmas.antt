@@ -12,6 +12,7 @@ use Rattle.smx_model.specs.Outcomes.{Outcome}
 use Rattle.smx_model.proofs.AcceptedLemmas.{of_rows}
 use Rattle.smx_model.proofs.OutcomeLemmas.{IfAccepted}
 
+-- the reply is a fault
 abbrev is_fault : Reply → Bool
 is_fault (reply.Fd fd minor) = false
 is_fault (reply.Id id) = false
@@ -21,18 +22,20 @@ is_fault (reply.Done gone) = false
 is_fault reply.Eof = false
 is_fault (reply.Fault fault) = true
 
--- it is accepted with no fault for a reply
+-- if it is accepted, its reply is no fault
 abbrev IsAnswered : Outcome → Type 0
 IsAnswered o = IfAccepted (λ d r. is_fault r ≡ false) o
 
+-- what is done replies no fault
 done_answers : (drivers : List DriverSpec) (c d : Configuration) → IsAnswered (done_outcome drivers c d)
 done_answers drivers c d = record { holds = refl }
 
+-- an accepted command replies no fault
 answers_accepted : (drivers : List DriverSpec) (c : Configuration) (process : ℕ) (k : Command)
     → IsAnswered (outcome drivers c process k)
 answers_accepted drivers c process k = search (of_rows, done_answers, rules) depth 24
 
--- so a reply that is a fault is that of a refusal
+-- a reply that is a fault is that of a refusal
 
 -- a command whose reply is a fault changes nothing
 pub refused_same : (drivers : List DriverSpec) (c : Configuration) (process : ℕ) (k : Command) (f : Fault)
@@ -42,7 +45,7 @@ refused_same drivers c process k f e = by (outcome drivers c process k) (answers
   by (Ok x) h e = absurd (false≢true (sym h.holds ∙ ap is_fault e))
   by (Err g) h e = refl
 
--- and the fault is the one that it is refused with
+-- the reply to a command is a fault exactly where the command is refused with that fault
 pub fault_is_refusal : (drivers : List DriverSpec) (c : Configuration) (process : ℕ) (k : Command) (f : Fault)
     → ((step drivers c process k).1 ≡ reply.Fault f ↔ outcome drivers c process k ≡ Err f)
 fault_is_refusal drivers c process k f = by (outcome drivers c process k) (answers_accepted drivers c process k) where

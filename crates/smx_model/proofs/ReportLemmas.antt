@@ -2,6 +2,7 @@
 use Rattle.std.proofs.Common.{◌≡◌, zero, suc, false, List, [], ◌∷◌, map, refl, sym, ap, ◌∙◌, length, arith}
 use Rattle.std.specs.Prelude.{◌==◌, Ok}
 use Rattle.std.proofs.lemmas.Bool.Decides.{nat_tests}
+use Rattle.std.proofs.lemmas.List.Elements.{All-from_recursion}
 use Rattle.smx_types.specs.Drivers.{spec_check}
 use Rattle.smx_types.specs.ProgramLists.{ProgramLists}
 use Rattle.smx_types.specs.declared.command.Command.{Command}
@@ -17,13 +18,14 @@ use Rattle.smx_model.specs.Worked.Common.{OpenClone, Dup, CloseAll, Fd, Fault, B
 use Rattle.smx_model.specs.Worked.Reports.{another_exited, copied, drivers, exited, once_more, one, opened, programs}
 use Rattle.smx_model.specs.Worked.Reports.{report_with, three, too_early, two}
 use Rattle.smx_model.proofs.DropLemmas.{few_drop}
-use Rattle.smx_model.proofs.EachLemmas.{all_of_each}
 use Rattle.smx_model.proofs.HistoryLemmas.{determined, lawful_throughout}
 use Rattle.smx_types.specs.declared.version.Version.{Version}
 
+-- the transcript of a version with these drivers, entries and view
 abbrev transcript : Version → List DriverSpec → List Entry → ConfigView → Transcript
 transcript version drivers entries v = record { version = version; drivers = drivers; entries = entries; view = v }
 
+-- transcripts of one version with the same drivers, entries and view are the same
 transcript_of : (n : Version) (ds ds2 : List DriverSpec) (es es2 : List Entry) (v v2 : ConfigView) → ds ≡ ds2 → es ≡ es2
     → v ≡ v2 → transcript n ds es v ≡ transcript n ds2 es2 v2
 transcript_of n ds ds2 es es2 v v2 e f g = cc
@@ -52,6 +54,7 @@ report_of programs r same can legal holds shown = record {
 
 -- the example
 
+-- the entries of the example hold its programs
 example_holds : HoldsPrograms (opened ∷ exited ∷ copied ∷ []) programs.programs
 example_holds zero = refl
 example_holds (suc zero) = refl
@@ -60,10 +63,11 @@ example_holds (suc (suc p)) =
     let not_second : (1 == suc (suc p)) ≡ false = grind (arith, nat_tests) in
     rw (not_first, not_second) refl
 
+-- a configuration can have the drivers of the example
 example_drivers : IsDriverList drivers
 example_drivers = record {
   few = omega arith;
-  each = all_of_each (λ d. spec_check d ≡ Ok tt) drivers (refl, tt);
+  each = All-from_recursion (λ d. spec_check d ≡ Ok tt) drivers (refl, tt);
   names = λ i j d lt lt2. absurd (omega (arith, lt, lt2));
 }
 
@@ -72,8 +76,9 @@ pub is_report : IsReportOf programs (report_with (opened ∷ exited ∷ copied �
 is_report = report_of programs (report_with (opened ∷ exited ∷ copied ∷ []) two) refl example_drivers
     (refl, (refl, (refl, tt))) example_holds refl
 
--- and what is none
+-- what is none
 
+-- the program of process 0 in the example, an open and a dup
 abbrev both : List Command
 both = OpenClone ip ∷ Dup 0 ∷ []
 

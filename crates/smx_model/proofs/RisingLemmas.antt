@@ -1,9 +1,10 @@
 -- Descriptors, bindings, routes, full places and hung-up streams stay in their order.
-use Rattle.std.proofs.Common.{◌≡◌, ℕ, Bool, true, false, ◌&&◌, ◌||◌, not, eqb, List, [], ◌∷◌, filter}
-use Rattle.std.proofs.Common.{Ok, refl, rules, arith, inl, inr}
+use Rattle.std.proofs.Common.{◌≡◌, ℕ, Bool, true, false, ◌&&◌, ◌||◌, not, eqb, List, filter}
+use Rattle.std.proofs.Common.{Ok, refl, rules, arith}
 use Rattle.std.specs.List.{list_any, range_with_len}
-use Rattle.std.proofs.lemmas.Bool.{cases_Bool, not-true}
+use Rattle.std.proofs.lemmas.Bool.{not-true}
 use Rattle.std.proofs.lemmas.Bool.Decides.{nat_tests}
+use Rattle.std.specs.List.{AllByRecursion}
 use Rattle.smx_types.specs.declared.command.Command.{Command}
 use Rattle.smx_types.specs.declared.driver.DriverSpec.{DriverSpec}
 use Rattle.smx_types.specs.declared.limits.TheConstants.{MAX_DESCRIPTORS}
@@ -16,101 +17,79 @@ use Rattle.smx_model.specs.Configuration.{Configuration, empty, is_fd, fd_before
 use Rattle.smx_model.specs.Configuration.{place_before, pair_before, same_place, same_stream, stream_before}
 use Rattle.smx_model.specs.Hangups.{is_hung, with_hung}
 use Rattle.smx_model.specs.Lookups.{free_fd}
-use Rattle.smx_model.specs.Ordered.{with_inserted, ComesBefore, IsRising}
+use Rattle.smx_model.specs.Ordered.{with_inserted, IsRising}
 use Rattle.smx_model.specs.Queues.{with_mark}
 use Rattle.smx_model.specs.Settling.{after_move}
 use Rattle.smx_model.specs.OrderedParts.{AreListsOrdered}
 use Rattle.smx_model.proofs.SettledLemmas.{ChangesQueuesAlone, moved_alone, moved_by}
-use Rattle.smx_model.proofs.OrderLemmas.{order_filter, order_moved, order_placed, order_without}
+use Rattle.smx_model.proofs.OrderLemmas.{order_moved, order_placed}
 use Rattle.smx_model.proofs.OrderLemmas.{place_before_trans, place_either}
 use Rattle.smx_model.proofs.AcceptedLemmas.{of_rows}
 use Rattle.smx_model.proofs.LookupLemmas.{there_is}
 use Rattle.smx_model.proofs.OutcomeLemmas.{IfAccepted}
-use Rattle.smx_model.proofs.EachLemmas.{Each, none_passes, kept_passes}
+use Rattle.smx_model.proofs.EachLemmas.{kept_passes, later_filter, later_placed, later_without_first, none_passes}
 use Rattle.smx_model.proofs.TestLemmas.{find_passes}
 
 -- one more, and fewer
 
--- what comes before what comes before comes before
-abbrev IsTransitive : {X : Type 0} → (X → X → Bool) → Type 0
+-- an order is transitive: what comes before one that comes before another comes before that one too
+abbrev pub IsTransitive : {X : Type 0} → (X → X → Bool) → Type 0
 IsTransitive {X} before = (x y z : X) → before x y ≡ true → before y z ≡ true → before x z ≡ true
 
-before_all : {X : Type 0} (before : X → X → Bool) → IsTransitive before → (x y : X) (ys : List X) → before x y ≡ true
-    → ComesBefore before y ys → ComesBefore before x ys
-before_all before trans x y [] h k = tt
-before_all before trans x y (z ∷ zs) h k = (trans x y z h k.0, before_all before trans x y zs h k.1)
-
-before_placed : {X : Type 0} (before : X → X → Bool) (y x : X) (xs : List X) → before y x ≡ true
-    → ComesBefore before y xs → ComesBefore before y (with_inserted before xs x)
-before_placed before y x [] h k = (h, tt)
-before_placed before y x (z ∷ zs) h k =
-    elim (cases_Bool (before x z)) [ inl t ↦ rw t (h, k) | inr f ↦ rw f (k.0, before_placed before y x zs h k.1) ]
-
--- an element that is comparable with each goes to its place
+-- a list that rises does so once one more is inserted that comes before or after each of its elements
 pub rising_placed : {X : Type 0} (before : X → X → Bool) → IsTransitive before → (x : X) (xs : List X)
-    → Each (λ y. before x y ≡ false → before y x ≡ true) xs → IsRising before xs
+    → AllByRecursion (λ y. before x y ≡ false → before y x ≡ true) xs → IsRising before xs
     → IsRising before (with_inserted before xs x)
-rising_placed before trans x [] other h = (tt, tt)
-rising_placed before trans x (y ∷ ys) other h = elim (cases_Bool (before x y)) [
-  | inl t ↦ rw t ((t, before_all before trans x y ys t h.0), h)
-  | inr f ↦ rw f (before_placed before y x ys (other.0 f) h.0, rising_placed before trans x ys other.1 h.1)
-]
-
-before_filter : {X : Type 0} (before : X → X → Bool) (test : X → Bool) (x : X) (xs : List X) → ComesBefore before x xs
-    → ComesBefore before x (filter test xs)
-before_filter before test x [] h = tt
-before_filter before test x (y ∷ ys) h = elim (cases_Bool (test y))
-    [ inl t ↦ rw t (h.0, before_filter before test x ys h.1) | inr f ↦ rw f (before_filter before test x ys h.1) ]
-
--- a rising list stays so when it is filtered
-pub rising_filter : {X : Type 0} (before : X → X → Bool) (test : X → Bool) (xs : List X) → IsRising before xs
-    → IsRising before (filter test xs)
-rising_filter before test [] h = tt
-rising_filter before test (x ∷ xs) h = elim (cases_Bool (test x)) [
-  | inl t ↦ rw t (before_filter before test x xs h.0, rising_filter before test xs h.1)
-  | inr f ↦
-      rw f (rising_filter before test xs h.1)
-]
+rising_placed before trans x xs other h =
+    later_placed (λ y z. before y z ≡ true) before x (λ y t. t) (λ y z. trans x y z) xs other h
 
 -- the orders
 
+-- the order of pairs is transitive
 pair_trans : (a b c d e f : ℕ) → pair_before a b c d ≡ true → pair_before c d e f ≡ true → pair_before a b e f ≡ true
 pair_trans a b c d e f h k = grind (arith, nat_tests)
 
-pair_other : (a b c d : ℕ) → (eqb c a && eqb d b) ≡ false → pair_before a b c d ≡ false → pair_before c d a b ≡ true
-pair_other a b c d h k = grind (arith, nat_tests)
+-- of two pairs that differ, the one that doesn't come before the other comes after it
+pair_after : (a b c d : ℕ) → (eqb c a && eqb d b) ≡ false → pair_before a b c d ≡ false → pair_before c d a b ≡ true
+pair_after a b c d h k = grind (arith, nat_tests)
 
+-- the order of descriptors is transitive
 fd_trans : IsTransitive fd_before
 fd_trans x y z h k = pair_trans x.process x.fd y.process y.fd z.process z.fd h k
 
+-- the order of bindings is transitive
 bind_trans : IsTransitive bind_before
 bind_trans x y z h k = pair_trans x.driver x.addr y.driver y.addr z.driver z.addr h k
 
+-- the order of routes is transitive
 route_trans : IsTransitive route_before
 route_trans x y z h k = pair_trans x.driver x.addr y.driver y.addr z.driver z.addr h k
 
-stream_trans : IsTransitive stream_before
+-- the order of streams is transitive
+pub stream_trans : IsTransitive stream_before
 stream_trans x y z h k = pair_trans x.driver x.minor y.driver y.minor z.driver z.minor h k
 
--- a bound address or a bound stream differs from both
+-- where a driver's address and stream are both free, no binding has that address
 pub bind_other : (a b c d e m : ℕ) → (eqb c a && (eqb d b || eqb e m)) ≡ false → (eqb c a && eqb d b) ≡ false
 bind_other a b c d e m h = grind (arith, nat_tests)
 
 -- of each accepted outcome
 
--- the number that is free is not there
-free_is_free : (c : Configuration) (process fd : ℕ) → free_fd c process ≡ Ok fd
+-- a free number of a process is none of its descriptors
+free_number_is_new : (c : Configuration) (process fd : ℕ) → free_fd c process ≡ Ok fd
     → list_any (is_fd process fd) c.fds ≡ false
-free_is_free c process fd e =
+free_number_is_new c process fd e =
     not-true _ (find_passes (λ n. not (list_any (is_fd process n) c.fds)) (range_with_len 0 MAX_DESCRIPTORS) fd
     (there_is TooManyDescriptors _ fd e))
 
+-- descriptors that rise do so with one more under a free number
 fds_rise : (c : Configuration) (process fd : ℕ) (s : StreamId) → AreListsOrdered c → free_fd c process ≡ Ok fd
     → IsRising fd_before (with_fd c process fd s).fds
 fds_rise c process fd s h e = rising_placed fd_before fd_trans (record { process = process; fd = fd; stream = s }) c.fds
-    (none_passes (is_fd process fd) _ c.fds (λ d f k. pair_other process fd d.process d.fd f k)
-    (free_is_free c process fd e)) h.fds
+    (none_passes (is_fd process fd) _ c.fds (λ d f k. pair_after process fd d.process d.fd f k)
+    (free_number_is_new c process fd e)) h.fds
 
+-- bindings that rise do so with one more, where neither its address nor its stream is bound
 binds_rise : (c : Configuration) (driver addr minor : ℕ) → AreListsOrdered c
     → list_any (λ b. eqb b.driver driver && (eqb b.addr addr || eqb b.minor minor)) c.binds ≡ false
     → IsRising bind_before
@@ -118,9 +97,10 @@ binds_rise : (c : Configuration) (driver addr minor : ℕ) → AreListsOrdered c
 binds_rise c driver addr minor h e =
     rising_placed bind_before bind_trans (record { driver = driver; addr = addr; minor = minor }) c.binds
     (none_passes (λ b. eqb b.driver driver && (eqb b.addr addr || eqb b.minor minor)) _ c.binds
-    (λ b f k. pair_other driver addr b.driver b.addr (bind_other driver addr b.driver b.addr b.minor minor f) k) e)
+    (λ b f k. pair_after driver addr b.driver b.addr (bind_other driver addr b.driver b.addr b.minor minor f) k) e)
     h.binds
 
+-- routes that rise do so with one more in place of that of its driver and address
 routes_rise : (c : Configuration) (driver addr id : ℕ) → AreListsOrdered c
     → IsRising route_before
     (with_inserted route_before (filter (λ r. not (eqb r.driver driver && eqb r.addr addr)) c.routes)
@@ -128,7 +108,7 @@ routes_rise : (c : Configuration) (driver addr id : ℕ) → AreListsOrdered c
 routes_rise c driver addr id h =
     rising_placed route_before route_trans (record { driver = driver; addr = addr; id = id }) _
     (kept_passes (λ r. not (eqb r.driver driver && eqb r.addr addr)) _ c.routes
-    (λ r t k. pair_other driver addr r.driver r.addr (not-true _ t) k)) (rising_filter route_before _ c.routes h.routes)
+    (λ r t k. pair_after driver addr r.driver r.addr (not-true _ t) k)) (later_filter _ _ c.routes h.routes)
 
 -- hung-up streams that rise do so with one more
 pub rising_with_hung : (s : StreamId) (hungs : List StreamId) → IsRising stream_before hungs
@@ -137,25 +117,25 @@ rising_with_hung s hungs h = by (is_hung hungs s) refl where
   by : (b : Bool) → is_hung hungs s ≡ b → IsRising stream_before (with_hung s hungs)
   by true e = rw e h
   by false e = rw e (rising_placed stream_before stream_trans s hungs
-      (none_passes (λ t. same_stream t s) _ hungs (λ t f k. pair_other s.driver s.minor t.driver t.minor f k) e) h)
+      (none_passes (λ t. same_stream t s) _ hungs (λ t f k. pair_after s.driver s.minor t.driver t.minor f k) e) h)
 
+-- full places that rise do so with one more, and without one
 rising_marked : (p : Place) (b : Bool) (ps : List Place) → IsRising place_before ps
     → IsRising place_before (with_mark p b ps)
 rising_marked p true ps h = rising_placed place_before place_before_trans p _
     (kept_passes (λ q. not (same_place p q)) _ ps (λ q t k. place_either p q (not-true _ t) k))
-    (rising_filter place_before _ ps h)
-rising_marked p false ps h = rising_filter place_before _ ps h
+    (later_filter _ _ ps h)
+rising_marked p false ps h = later_filter _ _ ps h
 
 -- an accepted command keeps all lists in order
 pub rising_accepted : (drivers : List DriverSpec) (c : Configuration) (process : ℕ) (k : Command) → AreListsOrdered c
     → IfAccepted (λ d r. AreListsOrdered d) (outcome drivers c process k)
 rising_accepted drivers c process k h = of_rows _ drivers c process k (search (
-  rising_filter,
+  later_filter,
   rising_marked,
   rising_with_hung,
-  order_filter,
   order_placed,
-  order_without,
+  later_without_first,
   fds_rise,
   binds_rise,
   routes_rise,

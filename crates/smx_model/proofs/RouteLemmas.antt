@@ -1,9 +1,11 @@
 -- Ids of links rise, and routes name links of their own upper driver.
-use Rattle.std.proofs.Common.{◌≡◌, ℕ, ◌+◌, ◌<◌, ◌≤◌, Bool, true, false, ◌&&◌, ◌||◌, not, eqb, ltb, List, [], ◌∷◌, ◌++◌}
+use Rattle.std.proofs.Common.{◌≡◌, ℕ, ◌+◌, ◌<◌, ◌≤◌, Bool, true, false, ◌&&◌, ◌||◌, not, eqb, List, [], ◌∷◌, ◌++◌}
 use Rattle.std.proofs.Common.{filter, Ok, refl, rules, sym, ◌∙◌, subst, arith, inl, inr}
 use Rattle.std.specs.List.{list_any}
 use Rattle.std.proofs.lemmas.Bool.{lt-ltb, cases_Bool, eqb-true, and_parts, not-false, or_cases, or_left, or_right}
 use Rattle.std.proofs.lemmas.Bool.{false≢true}
+use Rattle.std.specs.List.{AllByRecursion}
+use Rattle.std.proofs.lemmas.List.Elements.{All-from_recursion}
 use Rattle.smx_types.specs.declared.command.Command.{Command}
 use Rattle.smx_types.specs.declared.driver.DriverSpec.{DriverSpec}
 use Rattle.smx_types.specs.declared.link.Link.{Link}
@@ -16,7 +18,7 @@ use Rattle.smx_model.specs.Commands.{outcome, done_outcome}
 use Rattle.smx_model.specs.Configuration.{Configuration, empty, route_before}
 use Rattle.smx_model.specs.DriverList.{is_mux}
 use Rattle.smx_model.specs.Lookups.{free_stream, mux_stream}
-use Rattle.smx_model.specs.Ordered.{with_inserted, ComesBefore, IsRising}
+use Rattle.smx_model.specs.Ordered.{with_inserted}
 use Rattle.smx_model.specs.Removal.{without_links}
 use Rattle.smx_model.specs.Settling.{after_move}
 use Rattle.smx_model.specs.SoundLinks.{AreIdsRising, AreRoutesSound}
@@ -24,12 +26,13 @@ use Rattle.smx_model.proofs.SettledLemmas.{moved_by}
 use Rattle.smx_model.proofs.AcceptedLemmas.{of_rows}
 use Rattle.smx_model.proofs.LookupLemmas.{tested}
 use Rattle.smx_model.proofs.OutcomeLemmas.{IfAccepted}
-use Rattle.smx_model.proofs.EachLemmas.{Apart, apart_filter, Each, each_filter, each_placed, each_push, each_map}
-use Rattle.smx_model.proofs.EachLemmas.{all_of_each}
+use Rattle.smx_model.proofs.EachLemmas.{each_filter, each_placed, each_push, each_map, later_filter, later_map}
+use Rattle.smx_model.proofs.EachLemmas.{later_push}
+use Rattle.smx_model.specs.Ordered.{AllLater}
 
 -- each id is below those of the later links
 abbrev pub Rising : List Link → Type 0
-Rising links = Apart (λ l k. l.id < k.id) links
+Rising links = AllLater (λ l k. l.id < k.id) links
 
 -- the id is that of a link with this upper driver
 abbrev pub leads_from : List Link → ℕ → ℕ → Bool
@@ -38,13 +41,16 @@ leads_from links id driver = list_any (λ l. eqb l.id id && eqb l.ctl.driver dri
 -- ids of links rise from 1 to below the next one; each route has a multiplexing driver, and names a link of its own
 pub record AreRouted (drivers : List DriverSpec) (c : Configuration) : Type 0 where
   pub rise : Rising c.links
-  pub ids : Each (λ l. (1 ≤ l.id) × (l.id < c.next_id)) c.links
+  pub ids : AllByRecursion (λ l. (1 ≤ l.id) × (l.id < c.next_id)) c.links
   pub start : 1 ≤ c.next_id
-  pub routes : Each (λ r. (is_mux drivers r.driver ≡ true) × (leads_from c.links r.id r.driver ≡ true)) c.routes
+  pub routes : AllByRecursion
+      (λ r. (is_mux drivers r.driver ≡ true) × (leads_from c.links r.id r.driver ≡ true)) c.routes
 
 -- an id names one link
 
-below_found : (links : List Link) (i id driver : ℕ) → Each (λ k. i < k.id) links → leads_from links id driver ≡ true
+-- a number that is below the id of each link is below an id that one of them has
+below_found : (links : List Link) (i id driver : ℕ) → AllByRecursion (λ k. i < k.id) links
+    → leads_from links id driver ≡ true
     → i < id
 below_found [] i id driver h e = absurd (false≢true e)
 below_found (l ∷ ls) i id driver h e =
@@ -53,20 +59,21 @@ below_found (l ∷ ls) i id driver h e =
       | inr k ↦ below_found ls i id driver h.1 k
     ]
 
-none_above : (links : List Link) (id driver : ℕ) → Each (λ k. id < k.id) links
-    → Each (λ l. l.id ≡ id → l.ctl.driver ≡ driver) links
+-- where an id is below that of each link, no link of that id has another upper driver
+none_above : (links : List Link) (id driver : ℕ) → AllByRecursion (λ k. id < k.id) links
+    → AllByRecursion (λ l. l.id ≡ id → l.ctl.driver ≡ driver) links
 none_above [] id driver h = tt
 none_above (l ∷ ls) id driver h = (λ e. absurd (omega (arith, e, h.0)), none_above ls id driver h.1)
 
--- so each link of that id has that upper driver
+-- where ids rise, all links of an id have the upper driver that one of them has
 pub one_driver : (links : List Link) (id driver : ℕ) → Rising links → leads_from links id driver ≡ true
-    → Each (λ l. l.id ≡ id → l.ctl.driver ≡ driver) links
+    → AllByRecursion (λ l. l.id ≡ id → l.ctl.driver ≡ driver) links
 one_driver [] id driver h e = tt
 one_driver (l ∷ ls) id driver h e =
     elim (or_cases (eqb l.id id && eqb l.ctl.driver driver) (leads_from ls id driver) e) [
       | inl k ↦ let p = and_parts (eqb l.id id) (eqb l.ctl.driver driver) k in (
         λ same. eqb-true l.ctl.driver driver p.1,
-        none_above ls id driver (subst (λ (x : ℕ). Each (λ k. x < k.id) ls) (eqb-true l.id id p.0) h.0),
+        none_above ls id driver (subst (λ (x : ℕ). AllByRecursion (λ k. x < k.id) ls) (eqb-true l.id id p.0) h.0),
       )
       | inr k ↦ (
         λ same. absurd (omega (arith, same, below_found ls l.id id driver h.0 k)),
@@ -76,22 +83,19 @@ one_driver (l ∷ ls) id driver h e =
 
 -- each route's id is that of links of its own driver alone
 pub routes_lead : (drivers : List DriverSpec) (c : Configuration) → AreRouted drivers c
-    → Each (λ r. Each (λ l. l.id ≡ r.id → l.ctl.driver ≡ r.driver) c.links) c.routes
+    → AllByRecursion (λ r. AllByRecursion (λ l. l.id ≡ r.id → l.ctl.driver ≡ r.driver) c.links) c.routes
 routes_lead drivers c h = each_map _ _ c.routes (λ r p. one_driver c.links r.id r.driver h.rise p.1) h.routes
 
 -- the lists as they change
 
-rising_push : (ls : List Link) (l : Link) → Each (λ k. k.id < l.id) ls → Rising ls → Rising (ls ++ l ∷ [])
-rising_push [] l h r = (tt, tt)
-rising_push (k ∷ ls) l h r = (each_push _ ls l h.0 r.0, rising_push ls l h.1 r.1)
-
+-- an id that is that of a link with this upper driver is so with one more link at the end
 leads_push : (ls : List Link) (l : Link) (id driver : ℕ) → leads_from ls id driver ≡ true
     → leads_from (ls ++ l ∷ []) id driver ≡ true
 leads_push [] l id driver e = absurd (false≢true e)
 leads_push (k ∷ ls) l id driver e = elim (or_cases (eqb k.id id && eqb k.ctl.driver driver) (leads_from ls id driver) e)
     [ inl t ↦ or_left _ _ t | inr t ↦ or_right _ _ (leads_push ls l id driver t) ]
 
--- a route whose link stays stays true
+-- where no link of an id goes, an id of a link with this upper driver is so among the links that stay
 leads_kept : (goes : Link → Bool) (ls : List Link) (id driver : ℕ) → leads_from ls id driver ≡ true
     → not (list_any (λ l. eqb l.id id) (filter goes ls)) ≡ true
     → leads_from (filter (λ l. not (goes l)) ls) id driver ≡ true
@@ -113,16 +117,18 @@ leads_kept goes (l ∷ ls) id driver e h = elim (cases_Bool (goes l)) [
 
 -- of each accepted outcome
 
+-- without some links and the routes to them, ids still rise, and each route names a link of its own driver
 routed_removed : (drivers : List DriverSpec) (c : Configuration) (goes : Link → Bool) → AreRouted drivers c
     → AreRouted drivers (without_links c goes)
 routed_removed drivers c goes h = record {
-  rise = apart_filter _ _ c.links h.rise;
+  rise = later_filter _ _ c.links h.rise;
   ids = each_filter _ _ c.links h.ids;
   start = h.start;
   routes = kept c.routes h.routes;
 } where
-  kept : (rs : List Route) → Each (λ r. (is_mux drivers r.driver ≡ true) × (leads_from c.links r.id r.driver ≡ true)) rs
-      → Each (λ r. (is_mux drivers r.driver ≡ true)
+  kept : (rs : List Route)
+      → AllByRecursion (λ r. (is_mux drivers r.driver ≡ true) × (leads_from c.links r.id r.driver ≡ true)) rs
+      → AllByRecursion (λ r. (is_mux drivers r.driver ≡ true)
       × (leads_from (filter (λ l. not (goes l)) c.links) r.id r.driver ≡ true))
       (filter (λ r. not (list_any (λ l. eqb l.id r.id) (filter goes c.links))) rs)
   kept [] k = tt
@@ -132,11 +138,13 @@ routed_removed drivers c goes h = record {
         rw f (kept rs k.1)
   ]
 
+-- where ids rise and each route names a link of its own driver, so it is after the sweep
 routed_done : (drivers : List DriverSpec) (c d : Configuration) → AreRouted drivers d
     → IfAccepted (λ d r. AreRouted drivers d) (done_outcome drivers c d)
 routed_done drivers c d h = let k = routed_removed drivers d _ h in
     record { holds = record { rise = k.rise; ids = k.ids; start = k.start; routes = k.routes } }
 
+-- with one more link under the next id, ids still rise, and each route names a link of its own driver
 routed_link : (drivers : List DriverSpec) (c : Configuration) (ctl lower : StreamId) (k : LinkKind)
     → AreRouted drivers c
     → AreRouted drivers
@@ -145,7 +153,7 @@ routed_link : (drivers : List DriverSpec) (c : Configuration) (ctl lower : Strea
       next_id = c.next_id + 1;
     })
 routed_link drivers c ctl lower k h = record {
-  rise = rising_push c.links l (each_map _ _ c.links (λ m p. p.1) h.ids) h.rise;
+  rise = later_push _ c.links l (each_map _ _ c.links (λ m p. p.1) h.ids) h.rise;
   ids = each_push _ c.links l (h.start, omega arith) (each_map _ _ c.links (λ m p. (p.0, omega (arith, p.1))) h.ids);
   start = omega arith;
   routes = each_map _ _ c.routes (λ r p. (p.0, leads_push c.links l r.id r.driver p.1)) h.routes;
@@ -153,6 +161,7 @@ routed_link drivers c ctl lower k h = record {
   l : Link
   l = record { id = c.next_id; ctl = ctl; lower = lower; kind = k }
 
+-- with one more route to a link of its own driver, which is a multiplexing one, each route names one of its own
 routed_route : (drivers : List DriverSpec) (c : Configuration) (test : Route → Bool) (driver addr id : ℕ)
     → AreRouted drivers c → is_mux drivers driver ≡ true → not (leads_from c.links id driver) ≡ false
     → AreRouted drivers
@@ -168,7 +177,7 @@ routed_route drivers c test driver addr id h mux there = record {
       (mux, not-false _ there) (each_filter _ test c.routes h.routes);
 }
 
--- the stream's driver is a multiplexing one
+-- a stream that is looked up as that of a multiplexing driver has one
 mux_is : (drivers : List DriverSpec) (c : Configuration) (process fd : ℕ) (s : StreamId)
     → mux_stream drivers c process fd ≡ Ok s → is_mux drivers s.driver ≡ true
 mux_is drivers c process fd s e =
@@ -192,26 +201,18 @@ routed_empty drivers = record { rise = tt; ids = tt; start = omega arith; routes
 
 -- as the laws say it
 
-ids_before : (l : Link) (ls : List Link) → Each (λ k. l.id < k.id) ls → ComesBefore (λ l k. ltb l.id k.id) l ls
-ids_before l [] h = tt
-ids_before l (k ∷ ls) h = (lt-ltb l.id k.id h.0, ids_before l ls h.1)
-
-ids_rise : (ls : List Link) → Rising ls → IsRising (λ l k. ltb l.id k.id) ls
-ids_rise [] h = tt
-ids_rise (l ∷ ls) h = (ids_before l ls h.0, ids_rise ls h.1)
-
 -- ids of links that rise by recursion are what `AreIdsRising` says of them
 pub rising_ids : (drivers : List DriverSpec) (c : Configuration) → AreRouted drivers c → AreIdsRising c.links c.next_id
 rising_ids drivers c h = record {
-  rise = ids_rise c.links h.rise;
-  from_one = all_of_each _ c.links (each_map _ _ c.links (λ l p. p.0) h.ids);
-  below_next = all_of_each _ c.links (each_map _ _ c.links (λ l p. p.1) h.ids);
+  rise = later_map _ _ c.links (λ l k. lt-ltb l.id k.id) h.rise;
+  from_one = All-from_recursion _ c.links (each_map _ _ c.links (λ l p. p.0) h.ids);
+  below_next = All-from_recursion _ c.links (each_map _ _ c.links (λ l p. p.1) h.ids);
   next = h.start;
 }
 
 -- routes with links of their own drivers, by recursion, are what `AreRoutesSound` says of them
 pub sound_routes : (drivers : List DriverSpec) (c : Configuration) → AreRouted drivers c → AreRoutesSound drivers c
 sound_routes drivers c h = record {
-  mux = all_of_each _ c.routes (each_map _ _ c.routes (λ r p. p.0) h.routes);
-  lead = all_of_each _ c.routes (each_map _ _ c.routes (λ r p. p.1) h.routes);
+  mux = All-from_recursion _ c.routes (each_map _ _ c.routes (λ r p. p.0) h.routes);
+  lead = All-from_recursion _ c.routes (each_map _ _ c.routes (λ r p. p.1) h.routes);
 }

@@ -29,7 +29,7 @@ use Rattle.smx_model.proofs.KeptLemmas.{outcome_sound}
 use Rattle.smx_model.proofs.MemberLemmas.{all_in, any_filtered, filtered_passes, in_filtered, in_placed, none_in}
 use Rattle.smx_model.proofs.AcceptedLemmas.{of_rows, at_none}
 use Rattle.smx_model.proofs.OutcomeLemmas.{IfAccepted}
-use Rattle.smx_model.proofs.RisingLemmas.{rising_filter}
+use Rattle.smx_model.proofs.EachLemmas.{later_filter}
 use Rattle.smx_model.proofs.SettledLemmas.{after_found, after_refusal, settled_alone}
 use Rattle.smx_model.proofs.TestLemmas.{any_more}
 
@@ -43,11 +43,13 @@ record LosesRoutes (c d : Configuration) (goes : Route → Bool) : Type 0 where
 record LeavesRoutes (c d : Configuration) (goes : Route → Bool) : Type 0 where
   each : (r : Route) → Contains c.routes r → not (goes r) ≡ true → Contains d.routes r
 
+-- where only the routes of a swept configuration change, a command that is done sweeps nothing and names no message
 idle : (drivers : List DriverSpec) (c : Configuration) (routes : List Route) → IsSwept drivers c
     → done_outcome drivers c (record c { routes = routes }) ≡ Ok (record c { routes = routes }, reply.Done [])
 idle drivers c routes h = done_idle drivers c (record c { routes = routes })
     (record { links = h.links; binds = h.binds; flow = h.flow; fulls = h.fulls; hungs = h.hungs }) refl
 
+-- where a command that is done takes nothing but routes from a swept configuration, just those are left that don't go
 fewer_routes : (drivers : List DriverSpec) (c : Configuration) (goes : Route → Bool) → IsSwept drivers c
     → LosesRoutes c
     (after_outcome drivers c (done_outcome drivers c (record c { routes = filter (λ r. not (goes r)) c.routes }))).0
@@ -58,6 +60,7 @@ fewer_routes drivers c goes h = subst (λ (o : Outcome). LosesRoutes c (after_ou
           (λ m. filtered_passes (λ r. not (goes r)) c.routes r m, λ e. in_filtered (λ r. not (goes r)) c.routes r k e);
     })
 
+-- where a command that is done puts a route in place of some routes of a swept configuration, all others are left
 new_route : (drivers : List DriverSpec) (c : Configuration) (goes : Route → Bool) (x : Route) → IsSwept drivers c
     → LeavesRoutes c
     (after_outcome drivers c
@@ -105,6 +108,7 @@ route_leaves drivers c process fd addr id s h e = all_in _ c.routes left.each wh
 
 -- an id is that of one link
 
+-- a link whose id comes before those of some links has a lower id than each of them
 above : (x : Link) (ls : List Link) (i : ℕ) → ComesBefore (λ l k. ltb l.id k.id) x ls
     → list_any (λ l. eqb l.id i) ls ≡ true → x.id < i
 above x [] i h e = absurd (false≢true e)
@@ -139,9 +143,11 @@ record KeepsRoutes (c d : Configuration) : Type 0 where
 record AreApart (c : Configuration) : Type 0 where
   rise : IsRising (λ l k. ltb l.id k.id) c.links
 
+-- where the routes are as they were, the old ones whose links stand are left
 led_same : (c d : Configuration) → d.routes ≡ c.routes → KeepsRoutes c d
 led_same c d e = record { each = λ r h t. subst (λ (rs : List Route). Contains rs r) (sym e) h }
 
+-- where links are removed whose ids rise, the old routes whose links stand are left, if they were before
 led_removed : (c d : Configuration) (goes : Link → Bool) → AreApart d → KeepsRoutes c d
     → KeepsRoutes c (without_links d goes)
 led_removed c d goes a h =
@@ -151,31 +157,37 @@ led_removed c d goes a h =
           (rw (none_gone goes d.links r.id a.rise t) refl);
     }
 
+-- where the ids of the links rise, a sweep leaves the old routes whose links stand, if they were left before it
 led_done : (drivers : List DriverSpec) (c d : Configuration) → AreApart d → KeepsRoutes c d
     → IfAccepted (λ d r. KeepsRoutes c d) (done_outcome drivers c d)
 led_done drivers c d a h = let m = led_removed c d _ a h in record { holds = record { each = m.each } }
 
+-- where the ids of the links rise, and routes and links are as they were before the sweep, the old routes whose links
+-- stand are left after it
 led_like : (drivers : List DriverSpec) (c d : Configuration) → AreApart c → d.routes ≡ c.routes → d.links ≡ c.links
     → IfAccepted (λ d r. KeepsRoutes c d) (done_outcome drivers c d)
 led_like drivers c d a e f = led_done drivers c d (record { rise = rw f a.rise }) (led_same c d e)
 
+-- where links are removed whose ids rise, the sweep leaves the old routes whose links stand
 led_gone : (drivers : List DriverSpec) (c : Configuration) (goes : Link → Bool) → AreApart c
     → IfAccepted (λ d r. KeepsRoutes c d) (done_outcome drivers c (without_links c goes))
 led_gone drivers c goes a = led_done drivers c (without_links c goes)
-    (record { rise = rising_filter _ _ c.links a.rise }) (led_removed c c goes a (led_same c c refl))
+    (record { rise = later_filter _ _ c.links a.rise }) (led_removed c c goes a (led_same c c refl))
 
+-- an accepted command that is neither route nor unroute leaves the old routes whose links stand, where ids rise
 led_accepted : (drivers : List DriverSpec) (c : Configuration) (process : ℕ) (k : Command) → AreApart c
     → ((fd addr id : ℕ) → k ≡ command.Route fd addr id → ⊥) → ((fd addr : ℕ) → k ≡ command.Unroute fd addr → ⊥)
     → IfAccepted (λ d r. KeepsRoutes c d) (outcome drivers c process k)
 led_accepted drivers c process k a no_route no_unroute =
     search (of_rows, led_same, led_like, led_gone, at_none, no_route, no_unroute, rules) depth 24
 
--- and no others
+-- no old routes whose links don't stand are left
 
--- those are left, and no other old ones
+-- of the old routes just those are left whose links stand
 record JustRouted (c d : Configuration) : Type 0 where
   each : (r : Route) → Contains c.routes r → Contains d.routes r ↔ (list_any (λ l. eqb l.id r.id) d.links ≡ true)
 
+-- where of the old routes just those are left whose links stand, moves change nothing in that
 just_settled : (drivers : List DriverSpec) (c : Configuration) (n : ℕ) (d : Configuration) → JustRouted c d
     → JustRouted c (after_settling_within drivers n d)
 just_settled drivers c n d h =
@@ -189,6 +201,8 @@ leads drivers d r h there = any_more (λ l. eqb l.id r.id && eqb l.ctl.driver r.
     (All-contains (λ r. list_any (λ l. eqb l.id r.id && eqb l.ctl.driver r.driver) d.links ≡ true) d.routes r
     h.routes.lead there)
 
+-- of a sound configuration's routes a command leaves just those whose links stand, if what it is accepted with is sound
+-- and has these
 just_finished : (drivers : List DriverSpec) (c : Configuration) (o : Outcome) → IsSound drivers c
     → IfOk o (λ x. IsSound drivers x.0) → IfAccepted (λ d r. KeepsRoutes c d) o
     → JustRouted c (after_outcome drivers c o).0

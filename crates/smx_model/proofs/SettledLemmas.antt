@@ -25,7 +25,7 @@ moved_by P drivers c p h f = by (next_open_place drivers c p) (first_message c.f
   by (Some q) None e = h
   by None m e = h
 
--- each move keeps it
+-- each move keeps what P says of a configuration
 pub record MovesKeep (P : Configuration → Type 0) (drivers : List DriverSpec) : Type 0 where
   pub each : (c : Configuration) (p : Place) → P c → P (after_move drivers c p)
 

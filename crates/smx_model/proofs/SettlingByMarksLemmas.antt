@@ -1,16 +1,19 @@
 -- Settling by marks is settling.
-use Rattle.std.proofs.Common.{◌≡◌, ℕ, zero, suc, ◌*◌, Bool, true, List, [], ◌∷◌, length, Option, Some, None, refl, sym}
-use Rattle.std.proofs.Common.{ap, ◌∙◌, subst, inl, inr}
+use Rattle.std.proofs.Common.{◌≡◌, ℕ, zero, suc, ◌*◌, Bool, true, false, List, [], ◌∷◌, length, find, Option, Some}
+use Rattle.std.proofs.Common.{None, refl}
+use Rattle.std.proofs.Common.{sym, ap, ◌∙◌, subst, inl, inr}
+use Rattle.std.specs.Option.{option_map}
 use Rattle.std.proofs.lemmas.Bool.{both_ways, cases_Bool, and_parts, and_from, false_from_ne_true}
+use Rattle.std.proofs.lemmas.Option.{none-some}
 use Rattle.smx_types.specs.declared.driver.DriverSpec.{DriverSpec}
 use Rattle.smx_types.specs.declared.message.Message.{Message}
 use Rattle.smx_types.specs.declared.stream.Place.{Place}
-use Rattle.smx_model.specs.Configuration.{Configuration, place_before, same_place}
+use Rattle.smx_model.specs.Configuration.{Configuration, QueuedMessage, place_before, same_place}
 use Rattle.smx_model.specs.FlowOrder.{IsInOrder}
 use Rattle.smx_model.specs.KeptConfigurations.{IsSound}
 use Rattle.smx_model.specs.LeastMovable.{IsLeastMovable}
 use Rattle.smx_model.specs.Queues.{first_message, is_full}
-use Rattle.smx_model.specs.RunMarks.{AreMarked, TurnsOnly, both, is_waiting, next_of_first, wanted_after}
+use Rattle.smx_model.specs.RunMarks.{AreMarked, TurnsOnly, either, is_waiting, next_of_first, wanted_after}
 use Rattle.smx_model.specs.Settling.{IsSettled, after_move, after_move_to, after_settling_within, is_movable}
 use Rattle.smx_model.specs.Settling.{least_movable, next_open_place}
 use Rattle.smx_model.specs.SettlingByMarks.{HasItsMarks, HasNoRunMark, IsAtRest, IsCleared, IsLeastMarked}
@@ -26,10 +29,7 @@ use Rattle.smx_model.proofs.WaitingLemmas.{cleared, keeps_by, waiting_stays}
 
 -- ---- marks after a change
 
-some_none : (m : Message) → Some m ≡ None → ⊥
-some_none m e = cc
-
--- what waits goes on to wait, where more is wanted
+-- a place that waits does so where more places are wanted
 more_wanted : (drivers : List DriverSpec) (c : Configuration) (v w : Place → Bool) (p : Place)
     → ((q : Place) → v q ≡ true → w q ≡ true) → is_waiting drivers c v p ≡ true → is_waiting drivers c w p ≡ true
 more_wanted drivers c v w p f h = keeps_by c c v w (next_of_first drivers c p) (next_of_first drivers c p) (inl refl)
@@ -46,10 +46,11 @@ marks_kept drivers turned old new h t m p unmarked = by (first_message new.confi
   by (Some x) e = more_wanted drivers new.configuration
       (wanted_after old.configuration new.configuration old.wanted) new.wanted p m.wanted
       (wakes drivers old.configuration new.configuration old.run old.wanted turned h t p
-      (false_from_ne_true _ (λ k. both_ways (new.run p) unmarked (m.run p (λ z. some_none x (sym e ∙ z)) k))))
+      (false_from_ne_true _ (λ k. both_ways (new.run p) unmarked (m.run p (λ none. none-some x (sym none ∙ e)) k))))
 
 -- ---- a move
 
+-- a move from a place whose first message has no open next place changes nothing
 not_moved : (drivers : List DriverSpec) (c : Configuration) (p : Place) → next_open_place drivers c p ≡ None
     → after_move drivers c p ≡ c
 not_moved drivers c p e = ap (λ (w : Option Place). after_move_to drivers c p w (first_message c.flow p)) e
@@ -63,7 +64,7 @@ turns_moved_on drivers c p o = by (next_open_place drivers c p) refl where
   by None e = subst (λ (d : Configuration). TurnsOnly drivers c d (turned_by_move drivers c p))
       (sym (not_moved drivers c p e)) (λ r n. inl refl)
   by (Some q) e = subst (λ (w : Option Place). TurnsOnly drivers c (after_move drivers c p)
-      (both (same_place p) (is_first_there drivers c p w))) (sym e) (turns_moved drivers c p q o e)
+      (either (same_place p) (is_first_there drivers c p w))) (sym e) (turns_moved drivers c p q o e)
 
 -- a move keeps the marks, where what it woke gets a run mark
 pub move_keeps_marks : (drivers : List DriverSpec) (p : Place) (old new : MarkedConfiguration)
@@ -102,57 +103,65 @@ marked_is_least drivers c run wanted p o h l m = by (least_movable drivers c) (l
     ]
   ]
 
--- where none is movable there is no least one
-pub none_is_least : (drivers : List DriverSpec) (c : Configuration) → IsInOrder c.flow → IsSettled drivers c
+-- a search by place finds no message where no place passes the test
+none_found : (t : Place → Bool) (flow : List QueuedMessage) → ((p : Place) → t p ≡ false)
+    → find (λ h. t h.place) flow ≡ None
+none_found t [] f = refl
+none_found t (h ∷ hs) f = rw (f h.place) (none_found t hs f)
+
+-- in a settled configuration there is no least movable place
+pub none_is_least : (drivers : List DriverSpec) (c : Configuration) → IsSettled drivers c
     → least_movable drivers c ≡ None
-none_is_least drivers c o s = by (least_movable drivers c) (least_is drivers c o) where
-  by : (w : Option Place) → IsLeastMovable drivers c w → w ≡ None
-  by None h = refl
-  by (Some q) h = absurd (both_ways (is_movable drivers c q) (s q) h.0)
+none_is_least drivers c s =
+    ap (option_map (λ (h : QueuedMessage). h.place)) (none_found (is_movable drivers c) c.flow s)
 
 -- ---- one move of settling, or none
 
-round : (drivers : List DriverSpec) (n : ℕ) (c : Configuration) (o : Option Place) → least_movable drivers c ≡ o
-    → after_settling_within drivers (suc n) c ≡ elim o as (λ _. Configuration)
+-- settling within one move more moves from the least movable place, if there is one, and then settles
+settling_round : (drivers : List DriverSpec) (n : ℕ) (c : Configuration) (o : Option Place)
+    → least_movable drivers c ≡ o → after_settling_within drivers (suc n) c ≡ elim o as (λ _. Configuration)
     [ None ↦ c | Some p ↦ after_settling_within drivers n (after_move drivers c p) ]
-round drivers n c o e = ap (λ (x : Option Place).
+settling_round drivers n c o e = ap (λ (x : Option Place).
     elim x as (λ _. Configuration) [ None ↦ c | Some p ↦ after_settling_within drivers n (after_move drivers c p) ]) e
 
 -- settling, where there is no least movable place, changes nothing
 pub settling_stays : (drivers : List DriverSpec) (n : ℕ) (c : Configuration) → least_movable drivers c ≡ None
     → after_settling_within drivers n c ≡ c
 settling_stays drivers zero c e = refl
-settling_stays drivers (suc n) c e = round drivers n c None e
+settling_stays drivers (suc n) c e = settling_round drivers n c None e
 
 -- settling within one move more begins with the move from the least movable place
 pub settling_moves : (drivers : List DriverSpec) (n : ℕ) (c : Configuration) (p : Place)
     → least_movable drivers c ≡ Some p → after_settling_within drivers (suc n) c
     ≡ after_settling_within drivers n (after_move drivers c p)
-settling_moves drivers n c p e = round drivers n c (Some p) e
+settling_moves drivers n c p e = settling_round drivers n c (Some p) e
 
-listed : (drivers : List DriverSpec) (n : ℕ) (c : Configuration) (o : Option Place) → least_movable drivers c ≡ o
+-- the places of at most one move more are the least movable one, if there is one, and those after that move
+moves_round : (drivers : List DriverSpec) (n : ℕ) (c : Configuration) (o : Option Place) → least_movable drivers c ≡ o
     → moves_within drivers (suc n) c ≡ elim o as (λ _. List Place)
     [ None ↦ [] | Some p ↦ p ∷ moves_within drivers n (after_move drivers c p) ]
-listed drivers n c o e = ap (λ (x : Option Place).
+moves_round drivers n c o e = ap (λ (x : Option Place).
     elim x as (λ _. List Place) [ None ↦ [] | Some p ↦ p ∷ moves_within drivers n (after_move drivers c p) ]) e
 
+-- where there is no least movable place, settling takes from no place
 no_moves : (drivers : List DriverSpec) (n : ℕ) (c : Configuration) → least_movable drivers c ≡ None
     → moves_within drivers n c ≡ []
 no_moves drivers zero c e = refl
-no_moves drivers (suc n) c e = listed drivers n c None e
+no_moves drivers (suc n) c e = moves_round drivers n c None e
 
 -- ---- settling by marks
 
--- the end is that of settling within so many moves, by the same moves
+-- the end is that of settling within so many moves, by the same moves, and no place of it has a run mark
 pub record ComesTo (drivers : List DriverSpec) (n : ℕ) (c : Configuration) (ps : List Place)
     (end : MarkedConfiguration) : Type 0 where
   pub configuration : end.configuration ≡ after_settling_within drivers n c
   pub moves : ps ≡ moves_within drivers n c
   pub rest : IsAtRest drivers end
 
-comes_to_end : (drivers : List DriverSpec) (m : MarkedConfiguration) (n : ℕ) → IsInOrder m.configuration.flow
-    → HasItsMarks drivers m → HasNoRunMark m.run → ComesTo drivers n m.configuration [] m
-comes_to_end drivers m n o h none = let e = none_is_least drivers m.configuration o
+-- where no place has a run mark and all wait, settling has come to its end
+comes_to_end : (drivers : List DriverSpec) (m : MarkedConfiguration) (n : ℕ) → HasItsMarks drivers m
+    → HasNoRunMark m.run → ComesTo drivers n m.configuration [] m
+comes_to_end drivers m n h none = let e = none_is_least drivers m.configuration
     (λ p. waiting_stays drivers m.configuration m.wanted p (h p (none p))) in
     record {
       configuration = sym (settling_stays drivers n m.configuration e);
@@ -160,6 +169,7 @@ comes_to_end drivers m n o h none = let e = none_is_least drivers m.configuratio
       rest = record { marks = h; none = none };
     }
 
+-- what settling comes to after a move from the least movable place, it comes to within one move more
 comes_by_move : (drivers : List DriverSpec) (old new end : MarkedConfiguration) (p : Place) (ps : List Place) (n : ℕ)
     → least_movable drivers old.configuration ≡ Some p → new.configuration ≡ after_move drivers old.configuration p
     → ComesTo drivers n new.configuration ps end → ComesTo drivers (suc n) old.configuration (p ∷ ps) end
@@ -167,15 +177,15 @@ comes_by_move drivers old new end p ps n e moved h = record {
   configuration = h.configuration
       ∙ (ap (after_settling_within drivers n) moved ∙ sym (settling_moves drivers n old.configuration p e));
   moves = ap (λ (qs : List Place). p ∷ qs) (h.moves ∙ ap (moves_within drivers n) moved)
-      ∙ sym (listed drivers n old.configuration (Some p) e);
+      ∙ sym (moves_round drivers n old.configuration (Some p) e);
   rest = h.rest;
 }
 
--- the number of moves suffices where what they come to is settled
+-- settling by marks comes to what settling within so many moves comes to, where that is settled
 comes_to : (drivers : List DriverSpec) (old : MarkedConfiguration) (ps : List Place) (end : MarkedConfiguration)
     → SettlesByMarks drivers old ps end → (n : ℕ) → IsInOrder old.configuration.flow → HasItsMarks drivers old
     → IsSettled drivers (after_settling_within drivers n old.configuration) → ComesTo drivers n old.configuration ps end
-comes_to drivers old ps end (is_settled _ none) n o h s = comes_to_end drivers old n o h none
+comes_to drivers old ps end (is_settled _ none) n o h s = comes_to_end drivers old n h none
 comes_to drivers old ps end (moves_on _ new _ p rest step later) zero o h s =
     absurd (both_ways (is_movable drivers old.configuration p) (s p) step.movable)
 comes_to drivers old ps end (moves_on _ new _ p rest step later) (suc n) o h s =
@@ -192,7 +202,7 @@ comes_to drivers old ps end (clears_mark _ new _ p _ step later) n o h s =
     (clearing_keeps_marks drivers p old new h step)
     (subst (λ (c : Configuration). IsSettled drivers (after_settling_within drivers n c)) (sym step.same) s))
 
--- as many moves as settling makes at most suffice
+-- settling by marks comes to what settling comes to
 pub comes_to_settled : (drivers : List DriverSpec) (old end : MarkedConfiguration) (ps : List Place)
     → IsSound drivers old.configuration → HasItsMarks drivers old → SettlesByMarks drivers old ps end
     → ComesTo drivers (length old.configuration.flow * length drivers) old.configuration ps end

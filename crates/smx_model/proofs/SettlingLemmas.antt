@@ -3,6 +3,7 @@ use Rattle.std.proofs.Common.{◌≡◌, ℕ, zero, suc, ◌+◌, ◌*◌, ◌<�
 use Rattle.std.proofs.Common.{length, find, Option, Some, None, refl, sym, ap, ◌∙◌, subst, arith, inl, inr}
 use Rattle.std.specs.Option.{is_some, option_map}
 use Rattle.std.proofs.lemmas.Bool.{cases_Bool, cases_eq, eqb-true, and_parts, false≢true, false_from_ne_true}
+use Rattle.std.specs.List.{AllByRecursion}
 use Rattle.smx_types.specs.declared.link.Binding.{Binding}
 use Rattle.smx_types.specs.declared.driver.DriverSpec.{DriverSpec}
 use Rattle.smx_types.specs.declared.link.Link.{Link}
@@ -27,7 +28,7 @@ use Rattle.smx_model.specs.SoundLinks.{AreLinksSound}
 use Rattle.smx_model.proofs.PathLemmas.{reaches_path, reaches_trans, reaches_link}
 use Rattle.smx_model.proofs.RangeLemmas.{links_below, AreNamed}
 use Rattle.smx_model.proofs.RouteLemmas.{AreRouted, routes_lead, routed_moved}
-use Rattle.smx_model.proofs.EachLemmas.{Each, each_find}
+use Rattle.smx_model.proofs.EachLemmas.{each_find}
 use Rattle.smx_model.proofs.TestLemmas.{find_passes}
 
 -- how many numbers below n pass
@@ -41,6 +42,7 @@ count_le f zero = omega arith
 count_le f (suc n) =
     elim (cases_Bool (f n)) [ inl t ↦ rw t (omega (arith, count_le f n)) | inr u ↦ rw u (omega (arith, count_le f n)) ]
 
+-- where all numbers that pass a test pass another, of those below n no more pass the one than the other
 count_more : (f g : ℕ → Bool) (n : ℕ) → ((x : ℕ) → f x ≡ true → g x ≡ true) → count f n ≤ count g n
 count_more f g zero h = omega arith
 count_more f g (suc n) h = elim (cases_Bool (f n)) [
@@ -52,6 +54,8 @@ count_more f g (suc n) h = elim (cases_Bool (f n)) [
   ]
 ]
 
+-- where all numbers that pass a test pass another, and one below n passes the other alone, of those below n fewer pass
+-- the one
 count_less : (f g : ℕ → Bool) (n b : ℕ) → ((x : ℕ) → f x ≡ true → g x ≡ true) → b < n → f b ≡ false → g b ≡ true
     → count f n < count g n
 count_less f g zero b h lt u v = absurd (omega arith)
@@ -63,18 +67,21 @@ count_less f g (suc n) b h lt u v = elim (cases_eq n b) [
   ]
 ]
 
--- how many drivers a place may lead to
+-- how many of n drivers a side of a driver's stream may lead to
 abbrev rank_by : List Link → ℕ → ℕ → Side → ℕ
 rank_by links n d side.Write = count (λ x. reaches links d x) n
 rank_by links n d side.Read = count (λ x. reaches links x d) n
 
+-- how many of n drivers a place may lead to
 abbrev rank : List Link → ℕ → Place → ℕ
 rank links n p = rank_by links n p.stream.driver p.side
 
+-- a side of a driver's stream may lead to no more than n of n drivers
 rank_le : (links : List Link) (n d : ℕ) (s : Side) → rank_by links n d s ≤ n
 rank_le links n d side.Write = count_le _ n
 rank_le links n d side.Read = count_le _ n
 
+-- without a cycle fewer drivers are reached from a driver than from one that reaches it
 down_less : (links : List Link) (n a b : ℕ) → HasNoCycle links → reaches links a b ≡ true → b < n
     → count (λ x. reaches links b x) n < count (λ x. reaches links a x) n
 down_less links n a b none r lt = count_less (λ x. reaches links b x) (λ x. reaches links a x) n b
@@ -86,22 +93,24 @@ pub up_less : (links : List Link) (n a b : ℕ) → HasNoCycle links → reaches
 up_less links n a b none r lt = count_less (λ x. reaches links x a) (λ x. reaches links x b) n a
     (λ x h. reaches_trans links x a b h r) lt (false_from_ne_true _ (λ h. none a (reaches_path links a a h))) r
 
+-- the drivers of each link have numbers below n
 abbrev AreBelow : ℕ → List Link → Type 0
-AreBelow n links = Each (λ l. (l.ctl.driver < n) × (l.lower.driver < n)) links
+AreBelow n links = AllByRecursion (λ l. (l.ctl.driver < n) × (l.lower.driver < n)) links
 
--- what settling needs
+-- links without a cycle, whose drivers are in range and whose ids rise, and routes that name them, are what settling
+-- needs
 record CanSettle (drivers : List DriverSpec) (c : Configuration) : Type 0 where
-  none : HasNoCycle c.links
+  no_cycle : HasNoCycle c.links
   below : AreBelow (length drivers) c.links
   routed : AreRouted drivers c
 
--- what came of two steps came of the first
+-- where two steps come to something, the first came to something, and the second to that from there
 pub bound : {A B : Type 0} (o : Option A) (f : A → Option B) (y : B) → (o >>= f) ≡ Some y
     → (x : A) × (o ≡ Some x) × (f x ≡ Some y)
 bound None f y e = cc
 bound (Some x) f y e = (x, refl, e)
 
--- the link that leads to the place below
+-- the place below is the write side of the lower stream of the link that the driver's route for the address names
 pub below_link : (links : List Link) (routes : List Route) (hungs : List StreamId) (d addr : ℕ) (q : Place)
     → place_below links routes hungs d addr ≡ Some q
     → (r : Route) × (find (λ r. eqb r.driver d && eqb r.addr addr) routes ≡ Some r) × (l : Link)
@@ -112,7 +121,7 @@ below_link links routes hungs d addr q e =
     let l = bound (find (λ l. eqb l.id r.0.id) links) (λ l. live_write_side hungs l.lower) q r.2 in
     (r.0, r.1, l.0, l.1, live_is_side hungs l.0.lower q l.2)
 
--- the link and the binding that lead to the place above
+-- the place above is the read side of the stream that is bound to the address on the upper driver of the link above
 pub above_binding : (links : List Link) (binds : List Binding) (s : StreamId) (addr : ℕ) (q : Place)
     → place_above links binds s addr ≡ Some q
     → (l : Link) × (find (λ l. same_stream l.lower s) links ≡ Some l) × (b : Binding)
@@ -126,8 +135,10 @@ above_binding links binds s addr q e =
     (λ b. Some (record { stream = record { driver = b.driver; minor = b.minor }; side = side.Read })) q l.2 in
     (l.0, l.1, b.0, b.1, cc)
 
+-- without a cycle the place below may lead to fewer drivers than the write side that leads to it
 down_falls : (links : List Link) (routes : List Route) (hungs : List StreamId) (n d addr : ℕ) (q : Place)
-    → HasNoCycle links → AreBelow n links → Each (λ r. Each (λ l. l.id ≡ r.id → l.ctl.driver ≡ r.driver) links) routes
+    → HasNoCycle links → AreBelow n links → AllByRecursion (λ r. AllByRecursion (λ l. l.id ≡ r.id
+    → l.ctl.driver ≡ r.driver) links) routes
     → place_below links routes hungs d addr ≡ Some q → rank links n q < rank_by links n d side.Write
 down_falls links routes hungs n d addr q none below leads e = via (below_link links routes hungs d addr q e) where
   via : (w : (r : Route) × (find (λ r. eqb r.driver d && eqb r.addr addr) routes ≡ Some r) × (l : Link)
@@ -142,6 +153,7 @@ down_falls links routes hungs n d addr q none below leads e = via (below_link li
       subst (λ (x : Place). rank links n x < rank_by links n d side.Write) is
       (down_less links n d l.lower.driver none r1 (each_find _ _ links l g below).1)
 
+-- without a cycle the place above may lead to fewer drivers than the read side that leads to it
 up_falls : (links : List Link) (binds : List Binding) (n addr : ℕ) (s : StreamId) (q : Place) → HasNoCycle links
     → AreBelow n links
     → place_above links binds s addr ≡ Some q → rank links n q < rank_by links n s.driver side.Read
@@ -160,17 +172,18 @@ up_falls links binds n addr s q none below e = via (above_binding links binds s 
       subst (λ (x : Place). rank links n x < rank_by links n s.driver side.Read) is
       (up_less links n b.driver s.driver none r1 lt)
 
+-- without a cycle the next place may lead to fewer drivers than the place that leads to it
 next_falls : (drivers : List DriverSpec) (c : Configuration) (s : StreamId) (addr : ℕ) (side_ : Side) (q : Place)
     → CanSettle drivers c → next_place drivers c (record { stream = s; side = side_ }) addr ≡ Some q
     → rank c.links (length drivers) q < rank_by c.links (length drivers) s.driver side_
 next_falls drivers c s addr side.Write q h e = elim (cases_Bool (is_mux drivers s.driver)) [
-  | inl t ↦ down_falls c.links c.routes c.hungs (length drivers) s.driver addr q h.none h.below
+  | inl t ↦ down_falls c.links c.routes c.hungs (length drivers) s.driver addr q h.no_cycle h.below
       (routes_lead drivers c h.routed) (rw t at e)
   | inr f ↦ let k : None ≡ Some q = rw f at e in cc
 ]
-next_falls drivers c s addr side.Read q h e = up_falls c.links c.binds (length drivers) addr s q h.none h.below e
+next_falls drivers c s addr side.Read q h e = up_falls c.links c.binds (length drivers) addr s q h.no_cycle h.below e
 
--- the next place for the first message, where it is open, which is not full
+-- a place that a first message may go on to is the next place for its address, and not full
 pub open_next : (drivers : List DriverSpec) (c : Configuration) (p q : Place) → next_open_place drivers c p ≡ Some q
     → (m : Message) × (first_message c.flow p ≡ Some m) × (next_place drivers c p m.addr ≡ Some q)
     × (is_full c q ≡ false)
@@ -185,32 +198,37 @@ open_next drivers c p q e =
       room r true f e = absurd cc
       room r false f e = (cc, f)
 
--- the ranks of the places of all messages
+-- how much the places of all messages count together
 abbrev weight : (Place → ℕ) → List QueuedMessage → ℕ
 weight f [] = 0
 weight f (h ∷ hs) = f h.place + weight f hs
 
+-- where no place counts more than n, a flow weighs at most n times its messages
 weight_le : (f : Place → ℕ) (n : ℕ) (hs : List QueuedMessage) → ((p : Place) → f p ≤ n) → weight f hs ≤ length hs * n
 weight_le f n [] h = omega arith
 weight_le f n (k ∷ hs) h = rw (mul_suc (length hs) n) (omega (arith, weight_le f n hs h, h k.place)) where
   mul_suc : (m n : ℕ) → suc m * n ≡ n + m * n
   mul_suc m n = grind arith
 
+-- with one more message a flow weighs as much more as the place of that counts
 weight_placed : (f : Place → ℕ) (hs : List QueuedMessage) (h : QueuedMessage)
     → weight f (with_inserted queued_before hs h) ≡ f h.place + weight f hs
 weight_placed f [] h = refl
 weight_placed f (k ∷ hs) h =
     elim (cases_Bool (queued_before h k)) [ inl t ↦ rw t refl | inr u ↦ rw u (omega (arith, weight_placed f hs h)) ]
 
+-- sides that the test says are the same are equal
 same_side_is : (s t : Side) → same_side s t ≡ true → s ≡ t
 same_side_is side.Write side.Write h = refl
 same_side_is side.Write side.Read h = absurd (false≢true h)
 same_side_is side.Read side.Write h = absurd (false≢true h)
 same_side_is side.Read side.Read h = refl
 
+-- the place of a driver's minor and a side
 abbrev at_place : ℕ → ℕ → Side → Place
 at_place d m s = record { stream = record { driver = d; minor = m }; side = s }
 
+-- places with the same driver, minor and side are the same
 made : (a b : ℕ) (s : Side) (c d : ℕ) (t : Side) → a ≡ c → b ≡ d → s ≡ t → at_place a b s ≡ at_place c d t
 made a b s c d t e f g =
     ap (λ (x : ℕ). at_place x b s) e ∙ (ap (λ (x : ℕ). at_place c x s) f ∙ ap (λ (x : Side). at_place c d x) g)
@@ -224,6 +242,7 @@ same_place_is p q h =
     (eqb-true p.stream.driver q.stream.driver b.0) (eqb-true p.stream.minor q.stream.minor b.1)
     (same_side_is p.side q.side a.1)
 
+-- without the first message of a place a flow weighs as much less as the place counts
 weight_front : (f : Place → ℕ) (hs : List QueuedMessage) (p : Place) (m : Message) → first_message hs p ≡ Some m
     → weight f hs ≡ f p + weight f (without_first (is_at p) hs)
 weight_front f [] p m e = cc
@@ -232,6 +251,7 @@ weight_front f (h ∷ hs) p m e = elim (cases_Bool (is_at p h)) [
   | inr u ↦ rw u (omega (arith, weight_front f hs p m (rw u at e)))
 ]
 
+-- the move of a first message that may go on makes the weight of the flow less
 moved_weight : (drivers : List DriverSpec) (c : Configuration) (p : Place) → CanSettle drivers c → (q : Place)
     → next_open_place drivers c p ≡ Some q
     → weight (rank c.links (length drivers)) (after_move drivers c p).flow
@@ -249,7 +269,7 @@ moved_weight drivers c p h q e =
           (record { place = q; message = l.0 }),
     ))
 
--- no place of the flow is movable, so none is
+-- where no message's place passes a test, no place with a first message does
 none_of : (t : Place → Bool) (hs : List QueuedMessage) (p : Place) (m : Message) → find (λ h. t h.place) hs ≡ None
     → first_message hs p ≡ Some m → t p ≡ false
 none_of t [] p m e f = cc
@@ -279,10 +299,12 @@ pub some_least : (o : Option QueuedMessage) (p : Place) → option_map (λ h. h.
 some_least None p e = cc
 some_least (Some h) p e = (h, refl, cc)
 
+-- a place that is there is some place
 movable_way : (o : Option Place) → is_some o ≡ true → (q : Place) × (o ≡ Some q)
 movable_way None e = absurd (false≢true e)
 movable_way (Some q) e = (q, refl)
 
+-- the first message of the least movable place may go on to some place
 least_way : (drivers : List DriverSpec) (c : Configuration) (p : Place) → least_movable drivers c ≡ Some p
     → (q : Place) × (next_open_place drivers c p ≡ Some q)
 least_way drivers c p e =
@@ -295,10 +317,11 @@ least_way drivers c p e =
 pub moved_links : (drivers : List DriverSpec) (c : Configuration) (p : Place) → (after_move drivers c p).links ≡ c.links
 moved_links drivers c p = moved_by (λ d. d.links ≡ c.links) drivers c p refl (λ q m e. refl)
 
+-- a move keeps what settling needs
 can_move : (drivers : List DriverSpec) (c : Configuration) (p : Place) → CanSettle drivers c
     → CanSettle drivers (after_move drivers c p)
 can_move drivers c p h = record {
-  none = subst HasNoCycle (sym (moved_links drivers c p)) h.none;
+  no_cycle = subst HasNoCycle (sym (moved_links drivers c p)) h.no_cycle;
   below = subst (AreBelow (length drivers)) (sym (moved_links drivers c p)) h.below;
   routed = routed_moved drivers c p h.routed;
 }
@@ -307,12 +330,14 @@ can_move drivers c p h = record {
 abbrev weight_of : List DriverSpec → Configuration → ℕ
 weight_of drivers c = weight (rank c.links (length drivers)) c.flow
 
+-- the move of the least movable place makes the weight of the configuration less
 less_weight : (drivers : List DriverSpec) (c : Configuration) (p : Place) → CanSettle drivers c
     → least_movable drivers c ≡ Some p → weight_of drivers (after_move drivers c p) < weight_of drivers c
 less_weight drivers c p h e = let w = least_way drivers c p e in
     subst (λ (ls : List Link). weight (rank ls (length drivers)) (after_move drivers c p).flow < weight_of drivers c)
     (sym (moved_links drivers c p)) (moved_weight drivers c p h w.0 w.1)
 
+-- a configuration that weighs at most k is settled after k moves
 settles : (drivers : List DriverSpec) (k : ℕ) (c : Configuration) → CanSettle drivers c → weight_of drivers c ≤ k
     → IsSettled drivers (after_settling_within drivers k c)
 settles drivers zero c h le = by (least_movable drivers c) refl where
@@ -334,10 +359,10 @@ settles drivers (suc k) c h le = by
       by rest None e = λ p. no_front drivers c p (first_message c.flow p) refl (none_least _ e)
       by rest (Some p) e = rest p (omega (arith, less_weight drivers c p h e))
 
--- the bound suffices
+-- as many moves as messages times drivers settle a configuration with sound links and routes and known streams
 pub settled_is : (drivers : List DriverSpec) (c : Configuration) → AreLinksSound c.links → AreNamed drivers c
     → AreRouted drivers c → IsSettled drivers (after_settling drivers c)
 settled_is drivers c sound named routed = settles drivers (length c.flow * length drivers) c
-    (record { none = sound.no_cycle; below = links_below drivers c.links named.links; routed = routed })
+    (record { no_cycle = sound.no_cycle; below = links_below drivers c.links named.links; routed = routed })
     (weight_le (rank c.links (length drivers)) (length drivers) c.flow
     (λ p. rank_le c.links (length drivers) p.stream.driver p.side))

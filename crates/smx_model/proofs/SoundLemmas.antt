@@ -39,6 +39,7 @@ sound_push ls l h free apart = record {
       (λ t. both_ways _ free (list_any_at (λ m. same_stream m.lower l.lower) ls k d lt t)));
 }
 
+-- the links are sound, whatever the reply is
 abbrev Sound : Configuration → Reply → Type 0
 Sound d r = AreLinksSound d.links
 

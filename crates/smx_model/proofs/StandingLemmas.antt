@@ -4,6 +4,7 @@ use Rattle.std.proofs.Common.{filter, refl, sym, ap, ◌∙◌, subst, arith, in
 use Rattle.std.specs.List.{list_any}
 use Rattle.std.proofs.lemmas.Bool.{cases_lt, eqb-true, and_parts, or_cases, or_left, or_right, and_from}
 use Rattle.std.proofs.lemmas.Bool.{not-false, not-true}
+use Rattle.std.specs.List.{AllByRecursion}
 use Rattle.smx_types.specs.declared.stream.Descriptor.{Descriptor}
 use Rattle.smx_types.specs.declared.driver.DriverSpec.{DriverSpec}
 use Rattle.smx_types.specs.declared.link.Link.{Link}
@@ -14,7 +15,6 @@ use Rattle.smx_model.specs.Removal.{after_sweep, without_links}
 use Rattle.smx_model.specs.Standing.{is_persistent, is_named, stands_within, exists}
 use Rattle.smx_model.specs.Swept.{IsSwept}
 use Rattle.smx_model.proofs.SettlingLemmas.{count, count_le, up_less}
-use Rattle.smx_model.proofs.EachLemmas.{Each}
 use Rattle.smx_model.proofs.TestLemmas.{any_same, any_filter, all_passes, any_found, any_more_each}
 
 -- more climbs
@@ -29,8 +29,10 @@ stands_more fds links n (suc m) s le h = elim (cases_lt m n) [
   | inr ge ↦ or_left _ _ (stands_more fds links n m s ge h)
 ]
 
--- without links that are ordinary and whose controlling stream doesn't stand, the same streams stand
+-- without links whose controlling stream doesn't stand
 
+-- without the ordinary links whose controlling stream doesn't stand within m climbs, the same streams stand within any
+-- climbs up to m
 stands_filter : (fds : List Descriptor) (links : List Link) (m n : ℕ) (s : StreamId) → n ≤ m
     → stands_within fds (filter (λ l. not (not (is_persistent l) && not (stands_within fds links m l.ctl))) links) n s
     ≡ stands_within fds links n s
@@ -52,6 +54,7 @@ stands_filter fds links m (suc n) s le = both _ _ _ _ (stands_filter fds links m
       kept : (a d : Bool) → d ≡ true → not (not a && not d) ≡ true
       kept a d h = grind arith
 
+-- after a sweep the same streams exist
 swept_exists : (drivers : List DriverSpec) (c : Configuration) (s : StreamId)
     → exists drivers (after_sweep drivers c) s ≡ exists drivers c s
 swept_exists drivers c s = stands_filter c.fds c.links (length drivers) (length drivers) s (omega arith)
@@ -72,16 +75,18 @@ swept_is drivers c = record {
   alive : (a b d : Bool) → b ≡ d → not (not a && not b) ≡ true → (a || d) ≡ true
   alive a b d e h = grind arith
 
--- as many climbs as drivers that reach it are enough
+-- how many climbs are enough
 
+-- how many drivers reach a driver
 abbrev height : List DriverSpec → List Link → ℕ → ℕ
 height drivers links d = count (λ x. reaches links x d) (length drivers)
 
--- a link that there is
+-- the link's upper driver is in range, and reaches its lower one
 pub record IsLinkIn (drivers : List DriverSpec) (links : List Link) (l : Link) : Type 0 where
   pub ctl : l.ctl.driver < length drivers
   pub leads : reaches links l.ctl.driver l.lower.driver ≡ true
 
+-- without a cycle fewer drivers reach the upper driver of a link than the driver of its lower stream
 link_rises : (drivers : List DriverSpec) (links : List Link) (l : Link) (s : StreamId) → HasNoCycle links
     → IsLinkIn drivers links l → same_stream l.lower s ≡ true
     → height drivers links l.ctl.driver < height drivers links s.driver
@@ -91,8 +96,9 @@ link_rises drivers links l s none h same =
     up_less links (length drivers) l.ctl.driver s.driver none
     (subst (λ (x : ℕ). reaches links l.ctl.driver x ≡ true) d h.leads) h.ctl
 
+-- without a cycle a stream that stands within any climbs stands within as many as there are drivers that reach its own
 enough_climbs : (drivers : List DriverSpec) (fds : List Descriptor) (links : List Link) (n : ℕ) (s : StreamId)
-    → HasNoCycle links → Each (IsLinkIn drivers links) links
+    → HasNoCycle links → AllByRecursion (IsLinkIn drivers links) links
     → stands_within fds links n s ≡ true → stands_within fds links (height drivers links s.driver) s ≡ true
 enough_climbs drivers fds links zero s none below h =
     stands_more fds links 0 (height drivers links s.driver) s (omega arith) h
@@ -128,9 +134,9 @@ enough_climbs drivers fds links (suc n) s none below
           (and_from _ _ b.0 (stands_more fds links (height drivers links l.ctl.driver) r l.ctl
           (omega (arith, e, link_rises drivers links l s none in_ b.0)) (up l.ctl b.1)))) k)
 
--- as many climbs as drivers are enough
+-- without a cycle a stream that stands within any climbs stands within as many as there are drivers
 pub climbs_suffice : (drivers : List DriverSpec) (fds : List Descriptor) (links : List Link) (n : ℕ) (s : StreamId)
-    → HasNoCycle links → Each (IsLinkIn drivers links) links
+    → HasNoCycle links → AllByRecursion (IsLinkIn drivers links) links
     → stands_within fds links n s ≡ true → stands_within fds links (length drivers) s ≡ true
 climbs_suffice drivers fds links n s none below h = stands_more fds links (height drivers links s.driver)
     (length drivers) s (count_le (λ x. reaches links x s.driver) (length drivers))

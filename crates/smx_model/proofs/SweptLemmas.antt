@@ -39,12 +39,14 @@ use Rattle.smx_types.specs.declared.stream.Side.TheVariants as side
 use Rattle.smx_types.specs.declared.stream.StreamId.{StreamId}
 use Rattle.std.specs.List.{list_all}
 use Rattle.smx_types.specs.declared.reply.Fault.TheVariants.{Below, NoMinor}
-use Rattle.smx_model.proofs.EachLemmas.{Each, each_map}
+use Rattle.smx_model.proofs.EachLemmas.{each_map}
 use Rattle.smx_model.proofs.TestLemmas.{any_more, all_more, all_push, all_placed, all_filter, all_without, any_placed}
 use Rattle.smx_model.proofs.TestLemmas.{any_push, found_any, found_all}
+use Rattle.std.specs.List.{AllByRecursion}
 
 -- with more descriptors or links more streams stand
 
+-- a stream that stands within some climbs does so with more descriptors and links
 stands_grow : (fds fds2 : List Descriptor) (links links2 : List Link)
     → ((t : Descriptor → Bool) → list_any t fds ≡ true → list_any t fds2 ≡ true)
     → ((t : Link → Bool) → list_any t links ≡ true → list_any t links2 ≡ true)
@@ -74,7 +76,8 @@ stands_grow fds fds2 links links2 f g (suc n) s
           let b = and_parts (same_stream l.lower s) (stands_within fds links n l.ctl) a.1 in
           and_from _ _ a.0 (and_from _ _ b.0 (up l.ctl b.1))
 
--- a configuration in which as many streams stand, and nothing else changed
+-- a configuration is swept where all streams that exist in a swept one exist, its links pass the sweep, and all else
+-- that is swept is the same
 grown : (drivers : List DriverSpec) (c d : Configuration) → IsSwept drivers c
     → ((s : StreamId) → exists drivers c s ≡ true → exists drivers d s ≡ true)
     → list_all (λ l. is_persistent l || exists drivers d l.ctl) d.links ≡ true → d.binds ≡ c.binds → d.flow ≡ c.flow
@@ -87,10 +90,12 @@ grown drivers c d h more links b f u g = record {
   hungs = rw g (all_more _ _ c.hungs (λ x. more x) h.hungs);
 }
 
+-- where one of two tests passes, one of them still does with another in place of the second that passes where that does
 link_more : (a b d : Bool) → (b ≡ true → d ≡ true) → (a || b) ≡ true → (a || d) ≡ true
 link_more true b d f h = refl
 link_more false b d f h = f h
 
+-- a swept configuration with one more descriptor is swept
 swept_fd : (drivers : List DriverSpec) (c : Configuration) (process fd : ℕ) (s : StreamId) → IsSwept drivers c
     → IsSwept drivers (with_fd c process fd s)
 swept_fd drivers c process fd s h = grown drivers c (with_fd c process fd s) h more
@@ -100,6 +105,7 @@ swept_fd drivers c process fd s h = grown drivers c (with_fd c process fd s) h m
       more : (t : StreamId) → exists drivers c t ≡ true → exists drivers (with_fd c process fd s) t ≡ true
       more = stands_grow c.fds _ c.links c.links (λ t e. any_placed t fd_before c.fds _ e) (λ t e. e) (length drivers)
 
+-- a swept configuration with one more link, whose controlling stream exists, is swept
 swept_link : (drivers : List DriverSpec) (c : Configuration) (l : Link) (next : ℕ) → IsSwept drivers c
     → exists drivers c l.ctl ≡ true → IsSwept drivers (record c { links = c.links ++ l ∷ []; next_id = next })
 swept_link drivers c l next h e = grown drivers c (record c { links = c.links ++ l ∷ []; next_id = next }) h more
@@ -142,19 +148,23 @@ leaf_exists drivers c name minor s e =
       same : (n : ℕ) → stream n ≡ Ok s → record { driver = n; minor = minor } ≡ s
       same n e = cc
 
+-- the stream of a descriptor that is not linked below, and whose device has not hung up, exists
 live_exists : (drivers : List DriverSpec) (c : Configuration) (process fd : ℕ) (s : StreamId)
     → live_stream c process fd ≡ Ok s → exists drivers c s ≡ true
 live_exists drivers c process fd s e = free_exists drivers c process fd s (live_is c process fd s e).0
 
+-- the stream of a leaf driver and its minor that a lookup finds, and whose device has not hung up, exists
 live_leaf_exists : (drivers : List DriverSpec) (c : Configuration) (name : List ℕ) (minor : ℕ) (s : StreamId)
     → live_leaf drivers c name minor ≡ Ok s → exists drivers c s ≡ true
 live_leaf_exists drivers c name minor s e = leaf_exists drivers c name minor s (live_leaf_is drivers c name minor s e).0
 
+-- where all full places pass a test, they do once a place that passes it is marked as full or not
 all_marked : (t : Place → Bool) (p : Place) (b : Bool) (ps : List Place) → t p ≡ true → list_all t ps ≡ true
     → list_all t (with_mark p b ps) ≡ true
 all_marked t p true ps h e = all_placed t place_before _ p h (all_filter t _ ps e)
 all_marked t p false ps h e = all_filter t _ ps e
 
+-- what is done is swept
 swept_done : (drivers : List DriverSpec) (c d : Configuration)
     → IfAccepted (λ d r. IsSwept drivers d) (done_outcome drivers c d)
 swept_done drivers c d = record { holds = swept_is drivers d }
@@ -179,8 +189,9 @@ swept_accepted drivers c process k h = of_rows _ drivers c process k (search (
 -- a move goes to a stream that exists
 
 -- where the drivers of all controlling streams are there, each link leads from such a driver to its lower one
-pub links_in : (drivers : List DriverSpec) (links : List Link) → Each (λ l. l.ctl.driver < length drivers) links
-    → Each (IsLinkIn drivers links) links
+pub links_in : (drivers : List DriverSpec) (links : List Link)
+    → AllByRecursion (λ l. l.ctl.driver < length drivers) links
+    → AllByRecursion (IsLinkIn drivers links) links
 links_in drivers [] h = tt
 links_in drivers (l ∷ ls) h = (
   record { ctl = h.0; leads = reaches_at (l ∷ ls) 0 l (omega arith) refl },
@@ -188,16 +199,17 @@ links_in drivers (l ∷ ls) h = (
       (λ k i. record { ctl = i.ctl; leads = or_left _ _ i.leads }) (links_in drivers ls h.1),
 )
 
--- it has no cycle, its descriptors and links have streams that the drivers have, and it is swept
+-- a swept configuration without a cycle, whose descriptors and links have streams that the drivers have
 pub record IsWhole (drivers : List DriverSpec) (c : Configuration) : Type 0 where
-  pub none : HasNoCycle c.links
+  pub no_cycle : HasNoCycle c.links
   pub named : AreNamed drivers c
   pub swept_ : IsSwept drivers c
 
--- what keeps the lower streams of links
+-- links without a cycle, whose upper drivers are in range and which are persistent or have controlling streams that
+-- exist
 pub record AreKeepingLowers (drivers : List DriverSpec) (c : Configuration) : Type 0 where
-  pub none : HasNoCycle c.links
-  pub below : Each (λ l. l.ctl.driver < length drivers) c.links
+  pub no_cycle : HasNoCycle c.links
+  pub below : AllByRecursion (λ l. l.ctl.driver < length drivers) c.links
   pub alive : list_all (λ l. is_persistent l || exists drivers c l.ctl) c.links ≡ true
 
 -- the lower stream of a link that a search finds exists
@@ -210,17 +222,21 @@ lower_exists drivers c test l h e = elim (cases_Bool (is_persistent l)) [
   | inr o ↦
       let a = found_all test (λ k. is_persistent k || exists drivers c k.ctl) c.links l e h.alive in
       let up : exists drivers c l.ctl ≡ true = rw o at a in
-      climbs_suffice drivers c.fds c.links (suc (length drivers)) l.lower h.none (links_in drivers c.links h.below)
+      climbs_suffice drivers c.fds c.links (suc (length drivers)) l.lower h.no_cycle (links_in drivers c.links h.below)
       (or_right _ _
       (found_any test (λ k. not (is_persistent k)
       && (same_stream k.lower l.lower && stands_within c.fds c.links (length drivers) k.ctl)) c.links l e
       (and_from _ _ (rw o refl) (and_from _ _ (stream_self l.lower) up))))
 ]
 
+-- a swept configuration without a cycle, whose descriptors and links have known streams, has links that keep their
+-- lower streams
 whole_keeps : (drivers : List DriverSpec) (c : Configuration) → IsWhole drivers c → AreKeepingLowers drivers c
 whole_keeps drivers c h =
-    record { none = h.none; below = each_map _ _ c.links (λ l p. p.0.0) h.named.links; alive = h.swept_.links }
+    record { no_cycle = h.no_cycle; below = each_map _ _ c.links (λ l p. p.0.0) h.named.links; alive = h.swept_.links }
 
+-- in a swept configuration without a cycle, whose descriptors and links have known streams, the next place is of a
+-- stream that exists
 next_exists : (drivers : List DriverSpec) (c : Configuration) (s : StreamId) (addr : ℕ) (which_side : Side) (q : Place)
     → IsWhole drivers c → next_place drivers c (record { stream = s; side = which_side }) addr ≡ Some q
     → exists drivers c q.stream ≡ true
@@ -236,7 +252,7 @@ next_exists drivers c s addr side.Read q h e =
     (found_all (λ b. eqb b.driver w.0.ctl.driver && eqb b.addr addr)
     (λ b. exists drivers c (record { driver = b.driver; minor = b.minor })) c.binds w.2 w.3 h.swept_.binds)
 
--- from a queue of a stream that exists
+-- where the places of all messages pass a test, a place with a first message does
 front_exists : (t : Place → Bool) (hs : List QueuedMessage) (p : Place) (m : Message) → first_message hs p ≡ Some m
     → list_all (λ h. t h.place) hs ≡ true → t p ≡ true
 front_exists t [] p m e h = cc
@@ -266,7 +282,7 @@ swept_moved drivers c p h = by (next_open_place drivers c p) (first_message c.fl
 
 -- a stream that stands within some number of climbs exists
 pub stands_exists : (drivers : List DriverSpec) (c : Configuration) (s : StreamId) → HasNoCycle c.links
-    → Each (λ l. l.ctl.driver < length drivers) c.links → Stands c s → exists drivers c s ≡ true
+    → AllByRecursion (λ l. l.ctl.driver < length drivers) c.links → Stands c s → exists drivers c s ≡ true
 stands_exists drivers c s none below h =
     climbs_suffice drivers c.fds c.links h.climbs s none (links_in drivers c.links below) h.within
 

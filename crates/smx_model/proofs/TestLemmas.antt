@@ -5,8 +5,8 @@ use Rattle.std.specs.List.{list_any, list_all}
 use Rattle.std.proofs.lemmas.Bool.{cases_Bool, and_parts, or_cases, or_left, or_right, and_from, false≢true, both_ways}
 use Rattle.std.proofs.lemmas.Bool.{false_from_ne_true}
 use Rattle.std.proofs.lemmas.List.Folds.{list_all-append, list_any-append}
+use Rattle.std.specs.List.{AllByRecursion}
 use Rattle.smx_model.specs.Ordered.{with_inserted, without_first}
-use Rattle.smx_model.proofs.EachLemmas.{Each}
 
 -- where two tests agree on all, some element passes the one just where some passes the other
 pub any_same : {X : Type 0} (t u : X → Bool) (xs : List X) → ((x : X) → t x ≡ u x) → list_any t xs ≡ list_any u xs
@@ -37,7 +37,7 @@ pub record Found {X : Type 0} (t : X → Bool) (P : X → Type 0) (xs : List X) 
   pub has : P one
 
 -- where P holds of each element, and some element passes a test, there is one that passes and has P
-pub any_found : {X : Type 0} (t : X → Bool) (P : X → Type 0) (xs : List X) → Each P xs → list_any t xs ≡ true
+pub any_found : {X : Type 0} (t : X → Bool) (P : X → Type 0) (xs : List X) → AllByRecursion P xs → list_any t xs ≡ true
     → Found t P xs
 any_found t P [] h e = absurd (false≢true e)
 any_found t P (x ∷ xs) h e = elim (or_cases (t x) (list_any t xs) e) [
@@ -53,7 +53,7 @@ any_more t u (x ∷ xs) h e =
     elim (or_cases (t x) (list_any t xs) e) [ inl k ↦ or_left _ _ (h x k) | inr k ↦ or_right _ _ (any_more t u xs h k) ]
 
 -- where P holds of each, and what has P and passes a test passes another, some passes that if some passes the one
-pub any_more_each : {X : Type 0} (P : X → Type 0) (t u : X → Bool) (xs : List X) → Each P xs
+pub any_more_each : {X : Type 0} (P : X → Type 0) (t u : X → Bool) (xs : List X) → AllByRecursion P xs
     → ((x : X) → P x → t x ≡ true → u x ≡ true) → list_any t xs ≡ true → list_any u xs ≡ true
 any_more_each P t u [] h f e = e
 any_more_each P t u (x ∷ xs) h f e = elim (or_cases (t x) (list_any t xs) e)

@@ -1,11 +1,13 @@
 -- Which places the commands turn.
 use Rattle.std.proofs.Common.{◌≡◌, ℕ, ◌+◌, Bool, true, false, ◌&&◌, ◌||◌, not, eqb, List, [], ◌∷◌, ◌++◌}
-use Rattle.std.proofs.Common.{filter, Result, Ok, Err, refl, rules, inl, inr, arith}
+use Rattle.std.proofs.Common.{filter, Result, Ok, Err, refl, rules, ◌∙◌, inl, inr, arith}
 use Rattle.std.specs.Prelude.{nat_lt, IfOk}
 use Rattle.std.specs.List.{list_any}
 use Rattle.std.proofs.lemmas.Bool.{cases_Bool}
-use Rattle.std.proofs.lemmas.Bool.{not-true}
+use Rattle.std.proofs.lemmas.Bool.{not-true, or_right}
 use Rattle.std.proofs.lemmas.Bool.Decides.{nat_tests}
+use Rattle.std.specs.List.{AllByRecursion}
+use Rattle.std.proofs.lemmas.List.Elements.{recursion_from_All}
 use Rattle.smx_types.specs.declared.command.Command.{Command}
 use Rattle.smx_types.specs.declared.command.Command.TheVariants as command
 use Rattle.smx_types.specs.declared.driver.DriverSpec.{DriverSpec}
@@ -21,85 +23,91 @@ use Rattle.smx_types.specs.declared.stream.StreamId.{StreamId}
 use Rattle.smx_model.specs.Commands.{outcome, done_outcome, link_outcome, send_outcome, receive_outcome}
 use Rattle.smx_model.specs.Commands.{with_fd}
 use Rattle.smx_model.specs.Configuration.{Configuration, same_place, pair_before, bind_before, route_before}
-use Rattle.smx_model.specs.Configuration.{same_stream, stream_before}
+use Rattle.smx_model.specs.Configuration.{same_stream, read_side, write_side}
 use Rattle.smx_model.specs.KeptConfigurations.{IsSound}
 use Rattle.smx_model.specs.Lookups.{stream_of, free_stream, mux_stream, live_stream, live_leaf}
 use Rattle.smx_model.specs.Ordered.{with_inserted}
 use Rattle.smx_model.specs.Outcomes.{Outcome, ◌>>=◌}
 use Rattle.smx_model.specs.Queues.{after_arrival}
 use Rattle.smx_model.specs.Removal.{after_sweep}
-use Rattle.smx_model.proofs.EachLemmas.{Apart, apart_filter, apart_pairs, apart_rising}
-use Rattle.smx_model.proofs.EachLemmas.{Each, none_passes, kept_passes, each_map, each_of_all}
+use Rattle.smx_model.proofs.EachLemmas.{each_placed, later_filter, later_pairs, later_map}
+use Rattle.smx_model.proofs.EachLemmas.{none_passes, kept_passes, each_map}
 use Rattle.smx_model.proofs.AcceptedLemmas.{unlinked}
+use Rattle.smx_model.proofs.HungListLemmas.{hung_with}
 use Rattle.smx_model.proofs.OutcomeLemmas.{IfAccepted, at_ok, after_ok, after_test, after_some, after_choice, if_ok}
 use Rattle.smx_model.specs.RunMarks.{asks_down, asks_up, nowhere, is_first_at, TurnsOnly}
-use Rattle.smx_model.specs.TurnedPlaces.{of_stream, read_side, write_side, turned_by}
-use Rattle.smx_model.proofs.TurningLemmas.{next_of_others, bound, routed, binds_find, fewer_turns}
-use Rattle.smx_model.proofs.TurningLemmas.{keyed_removed, routes_find, turns_arrived, turns_bound, turns_emptied}
-use Rattle.smx_model.proofs.TurningLemmas.{turns_left, turns_linked, turns_removed, turns_routed, turns_swept}
-use Rattle.smx_model.proofs.TurningLemmas.{turns_then, other, same_finds, IsKeyed, AreRooted, rooted_filter}
+use Rattle.smx_model.specs.TurnedPlaces.{of_stream, turned_by}
+use Rattle.smx_model.proofs.FindLemmas.{not_same_pair_turned, same_finds}
+use Rattle.smx_model.proofs.FewerLemmas.{AreRooted, IsKeyed, binds_find, fewer_turns, keyed_removed, rooted_filter}
+use Rattle.smx_model.proofs.FewerLemmas.{routes_find, turns_emptied, turns_removed, turns_swept}
+use Rattle.smx_model.proofs.TurningLemmas.{bound, routed, turns_arrived, turns_bound, turns_left, turns_linked}
+use Rattle.smx_model.proofs.TurningLemmas.{turns_routed, turns_then, turns_unchanged}
 use Rattle.smx_model.specs.Hangups.{is_hung, with_hung}
 use Rattle.smx_model.proofs.RisingLemmas.{bind_other}
-use Rattle.smx_model.proofs.TestLemmas.{any_placed}
 use Rattle.smx_model.specs.KnownStreams.{IsKnown}
+use Rattle.smx_model.specs.Ordered.{AllLater}
 
 -- ---- each key is there once
 
-less_other : (a b : ℕ) → nat_lt a b ≡ true → eqb a b ≡ false
-less_other a b h = grind (arith, nat_tests)
+-- a number that is less than another isn't that one
+less_differs : (a b : ℕ) → nat_lt a b ≡ true → eqb a b ≡ false
+less_differs a b h = grind (arith, nat_tests)
 
-pair_other : (a b c d : ℕ) → pair_before a b c d ≡ true → (eqb a c && eqb b d) ≡ false
-pair_other a b c d h = grind (arith, nat_tests)
+-- a pair of numbers that comes before another isn't that one
+pair_differs : (a b c d : ℕ) → pair_before a b c d ≡ true → (eqb a c && eqb b d) ≡ false
+pair_differs a b c d h = grind (arith, nat_tests)
 
 -- in a sound configuration each key of a route, a link or a binding is there once
 pub keyed : (drivers : List DriverSpec) (c : Configuration) → IsSound drivers c → IsKeyed c
 keyed drivers c h = record {
-  routes = apart_rising _ route_before (λ r s. pair_other r.driver r.addr s.driver s.addr) c.routes h.ordered.routes;
-  ids = apart_rising _ (λ l k. nat_lt l.id k.id) (λ l k. less_other l.id k.id) c.links h.ids.rise;
-  lowers = apart_pairs _ c.links h.links.lowers;
-  binds = apart_rising _ bind_before (λ b e. pair_other b.driver b.addr e.driver e.addr) c.binds h.ordered.binds;
+  routes = later_map _ _ c.routes (λ r s. pair_differs r.driver r.addr s.driver s.addr) h.ordered.routes;
+  ids = later_map _ _ c.links (λ l k. less_differs l.id k.id) h.ids.rise;
+  lowers = later_pairs _ c.links h.links.lowers;
+  binds = later_map _ _ c.binds (λ b e. pair_differs b.driver b.addr e.driver e.addr) h.ordered.binds;
 }
 
 -- the links of a sound configuration are sound, and their upper drivers are there
 pub rooted : (drivers : List DriverSpec) (c : Configuration) → IsSound drivers c → AreRooted drivers c.links
 rooted drivers c h = record {
   sound = h.links;
-  below = each_map (λ l. IsKnown drivers l.ctl) _ c.links (λ l p. p.0) (each_of_all _ c.links h.known.controlling);
+  below = each_map (λ l. IsKnown drivers l.ctl) _ c.links (λ l p. p.0)
+      (recursion_from_All _ c.links h.known.controlling);
 }
 
-apart_placed : {X : Type 0} (R : X → X → Type 0) (before : X → X → Bool) → ((x y : X) → R x y → R y x)
-    → (x : X) (xs : List X) → Each (R x) xs → Apart R xs → Apart R (with_inserted before xs x)
-apart_placed R before s x [] e h = (tt, tt)
-apart_placed R before s x (y ∷ ys) e h = elim (cases_Bool (before x y)) [
+-- where a relation goes both ways, and each element is related so to all later ones and to one more, it is so with that
+-- one inserted
+related_placed : {X : Type 0} (R : X → X → Type 0) (before : X → X → Bool) → ((x y : X) → R x y → R y x)
+    → (x : X) (xs : List X) → AllByRecursion (R x) xs → AllLater R xs → AllLater R (with_inserted before xs x)
+related_placed R before s x [] e h = (tt, tt)
+related_placed R before s x (y ∷ ys) e h = elim (cases_Bool (before x y)) [
   | inl t ↦ rw t (e, h)
-  | inr f ↦ rw f (more y (s x y e.0) ys h.0, apart_placed R before s x ys e.1 h.1)
-] where
-  more : (y : _) → R y x → (ys : List _) → Each (R y) ys → Each (R y) (with_inserted before ys x)
-  more y r [] g = (r, tt)
-  more y r (z ∷ zs) g = elim (cases_Bool (before x z)) [ inl t ↦ rw t (r, g) | inr f ↦ rw f (g.0, more y r zs g.1) ]
+  | inr f ↦ rw f (each_placed (R y) before ys x (s x y e.0) h.0, related_placed R before s x ys e.1 h.1)
+]
 
+-- with a route in place of that of its driver and address, each key is still there once
 keyed_routed : (c : Configuration) (driver addr id : ℕ) → IsKeyed c → IsKeyed (routed c driver addr id)
 keyed_routed c driver addr id h = record {
-  routes = apart_placed (λ r s. (eqb r.driver s.driver && eqb r.addr s.addr) ≡ false) route_before
-      (λ r s. other s.driver s.addr r.driver r.addr) (record { driver = driver; addr = addr; id = id })
+  routes = related_placed (λ r s. (eqb r.driver s.driver && eqb r.addr s.addr) ≡ false) route_before
+      (λ r s. not_same_pair_turned s.driver s.addr r.driver r.addr) (record { driver = driver; addr = addr; id = id })
       (filter (λ r. not (eqb r.driver driver && eqb r.addr addr)) c.routes)
       (kept_passes (λ r. not (eqb r.driver driver && eqb r.addr addr)) _ c.routes
-      (λ r t. other driver addr r.driver r.addr (not-true (eqb r.driver driver && eqb r.addr addr) t)))
-      (apart_filter _ _ c.routes h.routes);
+      (λ r t. not_same_pair_turned driver addr r.driver r.addr (not-true (eqb r.driver driver && eqb r.addr addr) t)))
+      (later_filter _ _ c.routes h.routes);
   ids = h.ids;
   lowers = h.lowers;
   binds = h.binds;
 }
 
+-- with a binding of an address and a stream that were free, each key is still there once
 keyed_bound : (c : Configuration) (driver addr minor : ℕ)
     → list_any (λ b. eqb b.driver driver && (eqb b.addr addr || eqb b.minor minor)) c.binds ≡ false → IsKeyed c
     → IsKeyed (bound c driver addr minor)
 keyed_bound c driver addr minor free h = record {
-  binds = apart_placed (λ b e. (eqb b.driver e.driver && eqb b.addr e.addr) ≡ false) bind_before
-      (λ b e. other e.driver e.addr b.driver b.addr)
+  binds = related_placed (λ b e. (eqb b.driver e.driver && eqb b.addr e.addr) ≡ false) bind_before
+      (λ b e. not_same_pair_turned e.driver e.addr b.driver b.addr)
       (record { driver = driver; addr = addr; minor = minor }) c.binds
       (none_passes (λ b. eqb b.driver driver && (eqb b.addr addr || eqb b.minor minor)) _ c.binds
-      (λ b f. other driver addr b.driver b.addr (bind_other driver addr b.driver b.addr b.minor minor f))
+      (λ b f. not_same_pair_turned driver addr b.driver b.addr (bind_other driver addr b.driver b.addr b.minor minor f))
       free)
       h.binds;
   ids = h.ids;
@@ -109,20 +117,23 @@ keyed_bound c driver addr minor free h = record {
 
 -- ---- the rows of the command table
 
+-- a change that turns only some places turns no others with its sweep
 turns_done : (drivers : List DriverSpec) (c new : Configuration) (t : Place → Bool) → TurnsOnly drivers c new t
     → IsKeyed new → AreRooted drivers new.links
     → IfAccepted (λ d r. TurnsOnly drivers c d t) (done_outcome drivers c new)
 turns_done drivers c new t h k r = at_ok _ (after_sweep drivers new) _
     (turns_then drivers c new (after_sweep drivers new) t h (turns_swept drivers new k r))
 
+-- a message that arrives under the next serial turns no place but its own, and that only if it was empty
 arrived_turns : (drivers : List DriverSpec) (c : Configuration) (p : Place) (m : Message) (n : ℕ) → IsSound drivers c
     → TurnsOnly drivers c (record (after_arrival drivers c p m) { next_serial = n }) (is_first_at c p)
 arrived_turns drivers c p m n h = turns_then drivers c (after_arrival drivers c p m)
     (record (after_arrival drivers c p m) { next_serial = n }) (is_first_at c p)
     (turns_arrived drivers c p m h.ordered.flow)
-    (next_of_others drivers (after_arrival drivers c p m)
+    (turns_unchanged drivers (after_arrival drivers c p m)
     (record (after_arrival drivers c p m) { next_serial = n }) refl refl refl refl refl)
 
+-- a message that is sent turns no place but the one to which it is sent, and that only if it was empty
 turns_sent : (drivers : List DriverSpec) (c : Configuration) (p : Place) (addr : ℕ) (bytes : List ℕ) → IsSound drivers c
     → IfAccepted (λ d r. TurnsOnly drivers c d (is_first_at c p)) (send_outcome drivers c p addr bytes)
 turns_sent drivers c p addr bytes h = search (
@@ -133,39 +144,46 @@ turns_sent drivers c p addr bytes h = search (
   rules,
 ) depth 12
 
+-- a message that is delivered turns no place but its own
 turns_received : (drivers : List DriverSpec) (c : Configuration) (p : Place)
     → IfAccepted (λ d r. TurnsOnly drivers c d (same_place p)) (receive_outcome drivers c p)
 turns_received drivers c p = search (after_some, at_ok, turns_left, rules) depth 12
 
--- where nothing is turned before the sweep
+-- a change that turns no place turns none with its sweep
 turns_still : (drivers : List DriverSpec) (c new : Configuration) → TurnsOnly drivers c new nowhere → IsKeyed new
     → AreRooted drivers new.links → IfAccepted (λ d r. TurnsOnly drivers c d nowhere) (done_outcome drivers c new)
 turns_still drivers c new h k x = turns_done drivers c new nowhere h k x
 
+-- one more descriptor turns no place
 turns_with_fd : (drivers : List DriverSpec) (c : Configuration) (process fd : ℕ) (s : StreamId)
     → TurnsOnly drivers c (with_fd c process fd s) nowhere
-turns_with_fd drivers c process fd s = next_of_others drivers c (with_fd c process fd s) refl refl refl refl refl
+turns_with_fd drivers c process fd s = turns_unchanged drivers c (with_fd c process fd s) refl refl refl refl refl
 
+-- other descriptors turn no place
 turns_closed : (drivers : List DriverSpec) (c : Configuration) (fds : List Descriptor)
     → TurnsOnly drivers c (record c { fds = fds }) nowhere
-turns_closed drivers c fds = next_of_others drivers c (record c { fds = fds }) refl refl refl refl refl
+turns_closed drivers c fds = turns_unchanged drivers c (record c { fds = fds }) refl refl refl refl refl
 
+-- fewer bindings turn no place
 turns_unbound : (drivers : List DriverSpec) (c : Configuration) (keep : Binding → Bool) → IsKeyed c
     → TurnsOnly drivers c (record c { binds = filter keep c.binds }) nowhere
 turns_unbound drivers c keep k = fewer_turns drivers c (record c { binds = filter keep c.binds })
     (search (binds_find, same_finds, rules)) (λ r. inl refl)
 
+-- fewer routes turn no place
 turns_unrouted : (drivers : List DriverSpec) (c : Configuration) (keep : Route → Bool) → IsKeyed c
     → TurnsOnly drivers c (record c { routes = filter keep c.routes }) nowhere
 turns_unrouted drivers c keep k = fewer_turns drivers c (record c { routes = filter keep c.routes })
     (search (routes_find, same_finds, rules)) (λ r. inl refl)
 
+-- a route that is made turns no place but write sides of its driver whose first message has its address
 turns_route : (drivers : List DriverSpec) (c : Configuration) (driver addr id : ℕ) → IsKeyed c
     → AreRooted drivers c.links → IfAccepted (λ d r. TurnsOnly drivers c d (asks_down c driver addr))
     (done_outcome drivers c (routed c driver addr id))
 turns_route drivers c driver addr id k x = turns_done drivers c (routed c driver addr id) (asks_down c driver addr)
     (turns_routed drivers c driver addr id) (keyed_routed c driver addr id k) x
 
+-- a binding that is made turns no place but read sides below its driver whose first message has its address
 turns_bind : (drivers : List DriverSpec) (c : Configuration) (driver addr minor : ℕ) → IsKeyed c
     → AreRooted drivers c.links → list_any (λ b. eqb b.driver driver && (eqb b.addr addr || eqb b.minor minor)) c.binds
     ≡ false
@@ -174,10 +192,9 @@ turns_bind : (drivers : List DriverSpec) (c : Configuration) (driver addr minor 
 turns_bind drivers c driver addr minor k x free = turns_done drivers c (bound c driver addr minor)
     (asks_up c driver addr) (turns_bound drivers c driver addr minor) (keyed_bound c driver addr minor free k) x
 
--- a stream that has hung up has done so with one more that has
+-- a stream that has hung up has done so once one more stream hangs up
 pub hung_more : (s t : StreamId) (hungs : List StreamId) → is_hung hungs t ≡ true → is_hung (with_hung s hungs) t ≡ true
-hung_more s t hungs h = elim (cases_Bool (is_hung hungs s))
-    [ inl y ↦ rw y h | inr n ↦ rw n (any_placed (λ u. same_stream u t) stream_before hungs s h) ]
+hung_more s t hungs h = hung_with s t hungs ∙ or_right (same_stream s t) _ h
 
 -- a stream that hangs up turns no place
 pub more_hung_turn_none : (drivers : List DriverSpec) (c : Configuration) (s : StreamId)
@@ -185,10 +202,11 @@ pub more_hung_turn_none : (drivers : List DriverSpec) (c : Configuration) (s : S
 more_hung_turn_none drivers c s = fewer_turns drivers c (record c { hungs = with_hung s c.hungs })
     (search (hung_more, same_finds, rules)) (λ r. inl refl)
 
--- what changes nothing turns none
+-- where nothing changes, no place is turned
 turns_none : (drivers : List DriverSpec) (c : Configuration) (t : Place → Bool) → TurnsOnly drivers c c t
 turns_none drivers c t r f = inl refl
 
+-- one more link turns no place but the read side of its lower stream
 turns_new_link : (drivers : List DriverSpec) (c : Configuration) (upper lower : StreamId) (k : LinkKind)
     → IsSound drivers c
     → TurnsOnly drivers c
@@ -199,20 +217,20 @@ turns_new_link : (drivers : List DriverSpec) (c : Configuration) (upper lower : 
 turns_new_link drivers c upper lower k h =
     turns_linked drivers c (record { id = c.next_id; ctl = upper; lower = lower; kind = k }) (c.next_id + 1) h.routes
 
--- places by the stream that a lookup names, which the rest of the command is about
-at_stream : (drivers : List DriverSpec) (c : Configuration) (named : Result StreamId Fault)
-    (t : StreamId → Place → Bool) (f : StreamId → Outcome)
-    → ((s : StreamId) → IfAccepted (λ d r. TurnsOnly drivers c d (t s)) (f s))
-    → IfAccepted (λ d r. TurnsOnly drivers c d (of_stream named t)) (named >>= f)
-at_stream drivers c (Ok s) t f h = h s
-at_stream drivers c (Err e) t f h = record { holds = tt }
+-- what is so of places by a stream, whatever the stream, is so of places by the stream that a lookup names
+pub at_stream : (P : Configuration → (Place → Bool) → Type 0) (named : Result StreamId Fault)
+    (t : StreamId → Place → Bool) (f : StreamId → Outcome) → ((s : StreamId) → IfAccepted (λ d r. P d (t s)) (f s))
+    → IfAccepted (λ d r. P d (of_stream named t)) (named >>= f)
+at_stream P (Ok s) t f h = h s
+at_stream P (Err e) t f h = record { holds = tt }
 
+-- a link that is made turns no place but the read side of its lower stream
 turns_link : (drivers : List DriverSpec) (c : Configuration) (process fd arg : ℕ) (k : LinkKind) → IsSound drivers c
     → IfAccepted (λ d r. TurnsOnly drivers c d (of_stream (stream_of c process arg) (λ s. same_place (read_side s))))
     (link_outcome drivers c process fd arg k)
 turns_link drivers c process fd arg k h = search (
   after_ok,
-  at_stream drivers c (stream_of c process arg) (λ s. same_place (read_side s)),
+  at_stream (TurnsOnly drivers c) (stream_of c process arg) (λ s. same_place (read_side s)),
   after_test,
   at_ok,
   turns_new_link,
@@ -239,26 +257,29 @@ turns drivers c process (command.Punlink fd w) h = let k = keyed drivers c h in 
     search (after_ok, unlinked, turns_still, turns_removed, keyed_removed, rooted_filter, rules) depth 20
 turns drivers c process (command.Bind fd addr) h = let k = keyed drivers c h in let x = rooted drivers c h in
     search (
-      at_stream drivers c (mux_stream drivers c process fd) (λ s. asks_up c s.driver addr),
+      at_stream (TurnsOnly drivers c) (mux_stream drivers c process fd) (λ s. asks_up c s.driver addr),
       after_test,
       turns_bind,
       rules,
     ) depth 20
 turns drivers c process (command.Unbind fd) h = let k = keyed drivers c h in let x = rooted drivers c h in
-    search (after_test, after_ok, turns_still, turns_unbound, apart_filter, rules) depth 20
+    search (after_test, after_ok, turns_still, turns_unbound, later_filter, rules) depth 20
 turns drivers c process (command.Route fd addr id) h = let k = keyed drivers c h in let x = rooted drivers c h in
     search (
-      at_stream drivers c (mux_stream drivers c process fd) (λ s. asks_down c s.driver addr),
+      at_stream (TurnsOnly drivers c) (mux_stream drivers c process fd) (λ s. asks_down c s.driver addr),
       after_test,
       turns_route,
       rules,
     ) depth 20
 turns drivers c process (command.Unroute fd addr) h = let k = keyed drivers c h in let x = rooted drivers c h in
-    search (after_test, after_ok, turns_still, turns_unrouted, apart_filter, rules) depth 20
-turns drivers c process (command.Write fd addr bytes) h = search
-    (at_stream drivers c (live_stream c process fd) (λ s. is_first_at c (write_side s)), turns_sent, rules) depth 20
+    search (after_test, after_ok, turns_still, turns_unrouted, later_filter, rules) depth 20
+turns drivers c process (command.Write fd addr bytes) h = search (
+  at_stream (TurnsOnly drivers c) (live_stream c process fd) (λ s. is_first_at c (write_side s)),
+  turns_sent,
+  rules,
+) depth 20
 turns drivers c process (command.Read fd) h = search (
-  at_stream drivers c (free_stream c process fd) (λ s. same_place (read_side s)),
+  at_stream (TurnsOnly drivers c) (free_stream c process fd) (λ s. same_place (read_side s)),
   after_choice,
   at_ok,
   turns_none,
@@ -267,16 +288,20 @@ turns drivers c process (command.Read fd) h = search (
 ) depth 20
 turns drivers c process (command.Flush fd w) h = let k = keyed drivers c h in let x = rooted drivers c h in
     search (after_ok, turns_still, turns_emptied, rules) depth 20
-turns drivers c process (command.Inject name minor addr bytes) h = search
-    (at_stream drivers c (live_leaf drivers c name minor) (λ s. is_first_at c (read_side s)), turns_sent, rules) depth
-    20
-turns drivers c process (command.Transmit name minor) h = search
-    (at_stream drivers c (live_leaf drivers c name minor) (λ s. same_place (write_side s)), turns_received, rules) depth
-    20
+turns drivers c process (command.Inject name minor addr bytes) h = search (
+  at_stream (TurnsOnly drivers c) (live_leaf drivers c name minor) (λ s. is_first_at c (read_side s)),
+  turns_sent,
+  rules,
+) depth 20
+turns drivers c process (command.Transmit name minor) h = search (
+  at_stream (TurnsOnly drivers c) (live_leaf drivers c name minor) (λ s. same_place (write_side s)),
+  turns_received,
+  rules,
+) depth 20
 turns drivers c process (command.Hangup name minor) h = let k = keyed drivers c h in let x = rooted drivers c h in
     search (after_ok, turns_still, more_hung_turn_none, rules) depth 20
 
--- the same, as the laws say it: an accepted command turns no place but those of `turned_by`
+-- of an outcome that is accepted, no place is turned but those of `turned_by`
 pub outcomes_turn : (drivers : List DriverSpec) (c : Configuration) (process : ℕ) (k : Command) → IsSound drivers c
     → IfOk (outcome drivers c process k) (λ x. TurnsOnly drivers c x.0 (turned_by drivers c process k))
 outcomes_turn drivers c process k h = if_ok (λ d. TurnsOnly drivers c d (turned_by drivers c process k)) _

@@ -5,6 +5,8 @@ use Rattle.std.specs.List.{list_any}
 use Rattle.std.specs.Option.{option_map_or}
 use Rattle.std.proofs.lemmas.Bool.{cases_lt, eqb-true, and_parts, or_cases, false≢true}
 use Rattle.std.proofs.lemmas.Option.{slice_get_past, slice_get-get_or}
+use Rattle.std.specs.List.{AllByRecursion}
+use Rattle.std.proofs.lemmas.List.Elements.{All-from_recursion}
 use Rattle.smx_types.specs.declared.driver.DriverKind.TheVariants.{Leaf}
 use Rattle.smx_types.specs.declared.driver.DriverSpec.{DriverSpec}
 use Rattle.smx_types.specs.declared.link.Binding.{Binding}
@@ -33,10 +35,11 @@ use Rattle.smx_model.specs.Views.{view, view_of_fd, view_of_link, view_of_bind, 
 use Rattle.smx_model.specs.Views.{view_of_full, view_of_hung}
 use Rattle.smx_model.proofs.RangeLemmas.{AreNamed}
 use Rattle.smx_model.proofs.RouteLemmas.{AreRouted}
-use Rattle.smx_model.proofs.EachLemmas.{Each, each_map, all_of_each, each_of_list_all}
+use Rattle.smx_model.proofs.EachLemmas.{each_map, each_of_list_all}
 
 -- ---- a stream that exists is one that its driver has
 
+-- a stream that the test says is the same as one that the drivers have is one that they have
 same_known : (drivers : List DriverSpec) (s t : StreamId) → IsKnown drivers s → same_stream s t ≡ true
     → IsKnown drivers t
 same_known drivers s t h e = let p = and_parts (eqb s.driver t.driver) (eqb s.minor t.minor) e in
@@ -46,19 +49,24 @@ same_known drivers s t h e = let p = and_parts (eqb s.driver t.driver) (eqb s.mi
       known_at d m d2 m2 e f k = subst (λ (x : ℕ). (d2 < length drivers) × (x < minors_of drivers d2)) f
           (subst (λ (x : ℕ). (x < length drivers) × (m < minors_of drivers x)) e k)
 
+-- where descriptors have streams that the drivers have, a stream that one of them names is one that they have
 named_known : (drivers : List DriverSpec) (fds : List Descriptor) (s : StreamId)
-    → Each (λ d. IsKnown drivers d.stream) fds → is_named fds s ≡ true → IsKnown drivers s
+    → AllByRecursion (λ d. IsKnown drivers d.stream) fds → is_named fds s ≡ true → IsKnown drivers s
 named_known drivers [] s h e = absurd (false≢true e)
 named_known drivers (d ∷ ds) s h e = elim (or_cases (same_stream d.stream s) (is_named ds s) e)
     [ inl k ↦ same_known drivers d.stream s h.0 k | inr k ↦ named_known drivers ds s h.1 k ]
 
+-- where links have streams that the drivers have, the lower stream of all links that pass a test is one that they have,
+-- if some link passes
 lower_known : (drivers : List DriverSpec) (test : Link → Bool) (links : List Link) (s : StreamId)
-    → Each (λ l. IsKnown drivers l.ctl × IsKnown drivers l.lower) links
+    → AllByRecursion (λ l. IsKnown drivers l.ctl × IsKnown drivers l.lower) links
     → ((l : Link) → test l ≡ true → same_stream l.lower s ≡ true) → list_any test links ≡ true → IsKnown drivers s
 lower_known drivers test [] s h f e = absurd (false≢true e)
 lower_known drivers test (l ∷ ls) s h f e = elim (or_cases (test l) (list_any test ls) e)
     [ inl k ↦ same_known drivers l.lower s h.0.1 (f l k) | inr k ↦ lower_known drivers test ls s h.1 f k ]
 
+-- where descriptors and links have streams that the drivers have, each stream that stands within some climbs is one
+-- that they have
 standing_known : (drivers : List DriverSpec) (c : Configuration) (n : ℕ) (s : StreamId) → AreNamed drivers c
     → stands_within c.fds c.links n s ≡ true → IsKnown drivers s
 standing_known drivers c zero s h e =
@@ -79,8 +87,9 @@ standing_known drivers c (suc n) s h
           (and_parts (not (is_persistent l)) (same_stream l.lower s && stands_within c.fds c.links n l.ctl) p).1).0) k
     ]
 
--- ---- so is each part
+-- ---- each part of a swept configuration names a stream that its drivers have
 
+-- the number of a multiplexing driver is below the number of drivers
 mux_below : (drivers : List DriverSpec) (n : ℕ) → is_mux drivers n ≡ true → n < length drivers
 mux_below drivers n e = elim (cases_lt n (length drivers)) [
   | inl lt ↦ lt
@@ -89,13 +98,13 @@ mux_below drivers n e = elim (cases_lt n (length drivers)) [
 
 -- each part of a configuration has a stream, and each route a driver, that the drivers have
 pub record EachKnown (drivers : List DriverSpec) (c : Configuration) : Type 0 where
-  pub fds : Each (λ d. IsKnown drivers d.stream) c.fds
-  pub links : Each (λ l. IsKnown drivers l.ctl × IsKnown drivers l.lower) c.links
-  pub binds : Each (λ b. IsKnown drivers (record { driver = b.driver; minor = b.minor })) c.binds
-  pub routes : Each (λ r. r.driver < length drivers) c.routes
-  pub flow : Each (λ h. IsKnown drivers h.place.stream) c.flow
-  pub fulls : Each (λ p. IsKnown drivers p.stream) c.fulls
-  pub hungs : Each (λ s. IsKnown drivers s) c.hungs
+  pub fds : AllByRecursion (λ d. IsKnown drivers d.stream) c.fds
+  pub links : AllByRecursion (λ l. IsKnown drivers l.ctl × IsKnown drivers l.lower) c.links
+  pub binds : AllByRecursion (λ b. IsKnown drivers (record { driver = b.driver; minor = b.minor })) c.binds
+  pub routes : AllByRecursion (λ r. r.driver < length drivers) c.routes
+  pub flow : AllByRecursion (λ h. IsKnown drivers h.place.stream) c.flow
+  pub fulls : AllByRecursion (λ p. IsKnown drivers p.stream) c.fulls
+  pub hungs : AllByRecursion (λ s. IsKnown drivers s) c.hungs
 
 -- in a swept configuration, where descriptors, links and routes have known streams and drivers, so has each part
 pub each_known : (drivers : List DriverSpec) (c : Configuration) → AreNamed drivers c → AreRouted drivers c
@@ -116,26 +125,29 @@ each_known drivers c named routed swept_ = record {
 -- what `EachKnown` says of each part by recursion, `AreStreamsKnown` says of it by index
 pub known_of_each : (drivers : List DriverSpec) (c : Configuration) → EachKnown drivers c → AreStreamsKnown drivers c
 known_of_each drivers c h = record {
-  fds = all_of_each _ c.fds h.fds;
-  controlling = all_of_each _ c.links (each_map _ _ c.links (λ l p. p.0) h.links);
-  lowers = all_of_each _ c.links (each_map _ _ c.links (λ l p. p.1) h.links);
-  binds = all_of_each _ c.binds h.binds;
-  routes = all_of_each _ c.routes h.routes;
-  flow = all_of_each _ c.flow h.flow;
-  fulls = all_of_each _ c.fulls h.fulls;
-  hungs = all_of_each _ c.hungs h.hungs;
+  fds = All-from_recursion _ c.fds h.fds;
+  controlling = All-from_recursion _ c.links (each_map _ _ c.links (λ l p. p.0) h.links);
+  lowers = All-from_recursion _ c.links (each_map _ _ c.links (λ l p. p.1) h.links);
+  binds = All-from_recursion _ c.binds h.binds;
+  routes = All-from_recursion _ c.routes h.routes;
+  flow = All-from_recursion _ c.flow h.flow;
+  fulls = All-from_recursion _ c.fulls h.fulls;
+  hungs = All-from_recursion _ c.hungs h.hungs;
 }
 
 -- ---- a name is that of one driver
 
+-- a driver for lookups that need one where none is found
 some_driver : DriverSpec
 some_driver = record { name = []; kind = Leaf; minors = 0; high = 0; low = 0; max = 0 }
 
+-- the name by a number that is in range is that of the driver at that index
 name_at : (drivers : List DriverSpec) (n : ℕ) → n < length drivers
     → name_of drivers n ≡ (slice_index_or drivers n some_driver).name
 name_at drivers n lt =
     ap (λ (o : Option DriverSpec). option_map_or (λ d. d.name) o []) (slice_get-get_or drivers n some_driver lt)
 
+-- numbers in range whose drivers have one name are the same, under drivers that can be had
 one_number : (drivers : List DriverSpec) (a b : ℕ) → IsDriverList drivers → a < length drivers → b < length drivers
     → name_of drivers a ≡ name_of drivers b → a ≡ b
 one_number drivers a b h lt_a lt_b e =
@@ -149,10 +161,11 @@ one_number drivers a b h lt_a lt_b e =
       ]
     ]
 
--- ---- and so a line is that of one part
+-- ---- a line of the view is that of one part
 
+-- where a function tells elements with P apart, lists of such elements are the same if its values along them are
 map_one : {X Y : Type 0} (f : X → Y) (P : X → Type 0) (xs ys : List X) → ((x y : X) → P x → P y → f x ≡ f y → x ≡ y)
-    → Each P xs → Each P ys → map f xs ≡ map f ys → xs ≡ ys
+    → AllByRecursion P xs → AllByRecursion P ys → map f xs ≡ map f ys → xs ≡ ys
 map_one f P [] [] one h k e = refl
 map_one f P [] (y ∷ ys) one h k e = let differ : [] ≡ f y ∷ map f ys = e in absurd cc
 map_one f P (x ∷ xs) [] one h k e = let differ : f x ∷ map f xs ≡ [] = e in absurd cc
@@ -166,15 +179,18 @@ map_one f P (x ∷ xs) (y ∷ ys) one h k e =
 
 -- equal fields make equal parts
 
+-- two values of one type are the same
 abbrev Same : (X : Type 0) → X → X → Type 0
 Same X x y = x ≡ y
 
+-- descriptors with the same process, number, driver and minor are the same
 fd_made : (process fd driver minor process2 fd2 driver2 minor2 : ℕ) → process ≡ process2 → fd ≡ fd2 → driver ≡ driver2
     → minor ≡ minor2
     → Same Descriptor (record { process = process; fd = fd; stream = record { driver = driver; minor = minor } })
     (record { process = process2; fd = fd2; stream = record { driver = driver2; minor = minor2 } })
 fd_made process fd driver minor process2 fd2 driver2 minor2 e f g h = cc
 
+-- links with the same id, drivers, minors and kind are the same
 link_made : (id upper ctl lower below : ℕ) (k : LinkKind) (id2 upper2 ctl2 lower2 below2 : ℕ) (k2 : LinkKind) → id ≡ id2
     → upper ≡ upper2 → ctl ≡ ctl2 → lower ≡ lower2 → below ≡ below2 → k ≡ k2
     → Same Link
@@ -192,25 +208,30 @@ link_made : (id upper ctl lower below : ℕ) (k : LinkKind) (id2 upper2 ctl2 low
     })
 link_made id upper ctl lower below k id2 upper2 ctl2 lower2 below2 k2 e1 e2 e3 e4 e5 e6 = cc
 
+-- bindings with the same driver, address and minor are the same
 bind_made : (driver addr minor driver2 addr2 minor2 : ℕ) → driver ≡ driver2 → addr ≡ addr2 → minor ≡ minor2
     → Same Binding (record { driver = driver; addr = addr; minor = minor })
     (record { driver = driver2; addr = addr2; minor = minor2 })
 bind_made driver addr minor driver2 addr2 minor2 e f g = cc
 
+-- routes with the same driver, address and id are the same
 route_made : (driver addr id driver2 addr2 id2 : ℕ) → driver ≡ driver2 → addr ≡ addr2 → id ≡ id2
     → Same Route (record { driver = driver; addr = addr; id = id })
     (record { driver = driver2; addr = addr2; id = id2 })
 route_made driver addr id driver2 addr2 id2 e f g = cc
 
+-- places with the same driver, minor and side are the same
 place_made : (driver minor : ℕ) (s : Side) (driver2 minor2 : ℕ) (s2 : Side) → driver ≡ driver2 → minor ≡ minor2 → s ≡ s2
     → Same Place (record { stream = record { driver = driver; minor = minor }; side = s })
     (record { stream = record { driver = driver2; minor = minor2 }; side = s2 })
 place_made driver minor s driver2 minor2 s2 e f g = cc
 
+-- queued messages with the same place and message are the same
 held_made : (p : Place) (m : Message) (p2 : Place) (m2 : Message) → p ≡ p2 → m ≡ m2
     → Same QueuedMessage (record { place = p; message = m }) (record { place = p2; message = m2 })
 held_made p m p2 m2 e f = cc
 
+-- the configuration of these lists and numbers
 abbrev configuration : List Descriptor → List Link → ℕ → List Binding → List Route → List QueuedMessage → List Place → ℕ
     → List StreamId → Configuration
 configuration fds links id binds routes flow fulls serial hungs = record {
@@ -225,6 +246,7 @@ configuration fds links id binds routes flow fulls serial hungs = record {
   hungs = hungs;
 }
 
+-- configurations with the same lists and numbers are the same
 configuration_made : (fds fds2 : List Descriptor) (links links2 : List Link) (id id2 : ℕ) (binds binds2 : List Binding)
     (routes routes2 : List Route) (flow flow2 : List QueuedMessage) (fulls fulls2 : List Place) (serial serial2 : ℕ)
     (hungs hungs2 : List StreamId)
@@ -235,6 +257,7 @@ configuration_made : (fds fds2 : List Descriptor) (links links2 : List Link) (id
 configuration_made fds fds2 links links2 id id2 binds binds2 routes routes2 flow flow2 fulls fulls2 serial serial2 hungs
     hungs2 e1 e2 e3 e4 e5 e6 e7 e8 e9 = cc
 
+-- descriptors of streams that the drivers have are the same if their lines are, under drivers that can be had
 one_fd : (drivers : List DriverSpec) → IsDriverList drivers → (d e : Descriptor) → IsKnown drivers d.stream
     → IsKnown drivers e.stream → view_of_fd drivers d ≡ view_of_fd drivers e → d ≡ e
 one_fd drivers h d e lt lt2 k =
@@ -243,6 +266,7 @@ one_fd drivers h d e lt lt2 k =
     (one_number drivers d.stream.driver e.stream.driver h lt.0 lt2.0 (ap (λ (l : DescriptorLine). l.driver) k))
     (ap (λ (l : DescriptorLine). l.minor) k)
 
+-- links of streams that the drivers have are the same if their lines are, under drivers that can be had
 one_link : (drivers : List DriverSpec) → IsDriverList drivers → (l m : Link)
     → IsKnown drivers l.ctl × IsKnown drivers l.lower → IsKnown drivers m.ctl × IsKnown drivers m.lower
     → view_of_link drivers l ≡ view_of_link drivers m → l ≡ m
@@ -255,6 +279,7 @@ one_link drivers h l m lt lt2 k = link_made l.id l.ctl.driver l.ctl.minor l.lowe
     (ap (λ (x : LinkLine). x.lower_minor) k)
     (ap (λ (x : LinkLine). x.kind) k)
 
+-- bindings of streams that the drivers have are the same if their lines are, under drivers that can be had
 one_bind : (drivers : List DriverSpec) → IsDriverList drivers → (b c : Binding)
     → IsKnown drivers (record { driver = b.driver; minor = b.minor })
     → IsKnown drivers (record { driver = c.driver; minor = c.minor }) → view_of_bind drivers b ≡ view_of_bind drivers c
@@ -263,28 +288,33 @@ one_bind drivers h b c lt lt2 k = bind_made b.driver b.addr b.minor c.driver c.a
     (one_number drivers b.driver c.driver h lt.0 lt2.0 (ap (λ (l : BindingLine). l.driver) k))
     (ap (λ (l : BindingLine). l.addr) k) (ap (λ (l : BindingLine). l.minor) k)
 
+-- routes of drivers in range are the same if their lines are, under drivers that can be had
 one_route : (drivers : List DriverSpec) → IsDriverList drivers → (r s : Route) → r.driver < length drivers
     → s.driver < length drivers → view_of_route drivers r ≡ view_of_route drivers s → r ≡ s
 one_route drivers h r s lt lt2 k = route_made r.driver r.addr r.id s.driver s.addr s.id
     (one_number drivers r.driver s.driver h lt lt2 (ap (λ (l : RouteLine). l.driver) k))
     (ap (λ (l : RouteLine). l.addr) k) (ap (λ (l : RouteLine). l.id) k)
 
+-- full places of streams that the drivers have are the same if their lines are, under drivers that can be had
 one_full : (drivers : List DriverSpec) → IsDriverList drivers → (p q : Place) → IsKnown drivers p.stream
     → IsKnown drivers q.stream → view_of_full drivers p ≡ view_of_full drivers q → p ≡ q
 one_full drivers h p q lt lt2 k = place_made p.stream.driver p.stream.minor p.side q.stream.driver q.stream.minor q.side
     (one_number drivers p.stream.driver q.stream.driver h lt.0 lt2.0 (ap (λ (l : FullLine). l.driver) k))
     (ap (λ (l : FullLine). l.minor) k) (ap (λ (l : FullLine). l.side) k)
 
+-- streams with the same driver and minor are the same
 stream_made : (driver minor driver2 minor2 : ℕ) → driver ≡ driver2 → minor ≡ minor2
     → Same StreamId (record { driver = driver; minor = minor }) (record { driver = driver2; minor = minor2 })
 stream_made driver minor driver2 minor2 e f = cc
 
+-- hung-up streams that the drivers have are the same if their lines are, under drivers that can be had
 one_hung : (drivers : List DriverSpec) → IsDriverList drivers → (s t : StreamId) → IsKnown drivers s → IsKnown drivers t
     → view_of_hung drivers s ≡ view_of_hung drivers t → s ≡ t
 one_hung drivers h s t lt lt2 k = stream_made s.driver s.minor t.driver t.minor
     (one_number drivers s.driver t.driver h lt.0 lt2.0 (ap (λ (l : HungLine). l.driver) k))
     (ap (λ (l : HungLine). l.minor) k)
 
+-- queued messages at streams that the drivers have are the same if their lines are, under drivers that can be had
 one_held : (drivers : List DriverSpec) → IsDriverList drivers → (x y : QueuedMessage) → IsKnown drivers x.place.stream
     → IsKnown drivers y.place.stream → view_of_message drivers x ≡ view_of_message drivers y → x ≡ y
 one_held drivers h x y lt lt2 k = held_made x.place x.message y.place y.message
@@ -294,7 +324,7 @@ one_held drivers h x y lt lt2 k = held_made x.place x.message y.place y.message
     (ap (λ (l : MessageLine). l.minor) k) (ap (λ (l : MessageLine). l.side) k))
     (ap (λ (l : MessageLine). l.message) k)
 
--- ---- and the view that of one configuration
+-- ---- a view is that of one configuration
 
 -- configurations of known streams that have one view, over drivers that can be had, are the same
 pub one_configuration : (drivers : List DriverSpec) (c d : Configuration) → IsDriverList drivers → EachKnown drivers c

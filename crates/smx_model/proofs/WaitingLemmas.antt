@@ -17,7 +17,7 @@ use Rattle.smx_model.specs.DriverList.{is_mux}
 use Rattle.smx_model.specs.FlowOrder.{IsInOrder}
 use Rattle.smx_model.specs.Ordered.{with_inserted, without_first}
 use Rattle.smx_model.specs.Queues.{first_message, is_full, queue}
-use Rattle.smx_model.specs.RunMarks.{AreMarked, all_but, both, is_held_up, is_next_of_first, is_one_of, is_waiting}
+use Rattle.smx_model.specs.RunMarks.{AreMarked, all_but, either, is_held_up, is_next_of_first, is_one_of, is_waiting}
 use Rattle.smx_model.specs.RunMarks.{next_of, next_of_first}
 use Rattle.smx_model.specs.Settling.{◌>>=◌, is_movable, next_place, place_above, place_below}
 use Rattle.smx_model.proofs.OrderLemmas.{same_self}
@@ -48,6 +48,7 @@ keeps_by c d v w None n (inr e) f h = rw e refl
 keeps_by c d v w (Some q) n (inl e) f h = rw e (f q refl h)
 keeps_by c d v w (Some q) n (inr e) f h = rw e refl
 
+-- with the same links, routes, bindings and hung-up streams, the next place by stream and side is the same
 next_same : (drivers : List DriverSpec) (c d : Configuration) (s : StreamId) (addr : ℕ) (x : Side) → d.links ≡ c.links
     → d.routes ≡ c.routes → d.binds ≡ c.binds → d.hungs ≡ c.hungs
     → next_by drivers d s addr x ≡ next_by drivers c s addr x
@@ -70,8 +71,9 @@ next_of_same drivers c d p l r b u f = rw f (by (first_message c.flow p))
 abbrev pub if_open : Configuration → Option Place → Option Place
 if_open c o = o >>= (λ q. if is_full c q then None else Some q)
 
+-- a message whose next place is missing or full is held up once that place is wanted
 waits_now : (c : Configuration) (wanted : Place → Bool) (o : Option Place) → is_some (if_open c o) ≡ false
-    → is_held_up c (both wanted (λ q. is_one_of (λ x. same_place x q) o)) o ≡ true
+    → is_held_up c (either wanted (λ q. is_one_of (λ x. same_place x q) o)) o ≡ true
 waits_now c wanted None h = refl
 waits_now c wanted (Some q) h = elim (cases_Bool (is_full c q)) [
   | inl t ↦ rw (t, same_self q) (by (wanted q))
@@ -92,6 +94,7 @@ movable_by drivers c p = by (first_message c.flow p) refl
     by None e = rw e refl
     by (Some m) e = rw e refl
 
+-- where a message is held up, its next place isn't open
 waits_not_open : (c : Configuration) (wanted : Place → Bool) (o : Option Place) → is_held_up c wanted o ≡ true
     → is_some (if_open c o) ≡ false
 waits_not_open c wanted None h = refl
@@ -102,16 +105,16 @@ pub waiting_stays : (drivers : List DriverSpec) (c : Configuration) (wanted : Pl
     → is_waiting drivers c wanted p ≡ true → is_movable drivers c p ≡ false
 waiting_stays drivers c wanted p h = movable_by drivers c p ∙ waits_not_open c wanted (next_of_first drivers c p) h
 
--- the mark of a place that isn't movable is cleared
+-- the run mark of a place that isn't movable may be cleared, where its next place is then wanted
 pub cleared : (drivers : List DriverSpec) (c : Configuration) (run wanted : Place → Bool) (p : Place)
     → AreMarked drivers c run wanted → is_movable drivers c p ≡ false
-    → AreMarked drivers c (all_but run p) (both wanted (is_next_of_first drivers c p))
+    → AreMarked drivers c (all_but run p) (either wanted (is_next_of_first drivers c p))
 cleared drivers c run wanted p h stuck r unmarked = elim (cases_Bool (same_place p r)) [
-  | inl t ↦ subst (λ (x : Place). is_waiting drivers c (both wanted (is_next_of_first drivers c p)) x ≡ true)
+  | inl t ↦ subst (λ (x : Place). is_waiting drivers c (either wanted (is_next_of_first drivers c p)) x ≡ true)
       (same_place_is p r t) (waits_now c wanted (next_of_first drivers c p) (sym (movable_by drivers c p) ∙ stuck))
   | inr f ↦
       let k : (run r && not false) ≡ false = rw f at unmarked in
-      keeps_by c c wanted (both wanted (is_next_of_first drivers c p)) (next_of_first drivers c r)
+      keeps_by c c wanted (either wanted (is_next_of_first drivers c p)) (next_of_first drivers c r)
       (next_of_first drivers c r) (inl refl) (λ q e g. let a = and_parts (is_full c q) (wanted q) g in
       and_from _ _ a.0 (or_left _ _ a.1)) (h r (by (run r) k))
 ]
@@ -120,19 +123,20 @@ cleared drivers c run wanted p h stuck r unmarked = elim (cases_Bool (same_place
     by true e = e
     by false e = refl
 
--- where the first message of one place leaves, that of another stays
+-- where the first message leaves a place, that of another place stays
 pub first_left : (flow : List QueuedMessage) (p r : Place) → same_place p r ≡ false
     → first_message (without_first (is_at p) flow) r ≡ first_message flow r
 first_left flow p r f =
     front_is (without_first (is_at p) flow) r
     ∙ (ap (λ (ms : List Message). slice_get ms 0) (left_queue flow p r ∙ rw f refl) ∙ sym (front_is flow r))
 
+-- where there are messages, the first of them is the first with one more at the end
 first_stays : (ms : List Message) (m : Message) → is_some (slice_get ms 0) ≡ true
     → slice_get (ms ++ m ∷ []) 0 ≡ slice_get ms 0
 first_stays [] m h = absurd (false≢true h)
 first_stays (k ∷ ks) m h = refl
 
--- where a message arrives, each first message stays
+-- a message that arrives leaves each first message as it was, except at its own place where that was empty
 pub first_arrived : (flow : List QueuedMessage) (q r : Place) (m : Message) → IsInOrder flow
     → (same_place q r && not (is_some (first_message flow q))) ≡ false
     → first_message (with_inserted queued_before flow (record { place = q; message = m })) r ≡ first_message flow r

@@ -24,7 +24,7 @@ use Rattle.smx_types.specs.declared.stream.Side.{Side}
 use Rattle.smx_types.specs.declared.stream.Side.TheVariants as side
 use Rattle.smx_types.specs.declared.stream.StreamId.{StreamId}
 use Rattle.smx_model.specs.Configuration.{Configuration, same_stream, same_side, fd_before, bind_before, route_before}
-use Rattle.smx_model.specs.Configuration.{is_fd}
+use Rattle.smx_model.specs.Configuration.{is_fd, read_side, write_side}
 use Rattle.smx_model.specs.DriverList.{is_mux, minors_of, max_of}
 use Rattle.smx_model.specs.Hangups.{is_hung, with_hung}
 use Rattle.smx_model.specs.Lookups.{driver_of, stream_of, free_fd, free_minor, free_stream, live_stream, mux_stream}
@@ -95,7 +95,7 @@ receive_outcome drivers c p = do
 -- the first message of a stream's read side is delivered; with none it is the end of file once the device has hung up
 -- (STREAMS guide, M_HANGUP; read(2))
 abbrev pub read_outcome : List DriverSpec → Configuration → StreamId → Outcome
-read_outcome drivers c s = at (record { stream = s; side = side.Read }) where
+read_outcome drivers c s = at (read_side s) where
   at : Place → Outcome
   at p = if is_hung c.hungs s && not (is_some (first_message c.flow p)) then Ok (c, reply.Eof)
       else receive_outcome drivers c p
@@ -165,7 +165,7 @@ outcome drivers c process (command.Unroute fd addr) = do
   done_outcome drivers c (record c { routes = filter (λ r. not ((r.driver == s.driver) && (r.addr == addr))) c.routes })
 outcome drivers c process (command.Write fd addr bytes) = do
   s ← live_stream c process fd
-  send_outcome drivers c (record { stream = s; side = side.Write }) addr bytes
+  send_outcome drivers c (write_side s) addr bytes
 outcome drivers c process (command.Read fd) = do
   s ← free_stream c process fd
   read_outcome drivers c s
@@ -174,10 +174,10 @@ outcome drivers c process (command.Flush fd w) = do
   done_outcome drivers c (without_queues_at c (λ p. same_stream p.stream s && is_side w p.side))
 outcome drivers c process (command.Inject name minor addr bytes) = do
   s ← live_leaf drivers c name minor
-  send_outcome drivers c (record { stream = s; side = side.Read }) addr bytes
+  send_outcome drivers c (read_side s) addr bytes
 outcome drivers c process (command.Transmit name minor) = do
   s ← live_leaf drivers c name minor
-  receive_outcome drivers c (record { stream = s; side = side.Write })
+  receive_outcome drivers c (write_side s)
 outcome drivers c process (command.Hangup name minor) = do
   s ← leaf_stream drivers c name minor
   done_outcome drivers c (record c { hungs = with_hung s c.hungs })

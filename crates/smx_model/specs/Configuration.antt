@@ -51,6 +51,14 @@ abbrev pub side_number : Side → ℕ
 side_number side.Write = 0
 side_number side.Read = 1
 
+-- the write side of a stream, as a place
+abbrev pub write_side : StreamId → Place
+write_side s = record { stream = s; side = side.Write }
+
+-- the read side of a stream, as a place
+abbrev pub read_side : StreamId → Place
+read_side s = record { stream = s; side = side.Read }
+
 -- both the write side, or both the read side
 abbrev pub same_side : Side → Side → Bool
 same_side s t = side_number s == side_number t

@@ -8,11 +8,11 @@ use Rattle.smx_types.specs.declared.driver.DriverSpec.{DriverSpec}
 use Rattle.smx_types.specs.declared.stream.Place.{Place}
 use Rattle.smx_types.specs.declared.stream.StreamId.{StreamId}
 use Rattle.smx_model.specs.Commands.{is_side}
-use Rattle.smx_model.specs.Configuration.{Configuration, same_place, same_stream}
+use Rattle.smx_model.specs.Configuration.{Configuration, same_place, same_stream, read_side, write_side}
 use Rattle.smx_model.specs.Lookups.{free_stream, live_stream, live_leaf}
 use Rattle.smx_model.specs.Queues.{first_message}
 use Rattle.smx_model.specs.RunMarks.{is_freed, nowhere}
-use Rattle.smx_model.specs.TurnedPlaces.{of_stream, read_side, write_side}
+use Rattle.smx_model.specs.TurnedPlaces.{of_stream}
 
 -- but for these places, no full one stops being full
 abbrev pub FreesOnly : Configuration → Configuration → (Place → Bool) → Type 0

@@ -11,11 +11,11 @@ use Rattle.smx_model.specs.DriverList.{minors_of}
 abbrev pub IsKnown : List DriverSpec → StreamId → Type 0
 IsKnown drivers s = (s.driver < length drivers) × (s.minor < minors_of drivers s.driver)
 
--- so it is with the controlling stream of each link
+-- the drivers have the controlling stream of each link
 abbrev pub AreControllingKnown : List DriverSpec → List Link → Type 0
 AreControllingKnown drivers links = All (λ l. IsKnown drivers l.ctl) links
 
--- so it is with each stream of each list, and with the driver of each route
+-- the drivers have each stream that a list names, and there is a driver of the number of each route
 pub record AreStreamsKnown (drivers : List DriverSpec) (c : Configuration) : Type 0 where
   pub fds : All (λ d. IsKnown drivers d.stream) c.fds
   pub controlling : AreControllingKnown drivers c.links

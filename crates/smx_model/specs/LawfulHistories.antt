@@ -1,11 +1,12 @@
 -- Lawful histories: what the links and messages of every legal history come to.
-use Rattle.std.specs.Prelude.{◌≡◌, ◌≢◌, ℕ, Bool, true, false, IsTrue, List, [], ◌∷◌, ◌++◌, length}
-use Rattle.std.specs.List.{All, AllPairs, range_with_len}
+use Rattle.std.specs.Prelude.{◌≡◌, ◌≢◌, ◌⊎◌, ℕ, Bool, true, false, IsTrue, List, [], ◌∷◌, ◌++◌, length}
+use Rattle.std.specs.List.{All, AllPairs, Contains, range_with_len}
 use Rattle.std.specs.List.Sorted.{IsPermutation}
 use Rattle.smx_types.specs.declared.command.Command.{Command}
 use Rattle.smx_types.specs.declared.command.Command.TheVariants as command
 use Rattle.smx_types.specs.declared.command.Entry.{Entry}
 use Rattle.smx_types.specs.declared.driver.DriverSpec.{DriverSpec}
+use Rattle.smx_types.specs.declared.message.Message.{Message}
 use Rattle.smx_types.specs.declared.reply.Reply.{Reply}
 use Rattle.smx_types.specs.declared.reply.Reply.TheVariants as reply
 use Rattle.smx_model.specs.Histories.{after}
@@ -86,6 +87,16 @@ dropped_serials (e ∷ es) = dropped_by e.reply ++ dropped_serials es
 -- the serials of the messages that are queued at its end
 abbrev pub queued_serials : List DriverSpec → List Entry → List ℕ
 queued_serials drivers history = serials (after drivers history).flow
+
+-- the command writes or injects these bytes to this address
+abbrev pub Sends : Command → ℕ → List ℕ → Type 0
+Sends k addr bytes = ((fd : ℕ) × (k ≡ command.Write fd addr bytes))
+    ⊎ ((name : List ℕ) × (minor : ℕ) × (k ≡ command.Inject name minor addr bytes))
+
+-- an entry took the message in: it sent its bytes to its address, and was told its serial
+abbrev pub IsTakenIn : List Entry → Message → Type 0
+IsTakenIn history m =
+    (took : Entry) × Contains history took × (took.reply ≡ reply.Took m.serial) × Sends took.command m.addr m.bytes
 
 -- each message that was taken in was delivered, was dropped or is queued, and just one of these, once
 abbrev pub AreMessagesConserved : List DriverSpec → List Entry → Type 0

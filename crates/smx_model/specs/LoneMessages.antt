@@ -16,10 +16,11 @@ use Rattle.smx_model.specs.RunMarks.{AreMarked}
 use Rattle.smx_model.specs.Settling.{after_move_to, after_settling_within, next_place}
 
 -- with the first message of one place at the end of another's queue
-abbrev pub moved : List DriverSpec → Configuration → Place → Place → Configuration
-moved drivers c p q = after_move_to drivers c p (Some q) (first_message c.flow p)
+abbrev pub after_move_between : List DriverSpec → Configuration → Place → Place → Configuration
+after_move_between drivers c p q = after_move_to drivers c p (Some q) (first_message c.flow p)
 
--- no other place has a run mark; this one has just one message, and is not full, so that none waits for it
+-- each place without a run mark waits, and no place but this one has a run mark; this one has just one message, and is
+-- not full, so that none waits for it
 pub record IsAlone (drivers : List DriverSpec) (c : Configuration) (run wanted : Place → Bool) (p : Place)
     : Type 0 where
   pub marked : AreMarked drivers c run wanted
@@ -42,8 +43,9 @@ pub record IsUnderWay (drivers : List DriverSpec) (c : Configuration) (moves : �
   pub led : leads c.links p q ≡ true
   pub known : IsKnown drivers q.stream
   pub not_full : is_full c q ≡ false
-  pub sound : IsSound drivers (moved drivers c p q)
-  pub comes_to : after_settling_within drivers left (moved drivers c p q) ≡ after_settling_within drivers moves c
+  pub sound : IsSound drivers (after_move_between drivers c p q)
+  pub comes_to : after_settling_within drivers left (after_move_between drivers c p q)
+      ≡ after_settling_within drivers moves c
 
 -- nowhere, or to a full place
 abbrev pub IsClosed : Configuration → Option Place → Type 0

@@ -41,7 +41,7 @@ free_stream c process fd = do
   above ← refuse Below (is_below c.links s)
   Ok s
 
--- the same, where its device has not hung up
+-- the stream of the process's descriptor, where it is not linked below and its device has not hung up
 abbrev pub live_stream : Configuration → ℕ → ℕ → Result StreamId Fault
 live_stream c process fd = do
   s ← free_stream c process fd
@@ -63,7 +63,7 @@ leaf_stream drivers c name minor = do
   there ← refuse NoMinor (not (exists drivers c (record { driver = n; minor = minor })))
   Ok (record { driver = n; minor = minor })
 
--- the same, where its device has not hung up
+-- the stream of a leaf driver and its minor, where it exists and its device has not hung up
 abbrev pub live_leaf : List DriverSpec → Configuration → List ℕ → ℕ → Result StreamId Fault
 live_leaf drivers c name minor = do
   s ← leaf_stream drivers c name minor

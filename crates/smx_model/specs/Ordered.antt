@@ -1,20 +1,24 @@
 -- Lists that are kept in a given order.
 use Rattle.std.specs.Prelude.{◌≡◌, ℕ, Bool, true, nat_lt, if◌then◌else◌, List, [], ◌∷◌}
+use Rattle.std.specs.List.{AllByRecursion}
 
 -- with one more element, just before the first that comes after it
 abbrev pub with_inserted : {X : Type 0} → (X → X → Bool) → List X → X → List X
 with_inserted before [] x = x ∷ []
 with_inserted before (y ∷ ys) x = if before x y then x ∷ y ∷ ys else y ∷ with_inserted before ys x
 
+-- each element is related so to all that stand behind it
+abbrev pub AllLater : {X : Type 0} → (X → X → Type 0) → List X → Type 0
+AllLater R [] = Unit {0}
+AllLater R (x ∷ xs) = AllByRecursion (R x) xs × AllLater R xs
+
 -- it comes before each of them
 abbrev pub ComesBefore : {X : Type 0} → (X → X → Bool) → X → List X → Type 0
-ComesBefore before x [] = Unit {0}
-ComesBefore before x (y ∷ ys) = (before x y ≡ true) × ComesBefore before x ys
+ComesBefore before x xs = AllByRecursion (λ y. before x y ≡ true) xs
 
 -- each comes before all that stand behind it, so no two are the same
 abbrev pub IsRising : {X : Type 0} → (X → X → Bool) → List X → Type 0
-IsRising before [] = Unit {0}
-IsRising before (x ∷ xs) = ComesBefore before x xs × IsRising before xs
+IsRising before xs = AllLater (λ x y. before x y ≡ true) xs
 
 -- the same numbers, rising
 abbrev pub in_rising_order : List ℕ → List ℕ

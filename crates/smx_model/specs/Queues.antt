@@ -35,7 +35,8 @@ is_full c p = list_any (same_place p) c.fulls
 abbrev pub full_after_arrival : Bool → ℕ → ℕ → Bool
 full_after_arrival was high bytes = was || nat_le high bytes
 
--- after a leaving it is full if it was and still has more bytes than its low water mark (the same)
+-- after a leaving it is full if it was and still has more bytes than its low water mark (STREAMS guide, flow control;
+-- the exact reading is this project's own)
 abbrev pub full_after_leaving : Bool → ℕ → ℕ → Bool
 full_after_leaving was low bytes = was && nat_lt low bytes
 

@@ -48,9 +48,9 @@ AreMarked drivers c run wanted = (p : Place) → run p ≡ false → is_waiting 
 abbrev pub nowhere : Place → Bool
 nowhere p = false
 
--- these places and those
-abbrev pub both : (Place → Bool) → (Place → Bool) → Place → Bool
-both these those p = these p || those p
+-- one of these places, or of those
+abbrev pub either : (Place → Bool) → (Place → Bool) → Place → Bool
+either these those p = these p || those p
 
 -- these places but for one
 abbrev pub all_but : (Place → Bool) → Place → Place → Bool
@@ -68,7 +68,7 @@ is_freed old new p = is_full old p && not (is_full new p)
 abbrev pub wanted_after : Configuration → Configuration → (Place → Bool) → Place → Bool
 wanted_after old new wanted p = wanted p && not (is_freed old new p)
 
--- the same, or nowhere
+-- the next place is the one that it was, or there is none
 abbrev pub Stays : Option Place → Option Place → Type 0
 Stays was now = (now ≡ was) ⊎ (now ≡ None)
 
@@ -79,7 +79,7 @@ TurnsOnly drivers old new turned =
 
 -- what a change wakes: the places that it turned, and those that feed a wanted place that it freed
 abbrev pub woken_by : List DriverSpec → Configuration → Configuration → (Place → Bool) → (Place → Bool) → Place → Bool
-woken_by drivers old new wanted turned = both turned (feeds drivers new (λ q. is_freed old new q && wanted q))
+woken_by drivers old new wanted turned = either turned (feeds drivers new (λ q. is_freed old new q && wanted q))
 
 -- an arrival at this place gives it a first message
 abbrev pub is_first_at : Configuration → Place → Place → Bool

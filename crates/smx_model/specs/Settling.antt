@@ -11,7 +11,7 @@ use Rattle.smx_types.specs.declared.stream.Place.{Place}
 use Rattle.smx_types.specs.declared.stream.Side.{Side}
 use Rattle.smx_types.specs.declared.stream.Side.TheVariants as side
 use Rattle.smx_types.specs.declared.stream.StreamId.{StreamId}
-use Rattle.smx_model.specs.Configuration.{Configuration, same_stream}
+use Rattle.smx_model.specs.Configuration.{Configuration, read_side, same_stream, write_side}
 use Rattle.smx_model.specs.DriverList.{is_mux}
 use Rattle.smx_model.specs.Hangups.{is_hung}
 use Rattle.smx_model.specs.Queues.{is_full, first_message, after_arrival, after_leaving}
@@ -24,7 +24,7 @@ None >>= f = None
 
 -- the write side of a stream, unless its device has hung up
 abbrev pub live_write_side : List StreamId → StreamId → Option Place
-live_write_side hungs s = if is_hung hungs s then None else Some (record { stream = s; side = side.Write })
+live_write_side hungs s = if is_hung hungs s then None else Some (write_side s)
 
 -- down by the driver's route for the address: to the lower stream of the link that the route names
 abbrev pub place_below : List Link → List Route → List StreamId → ℕ → ℕ → Option Place
@@ -38,7 +38,7 @@ abbrev pub place_above : List Link → List Binding → StreamId → ℕ → Opt
 place_above links binds s addr = do
   l ← find (λ l. same_stream l.lower s) links
   b ← find (λ b. (b.driver == l.ctl.driver) && (b.addr == addr)) binds
-  Some (record { stream = record { driver = b.driver; minor = b.minor }; side = side.Read })
+  Some (read_side (record { driver = b.driver; minor = b.minor }))
 
 -- the next place for a message of this address: from a multiplexer's write side down, from a read side up (the
 -- STREAMS guide's internet driver, in kind)
@@ -60,7 +60,7 @@ next_open_place drivers c p = do
 abbrev pub is_movable : List DriverSpec → Configuration → Place → Bool
 is_movable drivers c p = is_some (next_open_place drivers c p)
 
--- the least movable place, which is the first of the flow, for its places rise
+-- the first movable place of the flow, which is the least, since its places rise
 abbrev pub least_movable : List DriverSpec → Configuration → Option Place
 least_movable drivers c = option_map (λ h. h.place) (find (λ h. is_movable drivers c h.place) c.flow)
 

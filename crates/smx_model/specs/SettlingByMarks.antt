@@ -4,7 +4,7 @@ use Rattle.smx_types.specs.declared.driver.DriverSpec.{DriverSpec}
 use Rattle.smx_types.specs.declared.stream.Place.{Place}
 use Rattle.smx_model.specs.Configuration.{Configuration, place_before, same_place}
 use Rattle.smx_model.specs.Queues.{after_leaving, first_message, is_full}
-use Rattle.smx_model.specs.RunMarks.{AreMarked, all_but, both, is_first_at, is_next_of_first, next_of_first}
+use Rattle.smx_model.specs.RunMarks.{AreMarked, all_but, either, is_first_at, is_next_of_first, next_of_first}
 use Rattle.smx_model.specs.RunMarks.{nowhere, wanted_after, woken_by}
 use Rattle.smx_model.specs.Settling.{after_move, is_movable, least_movable, next_open_place}
 
@@ -49,7 +49,7 @@ pub record IsLeastMarked (run : Place → Bool) (p : Place) : Type 0 where
 pub record IsMarkedAfter (drivers : List DriverSpec) (turned : Place → Bool) (old new : MarkedConfiguration)
     : Type 0 where
   pub run : (p : Place) → first_message new.configuration.flow p ≢ None
-      → both old.run (woken_by drivers old.configuration new.configuration old.wanted turned) p ≡ true
+      → either old.run (woken_by drivers old.configuration new.configuration old.wanted turned) p ≡ true
       → new.run p ≡ true
   pub wanted : (p : Place) → wanted_after old.configuration new.configuration old.wanted p ≡ true
       → new.wanted p ≡ true
@@ -61,7 +61,7 @@ is_first_there drivers c p (Some q) = is_first_at (after_leaving drivers c p) q
 
 -- what a move turns: the place that it takes from, and the place that it goes to, if that was empty
 abbrev pub turned_by_move : List DriverSpec → Configuration → Place → Place → Bool
-turned_by_move drivers c p = both (same_place p) (is_first_there drivers c p (next_open_place drivers c p))
+turned_by_move drivers c p = either (same_place p) (is_first_there drivers c p (next_open_place drivers c p))
 
 -- the least marked place is movable: its first message moves on, and what that wakes is marked
 pub record IsMovedOn (drivers : List DriverSpec) (p : Place) (old new : MarkedConfiguration) : Type 0 where
@@ -76,7 +76,7 @@ pub record IsCleared (drivers : List DriverSpec) (p : Place) (old new : MarkedCo
   pub waits : is_movable drivers old.configuration p ≡ false
   pub same : new.configuration ≡ old.configuration
   pub run : (q : Place) → new.run q ≡ all_but old.run p q
-  pub wanted : (q : Place) → both old.wanted (is_next_of_first drivers old.configuration p) q ≡ true
+  pub wanted : (q : Place) → either old.wanted (is_next_of_first drivers old.configuration p) q ≡ true
       → new.wanted q ≡ true
 
 -- settling by marks from one to another, by moves from these places in this order: as long as a place has a run mark,

@@ -5,19 +5,10 @@ use Rattle.smx_types.specs.declared.command.Command.TheVariants as command
 use Rattle.smx_types.specs.declared.driver.DriverSpec.{DriverSpec}
 use Rattle.smx_types.specs.declared.reply.Fault.{Fault}
 use Rattle.smx_types.specs.declared.stream.Place.{Place}
-use Rattle.smx_types.specs.declared.stream.Side.TheVariants as side
 use Rattle.smx_types.specs.declared.stream.StreamId.{StreamId}
-use Rattle.smx_model.specs.Configuration.{Configuration, same_place}
+use Rattle.smx_model.specs.Configuration.{Configuration, read_side, same_place, write_side}
 use Rattle.smx_model.specs.Lookups.{stream_of, free_stream, live_stream, mux_stream, live_leaf}
 use Rattle.smx_model.specs.RunMarks.{nowhere, is_first_at, asks_up, asks_down}
-
--- the write side of a stream
-abbrev pub write_side : StreamId → Place
-write_side s = record { stream = s; side = side.Write }
-
--- its read side
-abbrev pub read_side : StreamId → Place
-read_side s = record { stream = s; side = side.Read }
 
 -- places by the stream that is named, or none
 abbrev pub of_stream : Result StreamId Fault → (StreamId → Place → Bool) → Place → Bool

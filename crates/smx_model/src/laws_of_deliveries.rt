@@ -1,16 +1,15 @@
 //! Laws of what messages carry, each the contract of a function that does nothing.
 
-ghost use Rattle.std.specs.Prelude.{◌≡◌, ◌⊎◌, ℕ, List, ◌∷◌, ◌++◌};
-ghost use Rattle.std.specs.List.{All, Contains};
+ghost use Rattle.std.specs.Prelude.{◌≡◌, ℕ, List, ◌∷◌, ◌++◌};
+ghost use Rattle.std.specs.List.{All};
 ghost use Rattle.std.specs.List.Sorted.{IsPermutation};
 ghost use Rattle.smx_types.specs.declared.command.Command.{Command};
-ghost use Rattle.smx_types.specs.declared.command.Command.TheVariants as command;
 ghost use Rattle.smx_types.specs.declared.command.Entry.{Entry};
 ghost use Rattle.smx_types.specs.declared.driver.DriverSpec.{DriverSpec};
 ghost use Rattle.smx_types.specs.declared.reply.Reply.TheVariants as reply;
 ghost use Rattle.smx_model.specs.Commands.{step};
 ghost use Rattle.smx_model.specs.Histories.{after, IsLegal};
-ghost use Rattle.smx_model.specs.LawfulHistories.{delivered_by, dropped_by, taken_by};
+ghost use Rattle.smx_model.specs.LawfulHistories.{delivered_by, dropped_by, taken_by, IsTakenIn};
 ghost use Rattle.smx_model.specs.Removal.{serials};
 
 /// A message arrives whole: what is delivered has the serial, the address and the bytes of an earlier entry, which
@@ -19,14 +18,9 @@ pub fn messages_arrive_whole()
     ensures delivered { (drivers : List DriverSpec) (early late : List Entry) (e : Entry) (serial addr : ℕ)
         (bytes : List ℕ)
         → IsLegal drivers (early ++ e ∷ late) → e.reply ≡ reply.Got serial addr bytes
-        → (took : Entry) × Contains early took × (took.reply ≡ reply.Took serial)
-        × (((fd : ℕ) × (took.command ≡ command.Write fd addr bytes))
-        ⊎ ((name : List ℕ) × (minor : ℕ) × (took.command ≡ command.Inject name minor addr bytes))) }
+        → IsTakenIn early (record { serial = serial; addr = addr; bytes = bytes }) }
     ensures queued { (drivers : List DriverSpec) (history : List Entry) → IsLegal drivers history
-        → All (λ h. (took : Entry) × Contains history took × (took.reply ≡ reply.Took h.message.serial)
-        × (((fd : ℕ) × (took.command ≡ command.Write fd h.message.addr h.message.bytes))
-        ⊎ ((name : List ℕ) × (minor : ℕ) × (took.command ≡ command.Inject name minor h.message.addr h.message.bytes))))
-        (after drivers history).flow }
+        → All (λ h. IsTakenIn history h.message) (after drivers history).flow }
 {}
 
 /// A message goes only by a reply that names it: after any commands each message that is queued, or that the next one

@@ -6,9 +6,9 @@ ghost use Rattle.smx_types.specs.declared.message.Message.{Message};
 ghost use Rattle.smx_types.specs.declared.stream.Place.{Place};
 ghost use Rattle.smx_model.specs.Configuration.{Configuration, same_place};
 ghost use Rattle.smx_model.specs.KeptConfigurations.{IsSound};
-ghost use Rattle.smx_model.specs.LoneMessages.{IsAlone, IsUnderWay, StaysAt, moved};
+ghost use Rattle.smx_model.specs.LoneMessages.{IsAlone, IsUnderWay, StaysAt, after_move_between};
 ghost use Rattle.smx_model.specs.Queues.{first_message, is_full};
-ghost use Rattle.smx_model.specs.RunMarks.{AreMarked, both, is_one_of, next_of_first, nowhere};
+ghost use Rattle.smx_model.specs.RunMarks.{AreMarked, either, is_one_of, next_of_first, nowhere};
 ghost use Rattle.smx_model.specs.Settling.{IsSettled, after_settling_within, least_movable};
 ghost use Rattle.smx_model.specs.Settling.{next_open_place, next_place};
 
@@ -34,11 +34,12 @@ pub fn lone_messages_come_to_rest()
     ensures settled { (drivers : List DriverSpec) (c : Configuration) (run wanted : Place → Bool) (p q : Place)
         (m : Message) (moves left : ℕ) (waits : Option Place) → IsSound drivers c → IsAlone drivers c run wanted p
         → first_message c.flow p ≡ Some m → IsUnderWay drivers c moves p q left → StaysAt drivers c q m waits
-        → moved drivers c p q ≡ after_settling_within drivers moves c }
+        → after_move_between drivers c p q ≡ after_settling_within drivers moves c }
     ensures marked { (drivers : List DriverSpec) (c : Configuration) (run wanted : Place → Bool) (p q : Place)
         (m : Message) (moves left : ℕ) (waits : Option Place) → IsSound drivers c → IsAlone drivers c run wanted p
         → first_message c.flow p ≡ Some m → IsUnderWay drivers c moves p q left → StaysAt drivers c q m waits
-        → AreMarked drivers (moved drivers c p q) nowhere (both wanted (λ r. is_one_of (same_place r) waits)) }
+        → AreMarked drivers (after_move_between drivers c p q) nowhere
+        (either wanted (λ r. is_one_of (same_place r) waits)) }
 {}
 
 /// But for the two ends of its way, each place has the first message that it had; full places stay full. The place that
@@ -49,15 +50,15 @@ pub fn lone_messages_change_two()
     ensures left { (drivers : List DriverSpec) (c : Configuration) (run wanted : Place → Bool) (p q : Place)
         (m : Message) → IsSound drivers c → IsAlone drivers c run wanted p → first_message c.flow p ≡ Some m
         → same_place p q ≡ false
-        → next_of_first drivers (moved drivers c p q) p ≡ None }
+        → next_of_first drivers (after_move_between drivers c p q) p ≡ None }
     ensures first { (drivers : List DriverSpec) (c : Configuration) (p q : Place) (m : Message)
         → IsSound drivers c → first_message c.flow p ≡ Some m → same_place p q ≡ false → first_message c.flow q ≡ None
-        → next_of_first drivers (moved drivers c p q) q ≡ next_place drivers c q m.addr }
+        → next_of_first drivers (after_move_between drivers c p q) q ≡ next_place drivers c q m.addr }
     ensures others { (drivers : List DriverSpec) (c : Configuration) (p q r : Place) (m : Message)
         → IsSound drivers c → first_message c.flow p ≡ Some m → same_place p r ≡ false
         → (same_place q r ≡ true → first_message c.flow q ≢ None)
-        → next_of_first drivers (moved drivers c p q) r ≡ next_of_first drivers c r }
+        → next_of_first drivers (after_move_between drivers c p q) r ≡ next_of_first drivers c r }
     ensures full { (drivers : List DriverSpec) (c : Configuration) (run wanted : Place → Bool) (p q r : Place)
         (m : Message) → IsAlone drivers c run wanted p → first_message c.flow p ≡ Some m → is_full c r ≡ true
-        → is_full (moved drivers c p q) r ≡ true }
+        → is_full (after_move_between drivers c p q) r ≡ true }
 {}

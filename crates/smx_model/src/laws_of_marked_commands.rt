@@ -8,7 +8,7 @@ ghost use Rattle.smx_model.specs.Commands.{outcome, step};
 ghost use Rattle.smx_model.specs.Configuration.{Configuration, empty};
 ghost use Rattle.smx_model.specs.FreedPlaces.{FreesOnly, freed_by};
 ghost use Rattle.smx_model.specs.KeptConfigurations.{IsKept, IsSound};
-ghost use Rattle.smx_model.specs.RunMarks.{both, feeds, is_freed, nowhere};
+ghost use Rattle.smx_model.specs.RunMarks.{either, feeds, is_freed, nowhere};
 ghost use Rattle.smx_model.specs.Settling.{is_movable};
 ghost use Rattle.smx_model.specs.SettlingByMarks.{HasItsMarks, IsAtRest, IsMarkedAfter, MarkedConfiguration};
 ghost use Rattle.smx_model.specs.SettlingByMarks.{SettlesByMarks};
@@ -25,7 +25,7 @@ pub fn empty_needs_no_mark()
 pub fn few_become_movable()
     ensures { (drivers : List DriverSpec) (c : Configuration) (process : ℕ) (command : Command) (p : Place)
         → IsKept drivers c → IfOk (outcome drivers c process command) (λ x. is_movable drivers x.0 p ≡ true
-        → both (turned_by drivers c process command) (feeds drivers x.0 (is_freed c x.0)) p ≡ true) }
+        → either (turned_by drivers c process command) (feeds drivers x.0 (is_freed c x.0)) p ≡ true) }
 {}
 
 /// Which places an accepted command frees.

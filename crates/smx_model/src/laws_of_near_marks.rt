@@ -7,7 +7,7 @@ ghost use Rattle.smx_model.specs.Configuration.{Configuration, empty, same_place
 ghost use Rattle.smx_model.specs.FreedPlaces.{FreesOnly};
 ghost use Rattle.smx_model.specs.KeptConfigurations.{IsSound};
 ghost use Rattle.smx_model.specs.NearMarks.{AreAwaitedKnown, IsMarkedNear, awaits};
-ghost use Rattle.smx_model.specs.RunMarks.{TurnsOnly, both, can_feed, is_freed, is_one_of, next_of_first, nowhere};
+ghost use Rattle.smx_model.specs.RunMarks.{TurnsOnly, either, can_feed, is_freed, is_one_of, next_of_first, nowhere};
 ghost use Rattle.smx_model.specs.RunMarks.{wanted_after};
 ghost use Rattle.smx_model.specs.SettlingByMarks.{IsCleared, IsMarkedAfter, MarkedConfiguration};
 
@@ -50,7 +50,7 @@ pub fn few_marks_are_asked_for()
     ensures { (turned freed : Place → Bool) (awaited : Place → Option Place) (old : MarkedConfiguration)
         (c : Configuration) → IsMarkedNear turned freed (awaits awaited) old (record {
           configuration = c;
-          run = both old.run (both turned (λ p.
+          run = either old.run (either turned (λ p.
               is_one_of (λ q. freed q && (is_freed old.configuration c q && old.wanted q)) (awaited p)));
           wanted = wanted_after old.configuration c old.wanted;
         }) }

@@ -10,7 +10,7 @@ ghost use Rattle.smx_model.specs.FlowOrder.{IsInOrder};
 ghost use Rattle.smx_model.specs.KeptConfigurations.{IsSound};
 ghost use Rattle.smx_model.specs.KnownStreams.{IsKnown};
 ghost use Rattle.smx_model.specs.Queues.{after_leaving, first_message, is_full};
-ghost use Rattle.smx_model.specs.RunMarks.{AreMarked, TurnsOnly, all_but, both, can_feed, feeds};
+ghost use Rattle.smx_model.specs.RunMarks.{AreMarked, TurnsOnly, all_but, either, can_feed, feeds};
 ghost use Rattle.smx_model.specs.RunMarks.{is_first_at, is_freed, is_next_of_first, next_of_first};
 ghost use Rattle.smx_model.specs.RunMarks.{wanted_after, woken_by};
 ghost use Rattle.smx_model.specs.Settling.{after_move, is_movable, least_movable, next_open_place, IsSettled};
@@ -50,7 +50,7 @@ pub fn the_least_marked_is_the_least()
 pub fn a_mark_is_cleared()
     ensures { (drivers : List DriverSpec) (c : Configuration) (run wanted : Place → Bool) (p : Place)
         → AreMarked drivers c run wanted → is_movable drivers c p ≡ false
-        → AreMarked drivers c (all_but run p) (both wanted (is_next_of_first drivers c p)) }
+        → AreMarked drivers c (all_but run p) (either wanted (is_next_of_first drivers c p)) }
 {}
 
 /// There may be more marks. Run marks matter only where there is a message.
@@ -66,7 +66,7 @@ pub fn more_marks_do()
 pub fn a_change_wakes_few()
     ensures { (drivers : List DriverSpec) (old new : Configuration) (run wanted turned : Place → Bool)
         → AreMarked drivers old run wanted → TurnsOnly drivers old new turned
-        → AreMarked drivers new (both run (woken_by drivers old new wanted turned))
+        → AreMarked drivers new (either run (woken_by drivers old new wanted turned))
         (wanted_after old new wanted) }
 {}
 
@@ -82,7 +82,7 @@ pub fn moves_turn_two()
     ensures { (drivers : List DriverSpec) (c : Configuration) (p q : Place) → IsInOrder c.flow
         → next_open_place drivers c p ≡ Some q
         → TurnsOnly drivers c (after_move drivers c p)
-        (both (same_place p) (is_first_at (after_leaving drivers c p) q)) }
+        (either (same_place p) (is_first_at (after_leaving drivers c p) q)) }
 {}
 
 /// A move frees no other place than the one that it takes from.

@@ -7,7 +7,7 @@ ghost use Rattle.smx_types.specs.declared.stream.Place.{Place};
 ghost use Rattle.smx_model.specs.Configuration.{Configuration, same_place};
 ghost use Rattle.smx_model.specs.FlowOrder.{IsInOrder};
 ghost use Rattle.smx_model.specs.KeptConfigurations.{IsSound};
-ghost use Rattle.smx_model.specs.RunMarks.{AreMarked, all_but, both, is_next_of_first, wanted_after, woken_by};
+ghost use Rattle.smx_model.specs.RunMarks.{AreMarked, all_but, either, is_next_of_first, wanted_after, woken_by};
 ghost use Rattle.smx_model.specs.Settling.{after_move, after_settling, after_settling_within};
 ghost use Rattle.smx_model.specs.Settling.{is_movable, least_movable};
 ghost use Rattle.smx_model.specs.SettlingByMarks.{moves_of_settling, turned_by_move};
@@ -80,7 +80,7 @@ pub fn the_least_marks_do()
     ensures moved { (drivers : List DriverSpec) (p : Place) (m : MarkedConfiguration) → IsLeastMarked m.run p
         → is_movable drivers m.configuration p ≡ true → IsMovedOn drivers p m (record {
           configuration = after_move drivers m.configuration p;
-          run = both m.run (woken_by drivers m.configuration (after_move drivers m.configuration p) m.wanted
+          run = either m.run (woken_by drivers m.configuration (after_move drivers m.configuration p) m.wanted
               (turned_by_move drivers m.configuration p));
           wanted = wanted_after m.configuration (after_move drivers m.configuration p) m.wanted;
         }) }
@@ -88,7 +88,7 @@ pub fn the_least_marks_do()
         → is_movable drivers m.configuration p ≡ false → IsCleared drivers p m (record {
           configuration = m.configuration;
           run = all_but m.run p;
-          wanted = both m.wanted (is_next_of_first drivers m.configuration p);
+          wanted = either m.wanted (is_next_of_first drivers m.configuration p);
         }) }
 {}
 

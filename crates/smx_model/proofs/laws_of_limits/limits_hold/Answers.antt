@@ -1,4 +1,4 @@
-use Rattle.smx_model.proofs.EachLemmas.{all_of_each}
+use Rattle.std.proofs.lemmas.List.Elements.{All-from_recursion}
 use Rattle.smx_model.proofs.LimitLemmas.{always_few, always_within}
 use Rattle.smx_model.proofs.laws_of_limits.limits_hold.Goals as goal
 
@@ -9,7 +9,7 @@ pub returns-clause-descriptors : goal.returns-clause-descriptors
 returns-clause-descriptors c = always_few
 
 pub returns-clause-numbers : goal.returns-clause-numbers
-returns-clause-numbers c = λ drivers history. all_of_each _ _ (always_within drivers history).numbers
+returns-clause-numbers c = λ drivers history. All-from_recursion _ _ (always_within drivers history).numbers
 
 pub returns-clause-ids : goal.returns-clause-ids
 returns-clause-ids c = λ drivers history. (always_within drivers history).ids

@@ -1,4 +1,5 @@
-use Rattle.smx_model.proofs.LoneMessageLemmas.{apart_by_links, first_next, full_stays, left_next, other_next}
+use Rattle.smx_model.proofs.LoneMessageLemmas.{apart_by_links}
+use Rattle.smx_model.proofs.MoveBetweenLemmas.{first_next, full_stays, left_next, other_next}
 use Rattle.smx_model.proofs.laws_of_lone_messages.lone_messages_change_two.Goals as goal
 
 pub returns : goal.returns

@@ -1,4 +1,4 @@
-use Rattle.smx_model.proofs.MarkLemmas.{free_has_less, full_has_more}
+use Rattle.smx_model.proofs.WaterMarkLemmas.{free_has_less, full_has_more}
 use Rattle.smx_model.proofs.laws_of_marks.marks_bound_the_bytes.Goals as goal
 
 pub returns-clause-full : goal.returns-clause-full

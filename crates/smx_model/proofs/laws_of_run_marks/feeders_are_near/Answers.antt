@@ -1,5 +1,5 @@
 use Rattle.smx_model.proofs.TurningCommandLemmas.{keyed}
-use Rattle.smx_model.proofs.TurningLemmas.{feeders}
+use Rattle.smx_model.proofs.FeederLemmas.{feeders}
 use Rattle.smx_model.proofs.laws_of_run_marks.feeders_are_near.Goals as goal
 
 pub returns : goal.returns

@@ -2,10 +2,12 @@
 use Rattle.std.proofs.Common.{◌≡◌, ℕ, zero, suc, ◌<◌, ◌≤◌, Bool, true, false, ◌&&◌, ◌||◌, not, cond, leb, ltb, arith}
 use Rattle.std.proofs.Common.{List, [], ◌∷◌, drop, length, filter, Result, Ok, Err, refl, rules}
 use Rattle.std.proofs.Common.{sym, ap, ◌∙◌, subst, inl, inr}
-use Rattle.std.specs.List.{list_any, sum_by}
+use Rattle.std.specs.List.{list_any}
 use Rattle.std.proofs.lemmas.Bool.{and_cases, and_parts, cases_Bool, false≢true, leb-false, leb-true, ltb-false}
 use Rattle.std.proofs.lemmas.Bool.{ltb-true, or_cases, or_parts}
 use Rattle.std.proofs.lemmas.List.Sums.{sum_by-cons}
+use Rattle.std.specs.List.{AllByRecursion}
+use Rattle.std.proofs.lemmas.List.Elements.{recursion_from_All}
 use Rattle.smx_types.specs.Drivers.{spec_check}
 use Rattle.smx_types.specs.declared.command.Command.{Command}
 use Rattle.smx_types.specs.declared.command.Entry.{Entry}
@@ -22,12 +24,11 @@ use Rattle.smx_model.specs.DriverList.{high_of, IsDriverList, low_of}
 use Rattle.smx_model.specs.Histories.{after, after_from}
 use Rattle.smx_model.specs.KnownStreams.{IsKnown}
 use Rattle.smx_model.specs.Ordered.{with_inserted, without_first}
-use Rattle.smx_model.specs.Queues.{after_arrival, after_leaving, bytes_at, is_full, queue}
+use Rattle.smx_model.specs.Queues.{after_arrival, after_leaving, bytes_at, bytes_of, is_full, queue}
 use Rattle.smx_model.specs.Removal.{without_links, without_queues_at}
 use Rattle.smx_model.proofs.SettledLemmas.{MovesKeep, after_by, moved_by}
-use Rattle.smx_model.proofs.EachLemmas.{Each, each_of_all}
 use Rattle.smx_model.proofs.KeptLemmas.{always_is_kept}
-use Rattle.smx_model.proofs.OrderLemmas.{same_self}
+use Rattle.smx_model.proofs.OrderLemmas.{queue_elsewhere, same_self}
 use Rattle.smx_model.proofs.AcceptedLemmas.{of_rows}
 use Rattle.smx_model.proofs.OutcomeLemmas.{IfAccepted}
 use Rattle.smx_model.proofs.QueueLemmas.{emptied_full, emptied_queue, left_queue, marked_full}
@@ -35,9 +36,7 @@ use Rattle.smx_model.proofs.SettlingLemmas.{same_place_is}
 
 -- bytes of a place, as messages come and go
 
-abbrev total : List Message → ℕ
-total ms = sum_by (λ m. length m.bytes) ms
-
+-- no place has fewer bytes after an arrival
 more_arrive : (flow : List QueuedMessage) (h : QueuedMessage) (p : Place)
     → bytes_at flow p ≤ bytes_at (with_inserted queued_before flow h) p
 more_arrive [] h p = elim (cases_Bool (is_at p h)) [ inl t ↦ rw t (omega arith) | inr f ↦ rw f (omega arith) ]
@@ -60,36 +59,23 @@ more_arrive (k ∷ ks) h p = elim (cases_Bool (queued_before h k)) [
   ])
 ]
 
--- elsewhere the bytes stay
-same_elsewhere : (flow : List QueuedMessage) (h : QueuedMessage) (p : Place) → is_at p h ≡ false
-    → queue (with_inserted queued_before flow h) p ≡ queue flow p
-same_elsewhere [] h p e = rw e refl
-same_elsewhere (k ∷ ks) h p e = elim (cases_Bool (queued_before h k)) [
-  | inl b ↦ rw (b, e) refl
-  | inr b ↦
-      rw b (elim (cases_Bool (is_at p k)) [
-        | inl t ↦ rw t (ap (λ (ms : List Message). k.message ∷ ms) (same_elsewhere ks h p e))
-        | inr f ↦
-            rw f (same_elsewhere ks h p e)
-      ])
-]
-
-fewer_left : (ms : List Message) → total (drop 1 ms) ≤ total ms
+-- messages have no more bytes without the first of them
+fewer_left : (ms : List Message) → bytes_of (drop 1 ms) ≤ bytes_of ms
 fewer_left [] = omega arith
 fewer_left (m ∷ ms) = omega (arith, sum_by-cons (λ m. length m.bytes) m ms)
 
 -- the marks of one place
 
--- a full place has more bytes than the low mark, and one that isn't fewer than the high one
+-- a place keeps to its water marks: full it has more bytes than the low one, and else fewer than the high one
 pub record IsMarked (drivers : List DriverSpec) (p : Place) (c : Configuration) : Type 0 where
   pub full : is_full c p ≡ true → low_of drivers p.stream.driver < bytes_at c.flow p
   pub free : is_full c p ≡ false → bytes_at c.flow p < high_of drivers p.stream.driver
 
--- the driver's low mark is below its high one
+-- the low water mark of a place's driver is below its high one
 record IsApart (drivers : List DriverSpec) (p : Place) : Type 0 where
   lt : low_of drivers p.stream.driver < high_of drivers p.stream.driver
 
--- its messages and its mark as they were
+-- a place keeps to its water marks where its messages are the same, and whether it is full
 marked_alike : (drivers : List DriverSpec) (p : Place) (c d : Configuration) → IsMarked drivers p c
     → queue d.flow p ≡ queue c.flow p → is_full d p ≡ is_full c p → IsMarked drivers p d
 marked_alike drivers p c d h q m = record {
@@ -97,12 +83,13 @@ marked_alike drivers p c d h q m = record {
   free = λ e. rw q (h.free (sym m ∙ e));
 }
 
+-- a place keeps to its water marks where the flow and the full places are the same
 marked_same : (drivers : List DriverSpec) (p : Place) (c d : Configuration) → IsMarked drivers p c → d.flow ≡ c.flow
     → d.fulls ≡ c.fulls → IsMarked drivers p d
 marked_same drivers p c d h e f = marked_alike drivers p c d h (ap (λ (hs : List QueuedMessage). queue hs p) e)
     (ap (λ (ps : List Place). list_any (same_place p) ps) f)
 
--- some places are emptied
+-- a place keeps to its water marks where some places are emptied and nothing else of the queues changes
 marked_emptied : (drivers : List DriverSpec) (p : Place) (c d : Configuration) (goes : Place → Bool) → IsApart drivers p
     → IsMarked drivers p c
     → d.flow ≡ filter (λ h. not (goes h.place)) c.flow → d.fulls ≡ filter (λ p. not (goes p)) c.fulls
@@ -124,27 +111,31 @@ marked_emptied drivers p c d goes a h e f = by (goes p) refl where
       let mark : is_full d p ≡ is_full c p = rw g at marks in
       marked_alike drivers p c d h same mark
 
+-- a place keeps to its water marks when links are removed
 marked_removed : (drivers : List DriverSpec) (p : Place) (c : Configuration) (goes : Link → Bool) → IsApart drivers p
     → IsMarked drivers p c → IsMarked drivers p (without_links c goes)
 marked_removed drivers p c goes a h = marked_emptied drivers p c (without_links c goes) _ a h refl refl
 
+-- a place that keeps to its water marks does so after the sweep
 marked_done : (drivers : List DriverSpec) (p : Place) (c d : Configuration) → IsApart drivers p → IsMarked drivers p d
     → IfAccepted (λ d r. IsMarked drivers p d) (done_outcome drivers c d)
 marked_done drivers p c d a h =
     record { holds = marked_emptied drivers p (without_links d _) _ _ a (marked_removed drivers p d _ a h) refl refl }
 
+-- a place keeps to its water marks after a sweep of the same flow and the same full places
 marked_like : (drivers : List DriverSpec) (p : Place) (c d : Configuration) → IsApart drivers p → IsMarked drivers p c
     → d.flow ≡ c.flow → d.fulls ≡ c.fulls → IfAccepted (λ d r. IsMarked drivers p d) (done_outcome drivers c d)
 marked_like drivers p c d a h e f = marked_done drivers p c d a (marked_same drivers p c d h e f)
 
 -- a message arrives or leaves
 
+-- a place keeps to its water marks when a message arrives somewhere
 marked_arrived : (drivers : List DriverSpec) (p : Place) (c : Configuration) (q : Place) (m : Message)
     → IsApart drivers p → IsMarked drivers p c → IsMarked drivers p (after_arrival drivers c q m)
 marked_arrived drivers p c q m a h = elim (cases_Bool (same_place q p)) [
   | inl t ↦ subst (λ (x : Place). IsMarked drivers p (after_arrival drivers c x m)) (sym (same_place_is q p t)) here
   | inr f ↦ marked_alike drivers p c (after_arrival drivers c q m) h
-      (same_elsewhere c.flow (record { place = q; message = m }) p f) (elsewhere q f)
+      (queue_elsewhere c.flow (record { place = q; message = m }) p f) (elsewhere q f)
 ] where
   elsewhere : (q : Place) → same_place q p ≡ false → is_full (after_arrival drivers c q m) p ≡ is_full c p
   elsewhere q f = let e = marked_full q p
@@ -169,6 +160,7 @@ marked_arrived drivers p c q m a h = elim (cases_Bool (same_place q p)) [
         (or_parts (is_full c p) (leb (high_of drivers p.stream.driver) (bytes_at now p)) (sym mark ∙ t)).1;
   }
 
+-- a place keeps to its water marks when the first message of some place leaves
 marked_left : (drivers : List DriverSpec) (p : Place) (c : Configuration) (q : Place) → IsApart drivers p
     → IsMarked drivers p c → IsMarked drivers p (after_leaving drivers c q)
 marked_left drivers p c q a h = elim (cases_Bool (same_place q p)) [
@@ -206,16 +198,19 @@ marked_left drivers p c q a h = elim (cases_Bool (same_place q p)) [
 
 -- of each accepted outcome
 
+-- a place keeps to its water marks when a message is taken in under the next serial
 marked_took : (drivers : List DriverSpec) (p : Place) (c : Configuration) (q : Place) (m : Message) (n : ℕ)
     → IsApart drivers p → IsMarked drivers p c
     → IsMarked drivers p (record (after_arrival drivers c q m) { next_serial = n })
 marked_took drivers p c q m n a h = marked_same drivers p (after_arrival drivers c q m)
     (record (after_arrival drivers c q m) { next_serial = n }) (marked_arrived drivers p c q m a h) refl refl
 
+-- a place keeps to its water marks when some places are flushed
 marked_flushed : (drivers : List DriverSpec) (p : Place) (c : Configuration) (goes : Place → Bool) → IsApart drivers p
     → IsMarked drivers p c → IsMarked drivers p (without_queues_at c goes)
 marked_flushed drivers p c goes a h = marked_emptied drivers p c (without_queues_at c goes) goes a h refl refl
 
+-- a place keeps to its water marks after an accepted command
 marked_accepted : (drivers : List DriverSpec) (p : Place) (c : Configuration) (process : ℕ) (k : Command)
     → IsApart drivers p → IsMarked drivers p c → IfAccepted (λ d r. IsMarked drivers p d) (outcome drivers c process k)
 marked_accepted drivers p c process k a h = of_rows _ drivers c process k (search (
@@ -231,12 +226,14 @@ marked_accepted drivers p c process k a h = of_rows _ drivers c process k (searc
 
 -- moves, settling, histories
 
+-- a place keeps to its water marks in each move
 marked_moved : (drivers : List DriverSpec) (p : Place) → IsApart drivers p → MovesKeep (IsMarked drivers p) drivers
 marked_moved drivers p a = record {
   each = λ c q h. moved_by (IsMarked drivers p) drivers c q h
       (λ r m e. marked_arrived drivers p (after_leaving drivers c q) r m a (marked_left drivers p c q a h));
 }
 
+-- a place that keeps to its water marks does so after any further history
 marked_from : (drivers : List DriverSpec) (p : Place) (c : Configuration) (es : List Entry) → IsApart drivers p
     → IsMarked drivers p c → IsMarked drivers p (after_from drivers c es)
 marked_from drivers p c es a h = after_by (IsMarked drivers p) drivers c es (marked_moved drivers p a)
@@ -244,9 +241,11 @@ marked_from drivers p c es a h = after_by (IsMarked drivers p) drivers c es (mar
 
 -- drivers that can be had
 
+-- what is wrong with a driver first: its minors, its marks or its largest message
 abbrev first_fault : Bool → Bool → Bool → Result (Unit {0}) SpecFault
 first_fault a b c = cond a (Err BadMinors) (cond b (Err BadMarks) (cond c (Err BadMax) (Ok tt)))
 
+-- a driver that can be had has its low mark below its high one
 low_below_high : (d : DriverSpec) → spec_check d ≡ Ok tt → d.low < d.high
 low_below_high d e =
     by (ltb d.minors 1 || ltb MAX_MINORS d.minors) (ltb MAX_HIGH d.high || leb d.high d.low) refl e where
@@ -256,16 +255,18 @@ low_below_high d e =
       by false true f k = cc
       by false false f k = leb-false d.high d.low (or_parts (ltb MAX_HIGH d.high) (leb d.high d.low) f).1
 
-apart_at : (ds : List DriverSpec) (n : ℕ) → Each (λ d. spec_check d ≡ Ok tt) ds → n < length ds
+-- each driver of a list whose drivers can be had has its low mark below its high one
+apart_at : (ds : List DriverSpec) (n : ℕ) → AllByRecursion (λ d. spec_check d ≡ Ok tt) ds → n < length ds
     → low_of ds n < high_of ds n
 apart_at [] n h lt = absurd (omega (arith, lt))
 apart_at (d ∷ ds) zero h lt = low_below_high d h.0
 apart_at (d ∷ ds) (suc n) h lt = apart_at ds n h.1 (omega (arith, lt))
 
+-- after any history each place of a driver keeps to its water marks, where the drivers can be had
 always_marked : (drivers : List DriverSpec) (history : List Entry) (p : Place) → IsDriverList drivers
     → p.stream.driver < length drivers → IsMarked drivers p (after drivers history)
 always_marked drivers history p list known =
-    let lt = apart_at drivers p.stream.driver (each_of_all _ drivers list.each) known in
+    let lt = apart_at drivers p.stream.driver (recursion_from_All _ drivers list.each) known in
     marked_from drivers p empty history (record { lt = lt })
     (record { full = λ e. absurd (false≢true e); free = λ e. omega (arith, lt) })
 
@@ -275,9 +276,9 @@ pub full_has_more : (drivers : List DriverSpec) (history : List Entry) (p : Plac
     → low_of drivers p.stream.driver < bytes_at (after drivers history).flow p
 full_has_more drivers history p list
     full = (always_marked drivers history p list
-    (known (after drivers history).fulls (each_of_all _ _ (always_is_kept drivers history).sound.known.fulls)
+    (known (after drivers history).fulls (recursion_from_All _ _ (always_is_kept drivers history).sound.known.fulls)
     full)).full full where
-      known : (ps : List Place) → Each (λ q. IsKnown drivers q.stream) ps → list_any (same_place p) ps ≡ true
+      known : (ps : List Place) → AllByRecursion (λ q. IsKnown drivers q.stream) ps → list_any (same_place p) ps ≡ true
           → p.stream.driver < length drivers
       known [] h e = absurd (false≢true e)
       known (q ∷ qs) h e = elim (or_cases (same_place p q) (list_any (same_place p) qs) e) [
