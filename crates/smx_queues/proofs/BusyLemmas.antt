@@ -7,17 +7,16 @@ use Rattle.std.proofs.lemmas.List.{get_or-drop, get_or-map, get_or-set_other, ge
 use Rattle.std.proofs.lemmas.List.{drop-take, length-map, length-set, length-take, map-set, take-map, take_rest}
 use Rattle.memchr.specs.Find.{IsFirstByte, is_byte}
 use Rattle.smx_types.specs.declared.message.Message.{Message}
-use Rattle.smx_queues.specs.QueueTable.{IsPlace, Queue, QueueTable, queue_at, with_arrival, with_queue}
-use Rattle.smx_queues.specs.QueueTable.{without_front}
+use Rattle.smx_queues.specs.QueueTable.{IsPlace, Queue, QueueTable, queue_at, with_arrival, with_queue, without_front}
 use Rattle.smx_queues.specs.Slots.{IsLeastFrom, busy_byte, has_messages}
 -- a place that is there has a number below their count
 pub use Rattle.smx_queues.proofs.QueueTableLemmas.{place_below}
 
--- as the table is seen, so it is inside
+-- a place of the table that is seen is a place of the table inside
 pub place_inside : (inside seen : QueueTable) (p : ℕ) → inside ≡ seen → IsPlace seen.queues p → IsPlace inside.queues p
 place_inside inside seen p is there = subst (λ (t : QueueTable). IsPlace t.queues p) (sym is) there
 
--- the byte of a place is set anew
+-- where a place has another slot and its byte is set anew, the bytes tell again which places have messages
 pub busy_again : (old new : List (Option Queue)) (busy more : List ℕ) (p : ℕ) (q : Option Queue)
     → busy ≡ map busy_byte old → p < length old → new ≡ set old p q → more ≡ set busy p (busy_byte (get_or new p None))
     → more ≡ map busy_byte new
@@ -34,7 +33,7 @@ pub record AreMoved (old new : List (Option Queue)) (i j : ℕ) : Type 0 where
   pub second : Queue
   pub is : new ≡ set (set old i (Some first)) j (Some second)
 
--- what the queues say of a move, where there is a message
+-- where the message at the front of one place goes to another, both have other queues, and nothing else has changed
 pub moved_of : (old new : List (Option Queue)) (i j : ℕ) → 0 < length (queue_at old i).messages
     → ((m : Message) → slice_get (queue_at old i).messages 0 ≡ Some m
     → new ≡ with_queue (with_queue old i (without_front (queue_at old i))) j (with_arrival (queue_at old j) m))
@@ -49,6 +48,7 @@ moved_of old new i j some moved = let m = first_in (queue_at old i).messages som
       first_in [] some = absurd (omega arith)
       first_in (m ∷ ms) some = (m, refl)
 
+-- after a move the first place has the first of the two queues
 at_first : (old new : List (Option Queue)) (i j : ℕ) → i ≢ j → IsPlace old i → (h : AreMoved old new i j)
     → get_or new i None ≡ Some h.first
 at_first old new i j differ there h =
@@ -56,6 +56,7 @@ at_first old new i j differ there h =
     ∙ (get_or-set_other (set old i (Some h.first)) j i (Some h.second) None differ
     ∙ get_or-set_same old i (Some h.first) None (place_below old i there))
 
+-- after a move the second place has the second of the two queues
 at_second : (old new : List (Option Queue)) (i j : ℕ) → IsPlace old j → (h : AreMoved old new i j)
     → get_or new j None ≡ Some h.second
 at_second old new i j there h =
@@ -84,6 +85,7 @@ busy_moved old new busy mid more i j differ from to is h mid_is more_is =
 
 -- ---- the least number that is busy
 
+-- at each number, also past the end, the byte is that of the slot there
 byte_is : (queues : List (Option Queue)) (busy : List ℕ) (k : ℕ) → busy ≡ map busy_byte queues
     → get_or busy k 0 ≡ busy_byte (get_or queues k None)
 byte_is queues busy k is = elim (cases_lt k (length queues)) [
@@ -92,15 +94,17 @@ byte_is queues busy k is = elim (cases_lt k (length queues)) [
       (get_or_past busy k 0 (omega (arith, past, ap length is, length-map queues busy_byte)))
 ]
 
+-- the byte of a slot is 1 exactly where the slot has messages
 is_one : (q : Option Queue) → eqb (busy_byte q) 1 ≡ has_messages q
 is_one q = elim (cases_Bool (has_messages q)) [ inl t ↦ rw t refl | inr f ↦ rw f refl ]
 
--- the byte at a number from the start on
+-- a byte from the start on is 1 exactly where the slot as far behind the start has messages
 byte_at : (queues : List (Option Queue)) (busy : List ℕ) (start k : ℕ) → busy ≡ map busy_byte queues
     → eqb (get_or (drop start busy) k 0) 1 ≡ has_messages (get_or queues (start + k) None)
 byte_at queues busy start k is = ap (λ (n : ℕ). eqb n 1)
     (get_or-drop start busy k 0 ∙ byte_is queues busy (start + k) is) ∙ is_one (get_or queues (start + k) None)
 
+-- the byte at a number that is not before the start is 1 exactly where the slot of that number has messages
 byte_before : (queues : List (Option Queue)) (busy : List ℕ) (start k : ℕ) → busy ≡ map busy_byte queues → start ≤ k
     → eqb (get_or (drop start busy) (k - start) 0) 1 ≡ has_messages (get_or queues k None)
 byte_before queues busy start k is le =
@@ -132,24 +136,24 @@ one_found queues busy start i is found = (
   ],
 )
 
--- the bytes from the start on
+-- the slice from the start on is the bytes from there on
 pub from_start : (busy given : List ℕ) (start : ℕ) → given ≡ busy
     → take (length given - start) (drop start given) ≡ drop start busy
 from_start busy given start same = take_rest given start ∙ ap (drop start) same
 
--- before an end the bytes tell the same
+-- the bytes before an end are those of the slots before it
 pub busy_before : (queues : List (Option Queue)) (busy : List ℕ) (end : ℕ) → busy ≡ map busy_byte queues
     → take end busy ≡ map busy_byte (take end queues)
 busy_before queues busy end is = ap (take end) is ∙ take-map busy_byte end queues
 
--- the bytes from the start on, before the end
+-- the slice from the start to the end is the bytes from the start on, before the end
 pub from_start_to : (busy given : List ℕ) (start end : ℕ) → given ≡ busy → start ≤ end
     → take (end - start) (drop start given) ≡ drop start (take end busy)
 from_start_to busy given start end same le =
     sym (drop-take start (end - start) given)
     ∙ ap (λ (n : ℕ). drop start (take n given)) (omega arith) ∙ ap (λ (bs : List ℕ). drop start (take end bs)) same
 
--- from the end on no place is looked at
+-- where the start is not before the end, no place from the start on and before the end has messages
 pub none_past : (queues : List (Option Queue)) (start end : ℕ) → end ≤ start
     → IsLeastFrom has_messages (take end queues) start None
 none_past queues start end le = λ k from.

@@ -1,13 +1,14 @@
 -- Messages that are copied one after the other to a place that had none.
 use Rattle.std.proofs.Common.{◌≡◌, ℕ, zero, suc, ◌+◌, add-one, ◌<◌, ◌^◌, Bool, true, List, [], ◌∷◌, ◌++◌, length}
-use Rattle.std.proofs.Common.{get_or, set, Option, Some, None, refl, sym, ap, ◌∙◌, arith, append_assoc}
-use Rattle.std.specs.List.{repeat}
-use Rattle.std.proofs.lemmas.List.{get_or_push, set-set}
+use Rattle.std.proofs.Common.{get_or, set, Option, Some, None, refl, sym, ap, subst, ◌∙◌, arith, append_assoc}
+use Rattle.std.proofs.Math.Seq.{get_or-append_seam}
+use Rattle.std.specs.List.{All, repeat}
+use Rattle.std.proofs.lemmas.List.{get_or_push, length-append, set-set}
 use Rattle.std.proofs.lemmas.List.Sums.{sum_by-append, sum_by-cons}
 use Rattle.smx_types.specs.declared.message.Message.{Message}
 use Rattle.smx_model.specs.Queues.{bytes_of}
 use Rattle.smx_queues.specs.QueueTable.{Queue, IsPlace, queue_at, with_arrival}
-use Rattle.smx_queues.specs.Chains.{HaveBytes}
+use Rattle.smx_queues.specs.Chains.{HasBytesThatFit}
 use Rattle.smx_queues.proofs.StoreLemmas.{size}
 use Rattle.smx_queues.proofs.QueueTableLemmas.{place_below, set_at, set_itself, same_set}
 
@@ -17,6 +18,7 @@ pub record IsCopying (old new : List (Option Queue)) (to : ℕ) (all rest : List
   pub parts : done ++ rest ≡ all
   pub queues : new ≡ set old to (Some (record (queue_at old to) { messages = done }))
 
+-- a queue with the messages that it has is that queue
 same_messages : (q : Queue) (ms : List Message) → q.messages ≡ ms → record q { messages = ms } ≡ q
 same_messages q ms e = rw (← e) refl
 
@@ -37,11 +39,12 @@ pub copying_at : (old new : List (Option Queue)) (to : ℕ) (all rest : List Mes
 copying_at old new to all rest c there =
     ap (λ qs. queue_at qs to) c.queues ∙ set_at old to _ (place_below old to there)
 
+-- a message that arrives at a full queue leaves its mark as it is
 arrives_full : (q : Queue) (ms : List Message) (m : Message) → q.full ≡ true
     → with_arrival (record q { messages = ms }) m ≡ record q { messages = ms ++ m ∷ [] }
 arrives_full q ms m full = rw full refl
 
--- one more has come
+-- where one more of the messages that are to come has arrived, the others are to come
 pub copying_goes_on : (old mid new : List (Option Queue)) (to : ℕ) (all rest : List Message) (m : Message)
     (later : List Message) → IsPlace old to → (queue_at old to).full ≡ true → IsCopying old mid to all rest
     → rest ≡ m ∷ later → new ≡ set mid to (Some (with_arrival (queue_at mid to) m)) → IsCopying old new to all later
@@ -54,10 +57,11 @@ copying_goes_on old mid new to all rest m later there full c are put =
           (ap (λ q. with_arrival q m) e ∙ arrives_full (queue_at old to) c.done m full) ∙ set-set old to _ _;
     }
 
-one_has : (done : List Message) (m : Message) (later : List Message) → HaveBytes (done ++ m ∷ later)
-    → (0 < size m) × (size m < 2 ^ 63)
-one_has [] m later have = (have.0, have.1)
-one_has (x ∷ done) m later have = one_has done m later have.2
+-- a message that stands behind some has bytes that fit where each has
+one_has : (done : List Message) (m : Message) (later : List Message) → All HasBytesThatFit (done ++ m ∷ later)
+    → HasBytesThatFit m
+one_has done m later have = subst HasBytesThatFit (get_or-append_seam done m later m)
+    (have (length done) m (omega (arith, length-append done (m ∷ later))))
 
 -- the message has bytes, so few that they can be added to those of the place without overflow
 pub record HasRoom (queues : List (Option Queue)) (to : ℕ) (m : Message) : Type 0 where
@@ -65,13 +69,13 @@ pub record HasRoom (queues : List (Option Queue)) (to : ℕ) (m : Message) : Typ
   pub few : size m < 2 ^ 63
   pub fits : bytes_of (queue_at queues to).messages + size m < 2 ^ 64
 
--- the next one has bytes, and they fit
+-- the next message that is to come has bytes, and they fit
 pub copying_has_room : (old mid : List (Option Queue)) (to : ℕ) (all rest : List Message) (m : Message)
     (later : List Message) (bytes : ℕ) → IsPlace old to → IsCopying old mid to all rest → rest ≡ m ∷ later
-    → HaveBytes all → bytes ≡ bytes_of all → bytes < 2 ^ 64 → HasRoom mid to m
+    → All HasBytesThatFit all → bytes ≡ bytes_of all → bytes < 2 ^ 64 → HasRoom mid to m
 copying_has_room old mid to all rest m later bytes there c are have is fits =
     let whole : all ≡ c.done ++ m ∷ later = sym c.parts ∙ ap (λ ms. c.done ++ ms) are in
-    let h = one_has c.done m later (rw (← whole) have) in
+    let h = one_has c.done m later (subst (All HasBytesThatFit) whole have) in
     let e = ap (λ (q : Queue). bytes_of q.messages) (copying_at old mid to all rest c there) in
     record {
       some = h.0;
@@ -87,7 +91,7 @@ copying_has_room old mid to all rest m later bytes there c are have is fits =
       );
     }
 
--- the last place
+-- where a queue is set at the number of the last place, that place has it, and the others what they had
 pub set_last : (queues : List (Option Queue)) (a b : Option Queue) (n : ℕ) → n ≡ length queues
     → set (queues ++ a ∷ []) n b ≡ queues ++ b ∷ []
 set_last [] a b n e = rw e refl
@@ -121,7 +125,7 @@ copied_is old mid new to q all last pushed copied =
     queue_last : (old : List (Option Queue)) (q : Queue) (n : ℕ) → n ≡ length old → queue_at (old ++ Some q ∷ []) n ≡ q
     queue_last old q n last = rw (get_or_push old (Some q) None n (sym last)) refl
 
--- a place that is there is in the table
+-- the queue of a place that is there is the one that stands at its number
 pub there_is : (queues : List (Option Queue)) (p : ℕ) → IsPlace queues p
     → Some (queue_at queues p) ≡ get_or queues p None
 there_is [] p is = absurd (cc)
@@ -129,7 +133,7 @@ there_is (Some q ∷ queues) zero is = refl
 there_is (None ∷ queues) zero is = absurd (cc)
 there_is (x ∷ queues) (suc p) is = there_is queues p is
 
--- so many more and one more
+-- so many more of a thing and one more are one more than so many
 pub repeat_more : {A : Type 0} → (xs : List A) (n : ℕ) (x : A)
     → (xs ++ repeat n (x ∷ [])) ++ x ∷ [] ≡ xs ++ repeat (n + 1) (x ∷ [])
 repeat_more xs n x = append_assoc xs (repeat n (x ∷ [])) (x ∷ [])

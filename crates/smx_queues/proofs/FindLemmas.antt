@@ -15,6 +15,7 @@ use Rattle.smx_queues.specs.Slots.{is_marked, message_total, messages_in}
 use Rattle.smx_queues.proofs.SlotLemmas.{slot, slots}
 use Rattle.smx_queues.proofs.SoundLemmas.{view_slots}
 
+-- the slot of a number is made of the chain and the queue of that number
 slots_at : (chains : List Chain) (queues : List Queue) (p : ℕ) → length queues ≡ length chains → p < length chains
     → get_or (slots chains queues) p None ≡ slot (get_or chains p no_chain) (get_or queues p no_queue)
 slots_at [] queues p many below = absurd (omega arith)
@@ -22,6 +23,7 @@ slots_at (c ∷ chains) [] p many below = absurd (omega arith)
 slots_at (c ∷ chains) (q ∷ queues) zero many below = refl
 slots_at (c ∷ chains) (q ∷ queues) (suc p) many below = slots_at chains queues p (omega arith) (omega arith)
 
+-- a chain has as many nodes as its slot has messages
 count_in : (own : ℕ → ℕ × ℕ) (s : Slab Node) (p : ℕ) (chain : Chain) (q : Queue) → IsQueue own s p chain q
     → chain.count ≡ length (messages_in (slot chain q))
 count_in own s p chain q l = elim (cases_Bool chain.there) [
@@ -29,6 +31,7 @@ count_in own s p chain q l = elim (cases_Bool chain.there) [
   | inr f ↦ rw f (l.count ∙ ap (λ (ms : List Message). length ms) (l.none_if_gone f))
 ]
 
+-- the slot of a chain is marked exactly where the chain is there and full
 mark_in : (own : ℕ → ℕ × ℕ) (s : Slab Node) (p : ℕ) (chain : Chain) (q : Queue) → IsQueue own s p chain q
     → (chain.there && chain.full) ≡ is_marked (slot chain q)
 mark_in own s p chain q l = elim (cases_Bool chain.there) [
@@ -36,7 +39,7 @@ mark_in own s p chain q l = elim (cases_Bool chain.there) [
   | inr f ↦ rw f refl
 ]
 
--- what a number has
+-- a chain has as many nodes as the slot of its number has messages, and its full mark
 pub record IsSlot (view : List (Option Queue)) (p : ℕ) (chain : Chain) : Type 0 where
   pub count : chain.count ≡ length (messages_in (get_or view p None))
   pub mark : (chain.there && chain.full) ≡ is_marked (get_or view p None)
@@ -57,6 +60,7 @@ slot_at s chains sound view is p chain below read =
 
 -- ---- how many there are
 
+-- where each chain has as many nodes as its slot has messages, all chains have as many as all slots
 sums_same : (chains : List Chain) (queues : List Queue) → length queues ≡ length chains
     → ((p : ℕ) → p < length chains → (get_or chains p no_chain).count
     ≡ length (messages_in (slot (get_or chains p no_chain) (get_or queues p no_queue))))
@@ -72,7 +76,7 @@ sums_same (c ∷ chains) (q ∷ queues) many each =
     ∙ (ap (λ (n : ℕ). length (messages_in (slot c q)) + n) rest
     ∙ sym (sum_by-cons (λ (x : Option Queue). length (messages_in x)) (slot c q) (slots chains queues))))
 
--- one number more that doesn't pass
+-- where no number before one passes the test, and that one doesn't, none up to it does
 pub none_up_to : (passes : Option Queue → Bool) (view : List (Option Queue)) (start p : ℕ)
     → ((k : ℕ) → start ≤ k → k < p → passes (get_or view k None) ≡ false) → passes (get_or view p None) ≡ false
     → (k : ℕ) → start ≤ k → k < p + 1 → passes (get_or view k None) ≡ false

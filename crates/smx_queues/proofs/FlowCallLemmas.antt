@@ -8,15 +8,17 @@ use Rattle.smx_types.specs.declared.message.Message.{Message}
 use Rattle.smx_types.specs.declared.stream.Place.{Place}
 use Rattle.smx_model.specs.Configuration.{same_place}
 use Rattle.smx_model.specs.Queues.{first_message, queue}
+use Rattle.smx_model.proofs.QueueLemmas.{front_is}
 use Rattle.smx_queues.specs.FlowTables.{FlowLists, IsFlow, after_arrival, after_leaving, lists_of, without_place}
 use Rattle.smx_queues.specs.PlaceLists.{PlaceList}
-use Rattle.smx_queues.specs.QueueTable.{IsPlace, QueueTable, emptied, queue_at, with_arrival, with_queue, without_front}
+use Rattle.smx_queues.specs.QueueTable.{IsPlace, QueueTable, queue_at, with_arrival, with_queue, without_front}
+use Rattle.smx_queues.specs.QueueTable.{without_messages}
 use Rattle.smx_queues.specs.Slots.{is_marked, message_total, messages_in}
 use Rattle.smx_queues.specs.QueueTable.{Queue}
 use Rattle.smx_queues.proofs.FlowLemmas.{queue_found, queue_none}
 use Rattle.smx_queues.proofs.FlowTableLemmas.{IsNow, arrived_now, emptied_now, found, found_at, is_place, left_now}
 use Rattle.smx_queues.proofs.FlowTableLemmas.{moved_now, nothing_now, seen_now}
-use Rattle.smx_queues.proofs.FullLemmas.{mark_found, mark_none}
+use Rattle.smx_queues.proofs.PlacesWhereLemmas.{where_found, where_none}
 use Rattle.smx_queues.proofs.LeftLemmas.{flow_length, many_queues}
 
 -- ---- what a number says of its place, in lists as which the tables are seen
@@ -33,7 +35,7 @@ pub mark_is : (p : PlaceList) (all : List (Option Queue)) (n : ℕ) (t : FlowLis
 mark_is p all n t place i h seen at =
     let f = found p.drivers p.places all place i h.queues at in
     ap (λ (q : Queue). q.full) (found_at p.drivers all place i f)
-    ∙ (sym (mark_found place p.places all i h.rising at ∙ ap is_marked f.slot)
+    ∙ (sym (where_found is_marked None refl place p.places all i h.rising at ∙ ap is_marked f.slot)
     ∙ ap (λ (x : FlowLists). list_any (same_place place) x.fulls) seen)
 
 -- a place that the drivers don't have is not full
@@ -41,7 +43,8 @@ pub mark_is_not : (p : PlaceList) (all : List (Option Queue)) (n : ℕ) (t : Flo
     → lists_of p all n ≡ t → list_any (same_place place) p.places ≡ false
     → false ≡ list_any (same_place place) t.fulls
 mark_is_not p all n t place seen none =
-    sym (mark_none place p.places all none) ∙ ap (λ (x : FlowLists). list_any (same_place place) x.fulls) seen
+    sym (where_none is_marked place p.places all none)
+    ∙ ap (λ (x : FlowLists). list_any (same_place place) x.fulls) seen
 
 -- the messages at a place's number are the place's queue in the flow
 pub queue_is : (p : PlaceList) (all : List (Option Queue)) (n : ℕ) (t : FlowLists) (place : Place) (i : ℕ)
@@ -68,7 +71,7 @@ lone_is p all n t place i h seen at =
     ap (λ (ms : List Message). (length ms == 1) && not (queue_at all i).full) (queue_is p all n t place i h seen at)
     ∙ ap (λ (b : Bool). (length (queue t.flow place) == 1) && not b) (mark_is p all n t place i h seen at)
 
--- a place that the drivers don't have has none
+-- a place that the drivers don't have has no lone message
 pub lone_is_not : (p : PlaceList) (all : List (Option Queue)) (n : ℕ) (t : FlowLists) (place : Place)
     → lists_of p all n ≡ t → list_any (same_place place) p.places ≡ false
     → false ≡ ((length (queue t.flow place) == 1) && not (list_any (same_place place) t.fulls))
@@ -76,27 +79,22 @@ lone_is_not p all n t place seen none =
     ap (λ (ms : List Message). (length ms == 1) && not (list_any (same_place place) t.fulls))
     (queue_is_none p all n t place seen none)
 
--- ---- the law of the model says which message is the first
-
--- the model's first message of a place is the first of its queue
-abbrev pub IsFirstOfQueue : FlowLists → Place → Type 0
-IsFirstOfQueue t place = first_message t.flow place ≡ slice_get (queue t.flow place) 0
+-- ---- the first message of a place
 
 -- the first message at a place's number is the model's first message of the place
 pub first_is : (p : PlaceList) (all : List (Option Queue)) (n : ℕ) (t : FlowLists) (place : Place) (i : ℕ)
-    → IsFlow p all → lists_of p all n ≡ t → slice_get p.places i ≡ Some place → IsFirstOfQueue t place
+    → IsFlow p all → lists_of p all n ≡ t → slice_get p.places i ≡ Some place
     → slice_get (queue_at all i).messages 0 ≡ first_message t.flow place
-first_is p all n t place i h seen at law =
-    ap (λ (ms : List Message). slice_get ms 0) (queue_is p all n t place i h seen at) ∙ sym law
+first_is p all n t place i h seen at =
+    ap (λ (ms : List Message). slice_get ms 0) (queue_is p all n t place i h seen at) ∙ sym (front_is t.flow place)
 
 -- a place that the drivers don't have has no first message
 pub first_is_none : (p : PlaceList) (all : List (Option Queue)) (n : ℕ) (t : FlowLists) (place : Place)
-    → lists_of p all n ≡ t → list_any (same_place place) p.places ≡ false → IsFirstOfQueue t place
-    → None ≡ first_message t.flow place
-first_is_none p all n t place seen none law =
-    ap (λ (ms : List Message). slice_get ms 0) (queue_is_none p all n t place seen none) ∙ sym law
+    → lists_of p all n ≡ t → list_any (same_place place) p.places ≡ false → None ≡ first_message t.flow place
+first_is_none p all n t place seen none =
+    ap (λ (ms : List Message). slice_get ms 0) (queue_is_none p all n t place seen none) ∙ sym (front_is t.flow place)
 
--- there is one where the queue of the place's number has some messages
+-- messages have a first one exactly where there are more than 0 of them
 pub some_first : (ms : List Message) (first : Option Message) → slice_get ms 0 ≡ first
     → nat_lt 0 (length ms) ≡ is_some first
 some_first [] first e = ap (λ (o : Option Message). is_some o) e
@@ -109,6 +107,7 @@ pub record IsAfter (p : PlaceList) (all : List (Option Queue)) (t : FlowLists) :
   pub sound : IsFlow p all
   pub is : (n : ℕ) → lists_of p all n ≡ record t { spare = n }
 
+-- queues that are seen as a change of some lists are so with whatever room there is
 after_now : (p : PlaceList) (all new : List (Option Queue)) (n : ℕ) (t : FlowLists) (change : FlowLists → FlowLists)
     → lists_of p all n ≡ t → IsNow p new (change (lists_of p all n)) → IsAfter p new (change t)
 after_now p all new n t change seen now =
@@ -143,10 +142,10 @@ move_is p all new n t from to i j m h seen at there differ first is =
     after_now p all new n t (λ x. after_arrival (after_leaving x from) to m) seen
     (rw is (moved_now p all n from to i j m h at there differ first))
 
--- where the queue of a place's number is emptied, the flow and the full places are without the place
+-- where the queue of a place's number is without_messages, the flow and the full places are without the place
 pub drop_is : (p : PlaceList) (all new : List (Option Queue)) (n : ℕ) (t : FlowLists) (place : Place) (i : ℕ)
     → IsFlow p all → lists_of p all n ≡ t → slice_get p.places i ≡ Some place
-    → new ≡ with_queue all i (emptied (queue_at all i)) → IsAfter p new (without_place t place)
+    → new ≡ with_queue all i (without_messages (queue_at all i)) → IsAfter p new (without_place t place)
 drop_is p all new n t place i h seen at is =
     after_now p all new n t (λ x. without_place x place) seen
     (rw is (emptied_now p all n place i h at))
@@ -189,16 +188,17 @@ drop_none_is p all n t place h seen none =
 
 -- ---- a message that moves on
 
+-- messages of which there is a first one are not none
 some_there : (ms : List Message) (o : Option Message) → slice_get ms 0 ≡ o → IsSome o → 0 < length ms
 some_there [] o e some = let bad = subst (λ (x : Option Message). IsSome x) (sym e) some in absurd cc
 some_there (m ∷ ms) o e some = omega arith
 
 -- where the model has a first message of a place, the queue of the place's number has one
 pub some_queued : (p : PlaceList) (all : List (Option Queue)) (n : ℕ) (t : FlowLists) (place : Place) (i : ℕ)
-    → IsFlow p all → lists_of p all n ≡ t → slice_get p.places i ≡ Some place → IsFirstOfQueue t place
+    → IsFlow p all → lists_of p all n ≡ t → slice_get p.places i ≡ Some place
     → IsSome (first_message t.flow place) → 0 < length (queue_at all i).messages
-some_queued p all n t place i h seen at law some =
-    some_there (queue_at all i).messages (first_message t.flow place) (first_is p all n t place i h seen at law) some
+some_queued p all n t place i h seen at some =
+    some_there (queue_at all i).messages (first_message t.flow place) (first_is p all n t place i h seen at) some
 
 -- the queues are sound, and the first message of one place has gone to another
 pub record IsMovedOn (p : PlaceList) (all : List (Option Queue)) (n : ℕ) (t : FlowLists)
@@ -207,6 +207,7 @@ pub record IsMovedOn (p : PlaceList) (all : List (Option Queue)) (n : ℕ) (t : 
   pub is : (m : Message) → first_message t.flow from ≡ Some m
       → lists_of p all n ≡ after_arrival (after_leaving t from) to m
 
+-- where the front of one number's queue, this message, has gone to another's, so it has from place to place
 moved_at : (p : PlaceList) (old new : QueueTable) (t : FlowLists) (from to : Place) (i j : ℕ) (m : Message)
     → IsFlow p old.queues → lists_of p old.queues old.spare ≡ t → slice_get p.places i ≡ Some from
     → slice_get p.places j ≡ Some to
@@ -221,17 +222,17 @@ moved_at p old new t from to i j m h seen at there differ first moved same =
           (same ∙ ap (λ (x : FlowLists). x.spare) seen),
     )
 
+-- where the place has a first message, whichever it is, that message has gone from place to place
 moved_some : (p : PlaceList) (old new : QueueTable) (t : FlowLists) (from to : Place) (i j : ℕ) (o : Option Message)
     → first_message t.flow from ≡ o → IsSome o → IsFlow p old.queues → lists_of p old.queues old.spare ≡ t
     → slice_get p.places i ≡ Some from → slice_get p.places j ≡ Some to → same_place from to ≡ false
-    → IsFirstOfQueue t from
     → ((m : Message) → slice_get (queue_at old.queues i).messages 0 ≡ Some m
     → new.queues ≡ with_queue (with_queue old.queues i (without_front (queue_at old.queues i))) j
     (with_arrival (queue_at old.queues j) m))
     → new.spare ≡ old.spare → IsMovedOn p new.queues new.spare t from to
-moved_some p old new t from to i j None e some h seen at there differ law moved same = absurd cc
-moved_some p old new t from to i j (Some m) e some h seen at there differ law moved same =
-    let first = first_is p old.queues old.spare t from i h seen at law in
+moved_some p old new t from to i j None e some h seen at there differ moved same = absurd cc
+moved_some p old new t from to i j (Some m) e some h seen at there differ moved same =
+    let first = first_is p old.queues old.spare t from i h seen at in
     record {
       sound = (moved_at p old new t from to i j m h seen at there differ (first ∙ e) (moved m (first ∙ e)) same).0;
       is = λ x f. (moved_at p old new t from to i j x h seen at there differ (first ∙ f) (moved x (first ∙ f)) same).1;
@@ -241,20 +242,19 @@ moved_some p old new t from to i j (Some m) e some h seen at there differ law mo
 pub moved_by : (p : PlaceList) (old new : QueueTable) (t : FlowLists) (from to : Place) (i j : ℕ)
     → IsSome (first_message t.flow from) → IsFlow p old.queues → lists_of p old.queues old.spare ≡ t
     → slice_get p.places i ≡ Some from → slice_get p.places j ≡ Some to → same_place from to ≡ false
-    → IsFirstOfQueue t from
     → ((m : Message) → slice_get (queue_at old.queues i).messages 0 ≡ Some m
     → new.queues ≡ with_queue (with_queue old.queues i (without_front (queue_at old.queues i))) j
     (with_arrival (queue_at old.queues j) m))
     → new.spare ≡ old.spare → IsMovedOn p new.queues new.spare t from to
-moved_by p old new t from to i j some h seen at there differ law moved same =
-    moved_some p old new t from to i j (first_message t.flow from) refl some h seen at there differ law moved same
+moved_by p old new t from to i j some h seen at there differ moved same =
+    moved_some p old new t from to i j (first_message t.flow from) refl some h seen at there differ moved same
 
--- a place of no number has no message
+-- where it can't be that a place has no number, it has one
 pub has_number : {A : Type 0} (o : Option ℕ) → IfNone o A → (A → ⊥) → IsSome o
 has_number None none some = absurd (some none)
 has_number (Some i) none some = refl
 
--- what is nothing is not there
+-- where there is no message, it can't be that there is one
 pub none_some : (o : Option Message) → None ≡ o → IsSome o → ⊥
 none_some None e some = cc
 none_some (Some m) e some = cc

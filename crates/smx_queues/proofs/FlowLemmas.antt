@@ -1,5 +1,5 @@
 -- The flow and the full places that the queues of rising places make, where one queue changes.
-use Rattle.std.proofs.Common.{◌≡◌, ℕ, zero, suc, ◌<◌, Bool, true, false, not, List, [], ◌∷◌, ◌++◌, length, filter, set}
+use Rattle.std.proofs.Common.{◌≡◌, ℕ, zero, suc, ◌<◌, Bool, false, not, List, [], ◌∷◌, ◌++◌, length, filter, set}
 use Rattle.std.proofs.Common.{get_or, Option, Some, None, refl, sym, ap, ◌∙◌, subst, arith, append-nil}
 use Rattle.std.specs.Prelude.{slice_get}
 use Rattle.std.specs.List.{list_any}
@@ -13,23 +13,19 @@ use Rattle.smx_model.specs.Queues.{queue}
 use Rattle.smx_queues.specs.FlowTables.{flow_of, messages_at}
 use Rattle.smx_queues.specs.QueueTable.{Queue}
 use Rattle.smx_queues.specs.Slots.{messages_in}
-use Rattle.smx_queues.proofs.PlaceLemmas.{apart, behind, not_after, not_before, place_self, same_turned}
+use Rattle.smx_queues.proofs.PlaceLemmas.{apart, behind, first_before, not_after, not_before, place_self, same_turned}
 
-abbrev Queues : Type 0
+-- the queues of some places, by number
+abbrev pub Queues : Type 0
 Queues = List (Option Queue)
 
+-- a message that is queued at a place
 abbrev placed : Place → Message → QueuedMessage
 placed p m = record { place = p; message = m }
 
--- a place of a list that rises comes behind the first one
-pub first_before : (p q : Place) (places : List Place) (i : ℕ) → ComesBefore place_before p places
-    → slice_get places i ≡ Some q → place_before p q ≡ true
-first_before p q [] i h at = absurd cc
-first_before p q (r ∷ places) zero h at = subst (λ (x : Place). place_before p x ≡ true) (same_Some r q at) h.0
-first_before p q (r ∷ places) (suc i) h at = first_before p q places i h.1 at
-
 -- ---- a message arrives
 
+-- a message that doesn't come before a place is inserted behind the messages of that place
 skip_insert : (p r : Place) (m : Message) (ms : List Message) (rest : List QueuedMessage) → place_before p r ≡ false
     → with_inserted queued_before (messages_at r ms ++ rest) (placed p m)
     ≡ messages_at r ms ++ with_inserted queued_before rest (placed p m)
@@ -37,6 +33,7 @@ skip_insert p r m [] rest h = refl
 skip_insert p r m (x ∷ ms) rest h =
     rw h (ap (λ (xs : List QueuedMessage). placed r x ∷ xs) (skip_insert p r m ms rest h))
 
+-- a message at a place before all others is inserted at the front of the flow
 insert_first : (p : Place) (m : Message) (places : List Place) (queues : Queues) → ComesBefore place_before p places
     → with_inserted queued_before (flow_of places queues) (placed p m) ≡ placed p m ∷ flow_of places queues
 insert_first p m [] queues h = refl
@@ -49,6 +46,7 @@ insert_first p m (r ∷ places) (q ∷ queues) h = by_messages (messages_in q) (
   by_messages [] rest = rest
   by_messages (x ∷ ms) rest = rw h.0 refl
 
+-- a message at the end of a place's messages stands before what comes behind them
 one_more : (p : Place) (m : Message) (ms : List Message) (rest : List QueuedMessage)
     → messages_at p (ms ++ m ∷ []) ++ rest ≡ messages_at p ms ++ (placed p m ∷ rest)
 one_more p m [] rest = refl
@@ -76,6 +74,7 @@ flow_arrived p m (r ∷ places) (old ∷ queues) (suc i) q rise at below is =
 
 -- ---- the first message leaves
 
+-- what is left out at one place is left out behind the messages of another
 skip_without : (p r : Place) (ms : List Message) (rest : List QueuedMessage) → same_place r p ≡ false
     → without_first (is_at p) (messages_at r ms ++ rest) ≡ messages_at r ms ++ without_first (is_at p) rest
 skip_without p r [] rest h = refl
@@ -115,6 +114,7 @@ pub keep_other : (p r : Place) (ms : List Message) (rest : List QueuedMessage) �
 keep_other p r [] rest h = refl
 keep_other p r (x ∷ ms) rest h = rw h (ap (λ (xs : List QueuedMessage). placed r x ∷ xs) (keep_other p r ms rest h))
 
+-- where a place comes before all others, their messages are kept where its own are left out
 keep_behind : (p : Place) (places : List Place) (queues : Queues) → ComesBefore place_before p places
     → filter (not_at p) (flow_of places queues) ≡ flow_of places queues
 keep_behind p [] queues h = refl
@@ -140,16 +140,19 @@ flow_emptied p (r ∷ places) (old ∷ queues) (suc i) q rise at below is =
 
 -- ---- what is at a place
 
+-- messages of one place are not in the queue of another
 at_other : (p r : Place) (ms : List Message) (rest : List QueuedMessage) → same_place r p ≡ false
     → queue (messages_at r ms ++ rest) p ≡ queue rest p
 at_other p r [] rest h = refl
 at_other p r (x ∷ ms) rest h = rw h (at_other p r ms rest h)
 
+-- messages of a place stand first in its queue
 at_same : (p : Place) (ms : List Message) (rest : List QueuedMessage)
     → queue (messages_at p ms ++ rest) p ≡ ms ++ queue rest p
 at_same p [] rest = refl
 at_same p (x ∷ ms) rest = rw (place_self p) (ap (λ (xs : List Message). x ∷ xs) (at_same p ms rest))
 
+-- a place that comes before all others has no messages among theirs
 queue_behind : (p : Place) (places : List Place) (queues : Queues) → ComesBefore place_before p places
     → queue (flow_of places queues) p ≡ []
 queue_behind p [] queues h = refl

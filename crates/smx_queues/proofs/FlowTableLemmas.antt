@@ -3,7 +3,7 @@ use Rattle.std.proofs.Common.{◌≡◌, ◌≢◌, ℕ, zero, suc, ◌<◌, Boo
 use Rattle.std.proofs.Common.{set, get_or, Option, Some, None, refl, sym, ap, ◌∙◌, subst, arith, inl, inr}
 use Rattle.std.specs.Prelude.{slice_get}
 use Rattle.std.specs.List.{list_any}
-use Rattle.std.proofs.lemmas.Bool.{cases_Bool, false≢true, or_parts}
+use Rattle.std.proofs.lemmas.Bool.{cases_Bool, or_parts}
 use Rattle.std.proofs.lemmas.List.Elements.{filter_agree}
 use Rattle.std.proofs.lemmas.List.{get_or-set_same, get_or-set_other}
 use Rattle.std.proofs.lemmas.Option.{same_Some}
@@ -16,11 +16,12 @@ use Rattle.smx_model.specs.Queues.{bytes_at, bytes_of, with_mark}
 use Rattle.smx_queues.specs.FlowTables.{AreQueuesOf, FlowLists, IsFlow, after_arrival, after_leaving, flow_of, fulls_of}
 use Rattle.smx_queues.specs.FlowTables.{lists_of, messages_at, without_place}
 use Rattle.smx_queues.specs.PlaceLists.{PlaceList, new_queues}
-use Rattle.smx_queues.specs.QueueTable.{IsPlace, Queue, emptied, queue_at, with_arrival, with_queue, without_front}
+use Rattle.smx_queues.specs.QueueTable.{IsPlace, Queue, queue_at, with_arrival, with_queue, without_front}
+use Rattle.smx_queues.specs.QueueTable.{without_messages}
 use Rattle.smx_queues.specs.Slots.{is_marked, messages_in}
 use Rattle.smx_queues.proofs.FlowLemmas.{flow_arrived, flow_emptied, flow_left, keep_other, not_at, queue_found}
-use Rattle.smx_queues.proofs.FullLemmas.{fulls_marked, mark_found}
-use Rattle.smx_queues.proofs.PlaceLemmas.{place_self, same_turned}
+use Rattle.smx_queues.proofs.PlacesWhereLemmas.{where_found, where_set}
+use Rattle.smx_queues.proofs.PlaceLemmas.{numbers_differ, same_turned}
 
 -- the queue of a place, with the water marks of its driver
 pub record IsFound (drivers : List DriverSpec) (queues : List (Option Queue)) (p : Place) (i : ℕ) : Type 0 where
@@ -59,7 +60,7 @@ pub is_place : (drivers : List DriverSpec) (places : List Place) (queues : List 
     → AreQueuesOf drivers places queues → slice_get places i ≡ Some p → IsPlace queues i
 is_place drivers places queues p i h at = let f = found drivers places queues p i h at in rw f.slot refl
 
--- another queue with the same water marks
+-- with another queue of the same water marks at one number, the queues are those of the places still
 pub still_queues : (drivers : List DriverSpec) (places : List Place) (queues : List (Option Queue)) (i : ℕ)
     (q new : Queue) → AreQueuesOf drivers places queues → get_or queues i None ≡ Some q
     → new.high ≡ q.high → new.low ≡ q.low → AreQueuesOf drivers places (set queues i (Some new))
@@ -87,10 +88,12 @@ pub seen_now : (p : PlaceList) (all : List (Option Queue)) (t : FlowLists) (n : 
     → lists_of p all n ≡ record t { spare = n }
 seen_now p all t n h = rw (h.drivers, h.flow, h.fulls) refl
 
+-- messages of which this is the first are this one and the rest
 first_is : (ms : List Message) (m : Message) → slice_get ms 0 ≡ Some m → ms ≡ m ∷ drop 1 ms
 first_is [] m e = absurd cc
 first_is (x ∷ ms) m e = ap (λ (y : Message). y ∷ ms) (same_Some x m e)
 
+-- the slot of a number that was set has the messages of the queue that was set
 new_slot : (queues : List (Option Queue)) (i : ℕ) (q : Queue) → i < length queues
     → messages_in (get_or (set queues i (Some q)) i None) ≡ q.messages
 new_slot queues i q below = rw (get_or-set_same queues i (Some q) None below) refl
@@ -107,7 +110,7 @@ queue_now p all place i t h at f new high low drivers flow fulls = record {
   };
   drivers = drivers;
   flow = flow;
-  fulls = fulls_marked place p.places all i new h.rising at f.below ∙ fulls;
+  fulls = where_set is_marked place p.places all i (Some new) h.rising at f.below ∙ fulls;
 }
 
 -- where the front left the queue of a place's number, the lists are those without its first message
@@ -127,7 +130,7 @@ left_now p all n place i m h at first =
           ∙ new_slot all i (without_front f.q) f.below in
           let bytes : bytes_at (flow_of p.places (set all i (Some (without_front f.q)))) place
           ≡ bytes_of (drop 1 f.q.messages) = ap bytes_of here in
-          let mark = mark_found place p.places all i h.rising at ∙ ap is_marked f.slot in
+          let mark = where_found is_marked None refl place p.places all i h.rising at ∙ ap is_marked f.slot in
           queue_now p all place i _ h at f (without_front f.q) refl refl refl flow
           (ap (λ (b : Bool). with_mark place b (fulls_of p.places all)) (rw (mark, ← flow, bytes, ← f.low) refl))
 
@@ -147,37 +150,30 @@ arrived_now p all n place i m h at =
           ∙ new_slot all i (with_arrival f.q m) f.below in
           let bytes : bytes_at (flow_of p.places (set all i (Some (with_arrival f.q m)))) place
           ≡ bytes_of (f.q.messages ++ m ∷ []) = ap bytes_of here in
-          let mark = mark_found place p.places all i h.rising at ∙ ap is_marked f.slot in
+          let mark = where_found is_marked None refl place p.places all i h.rising at ∙ ap is_marked f.slot in
           queue_now p all place i _ h at f (with_arrival f.q m) refl refl refl flow
           (ap (λ (b : Bool). with_mark place b (fulls_of p.places all)) (rw (mark, ← flow, bytes, ← f.high) refl))
 
--- where the queue of a place's number was emptied, the lists are those without the place
+-- where the queue of a place's number was without_messages, the lists are those without the place
 pub emptied_now : (p : PlaceList) (all : List (Option Queue)) (n : ℕ) (place : Place) (i : ℕ) → IsFlow p all
     → slice_get p.places i ≡ Some place
-    → IsNow p (with_queue all i (emptied (queue_at all i))) (without_place (lists_of p all n) place)
+    → IsNow p (with_queue all i (without_messages (queue_at all i))) (without_place (lists_of p all n) place)
 emptied_now p all n place i h at =
     let f = found p.drivers p.places all place i h.queues at in
     rw (found_at p.drivers all place i f) (now f) where
       now : (f : IsFound p.drivers all place i)
-          → IsNow p (with_queue all i (emptied f.q)) (without_place (lists_of p all n) place)
-      now f = queue_now p all place i _ h at f (emptied f.q) refl refl refl
-          (flow_emptied place p.places all i (emptied f.q) h.rising at f.below refl)
+          → IsNow p (with_queue all i (without_messages f.q)) (without_place (lists_of p all n) place)
+      now f = queue_now p all place i _ h at f (without_messages f.q) refl refl refl
+          (flow_emptied place p.places all i (without_messages f.q) h.rising at f.below refl)
           (filter_agree (λ q. not (same_place place q)) (λ q. not (same_place q place))
           (λ q. ap not (same_turned place q)) (fulls_of p.places all))
 
 -- ---- a message moves on
 
+-- where one number's queue is set, each other number has its queue still
 other_at : (queues : List (Option Queue)) (i j : ℕ) (q : Queue) → j ≢ i
     → queue_at (set queues i (Some q)) j ≡ queue_at queues j
 other_at queues i j q ne = rw (get_or-set_other queues i j (Some q) None ne) refl
-
--- numbers of two places differ
-pub numbers_differ : (places : List Place) (p q : Place) (i j : ℕ) → slice_get places i ≡ Some p
-    → slice_get places j ≡ Some q → same_place p q ≡ false → j ≢ i
-numbers_differ places p q i j at there differ same =
-    let e : Some p ≡ Some q = sym at ∙ (ap (slice_get places) (sym same) ∙ there) in
-    let k : same_place p p ≡ false = subst (λ (x : Place). same_place p x ≡ false) (sym (same_Some p q e)) differ in
-    false≢true (sym k ∙ place_self p)
 
 -- where a front went from the queue of one number to another's, the lists are those after both
 pub moved_now : (p : PlaceList) (all : List (Option Queue)) (n : ℕ) (from to : Place) (i j : ℕ) (m : Message)

@@ -20,6 +20,7 @@ node_from m key = record { message = m; next = key }
 pub follows_none : (s : Slab Node) (chain : Chain) (key : ℕ) → chain.count ≡ 0 → with_follower s chain key ≡ s
 follows_none s chain key none = rw none refl
 
+-- where a chain has nodes, the last one is written anew with the key of the node that follows
 follows_last : (s : Slab Node) (chain : Chain) (key : ℕ) (last : Node) → 0 < chain.count → get s chain.last ≡ Some last
     → with_follower s chain key ≡ with_value s chain.last (node_from last.message key)
 follows_last s chain key last some found =
@@ -33,6 +34,7 @@ pub follower_updates : (s : Slab Node) (chain : Chain) (key : ℕ) (last : Node)
 follower_updates s chain key last some found =
     rw (follows_last s chain key last some found) (Updates-with_value s chain.last _ (rw found refl))
 
+-- where a node follows the last one of a chain, the store has as many nodes as before
 follower_len : (s : Slab Node) (chain : Chain) (key : ℕ) (last : Node) → 0 < chain.count → get s chain.last ≡ Some last
     → slab_len (with_follower s chain key) ≡ slab_len s
 follower_len s chain key last some found =
@@ -59,7 +61,7 @@ follower_kept own s p chain q key l x apart = by q.messages l.nodes l.count
         (follower_updates s chain key t.2.0 (omega (arith, count)) t.2.1).others x
         (λ e. apart (ap (λ y. (own y).0) e ∙ t.0))
 
--- the store has as many nodes as before
+-- where a node follows the last one of a chain, if it has one, the store has as many nodes as before
 pub follower_counted : (own : ℕ → ℕ × ℕ) (s : Slab Node) (p : ℕ) (chain : Chain) (q : Queue) (key : ℕ)
     → IsQueue own s p chain q → slab_len (with_follower s chain key) ≡ slab_len s
 follower_counted own s p chain q key l = by q.messages l.nodes l.count
@@ -71,7 +73,7 @@ follower_counted own s p chain q key l = by q.messages l.nodes l.count
         let t = last_owner own s p l.rank _ m rest _ c in
         follower_len s chain key t.2.0 (omega (arith, count)) t.2.1
 
--- and as much room
+-- where a node follows the last one of a chain, the store is as large as before
 follower_capacity : (own : ℕ → ℕ × ℕ) (s : Slab Node) (p : ℕ) (chain : Chain) (q : Queue) (key : ℕ)
     → IsQueue own s p chain q → (with_follower s chain key).capacity ≡ s.capacity
 follower_capacity own s p chain q key l = by q.messages l.nodes l.count

@@ -15,72 +15,104 @@ use Rattle.smx_types.specs.declared.stream.Place.{Place}
 use Rattle.smx_model.specs.Configuration.{QueuedMessage, place_before, same_place}
 use Rattle.smx_model.specs.Ordered.{ComesBefore, IsRising}
 use Rattle.smx_model.specs.Queues.{first_message}
-use Rattle.smx_queues.specs.FlowTables.{AreQueuesOf, first_at, flow_of, fronts, fronts_after, fronts_of, fulls_of}
+use Rattle.smx_queues.specs.FlowTables.{AreQueuesOf, first_at, flow_of, fronts, fronts_after, fronts_of}
 use Rattle.smx_queues.specs.FlowTables.{is_same, messages_at}
+use Rattle.smx_queues.specs.PlaceLists.{places_where}
 use Rattle.smx_queues.specs.QueueTable.{Queue}
-use Rattle.smx_queues.specs.Slots.{IsLeastFrom, has_messages, is_marked, message_total, messages_in}
+use Rattle.smx_queues.specs.Slots.{IsLeastIn, has_messages, message_total, messages_in}
 use Rattle.smx_queues.proofs.PlaceLemmas.{apart, none_behind, place_is, place_self}
 
 -- a part that shows nothing of what fails the test
-abbrev pub Skips : {X : Type 0} → (List Place → List (Option Queue) → List X) → (Option Queue → Bool) → Type 0
-Skips shown passes = (p : Place) (places : List Place) (q : Option Queue) (queues : List (Option Queue))
-    → passes q ≡ false → shown (p ∷ places) (q ∷ queues) ≡ shown places queues
+abbrev pub Skips : {X Y : Type 0} → (List Place → List Y → List X) → (Y → Bool) → Type 0
+Skips {X} {Y} shown passes = (p : Place) (places : List Place) (y : Y) (ys : List Y)
+    → passes y ≡ false → shown (p ∷ places) (y ∷ ys) ≡ shown places ys
 
-skip_all : {X : Type 0} (shown : List Place → List (Option Queue) → List X) (passes : Option Queue → Bool)
-    (places : List Place) (queues : List (Option Queue)) → Skips shown passes → shown [] [] ≡ []
-    → length queues ≡ length places → ((k : ℕ) → passes (get_or queues k None) ≡ false) → shown places queues ≡ []
-skip_all shown passes [] [] skips none many all = none
-skip_all shown passes [] (q ∷ queues) skips none many all = absurd (omega arith)
-skip_all shown passes (p ∷ places) [] skips none many all = absurd (omega arith)
-skip_all shown passes (p ∷ places) (q ∷ queues) skips none many all =
-    skips p places q queues (all 0) ∙ skip_all shown passes places queues skips none (omega arith) (λ k. all (suc k))
+-- where nothing passes the test, nothing is shown
+skip_all : {X Y : Type 0} (shown : List Place → List Y → List X) (passes : Y → Bool) (past : Y)
+    (places : List Place) (ys : List Y) → Skips shown passes → shown [] [] ≡ []
+    → length ys ≡ length places → ((k : ℕ) → passes (get_or ys k past) ≡ false) → shown places ys ≡ []
+skip_all shown passes past [] [] skips none many all = none
+skip_all shown passes past [] (y ∷ ys) skips none many all = absurd (omega arith)
+skip_all shown passes past (p ∷ places) [] skips none many all = absurd (omega arith)
+skip_all shown passes past (p ∷ places) (y ∷ ys) skips none many all =
+    skips p places y ys (all 0)
+    ∙ skip_all shown passes past places ys skips none (omega arith) (λ k. all (suc k))
 
--- from one number on nothing passes
-pub skip_rest : {X : Type 0} (shown : List Place → List (Option Queue) → List X) (passes : Option Queue → Bool)
-    (places : List Place) (queues : List (Option Queue)) (n : ℕ) → Skips shown passes → shown [] [] ≡ []
-    → length queues ≡ length places → ((k : ℕ) → n ≤ k → passes (get_or queues k None) ≡ false)
-    → shown (drop n places) (drop n queues) ≡ []
-skip_rest shown passes places queues zero skips none many all =
-    skip_all shown passes places queues skips none many (λ k. all k (omega arith))
-skip_rest shown passes [] [] (suc n) skips none many all = none
-skip_rest shown passes [] (q ∷ queues) (suc n) skips none many all = absurd (omega arith)
-skip_rest shown passes (p ∷ places) [] (suc n) skips none many all = absurd (omega arith)
-skip_rest shown passes (p ∷ places) (q ∷ queues) (suc n) skips none many all =
-    skip_rest shown passes places queues n skips none (omega arith) (λ k le. all (suc k) (omega arith))
+-- where nothing from a number on passes the test, nothing from there on is shown
+pub skip_rest : {X Y : Type 0} (shown : List Place → List Y → List X) (passes : Y → Bool) (past : Y)
+    (places : List Place) (ys : List Y) (n : ℕ) → Skips shown passes → shown [] [] ≡ []
+    → length ys ≡ length places → IsLeastIn past passes ys n None → shown (drop n places) (drop n ys) ≡ []
+skip_rest shown passes past places ys zero skips none many all =
+    skip_all shown passes past places ys skips none many (λ k. all k (omega arith))
+skip_rest shown passes past [] [] (suc n) skips none many all = none
+skip_rest shown passes past [] (y ∷ ys) (suc n) skips none many all = absurd (omega arith)
+skip_rest shown passes past (p ∷ places) [] (suc n) skips none many all = absurd (omega arith)
+skip_rest shown passes past (p ∷ places) (y ∷ ys) (suc n) skips none many all =
+    skip_rest shown passes past places ys n skips none (omega arith) (λ k le. all (suc k) (omega arith))
 
--- up to a number that passes
-skip_to : {X : Type 0} (shown : List Place → List (Option Queue) → List X) (passes : Option Queue → Bool)
-    (places : List Place) (queues : List (Option Queue)) (n i : ℕ) → Skips shown passes
-    → n ≤ i → i < length places → length queues ≡ length places
-    → ((k : ℕ) → n ≤ k → k < i → passes (get_or queues k None) ≡ false)
-    → shown (drop n places) (drop n queues) ≡ shown (drop i places) (drop i queues)
-skip_to shown passes [] queues n i skips le below many none = absurd (omega arith)
-skip_to shown passes (p ∷ places) [] n i skips le below many none = absurd (omega arith)
-skip_to shown passes (p ∷ places) (q ∷ queues) zero zero skips le below many none = refl
-skip_to shown passes (p ∷ places) (q ∷ queues) zero (suc i) skips le below many none =
-    skips p places q queues (none 0 (omega arith) (omega arith))
-    ∙ skip_to shown passes places queues zero i skips (omega arith) (omega arith) (omega arith)
+-- where nothing from one number up to another passes the test, the same is shown from either on
+skip_to : {X Y : Type 0} (shown : List Place → List Y → List X) (passes : Y → Bool) (past : Y)
+    (places : List Place) (ys : List Y) (n i : ℕ) → Skips shown passes
+    → n ≤ i → i < length places → length ys ≡ length places
+    → ((k : ℕ) → n ≤ k → k < i → passes (get_or ys k past) ≡ false)
+    → shown (drop n places) (drop n ys) ≡ shown (drop i places) (drop i ys)
+skip_to shown passes past [] ys n i skips le below many none = absurd (omega arith)
+skip_to shown passes past (p ∷ places) [] n i skips le below many none = absurd (omega arith)
+skip_to shown passes past (p ∷ places) (y ∷ ys) zero zero skips le below many none = refl
+skip_to shown passes past (p ∷ places) (y ∷ ys) zero (suc i) skips le below many none =
+    skips p places y ys (none 0 (omega arith) (omega arith))
+    ∙ skip_to shown passes past places ys zero i skips (omega arith) (omega arith) (omega arith)
     (λ k a b. none (suc k) (omega arith) (omega arith))
-skip_to shown passes (p ∷ places) (q ∷ queues) (suc n) zero skips le below many none = absurd (omega arith)
-skip_to shown passes (p ∷ places) (q ∷ queues) (suc n) (suc i) skips le below many none =
-    skip_to shown passes places queues n i skips (omega arith) (omega arith) (omega arith)
+skip_to shown passes past (p ∷ places) (y ∷ ys) (suc n) zero skips le below many none = absurd (omega arith)
+skip_to shown passes past (p ∷ places) (y ∷ ys) (suc n) (suc i) skips le below many none =
+    skip_to shown passes past places ys n i skips (omega arith) (omega arith) (omega arith)
     (λ k a b. none (suc k) (omega arith) (omega arith))
 
--- then that number stands first
-first_left : {X : Type 0} (shown : List Place → List (Option Queue) → List X) (places : List Place)
-    (queues : List (Option Queue)) (i : ℕ) (p : Place) → i < length queues → slice_get places i ≡ Some p
-    → shown (drop i places) (drop i queues) ≡ shown (p ∷ drop (i + 1) places)
-    (get_or queues i None ∷ drop (i + 1) queues)
-first_left shown places queues i p below at =
+-- what is shown from a number on is what its place and what stands there show before the rest
+first_left : {X Y : Type 0} (shown : List Place → List Y → List X) (past : Y) (places : List Place)
+    (ys : List Y) (i : ℕ) (p : Place) → i < length ys → slice_get places i ≡ Some p
+    → shown (drop i places) (drop i ys) ≡ shown (p ∷ drop (i + 1) places) (get_or ys i past ∷ drop (i + 1) ys)
+first_left shown past places ys i p below at =
     let here : drop i places ≡ p ∷ drop (i + 1) places = drop_more places i p (slice_get_within places i p at)
     ∙ ap (λ (x : Place). x ∷ drop (i + 1) places) (get_or_from_slice_get places i p p at) in
-    let there : drop i queues ≡ get_or queues i None ∷ drop (i + 1) queues = drop_more queues i None below in
-    ap (λ (ps : List Place). shown ps (drop i queues)) here ∙ ap (shown (p ∷ drop (i + 1) places)) there
+    let there : drop i ys ≡ get_or ys i past ∷ drop (i + 1) ys = drop_more ys i past below in
+    ap (λ (ps : List Place). shown ps (drop i ys)) here ∙ ap (shown (p ∷ drop (i + 1) places)) there
 
+-- from a number on, what is shown begins with what stands at the least number there that passes
+pub next_shown : {X Y : Type 0} (shown : List Place → List Y → List X) (passes : Y → Bool) (past : Y)
+    (places : List Place) (ys : List Y) (n i : ℕ) (p : Place) → Skips shown passes
+    → length ys ≡ length places → IsLeastIn past passes ys n (Some i) → slice_get places i ≡ Some p
+    → shown (drop n places) (drop n ys) ≡ shown (p ∷ drop (i + 1) places) (get_or ys i past ∷ drop (i + 1) ys)
+next_shown shown passes past places ys n i p skips many least at =
+    skip_to shown passes past places ys n i skips least.0 (omega (arith, least.1)) many least.3
+    ∙ first_left shown past places ys i p least.1 at
+
+-- the places at whose numbers the test passes show nothing of one at which it fails
+where_skips : {X : Type 0} (passes : X → Bool) → Skips (places_where passes) passes
+where_skips passes p places x xs h = rw h refl
+
+-- where nothing from a number on passes the test, none of these places is left there
+pub where_end : {X : Type 0} (passes : X → Bool) (past : X) (places : List Place) (xs : List X) (n : ℕ)
+    → length xs ≡ length places → IsLeastIn past passes xs n None
+    → places_where passes (drop n places) (drop n xs) ≡ []
+where_end passes past places xs n many none =
+    skip_rest (places_where passes) passes past places xs n (where_skips passes) refl many none
+
+-- from a number on, these places begin with that of the least number there at which the test passes
+pub where_next : {X : Type 0} (passes : X → Bool) (past : X) (places : List Place) (xs : List X) (n i : ℕ) (p : Place)
+    → length xs ≡ length places → IsLeastIn past passes xs n (Some i) → slice_get places i ≡ Some p
+    → places_where passes (drop n places) (drop n xs) ≡ p ∷ places_where passes (drop (i + 1) places) (drop (i + 1) xs)
+where_next passes past places xs n i p many least at =
+    next_shown (places_where passes) passes past places xs n i p (where_skips passes) many least at ∙ rw least.2 refl
+
+-- ---- places without messages
+
+-- messages of which there are not more than 0 are none
 none_of : (ms : List Message) → ltb 0 (length ms) ≡ false → ms ≡ []
 none_of [] e = refl
 none_of (m ∷ ms) e = absurd (grind (arith, nat_tests))
 
+-- a slot that fails the test for messages has none
 no_messages : (q : Option Queue) → has_messages q ≡ false → messages_in q ≡ []
 no_messages q h = none_of (messages_in q) h
 
@@ -93,46 +125,23 @@ many_queues drivers (p ∷ places) [] h = absurd h
 many_queues drivers (p ∷ places) (None ∷ queues) h = absurd h
 many_queues drivers (p ∷ places) (Some q ∷ queues) h = omega (arith, many_queues drivers places queues h.2)
 
--- from a number on, what is shown begins with what stands at the least number there that passes
-pub next_shown : {X : Type 0} (shown : List Place → List (Option Queue) → List X) (passes : Option Queue → Bool)
-    (places : List Place) (queues : List (Option Queue)) (n i : ℕ) (p : Place) → Skips shown passes
-    → length queues ≡ length places → IsLeastFrom passes queues n (Some i) → slice_get places i ≡ Some p
-    → shown (drop n places) (drop n queues)
-    ≡ shown (p ∷ drop (i + 1) places) (get_or queues i None ∷ drop (i + 1) queues)
-next_shown shown passes places queues n i p skips many least at =
-    skip_to shown passes places queues n i skips least.0 (omega (arith, least.1)) many least.3
-    ∙ first_left shown places queues i p least.1 at
-
 -- the flow shows nothing of a place without messages
 pub flow_skips : Skips flow_of has_messages
 flow_skips p places q queues h = rw (no_messages q h) refl
 
--- and so do the first messages
+-- the first messages show nothing of a place without messages
 pub fronts_skip : Skips fronts_of has_messages
 fronts_skip p places q queues h = rw (no_messages q h) refl
 
-fulls_skip : Skips fulls_of is_marked
-fulls_skip p places q queues h = rw h refl
-
--- where no place from a number on is full, none of the full places is left there
-pub fulls_end : (places : List Place) (queues : List (Option Queue)) (n : ℕ) → length queues ≡ length places
-    → IsLeastFrom is_marked queues n None → fulls_of (drop n places) (drop n queues) ≡ []
-fulls_end places queues n many none = skip_rest fulls_of is_marked places queues n fulls_skip refl many none
-
--- from a number on, the full places begin with the least one there
-pub fulls_next : (places : List Place) (queues : List (Option Queue)) (n i : ℕ) (p : Place)
-    → length queues ≡ length places → IsLeastFrom is_marked queues n (Some i) → slice_get places i ≡ Some p
-    → fulls_of (drop n places) (drop n queues) ≡ p ∷ fulls_of (drop (i + 1) places) (drop (i + 1) queues)
-fulls_next places queues n i p many least at =
-    next_shown fulls_of is_marked places queues n i p fulls_skip many least at ∙ rw least.2 refl
-
 -- ---- the first message of each place is that of the flow
 
+-- behind a message of a place, its other messages are no first messages
 pass_same : (p : Place) (ms : List Message) (rest : List QueuedMessage)
     → fronts_after (Some p) (messages_at p ms ++ rest) ≡ fronts_after (Some p) rest
 pass_same p [] rest = refl
 pass_same p (m ∷ ms) rest = rw (place_self p) (pass_same p ms rest)
 
+-- the first messages of the queues are those of the flow, where the place before is none of these places
 fronts_are : (before : Option Place) (places : List Place) (queues : List (Option Queue)) → IsRising place_before places
     → list_any (is_same before) places ≡ false
     → fronts_of places queues ≡ fronts_after before (flow_of places queues)
@@ -151,6 +160,7 @@ fronts_are before (p ∷ places) (q ∷ queues) rise none =
           (ap (λ (hs : List QueuedMessage). record { place = p; message = m } ∷ hs)
           (after ∙ sym (pass_same p ms (flow_of places queues))))
 
+-- where no place was before, none of these is that one
 none_before : (places : List Place) → list_any (is_same None) places ≡ false
 none_before [] = refl
 none_before (p ∷ places) = none_before places
@@ -160,23 +170,27 @@ pub fronts_found : (places : List Place) (queues : List (Option Queue)) → IsRi
     → fronts_of places queues ≡ fronts (flow_of places queues)
 fronts_found places queues rise = fronts_are None places queues rise (none_before places)
 
--- each of them is the first message at its place
+-- each of these messages is the first one that the flow has at its place
 abbrev pub AreFirst : List QueuedMessage → List QueuedMessage → Type 0
 AreFirst flow hs = AllByRecursion (λ h. first_message flow h.place ≡ Some h.message) hs
 
+-- each of these messages is at another place
 abbrev AreBehind : Place → List QueuedMessage → Type 0
 AreBehind p hs = AllByRecursion (λ h. same_place p h.place ≡ false) hs
 
+-- messages of one place don't change which is the first message of another
 first_behind : (r p : Place) (ms : List Message) (rest : List QueuedMessage) → same_place r p ≡ false
     → first_message (messages_at r ms ++ rest) p ≡ first_message rest p
 first_behind r p [] rest h = refl
 first_behind r p (m ∷ ms) rest h = rw h (first_behind r p ms rest h)
 
+-- first messages stay so behind messages of another place
 still_first : (r : Place) (ms : List Message) (rest hs : List QueuedMessage) → AreBehind r hs → AreFirst rest hs
     → AreFirst (messages_at r ms ++ rest) hs
 still_first r ms rest [] b f = tt
 still_first r ms rest (h ∷ hs) b f = (first_behind r h.place ms rest b.0 ∙ f.0, still_first r ms rest hs b.1 f.1)
 
+-- the first messages of places that come behind one are at other places than that one
 fronts_behind : (p : Place) (places : List Place) (queues : List (Option Queue)) → ComesBefore place_before p places
     → AreBehind p (fronts_of places queues)
 fronts_behind p [] queues h = tt
@@ -201,7 +215,7 @@ fronts_first (p ∷ places) (q ∷ queues) rise = by (messages_in q)
       by [] rest = rest []
       by (m ∷ ms) rest = (rw (place_self p) refl, rest (m ∷ ms))
 
--- each place that has a message has one of them
+-- each place that has a message has a first message, where it is not the place before
 pub fronts_of_all : (before : Option Place) (flow : List QueuedMessage) (p : Place) → is_same before p ≡ false
     → (first_message flow p ≡ None → ⊥) → list_any (λ h. same_place h.place p) (fronts_after before flow) ≡ true
 fronts_of_all before [] p other some = absurd (some refl)
@@ -225,6 +239,7 @@ fronts_of_all before (h ∷ flow) p other some = elim (cases_Bool (is_same befor
 
 -- ---- how many messages there are
 
+-- messages that are queued at a place are as many as there were
 at_length : (p : Place) (ms : List Message) → length (messages_at p ms) ≡ length ms
 at_length p [] = refl
 at_length p (m ∷ ms) = omega (arith, at_length p ms)

@@ -3,13 +3,15 @@ pub mod FollowLemmas
 pub mod StoreLemmas
 pub mod SlotLemmas
 pub mod SoundLemmas
+pub mod SeenMessageLemmas
+pub mod SeenPlaceLemmas
 pub mod WalkLemmas
 pub mod QueueTableLemmas
 pub mod CopyLemmas
 pub mod PlaceLemmas
 pub mod NumberLemmas
 pub mod FlowLemmas
-pub mod FullLemmas
+pub mod PlacesWhereLemmas
 pub mod FlowTableLemmas
 pub mod FindLemmas
 pub mod BusyLemmas
@@ -20,3 +22,4 @@ pub mod StepLemmas
 pub mod SpanLemmas
 pub mod MarkLemmas
 pub mod WaiterLemmas
+pub mod WaiterChangeLemmas

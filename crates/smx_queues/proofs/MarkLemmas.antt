@@ -1,16 +1,16 @@
 -- The marked places that bytes make, where one byte changes, and what a walk over them meets next.
 use Rattle.std.proofs.Common.{◌≡◌, ℕ, zero, suc, ◌+◌, ◌-◌, ◌<◌, ◌≤◌, Bool, true, false, not, cond, ◌&&◌, eqb, List, []}
-use Rattle.std.proofs.Common.{◌∷◌, length, map, filter, drop, take, set, replicate, get_or, Option, Some, None, refl}
+use Rattle.std.proofs.Common.{◌∷◌, length, filter, drop, take, set, replicate, get_or, Option, Some, None, refl}
 use Rattle.std.proofs.Common.{sym, ap, ◌∙◌, subst, arith, inl, inr}
 use Rattle.std.proofs.Math.Bool.{and-true}
 use Rattle.std.specs.Prelude.{slice_get}
 use Rattle.std.specs.Iterator.{YieldsFirstBy}
 use Rattle.std.specs.List.{list_any}
 use Rattle.std.proofs.lemmas.Bool.{cases_Bool, cases_lt, false≢true, or_from}
-use Rattle.std.proofs.lemmas.List.{get_or-set_other, get_or-take, get_or_default}
-use Rattle.std.proofs.lemmas.List.{length-drop, length-map, length-set, length-take, map-set}
+use Rattle.std.proofs.lemmas.List.Filters.{length-filter_both}
+use Rattle.std.proofs.lemmas.List.{get_or-set_other, get_or-take, get_or_default, length-drop, length-set, length-take}
 use Rattle.std.proofs.lemmas.Option.{slice_get_within}
-use Rattle.std.proofs.lemmas.List.{drop-map, get_or-drop}
+use Rattle.std.proofs.lemmas.List.{get_or-drop}
 use Rattle.std.proofs.lemmas.Bool.Decides.{nat_tests}
 use Rattle.memchr.specs.Find.{IsFirstByte, is_byte}
 use Rattle.smx_types.specs.declared.stream.Place.{Place}
@@ -19,57 +19,28 @@ use Rattle.smx_model.specs.Ordered.{ComesBefore, IsRising}
 use Rattle.smx_model.specs.Queues.{with_mark}
 use Rattle.smx_model.specs.RunMarks.{all_but}
 use Rattle.smx_model.specs.SettlingByMarks.{IsLeastMarked}
-use Rattle.smx_queues.specs.FlowTables.{fulls_of}
+use Rattle.smx_model.proofs.QueueLemmas.{marked_full}
 use Rattle.smx_queues.specs.PlaceMarks.{AreWithin, IsFirstMark, IsFirstOne, MarkList, has_mark, marked_of}
-use Rattle.smx_queues.specs.QueueTable.{Queue}
-use Rattle.smx_queues.specs.Slots.{IsLeastFrom, is_marked}
-use Rattle.smx_queues.proofs.FullLemmas.{fulls_marked, mark_found, mark_none}
-use Rattle.smx_queues.proofs.LeftLemmas.{fulls_end, fulls_next}
+use Rattle.smx_queues.proofs.LeftLemmas.{where_end, where_next}
 use Rattle.smx_queues.proofs.PlaceLemmas.{apart, not_after, place_is, place_self}
+use Rattle.smx_queues.proofs.PlacesWhereLemmas.{where_found, where_none, where_set}
 
--- ---- bytes as queues that are full or not
-
-abbrev slot : ℕ → Option Queue
-slot b = Some (record { messages = []; full = eqb b 1; high = 0; low = 0 })
-
-marked_as : (places : List Place) (bytes : List ℕ) → marked_of places bytes ≡ fulls_of places (map slot bytes)
-marked_as [] bytes = refl
-marked_as (p ∷ places) [] = refl
-marked_as (p ∷ places) (b ∷ bytes) = ap (λ (xs : List Place). cond (eqb b 1) (p ∷ xs) xs) (marked_as places bytes)
-
-marked_left : (places : List Place) (bytes : List ℕ) (n : ℕ)
-    → marked_of (drop n places) (drop n bytes) ≡ fulls_of (drop n places) (drop n (map slot bytes))
-marked_left places bytes n =
-    marked_as (drop n places) (drop n bytes) ∙ ap (fulls_of (drop n places)) (sym (drop-map slot n bytes))
-
-byte_slot : (bytes : List ℕ) (i : ℕ) → is_marked (get_or (map slot bytes) i None) ≡ eqb (get_or bytes i 0) 1
-byte_slot [] i = refl
-byte_slot (b ∷ bytes) zero = refl
-byte_slot (b ∷ bytes) (suc i) = byte_slot bytes i
+-- the byte is that of a marked place
+abbrev is_one : ℕ → Bool
+is_one b = eqb b 1
 
 -- ---- one byte is set
 
--- the place of the byte is marked or not, and each other place as before
+-- where a byte is set, its place is marked or not by that byte, and each other place as before
 pub marked_set : (p : Place) (places : List Place) (bytes : List ℕ) (i b : ℕ) → IsRising place_before places
     → slice_get places i ≡ Some p → i < length bytes
     → marked_of places (set bytes i b) ≡ with_mark p (eqb b 1) (marked_of places bytes)
-marked_set p places bytes i b rise at below =
-    marked_as places (set bytes i b) ∙ (ap (fulls_of places) (map-set slot bytes i b)
-    ∙ (fulls_marked p places (map slot bytes) i (record { messages = []; full = eqb b 1; high = 0; low = 0 }) rise at
-    (omega (arith, below, length-map bytes slot))
-    ∙ ap (with_mark p (eqb b 1)) (sym (marked_as places bytes))))
+marked_set p places bytes i b rise at below = where_set is_one p places bytes i b rise at below
 
 -- a place has its mark by its byte
 pub marked_found : (p : Place) (places : List Place) (bytes : List ℕ) (i : ℕ) → IsRising place_before places
     → slice_get places i ≡ Some p → list_any (same_place p) (marked_of places bytes) ≡ eqb (get_or bytes i 0) 1
-marked_found p places bytes i rise at = ap (list_any (same_place p)) (marked_as places bytes)
-    ∙ (mark_found p places (map slot bytes) i rise at ∙ byte_slot bytes i)
-
--- and none where the drivers have no such place
-pub marked_none : (p : Place) (places : List Place) (bytes : List ℕ) → list_any (same_place p) places ≡ false
-    → list_any (same_place p) (marked_of places bytes) ≡ false
-marked_none p places bytes none =
-    ap (list_any (same_place p)) (marked_as places bytes) ∙ mark_none p places (map slot bytes) none
+marked_found p places bytes i rise at = where_found is_one 0 refl p places bytes i rise at
 
 -- where each byte is 0 nothing is marked
 pub none_marked : (places : List Place) (n : ℕ) (bytes : List ℕ) → bytes ≡ replicate n 0 → marked_of places bytes ≡ []
@@ -81,50 +52,46 @@ none_marked places n bytes zeros = ap (marked_of places) zeros ∙ none_of place
 
 -- ---- the look-ups of a list with one byte set
 
--- marks are of one place
-abbrev pub AreOfOnePlace : Type 0
-AreOfOnePlace = (p q : Place) (full : Bool) (fulls : List Place)
-    → list_any (same_place q) (with_mark p full fulls) ≡ cond (same_place p q) full (list_any (same_place q) fulls)
-
-looks : (p : Place) (places : List Place) (bytes : List ℕ) (i b : ℕ) (t : MarkList) (q : Place) → AreOfOnePlace
+-- where the byte of a place is set, the place is marked or not by that byte, and each other place as before
+looks : (p : Place) (places : List Place) (bytes : List ℕ) (i b : ℕ) (t : MarkList) (q : Place)
     → IsRising place_before places → slice_get places i ≡ Some p → length bytes ≡ length places
     → marked_of places bytes ≡ t.marked → list_any (same_place q) (marked_of places (set bytes i b))
     ≡ cond (same_place p q) (eqb b 1) (has_mark t q)
-looks p places bytes i b t q law rise at many seen =
+looks p places bytes i b t q rise at many seen =
     ap (list_any (same_place q))
     (marked_set p places bytes i b rise at (omega (arith, many, slice_get_within places i p at))
-    ∙ ap (with_mark p (eqb b 1)) seen) ∙ law p q (eqb b 1) t.marked
+    ∙ ap (with_mark p (eqb b 1)) seen) ∙ marked_full p q (eqb b 1) t.marked
 
 -- a place whose byte is set to 1 is marked
-pub marked_here : (p : Place) (places : List Place) (bytes : List ℕ) (i : ℕ) (t : MarkList) → AreOfOnePlace
+pub marked_here : (p : Place) (places : List Place) (bytes : List ℕ) (i : ℕ) (t : MarkList)
     → IsRising place_before places → slice_get places i ≡ Some p → length bytes ≡ length places
     → marked_of places bytes ≡ t.marked → list_any (same_place p) (marked_of places (set bytes i 1)) ≡ true
-marked_here p places bytes i t law rise at many seen =
-    looks p places bytes i 1 t p law rise at many seen ∙ rw (place_self p) refl
+marked_here p places bytes i t rise at many seen =
+    looks p places bytes i 1 t p rise at many seen ∙ rw (place_self p) refl
 
 -- where a byte is set to 1, each other place is marked as before
 pub marked_others : (p : Place) (places : List Place) (bytes : List ℕ) (i : ℕ) (t : MarkList) (q : Place)
-    → AreOfOnePlace → IsRising place_before places → slice_get places i ≡ Some p → length bytes ≡ length places
+    → IsRising place_before places → slice_get places i ≡ Some p → length bytes ≡ length places
     → marked_of places bytes ≡ t.marked → same_place p q ≡ false
     → list_any (same_place q) (marked_of places (set bytes i 1)) ≡ has_mark t q
-marked_others p places bytes i t q law rise at many seen apart =
-    looks p places bytes i 1 t q law rise at many seen ∙ ap (λ (s : Bool). cond s true (has_mark t q)) apart
+marked_others p places bytes i t q rise at many seen apart =
+    looks p places bytes i 1 t q rise at many seen ∙ ap (λ (s : Bool). cond s true (has_mark t q)) apart
 
 -- where a byte is set to 1, each place that was marked still is
-pub marked_still : (p : Place) (places : List Place) (bytes : List ℕ) (i : ℕ) (t : MarkList) (q : Place) → AreOfOnePlace
+pub marked_still : (p : Place) (places : List Place) (bytes : List ℕ) (i : ℕ) (t : MarkList) (q : Place)
     → IsRising place_before places → slice_get places i ≡ Some p → length bytes ≡ length places
     → marked_of places bytes ≡ t.marked → has_mark t q ≡ true
     → list_any (same_place q) (marked_of places (set bytes i 1)) ≡ true
-marked_still p places bytes i t q law rise at many seen h = looks p places bytes i 1 t q law rise at many seen
+marked_still p places bytes i t q rise at many seen h = looks p places bytes i 1 t q rise at many seen
     ∙ (ap (cond (same_place p q) true) h ∙ grind (arith, nat_tests))
 
 -- where a byte is set to 0, all marks but that of its place are there
-pub cleared_at : (p : Place) (places : List Place) (bytes : List ℕ) (i : ℕ) (t : MarkList) (q : Place) → AreOfOnePlace
+pub cleared_at : (p : Place) (places : List Place) (bytes : List ℕ) (i : ℕ) (t : MarkList) (q : Place)
     → IsRising place_before places → slice_get places i ≡ Some p → length bytes ≡ length places
     → marked_of places bytes ≡ t.marked → list_any (same_place q) (marked_of places (set bytes i 0))
     ≡ all_but (has_mark t) p q
-cleared_at p places bytes i t q law rise at many seen =
-    looks p places bytes i 0 t q law rise at many seen ∙ grind (arith, nat_tests)
+cleared_at p places bytes i t q rise at many seen =
+    looks p places bytes i 0 t q rise at many seen ∙ grind (arith, nat_tests)
 
 -- a place that the drivers don't have has no mark to clear
 pub nothing_cleared : (p : Place) (places : List Place) (bytes : List ℕ) (t : MarkList) (q : Place)
@@ -134,25 +101,18 @@ nothing_cleared p places bytes t q none seen = by (same_place p q) refl where
   by : (s : Bool) → same_place p q ≡ s → has_mark t q ≡ (has_mark t q && not s)
   by true e =
       let gone : has_mark t q ≡ false = subst (λ (x : Place). has_mark t x ≡ false) (place_is p q e)
-      (ap (list_any (same_place p)) (sym seen) ∙ marked_none p places bytes none) in
+      (ap (list_any (same_place p)) (sym seen) ∙ where_none is_one p places bytes none) in
       rw gone refl
   by false e = sym (and-true (has_mark t q))
 
 -- ---- a mark goes
-
-left_many : (p : Place) (xs : List Place) → length (filter (λ q. not (same_place p q)) xs) ≤ length xs
-left_many p [] = omega arith
-left_many p (x ∷ xs) = elim (cases_Bool (same_place p x)) [
-  | inl t ↦ rw t (omega (arith, left_many p xs))
-  | inr f ↦ rw f (omega (arith, left_many p xs))
-]
 
 -- places without one of them are fewer
 pub left_fewer : (p : Place) (xs : List Place) → list_any (same_place p) xs ≡ true
     → length (filter (λ q. not (same_place p q)) xs) < length xs
 left_fewer p [] h = absurd (false≢true h)
 left_fewer p (x ∷ xs) h = elim (cases_Bool (same_place p x)) [
-  | inl t ↦ rw t (omega (arith, left_many p xs))
+  | inl t ↦ rw t (omega (arith, length-filter_both (same_place p) (λ q. not (same_place p q)) (λ _. refl) xs))
   | inr f ↦ let k : list_any (same_place p) xs ≡ true = rw f at h in rw f (omega (arith, left_fewer p xs k))
 ]
 
@@ -172,7 +132,7 @@ fewer_marks p places bytes i t rise at many seen h =
 pub no_mark_there : (p : Place) (places : List Place) (bytes : List ℕ) (t : MarkList)
     → list_any (same_place p) places ≡ false → marked_of places bytes ≡ t.marked → false ≡ has_mark t p
 no_mark_there p places bytes t none seen =
-    sym (ap (list_any (same_place p)) (sym seen) ∙ marked_none p places bytes none)
+    sym (ap (list_any (same_place p)) (sym seen) ∙ where_none is_one p places bytes none)
 
 -- a place that the drivers don't have is not marked, so whatever would follow from its mark holds
 pub none_fewer : (p : Place) (places : List Place) (bytes : List ℕ) (t : MarkList)
@@ -191,22 +151,11 @@ byte_read p places bytes i b t rise at many seen is =
 
 -- ---- the marked places, one by one
 
-least_slot : (bytes : List ℕ) (start : ℕ) (r : Option ℕ) → IsFirstOne bytes start r
-    → IsLeastFrom is_marked (map slot bytes) start r
-least_slot bytes start None none = λ k le. byte_slot bytes k ∙ none k le
-least_slot bytes start (Some p) one = (
-  one.0,
-  omega (arith, one.1, length-map bytes slot),
-  byte_slot bytes p ∙ one.2,
-  λ k le lt. byte_slot bytes k ∙ one.3 k le lt,
-)
-
 -- where no byte from a number on is 1, no marked place is left there
 pub marks_end : (places : List Place) (bytes : List ℕ) (n : ℕ) (now : List Place) → length bytes ≡ length places
     → marked_of (drop n places) (drop n bytes) ≡ now → IsFirstOne bytes n None → now ≡ []
 marks_end places bytes n now many seen none =
-    sym seen ∙ (marked_left places bytes n ∙ fulls_end places (map slot bytes) n (length-map bytes slot ∙ many)
-    (least_slot bytes n None none))
+    sym seen ∙ where_end is_one 0 places bytes n many none
 
 -- where the marks end before they begin, no place is marked
 pub unmarked : (places : List Place) (bytes : List ℕ) (first end : ℕ) (t : MarkList) (p : Place)
@@ -226,23 +175,23 @@ pub marks_step : (places : List Place) (bytes : List ℕ) (n i : ℕ) (p : Place
     → slice_get places i ≡ Some p
     → now ≡ p ∷ marked_of (drop (i + 1) places) (drop (i + 1) bytes)
 marks_step places bytes n i p now many seen one at =
-    sym seen ∙ (marked_left places bytes n
-    ∙ (fulls_next places (map slot bytes) n i p (length-map bytes slot ∙ many) (least_slot bytes n (Some i) one) at
-    ∙ ap (λ (xs : List Place). p ∷ xs) (sym (marked_left places bytes (i + 1)))))
+    sym seen ∙ where_next is_one 0 places bytes n i p many one at
 
 -- ---- the first byte that is 1
 
+-- the byte at a number from the start on is 1 exactly where it is so among the bytes from the start on
 byte_here : (bytes : List ℕ) (start k : ℕ) → start ≤ k
     → eqb (get_or (drop start bytes) (k - start) 0) 1 ≡ eqb (get_or bytes k 0) 1
 byte_here bytes start k le =
     ap (λ (b : ℕ). eqb b 1) (get_or-drop start bytes (k - start) 0 ∙ ap (λ (n : ℕ). get_or bytes n 0) (omega arith))
 
--- the bytes from the start on, up to the end
+-- before the end, a byte from the start on is 1 exactly where it is so among the bytes between them
 byte_between : (bytes : List ℕ) (start end k : ℕ) → start ≤ k → k < end
     → eqb (get_or (take (end - start) (drop start bytes)) (k - start) 0) 1 ≡ eqb (get_or bytes k 0) 1
 byte_between bytes start end k le lt = ap (λ (b : ℕ). eqb b 1)
     (get_or-take (end - start) (drop start bytes) (k - start) 0 (omega arith)) ∙ byte_here bytes start k le
 
+-- between a start and an end there are as many bytes as the two lie apart
 many_between : (bytes : List ℕ) (start end : ℕ) → start ≤ end → end ≤ length bytes
     → length (take (end - start) (drop start bytes)) ≡ end - start
 many_between bytes start end le within =
@@ -285,6 +234,7 @@ one_from bytes start end i w less found =
 
 -- ---- where all marks are
 
+-- where there are no bytes, no place is marked
 no_place_left : (places : List Place) → marked_of places [] ≡ []
 no_place_left [] = refl
 no_place_left (p ∷ places) = refl
@@ -298,10 +248,11 @@ marked_from (p ∷ places) [] (suc n) none = no_place_left (drop n places)
 marked_from (p ∷ places) (b ∷ bytes) (suc n) none =
     rw (none 0 (omega arith)) (marked_from places bytes n (λ k lt. none (suc k) (omega arith)))
 
+-- where one byte is set, each other one is 1 exactly where it was
 other_byte : (bytes : List ℕ) (i b k : ℕ) → (i ≡ k → ⊥) → eqb (get_or (set bytes i b) k 0) 1 ≡ eqb (get_or bytes k 0) 1
 other_byte bytes i b k differ = ap (λ (x : ℕ). eqb x 1) (get_or-set_other bytes i k b 0 (λ e. differ (sym e)))
 
--- a byte that is 1 lies within
+-- a number whose byte is 1 lies between the bounds of the marks
 lies_within : (first end : ℕ) (bytes : List ℕ) (k : ℕ) → AreWithin first end bytes → eqb (get_or bytes k 0) 1 ≡ true
     → (first ≤ k) × (k < end)
 lies_within first end bytes k w one = (
@@ -356,6 +307,7 @@ marked_within first end low high bytes i w there le lt kept few = record {
 
 -- ---- the first of places that rise is the least of them
 
+-- a place that comes before the first of places that rise is none of the rest
 before_all : (p q : Place) (rest : List Place) → ComesBefore place_before p rest → place_before q p ≡ true
     → list_any (same_place q) rest ≡ false
 before_all p q [] h before = refl
@@ -367,6 +319,7 @@ before_all p q (r ∷ rest) h before = or_from _ _ differ (before_all p q rest h
     | inr f ↦ f
   ]
 
+-- a place that comes before all of some comes before the marked ones of them
 behind_marked : (p : Place) (places : List Place) (bytes : List ℕ) → ComesBefore place_before p places
     → ComesBefore place_before p (marked_of places bytes)
 behind_marked p [] bytes h = tt
@@ -394,7 +347,7 @@ least_first p rest h = record {
   none_before = λ q before. or_from _ _ (apart q p before) (before_all p q rest h.0 before);
 }
 
--- what a walk meets first is the least mark
+-- what a walk over all marks meets first is the least marked place
 pub first_mark : (places : List Place) (bytes : List ℕ) (t : MarkList) (r : Option Place) (now rest : List Place)
     → IsRising place_before places → marked_of places bytes ≡ t.marked → now ≡ t.marked
     → YieldsFirstBy (λ (x : Place). x) (λ (xs : List Place). xs) now r rest → IsFirstMark t r

@@ -1,12 +1,12 @@
 -- The places of some drivers, and of one driver more.
-use Rattle.std.proofs.Common.{◌≡◌, ℕ, zero, suc, ◌+◌, ◌*◌, ◌<◌, ◌≤◌, false, ◌&&◌, eqb, List, [], ◌∷◌, ◌++◌}
-use Rattle.std.proofs.Common.{length, ◌⊎◌, Option, Some, None, refl, sym, ap, ◌∙◌, subst, arith, length-append}
-use Rattle.std.proofs.Common.{inl, inr}
+use Rattle.std.proofs.Common.{◌≡◌, ℕ, zero, suc, ◌+◌, ◌*◌, ◌<◌, ◌≤◌, false, ◌&&◌, eqb, List, [], ◌∷◌, ◌++◌, length, ◌⊎◌}
+use Rattle.std.proofs.Common.{Option, Some, None, refl, sym, ap, ◌∙◌, subst, arith, length-append, inl, inr}
 use Rattle.std.specs.Prelude.{slice_get}
-use Rattle.std.specs.List.{list_any}
+use Rattle.std.specs.List.{All, list_any}
 use Rattle.std.specs.Option.{option_map_or}
 use Rattle.std.proofs.lemmas.Bool.{cases_eq, cases_lt, lt-ltb, or_from, ne_eqb}
 use Rattle.std.proofs.lemmas.Bool.Decides.{nat_tests}
+use Rattle.std.proofs.lemmas.List.Elements.{All-append, All-from_recursion, All-nil, All-weaker, recursion_from_All}
 use Rattle.std.proofs.lemmas.List.Folds.{list_any-append}
 use Rattle.std.proofs.lemmas.Option.{same_Some, slice_get_past, slice_get_within}
 use Rattle.smx_types.specs.declared.driver.DriverSpec.{DriverSpec}
@@ -22,12 +22,6 @@ use Rattle.smx_queues.proofs.PlaceLemmas.{lower_driver, lower_minor, place_at}
 
 -- ---- elements of two lists
 
--- what stands in a list stands at the same index with another list behind it
-pub get_left : {X : Type 0} (xs ys : List X) (i : ℕ) (x : X) → slice_get xs i ≡ Some x → slice_get (xs ++ ys) i ≡ Some x
-get_left [] ys i x at = absurd cc
-get_left (y ∷ xs) ys zero x at = at
-get_left (y ∷ xs) ys (suc i) x at = get_left xs ys i x at
-
 -- what stands behind a list stands so many places past the list's end
 pub get_right : {X : Type 0} (xs ys : List X) (n k : ℕ) → n ≡ length xs + k → slice_get (xs ++ ys) n ≡ slice_get ys k
 get_right [] ys n k e = ap (slice_get ys) (omega arith)
@@ -40,19 +34,26 @@ left_only [] ys i lt = absurd (omega arith)
 left_only (x ∷ xs) ys zero lt = refl
 left_only (x ∷ xs) ys (suc i) lt = left_only xs ys i (omega arith)
 
+-- what stands in a list stands at the same index with another list behind it
+get_left : {X : Type 0} (xs ys : List X) (i : ℕ) (x : X) → slice_get xs i ≡ Some x → slice_get (xs ++ ys) i ≡ Some x
+get_left xs ys i x at = left_only xs ys i (slice_get_within xs i x at) ∙ at
+
 -- ---- both sides of some minors
 
+-- both sides of so many minors are twice as many places
 sides_length : (driver n : ℕ) → length (sides_of driver n) ≡ 2 * n
 sides_length driver zero = refl
 sides_length driver (suc n) = length-append (sides_of driver n)
     (place_at driver n side.Write ∷ place_at driver n side.Read ∷ []) ∙ omega (arith, sides_length driver n)
 
+-- of the two sides of a minor, the write side is the first and the read side the second
 last_two : (driver n : ℕ) (s : Side)
     → slice_get (place_at driver n side.Write ∷ place_at driver n side.Read ∷ []) (side_number s)
     ≡ Some (place_at driver n s)
 last_two driver n side.Write = refl
 last_two driver n side.Read = refl
 
+-- a side of a minor stands at twice that minor and the number of the side
 sides_at : (driver n m : ℕ) (s : Side) → m < n
     → slice_get (sides_of driver n) (2 * m + side_number s) ≡ Some (place_at driver m s)
 sides_at driver zero m s lt = absurd (omega arith)
@@ -69,10 +70,12 @@ sides_at driver (suc n) m s lt = elim (cases_lt m n) [
 abbrev IsElsewhere : Place → ℕ → ℕ → Type 0
 IsElsewhere p driver n = (m : ℕ) → m < n → (eqb p.stream.driver driver && eqb p.stream.minor m) ≡ false
 
+-- a place whose driver or minor is another is neither side of this minor
 two_others : (p : Place) (driver m : ℕ) → (eqb p.stream.driver driver && eqb p.stream.minor m) ≡ false
     → list_any (same_place p) (place_at driver m side.Write ∷ place_at driver m side.Read ∷ []) ≡ false
 two_others p driver m h = rw h refl
 
+-- a place whose driver or minor is another is none of the sides of some minors
 sides_elsewhere : (p : Place) (driver n : ℕ) → IsElsewhere p driver n
     → list_any (same_place p) (sides_of driver n) ≡ false
 sides_elsewhere p driver zero h = refl
@@ -80,22 +83,20 @@ sides_elsewhere p driver (suc n) h =
     list_any-append (same_place p) (sides_of driver n) (place_at driver n side.Write ∷ place_at driver n side.Read ∷ [])
     ∙ or_from _ _ (sides_elsewhere p driver n (λ m lt. h m (omega arith))) (two_others p driver n (h n (omega arith)))
 
-below_more : (xs ys : List Place) (n : ℕ) → HaveDriversBelow n xs → HaveDriversBelow n ys
-    → HaveDriversBelow n (xs ++ ys)
-below_more [] ys n h k = k
-below_more (x ∷ xs) ys n h k = (h.0, below_more xs ys n h.1 k)
+-- the place is of one of the first n drivers
+abbrev IsBelow : ℕ → Place → Type 0
+IsBelow n p = p.stream.driver < n
 
-below_higher : (xs : List Place) (n m : ℕ) → n ≤ m → HaveDriversBelow n xs → HaveDriversBelow m xs
-below_higher [] n m le h = tt
-below_higher (x ∷ xs) n m le h = (omega (arith, h.0), below_higher xs n m le h.1)
-
-sides_below : (driver n m : ℕ) → driver < m → HaveDriversBelow m (sides_of driver n)
-sides_below driver zero m lt = tt
-sides_below driver (suc n) m lt = below_more (sides_of driver n)
-    (place_at driver n side.Write ∷ place_at driver n side.Read ∷ []) m (sides_below driver n m lt) (lt, (lt, tt))
+-- both sides of the minors of a driver are of one of the first m drivers where that driver is
+sides_below : (driver n m : ℕ) → driver < m → All (IsBelow m) (sides_of driver n)
+sides_below driver zero m lt = All-nil (IsBelow m)
+sides_below driver (suc n) m lt = All-append (IsBelow m) (sides_of driver n)
+    (place_at driver n side.Write ∷ place_at driver n side.Read ∷ []) (sides_below driver n m lt)
+    (All-from_recursion (IsBelow m) (place_at driver n side.Write ∷ place_at driver n side.Read ∷ []) (lt, (lt, tt)))
 
 -- ---- lists that rise, one behind the other
 
+-- a place that comes before all of two lists comes before all of both together
 before_more : (p : Place) (xs ys : List Place) → ComesBefore place_before p xs → ComesBefore place_before p ys
     → ComesBefore place_before p (xs ++ ys)
 before_more p [] ys h k = k
@@ -106,15 +107,18 @@ abbrev AllBefore : List Place → List Place → Type 0
 AllBefore [] ys = Unit {0}
 AllBefore (x ∷ xs) ys = ComesBefore place_before x ys × AllBefore xs ys
 
+-- two lists that rise do so together, where each of the first comes before all of the second
 rising_more : (xs ys : List Place) → IsRising place_before xs → IsRising place_before ys → AllBefore xs ys
     → IsRising place_before (xs ++ ys)
 rising_more [] ys h k b = k
 rising_more (x ∷ xs) ys h k b = (before_more x xs ys h.0 b.0, rising_more xs ys h.1 k b.1)
 
+-- where each of two lists comes before all of a third, each of both together does
 all_before_more : (xs zs ys : List Place) → AllBefore xs ys → AllBefore zs ys → AllBefore (xs ++ zs) ys
 all_before_more [] zs ys h k = k
 all_before_more (x ∷ xs) zs ys h k = (h.0, all_before_more xs zs ys h.1 k)
 
+-- the sides of some minors come before those of a later minor of the driver
 sides_before : (driver n m : ℕ) → n ≤ m
     → AllBefore (sides_of driver n) (place_at driver m side.Write ∷ place_at driver m side.Read ∷ [])
 sides_before driver zero m le = tt
@@ -127,15 +131,18 @@ sides_before driver (suc n) m le =
       ((lower_minor driver n m side.Read side.Write lt, (lower_minor driver n m side.Read side.Read lt, tt)), tt),
     )
 
+-- the two sides of a minor rise
 two_rise : (driver n : ℕ) → IsRising place_before (place_at driver n side.Write ∷ place_at driver n side.Read ∷ [])
 two_rise driver n = ((grind (arith, nat_tests), tt), (tt, tt))
 
+-- both sides of some minors of a driver rise
 sides_rise : (driver n : ℕ) → IsRising place_before (sides_of driver n)
 sides_rise driver zero = tt
 sides_rise driver (suc n) = rising_more (sides_of driver n)
     (place_at driver n side.Write ∷ place_at driver n side.Read ∷ []) (sides_rise driver n) (two_rise driver n)
     (sides_before driver n n (omega arith))
 
+-- a place of a lower driver comes before both sides of all minors of a driver
 before_sides : (p : Place) (driver n : ℕ) → p.stream.driver < driver → ComesBefore place_before p (sides_of driver n)
 before_sides p driver zero lt = tt
 before_sides p driver (suc n) lt =
@@ -144,6 +151,7 @@ before_sides p driver (suc n) lt =
     (before_sides p driver n lt)
     (lower_driver p (place_at driver n side.Write) h, (lower_driver p (place_at driver n side.Read) h, tt))
 
+-- places of lower drivers come before both sides of all minors of a driver
 all_before_sides : (places : List Place) (driver n : ℕ) → HaveDriversBelow driver places
     → AllBefore places (sides_of driver n)
 all_before_sides [] driver n h = tt
@@ -151,17 +159,21 @@ all_before_sides (p ∷ places) driver n h = (before_sides p driver n h.0, all_b
 
 -- ---- one driver more
 
+-- with one driver more at the end, each other driver has as many minors as before
 minors_left : (ds : List DriverSpec) (d : DriverSpec) (n : ℕ) → n < length ds
     → minors_of (ds ++ d ∷ []) n ≡ minors_of ds n
 minors_left ds d n lt = ap (λ (o : Option DriverSpec). option_map_or (λ x. x.minors) o 0) (left_only ds (d ∷ []) n lt)
 
+-- the driver at the end has its own minors
 minors_last : (ds : List DriverSpec) (d : DriverSpec) (n : ℕ) → n ≡ length ds → minors_of (ds ++ d ∷ []) n ≡ d.minors
 minors_last ds d n e =
     ap (λ (o : Option DriverSpec). option_map_or (λ x. x.minors) o 0) (get_right ds (d ∷ []) n 0 (omega arith))
 
+-- where there is no driver, there are no minors
 minors_past : (ds : List DriverSpec) (n : ℕ) → length ds ≤ n → minors_of ds n ≡ 0
 minors_past ds n le = ap (λ (o : Option DriverSpec). option_map_or (λ x. x.minors) o 0) (slice_get_past ds n le)
 
+-- nothing is not something
 none_is : {X : Type 0} {x : X} → None ≡ Some x → ⊥
 none_is e = absurd cc
 
@@ -182,11 +194,18 @@ one_driver_more ds rows places d h = record {
   numbered = numbered;
   none_else = none_else;
   drivers_below =
-      subst (λ (n : ℕ). HaveDriversBelow n (places ++ sides_of (length ds) d.minors)) (sym (length-append ds (d ∷ [])))
-      (below_more places (sides_of (length ds) d.minors) (length ds + 1)
-      (below_higher places (length ds) (length ds + 1) (omega arith) h.drivers_below)
-      (sides_below (length ds) d.minors (length ds + 1) (omega arith)));
+      recursion_from_All (IsBelow all) (places ++ sides_of (length ds) d.minors)
+      (All-append (IsBelow all) places (sides_of (length ds) d.minors)
+      (All-weaker (IsBelow (length ds)) (IsBelow all) (λ p lt. omega (arith, count)) places
+      (All-from_recursion (IsBelow (length ds)) places h.drivers_below))
+      (sides_below (length ds) d.minors all (omega (arith, count))));
 } where
+  all : ℕ
+  all = length (ds ++ d ∷ [])
+
+  count : all ≡ length ds + 1
+  count = length-append ds (d ∷ [])
+
   last : DriverRow
   last = row_behind places d
 

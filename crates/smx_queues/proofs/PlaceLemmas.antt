@@ -1,12 +1,15 @@
--- Places that are the same, and places of which one comes first.
-use Rattle.std.proofs.Common.{◌≡◌, ℕ, true, false, ltb, List, [], ◌∷◌, refl, arith}
+-- Places that are the same, places of which one comes first, and the numbers of places that rise.
+use Rattle.std.proofs.Common.{◌≡◌, ◌≢◌, ℕ, zero, suc, true, false, ltb, List, [], ◌∷◌, Some, refl, sym, ap, ◌∙◌, subst}
+use Rattle.std.proofs.Common.{arith, inl, inr}
+use Rattle.std.specs.Prelude.{slice_get}
 use Rattle.std.specs.List.{list_any}
-use Rattle.std.proofs.lemmas.Bool.{or_from}
+use Rattle.std.proofs.lemmas.Bool.{cases_Bool, false≢true, or_from, or_right}
 use Rattle.std.proofs.lemmas.Bool.Decides.{nat_tests}
+use Rattle.std.proofs.lemmas.Option.{same_Some}
 use Rattle.smx_types.specs.declared.stream.Place.{Place}
 use Rattle.smx_types.specs.declared.stream.Side.{Side}
 use Rattle.smx_model.specs.Configuration.{place_before, same_place}
-use Rattle.smx_model.specs.Ordered.{ComesBefore}
+use Rattle.smx_model.specs.Ordered.{ComesBefore, IsRising}
 -- places that the test says are the same are one; each is the same as itself, and doesn't come before itself
 pub use Rattle.smx_model.proofs.OrderLemmas.{same_self as place_self, same_not_before as not_before}
 pub use Rattle.smx_model.proofs.SettlingLemmas.{same_place_is as place_is}
@@ -45,3 +48,53 @@ lower_driver p q h = grind (arith, nat_tests)
 pub lower_minor : (driver m n : ℕ) (s t : Side) → ltb m n ≡ true
     → place_before (place_at driver m s) (place_at driver n t) ≡ true
 lower_minor driver m n s t h = grind (arith, nat_tests)
+
+-- ---- the numbers of places
+
+-- a place that stands in a list is found in it
+pub stands : (p : Place) (places : List Place) (i : ℕ) → slice_get places i ≡ Some p
+    → list_any (same_place p) places ≡ true
+stands p [] i e = absurd cc
+stands p (x ∷ places) zero e = let same : x ≡ p = same_Some x p e in rw same (rw (place_self p) refl)
+stands p (x ∷ places) (suc i) e = or_right (same_place p x) _ (stands p places i e)
+
+-- a place that is found in a list has a number in it
+pub where_is : (p : Place) (places : List Place) → list_any (same_place p) places ≡ true
+    → (i : ℕ) × (slice_get places i ≡ Some p)
+where_is p [] h = absurd (false≢true h)
+where_is p (x ∷ places) h = elim (cases_Bool (same_place p x)) [
+  | inl t ↦ (0, ap (λ (y : Place). Some y) (sym (place_is p x t)))
+  | inr f ↦
+      let k : list_any (same_place p) places ≡ true = rw f at h in
+      let there = where_is p places k in
+      (suc there.0, there.1)
+]
+
+-- numbers of two places differ
+pub numbers_differ : (places : List Place) (p q : Place) (i j : ℕ) → slice_get places i ≡ Some p
+    → slice_get places j ≡ Some q → same_place p q ≡ false → j ≢ i
+numbers_differ places p q i j at there differ same =
+    let e : Some p ≡ Some q = sym at ∙ (ap (slice_get places) (sym same) ∙ there) in
+    let k : same_place p p ≡ false = subst (λ (x : Place). same_place p x ≡ false) (sym (same_Some p q e)) differ in
+    false≢true (sym k ∙ place_self p)
+
+-- a place of a list that rises comes behind the first one
+pub first_before : (p q : Place) (places : List Place) (i : ℕ) → ComesBefore place_before p places
+    → slice_get places i ≡ Some q → place_before p q ≡ true
+first_before p q [] i h at = absurd cc
+first_before p q (r ∷ places) zero h at = subst (λ (x : Place). place_before p x ≡ true) (same_Some r q at) h.0
+first_before p q (r ∷ places) (suc i) h at = first_before p q places i h.1 at
+
+-- a place that comes before all of a list does not stand in it
+not_behind : (p : Place) (places : List Place) (i : ℕ) → ComesBefore place_before p places
+    → slice_get places i ≡ Some p → ⊥
+not_behind p places i h at = false≢true (sym (not_before p) ∙ first_before p p places i h at)
+
+-- a place of a list that rises has one number
+pub one_number : (places : List Place) (i j : ℕ) (p : Place) → IsRising place_before places
+    → slice_get places i ≡ Some p → slice_get places j ≡ Some p → i ≡ j
+one_number [] i j p rise a b = absurd cc
+one_number (x ∷ places) zero zero p rise a b = refl
+one_number (x ∷ places) zero (suc j) p rise a b = absurd (not_behind x places j rise.0 (b ∙ sym a))
+one_number (x ∷ places) (suc i) zero p rise a b = absurd (not_behind x places i rise.0 (a ∙ sym b))
+one_number (x ∷ places) (suc i) (suc j) p rise a b = ap suc (one_number places i j p rise.1 a b)

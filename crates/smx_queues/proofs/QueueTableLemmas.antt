@@ -11,7 +11,7 @@ use Rattle.smx_types.specs.declared.message.Message.{Message}
 use Rattle.smx_model.specs.Queues.{bytes_of, full_after_leaving}
 use Rattle.smx_queues.specs.declared.chain.Chain.{Chain}
 use Rattle.smx_queues.specs.QueueTable.{Queue, QueueTable, IsPlace, queue_at, least_vacant, with_place, without_front}
-use Rattle.smx_queues.specs.QueueTable.{emptied}
+use Rattle.smx_queues.specs.QueueTable.{without_messages}
 use Rattle.smx_queues.specs.Chains.{no_chain}
 use Rattle.smx_queues.proofs.SlotLemmas.{slot, slots}
 
@@ -52,10 +52,12 @@ clearing_starts q p is =
       spare = refl;
     }
 
+-- a place that is being cleared has the messages and the mark that it has left, and else what it had
 now_at : (old new : QueueTable) (p : ℕ) (c : IsClearing old new p) → p < length old.queues
     → queue_at new.queues p ≡ record (queue_at old.queues p) { messages = c.messages; full = c.full }
 now_at old new p c below = ap (λ qs. queue_at qs p) c.queues ∙ set_at old.queues p _ below
 
+-- messages of which there is a first one are not none
 first_some : (ms : List Message) (m : Message) → Some m ≡ slice_get ms 0 → 0 < length ms
 first_some [] m e = absurd (cc)
 first_some (x ∷ ms) m e = omega arith
@@ -65,7 +67,7 @@ pub same_set : (queues queues' : List (Option Queue)) (p : ℕ) (q q' : Queue) �
     → set queues p (Some q) ≡ set queues' p (Some q')
 same_set queues queues' p q q' e f = rw (e, f) refl
 
--- one more has left
+-- where one more message has left a place that is being cleared, those behind it are left
 pub clearing_goes_on : (old mid new : QueueTable) (p : ℕ) (m : Message) → p < length old.queues → IsClearing old mid p
     → Some m ≡ slice_get (queue_at mid.queues p).messages 0
     → new.queues ≡ set mid.queues p (Some (without_front (queue_at mid.queues p))) → new.spare ≡ mid.spare + 1
@@ -79,13 +81,6 @@ clearing_goes_on old mid new p m below c taken gone room =
       queues = gone ∙ same_set _ _ p _ _ c.queues (ap without_front e) ∙ set-set old.queues p _ _;
       spare = omega (arith, room, c.spare, some, length-drop 1 c.messages);
     }
-
--- none is left
-pub clearing_ends : (old mid : QueueTable) (p : ℕ) → p < length old.queues → IsClearing old mid p
-    → None ≡ slice_get (queue_at mid.queues p).messages 0 → set mid.queues p (Some (emptied (queue_at mid.queues p)))
-    ≡ set old.queues p (Some (emptied (queue_at old.queues p)))
-clearing_ends old mid p below c none =
-    same_set _ _ p _ _ c.queues (ap emptied (now_at old mid p c below)) ∙ set-set old.queues p _ _
 
 -- the number of the first chain whose place is gone is the least that no place has
 pub record IsVacant (chains : List Chain) (queues : List Queue) (p : ℕ) : Type 0 where
@@ -113,7 +108,7 @@ vacant_at (chain ∷ chains) (q ∷ queues) (suc p) many below gone others =
       added = λ new. rw here (ap (λ rest. Some q ∷ rest) (r.added new));
     }
 
--- where no place is gone, the next number is that
+-- where no place is gone, the next number is the least that no place has
 pub record IsFull (chains : List Chain) (queues : List Queue) : Type 0 where
   pub least : length chains ≡ least_vacant (slots chains queues)
   pub added : (q : Queue) → slots chains queues ++ Some q ∷ [] ≡ with_place (slots chains queues) q
@@ -157,12 +152,15 @@ vacant_not_found chains queues many none =
     far true is none = absurd (cc)
     far false is none = grind (arith, nat_tests)
 
--- a place from which all messages have left, and then its mark is taken, is emptied
+-- a place that all messages have left, and whose mark is then taken, has no message and is not full
 pub cleared_queues : (old mid : QueueTable) (p : ℕ) → IsPlace old.queues p → IsClearing old mid p
-    → None ≡ slice_get (queue_at mid.queues p).messages 0 → set mid.queues p (Some (emptied (queue_at mid.queues p)))
-    ≡ set old.queues p (Some (emptied (queue_at old.queues p)))
-cleared_queues old mid p there c none = clearing_ends old mid p (place_below old.queues p there) c none
+    → None ≡ slice_get (queue_at mid.queues p).messages 0
+    → set mid.queues p (Some (without_messages (queue_at mid.queues p)))
+    ≡ set old.queues p (Some (without_messages (queue_at old.queues p)))
+cleared_queues old mid p there c none =
+    same_set _ _ p _ _ c.queues (ap without_messages (now_at old mid p c (place_below old.queues p there)))
+    ∙ set-set old.queues p _ _
 
--- what was set and set again
+-- what is set at a number, and then set again, is as if it had been set once
 pub set_again : (queues : List (Option Queue)) (p : ℕ) (a b : Option Queue) → set (set queues p a) p b ≡ set queues p b
 set_again queues p a b = set-set queues p a b

@@ -20,6 +20,7 @@ slots [] queues = []
 slots (chain ∷ chains) [] = []
 slots (chain ∷ chains) (q ∷ queues) = slot chain q ∷ slots chains queues
 
+-- a queue of these messages, this full mark and these water marks
 abbrev queue_from : List Message → Bool → ℕ → ℕ → Queue
 queue_from ms marked above below = record { messages = ms; full = marked; high = above; low = below }
 
@@ -40,11 +41,12 @@ store_queues own s chains queues loose st =
     ∙ same_queue _ _ (ap (λ n. walk s n (get_or chains i no_chain).first) l.count
     ∙ walk_chain own s i l.rank _ _ _ l.nodes) l.full l.high l.low)
 
+-- what a contract sees of chains is their queues, by those chains that are there
 slots_map : (s : Slab Node) (chains : List Chain) → map (slot_of s) chains ≡ slots chains (map (queue_of s) chains)
 slots_map s [] = refl
 slots_map s (chain ∷ chains) = ap (λ rest. slot_of s chain ∷ rest) (slots_map s chains)
 
--- and so the view of a store
+-- what a contract sees of the chains of a store is the store's queues, by those chains that are there
 pub store_slots : (own : ℕ → ℕ × ℕ) (s : Slab Node) (chains : List Chain) (queues : List Queue) (loose : ℕ)
     → IsStore own s chains queues loose → map (slot_of s) chains ≡ slots chains queues
 store_slots own s chains queues loose st =
@@ -75,6 +77,7 @@ pub record IsThere (chains : List Chain) (queues : List Queue) (p : ℕ) : Type 
   pub there : (get_or chains p no_chain).there ≡ true
   pub same : queue_at (slots chains queues) p ≡ get_or queues p no_queue
 
+-- a chain that has a slot is there
 slot_there : (chain : Chain) (q : Queue) → IsSome (slot chain q) → chain.there ≡ true
 slot_there chain q some = by chain.there some
   where

@@ -6,7 +6,6 @@ use Rattle.std.specs.Prelude.{slice_get}
 use Rattle.std.specs.List.{list_any}
 use Rattle.std.proofs.lemmas.Bool.{cases_lt, eq-eqb, eqb-true, false_from_ne_true, false≢true}
 use Rattle.std.proofs.Math.Seq.{take-length}
-use Rattle.std.proofs.lemmas.List.Folds.{list_any_at}
 use Rattle.std.proofs.lemmas.Map.Views.{any-filter_same}
 use Rattle.std.proofs.lemmas.Option.{get_or_from_slice_get, same_Some, slice_get_within}
 use Rattle.smx_types.specs.declared.driver.DriverSpec.{DriverSpec}
@@ -15,7 +14,7 @@ use Rattle.smx_types.specs.declared.stream.Place.{Place}
 use Rattle.smx_types.specs.declared.stream.Side.{Side}
 use Rattle.smx_types.specs.declared.stream.Side.TheVariants as side
 use Rattle.smx_model.specs.Configuration.{QueuedMessage, place_before, same_place, side_number}
-use Rattle.smx_model.specs.Ordered.{ComesBefore, IsRising}
+use Rattle.smx_model.specs.Ordered.{IsRising}
 use Rattle.smx_queues.specs.FlowTables.{first_at, flow_of, fronts, fronts_of, fronts_of_driver}
 use Rattle.smx_queues.specs.PlaceLists.{ArePlaces, IsSpanOf, number_in}
 use Rattle.smx_queues.specs.QueueTable.{Queue}
@@ -23,28 +22,8 @@ use Rattle.smx_queues.specs.Slots.{messages_in}
 use Rattle.smx_queues.specs.declared.places.DriverRow.{DriverRow}
 use Rattle.smx_queues.specs.declared.span.Span.{Span}
 use Rattle.smx_queues.proofs.LeftLemmas.{fronts_found}
-use Rattle.smx_queues.proofs.PlaceLemmas.{not_before, place_at, place_is, place_self}
+use Rattle.smx_queues.proofs.PlaceLemmas.{one_number, place_at, place_is, stands}
 use Rattle.smx_queues.proofs.StepLemmas.{driver_at}
-
--- ---- a place of rising ones has one number
-
-before_at : (p : Place) (places : List Place) (j : ℕ) (q : Place) → ComesBefore place_before p places
-    → slice_get places j ≡ Some q → place_before p q ≡ true
-before_at p [] j q h at = absurd cc
-before_at p (x ∷ places) zero q h at = subst (λ (y : Place). place_before p y ≡ true) (same_Some x q at) h.0
-before_at p (x ∷ places) (suc j) q h at = before_at p places j q h.1 at
-
-not_behind : (p : Place) (places : List Place) (j : ℕ) → ComesBefore place_before p places
-    → slice_get places j ≡ Some p → ⊥
-not_behind p places j h at = false≢true (sym (not_before p) ∙ before_at p places j p h at)
-
-one_number : (places : List Place) (i j : ℕ) (p : Place) → IsRising place_before places
-    → slice_get places i ≡ Some p → slice_get places j ≡ Some p → i ≡ j
-one_number [] i j p rise a b = absurd cc
-one_number (x ∷ places) zero zero p rise a b = refl
-one_number (x ∷ places) zero (suc j) p rise a b = absurd (not_behind x places j rise.0 (b ∙ sym a))
-one_number (x ∷ places) (suc i) zero p rise a b = absurd (not_behind x places i rise.0 (a ∙ sym b))
-one_number (x ∷ places) (suc i) (suc j) p rise a b = ap suc (one_number places i j p rise.1 a b)
 
 -- ---- the numbers of a driver's places
 
@@ -54,6 +33,7 @@ record IsSide (j : ℕ) : Type 0 where
   pub its_side : Side
   pub is : j ≡ 2 * minor + side_number its_side
 
+-- each number is twice a minor's, and that of a side
 side_of : (j : ℕ) → IsSide j
 side_of zero = record { minor = 0; its_side = side.Write; is = refl }
 side_of (suc zero) = record { minor = 0; its_side = side.Read; is = refl }
@@ -63,6 +43,7 @@ side_of (suc (suc j)) = let h = side_of j in record {
   is = omega (arith, h.is);
 }
 
+-- the number of a side is at most 1
 side_small : (s : Side) → side_number s ≤ 1
 side_small side.Write = omega arith
 side_small side.Read = omega arith
@@ -74,10 +55,8 @@ minor_is_there : (drivers : List DriverSpec) (rows : List DriverRow) (places : L
 minor_is_there drivers rows places k p row h at there = elim (cases_lt p.stream.minor row.minors) [
   | inl lt ↦ lt
   | inr past ↦
-      let some : list_any (same_place p) places ≡ true = list_any_at (same_place p) places k p
-      (slice_get_within places k p at)
-      (ap (same_place p) (get_or_from_slice_get places k p p at) ∙ place_self p) in
-      absurd (false≢true (sym (h.none_else p (omega (arith, h.minors p.stream.driver row there))) ∙ some))
+      absurd (false≢true
+      (sym (h.none_else p (omega (arith, h.minors p.stream.driver row there))) ∙ stands p places k at))
 ]
 
 -- the places of a driver with this row have the numbers from its first one on
@@ -107,7 +86,7 @@ span_of_row drivers rows places driver row h there = record {
       let same = one_number places k (number_in row p) p h.rising at (h.numbered p row its_row minor) in
       (omega arith, omega (arith, side_small p.side))
 
--- no place is of a driver that is not there
+-- where a driver is not there, its places are those of no numbers
 pub no_span : (drivers : List DriverSpec) (rows : List DriverRow) (places : List Place) (driver : ℕ)
     → ArePlaces drivers rows places → None ≡ slice_get rows driver
     → IsSpanOf driver places (record { first = 0; end = 0 })
@@ -129,11 +108,13 @@ no_span drivers rows places driver h none = record {
 
 -- ---- the first messages there
 
+-- the first message of a place that fails the test is left out
 out_of_first : (test : Place → Bool) (p : Place) (ms : List Message) (rest : List QueuedMessage) → test p ≡ false
     → filter (λ h. test h.place) (first_at p ms ++ rest) ≡ filter (λ h. test h.place) rest
 out_of_first test p [] rest f = refl
 out_of_first test p (m ∷ ms) rest f = rw f refl
 
+-- where no place passes the test, no first message is kept
 none_kept : (test : Place → Bool) (places : List Place) (queues : List (Option Queue))
     → ((k : ℕ) (p : Place) → slice_get places k ≡ Some p → test p ≡ true → ⊥)
     → filter (λ h. test h.place) (fronts_of places queues) ≡ []
@@ -143,15 +124,18 @@ none_kept test (p ∷ places) (q ∷ queues) none =
     out_of_first test p (messages_in q) (fronts_of places queues) (false_from_ne_true (test p) (none 0 p refl))
     ∙ none_kept test places queues (λ k. none (suc k))
 
+-- the first message of a place that passes the test is kept, before those of the rest
 in_first : (test : Place → Bool) (p : Place) (ms : List Message) (rest : List QueuedMessage) → test p ≡ true
     → filter (λ h. test h.place) (first_at p ms ++ rest) ≡ first_at p ms ++ filter (λ h. test h.place) rest
 in_first test p [] rest t = refl
 in_first test p (m ∷ ms) rest t = rw t refl
 
+-- of no places there are no first messages
 nothing_left : (n : ℕ) (queues : List (Option Queue)) → fronts_of (drop n []) queues ≡ []
 nothing_left zero queues = refl
 nothing_left (suc n) queues = refl
 
+-- without queues there are no first messages
 no_queues : (places : List Place) → fronts_of places [] ≡ []
 no_queues [] = refl
 no_queues (p ∷ places) = refl

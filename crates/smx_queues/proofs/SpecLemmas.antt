@@ -11,7 +11,7 @@ use Rattle.smx_queues.specs.PlaceLists.{ArePlaces, sides_of}
 use Rattle.smx_queues.specs.declared.places.DriverRow.{DriverRow}
 use Rattle.smx_queues.proofs.NumberLemmas.{one_driver_more, row_behind}
 
--- the places of one driver more of a list
+-- with both sides of the minors of the next driver of a list, the places are those of one driver more
 pub next_driver : (drivers : List DriverSpec) (i : ℕ) (rows new : List DriverRow) (places more : List Place)
     → i < length drivers → ArePlaces (take i drivers) rows places
     → new ≡ rows ++ record { first = length places; minors = minors_of drivers i } ∷ []

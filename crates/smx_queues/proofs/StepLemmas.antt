@@ -4,7 +4,7 @@ use Rattle.std.proofs.Common.{take, get_or, min, Option, Some, None, refl, sym, 
 use Rattle.std.specs.Prelude.{nat_lt, slice_get}
 use Rattle.std.specs.List.{All}
 use Rattle.std.proofs.lemmas.List.{get_or-take, length-take}
-use Rattle.std.proofs.lemmas.List.Elements.{All-filter, All-from_recursion}
+use Rattle.std.proofs.lemmas.List.Elements.{All-filter, All-from_recursion, All-get_or}
 use Rattle.smx_types.specs.declared.message.Message.{Message}
 use Rattle.smx_types.specs.declared.stream.Place.{Place}
 use Rattle.smx_model.specs.Configuration.{QueuedMessage}
@@ -15,8 +15,8 @@ use Rattle.smx_queues.specs.PlaceLists.{HaveDriversBelow, PlaceList}
 use Rattle.smx_queues.specs.QueueTable.{Queue, queue_at}
 use Rattle.smx_queues.specs.Slots.{IsLeastFrom, has_messages, is_marked, messages_in}
 use Rattle.smx_queues.proofs.FlowTableLemmas.{found, found_at}
-use Rattle.smx_queues.proofs.LeftLemmas.{AreFirst, flow_skips, fronts_first, fronts_found, fronts_skip, fulls_end}
-use Rattle.smx_queues.proofs.LeftLemmas.{fulls_next, head_front, many_queues, next_shown, skip_rest}
+use Rattle.smx_queues.proofs.LeftLemmas.{AreFirst, flow_skips, fronts_first, fronts_found, fronts_skip, head_front}
+use Rattle.smx_queues.proofs.LeftLemmas.{many_queues, next_shown, skip_rest, where_end, where_next}
 
 -- there are as many queues as places
 pub many : (p : PlaceList) (all : List (Option Queue)) → IsFlow p all → length all ≡ length p.places
@@ -28,7 +28,7 @@ below p all i h lt = omega (arith, many p all h)
 
 -- ---- the first messages
 
--- before an end there are as many queues as places, too
+-- before an end there are as many queues as places
 many_before : (p : PlaceList) (all : List (Option Queue)) (e : ℕ) → IsFlow p all
     → length (take e all) ≡ length (take e p.places)
 many_before p all e h = length-take e all ∙ ap (min e) (many p all h) ∙ sym (length-take e p.places)
@@ -39,14 +39,16 @@ pub front_ends : (p : PlaceList) (all : List (Option Queue)) (n e : ℕ) (now : 
     → IsLeastFrom has_messages (take e all) n None → now ≡ []
 front_ends p all n e now h seen none =
     sym seen
-    ∙ skip_rest fronts_of has_messages (take e p.places) (take e all) n fronts_skip refl (many_before p all e h) none
+    ∙ skip_rest fronts_of has_messages None (take e p.places) (take e all) n fronts_skip refl (many_before p all e h)
+    none
 
--- what was found before an end is there
+-- a number lies before an end, and the queue there has messages
 pub record IsBefore (all : List (Option Queue)) (e i : ℕ) : Type 0 where
   pub before : i < e
   pub below : i < length all
   pub passes : has_messages (get_or all i None) ≡ true
 
+-- what was found before an end lies before it, is the number of a queue, and has messages
 pub found_before : (all : List (Option Queue)) (n e i : ℕ) → IsLeastFrom has_messages (take e all) n (Some i)
     → IsBefore all e i
 found_before all n e i least =
@@ -56,6 +58,7 @@ found_before all n e i least =
       passes = ap has_messages (sym (get_or-take e all i None lt)) ∙ least.2;
     }
 
+-- before an end stands the same as in the whole list
 slice_get_take : (xs : List Place) (e i : ℕ) → i < e → slice_get (take e xs) i ≡ slice_get xs i
 slice_get_take xs zero i lt = absurd (omega arith)
 slice_get_take [] (suc e) i lt = refl
@@ -75,7 +78,7 @@ front_steps p all n e i place m now h seen least at first =
     let here : slice_get (messages_in (get_or (take e all) i None)) 0
     ≡ Some m = ap (λ (q : Option Queue). slice_get (messages_in q) 0) (get_or-take e all i None lt ∙ f.slot)
     ∙ (sym (ap (λ (q : Queue). slice_get q.messages 0) (found_at p.drivers all place i f)) ∙ sym first) in
-    sym seen ∙ (next_shown fronts_of has_messages (take e p.places) (take e all) n i place fronts_skip
+    sym seen ∙ (next_shown fronts_of has_messages None (take e p.places) (take e all) n i place fronts_skip
     (many_before p all e h) least (slice_get_take p.places e i lt ∙ at)
     ∙ head_front place (get_or (take e all) i None) m
     (fronts_of (drop (i + 1) (take e p.places)) (drop (i + 1) (take e all))) here)
@@ -85,14 +88,15 @@ front_steps p all n e i place m now h seen least at first =
 -- where no place from a number on is full, the walk meets no full place any more
 pub full_ends : (p : PlaceList) (all : List (Option Queue)) (n : ℕ) (now : List Place) → IsFlow p all
     → fulls_of (drop n p.places) (drop n all) ≡ now → IsLeastFrom is_marked all n None → now ≡ []
-full_ends p all n now h seen none = sym seen ∙ fulls_end p.places all n (many p all h) none
+full_ends p all n now h seen none = sym seen ∙ where_end is_marked None p.places all n (many p all h) none
 
 -- the walk meets next the least full place from its number on
 pub full_steps : (p : PlaceList) (all : List (Option Queue)) (n i : ℕ) (place : Place) (now : List Place) → IsFlow p all
     → fulls_of (drop n p.places) (drop n all) ≡ now → IsLeastFrom is_marked all n (Some i)
     → slice_get p.places i ≡ Some place
     → now ≡ place ∷ fulls_of (drop (i + 1) p.places) (drop (i + 1) all)
-full_steps p all n i place now h seen least at = sym seen ∙ fulls_next p.places all n i place (many p all h) least at
+full_steps p all n i place now h seen least at =
+    sym seen ∙ where_next is_marked None p.places all n i place (many p all h) least at
 
 -- ---- the first of each place is the first at its place
 
@@ -105,7 +109,7 @@ first_fronts p all n t h seen =
     let here = subst (λ (x : FlowLists). AreFirst x.flow (fronts x.flow)) seen first in
     All-from_recursion (λ (x : QueuedMessage). first_message t.flow x.place ≡ Some x.message) (fronts t.flow) here
 
--- so is each of those of one driver
+-- each first message that the flow has for a place of the driver is the model's first message of that place
 pub first_fronts_of : (driver : ℕ) (p : PlaceList) (all : List (Option Queue)) (n : ℕ) (t : FlowLists) → IsFlow p all
     → lists_of p all n ≡ t → All (λ h. first_message t.flow h.place ≡ Some h.message) (fronts_of_driver driver t.flow)
 first_fronts_of driver p all n t h seen =
@@ -121,21 +125,24 @@ nothing_added xs ms e = subst (λ (ns : List Message). xs ≡ xs ++ map (λ m. m
 -- the place of a number is of one of so many drivers
 pub driver_at : (n : ℕ) (places : List Place) (i : ℕ) (d : Place) → HaveDriversBelow n places → i < length places
     → (get_or places i d).stream.driver < n
-driver_at n [] i d h lt = absurd (omega arith)
-driver_at n (p ∷ places) zero d h lt = h.0
-driver_at n (p ∷ places) (suc i) d h lt = driver_at n places i d h.1 (omega arith)
+driver_at n places i d h lt =
+    All-get_or (λ (p : Place). p.stream.driver < n) places i d lt
+    (All-from_recursion (λ (p : Place). p.stream.driver < n) places h)
 
 -- ---- a place that passes has a first message
 
+-- the slot of a number has the messages of the queue of that number
 slot_messages : (all : List (Option Queue)) (i : ℕ) → messages_in (get_or all i None) ≡ (queue_at all i).messages
 slot_messages [] i = refl
 slot_messages (None ∷ all) zero = refl
 slot_messages (Some q ∷ all) zero = refl
 slot_messages (x ∷ all) (suc i) = slot_messages all i
 
+-- there are messages
 abbrev has_some : List Message → Bool
 has_some ms = nat_lt 0 (length ms)
 
+-- where there are messages, the first one is not nothing
 first_there : (ms : List Message) (o : Option Message) → has_some ms ≡ true → o ≡ slice_get ms 0 → o ≡ None → ⊥
 first_there [] o some e none = cc
 first_there (m ∷ ms) o some e none = cc
@@ -155,7 +162,7 @@ pub messages_end : (p : PlaceList) (all : List (Option Queue)) (n : ℕ) (place 
     → IsLeastFrom has_messages all n None → now ≡ []
 messages_end p all n place left now h seen none least =
     sym seen ∙ (ap (λ (ms : List Message). messages_at place ms ++ flow_of (drop n p.places) (drop n all)) none
-    ∙ skip_rest flow_of has_messages p.places all n flow_skips refl (many p all h) least)
+    ∙ skip_rest flow_of has_messages None p.places all n flow_skips refl (many p all h) least)
 
 -- where a place has none left, the walk meets next the first message of the least later one that has any
 pub messages_step : (p : PlaceList) (all : List (Option Queue)) (n i : ℕ) (was place : Place) (left : List Message)
@@ -166,6 +173,6 @@ pub messages_step : (p : PlaceList) (all : List (Option Queue)) (n i : ℕ) (was
     ∷ (messages_at place rest ++ flow_of (drop (i + 1) p.places) (drop (i + 1) all))
 messages_step p all n i was place left now m rest h seen none least at here =
     sym seen ∙ (ap (λ (ms : List Message). messages_at was ms ++ flow_of (drop n p.places) (drop n all)) none
-    ∙ (next_shown flow_of has_messages p.places all n i place flow_skips (many p all h) least at
+    ∙ (next_shown flow_of has_messages None p.places all n i place flow_skips (many p all h) least at
     ∙ ap (λ (ms : List Message). messages_at place ms ++ flow_of (drop (i + 1) p.places) (drop (i + 1) all))
     (slot_messages all i ∙ here)))

@@ -2,10 +2,12 @@
 use Rattle.std.proofs.Common.{◌≡◌, ◌≢◌, ℕ, suc, ◌+◌, ◌<◌, ◌≤◌, ◌-◌, ◌^◌, Bool, true, false, nat_eq, nat_lt}
 use Rattle.std.proofs.Common.{◌&&◌, List, [], ◌∷◌, ◌++◌, length, get_or, set, Option, Some, None, is_some}
 use Rattle.std.proofs.Common.{count_by, refl, sym, ap, subst, ◌∙◌, inl, inr, arith, add-zero}
+use Rattle.std.specs.List.{All}
 use Rattle.std.proofs.lemmas.Bool.{cases_eq, cases_lt, cases_Bool}
 use Rattle.std.proofs.lemmas.Bool.Decides.{nat_tests}
 use Rattle.std.proofs.lemmas.List.{get_or-set_same, get_or-set_other, get_or_append_left, get_or_push, length-set}
 use Rattle.std.proofs.lemmas.List.{length-append}
+use Rattle.std.proofs.lemmas.List.Elements.{All-nil, All-push, All-tail}
 use Rattle.std.proofs.lemmas.List.Sums.{sum_by-set, sum_by_push, sum_by-append, sum_by-cons}
 use Rattle.slab.specs.Slab.{Slab, get, slab_len, Updates}
 use Rattle.smx_types.specs.declared.message.Message.{Message}
@@ -13,7 +15,7 @@ use Rattle.smx_model.specs.Queues.{bytes_of, full_after_leaving}
 use Rattle.smx_queues.specs.declared.node.Node.{Node}
 use Rattle.smx_queues.specs.declared.chain.Chain.{Chain}
 use Rattle.smx_queues.specs.QueueTable.{Queue, with_arrival}
-use Rattle.smx_queues.specs.Chains.{IsChain, HaveBytes, IsQueue, IsStore, chain_with_last, chain_without_first}
+use Rattle.smx_queues.specs.Chains.{HasBytesThatFit, IsChain, IsQueue, IsStore, chain_with_last, chain_without_first}
 use Rattle.smx_queues.specs.Chains.{no_chain, no_queue, with_follower}
 use Rattle.smx_queues.proofs.ChainLemmas.{owned, owned-same, owned-other, frame, last_owner, chain_more}
 use Rattle.smx_queues.proofs.FollowLemmas.{node_from, follows_none, follower_updates, follower_kept, follower_counted}
@@ -46,7 +48,7 @@ queue_kept own own' s s' p chain q kept l =
       none_if_gone = l.none_if_gone;
     }
 
--- a new node that is in no chain yet
+-- with a new node that is in no chain yet, each chain is its queue still, and one node more is in no chain
 pub store_insert : (own : ℕ → ℕ × ℕ) (s s' : Slab Node) (chains : List Chain) (queues : List Queue) (key : ℕ)
     (node : Node) → IsStore own s chains queues 0 → get s key ≡ None → Updates s s' key (Some node)
     → slab_len s' ≡ slab_len s + 1 → IsStore (owned own key (length chains, 0)) s' chains queues 1
@@ -59,7 +61,7 @@ store_insert own s s' chains queues key node st vacant new len =
       counted = omega (arith, st.counted);
     }
 
--- a node that is in no chain goes
+-- where the one node that is in no chain goes, each chain is its queue still, and no node is in no chain
 pub store_remove : (own : ℕ → ℕ × ℕ) (s s' : Slab Node) (chains : List Chain) (queues : List Queue) (key : ℕ)
     → IsStore own s chains queues 1 → (own key).0 ≡ length chains → Updates s s' key None → slab_len s' + 1 ≡ slab_len s
     → IsStore own s' chains queues 0
@@ -72,6 +74,7 @@ store_remove own s s' chains queues key st apart new len =
       counted = omega (arith, st.counted);
     }
 
+-- where one chain and its queue are set, and each other chain is its queue, all chains are their queues
 each_set : (own : ℕ → ℕ × ℕ) (s : Slab Node) (chains : List Chain) (queues : List Queue) (p : ℕ) (chain : Chain)
     (q : Queue) → p < length chains → length queues ≡ length chains → IsQueue own s p chain q
     → ((i : ℕ) → i < length chains → i ≢ p → IsQueue own s i (get_or chains i no_chain) (get_or queues i no_queue))
@@ -90,7 +93,7 @@ each_set own s chains queues p chain q within many new others i below =
       ) (others i (omega (arith, length-set chains p chain)) differs)
     ]
 
--- the first node leaves its chain, and stays in the store
+-- where the first node leaves its chain and stays in the store, the chain is its queue without the first message
 pub detached_queue : (own own' : ℕ → ℕ × ℕ) (s : Slab Node) (p : ℕ) (chain : Chain) (q : Queue) (m : Message)
     (rest : List Message) → q.messages ≡ m ∷ rest → IsQueue own s p chain q
     → ((x : ℕ) → x ≢ chain.first → own' x ≡ own x)
@@ -103,7 +106,7 @@ detached_queue own own' s p chain q m rest are l kept =
     bytes_less rest are = omega (arith, l.bytes, ap bytes_of are, sum_by-cons size m rest)
 
     queue_with : (rest : List Message) (next : ℕ) → q.messages ≡ m ∷ rest → (rank : ℕ)
-        → IsChain own' s p rank next rest chain.last → HaveBytes rest
+        → IsChain own' s p rank next rest chain.last → All HasBytesThatFit rest
         → IsQueue own' s p (chain_without_first chain next (size m)) (left_with q rest)
     queue_with rest next are rank nodes have =
         record {
@@ -130,9 +133,9 @@ detached_queue own own' s p chain q m rest are l kept =
         ]
 
     by : (rest : List Message) → q.messages ≡ m ∷ rest → IsChain own s p l.rank chain.first (m ∷ rest) chain.last
-        → HaveBytes (m ∷ rest) → (next : ℕ) × (get s chain.first ≡ Some (record { message = m; next = next }))
+        → All HasBytesThatFit (m ∷ rest) → (next : ℕ) × (get s chain.first ≡ Some (record { message = m; next = next }))
         × ((own chain.first).0 ≡ p) × IsQueue own' s p (chain_without_first chain next (size m)) (left_with q rest)
-    by [] are c have = (c.0, c.1, c.2, queue_with [] c.0 are 0 tt tt)
+    by [] are c have = (c.0, c.1, c.2, queue_with [] c.0 are 0 tt (All-nil HasBytesThatFit))
     by (m2 ∷ rest) are c have = (
       c.0,
       c.1,
@@ -140,7 +143,8 @@ detached_queue own own' s p chain q m rest are l kept =
       queue_with (m2 ∷ rest) c.0 are (suc l.rank)
           (frame own own' s s p (suc l.rank) c.0 (m2 ∷ rest) _
           (λ x node found of above.
-          (refl, kept x (λ e. let r = ap (λ y. (own y).1) e in absurd (omega (arith, r, c.3, above))))) c.4) have.2,
+          (refl, kept x (λ e. let r = ap (λ y. (own y).1) e in absurd (omega (arith, r, c.3, above))))) c.4)
+          (All-tail HasBytesThatFit m (m2 ∷ rest) have),
     )
 
 -- where the first node of a chain leaves it and stays in the store, one node more is in no chain
@@ -175,13 +179,11 @@ store_detach own s chains queues loose p m rest st within are =
       },
     )
 
+-- with a message more at the end there are so many bytes more
 bytes_more : (ms : List Message) (m : Message) → bytes_of (ms ++ m ∷ []) ≡ bytes_of ms + size m
 bytes_more ms m = omega (arith, sum_by-append size ms (m ∷ []), sum_by-cons size m [])
 
-have_more : (ms : List Message) (m : Message) → HaveBytes ms → 0 < size m → size m < 2 ^ 63 → HaveBytes (ms ++ m ∷ [])
-have_more [] m have some few = (some, few, tt)
-have_more (x ∷ rest) m have some few = (have.0, have.1, have_more rest m have.2 some few)
-
+-- with a node more behind its last one, a chain holds one message more
 attached_chain : (own : ℕ → ℕ × ℕ) (s : Slab Node) (p rank : ℕ) (chain : Chain) (ms : List Message) (key : ℕ)
     (node : Node) → IsChain own s p rank chain.first ms chain.last → chain.count ≡ length ms → get s key ≡ Some node
     → (own key).0 ≢ p → IsChain (owned own key (p, rank + length ms)) (with_follower s chain key) p rank
@@ -207,6 +209,7 @@ attached_chain own s p rank chain (m ∷ rest) key node c count found apart =
     (chain_more own _ s (with_follower s chain key) p rank chain.first m rest chain.last key node c apart found
     (λ x other. owned-other own key _ x other) (ap (λ o. o.0) o) (ap (λ o. o.1) o) u.others changed)
 
+-- with a node more behind its last one, a chain is its queue after the arrival of that message
 attached_queue : (own : ℕ → ℕ × ℕ) (s : Slab Node) (p : ℕ) (chain : Chain) (q : Queue) (key : ℕ) (node : Node)
     (l : IsQueue own s p chain q) → chain.there ≡ true → get s key ≡ Some node → (own key).0 ≢ p → 0 < size node.message
     → size node.message < 2 ^ 63 → IsQueue (owned own key (p, l.rank + length q.messages)) (with_follower s chain key) p
@@ -222,14 +225,14 @@ attached_queue own s p chain q key node l there found apart some few =
       full = cc (l.full, l.high, b);
       high = l.high;
       low = l.low;
-      have_bytes = have_more q.messages node.message l.have_bytes some few;
+      have_bytes = All-push HasBytesThatFit q.messages node.message l.have_bytes (some, few);
       open_below_high = λ e. grind (arith, nat_tests);
       high_bounded = l.high_bounded;
       low_below = l.low_below;
       none_if_gone = λ gone. absurd (let e = sym there ∙ gone in cc);
     }
 
--- a node of no chain becomes the last of one
+-- where a node of no chain becomes the last of one, that chain is its queue after the arrival of its message
 pub store_attach : (own : ℕ → ℕ × ℕ) (s : Slab Node) (chains : List Chain) (queues : List Queue) (loose p key : ℕ)
     (node : Node) → IsStore own s chains queues (loose + 1) → p < length chains
     → (get_or chains p no_chain).there ≡ true → get s key ≡ Some node → (own key).0 ≡ length chains
@@ -282,14 +285,14 @@ bare_is own s p chain bare =
       full = refl;
       high = refl;
       low = refl;
-      have_bytes = tt;
+      have_bytes = All-nil HasBytesThatFit;
       open_below_high = λ _. omega (arith, bare.low_below);
       high_bounded = bare.high_bounded;
       low_below = bare.low_below;
       none_if_gone = λ _. refl;
     }
 
--- a chain without nodes takes the place of one
+-- where a chain without nodes takes the place of one without messages, all chains are their queues
 pub store_reset : (own : ℕ → ℕ × ℕ) (s : Slab Node) (chains : List Chain) (queues : List Queue) (loose p : ℕ)
     (after : Chain) → IsStore own s chains queues loose → p < length chains → (get_or queues p no_queue).messages ≡ []
     → IsBare after → IsStore own s (set chains p after) (set queues p (bare_queue after)) loose
@@ -309,7 +312,7 @@ store_reset own s chains queues loose p after st within none bare =
       );
     }
 
--- and comes behind all of them
+-- with a chain without nodes behind all others, all chains are their queues
 pub store_push : (own : ℕ → ℕ × ℕ) (s : Slab Node) (chains : List Chain) (queues : List Queue) (loose : ℕ)
     (after : Chain) → IsStore own s chains queues loose → IsBare after
     → IsStore own s (chains ++ after ∷ []) (queues ++ bare_queue after ∷ []) loose
@@ -333,7 +336,7 @@ store_push own s chains queues loose after st bare =
       counted = omega (arith, st.counted, bare.count, sum_by_push (λ (chain : Chain). chain.count) chains after);
     }
 
--- more room changes nothing
+-- a store of the same slots with other room has the same chains and queues
 pub store_grown : (own : ℕ → ℕ × ℕ) (s s' : Slab Node) (chains : List Chain) (queues : List Queue) (loose : ℕ)
     → s'.slots ≡ s.slots → IsStore own s chains queues loose → IsStore own s' chains queues loose
 store_grown own s s' chains queues loose same st =
@@ -344,7 +347,7 @@ store_grown own s s' chains queues loose same st =
       counted = ap (λ (slots : List (Option Node)). count_by is_some slots) same ∙ st.counted;
     }
 
--- another mark on a chain, which is no mark only where it has few bytes
+-- with another mark, which is no mark only where there are few bytes, a chain is its queue with that mark
 pub store_marked : (own : ℕ → ℕ × ℕ) (s : Slab Node) (chains : List Chain) (queues : List Queue) (loose p : ℕ)
     (full : Bool) → IsStore own s chains queues loose → p < length chains
     → (full ≡ false → bytes_of (get_or queues p no_queue).messages < (get_or queues p no_queue).high)

@@ -23,6 +23,7 @@ pub walk_len : (own : ℕ → ℕ × ℕ) (s : Slab Node) (p : ℕ) (chain : Cha
     → length (walk s chain.count chain.first) ≡ chain.count
 walk_len own s p chain q l = ap (λ (ms : List Message). length ms) (walk_all own s p chain q l) ∙ sym l.count
 
+-- lists that are the same have the same first element and the same rest
 heads_same : (a b : Message) (xs ys : List Message) → a ∷ xs ≡ b ∷ ys → (a ≡ b) × (xs ≡ ys)
 heads_same a b xs ys e = (cc, cc)
 

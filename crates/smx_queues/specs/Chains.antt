@@ -1,7 +1,7 @@
 -- How the nodes of the store and the chains of the places make the queues. No public clause needs this.
 use Rattle.std.specs.Prelude.{◌≡◌, ℕ, zero, suc, ◌+◌, ◌-◌, ◌<◌, ◌≤◌, ◌^◌, ◌==◌, true, false, if◌then◌else◌, List, []}
 use Rattle.std.specs.Prelude.{◌∷◌, length, Option, Some, None, slice_index_or}
-use Rattle.std.specs.List.{sum_by}
+use Rattle.std.specs.List.{All, sum_by}
 use Rattle.slab.specs.Slab.{Slab, get, slab_len, with_value}
 use Rattle.smx_types.specs.declared.message.Message.{Message}
 use Rattle.smx_queues.specs.declared.chain.Chain.{Chain}
@@ -45,9 +45,9 @@ new_chain above below = record {
   low = below;
 }
 
--- without nodes, and full
-abbrev pub emptied_chain : Chain → Chain
-emptied_chain chain = record {
+-- without nodes, and full, so that no arrival of a copied message changes its mark
+abbrev pub chain_to_fill : Chain → Chain
+chain_to_fill chain = record {
   there = chain.there;
   full = true;
   first = 0;
@@ -112,10 +112,9 @@ IsChain own s p rank first (m ∷ m2 ∷ rest) last =
     × ((own first).1 ≡ rank)
     × IsChain own s p (suc rank) next (m2 ∷ rest) last
 
--- each message has a byte, and no more than fit in memory
-abbrev pub HaveBytes : List Message → Type 0
-HaveBytes [] = Unit {0}
-HaveBytes (m ∷ rest) = (0 < length m.bytes) × (length m.bytes < 2 ^ 63) × HaveBytes rest
+-- the message has a byte, and no more than fit in memory
+abbrev pub HasBytesThatFit : Message → Type 0
+HasBytesThatFit m = (0 < length m.bytes) × (length m.bytes < 2 ^ 63)
 
 -- the chain of place p is this queue
 pub record IsQueue (own : ℕ → ℕ × ℕ) (s : Slab Node) (p : ℕ) (chain : Chain) (q : Queue) : Type 0 where
@@ -126,7 +125,7 @@ pub record IsQueue (own : ℕ → ℕ × ℕ) (s : Slab Node) (p : ℕ) (chain :
   pub full : chain.full ≡ q.full
   pub high : chain.high ≡ q.high
   pub low : chain.low ≡ q.low
-  pub have_bytes : HaveBytes q.messages
+  pub have_bytes : All HasBytesThatFit q.messages
   pub open_below_high : q.full ≡ false → bytes_of q.messages < q.high
   pub high_bounded : q.high ≤ 4096
   pub low_below : q.low < q.high

@@ -9,7 +9,7 @@ use Rattle.smx_model.specs.Configuration.{QueuedMessage, is_at, place_before, qu
 use Rattle.smx_model.specs.DriverList.{high_of, low_of}
 use Rattle.smx_model.specs.Ordered.{IsRising, with_inserted, without_first}
 use Rattle.smx_model.specs.Queues.{bytes_at, full_after_arrival, full_after_leaving, with_mark}
-use Rattle.smx_queues.specs.PlaceLists.{PlaceList}
+use Rattle.smx_queues.specs.PlaceLists.{PlaceList, places_where}
 use Rattle.smx_queues.specs.QueueTable.{Queue}
 use Rattle.smx_queues.specs.Slots.{is_marked, messages_in}
 
@@ -33,9 +33,7 @@ flow_of (p ∷ places) (q ∷ queues) = messages_at p (messages_in q) ++ flow_of
 
 -- the full places
 abbrev pub fulls_of : List Place → List (Option Queue) → List Place
-fulls_of [] queues = []
-fulls_of (p ∷ places) [] = []
-fulls_of (p ∷ places) (q ∷ queues) = if is_marked q then p ∷ fulls_of places queues else fulls_of places queues
+fulls_of places queues = places_where is_marked places queues
 
 -- a queue for each place, with the water marks of its driver
 abbrev pub AreQueuesOf : List DriverSpec → List Place → List (Option Queue) → Type 0

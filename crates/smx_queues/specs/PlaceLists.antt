@@ -1,7 +1,7 @@
 -- The places of all streams that some drivers have, and their numbers.
-use Rattle.std.specs.Prelude.{◌≡◌, ℕ, zero, suc, ◌+◌, ◌*◌, ◌<◌, ◌≤◌, false, List, [], ◌∷◌, ◌++◌, length, map, Option}
-use Rattle.std.specs.Prelude.{Some, slice_get}
-use Rattle.std.specs.List.{list_any}
+use Rattle.std.specs.Prelude.{◌≡◌, ℕ, zero, suc, ◌+◌, ◌*◌, ◌<◌, ◌≤◌, Bool, false, List, [], ◌∷◌, ◌++◌, length, map}
+use Rattle.std.specs.Prelude.{if◌then◌else◌, Option, Some, slice_get}
+use Rattle.std.specs.List.{AllByRecursion, list_any}
 use Rattle.smx_types.specs.declared.driver.DriverSpec.{DriverSpec}
 use Rattle.smx_types.specs.declared.stream.Place.{Place}
 use Rattle.smx_types.specs.declared.stream.Side.{Side}
@@ -31,8 +31,7 @@ number_in row p = row.first + 2 * p.stream.minor + side_number p.side
 
 -- each is of one of the first n drivers
 abbrev pub HaveDriversBelow : ℕ → List Place → Type 0
-HaveDriversBelow n [] = Unit {0}
-HaveDriversBelow n (p ∷ places) = (p.stream.driver < n) × HaveDriversBelow n places
+HaveDriversBelow n places = AllByRecursion (λ p. p.stream.driver < n) places
 
 -- a row for each driver, and the places of the drivers' streams, in order, each at its number, and no others
 pub record ArePlaces (drivers : List DriverSpec) (rows : List DriverRow) (places : List Place) : Type 0 where
@@ -54,6 +53,13 @@ pub record IsSpanOf (driver : ℕ) (places : List Place) (span : Span) : Type 0 
       → p.stream.driver ≡ driver
   pub all : (k : ℕ) (p : Place) → slice_get places k ≡ Some p → p.stream.driver ≡ driver
       → (span.first ≤ k) × (k < span.end)
+
+-- those places at whose number stands what passes the test
+abbrev pub places_where : {X : Type 0} → (X → Bool) → List Place → List X → List Place
+places_where passes [] xs = []
+places_where passes (p ∷ places) [] = []
+places_where passes (p ∷ places) (x ∷ xs) =
+    if passes x then p ∷ places_where passes places xs else places_where passes places xs
 
 -- a queue for each place, without messages, with the water marks of its driver
 abbrev pub new_queues : List DriverSpec → List Place → List (Option Queue)

@@ -1,13 +1,13 @@
 -- What a contract sees of a mark for each place of some drivers.
-use Rattle.std.specs.Prelude.{◌≡◌, ℕ, ◌<◌, ◌≤◌, Bool, true, false, ◌==◌, List, [], ◌∷◌, length, Option, Some, None}
-use Rattle.std.specs.Prelude.{slice_index, if◌then◌else◌}
+use Rattle.std.specs.Prelude.{◌≡◌, ℕ, ◌<◌, ◌≤◌, Bool, false, ◌==◌, List, length, Option, Some, None, slice_index}
 use Rattle.std.specs.List.{list_any}
 use Rattle.smx_types.specs.declared.driver.DriverSpec.{DriverSpec}
 use Rattle.smx_types.specs.declared.stream.Place.{Place}
 use Rattle.smx_model.specs.Configuration.{place_before, same_place}
 use Rattle.smx_model.specs.Ordered.{IsRising}
 use Rattle.smx_model.specs.SettlingByMarks.{HasNoRunMark, IsLeastMarked}
-use Rattle.smx_queues.specs.PlaceLists.{PlaceList}
+use Rattle.smx_queues.specs.PlaceLists.{PlaceList, places_where}
+use Rattle.smx_queues.specs.Slots.{IsLeastIn}
 
 -- the drivers, and the marked ones of their places, in order
 pub record MarkList : Type 0 where
@@ -20,9 +20,7 @@ has_mark t p = list_any (same_place p) t.marked
 
 -- the places whose byte is 1
 abbrev pub marked_of : List Place → List ℕ → List Place
-marked_of [] bytes = []
-marked_of (p ∷ places) [] = []
-marked_of (p ∷ places) (b ∷ bytes) = if b == 1 then p ∷ marked_of places bytes else marked_of places bytes
+marked_of places bytes = places_where (λ b. b == 1) places bytes
 
 -- the places rise, and each has a byte
 pub record HaveBytes (p : PlaceList) (bytes : List ℕ) : Type 0 where
@@ -37,10 +35,7 @@ pub record AreWithin (first end : ℕ) (bytes : List ℕ) : Type 0 where
 
 -- the least number from this one on whose byte is 1, if there is one
 abbrev pub IsFirstOne : List ℕ → ℕ → Option ℕ → Type 0
-IsFirstOne bytes start (Some p) =
-    (start ≤ p) × (p < length bytes) × ((slice_index bytes p == 1) ≡ true)
-    × ((k : ℕ) → start ≤ k → k < p → (slice_index bytes k == 1) ≡ false)
-IsFirstOne bytes start None = (k : ℕ) → start ≤ k → (slice_index bytes k == 1) ≡ false
+IsFirstOne bytes start r = IsLeastIn 0 (λ b. b == 1) bytes start r
 
 -- the least marked place, if there is one
 abbrev pub IsFirstMark : MarkList → Option Place → Type 0

@@ -61,5 +61,5 @@ without_front q = now (drop 1 q.messages) where
   now messages = record q { messages = messages; full = full_after_leaving q.full q.low (bytes_of messages) }
 
 -- without its messages, and not full
-abbrev pub emptied : Queue → Queue
-emptied q = record q { messages = []; full = false }
+abbrev pub without_messages : Queue → Queue
+without_messages q = record q { messages = []; full = false }

@@ -19,12 +19,17 @@ is_marked (Some q) = q.full
 abbrev pub message_total : List (Option Queue) → ℕ
 message_total queues = sum_by (λ q. length (messages_in q)) queues
 
+-- the least number from this one on at which what stands in the list passes the test, if there is one; `past` is what
+-- stands behind the list
+abbrev pub IsLeastIn : {X : Type 0} → X → (X → Bool) → List X → ℕ → Option ℕ → Type 0
+IsLeastIn past passes xs start (Some p) =
+    (start ≤ p) × (p < length xs) × (passes (slice_index_or xs p past) ≡ true)
+    × ((k : ℕ) → start ≤ k → k < p → passes (slice_index_or xs k past) ≡ false)
+IsLeastIn past passes xs start None = (k : ℕ) → start ≤ k → passes (slice_index_or xs k past) ≡ false
+
 -- the least number from this one on whose slot passes the test, if there is one
 abbrev pub IsLeastFrom : (Option Queue → Bool) → List (Option Queue) → ℕ → Option ℕ → Type 0
-IsLeastFrom passes queues start (Some p) =
-    (start ≤ p) × (p < length queues) × (passes (slice_index_or queues p None) ≡ true)
-    × ((k : ℕ) → start ≤ k → k < p → passes (slice_index_or queues k None) ≡ false)
-IsLeastFrom passes queues start None = (k : ℕ) → start ≤ k → passes (slice_index_or queues k None) ≡ false
+IsLeastFrom passes queues start r = IsLeastIn None passes queues start r
 
 -- it has messages
 abbrev pub has_messages : Option Queue → Bool

@@ -3,7 +3,7 @@
 ghost use Rattle.std.specs.Prelude.{◌≡◌, ◌≢◌, ◌<◌, ◌≤◌, ◌==◌, ◌&&◌, [], ◌∷◌, ◌++◌, false, not, length, nat_lt};
 ghost use Rattle.std.specs.Prelude.{Some, None, IfOk, IfNone, OnOk, OnSome, slice_get, slice_index_or, slice_set, take};
 ghost use Rattle.smx_types.specs.declared.message.Message.{Message};
-ghost use Rattle.smx_queues.specs.QueueTable.{emptied, empty_queue, queue_at, with_arrival, with_queue};
+ghost use Rattle.smx_queues.specs.QueueTable.{empty_queue, queue_at, with_arrival, with_queue, without_messages};
 ghost use Rattle.smx_queues.specs.QueueTable.{without_front, IsPlace};
 ghost use Rattle.smx_queues.specs.Slots.{busy_byte, has_messages, IsLeastFrom};
 
@@ -154,7 +154,7 @@ impl BusyQueues {
     pub fn clear(&mut self, p: PlaceId)
         requires { IsPlace self.old.queues p }
         ensures cleared { self.new.queues
-            ≡ with_queue self.old.queues p (emptied (queue_at self.old.queues p)) }
+            ≡ with_queue self.old.queues p (without_messages (queue_at self.old.queues p)) }
     {
         self.queues.clear(p);
         set_busy(&self.queues, &mut self.busy, p);

@@ -2,7 +2,7 @@
 
 ghost use Rattle.std.specs.Prelude.{◌≡◌, ◌+◌, ◌<◌, ◌≤◌, ◌^◌, ◌++◌, ◌∷◌, [], not, position, OnOk, OnErr};
 ghost use Rattle.std.specs.List.{repeat};
-ghost use Rattle.smx_queues.specs.Chains.{chain_with_last, chain_without_first, emptied_chain, new_chain};
+ghost use Rattle.smx_queues.specs.Chains.{chain_to_fill, chain_with_last, chain_without_first, new_chain};
 
 use smx_types::NoMemory;
 
@@ -37,9 +37,9 @@ impl Chain {
         }
     }
 
-    // Without nodes, and full.
-    pub fn emptied(self) -> Chain
-        ensures { result ≡ emptied_chain self }
+    // Without nodes, and full, so that no arrival of a copied message changes its mark.
+    pub fn to_fill(self) -> Chain
+        ensures { result ≡ chain_to_fill self }
     {
         Chain {
             there: self.there,

@@ -17,7 +17,6 @@ use crate::first_messages::FirstMessages;
 use crate::full_places::FullPlaces;
 use crate::places::Places;
 use crate::queued_messages::QueuedMessages;
-use smx_model::laws_of_queues::the_first_leaves;
 use smx_types::{Bytes, DriverSpec, Message, NoMemory, Place};
 use std::alloc::Global;
 use std::marker::Model;
@@ -89,7 +88,6 @@ impl FlowTable {
     pub fn has_messages(&self, place: Place) -> bool
         ensures { result ≡ is_some (first_message self.now.flow place) }
     {
-        the_first_leaves();
         match self.places.number(place) {
             Some(p) => self.queues.has_messages(p),
             None => false,
@@ -111,7 +109,6 @@ impl FlowTable {
     pub fn front(&self, place: Place) -> Option<&Message>
         ensures { option_copied result ≡ first_message self.now.flow place }
     {
-        the_first_leaves();
         match self.places.number(place) {
             Some(p) => self.queues.queues().front(p),
             None => None,
@@ -161,7 +158,6 @@ impl FlowTable {
         ensures left { OnSome result (self.new ≡ record (after_leaving self.old place) { spare = self.new.spare }) }
         ensures none { IfNone result (self.new ≡ self.old) }
     {
-        the_first_leaves();
         match self.places.number(place) {
             Some(p) => self.queues.take(p),
             None => None,
@@ -177,7 +173,6 @@ impl FlowTable {
         ensures { (m : Message) → first_message self.old.flow from ≡ Some m
             → self.new ≡ after_arrival (after_leaving self.old from) to m }
     {
-        the_first_leaves();
         let p = self.places.number(from).unwrap();
         let q = self.places.number(to).unwrap();
         self.queues.move_front(p, q);

@@ -11,7 +11,6 @@ ghost use Rattle.smx_queues.specs.PlaceMarks.{has_mark, AreWithin, IsFirstMark};
 use crate::marked_places::{MarkedPlaces, first_one};
 use crate::places::Places;
 use crate::span::Span;
-use smx_model::laws_of_queues::marks_are_of_one_place;
 use smx_types::{DriverSpec, NoMemory, Place};
 use std::alloc::Global;
 use std::marker::Model;
@@ -88,7 +87,6 @@ impl PlaceMarks {
         ensures kept { (q : Place) → has_mark self.old q ≡ true → has_mark self.new q ≡ true }
         ensures drivers { self.new.drivers ≡ self.old.drivers }
     {
-        marks_are_of_one_place();
         if let Some(p) = self.places.number(place) {
             self.bytes[p] = 1;
             self.span = self.span.with(p);
@@ -101,7 +99,6 @@ impl PlaceMarks {
         ensures fewer { has_mark self.old place ≡ true → length self.new.marked < length self.old.marked }
         ensures drivers { self.new.drivers ≡ self.old.drivers }
     {
-        marks_are_of_one_place();
         if let Some(p) = self.places.number(place) {
             self.bytes[p] = 0;
             self.span = narrowed(&self.bytes, self.span, p);

@@ -11,7 +11,7 @@ ghost use Rattle.std.specs.List.{repeat};
 ghost use Rattle.smx_types.specs.declared.message.Message.{Message};
 ghost use Rattle.smx_model.specs.Queues.{bytes_of};
 ghost use Rattle.smx_queues.specs.QueueTable.{queue_at, IsPlace, empty_queue, least_vacant, with_place};
-ghost use Rattle.smx_queues.specs.QueueTable.{with_queue, with_arrival, without_front, emptied};
+ghost use Rattle.smx_queues.specs.QueueTable.{with_queue, with_arrival, without_front, without_messages};
 
 use crate::chain::{Chain, first_gone, push_all};
 use crate::node::{Node, follow, sized};
@@ -245,7 +245,7 @@ impl Queues {
     pub fn clear(&mut self, p: PlaceId)
         requires { IsPlace self.old.queues p }
         ensures cleared { self.new.queues
-            ≡ with_queue self.old.queues p (emptied (queue_at self.old.queues p)) }
+            ≡ with_queue self.old.queues p (without_messages (queue_at self.old.queues p)) }
         ensures spare { self.new.spare ≡ self.old.spare + length (queue_at self.old.queues p).messages }
     {
         while let Some(message) = self.take(p) {
@@ -259,7 +259,7 @@ impl Queues {
         requires place { IsPlace self.old.queues p }
         requires none { (queue_at self.old.queues p).messages ≡ [] }
         ensures unmarked { self.new.queues
-            ≡ with_queue self.old.queues p (emptied (queue_at self.old.queues p)) }
+            ≡ with_queue self.old.queues p (without_messages (queue_at self.old.queues p)) }
         ensures spare { self.new.spare ≡ self.old.spare }
     {
         self.chains[p].full = false;

@@ -46,7 +46,7 @@ impl Queues {
     {
         let chain = others.chains[p];
         let to = self.chains.len();
-        self.chains.push(chain.emptied())?;
+        self.chains.push(chain.to_fill())?;
         if chain.there {
             self.append_copies(others, p, to, alloc)?;
             self.chains[to].full = chain.full;

@@ -9,8 +9,6 @@ pub returns-in-Some : goal.returns-in-Some
 returns-in-Some c =
     rw c.queues.ensures at c.front.ensures
     ∙ first_is _ _ _ _ _ _ c.self.invariant c.self.view_is c.in-Some.ensures.found
-    (c.the_first_leaves.ensures.first c.args.self.now.flow c.args.place)
 
 pub returns-in-None : goal.returns-in-None
 returns-in-None c = first_is_none _ _ _ _ _ c.self.view_is c.in-None.ensures.none
-    (c.the_first_leaves.ensures.first c.args.self.now.flow c.args.place)

@@ -9,10 +9,8 @@ has_messages-requires c = place_there _ _ _ _ c.self.invariant c.in-Some.ensures
 
 pub returns-in-Some : goal.returns-in-Some
 returns-in-Some c = c.has_messages.ensures ∙ some_first _ _
-    (first_is _ _ _ _ _ _ c.self.invariant c.self.view_is c.in-Some.ensures.found
-    (c.the_first_leaves.ensures.first c.args.self.now.flow c.args.place))
+    (first_is _ _ _ _ _ _ c.self.invariant c.self.view_is c.in-Some.ensures.found)
 
 pub returns-in-None : goal.returns-in-None
 returns-in-None c = ap (λ (o : Option Message). is_some o)
-    (first_is_none _ _ _ _ _ c.self.view_is c.in-None.ensures.none
-    (c.the_first_leaves.ensures.first c.args.self.now.flow c.args.place))
+    (first_is_none _ _ _ _ _ c.self.view_is c.in-None.ensures.none)

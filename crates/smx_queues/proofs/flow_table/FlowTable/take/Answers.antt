@@ -13,7 +13,6 @@ invariant_of-self c =
 pub returns-in-Some-clause-taken : goal.returns-in-Some-clause-taken
 returns-in-Some-clause-taken c = c.take.ensures.taken
     ∙ first_is _ _ _ _ _ _ c.self.invariant c.self.view_is c.in-Some.ensures.found
-    (c.the_first_leaves.ensures.first c.args.self.now.flow c.args.place)
 
 pub returns-in-Some-clause-left : goal.returns-in-Some-clause-left
 returns-in-Some-clause-left
@@ -22,4 +21,3 @@ returns-in-Some-clause-left
 
 pub returns-in-None-clause-taken : goal.returns-in-None-clause-taken
 returns-in-None-clause-taken c = first_is_none _ _ _ _ _ c.self.view_is c.in-None.ensures.none
-    (c.the_first_leaves.ensures.first c.args.self.now.flow c.args.place)

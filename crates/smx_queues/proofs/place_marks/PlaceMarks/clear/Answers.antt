@@ -5,7 +5,7 @@ use Rattle.smx_queues.proofs.place_marks.PlaceMarks.clear.Goals as goal
 
 pub returns-in-Some-clause-gone : goal.returns-in-Some-clause-gone
 returns-in-Some-clause-gone c = λ q.
-    cleared_at c.args.place _ _ c.in-Some.p c.args.self.now q c.marks_are_of_one_place.ensures c.self.invariant.0.rising
+    cleared_at c.args.place _ _ c.in-Some.p c.args.self.now q c.self.invariant.0.rising
     c.in-Some.ensures.found c.self.invariant.0.one_each (ap (λ (t : MarkList). t.marked) c.self.view_is)
 
 pub returns-in-Some-clause-fewer : goal.returns-in-Some-clause-fewer

@@ -2,26 +2,26 @@ use Rattle.std.proofs.Common.{◌≡◌, ◌<◌, ◌++◌, ◌∷◌, [], lengt
 use Rattle.std.proofs.Common.{Some, get_or, set}
 use Rattle.smx_model.specs.Queues.{bytes_of}
 use Rattle.smx_queues.specs.QueueTable.{Queue}
-use Rattle.smx_queues.specs.Chains.{slot_of, emptied_chain}
+use Rattle.smx_queues.specs.Chains.{chain_to_fill, slot_of}
 use Rattle.smx_queues.proofs.SlotLemmas.{slot}
 use Rattle.smx_queues.proofs.StoreLemmas.{bare_queue}
-use Rattle.smx_queues.proofs.SoundLemmas.{IsSeen, as_many, emptied_is_bare, original, place_is, seen_push}
-use Rattle.smx_queues.proofs.SoundLemmas.{seen_marked, queues_of}
+use Rattle.smx_queues.proofs.SoundLemmas.{IsSeen, as_many, place_is, queues_of}
+use Rattle.smx_queues.proofs.SeenPlaceLemmas.{original, seen_marked, seen_push, to_fill_is_bare}
 use Rattle.smx_queues.proofs.CopyLemmas.{copied_is, there_is}
 use Rattle.smx_queues.proofs.queues.Queues.add_copy.Goals as goal
 use Rattle.smx_queues.proofs.queues.Queues.add_copy.Goals.{In_ok-push, After-index_mut}
 
 -- a chain without nodes has come behind the others
 pushed : (c : In_ok-push) → IsSeen c.self.inside.nodes c.push.new.self.items
-    (c.args.self.now.queues ++ slot (emptied_chain c.index-chain.result.now)
-    (bare_queue (emptied_chain c.index-chain.result.now)) ∷ [])
+    (c.args.self.now.queues ++ slot (chain_to_fill c.index-chain.result.now)
+    (bare_queue (chain_to_fill c.index-chain.result.now)) ∷ [])
 pushed c =
-    rw (c.in_ok-push.ensures.items, c.emptied.ensures)
+    rw (c.in_ok-push.ensures.items, c.to_fill.ensures)
     (seen_push _ _ c.self.invariant _ (ap queues_of c.self.view_is) _
-    (emptied_is_bare _ _ c.others.invariant _ _
+    (to_fill_is_bare _ _ c.others.invariant _ _
     (omega (arith, as_many c.others.inside.nodes _ _ _ c.others.view_is, c.requires)) c.index-chain.ensures))
 
--- with the messages and the mark that the others have there
+-- where the others have the place, it has come with its messages and its mark
 copied : (c : After-index_mut) → IsSeen c.self-then-chain.inside.nodes
     (set c.self-then-chain.inside.chains.items c.len-to.result
     (record c.index_mut.result.now { full = c.index-chain.result.now.full }))
@@ -34,8 +34,8 @@ copied c =
     let last : c.len-to.result ≡ length c.args.self.now.queues =
     omega (arith, c.len-to.ensures, as_many c.self.inside.nodes _ _ _ c.self.view_is) in
     let one_more : map (slot_of c.self.inside.nodes) c.push.new.self.items
-    ≡ c.args.self.now.queues ++ Some (bare_queue (emptied_chain c.index-chain.result.now)) ∷ [] =
-    rw (c.in_ok-push.ensures.items, c.emptied.ensures)
+    ≡ c.args.self.now.queues ++ Some (bare_queue (chain_to_fill c.index-chain.result.now)) ∷ [] =
+    rw (c.in_ok-push.ensures.items, c.to_fill.ensures)
     ((seen_push _ _ c.self.invariant _ (ap queues_of c.self.view_is) _ o.bare).is
     ∙ ap (λ x. c.args.self.now.queues ++ x ∷ []) o.shown) in
     let d = copied_is _ _ _ _ _ _ last one_more c.in_ok-append_copies.ensures in

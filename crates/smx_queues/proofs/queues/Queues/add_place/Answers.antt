@@ -1,7 +1,8 @@
 use Rattle.std.proofs.Common.{◌≡◌, ap, arith, length, position, ◌∙◌, sym}
 use Rattle.smx_queues.specs.QueueTable.{empty_queue, least_vacant}
 use Rattle.smx_queues.proofs.QueueTableLemmas.{goes, vacant_found, vacant_not_found}
-use Rattle.smx_queues.proofs.SoundLemmas.{new_is_bare, seen_again, seen_push, view_slots, queues_of}
+use Rattle.smx_queues.proofs.SoundLemmas.{queues_of, view_slots}
+use Rattle.smx_queues.proofs.SeenPlaceLemmas.{new_is_bare, seen_again, seen_push}
 use Rattle.smx_queues.proofs.queues.Queues.add_place.Goals as goal
 
 pub invariant_of-self : goal.invariant_of-self

@@ -1,5 +1,6 @@
 use Rattle.std.proofs.Common.{ap}
-use Rattle.smx_queues.proofs.SoundLemmas.{new_is_bare, seen_push_all, queues_of}
+use Rattle.smx_queues.proofs.SoundLemmas.{queues_of}
+use Rattle.smx_queues.proofs.SeenPlaceLemmas.{new_is_bare, seen_push_all}
 use Rattle.smx_queues.proofs.queues.Queues.add_places.Goals as goal
 
 pub invariant_of-self-2 : goal.invariant_of-self-2

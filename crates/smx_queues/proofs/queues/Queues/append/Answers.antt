@@ -3,8 +3,8 @@ use Rattle.smx_queues.specs.declared.chain.Chain.{Chain}
 use Rattle.smx_queues.specs.Chains.{chain_with_last}
 use Rattle.smx_queues.specs.QueueTable.{queue_at, with_arrival}
 use Rattle.smx_queues.proofs.FollowLemmas.{node_from}
-use Rattle.smx_queues.proofs.SoundLemmas.{IsAt, IsSeen, place_at, last_there, read_twice, seen_put}
-use Rattle.smx_queues.proofs.SoundLemmas.{queues_of, kept_there}
+use Rattle.smx_queues.proofs.SoundLemmas.{IsAt, IsSeen, kept_there, last_there, place_at, queues_of, read_twice}
+use Rattle.smx_queues.proofs.SeenMessageLemmas.{seen_put}
 use Rattle.smx_queues.proofs.queues.Queues.append.Goals as goal
 use Rattle.smx_queues.proofs.queues.Queues.append.Goals.{After-index-chain, After-add_last}
 

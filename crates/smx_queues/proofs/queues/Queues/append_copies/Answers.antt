@@ -2,7 +2,7 @@ use Rattle.std.proofs.Common.{◌<◌, ◌^◌, ap, ◌∙◌, arith, set, Some}
 use Rattle.smx_model.specs.Queues.{bytes_of}
 use Rattle.smx_queues.specs.QueueTable.{queue_at, with_arrival}
 use Rattle.smx_queues.proofs.StoreLemmas.{size}
-use Rattle.smx_queues.proofs.SoundLemmas.{there_at, queues_of}
+use Rattle.smx_queues.proofs.SoundLemmas.{queues_of, there_at}
 use Rattle.smx_queues.proofs.CopyLemmas.{IsCopying, copying_starts, copying_goes_on, copying_has_room}
 use Rattle.smx_queues.proofs.queues.Queues.append_copies.Goals as goal
 

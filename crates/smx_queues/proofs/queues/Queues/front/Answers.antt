@@ -1,5 +1,5 @@
 use Rattle.std.proofs.Common.{ap, arith}
-use Rattle.smx_queues.proofs.SoundLemmas.{place_at, first_of, first_message_is, queues_of}
+use Rattle.smx_queues.proofs.SoundLemmas.{first_message_is, first_of, place_at, queues_of}
 use Rattle.smx_queues.proofs.queues.Queues.front.Goals as goal
 
 pub index-requires : goal.index-requires

@@ -4,9 +4,10 @@ use Rattle.smx_queues.specs.declared.chain.Chain.{Chain}
 use Rattle.smx_queues.specs.Chains.{chain_with_last, chain_without_first}
 use Rattle.smx_queues.specs.QueueTable.{queue_at, with_arrival, without_front}
 use Rattle.smx_queues.proofs.FollowLemmas.{follower_spare}
-use Rattle.smx_queues.proofs.SoundLemmas.{IsAt, IsFirst, IsSeen, place_at, first_of, first_within, first_few}
-use Rattle.smx_queues.proofs.SoundLemmas.{first_message_is, filled, last_there, counts_fit, read_other, seen_move}
-use Rattle.smx_queues.proofs.SoundLemmas.{queues_of, spare_of, read_twice, second_below}
+use Rattle.smx_queues.proofs.SoundLemmas.{IsAt, IsFirst, IsSeen, counts_fit, filled, first_few, first_message_is}
+use Rattle.smx_queues.proofs.SoundLemmas.{first_of, first_within, last_there, place_at, queues_of, read_other}
+use Rattle.smx_queues.proofs.SoundLemmas.{read_twice, second_below, spare_of}
+use Rattle.smx_queues.proofs.SeenMessageLemmas.{seen_move}
 use Rattle.smx_queues.proofs.queues.Queues.move_front.Goals as goal
 use Rattle.smx_queues.proofs.queues.Queues.move_front.Goals.{After-index-source, After-index_mut, After-index-target}
 use Rattle.smx_queues.proofs.queues.Queues.move_front.Goals.{After-index_mut-2, After-add_last}
@@ -16,29 +17,29 @@ from : (c : After-index-source) → IsAt c.self.invariant.own c.self.inside.node
     c.args.self.now.queues c.args.from c.index-source.result.now
 from c = place_at _ _ c.self.invariant _ (ap queues_of c.self.view_is) _ c.requires.from _ c.index-source.ensures
 
--- it has messages
+-- the chain of the place from which the message goes has nodes
 some : (c : After-index-source) → 0 < c.index-source.result.now.count
 some c = filled _ _ _ _ _ (from c).queue c.requires.some
 
--- it has a first message
+-- the chain of the place from which the message goes has a first node
 first : (c : After-index-source) → IsFirst c.self.inside.nodes c.index-source.result.now
     (queue_at c.args.self.now.queues c.args.from)
 first c = first_of _ _ _ _ _ (from c).queue (some c)
 
--- it is read again where it is changed
+-- the chain that is changed first is the one that was read first
 same_source : (c : After-index_mut) → c.index_mut.result.now ≡ c.index-source.result.now
 same_source c =
     let there = place_at _ _ c.self.invariant _ (ap queues_of c.self.view_is) _ c.requires.from _
     c.index-source.ensures in
     read_twice _ _ _ _ there.below c.index-source.ensures c.index_mut.ensures.value
 
--- the chain that was read then is that of the place to which it goes
+-- the chain that was read second is that of the place to which the message goes
 to : (c : After-index-target) → IsAt c.self.invariant.own c.self.inside.nodes c.self.inside.chains.items
     c.args.self.now.queues c.args.to c.index-target.result.now
 to c = place_at _ _ c.self.invariant _ (ap queues_of c.self.view_is) _ c.requires.to _
     (read_other _ _ _ _ _ c.requires.differ c.index-target.ensures)
 
--- it is read again where it is changed
+-- the chain that is changed second is the one that was read second
 same_target : (c : After-index_mut-2) → c.index_mut-2.result.now ≡ c.index-target.result.now
 same_target c =
     let there = place_at _ _ c.self.invariant _ (ap queues_of c.self.view_is) _ c.requires.to _

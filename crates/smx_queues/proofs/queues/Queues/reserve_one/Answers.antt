@@ -1,5 +1,5 @@
 use Rattle.std.proofs.Common.{ap}
-use Rattle.smx_queues.proofs.SoundLemmas.{seen_grown, slots_of, queues_of}
+use Rattle.smx_queues.proofs.SoundLemmas.{queues_of, seen_grown, slots_of}
 use Rattle.smx_queues.proofs.queues.Queues.reserve_one.Goals as goal
 
 pub invariant_of-self : goal.invariant_of-self

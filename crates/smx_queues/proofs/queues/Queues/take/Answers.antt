@@ -2,8 +2,9 @@ use Rattle.std.proofs.Common.{ap, arith, length, set, Some, ◌∙◌}
 use Rattle.smx_queues.specs.declared.chain.Chain.{Chain}
 use Rattle.smx_queues.specs.Chains.{chain_without_first}
 use Rattle.smx_queues.specs.QueueTable.{queue_at, without_front}
-use Rattle.smx_queues.proofs.SoundLemmas.{IsAt, IsSeen, place_at, read_twice, first_of, first_within}
-use Rattle.smx_queues.proofs.SoundLemmas.{first_message_is, seen_take, queues_of}
+use Rattle.smx_queues.proofs.SoundLemmas.{IsAt, IsSeen, first_message_is, first_of, first_within, place_at, queues_of}
+use Rattle.smx_queues.proofs.SoundLemmas.{read_twice}
+use Rattle.smx_queues.proofs.SeenMessageLemmas.{seen_take}
 use Rattle.smx_queues.proofs.queues.Queues.take.Goals as goal
 use Rattle.smx_queues.proofs.queues.Queues.take.Goals.{After-index-chain, After-drop_first}
 

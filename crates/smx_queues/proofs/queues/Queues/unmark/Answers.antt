@@ -1,5 +1,6 @@
 use Rattle.std.proofs.Common.{ap}
-use Rattle.smx_queues.proofs.SoundLemmas.{seen_unmarked, queues_of}
+use Rattle.smx_queues.proofs.SoundLemmas.{queues_of}
+use Rattle.smx_queues.proofs.SeenPlaceLemmas.{seen_unmarked}
 use Rattle.smx_queues.proofs.queues.Queues.unmark.Goals as goal
 
 pub invariant_of-self : goal.invariant_of-self

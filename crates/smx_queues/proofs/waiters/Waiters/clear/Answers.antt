@@ -3,8 +3,8 @@ use Rattle.std.proofs.lemmas.List.{take_at}
 use Rattle.smx_types.specs.declared.stream.Place.{Place}
 use Rattle.smx_model.specs.Configuration.{same_place}
 use Rattle.smx_queues.specs.Waiters.{HaveSlots, WaitList}
-use Rattle.smx_queues.proofs.WaiterLemmas.{at, by_no_slot, cleared, free_here, index_below, less_and_more, slot_read}
-use Rattle.smx_queues.proofs.WaiterLemmas.{taken_out}
+use Rattle.smx_queues.proofs.WaiterLemmas.{by_no_slot, free_here, index_below, less_and_more, slot_read, target_among}
+use Rattle.smx_queues.proofs.WaiterChangeLemmas.{cleared, taken_out}
 use Rattle.smx_queues.proofs.waiters.Waiters.clear.Goals as goal
 use Rattle.smx_queues.proofs.waiters.Waiters.clear.Goals.{After-index-slot, After-tell_index}
 
@@ -14,12 +14,12 @@ told : (c : After-index-slot) → (c.index-slot.result.now ≡ 0 → ⊥)
 told c some = slot_read _ _ _ c.args.place c.in-Some.p c.index-slot.result.now _ c.self.invariant.0
     c.in-Some.ensures.found c.index-slot.ensures (less_and_more _ some)
 
--- the place waits for none, and the others as before
+-- the place waits for none, and each other one for what it waited for
 now : (c : After-tell_index) → get_or c.self.inside.slots.items c.in-Some.p 0 ≡ c.index-slot.result.now - 1 + 1
     → HaveSlots c.self.inside.places.places c.tell_index.new.slots c.swap_remove.new.self.items
-    × (at c.args.place c.swap_remove.new.self.items ≡ None)
+    × (target_among c.args.place c.swap_remove.new.self.items ≡ None)
     × ((q : Place) → same_place c.args.place q ≡ false
-    → at q c.swap_remove.new.self.items ≡ at q c.self.inside.waits.items)
+    → target_among q c.swap_remove.new.self.items ≡ target_among q c.self.inside.waits.items)
 now c told_there =
     let h = c.self.invariant in
     let places = c.self.inside.places.places in
@@ -45,12 +45,12 @@ returns-else-slot-ne0-clause-here c =
     let h = c.self.invariant in
     let free : get_or c.self.inside.slots.items c.in-Some.p 0 ≡ 0 = slot_read _ _ _ c.args.place c.in-Some.p
     c.index-slot.result.now _ h.0 c.in-Some.ensures.found c.index-slot.ensures (omega arith) in
-    ap (at c.args.place) (sym (ap (λ (t : WaitList). t.waits) c.self.view_is))
+    ap (target_among c.args.place) (sym (ap (λ (t : WaitList). t.waits) c.self.view_is))
     ∙ free_here _ _ _ c.args.place c.in-Some.p h.0 c.in-Some.ensures.found free
 
 pub returns-in_default-clause-here : goal.returns-in_default-clause-here
 returns-in_default-clause-here c =
-    ap (at c.args.place) (sym (ap (λ (t : WaitList). t.waits) c.self.view_is))
+    ap (target_among c.args.place) (sym (ap (λ (t : WaitList). t.waits) c.self.view_is))
     ∙ by_no_slot c.self.inside.places.places c.self.inside.slots.items c.self.inside.waits.items c.args.place
     c.self.invariant.0 c.in_default.ensures.none
 
@@ -72,4 +72,4 @@ pub returns-then-slot-ne0-clause-others : goal.returns-then-slot-ne0-clause-othe
 returns-then-slot-ne0-clause-others c = λ q other.
     let g = goal.at.returns-then-slot-ne0-clause-others c in
     (now g.After-tell_index (told g.After-index-slot c.if-slot-ne0.true)).2 q other
-    ∙ ap (at q) (ap (λ (t : WaitList). t.waits) c.self.view_is)
+    ∙ ap (target_among q) (ap (λ (t : WaitList). t.waits) c.self.view_is)

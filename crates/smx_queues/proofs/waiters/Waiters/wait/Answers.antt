@@ -1,7 +1,7 @@
 use Rattle.std.proofs.Common.{◌≡◌, ◌+◌, ◌-◌, ◌∙◌, length, get_or, ap, arith}
 use Rattle.smx_queues.specs.Waiters.{WaitList}
-use Rattle.smx_queues.proofs.WaiterLemmas.{anew_here, anew_others, at, has_slot, index_below, less_and_more, more_here}
-use Rattle.smx_queues.proofs.WaiterLemmas.{more_others, one_anew, one_more, slot_read, some_free}
+use Rattle.smx_queues.proofs.WaiterLemmas.{has_slot, index_below, less_and_more, slot_read, some_free, target_among}
+use Rattle.smx_queues.proofs.WaiterChangeLemmas.{anew_here, anew_others, more_here, more_others, one_anew, one_more}
 use Rattle.smx_queues.proofs.waiters.Waiters.wait.Goals as goal
 use Rattle.smx_queues.proofs.waiters.Waiters.wait.Goals.{After-index-slot}
 
@@ -52,16 +52,16 @@ invariant_of-self-else-slot-eq0 c = (
 
 pub returns-then-slot-eq0-clause-here : goal.returns-then-slot-eq0-clause-here
 returns-then-slot-eq0-clause-here c = λ known.
-    ap (at c.args.place) c.push_reserved.ensures.items
+    ap (target_among c.args.place) c.push_reserved.ensures.items
     ∙ more_here _ _ _ c.args.place c.args.target c.in-Some.p c.self.invariant.0 c.in-Some.ensures.found
     (free (goal.at.returns-then-slot-eq0-clause-here c).After-index-slot c.if-slot-eq0.true)
 
 pub returns-then-slot-eq0-clause-others : goal.returns-then-slot-eq0-clause-others
 returns-then-slot-eq0-clause-others c = λ q other.
-    ap (at q) c.push_reserved.ensures.items
+    ap (target_among q) c.push_reserved.ensures.items
     ∙ (more_others _ _ _ c.args.place c.args.target q c.in-Some.p c.self.invariant.0 c.in-Some.ensures.found
     (free (goal.at.returns-then-slot-eq0-clause-others c).After-index-slot c.if-slot-eq0.true) other
-    ∙ ap (at q) (ap (λ (t : WaitList). t.waits) c.self.view_is))
+    ∙ ap (target_among q) (ap (λ (t : WaitList). t.waits) c.self.view_is))
 
 pub returns-else-slot-eq0-clause-here : goal.returns-else-slot-eq0-clause-here
 returns-else-slot-eq0-clause-here c = λ known.
@@ -72,4 +72,4 @@ pub returns-else-slot-eq0-clause-others : goal.returns-else-slot-eq0-clause-othe
 returns-else-slot-eq0-clause-others c = λ q other.
     anew_others _ _ _ c.args.place c.args.target q c.in-Some.p (c.index-slot.result.now - 1) c.self.invariant.0
     c.in-Some.ensures.found (told (goal.at.returns-else-slot-eq0-clause-others c).After-index-slot c.if-slot-eq0.false)
-    other ∙ ap (at q) (ap (λ (t : WaitList). t.waits) c.self.view_is)
+    other ∙ ap (target_among q) (ap (λ (t : WaitList). t.waits) c.self.view_is)

@@ -1,0 +1,167 @@
+-- What a contract sees where a place comes, goes, has another mark or is copied.
+use Rattle.std.proofs.Common.{◌≡◌, ℕ, zero, suc, ◌<◌, ◌≤◌, Bool, true, false, List, [], ◌∷◌, ◌++◌, length, map, get_or}
+use Rattle.std.proofs.Common.{set, Option, Some, None, refl, sym, ap, subst, ◌∙◌, arith, append_assoc, append-nil}
+use Rattle.std.specs.List.{repeat}
+use Rattle.std.proofs.lemmas.List.{get_or_default}
+use Rattle.slab.specs.Slab.{Slab}
+use Rattle.smx_types.specs.declared.message.Message.{Message}
+use Rattle.smx_model.specs.Queues.{bytes_of}
+use Rattle.smx_queues.specs.declared.node.Node.{Node}
+use Rattle.smx_queues.specs.declared.chain.Chain.{Chain}
+use Rattle.smx_queues.specs.QueueTable.{Queue, IsPlace, queue_at, without_messages}
+use Rattle.smx_queues.specs.Chains.{IsQueue, IsSound, chain_to_fill, new_chain, no_chain, no_queue, slot_of}
+use Rattle.smx_queues.proofs.SlotLemmas.{slot, slots, same_queue, store_slots, slots-set, slots-push, place_there}
+use Rattle.smx_queues.proofs.StoreLemmas.{bare_queue, IsBare, store_reset, store_push, store_marked}
+use Rattle.smx_queues.proofs.SoundLemmas.{IsSeen, place_at, seen_same, seen_store, set_seen, view_slots}
+
+-- a chain whose queue has no message has no node
+pub bare_at : (own : ℕ → ℕ × ℕ) (s : Slab Node) (p : ℕ) (chain : Chain) (q : Queue) → IsQueue own s p chain q
+    → q.messages ≡ [] → IsBare chain
+bare_at own s p chain q l none =
+    record {
+      count = l.count ∙ ap (λ (ms : List Message). length ms) none;
+      bytes = l.bytes ∙ ap bytes_of none;
+      high_bounded = omega (arith, l.high_bounded, l.high);
+      low_below = omega (arith, l.low_below, l.high, l.low);
+    }
+
+-- where a chain without nodes takes the place of one without messages, a contract sees its queue there
+pub seen_reset : (s : Slab Node) (chains : List Chain) (sound : IsSound s chains) (view : List (Option Queue))
+    → map (slot_of s) chains ≡ view → (p : ℕ) → IsPlace view p → (queue_at view p).messages ≡ [] → (after : Chain)
+    → IsBare after → IsSeen s (set chains p after) (set view p (slot after (bare_queue after)))
+seen_reset s chains sound view is p there none after bare =
+    let same : view ≡ slots chains sound.queues = sym is ∙ store_slots _ _ _ _ _ sound.store in
+    let t = place_there chains sound.queues p (rw (← same) there) in
+    let empty : (get_or sound.queues p no_queue).messages
+    ≡ [] = ap (λ (q : Queue). q.messages) (sym (ap (λ v. queue_at v p) same ∙ t.same)) ∙ none in
+    let seen = seen_store _ s _ _ (store_reset _ s chains sound.queues 0 p after sound.store t.below empty bare) in
+    seen_same s s _ _ _ _ refl refl
+    (rw same (sym (slots-set chains sound.queues p after _ t.below sound.store.as_many))) seen
+
+-- where the mark of a place without messages goes, a contract sees a queue without messages that is not full
+pub seen_unmarked : (s : Slab Node) (chains : List Chain) (sound : IsSound s chains) (view : List (Option Queue))
+    → map (slot_of s) chains ≡ view → (p : ℕ) → IsPlace view p → (queue_at view p).messages ≡ [] → (chain : Chain)
+    → chain ≡ get_or chains p chain
+    → IsSeen s (set chains p (record chain { full = false })) (set view p (Some (without_messages (queue_at view p))))
+seen_unmarked s chains sound view is p there none chain read =
+    let a = place_at s chains sound view is p there chain read in
+    let bare = bare_at _ _ _ _ _ a.queue none in
+    let seen = seen_reset s chains sound view is p there none (record chain { full = false })
+    (record { count = bare.count; bytes = bare.bytes; high_bounded = bare.high_bounded; low_below = bare.low_below }) in
+    seen_same s s _ _ _ _ refl refl (ap (set view p) (shown (queue_at view p) chain a.there a.queue.high a.queue.low))
+    seen
+  where
+    shown : (q : Queue) (chain : Chain) → chain.there ≡ true → chain.high ≡ q.high → chain.low ≡ q.low
+        → Some (without_messages q) ≡ slot (record chain { full = false }) (bare_queue (record chain { full = false }))
+    shown q chain there high low = rw (there, high, low) refl
+
+-- where the chain of a place without messages is there no longer, a contract sees that the place has gone
+pub seen_gone : (s : Slab Node) (chains : List Chain) (sound : IsSound s chains) (view : List (Option Queue))
+    → map (slot_of s) chains ≡ view → (p : ℕ) → IsPlace view p → (queue_at view p).messages ≡ [] → (chain : Chain)
+    → chain ≡ get_or chains p chain → IsSeen s (set chains p (record chain { there = false })) (set view p None)
+seen_gone s chains sound view is p there none chain read =
+    let a = place_at s chains sound view is p there chain read in
+    let bare = bare_at _ _ _ _ _ a.queue none in
+    seen_reset s chains sound view is p there none (record chain { there = false })
+    (record { count = bare.count; bytes = bare.bytes; high_bounded = bare.high_bounded; low_below = bare.low_below })
+
+-- with a chain without nodes behind all others, a contract sees its queue behind the rest
+pub seen_push : (s : Slab Node) (chains : List Chain) (sound : IsSound s chains) (view : List (Option Queue))
+    → map (slot_of s) chains ≡ view → (after : Chain) → IsBare after
+    → IsSeen s (chains ++ after ∷ []) (view ++ slot after (bare_queue after) ∷ [])
+seen_push s chains sound view is after bare =
+    let same : view ≡ slots chains sound.queues = sym is ∙ store_slots _ _ _ _ _ sound.store in
+    let seen = seen_store _ s _ _ (store_push _ s chains sound.queues 0 after sound.store bare) in
+    seen_same s s _ _ _ _ refl refl (rw same (sym (slots-push chains sound.queues after _ sound.store.as_many))) seen
+
+-- where a chain without nodes takes the number of a place that is gone, a contract sees its queue there
+pub seen_again : (s : Slab Node) (chains : List Chain) (sound : IsSound s chains) (view : List (Option Queue))
+    → map (slot_of s) chains ≡ view → (p : ℕ) → p < length chains → (get_or chains p no_chain).there ≡ false
+    → (after : Chain) → IsBare after → IsSeen s (set chains p after) (set view p (slot after (bare_queue after)))
+seen_again s chains sound view is p below gone after bare =
+    let same : view ≡ slots chains sound.queues = sym is ∙ store_slots _ _ _ _ _ sound.store in
+    let none = (sound.store.each p below).none_if_gone gone in
+    let seen = seen_store _ s _ _ (store_reset _ s chains sound.queues 0 p after sound.store below none bare) in
+    seen_same s s _ _ _ _ refl refl (rw same (sym (slots-set chains sound.queues p after _ below sound.store.as_many)))
+    seen
+
+-- a new chain has no nodes, where its high water mark is at most 4,096 and its low one is below that
+pub new_is_bare : (above below : ℕ) → above ≤ 4096 → below < above → IsBare (new_chain above below)
+new_is_bare above below high low =
+    record {
+      count = refl;
+      bytes = refl;
+      high_bounded = high;
+      low_below = low;
+    }
+
+-- with so many chains without nodes behind all others, a contract sees as many queues behind the rest
+pub seen_push_all : (s : Slab Node) (chains : List Chain) (sound : IsSound s chains) (view : List (Option Queue))
+    → map (slot_of s) chains ≡ view → (after : Chain) → IsBare after → (n : ℕ)
+    → IsSeen s (chains ++ repeat n (after ∷ [])) (view ++ repeat n (slot after (bare_queue after) ∷ []))
+seen_push_all s chains sound view is after bare zero =
+    seen_same s s _ chains _ view refl (append-nil chains) (append-nil view) (record { sound = sound; is = is })
+seen_push_all s chains sound view is after bare (suc n) =
+    let one = seen_push s chains sound view is after bare in
+    let more = seen_push_all s (chains ++ after ∷ []) one.sound
+    (view ++ slot after (bare_queue after) ∷ []) one.is after bare n in
+    seen_same s s _ _ _ _ refl (sym (append_assoc chains (after ∷ []) (repeat n (after ∷ []))))
+    (sym (append_assoc view (slot after (bare_queue after) ∷ []) (repeat n (slot after (bare_queue after) ∷ [])))) more
+
+-- with another mark, which is no mark only where there are few bytes, a place is seen with that mark
+pub seen_marked : (s : Slab Node) (chains : List Chain) (sound : IsSound s chains) (view : List (Option Queue))
+    → map (slot_of s) chains ≡ view → (p : ℕ) → IsPlace view p → (chain : Chain) → chain ≡ get_or chains p chain
+    → (full : Bool) → (full ≡ false → bytes_of (queue_at view p).messages < (queue_at view p).high)
+    → IsSeen s (set chains p (record chain { full = full }))
+    (set view p (Some (record (queue_at view p) { full = full })))
+seen_marked s chains sound view is p there chain read full few =
+    let same = view_slots s chains sound view is in
+    let t = place_there chains sound.queues p (rw (← same) there) in
+    let a = place_at s chains sound view is p there chain read in
+    let shown : queue_at view p ≡ get_or sound.queues p no_queue = ap (λ v. queue_at v p) same ∙ t.same in
+    let st = store_marked sound.own s chains sound.queues 0 p full sound.store t.below
+    (λ e. subst (λ (q : Queue). bytes_of q.messages < q.high) shown (few e)) in
+    let seen = set_seen sound.own s chains sound.queues p _ _ t.below sound.store.as_many t.there st in
+    seen_same s s _ _ _ _ refl (ap (λ (c : Chain). set chains p (record c { full = full })) a.read)
+    (same_marked view _ p full _ _ same shown) seen
+  where
+    same_marked : (view view' : List (Option Queue)) (p : ℕ) (full : Bool) (q q' : Queue) → view ≡ view' → q ≡ q'
+        → set view p (Some (record q { full = full })) ≡ set view' p (Some (record q' { full = full }))
+    same_marked view view' p full q q' e f = rw (e, f) refl
+
+-- what a chain becomes where it is copied, before its messages come, has no nodes
+pub to_fill_is_bare : (s : Slab Node) (chains : List Chain) (sound : IsSound s chains) (p : ℕ) (chain : Chain)
+    → p < length chains → chain ≡ get_or chains p chain → IsBare (chain_to_fill chain)
+to_fill_is_bare s chains sound p chain below read =
+    let l = sound.store.each p below in
+    let e : chain ≡ get_or chains p no_chain = read ∙ get_or_default chains p chain no_chain below in
+    let high = ap (λ (c : Chain). c.high) e ∙ l.high in
+    let low = ap (λ (c : Chain). c.low) e ∙ l.low in
+    record {
+      count = refl;
+      bytes = refl;
+      high_bounded = omega (arith, l.high_bounded, high);
+      low_below = omega (arith, l.low_below, high, low);
+    }
+
+-- what a place that is copied is: its messages, its marks, and few bytes where it is not full
+pub record IsOriginal (view : List (Option Queue)) (p : ℕ) (chain : Chain) : Type 0 where
+  pub bare : IsBare (chain_to_fill chain)
+  pub shown : slot (chain_to_fill chain) (bare_queue (chain_to_fill chain)) ≡ Some (bare_queue (chain_to_fill chain))
+  pub same : (messages : List Message) → messages ≡ (queue_at view p).messages
+      → record (bare_queue (chain_to_fill chain)) { messages = messages; full = chain.full } ≡ queue_at view p
+  pub few : chain.full ≡ false → bytes_of (queue_at view p).messages < chain.high
+
+-- the chain of a place that is there is one that can be copied, with its messages and its marks
+pub original : (s : Slab Node) (chains : List Chain) (sound : IsSound s chains) (view : List (Option Queue))
+    → map (slot_of s) chains ≡ view → (p : ℕ) → IsPlace view p → (chain : Chain) → chain ≡ get_or chains p chain
+    → IsOriginal view p chain
+original s chains sound view is p there chain read =
+    let a = place_at s chains sound view is p there chain read in
+    let l = a.queue in
+    record {
+      bare = to_fill_is_bare s chains sound p chain a.below read;
+      shown = rw a.there refl;
+      same = λ messages are. same_queue _ _ are l.full l.high l.low;
+      few = λ e. omega (arith, l.open_below_high (sym l.full ∙ e), l.high);
+    }
