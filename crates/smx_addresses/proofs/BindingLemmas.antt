@@ -66,6 +66,7 @@ find_stream xs ys bs d m r e h at =
     (bindings_of xs) (d, m)
     ∙ ap (option_map (λ (a : ℕ). record { driver = d; addr = a; minor = m })) (sym (h.addresses (d, m)) ∙ sym at)
 
+-- some binding of a driver has an address or a minor just where one has the address or one has the minor
 either_any : (d a m : ℕ) (bs : List Binding)
     → list_any (λ b. (b.driver == d) && ((b.addr == a) || (b.minor == m))) bs
     ≡ (list_any (λ b. is_key (address_of b) (d, a)) bs || list_any (λ b. is_key (stream_of b) (d, m)) bs)
@@ -87,10 +88,12 @@ taken_either xs ys bs d a m e h =
 
 -- one more
 
+-- a binding of a driver's address passes the test for that address or any minor
 taken_address : (d a m : ℕ) (b : Binding) → is_key (address_of b) (d, a) ≡ true
     → ((b.driver == d) && ((b.addr == a) || (b.minor == m))) ≡ true
 taken_address d a m b h = grind (arith, nat_tests)
 
+-- a binding of a driver's minor passes the test for that minor or any address
 taken_stream : (d a m : ℕ) (b : Binding) → is_key (stream_of b) (d, m) ≡ true
     → ((b.driver == d) && ((b.addr == a) || (b.minor == m))) ≡ true
 taken_stream d a m b h = grind (arith, nat_tests)
@@ -144,7 +147,7 @@ has_address (b ∷ bs) d a m h = elim (cases_Bool (is_key (d, m) (stream_of b)))
       elim (cases_Bool (is_key (address_of b) (d, a))) [ inl t ↦ rw t refl | inr g ↦ rw g rest ]
 ]
 
--- so both tests take the same out
+-- to take out the binding of a stream is to take out that of its address
 same_taken : (bs : List Binding) (d a m : ℕ) → AreApart address_of bs → AreApart stream_of bs
     → found stream_of (λ b. b.addr) bs (d, m) ≡ Some a
     → filter (λ b. not (is_key (stream_of b) (d, m))) bs ≡ filter (λ b. not (is_key (address_of b) (d, a))) bs

@@ -25,12 +25,15 @@ use Rattle.smx_addresses.proofs.ListedTableLemmas.{Stands}
 abbrev pub key_cmp : Key → Key → Ordering
 key_cmp p q = ordering_then (nat_cmp p.0 q.0) (nat_cmp p.1 q.1)
 
+-- the order of keys is a total order
 key_total : IsTotalOrder key_cmp
 key_total = then_total (on_total (λ (p : Key). p.0) nat_cmp_total) (on_total (λ (p : Key). p.1) nat_cmp_total)
 
+-- where a key is not less than another, and they differ, the other is less than it
 key_less : (p q : Key) → is_lt (key_cmp q p) ≡ false → is_key p q ≡ false → key_cmp p q ≡ Less
 key_less p q h k = grind (arith, nat_tests)
 
+-- a key that is less than another comes before it
 less_before : (p q : Key) → key_cmp p q ≡ Less → by_key (λ (k : Key). k) p q ≡ true
 less_before p q h = grind (arith, nat_tests)
 

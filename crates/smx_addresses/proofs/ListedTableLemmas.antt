@@ -12,6 +12,7 @@ use Rattle.smx_addresses.proofs.KeyLemmas.{is_key_sym, found_any}
 use Rattle.smx_addresses.proofs.ChangeLemmas.{finds_inserted}
 use Rattle.smx_addresses.proofs.OrderLemmas.{rising_same, rising_inserted}
 
+-- where no entry has a key, a look-up by it finds nothing
 absent : (k : Key) (es : Entries) → AllByRecursion (λ y. is_key k y ≡ false) (keys_of es) → lookup (is_key k) es ≡ None
 absent k [] h = refl
 absent k (e ∷ es) h = rw h.0 (absent k es h.1)

@@ -14,10 +14,12 @@ use Rattle.smx_addresses.proofs.KeyLemmas.{is_key_refl, is_key_sym, key_same, fo
 
 -- keys in their order
 
+-- a key that comes before another comes before what that comes before
 before_trans : (p q r : Key) → pair_before p.0 p.1 q.0 q.1 ≡ true → pair_before q.0 q.1 r.0 r.1 ≡ true
     → pair_before p.0 p.1 r.0 r.1 ≡ true
 before_trans p q r h k = grind (arith, nat_tests)
 
+-- a key that comes before another differs from it
 before_apart : (p q : Key) → pair_before p.0 p.1 q.0 q.1 ≡ true → is_key p q ≡ false
 before_apart p q h = grind (arith, nat_tests)
 

@@ -98,11 +98,13 @@ unlinked xs us id u v s =
 
 -- one link more whose routes are gone
 
+-- a route leads to one of some links and one more just where it leads to one of them or to that one
 ids_more : (ids : List ℕ) (id : ℕ) (r : Route)
     → list_any (λ i. r.id == i) (ids ++ id ∷ []) ≡ (list_any (λ i. r.id == i) ids || (r.id == id))
 ids_more [] id r = elim (cases_Bool (r.id == id)) [ inl t ↦ rw t refl | inr f ↦ rw f refl ]
 ids_more (x ∷ ids) id r = elim (cases_Bool (r.id == x)) [ inl t ↦ rw t refl | inr f ↦ rw f (ids_more ids id r) ]
 
+-- without the routes to some links, and then those to one more, is without those to all of them
 unlinked_more : (rs : List Route) (ids : List ℕ) (id : ℕ)
     → filter (λ r. not (r.id == id)) (filter (λ r. not (list_any (λ i. r.id == i) ids)) rs)
     ≡ filter (λ r. not (list_any (λ i. r.id == i) (ids ++ id ∷ []))) rs

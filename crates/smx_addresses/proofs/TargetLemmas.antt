@@ -20,6 +20,7 @@ use Rattle.smx_addresses.proofs.RouteLemmas.{Unlinks}
 abbrev pub leads_to : ℕ → Option ℕ → Bool
 leads_to id o = option_map_or (λ n. n == id) o false
 
+-- a number that equals the first of two that differ isn't the second
 other_number : (a b i : ℕ) → (a == b) ≡ false → (a == i) ≡ true → (b == i) ≡ false
 other_number a b i h k = grind (arith, nat_tests)
 
@@ -31,6 +32,7 @@ left_filtered : (id : ℕ) (b : Bool) (r : Option ℕ) → b ≡ leads_to id r
 left_filtered id b None e = elim (cases_Bool b) [ inl t ↦ rw t refl | inr f ↦ rw f refl ]
 left_filtered id b (Some n) e = rw e (elim (cases_Bool (n == id)) [ inl t ↦ rw t refl | inr f ↦ rw f refl ])
 
+-- without what leads to one link, what leads to another still does
 leads_filtered : (id i : ℕ) (r : Option ℕ) → leads_to i (option_filter (λ n. not (n == id)) r)
     ≡ cond (id == i) false (leads_to i r)
 leads_filtered id i None = elim (cases_Bool (id == i)) [ inl t ↦ rw t refl | inr f ↦ rw f refl ]

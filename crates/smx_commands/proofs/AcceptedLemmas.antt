@@ -1,6 +1,6 @@
 -- What an accepted result says of what came before it.
 use Rattle.std.proofs.Common.{◌≡◌, ℕ, Bool, true, false, not, List, Option, Some, None}
-use Rattle.std.proofs.Common.{Result, Ok, Err, refl, ap, ◌∙◌, subst}
+use Rattle.std.proofs.Common.{Result, Ok, refl, ap, ◌∙◌, subst}
 use Rattle.std.proofs.lemmas.Bool.{not-false}
 use Rattle.smx_types.specs.declared.driver.DriverSpec.{DriverSpec}
 use Rattle.smx_types.specs.declared.reply.Fault.{Fault}
@@ -12,12 +12,8 @@ use Rattle.smx_model.specs.DriverList.{is_mux}
 use Rattle.smx_model.specs.Lookups.{driver_of, free_stream, leaf_stream, stream_of}
 use Rattle.smx_model.specs.Outcomes.{◌>>=◌, or_fault, refuse}
 use Rattle.smx_model.specs.Standing.{exists, is_below}
-
 -- what came before an accepted result was accepted
-pub bound : {A B : Type 0} (r : Result A Fault) (f : A → Result B Fault) (y : B) → (r >>= f) ≡ Ok y
-    → (x : A) × (r ≡ Ok x) × (f x ≡ Ok y)
-bound (Err e) f y h = absurd cc
-bound (Ok x) f y h = (x, refl, h)
+pub use Rattle.smx_model.proofs.LookupLemmas.{looked_up as bound}
 
 -- what is not refused has failed the test
 pub not_refused : (f : Fault) (t : Bool) {u : Unit {0}} → refuse f t ≡ Ok u → t ≡ false

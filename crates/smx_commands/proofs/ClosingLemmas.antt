@@ -16,6 +16,8 @@ use Rattle.smx_model.specs.Hangups.{is_hung}
 use Rattle.smx_model.specs.Removal.{after_sweep, serials_that_left}
 use Rattle.smx_model.specs.Standing.{is_named}
 use Rattle.smx_model.specs.Swept.{IsSwept}
+use Rattle.smx_model.proofs.DropLemmas.{done_idle}
+use Rattle.smx_model.proofs.TestLemmas.{any_push}
 use Rattle.smx_streams.specs.StreamTables.{StreamTable, HasOneLess, is_last, number_at, stream_at, without_fd}
 use Rattle.smx_streams.specs.StreamTables.{exists as is_there}
 use Rattle.smx_tables.specs.ExistingStreams.{TellsExisting}
@@ -25,11 +27,11 @@ use Rattle.smx_commands.specs.declared.tables.Tables.TheInside.{Inside}
 use Rattle.smx_commands.specs.Closing.{closing}
 use Rattle.smx_commands.specs.Machine.{Machine}
 use Rattle.smx_commands.specs.ModelOfTables.{TablesInvariant, machine_of}
-use Rattle.smx_commands.proofs.DoneLemmas.{IdleDropsNone, swept_is}
+use Rattle.smx_commands.proofs.DoneLemmas.{swept_is}
 use Rattle.smx_commands.proofs.TablesLemmas.{accepted}
 use Rattle.smx_tables.proofs.HungSweepLemmas.{sweep_of_left}
 use Rattle.smx_tables.proofs.TouchLemmas.{touched_by, touched_fds, touched_hungs, touched_there}
-use Rattle.smx_tables.proofs.WatchLemmas.{listed_last, still_listed}
+use Rattle.smx_tables.proofs.WatchLemmas.{listed_last}
 
 -- one descriptor is closed, and its stream stays
 pub closed_stays : (t u : StreamTable) (p n : ℕ) → is_last t p n ≡ false → HasOneLess t p n u
@@ -45,7 +47,7 @@ closed_stays t u p n stays less went s there = elim (cases_Bool (is_there u s)) 
   same = ap (λ (fds : List Descriptor). is_named fds s || nat_lt 0 (number_at u.holds s)) less.fds
       ∙ ap (λ (m : ℕ). is_named (filter (λ d. not (is_fd p n d)) t.fds) s || nat_lt 0 m) (less.holds s)
 
--- so the hung-up streams are there
+-- where each stream that was there still is, so is each hung-up one
 pub all_stay : (t u : StreamTable) (hungs : List StreamId)
     → ((x : StreamId) → is_hung hungs x ≡ true → is_there t x ≡ true)
     → ((x : StreamId) → is_there t x ≡ true → is_there_or_touched u [] x ≡ true)
@@ -65,7 +67,7 @@ closed_touches t u p n s ss at one went x there = elim (cases_Bool (is_there u x
       or_right _ _ (subst (λ (y : StreamId). list_any (same_stream y) ss ≡ true) same one)
 ]
 
--- so the sweep after a close finds all that it has to look at
+-- where the stream of a closed descriptor is listed, the sweep finds all that may have gone
 pub close_touches : (drivers : List DriverSpec) (old : Configuration) (t u : StreamTable) (p n : ℕ) (s : StreamId)
     (ss : List StreamId) → TellsExisting drivers old t → IsSwept drivers old → stream_at t.fds p n ≡ Some s
     → list_any (same_stream s) ss ≡ true
@@ -103,12 +105,12 @@ closes_last t m p n u given d r e kept less same is left =
 
 -- a close that leaves nothing to sweep takes its descriptor away, and drops no message
 pub closes_shared : (drivers : List DriverSpec) (c : Configuration) (process fd : ℕ) (fds : List Descriptor)
-    (new : Configuration) (r : Reply) → IdleDropsNone drivers → IsSwept drivers (record c { fds = fds })
+    (new : Configuration) (r : Reply) → IsSwept drivers (record c { fds = fds })
     → fds ≡ filter (λ d. not (is_fd process fd d)) c.fds → new ≡ record c { fds = fds } → r ≡ Done []
     → closing drivers c process fd ≡ Ok (new, r)
-closes_shared drivers c process fd fds new r idle swept e is none =
+closes_shared drivers c process fd fds new r swept e is none =
     subst (λ (ds : List Descriptor). done_outcome drivers c (record c { fds = ds }) ≡ Ok (new, r)) e
-    (rw (is, none) (idle c (record c { fds = fds }) swept refl))
+    (rw (is, none) (done_idle drivers c (record c { fds = fds }) swept refl))
 
 -- ---- the streams of a process's descriptors
 
@@ -116,11 +118,11 @@ closes_shared drivers c process fd fds new r idle swept e is none =
 abbrev pub AreNamed : List Descriptor → ℕ → ℕ → List StreamId → Type 0
 AreNamed fds p k ss = (n : ℕ) (s : StreamId) → n < k → stream_at fds p n ≡ Some s → list_any (same_stream s) ss ≡ true
 
--- one number more, with a stream
+-- one number more, with a stream, adds that stream
 pub one_named_more : (fds : List Descriptor) (p k : ℕ) (t : StreamId) (ss : List StreamId) → stream_at fds p k ≡ Some t
     → AreNamed fds p k ss → AreNamed fds p (k + 1) (ss ++ t ∷ [])
 one_named_more fds p k t ss at h = λ n s lt e. elim (cases_lt n k) [
-  | inl earlier ↦ still_listed s ss t (h n s earlier e)
+  | inl earlier ↦ any_push (same_stream s) ss t (h n s earlier e)
   | inr here ↦
       let last : n ≡ k = omega (arith, here, lt) in
       let both : ◌≡◌ {A = Option StreamId} (Some t) (Some s) =
@@ -129,7 +131,7 @@ one_named_more fds p k t ss at h = λ n s lt e. elim (cases_lt n k) [
       subst (λ (x : StreamId). list_any (same_stream x) (ss ++ t ∷ []) ≡ true) same (listed_last ss t)
 ]
 
--- and without one
+-- one number more, which no descriptor has, adds no stream
 pub none_named_more : (fds : List Descriptor) (p k : ℕ) (ss : List StreamId) → stream_at fds p k ≡ None
     → AreNamed fds p k ss → AreNamed fds p (k + 1) ss
 none_named_more fds p k ss at h = λ n s lt e. elim (cases_lt n k) [

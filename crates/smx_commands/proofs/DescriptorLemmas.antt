@@ -48,6 +48,7 @@ pub agrees_ok : (c : Configuration) (process : ℕ) (a : Answer) (o : Outcome) (
     → a ≡ Ok x → o ≡ Ok (with_fd c process x.0 x.1, Fd x.0 x.1.minor)
 agrees_ok c process a o x h e = subst (λ (b : Answer). Agrees c process b o) e h
 
+-- where the table answers, and the outcome agrees, that is accepted
 agrees_some : (c : Configuration) (process : ℕ) (a : Answer) (o : Outcome) → Agrees c process a o → IsOk a → IsOk o
 agrees_some c process (Ok x) o h some = rw h refl
 agrees_some c process (Err f) o h some = absurd cc
@@ -61,17 +62,20 @@ agrees_err c process a o f h (inr both) =
 
 -- ---- each of them
 
+-- the list of the drivers' minors has the minors of each driver at its number
 minors_at : (drivers : List DriverSpec) (n : ℕ)
     → slice_index (map (λ (d : DriverSpec). d.minors) drivers) n ≡ minors_of drivers n
 minors_at [] n = refl
 minors_at (d ∷ ds) zero = refl
 minors_at (d ∷ ds) (suc n) = minors_at ds n
 
+-- two tests that agree on each number find the same number
 find_same : (f g : ℕ → Bool) (ns : List ℕ) → ((n : ℕ) → f n ≡ g n) → find f ns ≡ find g ns
 find_same f g [] h = refl
 find_same f g (n ∷ ns) h =
     elim (cases_Bool (g n)) [ inl t ↦ rw (h n, t) refl | inr u ↦ rw (h n, u) (find_same f g ns h) ]
 
+-- where a table tells which streams exist, its least free minor is the least whose stream doesn't exist
 least_same : (drivers : List DriverSpec) (c : Configuration) (t : StreamTable) (n : ℕ)
     → t.minors ≡ map (λ d. d.minors) drivers → TellsExisting drivers c t
     → least_minor t n ≡ find (λ m. not (exists drivers c (record { driver = n; minor = m })))

@@ -1,34 +1,32 @@
 -- What a swept change comes to.
-use Rattle.std.proofs.Common.{◌≡◌, ℕ, Bool, true, false, ◌&&◌, not, eqb, List, [], length, filter}
-use Rattle.std.proofs.Common.{Ok, Err, if◌then◌else◌, refl, rules, ap, ◌∙◌}
-use Rattle.std.specs.List.{list_any, list_all}
+use Rattle.std.proofs.Common.{◌≡◌, ℕ, Bool, true, false, ◌&&◌, not, eqb, List, [], filter}
+use Rattle.std.proofs.Common.{Ok, Err, refl, rules, ap, ◌∙◌}
+use Rattle.std.specs.List.{list_any}
 use Rattle.smx_types.specs.declared.command.Command.TheVariants as command
 use Rattle.smx_types.specs.declared.command.Which.{Which}
 use Rattle.smx_types.specs.declared.command.Which.TheVariants as which
 use Rattle.smx_types.specs.declared.link.Binding.{Binding}
 use Rattle.smx_types.specs.declared.link.LinkKind.TheVariants as kind
 use Rattle.smx_types.specs.declared.link.Route.{Route}
-use Rattle.smx_types.specs.declared.reply.Fault.TheVariants.{NotMux, Unbound, Unrouted}
+use Rattle.smx_types.specs.declared.reply.Fault.TheVariants.{Unbound, Unrouted}
 use Rattle.smx_types.specs.declared.stream.StreamId.{StreamId}
 use Rattle.smx_types.specs.declared.driver.DriverSpec.{DriverSpec}
 use Rattle.smx_types.specs.declared.reply.Reply.{Reply}
 use Rattle.smx_types.specs.declared.reply.Reply.TheVariants.{Done}
 use Rattle.smx_model.specs.Commands.{done_outcome, outcome}
-use Rattle.smx_model.specs.Configuration.{Configuration, stream_before, bind_before, route_before}
-use Rattle.smx_model.specs.DriverList.{is_mux}
-use Rattle.smx_model.specs.Hangups.{is_hung, with_hung}
+use Rattle.smx_model.specs.Configuration.{Configuration, bind_before, route_before}
+use Rattle.smx_model.specs.Hangups.{with_hung}
 use Rattle.smx_model.specs.Ordered.{with_inserted}
-use Rattle.smx_model.specs.Lookups.{free_stream, leaf_stream, mux_stream}
-use Rattle.smx_model.specs.Outcomes.{refuse}
+use Rattle.smx_model.specs.Lookups.{leaf_stream, mux_stream}
 use Rattle.smx_model.specs.Removal.{serials_that_left, after_sweep}
 use Rattle.smx_model.specs.Standing.{exists}
 use Rattle.smx_model.specs.Swept.{IsSwept}
 use Rattle.smx_addresses.specs.BindingLists.{is_taken}
+use Rattle.smx_model.proofs.DropLemmas.{done_idle, hung_swept, mux_exists}
 use Rattle.smx_model.proofs.TestLemmas.{all_placed}
-use Rattle.smx_tables.proofs.ClimbLemmas.{named_stands}
-use Rattle.smx_tables.proofs.ExistingLemmas.{all_fewer, named_stream}
+use Rattle.smx_tables.proofs.ExistingLemmas.{all_fewer}
 use Rattle.smx_commands.specs.UnlinkTargets.{unlinks}
-use Rattle.smx_commands.proofs.AcceptedLemmas.{bound, fd_at, free_says, leaf_says}
+use Rattle.smx_commands.proofs.AcceptedLemmas.{leaf_says}
 
 -- what a body has swept, by drivers that it was given, with a reply that names the serials that left, is what the
 -- change comes to, where their sweeps come to the same
@@ -40,22 +38,19 @@ swept_is drivers given c new changed d r same is left gone =
 
 -- ---- without a few bindings, or with other routes, nothing is left to sweep
 
+-- with fewer bindings, what is swept is still swept
 fewer_binds : (drivers : List DriverSpec) (c : Configuration) (t : Binding → Bool) → IsSwept drivers c
     → IsSwept drivers (record c { binds = filter t c.binds })
 fewer_binds drivers c t h = search (all_fewer, rules)
 
+-- with other routes, what is swept is still swept
 other_routes : (drivers : List DriverSpec) (c : Configuration) (routes : List Route) → IsSwept drivers c
     → IsSwept drivers (record c { routes = routes })
 other_routes drivers c routes h = search rules
 
--- what the law of the model says: then no message is dropped
-abbrev pub IdleDropsNone : List DriverSpec → Type 0
-IdleDropsNone drivers =
-    (c new : Configuration) → IsSwept drivers new → new.flow ≡ c.flow → done_outcome drivers c new ≡ Ok (new, Done [])
-
 -- a route that is not refused replaces its driver's route for the address, and drops no message
 pub route_does : (drivers : List DriverSpec) (c : Configuration) (process fd addr id : ℕ) (s : StreamId)
-    (new : Configuration) (r : Reply) → IdleDropsNone drivers → IsSwept drivers c
+    (new : Configuration) (r : Reply) → IsSwept drivers c
     → mux_stream drivers c process fd ≡ Ok s
     → list_any (λ l. eqb l.id id && eqb l.ctl.driver s.driver) c.links ≡ true
     → new ≡ record c {
@@ -64,17 +59,10 @@ pub route_does : (drivers : List DriverSpec) (c : Configuration) (process fd add
           (record { driver = s.driver; addr = addr; id = id });
     } → r ≡ Done []
     → outcome drivers c process (command.Route fd addr id) ≡ Ok (new, r)
-route_does drivers c process fd addr id s new r idle clean e there is none =
-    rw (e, there, is, none) (idle c _ (other_routes drivers c _ clean) refl)
+route_does drivers c process fd addr id s new r clean e there is none =
+    rw (e, there, is, none) (done_idle drivers c _ (other_routes drivers c _ clean) refl)
 
-mux_stream_exists : (drivers : List DriverSpec) (c : Configuration) (process fd : ℕ) (s : StreamId)
-    → mux_stream drivers c process fd ≡ Ok s → exists drivers c s ≡ true
-mux_stream_exists drivers c process fd s e =
-    let free = bound (free_stream c process fd) _ s e in
-    let mux = bound (refuse NotMux (not (is_mux drivers free.0.driver))) _ s free.2 in
-    let there = (free_says c process fd s (free.1 ∙ mux.2)).0 in
-    named_stands c.fds c.links (length drivers) s (named_stream process fd c.fds s (fd_at _ s there))
-
+-- with one more binding, of a stream that exists, what is swept is still swept
 one_more_bind : (drivers : List DriverSpec) (c : Configuration) (b : Binding)
     → exists drivers c (record { driver = b.driver; minor = b.minor }) ≡ true → IsSwept drivers c
     → IsSwept drivers (record c { binds = with_inserted bind_before c.binds b })
@@ -82,7 +70,7 @@ one_more_bind drivers c b there h = search (all_placed, rules)
 
 -- a bind that is not refused inserts its binding, and drops no message
 pub bind_does : (drivers : List DriverSpec) (c : Configuration) (process fd addr : ℕ) (s : StreamId)
-    (new : Configuration) (r : Reply) → IdleDropsNone drivers → IsSwept drivers c
+    (new : Configuration) (r : Reply) → IsSwept drivers c
     → mux_stream drivers c process fd ≡ Ok s
     → is_taken c.binds s addr ≡ false
     → new ≡ record c {
@@ -90,18 +78,18 @@ pub bind_does : (drivers : List DriverSpec) (c : Configuration) (process fd addr
           (record { driver = s.driver; addr = addr; minor = s.minor });
     } → r ≡ Done []
     → outcome drivers c process (command.Bind fd addr) ≡ Ok (new, r)
-bind_does drivers c process fd addr s new r idle clean e there is none = rw (e, there, is, none)
-    (idle c _ (one_more_bind drivers c (record { driver = s.driver; addr = addr; minor = s.minor })
-    (mux_stream_exists drivers c process fd s e) clean) refl)
+bind_does drivers c process fd addr s new r clean e there is none = rw (e, there, is, none)
+    (done_idle drivers c _ (one_more_bind drivers c (record { driver = s.driver; addr = addr; minor = s.minor })
+    (mux_exists drivers c process fd s e) clean) refl)
 
 -- an unbind that is not refused takes the binding of its stream away, and drops no message
 pub unbind_does : (drivers : List DriverSpec) (c : Configuration) (process fd : ℕ) (s : StreamId) (new : Configuration)
-    (r : Reply) → IdleDropsNone drivers → IsSwept drivers c → mux_stream drivers c process fd ≡ Ok s
+    (r : Reply) → IsSwept drivers c → mux_stream drivers c process fd ≡ Ok s
     → list_any (λ b. eqb b.driver s.driver && eqb b.minor s.minor) c.binds ≡ true
     → new ≡ record c { binds = filter (λ b. not (eqb b.driver s.driver && eqb b.minor s.minor)) c.binds } → r ≡ Done []
     → outcome drivers c process (command.Unbind fd) ≡ Ok (new, r)
-unbind_does drivers c process fd s new r idle clean e there is none =
-    rw (e, there, is, none) (idle c _ (fewer_binds drivers c _ clean) refl)
+unbind_does drivers c process fd s new r clean e there is none =
+    rw (e, there, is, none) (done_idle drivers c _ (fewer_binds drivers c _ clean) refl)
 
 -- where nothing is bound to the stream an unbind is refused
 pub unbind_refused : (drivers : List DriverSpec) (c : Configuration) (process fd : ℕ) (s : StreamId)
@@ -112,13 +100,13 @@ unbind_refused drivers c process fd s e none = rw (e, none) refl
 
 -- an unroute that is not refused takes its driver's route for the address away, and drops no message
 pub unroute_does : (drivers : List DriverSpec) (c : Configuration) (process fd addr : ℕ) (s : StreamId)
-    (new : Configuration) (r : Reply) → IdleDropsNone drivers → IsSwept drivers c
+    (new : Configuration) (r : Reply) → IsSwept drivers c
     → mux_stream drivers c process fd ≡ Ok s
     → list_any (λ x. eqb x.driver s.driver && eqb x.addr addr) c.routes ≡ true
     → new ≡ record c { routes = filter (λ x. not (eqb x.driver s.driver && eqb x.addr addr)) c.routes } → r ≡ Done []
     → outcome drivers c process (command.Unroute fd addr) ≡ Ok (new, r)
-unroute_does drivers c process fd addr s new r idle clean e there is none =
-    rw (e, there, is, none) (idle c _ (other_routes drivers c _ clean) refl)
+unroute_does drivers c process fd addr s new r clean e there is none =
+    rw (e, there, is, none) (done_idle drivers c _ (other_routes drivers c _ clean) refl)
 
 -- where the driver has no route for the address an unroute is refused
 pub unroute_refused : (drivers : List DriverSpec) (c : Configuration) (process fd addr : ℕ) (s : StreamId)
@@ -129,23 +117,15 @@ unroute_refused drivers c process fd addr s e none = rw (e, none) refl
 
 -- ---- a hangup
 
-one_more_hung : (drivers : List DriverSpec) (c : Configuration) (s : StreamId) → exists drivers c s ≡ true
-    → IsSwept drivers c → IsSwept drivers (record c { hungs = with_hung s c.hungs })
-one_more_hung drivers c s there h = search (rules, all_hung (is_hung c.hungs s)) where
-  all_hung : (b : Bool) → list_all (exists drivers c) (if b then c.hungs else with_inserted stream_before c.hungs s)
-      ≡ true
-  all_hung true = h.hungs
-  all_hung false = all_placed (exists drivers c) stream_before c.hungs s there h.hungs
-
 -- a hangup that is not refused hangs its stream up, and drops no message
 pub hangup_does : (drivers : List DriverSpec) (c : Configuration) (process : ℕ) (name : List ℕ) (minor : ℕ)
-    (s : StreamId) (new : Configuration) (r : Reply) → IdleDropsNone drivers → IsSwept drivers c
+    (s : StreamId) (new : Configuration) (r : Reply) → IsSwept drivers c
     → leaf_stream drivers c name minor ≡ Ok s
     → new ≡ record c { hungs = with_hung s c.hungs } → r ≡ Done []
     → outcome drivers c process (command.Hangup name minor) ≡ Ok (new, r)
-hangup_does drivers c process name minor s new r idle clean e is none = rw (e, is, none)
-    (idle c _
-    (one_more_hung drivers c s (leaf_says drivers c name minor s e).0 clean) refl)
+hangup_does drivers c process name minor s new r clean e is none = rw (e, is, none)
+    (done_idle drivers c _
+    (hung_swept drivers c s clean (leaf_says drivers c name minor s e).0) refl)
 
 -- ---- both kinds of links at once
 

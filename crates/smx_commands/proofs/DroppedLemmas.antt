@@ -7,6 +7,7 @@ use Rattle.smx_model.specs.Ordered.{in_rising_order}
 use Rattle.smx_model.specs.Removal.{serials, serials_that_left}
 use Rattle.smx_tables.proofs.LengthLemmas.{longer_by_one, not_more}
 
+-- in rising order there are as many numbers as there were
 as_many : (ns : List ℕ) → length (in_rising_order ns) ≡ length ns
 as_many [] = refl
 as_many (n ∷ ns) = omega (arith, longer_by_one ltb (in_rising_order ns) _ n refl, as_many ns)

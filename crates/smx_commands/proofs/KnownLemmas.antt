@@ -26,6 +26,7 @@ any_known drivers stream t s [] f k h = absurd cc
 any_known drivers stream t s (x ∷ xs) f k h = elim (or_cases (t x) (list_any t xs) h)
     [ inl a ↦ subst (IsKnown drivers) (f x a) k.0 | inr b ↦ any_known drivers stream t s xs f k.1 b ]
 
+-- a stream that stands is one that the drivers have, where all streams of descriptors and below links are
 stands_known : (drivers : List DriverSpec) (fds : List Descriptor) (links : List Link) (n : ℕ) (s : StreamId)
     → AllByRecursion (λ d. IsKnown drivers d.stream) fds → AllByRecursion (λ l. IsKnown drivers l.lower) links
     → stands_within fds links n s ≡ true → IsKnown drivers s

@@ -1,9 +1,8 @@
 -- What a leaf stream's words come to, and whether anything is found.
-use Rattle.std.proofs.Common.{◌≡◌, ℕ, Bool, true, false, not, List, [], ◌∷◌, find, Some, None, Ok, Err, refl, sym, ap}
-use Rattle.std.proofs.Common.{◌∙◌, inl, inr}
+use Rattle.std.proofs.Common.{◌≡◌, ℕ, Bool, true, false, not, List, find, Some, None, Ok, Err, refl, sym, ap}
+use Rattle.std.proofs.Common.{◌∙◌}
 use Rattle.std.specs.List.{list_any}
 use Rattle.std.specs.Option.{is_some}
-use Rattle.std.proofs.lemmas.Bool.{cases_Bool}
 use Rattle.smx_types.specs.declared.driver.DriverSpec.{DriverSpec}
 use Rattle.smx_types.specs.declared.reply.Fault.{Fault}
 use Rattle.smx_types.specs.declared.reply.Fault.TheVariants.{NoMinor}
@@ -12,6 +11,7 @@ use Rattle.smx_model.specs.DriverList.{is_mux}
 use Rattle.smx_model.specs.Lookups.{driver_of, leaf_stream}
 use Rattle.smx_model.specs.Outcomes.{refuse}
 use Rattle.smx_model.specs.Standing.{exists}
+use Rattle.smx_links.proofs.LowerLemmas.{any_found as is_found}
 
 -- what is not refused unless it holds, holds
 pub is_there : (f : Fault) (test : Bool) → refuse f (not test) ≡ Ok tt → test ≡ true
@@ -25,16 +25,11 @@ pub no_leaf : (drivers : List DriverSpec) (c : Configuration) (name : List ℕ) 
     → Err NoMinor ≡ leaf_stream drivers c name minor
 no_leaf drivers c name n minor e m x = rw (e, m, x) refl
 
--- something is found where an element passes
-found_any : {X : Type 0} (test : X → Bool) (xs : List X) → is_some (find test xs) ≡ list_any test xs
-found_any test [] = refl
-found_any test (x ∷ xs) = elim (cases_Bool (test x)) [ inl t ↦ rw t refl | inr f ↦ rw f (found_any test xs) ]
-
--- where one is found, one passes
+-- where an element is found, one passes
 pub any_found : {X : Type 0} (test : X → Bool) (xs : List X) (x : X) → find test xs ≡ Some x
     → list_any test xs ≡ true
-any_found test xs x e = sym (found_any test xs) ∙ ap is_some e
+any_found test xs x e = sym (is_found test xs) ∙ ap is_some e
 
--- and where none is found, none passes
+-- where no element is found, none passes
 pub none_found : {X : Type 0} (test : X → Bool) (xs : List X) → find test xs ≡ None → list_any test xs ≡ false
-none_found test xs e = sym (found_any test xs) ∙ ap is_some e
+none_found test xs e = sym (is_found test xs) ∙ ap is_some e

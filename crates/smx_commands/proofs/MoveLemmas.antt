@@ -3,7 +3,6 @@ use Rattle.std.proofs.Common.{◌≡◌, Option, Some, None, refl, ap}
 use Rattle.std.specs.Prelude.{IsSome}
 use Rattle.smx_types.specs.declared.message.Message.{Message}
 use Rattle.smx_types.specs.declared.stream.Place.{Place}
-use Rattle.smx_model.specs.LoneMessages.{moved}
 use Rattle.smx_model.specs.Queues.{first_message}
 use Rattle.smx_queues.specs.FlowTables.{FlowLists, after_arrival, after_leaving}
 
@@ -11,6 +10,7 @@ use Rattle.smx_queues.specs.FlowTables.{FlowLists, after_arrival, after_leaving}
 abbrev pub IsMoved : FlowLists → FlowLists → Place → Place → Type 0
 IsMoved t q from to = (m : Message) → first_message t.flow from ≡ Some m → q ≡ after_arrival (after_leaving t from) to m
 
+-- a move of a first message that there is leaves the drivers of the table of queues as they were
 drivers_by : (t q : FlowLists) (from to : Place) (o : Option Message) → first_message t.flow from ≡ o → IsSome o
     → IsMoved t q from to → q.drivers ≡ t.drivers
 drivers_by t q from to None first some moved = absurd cc

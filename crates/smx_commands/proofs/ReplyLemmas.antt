@@ -25,6 +25,7 @@ carries_nothing k = not (may_drop k)
 record HasNoBytes (drivers : List DriverSpec) (c : Configuration) (o : Outcome) : Type 0 where
   pub none : bytes_of (after_outcome drivers c o).1 ≡ []
 
+-- an accepted outcome whose reply carries no bytes has none
 nothing : (drivers : List DriverSpec) (c : Configuration) (x : Configuration × Reply) → bytes_of x.1 ≡ []
     → HasNoBytes drivers c (Ok x)
 nothing drivers c x h = record { none = h }
@@ -35,6 +36,7 @@ behind : {A : Type 0} (drivers : List DriverSpec) (c : Configuration) (a : Resul
 behind drivers c (Ok v) f h = h v
 behind drivers c (Err g) f h = record { none = refl }
 
+-- the outcome of a command that carries nothing has a reply without bytes
 no_bytes : (drivers : List DriverSpec) (c : Configuration) (process : ℕ) (k : Command) → carries_nothing k ≡ true
     → HasNoBytes drivers c (outcome drivers c process k)
 no_bytes drivers c process (command.Close fd) h = absurd cc
@@ -46,17 +48,18 @@ no_bytes drivers c process (command.Flush fd w) h = absurd cc
 no_bytes drivers c process (command.Transmit name minor) h = absurd cc
 no_bytes drivers c process k h = search (behind, nothing, rules) depth 20
 
--- and so may drop none
+-- a command that carries nothing may drop no message
 drops_none : (k : Command) → carries_nothing k ≡ true → may_drop k ≡ false
 drops_none (command.Read fd) h = refl
 drops_none (command.Transmit name minor) h = refl
 drops_none k h = not-true _ h
 
+-- a list of numbers that can't have some has none
 not_some : (ns : List ℕ) → ((ns ≡ [] → ⊥) → ⊥) → ns ≡ []
 not_some [] h = refl
 not_some (n ∷ ns) h = absurd (h (λ e. cc))
 
--- so no room is enough for their replies
+-- for the reply of a command that carries nothing no room is enough
 pub nothing_fits : (drivers : List DriverSpec) (c : Configuration) (process : ℕ) (k : Command) (room : ReplyRoom)
     → carries_nothing k ≡ true → (dropped_by (step drivers c process k).1 ≢ [] → IsTrue (may_drop k))
     → HasRoomFor 0 0 room

@@ -19,12 +19,12 @@ pub free_known : (drivers : List DriverSpec) (c : Configuration) (process fd : �
     → AreStreamsKnown drivers c → free_stream c process fd ≡ Ok s → IsKnown drivers s
 free_known drivers c process fd s k e = stream_known drivers c process fd s k (free_says c process fd s e).0
 
--- and so is that of a device
+-- the stream of a device is one that the drivers have
 pub leaf_known : (drivers : List DriverSpec) (c : Configuration) (name : List ℕ) (minor : ℕ) (s : StreamId)
     → AreStreamsKnown drivers c → leaf_stream drivers c name minor ≡ Ok s → IsKnown drivers s
 leaf_known drivers c name minor s k e = exists_known drivers c s k (leaf_says drivers c name minor s e).0
 
--- and so are those whose device has not hung up
+-- the stream of a free descriptor that has not hung up is one that the drivers have
 pub live_known : (drivers : List DriverSpec) (c : Configuration) (process fd : ℕ) (s : StreamId)
     → AreStreamsKnown drivers c → live_stream c process fd ≡ Ok s → IsKnown drivers s
 live_known drivers c process fd s k e =

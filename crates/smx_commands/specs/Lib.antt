@@ -1,5 +1,5 @@
 pub mod Machine
-pub mod CommandsInPlace
+pub mod WorkedMemory
 pub mod LinkFaults
 pub mod StreamFaults
 pub mod Sending

@@ -9,7 +9,7 @@ use Rattle.smx_types.specs.declared.stream.StreamId.{StreamId}
 use Rattle.smx_model.specs.Configuration.{Configuration}
 use Rattle.smx_model.specs.Lookups.{free_stream, live_leaf, live_stream}
 
--- the stream, or why there is none; other commands have none
+-- the stream, or why there is none; of a command that neither sends nor takes a message, a fault that nothing tells
 abbrev pub message_stream : List DriverSpec → Configuration → ℕ → Command → Result StreamId Fault
 message_stream drivers c process (command.OpenClone name) = Err BadDescriptor
 message_stream drivers c process (command.OpenMinor name minor) = Err BadDescriptor

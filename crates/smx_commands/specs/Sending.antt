@@ -16,7 +16,7 @@ use Rattle.smx_model.specs.Hangups.{is_hung}
 use Rattle.smx_model.specs.Outcomes.{◌>>=◌, refuse, Outcome}
 use Rattle.smx_model.specs.Queues.{first_message, is_full}
 
--- once the place is known
+-- a message of these bytes may be sent to the place, or the refusal that applies
 abbrev pub may_send : List DriverSpec → Configuration → Place → List ℕ → Result (Unit {0}) Fault
 may_send drivers c p bytes = do
   size ← refuse BadSize ((length bytes == 0) || nat_lt (max_of drivers p.stream.driver) (length bytes))
@@ -28,13 +28,13 @@ sent_to drivers c named on addr bytes = do
   s ← named
   send_outcome drivers c (record { stream = s; side = on }) addr bytes
 
--- and so is one taken from it
+-- the first message at a side of the stream that a command names is delivered, if it names one
 abbrev pub received_from : List DriverSpec → Configuration → Result StreamId Fault → Side → Outcome
 received_from drivers c named on = do
   s ← named
   receive_outcome drivers c (record { stream = s; side = on })
 
--- and so is one read, or the end of file
+-- the stream that a command names is read, if it names one: its first message, or the end of file
 abbrev pub read_from : List DriverSpec → Configuration → Result StreamId Fault → Outcome
 read_from drivers c named = do
   s ← named

@@ -9,7 +9,6 @@ ghost use Rattle.smx_commands.specs.Refinement.{Refines, as_step_error};
 use crate::answers::{done, refuse};
 use crate::step_error::StepError;
 use crate::tables::Tables;
-use smx_model::laws_of_steps::idle_changes_drop_none;
 use smx_types::{Fault, Process, Reply};
 
 // What is left to sweep stays as it is under each of them: the stream exists, and a route holds no stream.
@@ -18,7 +17,6 @@ impl Tables {
         requires { IsSound self.old.drivers self.old.configuration }
         ensures { Refines self.old self.new process (command.Bind fd addr) result }
     {
-        idle_changes_drop_none();
         let stream = self.mux_stream(process, fd)?;
         refuse(Fault::AddressInUse, self.lists.binds.is_taken(stream, addr))?;
         self.lists.binds.bind(stream, addr)?;
@@ -29,7 +27,6 @@ impl Tables {
         requires { IsSound self.old.drivers self.old.configuration }
         ensures { Refines self.old self.new process (command.Unbind fd) (as_step_error result) }
     {
-        idle_changes_drop_none();
         let stream = self.mux_stream(process, fd)?;
         let Some(_binding) = self.lists.binds.unbind(stream) else {
             return Err(Fault::Unbound);
@@ -57,7 +54,6 @@ impl Tables {
         requires { IsSound self.old.drivers self.old.configuration }
         ensures { Refines self.old self.new process (command.Route fd addr id) result }
     {
-        idle_changes_drop_none();
         let stream = self.mux_stream(process, fd)?;
         refuse(Fault::NoLink, !self.has_link(stream.driver, id))?;
         self.lists.routes.route(stream.driver, addr, id)?;
@@ -68,7 +64,6 @@ impl Tables {
         requires { IsSound self.old.drivers self.old.configuration }
         ensures { Refines self.old self.new process (command.Unroute fd addr) (as_step_error result) }
     {
-        idle_changes_drop_none();
         let stream = self.mux_stream(process, fd)?;
         let Some(_route) = self.lists.routes.unroute(stream.driver, addr) else {
             return Err(Fault::Unrouted);

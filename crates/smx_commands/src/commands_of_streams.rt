@@ -17,7 +17,6 @@ ghost use Rattle.smx_commands.specs.Refinement.{HasOutcome, Refines, as_step_err
 use crate::answers::{done, refuse};
 use crate::step_error::StepError;
 use crate::tables::{Tables, tells_existing};
-use smx_model::laws_of_steps::idle_changes_drop_none;
 use smx_streams::Streams;
 use smx_tables::standing;
 use smx_tables::sweep::{reserve_for_sweep, sweep_alone_and_reply, sweep_and_reply};
@@ -120,7 +119,6 @@ impl Tables {
         if self.lists.streams.is_last(process, fd) {
             return self.close_last(process, fd, stream);
         }
-        idle_changes_drop_none();
         tells_existing(&self.drivers, &self.lists);
         self.lists.streams.is_sound();
         let _stays = self.lists.streams.close_fd(process, fd);
@@ -144,7 +142,6 @@ impl Tables {
         requires { IsSound self.old.drivers self.old.configuration }
         ensures { (process : ℕ) → Refines self.old self.new process (Hangup name.now minor) (as_step_error result) }
     {
-        idle_changes_drop_none();
         let stream = self.leaf_stream(name, minor)?;
         tells_existing(&self.drivers, &self.lists);
         self.lists.streams.hang(stream);

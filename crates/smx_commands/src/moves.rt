@@ -3,7 +3,7 @@
 ghost use Rattle.std.specs.Prelude.{◌≡◌, false, IsSome};
 ghost use Rattle.smx_model.specs.Configuration.{same_place};
 ghost use Rattle.smx_model.specs.KnownStreams.{IsKnown};
-ghost use Rattle.smx_model.specs.LoneMessages.{moved};
+ghost use Rattle.smx_model.specs.LoneMessages.{after_move_between};
 ghost use Rattle.smx_model.specs.Queues.{first_message, is_full};
 
 use crate::tables::Tables;
@@ -17,7 +17,8 @@ impl Tables {
         requires known { IsKnown self.old.drivers to.stream }
         requires differ { same_place from to ≡ false }
         requires free { is_full self.old.configuration to ≡ false }
-        ensures { self.new ≡ record self.old { configuration = moved self.old.drivers self.old.configuration from to } }
+        ensures { self.new
+            ≡ record self.old { configuration = after_move_between self.old.drivers self.old.configuration from to } }
     {
         self.lists.links.is_sound();
         self.lists.queues.move_front(from, to);

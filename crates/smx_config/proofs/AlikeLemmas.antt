@@ -11,12 +11,11 @@ use Rattle.smx_types.specs.declared.reply.Reply.TheVariants as reply
 use Rattle.smx_types.specs.declared.stream.Place.{Place}
 use Rattle.smx_types.specs.declared.stream.StreamId.{StreamId}
 use Rattle.smx_model.specs.Commands.{read_outcome, receive_outcome, send_outcome}
-use Rattle.smx_model.specs.Configuration.{Configuration}
+use Rattle.smx_model.specs.Configuration.{Configuration, read_side}
 use Rattle.smx_model.specs.DriverList.{max_of}
 use Rattle.smx_model.specs.Hangups.{is_hung}
 use Rattle.smx_model.specs.Outcomes.{Outcome, ◌>>=◌, or_fault, refuse}
 use Rattle.smx_model.specs.Queues.{after_arrival, first_message, is_full}
-use Rattle.smx_model.specs.TurnedPlaces.{read_side}
 use Rattle.smx_commands.proofs.AcceptedLemmas.{accepted, bound}
 use Rattle.smx_config.specs.Ways.{LeadAlike}
 
@@ -35,14 +34,14 @@ sent_alike drivers c p addr bytes x e =
     let room = bound (refuse Full (is_full c p || nat_le NUMBER_END c.next_serial)) (λ r. sent) x size.2 in
     subst (λ (y : Configuration × Reply). LeadAlike c y.0) (accepted _ x room.2) (search rules)
 
--- and so does taking one
+-- a message that is taken from its place leaves the ways of messages as they are
 pub received_alike : (drivers : List DriverSpec) (c : Configuration) (p : Place) (x : Configuration × Reply)
     → receive_outcome drivers c p ≡ Ok x → LeadAlike c x.0
 received_alike drivers c p x e =
     let found = bound (or_fault Empty (first_message c.flow p)) _ x e in
     subst (λ (y : Configuration × Reply). LeadAlike c y.0) (accepted _ x found.2) (search rules)
 
--- and so does reading one
+-- a read at a stream leaves the ways of messages as they are
 pub read_alike : (drivers : List DriverSpec) (c : Configuration) (s : StreamId) (x : Configuration × Reply)
     → read_outcome drivers c s ≡ Ok x → LeadAlike c x.0
 read_alike drivers c s x e = by (is_hung c.hungs s && not (is_some (first_message c.flow (read_side s)))) refl where

@@ -27,7 +27,7 @@ good ds i d here h =
     let at : get_or ds i d ≡ d = same_Some _ _ (sym (slice_get-get_or ds i d within) ∙ here) in
     (subst (λ e. spec_check e ≡ Ok tt) at (h.each i d within), λ same. taken_name ds i d within (sym at) same h)
 
--- so is one before driver j, where the drivers before that can be had
+-- where the drivers before one can be had, each of them passes the check, and none has the name of an earlier one
 good_before : (ds : List DriverSpec) (i j : ℕ) (d e : DriverSpec) → slice_get ds i ≡ Some d → slice_get ds j ≡ Some e
     → i < j → IsDriverList (take j ds) → (spec_check d ≡ Ok tt) × (HasSameName ds i d → ⊥)
 good_before ds i j d e here later before h =
@@ -63,7 +63,7 @@ one_number ds i j d e first bad other worse = elim (cases_Bool (ltb i j)) [
   ]
 ]
 
--- and is one driver
+-- the first driver that spoils a list, at one place of it, is one driver
 one_driver : (ds : List DriverSpec) (i j : ℕ) (d e : DriverSpec) → IsFirstBad ds i d → IsFirstBad ds j e → i ≡ j → d ≡ e
 one_driver ds i j d e first other same =
     same_Some _ _ (sym first.here ∙ ap (slice_get ds) same ∙ other.here)

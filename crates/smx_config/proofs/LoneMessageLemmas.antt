@@ -11,7 +11,7 @@ use Rattle.smx_types.specs.declared.stream.Place.{Place}
 use Rattle.smx_model.specs.Configuration.{Configuration, same_place}
 use Rattle.smx_model.specs.LoneMessages.{IsClosed, StaysAt}
 use Rattle.smx_model.specs.Queues.{first_message, is_full}
-use Rattle.smx_model.specs.RunMarks.{AreMarked, all_but, both, has_addr, is_one_of, next_of_first}
+use Rattle.smx_model.specs.RunMarks.{AreMarked, all_but, either, has_addr, is_one_of, next_of_first}
 use Rattle.smx_model.specs.Settling.{◌>>=◌, next_open_place, next_place}
 use Rattle.smx_queues.specs.PlaceMarks.{has_mark}
 use Rattle.smx_queues.specs.Waiters.{target_of}
@@ -107,7 +107,7 @@ full_there : (drivers : List DriverSpec) (c : Configuration) (q r : Place) (m : 
 full_there drivers c q r m waits (inl behind) e = absurd (none-some r (sym behind.1 ∙ e))
 full_there drivers c q r m waits (inr first) e = subst (IsClosed c) e first.2
 
--- so the marks are enough
+-- once a lone message has come to rest, with the marks of its last place set, the marks are right
 pub rested : (drivers : List DriverSpec) (c d : Configuration) (p q : Place) (m : Message) (waits : Option Place)
     (old new : Marks) → AreMarks drivers c old → ((r : Place) → has_mark old.run r ≡ true → same_place p r ≡ true)
     → HasCome drivers c d p q m waits → AreRested p q waits old new
@@ -126,7 +126,7 @@ rested drivers c d p q m waits old new marks only h k marked = record {
 
 -- of these marks, those that the law of lone messages asks for
 pub enough_wanted : (p q r : Place) (waits : Option Place) (old new : Marks) → AreRested p q waits old new
-    → both (has_mark old.wanted) (λ s. is_one_of (same_place s) waits) r ≡ true → has_mark new.wanted r ≡ true
+    → either (has_mark old.wanted) (λ s. is_one_of (same_place s) waits) r ≡ true → has_mark new.wanted r ≡ true
 enough_wanted p q r waits old new k h = elim (or_cases (has_mark old.wanted r) _ h) [
   | inl before ↦ k.kept r before
   | inr here ↦ k.there r (by waits here)

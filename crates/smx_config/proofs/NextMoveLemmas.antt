@@ -1,19 +1,20 @@
 -- The least place with a run mark, and what is left of the marks where it can't be moved from.
-use Rattle.std.proofs.Common.{◌≡◌, Bool, true, false, cond, List, [], ◌∷◌, find, Option, Some, None}
+use Rattle.std.proofs.Common.{◌≡◌, Bool, true, false, cond, List, [], Option, Some, None}
 use Rattle.std.proofs.Common.{refl, sym, ap, ◌∙◌, subst, inl, inr}
 use Rattle.std.specs.Prelude.{◌≢◌, ◌⊎◌, IfNone}
 use Rattle.std.specs.List.{list_any}
-use Rattle.std.specs.Option.{is_some, option_map}
+use Rattle.std.specs.Option.{is_some}
 use Rattle.std.proofs.lemmas.Bool.{cases_Bool, false≢true}
 use Rattle.std.proofs.lemmas.Option.{none-some}
 use Rattle.smx_types.specs.declared.driver.DriverSpec.{DriverSpec}
 use Rattle.smx_types.specs.declared.message.Message.{Message}
 use Rattle.smx_types.specs.declared.stream.Place.{Place}
-use Rattle.smx_model.specs.Configuration.{Configuration, QueuedMessage, empty, same_place}
+use Rattle.smx_model.specs.Configuration.{Configuration, empty, same_place}
 use Rattle.smx_model.specs.KnownStreams.{IsKnown}
 use Rattle.smx_model.specs.Queues.{first_message, is_full}
 use Rattle.smx_model.specs.RunMarks.{all_but, is_held_up, is_next_of_first, is_one_of, nowhere, next_of, next_of_first}
-use Rattle.smx_model.specs.Settling.{◌>>=◌, IsSettled, is_movable, least_movable, next_open_place, next_place}
+use Rattle.smx_model.specs.Settling.{◌>>=◌, IsSettled, is_movable, next_open_place, next_place}
+use Rattle.smx_model.proofs.SettlingByMarksLemmas.{none_is_least}
 use Rattle.smx_model.specs.SettlingByMarks.{HasItsMarks, HasNoRunMark, IsAtRest, IsCleared, IsLeastMarked}
 use Rattle.smx_queues.specs.PlaceMarks.{MarkList, has_mark}
 use Rattle.smx_queues.specs.Waiters.{WaitList, target_of}
@@ -23,21 +24,11 @@ use Rattle.smx_config.specs.Marking.{AreMarks, IsNotedFor, marked_configuration}
 use Rattle.smx_config.specs.Moves.{IsLeastMove, if_open}
 use Rattle.smx_queues.proofs.PlaceLemmas.{place_is}
 
--- what is settled has nothing to move
-none_found : (t : Place → Bool) (flow : List QueuedMessage) → ((p : Place) → t p ≡ false)
-    → find (λ h. t h.place) flow ≡ None
-none_found t [] f = refl
-none_found t (h ∷ hs) f = rw (f h.place) (none_found t hs f)
-
--- in a settled configuration there is no least movable place
-pub least_none : (drivers : List DriverSpec) (c : Configuration) → IsSettled drivers c → least_movable drivers c ≡ None
-least_none drivers c s = ap (option_map (λ (h : QueuedMessage). h.place)) (none_found (is_movable drivers c) c.flow s)
-
 -- where it is settled there is no least move
 pub none_left : (drivers : List DriverSpec) (c : Configuration) (r : Option Move) (P : Type 0) → IsSettled drivers c
     → IsLeastMove drivers c r → IfNone r P → P
 none_left drivers c None P s least none = none
-none_left drivers c (Some m) P s least none = let e = least_none drivers c s in
+none_left drivers c (Some m) P s least none = let e = none_is_least drivers c s in
     absurd (none-some m.from (sym e ∙ least.0))
 
 -- where a first message goes, unless that is full, is where it may go on to
@@ -74,6 +65,7 @@ next_has_message drivers c p q e none = none-some q (sym (ap (next_of drivers c 
 
 -- ---- a run mark is cleared
 
+-- a place that is there, and is the same as another, is that one
 next_is : (o : Option Place) (q : Place) → is_one_of (λ x. same_place x q) o ≡ true → o ≡ Some q
 next_is None q h = absurd (false≢true h)
 next_is (Some x) q h = ap (λ (y : Place). Some y) (place_is x q h)
@@ -102,6 +94,7 @@ pub record IsNoted (drivers : List DriverSpec) (c : Configuration) (old new : Ma
   pub held_up : (p q : Place) → has_mark new.run p ≡ false → next_of_first drivers c p ≡ Some q → IsNotedFor new p q
   pub same_drivers : new.waits.drivers ≡ old.waits.drivers
 
+-- where the run mark of one place is cleared, each other place without a run mark had none before
 still_run : (old new : MarkList) (p q : Place) → ((r : Place) → has_mark new r ≡ all_but (has_mark old) p r)
     → same_place p q ≡ false → has_mark new q ≡ false → has_mark old q ≡ false
 still_run old new p q gone other clear = elim (cases_Bool (has_mark old q)) [

@@ -2,7 +2,7 @@
 use Rattle.std.proofs.Common.{◌≡◌, ◌≢◌, ℕ, Bool, true, false, ◌&&◌, eqb, cond, List, [], ◌∷◌, find, Option, Some, None}
 use Rattle.std.proofs.Common.{refl, sym, ap, ◌∙◌, subst, arith, inl, inr}
 use Rattle.std.specs.Prelude.{IsSome}
-use Rattle.std.specs.List.{AllByRecursion, Contains, list_any}
+use Rattle.std.specs.List.{Contains, list_any}
 use Rattle.std.proofs.lemmas.Bool.{and_parts, cases_Bool, eqb-true, ne_eqb}
 use Rattle.std.proofs.lemmas.List.Elements.{Contains-append_right, recursion_from_All}
 use Rattle.smx_types.specs.declared.driver.DriverSpec.{DriverSpec}
@@ -23,16 +23,7 @@ use Rattle.smx_model.specs.Queues.{first_message, is_full}
 use Rattle.smx_model.specs.Settling.{◌>>=◌, live_write_side, next_open_place, next_place, place_above, place_below}
 use Rattle.smx_tables.proofs.AboveLemmas.{some_with_id, stream_is}
 use Rattle.smx_tables.proofs.FoundLemmas.{bound, found_passes, some_is}
-
--- what holds of each element holds of the one that is found
-found_has : {X : Type 0} (P : X → Type 0) (test : X → Bool) (xs : List X) (x : X) → AllByRecursion P xs
-    → find test xs ≡ Some x → (test x ≡ true) × P x
-found_has P test [] x h e = absurd cc
-found_has P test (y ∷ ys) x h e = elim (cases_Bool (test y)) [
-  | inl t ↦ let f : Some y ≡ Some x = rw t at e in let same = some_is y x f in
-      (subst (λ z. test z ≡ true) same t, subst P same h.0)
-  | inr f ↦ found_has P test ys x h.1 (rw f at e)
-]
+use Rattle.smx_tables.proofs.FoundLinkLemmas.{found_has}
 
 -- the two drivers of a link differ
 drivers_differ : (links : List Link) (test : Link → Bool) (l : Link) → HasNoCycle links → find test links ≡ Some l
@@ -56,6 +47,7 @@ pub open_is : (b : Bool) (p q : Place) → cond b None (Some p) ≡ Some q → (
 open_is true p q e = absurd cc
 open_is false p q e = (refl, some_is p q e)
 
+-- the next place below a driver is one that the drivers have, and is of another driver
 next_below : (drivers : List DriverSpec) (c : Configuration) (p : Place) (addr : ℕ) (q : Place) → IsSound drivers c
     → place_below c.links c.routes c.hungs p.stream.driver addr ≡ Some q → IsNext drivers p q
 next_below drivers c p addr q h e =
@@ -76,6 +68,7 @@ next_below drivers c p addr q h e =
     subst (λ (x : Place). IsNext drivers p x) here
     (record { known = low.1; differ = λ same. apart (sym same ∙ sym (upper ∙ own)) })
 
+-- the next place above a stream is one that the drivers have, and is of another driver
 next_above : (drivers : List DriverSpec) (c : Configuration) (p : Place) (addr : ℕ) (q : Place) → IsSound drivers c
     → place_above c.links c.binds p.stream addr ≡ Some q → IsNext drivers p q
 next_above drivers c p addr q h e =
@@ -98,10 +91,12 @@ next_above drivers c p addr q h e =
     subst (λ (x : Place). IsNext drivers p x) here
     (record { known = at.1; differ = λ same. apart (lower ∙ same ∙ upper) })
 
+-- what is there under a condition is there without it
 only_if : {X : Type 0} (b : Bool) (o : Option X) (x : X) → cond b o None ≡ Some x → o ≡ Some x
 only_if true o x e = e
 only_if false o x e = absurd cc
 
+-- the next place on either side of a stream is one that the drivers have, and is of another driver
 next_by : (drivers : List DriverSpec) (c : Configuration) (stream : StreamId) (s : Side) (addr : ℕ) (q : Place)
     → IsSound drivers c → next_place drivers c (record { stream = stream; side = s }) addr ≡ Some q
     → IsNext drivers (record { stream = stream; side = s }) q

@@ -52,6 +52,7 @@ same_again drivers c p q addr is asks free =
 
 -- ---- where they arrive
 
+-- a search finds something in a list in which something that passes was inserted
 found_there : {X : Type 0} (before : X → X → Bool) (test : X → Bool) (xs : List X) (x : X) → test x ≡ true
     → is_some (find test (with_inserted before xs x)) ≡ true
 found_there before test [] x t = rw t refl
@@ -63,6 +64,7 @@ found_there before test (y ∷ ys) x t = elim (cases_Bool (before x y)) [
   ])
 ]
 
+-- something is there after a function of it just where something was there before
 some_mapped : {X Y : Type 0} (f : X → Y) (o : Option X) → is_some (option_map f o) ≡ is_some o
 some_mapped f None = refl
 some_mapped f (Some x) = refl
@@ -78,6 +80,7 @@ arrived_there drivers c p q m here e is = sym (rw (e, is) (some_mapped (λ (h : 
 
 -- ---- moves, one after another
 
+-- two changes that each leave the ways of messages as they are leave them so together
 alike_again : (b c d : Configuration) → LeadAlike b c → LeadAlike c d → LeadAlike b d
 alike_again b c d h k = record {
   links = k.links ∙ h.links;

@@ -51,6 +51,7 @@ one_marked flow place old new here kept same = record {
 
 -- ---- the driver above a stream
 
+-- a link of a driver is above a stream just where the link that is found above it is of that driver
 above_is : (links : List Link) (s : StreamId) (d : ℕ) (o : Option Link) → AreLowersApart links
     → find (λ l. same_stream l.lower s) links ≡ o → list_any (λ l. same_stream l.lower s && eqb l.ctl.driver d) links
     ≡ option_map_or (λ l. eqb l.ctl.driver d) o false
@@ -192,7 +193,7 @@ write_driver c driver addr p t =
     let of = and_parts (is_write_of driver p) (has_addr addr (first_message c.flow p)) t in
     eqb-true p.stream.driver driver (and_parts (same_side p.side side.Write) (eqb p.stream.driver driver) of.0).1
 
--- so is a read side that is asked for
+-- a read side that is asked for between two drivers is of the lower one
 pub read_driver : (c : Configuration) (driver addr lower : ℕ) (p : Place) → asks_between c driver addr lower p ≡ true
     → p.stream.driver ≡ lower
 read_driver c driver addr lower p t =

@@ -1,17 +1,11 @@
 -- Moves, one after another.
-use Rattle.std.proofs.Common.{◌≡◌, ℕ, zero, suc, ◌-◌, ◌<◌, List, Option, Some, None, refl, sym, ap, ◌∙◌, arith}
+use Rattle.std.proofs.Common.{◌≡◌, ℕ, zero, suc, ◌-◌, ◌<◌, List, Some, refl, sym, ap, ◌∙◌, arith}
 use Rattle.smx_types.specs.declared.driver.DriverSpec.{DriverSpec}
 use Rattle.smx_types.specs.declared.stream.Place.{Place}
 use Rattle.smx_model.specs.Configuration.{Configuration}
 use Rattle.smx_commands.specs.Machine.{Machine}
 use Rattle.smx_model.specs.Settling.{least_movable, after_move, after_settling_within}
-
--- one round, by what the least movable place is
-round : (drivers : List DriverSpec) (n : ℕ) (c : Configuration) (o : Option Place) → least_movable drivers c ≡ o
-    → after_settling_within drivers (suc n) c ≡ elim o as (λ _. Configuration)
-    [ None ↦ c | Some p ↦ after_settling_within drivers n (after_move drivers c p) ]
-round drivers n c o e = ap (λ (x : Option Place).
-    elim x as (λ _. Configuration) [ None ↦ c | Some p ↦ after_settling_within drivers n (after_move drivers c p) ]) e
+use Rattle.smx_model.proofs.SettlingByMarksLemmas.{settling_moves}
 
 -- settling is the move from the least movable place, and then settling within one move less
 pub settled_one : (drivers : List DriverSpec) (n : ℕ) (c d : Configuration) (p : Place) → 0 < n
@@ -20,7 +14,7 @@ pub settled_one : (drivers : List DriverSpec) (n : ℕ) (c d : Configuration) (p
 settled_one drivers zero c d p some e m = absurd (omega arith)
 settled_one drivers (suc n) c d p some e m = let k : suc n - 1 ≡ n = omega arith in
     ap (λ (j : ℕ). after_settling_within drivers j d) k
-    ∙ (ap (after_settling_within drivers n) m ∙ sym (round drivers n c (Some p) e))
+    ∙ (ap (after_settling_within drivers n) m ∙ sym (settling_moves drivers n c p e))
 
 -- after the last round
 pub within_zero : (drivers : List DriverSpec) (n : ℕ) (c d : Configuration) → n ≡ 0

@@ -14,7 +14,7 @@ use Rattle.smx_types.specs.declared.stream.Place.{Place}
 use Rattle.smx_types.specs.declared.stream.Side.TheVariants as side
 use Rattle.smx_types.specs.declared.stream.StreamId.{StreamId}
 use Rattle.smx_model.specs.Commands.{outcome}
-use Rattle.smx_model.specs.Configuration.{Configuration, same_place, same_stream}
+use Rattle.smx_model.specs.Configuration.{Configuration, same_place, same_stream, read_side, write_side}
 use Rattle.smx_model.specs.DriverList.{is_mux}
 use Rattle.smx_model.specs.Hangups.{is_hung}
 use Rattle.smx_model.specs.Lookups.{free_stream, leaf_stream, live_leaf}
@@ -22,7 +22,7 @@ use Rattle.smx_model.specs.Outcomes.{◌>>=◌, refuse}
 use Rattle.smx_model.specs.Queues.{first_message}
 use Rattle.smx_model.specs.RunMarks.{next_of, next_of_first}
 use Rattle.smx_model.specs.Standing.{is_below}
-use Rattle.smx_model.specs.TurnedPlaces.{of_stream, read_side, write_side}
+use Rattle.smx_model.specs.TurnedPlaces.{of_stream}
 use Rattle.smx_commands.proofs.AcceptedLemmas.{bound, free_says, leaf_says}
 use Rattle.smx_config.proofs.AlikeLemmas.{read_alike}
 use Rattle.smx_queues.proofs.PlaceLemmas.{place_is}
@@ -39,6 +39,7 @@ live_is drivers c name minor s e =
 
 -- ---- where no message goes on
 
+-- where no link passes a test, a search by it finds none
 none_found : (test : Link → Bool) (links : List Link) → list_any test links ≡ false → find test links ≡ None
 none_found test [] h = refl
 none_found test (l ∷ ls) h = elim (cases_Bool (test l)) [
@@ -65,6 +66,7 @@ write_side_stays : (drivers : List DriverSpec) (c : Configuration) (s : StreamId
     → next_of_first drivers c (write_side s) ≡ None
 write_side_stays drivers c s leaf = nowhere_next drivers c (write_side s) (λ m. rw leaf refl)
 
+-- where the first message of a place goes nowhere next, that of the same place doesn't either
 stays_at : (drivers : List DriverSpec) (c : Configuration) (q p : Place) → same_place q p ≡ true
     → next_of_first drivers c q ≡ None → next_of_first drivers c p ≡ None
 stays_at drivers c q p same none =

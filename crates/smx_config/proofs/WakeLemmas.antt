@@ -12,7 +12,7 @@ use Rattle.smx_model.specs.Configuration.{Configuration, same_place}
 use Rattle.smx_model.specs.FreedPlaces.{FreesOnly}
 use Rattle.smx_model.specs.KnownStreams.{IsKnown}
 use Rattle.smx_model.specs.Queues.{first_message, is_full}
-use Rattle.smx_model.specs.RunMarks.{AreMarked, TurnsOnly, all_but, both, feeds, is_freed, is_one_of, next_of_first}
+use Rattle.smx_model.specs.RunMarks.{AreMarked, TurnsOnly, all_but, either, feeds, is_freed, is_one_of, next_of_first}
 use Rattle.smx_model.specs.SettlingByMarks.{IsMarkedAfter}
 use Rattle.smx_queues.specs.PlaceMarks.{MarkList, has_mark}
 use Rattle.smx_queues.specs.declared.waiters.Wait.{Wait}
@@ -24,6 +24,7 @@ use Rattle.smx_config.proofs.NextMoveLemmas.{next_has_message}
 use Rattle.smx_config.proofs.RunMarkLemmas.{IsPassed, one_left, one_passed}
 use Rattle.smx_queues.proofs.PlaceLemmas.{place_is, place_self}
 
+-- what is both true and false gives anything
 never : {A : Type 0} (b : Bool) → b ≡ true → b ≡ false → A
 never b t f = absurd (false≢true (sym f ∙ t))
 
@@ -58,7 +59,7 @@ released_one c place old new vacant gone same waits h = record {
 
 -- of two places, one after the other
 pub released_both : (c : Configuration) (these those : Place → Bool) (old mid new : Marks)
-    → IsReleased c these old mid → IsReleased c those mid new → IsReleased c (both these those) old new
+    → IsReleased c these old mid → IsReleased c those mid new → IsReleased c (either these those) old new
 released_both c these those old mid new a b = record {
   kept = λ p h. b.kept p (a.kept p h);
   waiters = λ q p f nf w known noted. elim (cases_Bool (these q)) [
@@ -78,10 +79,10 @@ released_both c these those old mid new a b = record {
   wanted_drivers = b.wanted_drivers ∙ a.wanted_drivers;
   waits = b.waits ∙ a.waits;
 } where
-  second : (q : Place) → these q ≡ false → both these those q ≡ true → those q ≡ true
+  second : (q : Place) → these q ≡ false → either these those q ≡ true → those q ≡ true
   second q n f = rw n at f
 
-  or_false : (q : Place) → both these those q ≡ false → (these q ≡ false) × (those q ≡ false)
+  or_false : (q : Place) → either these those q ≡ false → (these q ≡ false) × (those q ≡ false)
   or_false q f = elim (cases_Bool (these q)) [
     | inl t ↦ absurd (false≢true (sym f ∙ ap (λ (b : Bool). b || those q) t))
     | inr n ↦ (n, rw n at f)
@@ -95,6 +96,7 @@ unwanted m q = not (has_mark m.wanted q)
 
 -- ---- and then the turned places
 
+-- the marks with these run marks in place of theirs
 abbrev with_run : Marks → MarkList → Marks
 with_run m run = record { run = run; wanted = m.wanted; waits = m.waits }
 
@@ -173,7 +175,7 @@ marked_after drivers old new turned freed turned_too freed_too m n marks among w
       w.released.waiters q p (among.frees q (among.frees_only q gone.0)) vacant gone.1 (here p some)
       (marks.held_up p q none (went_there drivers old new turned p q among.turns_only f e))
 
--- so the marks are right after it, where each place without a run mark waits
+-- where all that a change may turn and free is woken, and each place without a run mark waits, the marks are right
 pub marks_after : (drivers : List DriverSpec) (old new : Configuration) (turned freed turned_too freed_too : Place
     → Bool) (m n : Marks) → AreMarks drivers old m → IsAmong drivers old new turned freed turned_too freed_too
     → IsWoken new turned_too freed_too m n → AreMarked drivers new (has_mark n.run) (has_mark n.wanted)

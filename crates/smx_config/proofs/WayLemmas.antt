@@ -12,12 +12,11 @@ use Rattle.smx_types.specs.declared.message.Message.{Message}
 use Rattle.smx_types.specs.declared.reply.Reply.{Reply}
 use Rattle.smx_types.specs.declared.stream.Place.{Place}
 use Rattle.smx_model.specs.Commands.{outcome}
-use Rattle.smx_model.specs.Configuration.{Configuration}
+use Rattle.smx_model.specs.Configuration.{Configuration, read_side, write_side}
 use Rattle.smx_model.specs.Lookups.{free_stream, live_leaf, live_stream}
-use Rattle.smx_model.specs.LoneMessages.{moved}
+use Rattle.smx_model.specs.LoneMessages.{after_move_between}
 use Rattle.smx_model.specs.Queues.{first_message}
 use Rattle.smx_model.specs.Settling.{after_move_to, next_place}
-use Rattle.smx_model.specs.TurnedPlaces.{read_side, write_side}
 use Rattle.smx_commands.specs.Machine.{Machine}
 use Rattle.smx_commands.specs.Refinement.{Refines}
 use Rattle.smx_commands.specs.declared.step_error.StepError.{StepError}
@@ -86,10 +85,10 @@ moved_alike drivers c p None m = record { links = refl; routes = refl; binds = r
 moved_alike drivers c p (Some q) None = record { links = refl; routes = refl; binds = refl; hungs = refl }
 moved_alike drivers c p (Some q) (Some m) = record { links = refl; routes = refl; binds = refl; hungs = refl }
 
--- so does a message that comes to rest
+-- a message that comes to rest leaves the ways of messages as they are
 pub after_rest : (drivers : List DriverSpec) (c : Configuration) (p q : Place) (t : WayList) → AreWays drivers c t
-    → AreWays drivers (moved drivers c p q) t
-after_rest drivers c p q t h = alike drivers c (moved drivers c p q) t t
+    → AreWays drivers (after_move_between drivers c p q) t
+after_rest drivers c p q t h = alike drivers c (after_move_between drivers c p q) t t
     (moved_alike drivers c p (Some q) (first_message c.flow p)) h (λ r s addr w. w)
 
 -- a command that sends or takes a message leaves all as it leads

@@ -21,18 +21,18 @@ use Rattle.smx_types.specs.declared.stream.Side.TheVariants as side
 use Rattle.smx_types.specs.declared.stream.StreamId.{StreamId}
 use Rattle.smx_model.specs.Commands.{done_outcome, outcome, step}
 use Rattle.smx_model.specs.Configuration.{Configuration, QueuedMessage, bind_before, route_before, same_place}
-use Rattle.smx_model.specs.Configuration.{same_side, same_stream}
+use Rattle.smx_model.specs.Configuration.{same_side, same_stream, read_side, write_side}
 use Rattle.smx_model.specs.FreedPlaces.{freed_by}
 use Rattle.smx_model.specs.Lookups.{free_stream, live_leaf, live_stream, mux_stream, stream_of}
 use Rattle.smx_model.specs.Ordered.{with_inserted}
 use Rattle.smx_model.specs.Outcomes.{refuse}
 use Rattle.smx_model.specs.Queues.{after_leaving, first_message}
 use Rattle.smx_model.specs.Removal.{after_sweep}
-use Rattle.smx_model.specs.RunMarks.{TurnsOnly, asks_down, asks_up, both, has_addr, is_first_at, next_of_first}
+use Rattle.smx_model.specs.RunMarks.{TurnsOnly, asks_down, asks_up, either, has_addr, is_first_at, next_of_first}
 use Rattle.smx_model.specs.Settling.{after_settling, next_open_place}
 use Rattle.smx_model.specs.SettlingByMarks.{is_first_there, turned_by_move}
 use Rattle.smx_model.specs.Swept.{IsSwept}
-use Rattle.smx_model.specs.TurnedPlaces.{of_stream, read_side, turned_by, write_side}
+use Rattle.smx_model.specs.TurnedPlaces.{of_stream, turned_by}
 use Rattle.smx_config.specs.declared.marks.Marks.{Marks}
 use Rattle.smx_commands.specs.declared.step_error.StepError.{StepError}
 use Rattle.smx_commands.specs.declared.step_error.StepError.TheVariants as step_error
@@ -55,7 +55,7 @@ use Rattle.smx_config.proofs.StayingLemmas.{read_stays, transmit_stays}
 abbrev KeepsBoth : Configuration → Configuration × Reply → Type 0
 KeepsBoth c x = (x.0.links ≡ c.links) × (x.0.flow ≡ c.flow)
 
--- so it is after an accepted change of which a sweep leaves the links and the messages that it leaves without it
+-- a change keeps the links and the messages if a sweep after it leaves those that a sweep leaves without it
 done_keeps_both : (drivers : List DriverSpec) (c new : Configuration) (x : Configuration × Reply) → IsSwept drivers c
     → (after_sweep drivers new).links ≡ (after_sweep drivers c).links
     → (after_sweep drivers new).flow ≡ (after_sweep drivers c).flow → done_outcome drivers c new ≡ Ok x → KeepsBoth c x
@@ -66,6 +66,7 @@ done_keeps_both drivers c new x h links flow e =
       ap (λ (d : Configuration). d.flow) is ∙ flow ∙ ap (λ (d : Configuration). d.flow) idle,
     )
 
+-- a bind that is accepted keeps the links and the messages
 bind_keeps_both : (drivers : List DriverSpec) (c : Configuration) (process fd addr : ℕ) (x : Configuration × Reply)
     → IsSwept drivers c → outcome drivers c process (command.Bind fd addr) ≡ Ok x → KeepsBoth c x
 bind_keeps_both drivers c process fd addr x h e =
@@ -78,6 +79,7 @@ bind_keeps_both drivers c process fd addr x h e =
       binds = with_inserted bind_before c.binds (record { driver = s.0.driver; addr = addr; minor = s.0.minor });
     }) x h refl refl free.2
 
+-- a route that is accepted keeps the links and the messages
 route_keeps_both : (drivers : List DriverSpec) (c : Configuration) (process fd addr id : ℕ)
     (x : Configuration × Reply) → IsSwept drivers c → outcome drivers c process (command.Route fd addr id) ≡ Ok x
     → KeepsBoth c x
@@ -94,6 +96,7 @@ route_keeps_both drivers c process fd addr id x h e =
 
 -- ---- the turned places
 
+-- where what is turned at each stream is told by what to wake there, it is told at the stream of a look-up
 turned_on : (r : Result StreamId Fault) (f : StreamId → Place → Bool) (g : StreamId → Wakes) (d : Configuration)
     (p : Place) → ((s : StreamId) → f s p ≡ true → turned_under d (g s) p ≡ true) → of_stream r f p ≡ true
     → turned_under d (on_stream r g) p ≡ true
@@ -160,6 +163,7 @@ turns_few drivers c process k x h e only p f = elim (cases_Bool (turned_by drive
 
 -- ---- the freed places
 
+-- where what is freed at each stream is told by what to wake there, it is told at the stream of a look-up
 freed_on : (r : Result StreamId Fault) (f : StreamId → Place → Bool) (g : StreamId → Wakes) (p : Place)
     → ((s : StreamId) → f s p ≡ true → freed_under (g s) p ≡ true) → of_stream r f p ≡ true
     → freed_under (on_stream r g) p ≡ true
@@ -206,10 +210,11 @@ turned_ends drivers c from to p e stays t = by (same_place from p) refl
 -- what a move turns, by where it goes
 pub turned_is : (drivers : List DriverSpec) (c new : Configuration) (from to : Place)
     → next_open_place drivers c from ≡ Some to
-    → TurnsOnly drivers c new (both (same_place from) (is_first_at (after_leaving drivers c from) to))
+    → TurnsOnly drivers c new (either (same_place from) (is_first_at (after_leaving drivers c from) to))
     → TurnsOnly drivers c new (turned_by_move drivers c from)
 turned_is drivers c new from to e h = subst
-    (λ (o : Option Place). TurnsOnly drivers c new (both (same_place from) (is_first_there drivers c from o))) (sym e) h
+    (λ (o : Option Place). TurnsOnly drivers c new (either (same_place from) (is_first_there drivers c from o)))
+    (sym e) h
 
 -- ---- what holds of an accepted outcome
 
@@ -226,6 +231,7 @@ of_accepted P (Err g) x e h = absurd cc
 
 -- ---- after a command that was performed
 
+-- where it is enough to wake what a command may turn and free, the marks are right after it is accepted
 enough_at : (drivers : List DriverSpec) (c : Configuration) (process : ℕ) (k : Command) (m n : Marks)
     (x : Configuration × Reply) → IsEnough drivers c process k m n → outcome drivers c process k ≡ Ok x
     → IsWoken x.0 (turned_under x.0 (wakes_of drivers c process k)) (freed_under (wakes_of drivers c process k)) m n

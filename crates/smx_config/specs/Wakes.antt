@@ -8,11 +8,10 @@ use Rattle.smx_types.specs.declared.reply.Fault.{Fault}
 use Rattle.smx_types.specs.declared.stream.Place.{Place}
 use Rattle.smx_types.specs.declared.stream.StreamId.{StreamId}
 use Rattle.smx_model.specs.Commands.{outcome}
-use Rattle.smx_model.specs.Configuration.{Configuration, same_place}
+use Rattle.smx_model.specs.Configuration.{Configuration, same_place, read_side, write_side}
 use Rattle.smx_model.specs.Lookups.{free_stream, live_leaf, live_stream, mux_stream, stream_of}
 use Rattle.smx_model.specs.Queues.{first_message}
-use Rattle.smx_model.specs.RunMarks.{asks_down, asks_up, both, nowhere}
-use Rattle.smx_model.specs.TurnedPlaces.{read_side, write_side}
+use Rattle.smx_model.specs.RunMarks.{asks_down, asks_up, either, nowhere}
 use Rattle.smx_config.specs.Marking.{AreMarks, IsWoken}
 use Rattle.smx_config.specs.declared.marks.Marks.{Marks}
 use Rattle.smx_config.specs.declared.wakes.Wakes.{Wakes}
@@ -24,7 +23,7 @@ everywhere p = true
 
 -- one of the sides of the stream
 abbrev pub is_either_side : StreamId → Place → Bool
-is_either_side s = both (same_place (write_side s)) (same_place (read_side s))
+is_either_side s = either (same_place (write_side s)) (same_place (read_side s))
 
 -- where the first message may be another one, or may have another place to go to
 abbrev pub turned_under : Configuration → Wakes → Place → Bool

@@ -6,7 +6,7 @@ ghost use Rattle.smx_types.specs.declared.stream.Place.{Place as PlaceValue};
 ghost use Rattle.smx_model.specs.Configuration.{same_place};
 ghost use Rattle.smx_model.specs.KeptConfigurations.{IsSound};
 ghost use Rattle.smx_model.specs.KnownStreams.{IsKnown};
-ghost use Rattle.smx_model.specs.LoneMessages.{IsUnderWay, StaysAt, moved};
+ghost use Rattle.smx_model.specs.LoneMessages.{IsUnderWay, StaysAt, after_move_between};
 ghost use Rattle.smx_model.specs.Queues.{first_message};
 ghost use Rattle.smx_model.specs.Settling.{IsSettled, after_settling_within};
 ghost use Rattle.smx_model.specs.SettlingByMarks.{HasNoRunMark};
@@ -100,7 +100,9 @@ pub fn come_to_rest(tables: &mut Tables, marks: &mut Marks, from: Place, rest: R
     requires stays { (m : MessageValue) → first_message tables.old.configuration.flow from ≡ Some m
         → StaysAt tables.old.drivers tables.old.configuration rest.at m rest.waits }
     ensures value { tables.new
-        ≡ record tables.old { configuration = moved tables.old.drivers tables.old.configuration from rest.at } }
+        ≡ record tables.old {
+          configuration = after_move_between tables.old.drivers tables.old.configuration from rest.at;
+        } }
     ensures marks { AreMarks tables.new.drivers tables.new.configuration marks.new }
     ensures none { HasNoRunMark (has_mark marks.new.run) }
 {

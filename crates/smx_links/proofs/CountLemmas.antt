@@ -7,6 +7,7 @@ use Rattle.std.proofs.lemmas.Bool.{cases_Bool, cases_lt, and_parts, eq-eqb, eqb-
 use Rattle.std.proofs.lemmas.Bool.{le-ltb, lt-ltb, ne_eqb}
 use Rattle.std.proofs.lemmas.List.Elements.{All-from_get_or, All-get_or}
 use Rattle.std.proofs.lemmas.List.Folds.{list_any_none}
+use Rattle.std.proofs.lemmas.List.Sums.{length-filter, count_by-le-length}
 use Rattle.std.proofs.lemmas.List.{get_or-set_same, get_or-set_other, length-set}
 use Rattle.std.proofs.lemmas.Nat.{mul-add-lt, same_from_place}
 use Rattle.std.proofs.lemmas.Option.{same_Some}
@@ -42,11 +43,7 @@ counted l ls u k t = rw t (omega arith)
 
 -- a filter leaves no more
 pub fewer : {X : Type 0} (test : X → Bool) (xs : List X) → length (filter test xs) ≤ length xs
-fewer test [] = omega arith
-fewer test (x ∷ xs) = elim (cases_Bool (test x)) [
-  | inl t ↦ rw t (omega (arith, fewer test xs))
-  | inr f ↦ rw f (omega (arith, fewer test xs))
-]
+fewer test xs = rw (length-filter test xs) (count_by-le-length test xs)
 
 -- one entry anew
 
@@ -130,6 +127,7 @@ counts_less n ls ks ps l id rise found rest h w =
 
 -- whether there is one
 
+-- a number that follows another is not zero
 not_none : (n : ℕ) → not (eqb (suc n) 0) ≡ true
 not_none n = rw (ne_eqb (suc n) 0 (λ e. omega arith)) refl
 

@@ -44,8 +44,8 @@ none_goes (l ∷ ls) id h = elim (cases_Bool (eqb l.id id)) [
 
 -- one id more
 
--- a link has one of some ids and one more
-one_of_more : (ids : List ℕ) (id : ℕ) (l : Link) → is_one_of (ids ++ id ∷ []) l ≡ (is_one_of ids l || eqb l.id id)
+-- a link has one of some ids and one more just where it has one of them or that one
+pub one_of_more : (ids : List ℕ) (id : ℕ) (l : Link) → is_one_of (ids ++ id ∷ []) l ≡ (is_one_of ids l || eqb l.id id)
 one_of_more [] id l = elim (cases_Bool (eqb l.id id)) [ inl t ↦ rw t refl | inr f ↦ rw f refl ]
 one_of_more (x ∷ ids) id l = elim (cases_Bool (eqb l.id x)) [ inl t ↦ rw t refl | inr f ↦ rw f (one_of_more ids id l) ]
 
@@ -110,7 +110,7 @@ remove_id (l ∷ ls) (suc i) id d r lt e =
 
 -- where the link with the id is
 
--- so without what stands at the place of an id, the links are those of other ids
+-- without the link at the place of an id, the links are those of other ids
 pub remove_held : (ls : List Link) (i id : ℕ) → IsRising (λ l k. nat_lt l.id k.id) ls → i < length ls
     → HoldsAt (λ l. l.id ≡ id) ls i → remove ls i ≡ filter (λ l. not (eqb l.id id)) ls
 remove_held [] i id r lt at = absurd (omega arith)
@@ -125,7 +125,7 @@ found_id (l ∷ ls) (suc i) id d r lt e =
     let f : eqb l.id id ≡ false = grind (arith, nat_tests, before_at l ls i d r.0 (omega arith), e) in
     rw f (found_id ls i id d r.1 (omega arith) e)
 
--- and what stands there is what is found by the id
+-- the link at the place of an id is the one that is found by it
 pub at_found : (ls : List Link) (i id : ℕ) → IsRising (λ l k. nat_lt l.id k.id) ls → i < length ls
     → HoldsAt (λ l. l.id ≡ id) ls i → find (λ l. eqb l.id id) ls ≡ slice_get ls i
 at_found [] i id r lt at = absurd (omega arith)
@@ -156,7 +156,7 @@ cmp_same x =
 pub cmp_other : (x y : ℕ) → (nat_cmp x y ≡ Equal → ⊥) → eqb x y ≡ false
 cmp_other x y h = false_from_ne_true (eqb x y) (λ t. h (rw (eqb-true x y t) (cmp_same y)))
 
--- and those that do are
+-- numbers that compare as equal are equal
 pub cmp_equal : (x y : ℕ) → nat_cmp x y ≡ Equal → x ≡ y
 cmp_equal x y h = elim (cases_Bool (nat_lt x y)) [
   | inl t ↦ let k : Less ≡ Equal = rw t at h in absurd cc

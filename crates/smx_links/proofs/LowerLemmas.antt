@@ -14,18 +14,15 @@ use Rattle.smx_model.specs.Configuration.{same_stream}
 use Rattle.smx_model.specs.Ordered.{IsRising}
 use Rattle.smx_model.specs.Paths.{AreLowersApart}
 use Rattle.smx_model.specs.Standing.{is_below}
+use Rattle.smx_model.proofs.SweptLemmas.{stream_self as same_self}
 use Rattle.smx_links.specs.Ids.{Rows, id_at, id_above, HasIds}
 use Rattle.smx_links.proofs.IdLemmas.{later_stay, before_found}
 
 -- equal streams
 
--- in either order
+-- whether two streams are equal is told in either order
 same_sym : (s t : StreamId) → same_stream s t ≡ same_stream t s
 same_sym s t = grind (arith, nat_tests)
-
--- a stream is itself
-same_self : (s : StreamId) → same_stream s s ≡ true
-same_self s = rw (eq-eqb s.driver s.driver refl, eq-eqb s.minor s.minor refl) refl
 
 -- equal streams pass the same tests
 same_congr : (s t u : StreamId) → same_stream s t ≡ true → same_stream s u ≡ same_stream t u
@@ -81,7 +78,7 @@ ids_more es fs ls l h free put s = put s ∙ ap (cond (same_stream l.lower s) (S
 apart_head : (k : Link) (ks : List Link) → AreLowersApart (k ∷ ks) → All (λ l. same_stream k.lower l.lower ≡ false) ks
 apart_head k ks h = λ i d lt. h 0 (suc i) d (omega arith) (omega arith)
 
--- and they have lower streams of their own
+-- where the lower streams of links are apart, those behind the first link are
 apart_tail : (k : Link) (ks : List Link) → AreLowersApart (k ∷ ks) → AreLowersApart ks
 apart_tail k ks h = λ i j d lt long. h (suc i) (suc j) d (omega arith) (omega arith)
 
@@ -162,7 +159,7 @@ above_found es ls s id rise h at = by (find (λ l. same_stream l.lower s) ls) re
       let e = same_Some id l.id (sym at ∙ h s ∙ ap (option_map (λ (l : Link). l.id)) some) in
       rw e (found_by_id (λ l. same_stream l.lower s) ls l rise some)
 
--- and where it finds nothing there is none
+-- where a look-up by a stream finds no id, no link is above the stream
 pub above_none : (es : Rows) (ls : List Link) (s : StreamId) → HasIds es ls
     → id_at es s ≡ None → find (λ l. same_stream l.lower s) ls ≡ None
 above_none es ls s h at = by (find (λ l. same_stream l.lower s) ls) refl where

@@ -66,7 +66,7 @@ kept_leads q u l each (k ∷ ks) h = elim (cases_Bool (is_between u l k)) [
       ]
 ]
 
--- so then links lead alike without that one
+-- those that pass a test and one link more lead as those that pass it or are between its drivers, if some are
 with_found : Joins → PathsJoin → (p q : Link → Bool) (l : Link)
     → ((k : Link) → q k ≡ (p k || is_between l.ctl.driver l.lower.driver k)) → (ls : List Link)
     → 0 < count_between ls l.ctl.driver l.lower.driver
@@ -118,7 +118,7 @@ pair_known joins trans done ls u l ws h m k a b =
     (before_next done u l) ls
     h a b)
 
--- and where there is none
+-- where no link is between two drivers, the masks are right for one more lower driver
 pub pair_none : (done : ℕ → Bool) (ls : List Link) (u l : ℕ) (ws : List ℕ) → count_between ls u l ≡ 0
     → AreMasksBefore done ls u l ws → AreMasksBefore done ls u (l + 1) ws
 pair_none done ls u l ws h m =
@@ -148,7 +148,7 @@ row_end stale n u ls h = kept_alike (is_before (is_done stale u) u n) (is_before
       each [] w = tt
       each (k ∷ ks) w = (grind (arith, nat_tests, w.0.1), each ks w.1)
 
--- and so where the word of its driver stayed
+-- where the word of a driver is not stale, the same links are done before the next driver
 pub row_stays : (stale u : ℕ) (ls : List Link) → is_set stale u ≡ false
     → filter (is_before (is_done stale u) u 0) ls ≡ filter (is_before (is_done stale (u + 1)) (u + 1) 0) ls
 row_stays stale u ls h = filter_agree (is_before (is_done stale u) u 0) (is_before (is_done stale (u + 1)) (u + 1) 0)

@@ -38,6 +38,7 @@ id_set rows s id x driver minor =
 
 -- where there is an id, there is a row
 
+-- where a stream has an id, its driver has a row
 pub has_driver : (rows : Rows) (s : StreamId) (id : ℕ) → id_at rows s ≡ Some id → s.driver < length rows
 has_driver rows s id h = elim (cases_lt s.driver (length rows)) [
   | inl lt ↦ lt
@@ -47,7 +48,7 @@ has_driver rows s id h = elim (cases_lt s.driver (length rows)) [
       absurd cc
 ]
 
--- and room in it
+-- where a stream has an id, the row of its driver has room for it
 pub has_minor : (rows : Rows) (s : StreamId) (id : ℕ) → id_at rows s ≡ Some id
     → s.minor < length (get_or rows s.driver [])
 has_minor rows s id h = elim (cases_lt s.minor (length (get_or rows s.driver []))) [

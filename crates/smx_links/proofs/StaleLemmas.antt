@@ -151,7 +151,7 @@ led_alike keep (k ∷ ks) closed a b h =
           rw (f, other, none, rest a b h) (sym (or-false (reaches ks a b)))
     ]
 
--- and from any other driver to none
+-- a path from a driver whose links are not kept leads nowhere
 pub led_nowhere : (keep : ℕ → Bool) (ls : List Link) (a b : ℕ) → keep a ≡ false
     → reaches (filter (λ k. keep k.ctl.driver) ls) a b ≡ false
 led_nowhere keep ls a b h = none_reached (filter (λ k. keep k.ctl.driver) ls) a b (no_upper ls) where

@@ -43,7 +43,7 @@ own_path k ks u l t =
     let both = and_parts (eqb k.ctl.driver u) (eqb k.lower.driver l) t in
     or_right (reaches ks u l) _ (rw (eq-eqb u k.ctl.driver (sym (eqb-true k.ctl.driver u both.0)), both.1) refl)
 
--- and so a path leads from a driver to another where a link is between them
+-- where some link is between two drivers, a path leads from the upper one to the lower
 pub counted_leads : (ls : List Link) (u l : ℕ) → 0 < count_between ls u l → reaches ls u l ≡ true
 counted_leads [] u l h = absurd (omega (arith, h))
 counted_leads (k ∷ ks) u l h = elim (cases_Bool (is_between u l k)) [
@@ -60,7 +60,7 @@ twin_stays joins trans ls ks l id rise found rest twin a b =
     ∙ ap (λ (xs : List Link). reaches (l ∷ xs) a b) rest
     ∙ in_front joins ls l id rise found a b
 
--- and that is so where the entry of the two drivers is not 0
+-- links lead alike without one of them if the entry of its two drivers is not zero after that
 pub entry_stays : Joins → PathsJoin → (n : ℕ) (ls ks : List Link) (ps : List ℕ) (l : Link) (id : ℕ)
     → IsRising (λ l k. nat_lt l.id k.id) ls → find (λ l. eqb l.id id) ls ≡ Some l
     → ks ≡ filter (λ l. not (eqb l.id id)) ls → AreCounts n ks ps → IsWithin n l

@@ -18,6 +18,7 @@ pub use Rattle.smx_model.proofs.TurningLemmas.{same_stream_is as same_is}
 
 -- what is read at a stream is what its key leads to
 
+-- in a grid of what a function makes of each key, a stream has what it makes of the stream's own key
 read_at : {X : Type 0} (f : Option ℕ → X) (grid : Grid) (s : StreamId)
     → get_or (get_or (map (map f) grid) s.driver []) s.minor (f None) ≡ f (key_at grid s)
 read_at {X} f grid s = ap (λ (row : List X). get_or row s.minor (f None)) (get_or-map (map f) grid s.driver [])
@@ -102,6 +103,7 @@ in_range_of_key grid s key h = ap (λ n. nat_lt s.minor n) (get_or-map length gr
 
 -- no keys
 
+-- a list of empty keys has no key at any place
 none_in : (n m : ℕ) → get_or {A = Option ℕ} (replicate n None) m None ≡ None
 none_in zero m = refl
 none_in (suc n) zero = refl

@@ -34,7 +34,7 @@ pub same_number : (grid : List (List ℕ)) (x s : StreamId) (n : ℕ) → n ≡ 
 same_number grid x s n e = elim (cases_Bool (same_stream x s))
     [ inl t ↦ rw t (e ∙ ap (number_at grid) (sym (same_is x s t))) | inr f ↦ rw f refl ]
 
--- so a stream with a record exists
+-- a stream exists just where it counts some descriptor or hold
 exists_by : (u : Uses) (t : StreamTable) (x : StreamId) → AreNames u t → t.holds ≡ u.holds
     → exists t x ≡ nat_lt 0 (number_at u.opens x + number_at u.holds x)
 exists_by u t x names holds = sym (used_exists t x (number_at u.opens x) (names x))
@@ -46,6 +46,7 @@ and_true true b h = refl
 and_true false true h = sym (h refl)
 and_true false false h = refl
 
+-- where each hung-up stream has a descriptor or a hold, to ask for one beside the flag tells no more
 used_stays : (u : Uses) (x : StreamId) → AreUsed u
     → flag_at u.hungs x ≡ (nat_lt 0 (number_at u.opens x + number_at u.holds x) && flag_at u.hungs x)
 used_stays u x used =
@@ -82,7 +83,7 @@ each_left u v old new s o h set used names holds now was x =
       both : (a b c d : Bool) → a ≡ b → c ≡ d → (a && c) ≡ (b && d)
       both a b c d e f = cc
 
--- so those are left that exist
+-- where the numbers of one stream change, the hung-up streams that are left are those that exist
 pub left : MakeTheList → (u v : Uses) (old new : StreamTable) (s : StreamId) (o h : ℕ)
     → AreSet u s o h (nat_lt 0 (o + h) && flag_at u.hungs s) v → AreUsed u → AreNames v new → new.holds ≡ v.holds
     → new.hungs ≡ hungs_from 0 v.hungs → old.hungs ≡ hungs_from 0 u.hungs → LeavesHungs old new
@@ -102,7 +103,7 @@ holds_changed law t v s h set used whole = record {
       (λ x. set.opens_now x ∙ same_number t.records.opens x s _ refl ∙ whole x) refl refl refl;
 }
 
--- and where none change
+-- where no numbers change, a stream has hung up just where it exists and had hung up
 each_kept : (u : Uses) (old new : StreamTable) → AreUsed u → AreNames u new → new.holds ≡ u.holds
     → new.hungs ≡ hungs_from 0 u.hungs → old.hungs ≡ new.hungs → (x : StreamId)
     → is_hung new.hungs x ≡ (exists new x && is_hung old.hungs x)
@@ -136,7 +137,7 @@ pub hung_same : MakeTheList → (u v : Uses) (s : StreamId) (o h : ℕ) → AreS
 hung_same law u v s o h set = law.same (hungs_from 0 v.hungs) (hungs_from 0 u.hungs) (hungs_rise 0 v.hungs)
     (hungs_rise 0 u.hungs) (each_same u v s o h set)
 
--- so it is with one hold more
+-- where a stream gets one more hold, the same streams have hung up
 pub hung_still : MakeTheList → (u v : Uses) (s : StreamId) (o h : ℕ)
     → AreSet u s o (h + 1) (nat_lt 0 (o + (h + 1)) && flag_at u.hungs s) v → hungs_from 0 v.hungs ≡ hungs_from 0 u.hungs
 hung_still law u v s o h set = hung_same law u v s o (h + 1)
@@ -144,7 +145,7 @@ hung_still law u v s o h set = hung_same law u v s o (h + 1)
       counted : (f : Bool) → (nat_lt 0 (o + (h + 1)) && f) ≡ f
       counted f = rw (lt-ltb 0 (o + (h + 1)) (omega arith)) refl
 
--- and where it is set, one more has hung up
+-- where the flag of one stream is set, a stream has hung up just where it had, or is that one
 each_now : (u v : Uses) (s : StreamId) (o h : ℕ) → AreSet u s o h true v → (x : StreamId)
     → is_hung (hungs_from 0 v.hungs) x ≡ (same_stream x s || is_hung (hungs_from 0 u.hungs) x)
 each_now u v s o h set x = flag_tells v.hungs x ∙ set.hungs_now x
@@ -185,6 +186,7 @@ all_pass p [] h = refl
 all_pass p (x ∷ xs) h = rw (h x (or_left _ _ (same_self x)))
     (ap (λ (ys : List StreamId). x ∷ ys) (all_pass p xs (λ y t. h y (or_right (same_stream x y) _ t))))
 
+-- a stream that is named by some descriptor that is kept was named before
 named_before : (keep : Descriptor → Bool) (ds : List Descriptor) (s : StreamId) → is_named (filter keep ds) s ≡ true
     → is_named ds s ≡ true
 named_before keep [] s h = h
@@ -195,6 +197,7 @@ named_before keep (d ∷ ds) s h = elim (cases_Bool (keep d)) [
   | inr k ↦ or_right _ _ (named_before keep ds s (rw k at h))
 ]
 
+-- a stream that exists after one descriptor is closed existed before
 exists_before : (old new : StreamTable) (p n : ℕ) (x : StreamId) → HasOneLess old p n new → exists new x ≡ true
     → exists old x ≡ true
 exists_before old new p n x less h = elim (or_cases (is_named new.fds x) (nat_lt 0 (number_at new.holds x)) h) [

@@ -22,11 +22,12 @@ from_first (x ∷ xs) =
     let first : not (pair_before x.driver x.minor 0 0) ≡ true = grind (arith, nat_tests) in
     rw first (ap (λ (ys : List StreamId). x ∷ ys) (from_first xs))
 
+-- any other stream stands from a minor on just where it stands from the next minor on
 from_more : (d n : ℕ) (x : StreamId) → same_stream x (stream d n) ≡ false
     → not (pair_before x.driver x.minor d n) ≡ not (pair_before x.driver x.minor d (n + 1))
 from_more d n x other = grind (arith, nat_tests)
 
--- a stream that is not among them is passed
+-- where a stream is not there, those from its minor on are those from the next minor on
 pub passed : (d n : ℕ) (xs : List StreamId) → is_hung xs (stream d n) ≡ false
     → streams_from d n xs ≡ streams_from d (n + 1) xs
 passed d n [] h = refl
@@ -39,6 +40,7 @@ passed d n (x ∷ xs) h =
       | inr g ↦ rw (e, g) rest
     ]
 
+-- of streams that all come after a minor, those from that minor on are those from the next one on
 later_stays : (d n : ℕ) (xs : List StreamId) → ComesBefore stream_before (stream d n) xs
     → streams_from d n xs ≡ streams_from d (n + 1) xs
 later_stays d n [] h = refl
@@ -48,6 +50,7 @@ later_stays d n (x ∷ xs) h =
     let b : not (pair_before x.driver x.minor d (n + 1)) ≡ true = grind (arith, nat_tests) in
     rw (a, b) (ap (λ (ys : List StreamId). x ∷ ys) (later_stays d n xs h.1))
 
+-- behind a stream that doesn't come before a minor, the stream of that minor doesn't stand
 none_behind : (d n : ℕ) (x : StreamId) (xs : List StreamId) → not (pair_before x.driver x.minor d n) ≡ true
     → ComesBefore stream_before x xs → is_hung xs (stream d n) ≡ false
 none_behind d n x [] t h = refl
@@ -56,7 +59,7 @@ none_behind d n x (y ∷ ys) t h =
     let f : same_stream y (stream d n) ≡ false = grind (arith, nat_tests) in
     rw f (none_behind d n x ys t h.1)
 
--- and one that is among them comes first
+-- of streams in order, one that is there comes first of those from its minor on
 pub found : (d n : ℕ) (xs : List StreamId) → IsRising stream_before xs → is_hung xs (stream d n) ≡ true
     → streams_from d n xs ≡ stream d n ∷ streams_from d (n + 1) xs
 found d n [] r h = absurd cc
@@ -83,10 +86,12 @@ found d n (x ∷ xs) r h = elim (cases_Bool (same_stream x (stream d n))) [
 abbrev pub AreInRange : List ℕ → List StreamId → Type 0
 AreInRange minors xs = (x : StreamId) → is_hung xs x ≡ true → is_in_range minors x.driver x.minor ≡ true
 
+-- the first of some streams in range has one of its driver's minors
 first_in_range : (minors : List ℕ) (x : StreamId) (xs : List StreamId) → AreInRange minors (x ∷ xs)
     → x.minor < get_or minors x.driver 0
 first_in_range minors x xs h = ltb-true x.minor (get_or minors x.driver 0) (h x (or_left _ _ (same_self x)))
 
+-- where all streams of a list are in range, those behind the first are
 others_in_range : (minors : List ℕ) (x : StreamId) (xs : List StreamId) → AreInRange minors (x ∷ xs)
     → AreInRange minors xs
 others_in_range minors x xs h = λ y t. h y (or_right (same_stream x y) _ t)
@@ -110,6 +115,7 @@ next_driver minors d n (x ∷ xs) past h =
         | inr other ↦ grind (arith, nat_tests)
       ]
 
+-- a driver for which a look-up gives no number of minors is past the last one
 past_last : (minors : List ℕ) (d : ℕ) → None ≡ slice_get minors d → length minors ≤ d
 past_last minors d h =
     elim (slice_get_cases minors d).1 [ inl there ↦ let e = there.2 in absurd cc | inr past ↦ past.0 ]

@@ -109,7 +109,8 @@ minors_at minors d n h = sym (get_or_from_slice_get minors d n 0 (sym h))
 
 -- a descriptor more or less, and the number of the stream that it names
 
-same_sym : (s t : StreamId) → same_stream s t ≡ false → same_stream t s ≡ false
+-- whether two streams differ is told in either order
+pub same_sym : (s t : StreamId) → same_stream s t ≡ false → same_stream t s ≡ false
 same_sym s t f = grind (arith, nat_tests)
 
 -- with one more for the stream of a new descriptor, the numbers are again how often streams are named

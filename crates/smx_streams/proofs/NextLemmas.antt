@@ -27,6 +27,7 @@ kept_same f g (d ∷ ds) h =
       | inr n ↦ rw (here, n) rest
     ]
 
+-- any other descriptor stands from a number on just where it stands from the next number on
 from_more : (p n : ℕ) (d : Descriptor) → is_fd p n d ≡ false
     → not (pair_before d.process d.fd p n) ≡ not (pair_before d.process d.fd p (n + 1))
 from_more p n d other = grind (arith, nat_tests)
@@ -45,6 +46,7 @@ passed p n (d ∷ ds) h = elim (cases_Bool (is_fd p n d)) [
       ]
 ]
 
+-- of descriptors that all come after a number, those from that number on are those from the next one on
 later_stays : (p n : ℕ) (s : StreamId) (ds : List Descriptor) → ComesBefore fd_before (fd_of p n s) ds
     → fds_from p n ds ≡ fds_from p (n + 1) ds
 later_stays p n s [] h = refl
@@ -54,6 +56,7 @@ later_stays p n s (d ∷ ds) h =
     let y : not (pair_before d.process d.fd p (n + 1)) ≡ true = grind (arith, nat_tests) in
     rw (x, y) (ap (λ (es : List Descriptor). d ∷ es) (later_stays p n s ds h.1))
 
+-- behind a descriptor that doesn't come before a number, the descriptor of that number doesn't stand
 none_behind : (p n : ℕ) (d : Descriptor) (ds : List Descriptor) → not (pair_before d.process d.fd p n) ≡ true
     → ComesBefore fd_before d ds → find (is_fd p n) ds ≡ None
 none_behind p n d [] t h = refl

@@ -29,11 +29,13 @@ record IsChange (grid : Grid) (old : Slab Record) (s : StreamId) (key : ℕ) (ne
   -- no other key's record is the stream's
   alone : (k : ℕ) (r : Record) → k ≢ key → get old k ≡ Some r → same_stream r.stream s ≡ false
 
+-- where the key of one stream changes, each other stream has the key that it had
 other_keys : (grid : Grid) (s x : StreamId) (new_key k : Option ℕ) (new_grid : Grid)
     → ((y : StreamId) → key_at new_grid y ≡ (if same_stream y s then new_key else key_at grid y))
     → same_stream x s ≡ false → key_at new_grid x ≡ key_at grid x
 other_keys grid s x new_key k new_grid h f = h x ∙ rw f refl
 
+-- where the key of one stream changes, that stream has the new key
 same_keys : (grid : Grid) (s x : StreamId) (new_key : Option ℕ) (new_grid : Grid)
     → ((y : StreamId) → key_at new_grid y ≡ (if same_stream y s then new_key else key_at grid y))
     → same_stream x s ≡ true → key_at new_grid x ≡ new_key
@@ -133,15 +135,17 @@ numbers_set grid old r key new_key slot new_grid new h opens holds hung minors =
     | inr n ↦ rw n (ap f (other_record grid old r.stream x key new_key slot new_grid new h n))
   ]
 
--- the flag of a record that counts some, and of one that counts nothing
+-- a record with some descriptor or hold is both used and hung up just where its flag is set
 flag_of_used : (r : Record) → 0 < r.opens + r.holds → r.hung ≡ is_used_and_hung r
 flag_of_used r used = rw (lt-ltb 0 (r.opens + r.holds) used) refl
 
+-- a record without a descriptor and without a hold is not both used and hung up
 flag_of_none : (r : Record) → r.opens ≡ 0 → r.holds ≡ 0 → false ≡ is_used_and_hung r
 flag_of_none r opens holds = rw (opens, holds) refl
 
 -- where the stream had the key
 
+-- where a stream has a key, no other stream has that key
 known_apart : (grid : Grid) (old : Slab Record) (s : StreamId) (key : ℕ) → AreRecords grid old
     → key_at grid s ≡ Some key → (x : StreamId) → key_at grid x ≡ Some key → same_stream x s ≡ true
 known_apart grid old s key whole there x is =
@@ -151,6 +155,7 @@ known_apart grid old s key whole there x is =
     let e : x ≡ s = sym other.2.stream ∙ ap (λ (q : Record). q.stream) (sym eq) ∙ one.2.stream in
     rw e (same_self s)
 
+-- where a stream has a key, the record of any other key is that of another stream
 known_alone : (grid : Grid) (old : Slab Record) (s : StreamId) (key : ℕ) → AreRecords grid old
     → key_at grid s ≡ Some key → (k : ℕ) (q : Record) → k ≢ key → get old k ≡ Some q → same_stream q.stream s ≡ false
 known_alone grid old s key whole there k q differs is = elim (cases_Bool (same_stream q.stream s)) [
@@ -231,7 +236,7 @@ used_is_in_range grid records s h = by (key_at grid s) refl where
   by None is = let none : number_at (uses_of grid records).opens s ≡ 0 = opens_at grid records s
       ∙ ap (λ o. opens_of (record_of_key records o)) is in absurd (omega (arith, none))
 
--- and so is one that has hung up
+-- a stream that has hung up is in range
 pub hung_is_in_range : (grid : Grid) (records : Slab Record) (s : StreamId)
     → flag_at (uses_of grid records).hungs s ≡ true → is_in_range (uses_of grid records).minors s.driver s.minor ≡ true
 hung_is_in_range grid records s h = by (key_at grid s) refl where

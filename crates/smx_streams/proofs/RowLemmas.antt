@@ -19,23 +19,28 @@ use Rattle.smx_streams.proofs.ListLemmas.{inserted_first}
 abbrev pub fd_of : ℕ → ℕ → StreamId → Descriptor
 fd_of p n s = record { process = p; fd = n; stream = s }
 
+-- the descriptor of a process and a number passes the test for these
 same_fd : (p n k : ℕ) (s : StreamId) → k ≡ n → is_fd p n (fd_of p k s) ≡ true
 same_fd p n k s e = rw (eq-eqb p p refl, eq-eqb k n e) refl
 
+-- the descriptor of one process fails the test for another process
 other_process : (p n q m : ℕ) (s : StreamId) → eqb q p ≡ false → is_fd p n (fd_of q m s) ≡ false
 other_process p n q m s h = rw h refl
 
+-- the descriptor of one number fails the test for another number
 other_fd : (p n m : ℕ) (s : StreamId) → eqb m n ≡ false → is_fd p n (fd_of p m s) ≡ false
 other_fd p n m s h = rw (eq-eqb p p refl, h) refl
 
 -- looked up
 
+-- in the row of one process no descriptor of another process is found
 find_other_row : (p n q k : ℕ) (cells : List (Option StreamId)) → eqb q p ≡ false
     → find (is_fd p n) (row_from q k cells) ≡ None
 find_other_row p n q k [] h = refl
 find_other_row p n q k (None ∷ cells) h = find_other_row p n q (k + 1) cells h
 find_other_row p n q k (Some s ∷ cells) h = rw (other_process p n q k s h) (find_other_row p n q (k + 1) cells h)
 
+-- in a row no descriptor is found of a number before its first one
 find_lower : (p n k : ℕ) (cells : List (Option StreamId)) → n < k → find (is_fd p n) (row_from p k cells) ≡ None
 find_lower p n k [] h = refl
 find_lower p n k (None ∷ cells) h = find_lower p n (k + 1) cells (omega arith)
@@ -47,6 +52,7 @@ abbrev pub found : ℕ → ℕ → Option StreamId → Option Descriptor
 found p n None = None
 found p n (Some s) = Some (fd_of p n s)
 
+-- a search for a number in a row finds what its cell has
 find_in_row : (p n k i : ℕ) (cells : List (Option StreamId)) → n ≡ k + i
     → find (is_fd p n) (row_from p k cells) ≡ found p n (get_or cells i None)
 find_in_row p n k i [] e = refl
@@ -58,12 +64,14 @@ find_in_row p n k (suc i) (Some s ∷ cells)
     e = rw (other_fd p n k s (ne_eqb k n (λ same. absurd (omega (arith, e, same)))))
     (find_in_row p n (k + 1) i cells (omega (arith, e)))
 
+-- in the rows of later processes no descriptor of an earlier one is found
 find_later_rows : (p n q : ℕ) (rows : Rows) → p < q → find (is_fd p n) (rows_from q rows) ≡ None
 find_later_rows p n q [] h = refl
 find_later_rows p n q (row ∷ rows) h = find_past (is_fd p n) (row_from q 0 row) (rows_from (q + 1) rows)
     (find_other_row p n q 0 row (ne_eqb q p (λ e. absurd (omega arith))))
     ∙ find_later_rows p n (q + 1) rows (omega arith)
 
+-- a search for a number of a process in the rows from a process on finds what its cell has
 find_rows : (p n q i : ℕ) (rows : Rows) → p ≡ q + i
     → find (is_fd p n) (rows_from q rows) ≡ found p n (get_or (get_or rows i []) n None)
 find_rows p n q i [] e = refl
@@ -101,6 +109,7 @@ any_is_cell rows p n =
 
 -- taken
 
+-- to take the descriptor of a number out of a row is to empty its cell
 take_in_row : (p n k i : ℕ) (cells : List (Option StreamId)) → n ≡ k + i
     → filter (λ d. not (is_fd p n d)) (row_from p k cells) ≡ row_from p k (set cells i None)
 take_in_row p n k i [] e = refl
@@ -112,6 +121,7 @@ take_in_row p n k (suc i) (Some s ∷ cells)
     e = rw (other_fd p n k s (ne_eqb k n (λ same. absurd (omega (arith, e, same)))))
     (ap (λ ds. fd_of p k s ∷ ds) (take_in_row p n (k + 1) i cells (omega (arith, e))))
 
+-- to take a descriptor out of the rows from a process on is to empty its cell
 take_in_rows : (p n q i : ℕ) (rows : Rows) → p ≡ q + i
     → filter (λ d. not (is_fd p n d)) (rows_from q rows) ≡ rows_from q (set rows i (set (get_or rows i []) n None))
 take_in_rows p n q i [] e = refl
@@ -142,6 +152,7 @@ take_none rows p n h = none_goes (is_fd p n) _ (find_cell rows p n ∙ ap (found
 
 -- put
 
+-- what comes before a number of a process comes before the next number of it
 next : (p n q k : ℕ) → pair_before p n q k ≡ true → pair_before p n q (k + 1) ≡ true
 next p n q k h = grind (arith, nat_tests)
 
@@ -159,12 +170,15 @@ later_rows p n q s [] h = tt
 later_rows p n q s (row ∷ rows) h = comes_both fd_before (fd_of p n s) (row_from q 0 row) (rows_from (q + 1) rows)
     (later_row p n q 0 s row (grind (arith, nat_tests))) (later_rows p n (q + 1) s rows (omega arith))
 
+-- a number of a process doesn't come before a smaller one of that process
 not_before : (p n k : ℕ) → k < n → pair_before p n p k ≡ false
 not_before p n k h = grind (arith, nat_tests)
 
+-- a number of a process doesn't come before any of an earlier process
 not_before_process : (p n q k : ℕ) → q < p → pair_before p n q k ≡ false
 not_before_process p n q k h = grind (arith, nat_tests)
 
+-- a descriptor is inserted in a row, with later ones behind, by its stream in its empty cell
 put_in_row : (p n k i : ℕ) (s : StreamId) (cells : List (Option StreamId)) (rest : List Descriptor) → n ≡ k + i
     → i < length cells → get_or cells i None ≡ None → ComesBefore fd_before (fd_of p n s) rest
     → with_inserted fd_before (row_from p k cells ++ rest) (fd_of p n s) ≡ row_from p k (set cells i (Some s)) ++ rest
@@ -181,6 +195,7 @@ put_in_row p n k (suc i) s (Some t ∷ cells) rest e lt none h =
     rw (not_before p n k (omega (arith, e)))
     (ap (λ ds. fd_of p k t ∷ ds) (put_in_row p n (k + 1) i s cells rest (omega (arith, e)) (omega arith) none h))
 
+-- a descriptor of a later process is inserted behind the whole row of an earlier one
 skip_row : (p n q k : ℕ) (s : StreamId) (cells : List (Option StreamId)) (rest : List Descriptor) → q < p
     → with_inserted fd_before (row_from q k cells ++ rest) (fd_of p n s)
     ≡ row_from q k cells ++ with_inserted fd_before rest (fd_of p n s)
@@ -189,6 +204,7 @@ skip_row p n q k s (None ∷ cells) rest h = skip_row p n q (k + 1) s cells rest
 skip_row p n q k s (Some t ∷ cells) rest h =
     rw (not_before_process p n q k h) (ap (λ ds. fd_of q k t ∷ ds) (skip_row p n q (k + 1) s cells rest h))
 
+-- a descriptor is inserted in the rows from a process on by its stream in its empty cell
 put_in_rows : (p n q i : ℕ) (s : StreamId) (rows : Rows) → p ≡ q + i → n < length (get_or rows i [])
     → get_or (get_or rows i []) n None ≡ None
     → with_inserted fd_before (rows_from q rows) (fd_of p n s)

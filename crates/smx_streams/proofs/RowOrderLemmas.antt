@@ -19,6 +19,7 @@ use Rattle.smx_streams.proofs.RowLemmas.{fd_of, later_row, later_rows, any_is_ce
 
 -- in order
 
+-- a row in front of descriptors in order, all of which come after its process's, is in order with them
 rising_row : (q k : ℕ) (cells : List (Option StreamId)) (rest : List Descriptor) → IsRising fd_before rest
     → ((n : ℕ) (s : StreamId) → ComesBefore fd_before (record { process = q; fd = n; stream = s }) rest)
     → IsRising fd_before (row_from q k cells ++ rest)
@@ -31,6 +32,7 @@ rising_row q k (Some s ∷ cells) rest h
       rising_row q (k + 1) cells rest h after,
     )
 
+-- the descriptors of the rows from a process on are in order
 rising_rows : (q : ℕ) (rows : Rows) → IsRising fd_before (rows_from q rows)
 rising_rows q [] = tt
 rising_rows q (row ∷ rows) = rising_row q 0 row (rows_from (q + 1) rows) (rising_rows (q + 1) rows)
@@ -38,6 +40,7 @@ rising_rows q (row ∷ rows) = rising_row q 0 row (rows_from (q + 1) rows) (risi
 
 -- no more than there is room for
 
+-- a row has no more descriptors than cells
 few_in_row : (q k : ℕ) (cells : List (Option StreamId)) → length (row_from q k cells) ≤ length cells
 few_in_row q k [] = omega arith
 few_in_row q k (None ∷ cells) = omega (arith, few_in_row q (k + 1) cells)
@@ -48,6 +51,7 @@ pub short : (row : List (Option StreamId)) → AreAllOrNone row → length row �
 short [] h = omega arith
 short (c ∷ cells) h = omega (arith, h (omega arith))
 
+-- rows that each have room for all numbers or for none have no more descriptors than there is room for
 few_in_rows : (q : ℕ) (rows : Rows) → All AreAllOrNone rows → length (rows_from q rows) ≤ 16 * length rows
 few_in_rows q [] h = omega arith
 few_in_rows q (row ∷ rows) h =
@@ -59,6 +63,7 @@ few_in_rows q (row ∷ rows) h =
       few_in_rows (q + 1) rows (λ k d lt. h (suc k) d (omega (arith, lt))),
     )
 
+-- where the cells of a row end within the numbers of a process, each descriptor has one of these numbers
 numbered_row : (q k : ℕ) (cells : List (Option StreamId)) → k + length cells ≤ MAX_DESCRIPTORS
     → All (λ d. d.fd < MAX_DESCRIPTORS) (row_from q k cells)
 numbered_row q k [] h = All-nil _
@@ -66,18 +71,21 @@ numbered_row q k (None ∷ cells) h = numbered_row q (k + 1) cells (omega arith)
 numbered_row q k (Some s ∷ cells) h =
     All-cons (λ d. d.fd < MAX_DESCRIPTORS) _ _ (omega arith) (numbered_row q (k + 1) cells (omega arith))
 
+-- where each row has room for all numbers or for none, each descriptor has one of a process's numbers
 numbered_rows : (q : ℕ) (rows : Rows) → All AreAllOrNone rows → All (λ d. d.fd < MAX_DESCRIPTORS) (rows_from q rows)
 numbered_rows q [] h = All-nil _
 numbered_rows q (row ∷ rows) h = All-append (λ d. d.fd < MAX_DESCRIPTORS) _ _
     (numbered_row q 0 row (omega (arith, short row (h 0 row (omega arith)))))
     (numbered_rows (q + 1) rows (λ k d lt. h (suc k) d (omega (arith, lt))))
 
+-- the descriptors of the row of a process that there is are of such a process
 process_row : (q k : ℕ) (cells : List (Option StreamId)) → q < MAX_PROCESSES
     → All (λ d. d.process < MAX_PROCESSES) (row_from q k cells)
 process_row q k [] h = All-nil _
 process_row q k (None ∷ cells) h = process_row q (k + 1) cells h
 process_row q k (Some s ∷ cells) h = All-cons (λ d. d.process < MAX_PROCESSES) _ _ h (process_row q (k + 1) cells h)
 
+-- where the rows end within the processes, each descriptor is of one that there is
 process_rows : (q : ℕ) (rows : Rows) → q + length rows ≤ MAX_PROCESSES
     → All (λ d. d.process < MAX_PROCESSES) (rows_from q rows)
 process_rows q [] h = All-nil _
@@ -95,14 +103,17 @@ are_listed rows h = record {
 
 -- room
 
+-- a row of empty cells has no descriptors
 no_cells : (q k n : ℕ) → row_from q k (replicate n None) ≡ []
 no_cells q k zero = refl
 no_cells q k (suc n) = no_cells q (k + 1) n
 
+-- a row has the same descriptors once there is room for all numbers
 room_in_row : (q k : ℕ) (row : List (Option StreamId)) → row_from q k (with_room row) ≡ row_from q k row
 room_in_row q k [] = no_cells q k MAX_DESCRIPTORS
 room_in_row q k (c ∷ cells) = refl
 
+-- the rows from a process on have the same descriptors once one of them has room for all numbers
 room_in_rows : (q i : ℕ) (rows : Rows) → rows_from q (set rows i (with_room (get_or rows i []))) ≡ rows_from q rows
 room_in_rows q i [] = refl
 room_in_rows q zero (row ∷ rows) = ap (λ ds. ds ++ rows_from (q + 1) rows) (room_in_row q 0 row)
@@ -113,10 +124,12 @@ pub room_shows_the_same : (rows : Rows) (p : ℕ)
     → rows_from 0 (set rows p (with_room (get_or rows p []))) ≡ rows_from 0 rows
 room_shows_the_same rows p = room_in_rows 0 p rows
 
+-- a row with room has a cell for each number
 room_of : (row : List (Option StreamId)) → AreAllOrNone row → length (with_room row) ≡ MAX_DESCRIPTORS
 room_of [] h = length-replicate {A = Option StreamId} MAX_DESCRIPTORS None
 room_of (c ∷ cells) h = h (omega arith)
 
+-- where each row has room for all numbers or for none, so has the row of any process
 row_at : (rows : Rows) (p : ℕ) → All AreAllOrNone rows → AreAllOrNone (get_or rows p [])
 row_at [] p h = λ some. absurd (omega arith)
 row_at (row ∷ rows) zero h = h 0 row (omega arith)

@@ -15,6 +15,7 @@ use Rattle.smx_streams.proofs.ListLemmas.{none_goes}
 use Rattle.smx_streams.proofs.NameLemmas.{named_is_some, names_taken}
 use Rattle.smx_streams.proofs.NextLemmas.{is_closed}
 
+-- where there is no stream of a descriptor, there is no descriptor
 none_mapped : (o : Option Descriptor) → option_map (λ d. d.stream) o ≡ None → o ≡ None
 none_mapped None h = refl
 none_mapped (Some d) h = absurd cc

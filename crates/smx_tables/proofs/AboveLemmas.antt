@@ -11,6 +11,7 @@ use Rattle.smx_types.specs.declared.stream.StreamId.{StreamId}
 use Rattle.smx_model.specs.Configuration.{same_stream}
 use Rattle.smx_model.specs.Ordered.{ComesBefore, IsRising}
 use Rattle.smx_model.specs.Paths.{AreLowersApart}
+use Rattle.smx_streams.proofs.NameLemmas.{same_sym}
 -- streams that pass as the same are one, and each is the same as itself
 pub use Rattle.smx_streams.proofs.GridLemmas.{same_is as stream_is, same_self as stream_self}
 
@@ -23,6 +24,7 @@ abbrev pub IsOnce : (Link → Bool) → List Link → Type 0
 IsOnce key [] = Unit {0}
 IsOnce key (l ∷ ls) = (key l ≡ true → list_any key ls ≡ false) × IsOnce key ls
 
+-- where no link passes a test, none passes it and another one
 none_also : (key t u : Link → Bool) (ls : List Link) → ((l : Link) → u l ≡ (key l && t l)) → list_any key ls ≡ false
     → list_any u ls ≡ false
 none_also key t u [] e h = refl
@@ -31,7 +33,7 @@ none_also key t u (l ∷ ls) e h = elim (cases_Bool (key l)) [
   | inr k ↦ rw (e l, k) (none_also key t u ls e (rw k at h))
 ]
 
--- so a further test of those that pass is one of the first
+-- where one link at most passes a test, some link passes it and another just where the one that is found passes that
 pub any_once : (key t u : Link → Bool) (ls : List Link) → IsOnce key ls → ((l : Link) → u l ≡ (key l && t l))
     → list_any u ls ≡ option_map_or t (find key ls) false
 any_once key t u [] o e = refl
@@ -43,16 +45,15 @@ any_once key t u (l ∷ ls) o e = elim (cases_Bool (key l)) [
   | inr k ↦ rw (e l, k) (any_once key t u ls o.1 e)
 ]
 
--- streams below links are apart
-other_lower : (s t : StreamId) → same_stream s t ≡ false → same_stream t s ≡ false
-other_lower s t h = grind (arith, nat_tests)
+-- ---- streams below links are apart
 
+-- where a stream differs from the lower stream of each link, it is below none
 none_below : (s : StreamId) (ls : List Link)
     → ((j : ℕ) (d : Link) → j < length ls → same_stream s (get_or ls j d).lower ≡ false)
     → list_any (λ l. same_stream l.lower s) ls ≡ false
 none_below s [] h = refl
 none_below s (l ∷ ls) h =
-    rw (other_lower s l.lower (h 0 l (omega arith))) (none_below s ls (λ j d lt. h (suc j) d (omega arith)))
+    rw (same_sym s l.lower (h 0 l (omega arith))) (none_below s ls (λ j d lt. h (suc j) d (omega arith)))
 
 -- where no stream is below two links, at most one link is above a stream
 pub once_below : (s : StreamId) (ls : List Link) → AreLowersApart ls → IsOnce (λ l. same_stream l.lower s) ls
@@ -94,6 +95,7 @@ pub none_with_id : (t : Link → Bool) (id : ℕ) (ls : List Link) → IsRising 
     → None ≡ find (λ l. eqb l.id id) ls → false ≡ list_any (λ l. eqb l.id id && t l) ls
 none_with_id t id ls h e = sym (any_with_id t id ls h ∙ rw (sym e) refl)
 
+-- where no link has an id, none is left by a test for this id and another one
 none_kept : (t : Link → Bool) (id : ℕ) (ls : List Link) → list_any (λ l. eqb l.id id) ls ≡ false
     → filter (λ l. eqb l.id id && t l) ls ≡ []
 none_kept t id [] h = refl

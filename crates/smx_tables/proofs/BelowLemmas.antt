@@ -16,6 +16,7 @@ use Rattle.smx_types.specs.declared.stream.StreamId.{StreamId}
 use Rattle.smx_model.specs.Configuration.{QueuedMessage, same_place, same_side, same_stream}
 use Rattle.smx_model.specs.Paths.{AreLowersApart}
 use Rattle.smx_model.specs.Standing.{is_below}
+use Rattle.smx_model.specs.Configuration.{read_side}
 use Rattle.smx_queues.specs.FlowTables.{FlowLists}
 use Rattle.smx_tables.specs.DroppedMessages.{EmptiesPlaces, HasRoom}
 use Rattle.smx_tables.specs.ListedLinks.{is_listed, is_read_below_listed}
@@ -24,6 +25,7 @@ use Rattle.smx_tables.proofs.DropLemmas.{filter_twice}
 use Rattle.smx_tables.proofs.ReleasedIdLemmas.{IsFoundBy, found_by, listed_one_more}
 use Rattle.smx_tables.proofs.RemovalLemmas.{IsIdsRising}
 
+-- the link above a stream is listed
 abbrev at_link : List ℕ → List Link → StreamId → Bool
 at_link ids links x = option_map_or (λ l. is_listed ids l.id) (find (λ l. same_stream l.lower x) links) false
 
@@ -38,6 +40,7 @@ link_more ids id s x (l ∷ ls) h = elim (cases_Bool (same_stream l.lower x)) [
   | inr f ↦ rw f (link_more ids id s x ls h.1)
 ]
 
+-- the lower stream of a link that is found by its id is below a link
 below_found : (id : ℕ) (links : List Link) (l : Link) → find (λ k. eqb k.id id) links ≡ Some l
     → is_below links l.lower ≡ true
 below_found id [] l e = absurd cc
@@ -48,12 +51,10 @@ below_found id (k ∷ ks) l e = elim (cases_Bool (eqb k.id id)) [
   | inr f ↦ or_right (same_stream k.lower l.lower) _ (below_found id ks l (rw f at e))
 ]
 
-table : (r old b v : Bool) → (v ≡ true → b ≡ true) → (r && (old || (b && v))) ≡ ((r && old) || (v && r))
-table r old b true h = let below = h refl in grind (arith, nat_tests)
-table r old b false h = grind (arith, nat_tests)
-
-abbrev read_side : StreamId → Place
-read_side s = record { stream = s; side = side.Read }
+-- beside a test from which another one follows, that other one need not be asked
+asked_once : (r old b v : Bool) → (v ≡ true → b ≡ true) → (r && (old || (b && v))) ≡ ((r && old) || (v && r))
+asked_once r old b true h = let below = h refl in grind (arith, nat_tests)
+asked_once r old b false h = grind (arith, nat_tests)
 
 -- one id more takes one place more
 pub read_more : (links : List Link) (ids : List ℕ) (id : ℕ) (l : Link) → AreLowersApart links → IsIdsRising links
@@ -64,7 +65,7 @@ read_more links ids id l apart rise found p =
     ap (λ (b : Bool). same_side p.side side.Read && b)
     (link_more ids id l.lower p.stream links
     (recursion_from_All (IsFoundBy id l.lower) links (found_by links id l apart rise found)))
-    ∙ table (same_side p.side side.Read) (at_link ids links p.stream) (is_below links p.stream)
+    ∙ asked_once (same_side p.side side.Read) (at_link ids links p.stream) (is_below links p.stream)
     (same_stream p.stream l.lower)
     (λ t. ap (is_below links) (stream_is p.stream l.lower t) ∙ below_found id links l found)
 
@@ -101,6 +102,7 @@ none_listed_yet place links (x ∷ xs) =
 
 -- ---- lists without them
 
+-- neither of two tests is passed just where it is not so that one of them is
 not_either : (a b : Bool) → (not a && not b) ≡ not (a || b)
 not_either a b = grind (arith, nat_tests)
 

@@ -20,23 +20,27 @@ stands_by fds links n None = false
 stands_by fds links zero (Some l) = is_persistent l
 stands_by fds links (suc n) (Some l) = is_persistent l || stands_within fds links n l.ctl
 
+-- the first two of three tests may be asked in either order
 between : (a b c : Bool) → (a && (b && c)) ≡ (b && (a && c))
 between a b c = grind (arith, nat_tests)
 
--- one climb more finds what fewer find
-pub more : (fds : List Descriptor) (links : List Link) (n : ℕ) (s : StreamId) → stands_within fds links n s ≡ true
-    → stands_within fds links (suc n) s ≡ true
-more fds links n s h = or_left _ _ h
+-- what stands within some climbs stands within one climb more
+pub one_climb_more : (fds : List Descriptor) (links : List Link) (n : ℕ) (s : StreamId)
+    → stands_within fds links n s ≡ true → stands_within fds links (suc n) s ≡ true
+one_climb_more fds links n s h = or_left _ _ h
 
+-- what follows from one climb less need be asked only for one climb more
 climbed : (named persistent less above : Bool) → (less ≡ true → above ≡ true)
     → ((named || (persistent || less)) || (not persistent && above)) ≡ (named || (persistent || above))
 climbed named persistent true above h = let stands = h refl in grind (arith, nat_tests)
 climbed named persistent false above h = grind (arith, nat_tests)
 
+-- within one climb the link above a stream is persistent, or its controlling stream stands by a descriptor
 first_climb : (named persistent above : Bool)
     → ((named || persistent) || (not persistent && above)) ≡ (named || (persistent || above))
 first_climb named persistent above = grind (arith, nat_tests)
 
+-- within one climb more a stream stands as it did, or by the controlling stream of the link above it
 by_more : (fds : List Descriptor) (links : List Link) (n : ℕ) (named : Bool) (o : Option Link)
     → ((named || stands_by fds links n o)
     || option_map_or (λ l. not (is_persistent l) && stands_within fds links n l.ctl) o false)
@@ -44,8 +48,9 @@ by_more : (fds : List Descriptor) (links : List Link) (n : ℕ) (named : Bool) (
 by_more fds links n named None = or-false (named || false)
 by_more fds links zero named (Some l) = first_climb named (is_persistent l) (stands_within fds links 0 l.ctl)
 by_more fds links (suc n) named (Some l) = climbed named (is_persistent l) (stands_within fds links n l.ctl)
-    (stands_within fds links (suc n) l.ctl) (more fds links n l.ctl)
+    (stands_within fds links (suc n) l.ctl) (one_climb_more fds links n l.ctl)
 
+-- without a climb the link above a stream makes it stand just where that link is persistent
 by_held : (fds : List Descriptor) (links : List Link) (o : Option Link)
     → option_map_or is_persistent o false ≡ stands_by fds links 0 o
 by_held fds links None = refl

@@ -68,6 +68,7 @@ none_dead stream t (x ∷ xs) =
 
 -- ---- all that went were seen
 
+-- a stream that is there or was seen is a dead one of those seen just where it is not there
 dead_is_gone : (t : StreamTable) (seen : List StreamId) (s : StreamId) → is_there_or_touched t seen s ≡ true
     → is_dead t seen s ≡ not (is_there t s)
 dead_is_gone t seen s h = grind (arith, nat_tests)

@@ -19,17 +19,21 @@ use Rattle.smx_tables.proofs.HungLemmas.{all_pass}
 
 -- ---- the streams of each list
 
+-- the stream of a binding
 abbrev bound : Binding → StreamId
 bound b = record { driver = b.driver; minor = b.minor }
 
+-- the stream at one of whose sides a message is queued
 abbrev queued : QueuedMessage → StreamId
 queued h = h.place.stream
 
+-- the stream of a place that is marked as full
 abbrev marked : Place → StreamId
 marked p = p.stream
 
 -- ---- three lists of a configuration
 
+-- a configuration with these bindings, messages and full places
 abbrev parts : Configuration → List Binding → List QueuedMessage → List Place → Configuration
 parts c binds flow fulls = record c { binds = binds; flow = flow; fulls = fulls }
 

@@ -44,12 +44,14 @@ taken_name ds i d lt here (k, e, before, at, same) h =
 
 -- ---- what a list of drivers says of their minors
 
+-- a driver that passes the check has no more minors than a driver may
 few_minors : (d : DriverSpec) → spec_check d ≡ Ok tt → d.minors ≤ MAX_MINORS
 few_minors d can = elim (cases_Bool (ltb d.minors 1 || ltb MAX_MINORS d.minors)) [
   | inl t ↦ let bad = rw t at can in absurd cc
   | inr f ↦ grind (arith, nat_tests)
 ]
 
+-- where each driver passes the check, none has more minors than a driver may
 all_few : (ds : List DriverSpec) → AllByRecursion (λ d. spec_check d ≡ Ok tt) ds
     → AllByRecursion (λ d. d.minors ≤ MAX_MINORS) ds
 all_few [] h = tt

@@ -13,6 +13,7 @@ use Rattle.smx_types.specs.declared.driver.DriverKind.TheVariants.{Leaf}
 use Rattle.smx_types.specs.declared.driver.DriverSpec.{DriverSpec}
 use Rattle.smx_model.specs.DriverList.{IsDriverList, name_of}
 
+-- a driver that stands where a list of drivers has none
 pub some_driver : DriverSpec
 some_driver = record { name = []; kind = Leaf; minors = 0; high = 0; low = 0; max = 0 }
 

@@ -23,16 +23,19 @@ use Rattle.smx_model.specs.Ordered.{in_rising_order, with_inserted}
 use Rattle.smx_model.specs.Queues.{first_message, queue}
 use Rattle.smx_model.specs.Removal.{serials, serials_that_left}
 use Rattle.smx_model.proofs.CountLemmas.{times, times_rising}
+use Rattle.smx_model.proofs.QueueLemmas.{gone_is}
 use Rattle.smx_queues.proofs.PlaceLemmas.{same_turned}
 use Rattle.smx_tables.specs.DroppedMessages.{AreDropped, is_flushed_at}
 -- two tests in turn are both at once
 pub use Rattle.smx_streams.proofs.ListLemmas.{filter_twice}
 
+-- a side of a stream
 abbrev at : StreamId → Side → Place
 at s x = record { stream = s; side = x }
 
 -- ---- one place more is emptied
 
+-- what goes by either of two tests is what goes by the first, and then by the second of what is left
 split : {X : Type 0} (t u : X → Bool) (xs : List X)
     → IsPermutation (filter (λ x. not (t x && not (u x))) xs) (filter (λ x. not (t x)) xs ++ filter u (filter t xs))
 split t u [] = IsPermutation-refl []
@@ -46,6 +49,7 @@ split t u (x ∷ xs) = elim (cases_Bool (t x)) [
   | inr a ↦ rw a (IsPermutation-cons x _ _ (split t u xs))
 ]
 
+-- the serials of a flow's messages at a place are those of its queue
 serials_at : (flow : List QueuedMessage) (p : Place)
     → serials (filter (is_at p) flow) ≡ map (λ m. m.serial) (queue flow p)
 serials_at [] p = refl
@@ -78,6 +82,7 @@ dropped_more old flow new p dropped more fewer longer h =
           parts all) first);
     }
 
+-- a test that all pass leaves all, and takes none away
 none_kept : {X : Type 0} (xs : List X) → (filter (λ x. true) xs ≡ xs) × (filter (λ x. not true) xs ≡ [])
 none_kept [] = (refl, refl)
 none_kept (x ∷ xs) = let r = none_kept xs in (ap (λ (ys : List _). x ∷ ys) r.0, r.1)
@@ -134,23 +139,28 @@ on_both_sides stream sides s side.Read = grind (arith, nat_tests)
 
 -- ---- sorted numbers
 
+-- no number of the list is below this one
 abbrev AllFrom : ℕ → List ℕ → Type 0
 AllFrom n [] = Unit {0}
 AllFrom n (m ∷ ms) = (n ≤ m) × AllFrom n ms
 
+-- no number of the list is below one before it
 abbrev IsUp : List ℕ → Type 0
 IsUp [] = Unit {0}
 IsUp (n ∷ ns) = AllFrom n ns × IsUp ns
 
+-- numbers of which none is below one number are not below a smaller one
 all_from_less : (n m : ℕ) (ns : List ℕ) → n ≤ m → AllFrom m ns → AllFrom n ns
 all_from_less n m [] le h = tt
 all_from_less n m (k ∷ ns) le h = (omega (arith, h.0), all_from_less n m ns le h.1)
 
+-- numbers that are not below one number still aren't with one more such number inserted
 from_placed : (n m : ℕ) (ns : List ℕ) → n ≤ m → AllFrom n ns → AllFrom n (with_inserted ltb ns m)
 from_placed n m [] le h = (le, tt)
 from_placed n m (k ∷ ns) le h =
     elim (cases_Bool (ltb m k)) [ inl t ↦ rw t (le, h) | inr f ↦ rw f (h.0, from_placed n m ns le h.1) ]
 
+-- a number that is inserted in its order leaves no number below one before it
 up_placed : (ns : List ℕ) (n : ℕ) → IsUp ns → IsUp (with_inserted ltb ns n)
 up_placed [] n h = (tt, tt)
 up_placed (k ∷ ns) n h = elim (cases_Bool (ltb n k)) [
@@ -158,10 +168,12 @@ up_placed (k ∷ ns) n h = elim (cases_Bool (ltb n k)) [
   | inr f ↦ let more = ltb-false n k f in rw f (from_placed k n ns more h.0, up_placed ns n h.1)
 ]
 
+-- in rising order no number is below one before it
 rising_up : (ns : List ℕ) → IsUp (in_rising_order ns)
 rising_up [] = tt
 rising_up (n ∷ ns) = up_placed (in_rising_order ns) n (rising_up ns)
 
+-- how often a number is in a list is the sum of a one for each place that has it
 times_sum : (k : ℕ) (ns : List ℕ) → times k ns ≡ sum_by (λ m. cond (eqb m k) 1 0) ns
 times_sum k [] = refl
 times_sum k (n ∷ ns) =
@@ -172,6 +184,7 @@ pub times_permuted : (k : ℕ) (ns ms : List ℕ) → IsPermutation ns ms → ti
 times_permuted k ns ms h =
     times_sum k ms ∙ (sum_by-IsPermutation (λ m. cond (eqb m k) 1 0) ns ms h ∙ sym (times_sum k ns))
 
+-- a number is once more in a list with that number in front
 here_once : (n : ℕ) (ns : List ℕ) → times n (n ∷ ns) ≡ suc (times n ns)
 here_once n ns = rw (eq-eqb n n refl) (omega arith)
 
@@ -181,6 +194,7 @@ low_is_none n m [] h lt = refl
 low_is_none n m (k ∷ ns) h lt =
     rw (ne_eqb k n (λ e. let j = h.0 in omega arith)) (omega (arith, low_is_none n m ns h.1 lt))
 
+-- two lists of rising numbers are equal where each number is in both as often
 one_up : (ns ms : List ℕ) → IsUp ns → IsUp ms → ((k : ℕ) → times k ns ≡ times k ms) → ns ≡ ms
 one_up [] [] h g same = refl
 one_up [] (m ∷ ms) h g same = absurd (omega (arith, same m, here_once m ms))
@@ -211,6 +225,7 @@ one_up (n ∷ ns) (m ∷ ms) h g same = elim (cases_eq n m) [
         let z : times m (n ∷ ns) ≡ 0 = rw not_n (omega (arith, none)) in omega (arith, s, z)
   ]
 
+-- in a list that doesn't decrease no number is below one before it
 from_sorted : (ns : List ℕ) → IsNonDecreasing ns → IsUp ns
 from_sorted [] h = tt
 from_sorted (n ∷ ns) h = (
@@ -227,16 +242,11 @@ pub sorted_is : (ns ms out : List ℕ) → IsPermutation ns ms → IsPermutation
 sorted_is ns ms out h k up = one_up out (in_rising_order ns) (from_sorted out up) (rising_up ns)
     (λ n. times_permuted n ms out k ∙ (times_permuted n ns ms h ∙ sym (times_rising n ns)))
 
--- what the law of the model says
-abbrev pub DroppedAreNotKept : Type 0
-DroppedAreNotKept = (flow : List QueuedMessage) (keep : QueuedMessage → Bool) → AllPairs (λ m n. m ≢ n) (serials flow)
-    → serials_that_left flow (filter keep flow) ≡ in_rising_order (serials (filter (λ h. not (keep h)) flow))
-
 -- serials that were dropped, once they are in order, are those that left the flow
-pub left_in_order : (old new : List QueuedMessage) (dropped out : List ℕ) → DroppedAreNotKept
+pub left_in_order : (old new : List QueuedMessage) (dropped out : List ℕ)
     → AllPairs (λ m n. m ≢ n) (serials old) → AreDropped old new dropped → IsPermutation dropped out
     → IsNonDecreasing out
     → out ≡ serials_that_left old new
-left_in_order old new dropped out law apart h sorted up =
+left_in_order old new dropped out apart h sorted up =
     sorted_is (serials (filter (λ x. not (h.keep x)) old)) dropped out h.gone sorted up
-    ∙ (sym (law old h.keep apart) ∙ ap (serials_that_left old) (sym h.left))
+    ∙ (sym (gone_is old h.keep apart) ∙ ap (serials_that_left old) (sym h.left))

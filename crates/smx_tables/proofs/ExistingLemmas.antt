@@ -1,17 +1,18 @@
 -- Which streams exist, by the table of streams: those that a descriptor names, and those that are held.
 use Rattle.std.proofs.Common.{◌≡◌, ℕ, zero, suc, ◌+◌, ◌<◌, ◌≤◌, Bool, true, false, ◌&&◌, ◌||◌, not, List, [], ◌∷◌}
-use Rattle.std.proofs.Common.{length, filter, find, get_or, Option, Some, None, Ok, Err, ◌++◌, if◌then◌else◌, refl, sym}
+use Rattle.std.proofs.Common.{length, find, get_or, Option, Some, None, Ok, Err, ◌++◌, if◌then◌else◌, refl, sym}
 use Rattle.std.proofs.Common.{ap, subst, ◌∙◌, arith, inl, inr}
 use Rattle.std.proofs.Math.Bool.{or-false}
-use Rattle.std.specs.Prelude.{IsTrue, ◌↔◌, nat_lt}
+use Rattle.std.specs.Prelude.{nat_lt}
 use Rattle.std.specs.Option.{option_map}
 use Rattle.std.specs.List.{All, AllByRecursion, list_any, list_all}
 use Rattle.std.proofs.lemmas.Bool.{cases_Bool, and_parts, and_from, or_cases, or_left, or_right, false_from_ne_true}
 use Rattle.std.proofs.lemmas.Bool.{false≢true}
 use Rattle.std.proofs.lemmas.Bool.Decides.{nat_tests}
+use Rattle.std.proofs.lemmas.List.{get_or_default}
 use Rattle.std.proofs.lemmas.List.Folds.{list_any-append}
 use Rattle.std.proofs.lemmas.Option.{same_Some}
-use Rattle.std.proofs.lemmas.List.Elements.{recursion_from_All, Contains-get_or}
+use Rattle.std.proofs.lemmas.List.Elements.{recursion_from_All}
 use Rattle.smx_types.specs.declared.driver.DriverSpec.{DriverSpec}
 use Rattle.smx_types.specs.declared.link.Link.{Link}
 use Rattle.smx_types.specs.declared.link.LinkKind.{LinkKind}
@@ -21,9 +22,12 @@ use Rattle.smx_types.specs.declared.stream.StreamId.{StreamId}
 use Rattle.smx_model.specs.Configuration.{Configuration, is_fd, same_stream}
 use Rattle.smx_model.specs.KnownStreams.{IsKnown}
 use Rattle.smx_model.specs.Outcomes.{or_fault}
-use Rattle.smx_model.specs.Paths.{Path, HasNoCycle, reaches}
+use Rattle.smx_model.specs.Paths.{HasNoCycle, reaches}
 use Rattle.smx_model.specs.SoundLinks.{AreLinksSound}
-use Rattle.smx_model.specs.Standing.{Stands, exists, is_below, is_named, is_persistent, stands_within}
+use Rattle.smx_model.specs.Standing.{exists, is_below, is_named, is_persistent, stands_within}
+use Rattle.smx_model.proofs.KeptLemmas.{exists_is_stands}
+use Rattle.smx_model.proofs.PathLemmas.{reaches_at}
+use Rattle.smx_model.proofs.SettlingLemmas.{count, up_less}
 use Rattle.smx_streams.specs.StreamTables.{StreamTable, HasHolds, number_at, stream_at, exists as is_there}
 use Rattle.smx_tables.specs.ExistingStreams.{AreHeld, TellsExisting, holds_of, is_held}
 use Rattle.smx_links.specs.LinkLists.{LinkList, IsLinked, refusal, with_link}
@@ -81,67 +85,23 @@ stands_there fds links (suc n) s
           (and_parts (not (is_persistent l)) (same_stream l.lower s && stands_within fds links n l.ctl) t).1).0) b)
     ]
 
--- ---- a climb comes to a driver that fewer links lead to
+-- ---- a climb comes to a driver that fewer drivers lead to
 
--- how many links lead to the driver
-abbrev pub links_to : List Link → ℕ → ℕ
-links_to links d = length (filter (λ l. reaches links l.ctl.driver d) links)
+-- how many of the drivers lead to this one
+abbrev height : List DriverSpec → List Link → ℕ → ℕ
+height drivers links d = count (λ x. reaches links x d) (length drivers)
 
-fewer : (f g : Link → Bool) (ls : List Link) → ((l : Link) → f l ≡ true → g l ≡ true)
-    → length (filter f ls) ≤ length (filter g ls)
-fewer f g [] h = omega arith
-fewer f g (l ∷ ls) h = elim (cases_Bool (f l)) [
-  | inl t ↦ rw (t, h l t) (omega (arith, fewer f g ls h))
-  | inr n ↦ elim (cases_Bool (g l)) [
-    | inl u ↦ rw (n, u) (omega (arith, fewer f g ls h))
-    | inr u ↦
-        rw (n, u) (fewer f g ls h)
-  ]
-]
+-- fewer drivers lead to the upper driver of this link than to its lower one
+abbrev ClimbsToFewer : List DriverSpec → List Link → Link → Type 0
+ClimbsToFewer drivers links l = height drivers links l.ctl.driver < height drivers links l.lower.driver
 
-fewer_at : (f g : Link → Bool) (ls : List Link) (i : ℕ) (d : Link) → ((l : Link) → f l ≡ true → g l ≡ true)
-    → i < length ls → f (get_or ls i d) ≡ false → g (get_or ls i d) ≡ true → length (filter f ls) < length (filter g ls)
-fewer_at f g [] i d h lt a b = absurd (omega arith)
-fewer_at f g (l ∷ ls) zero d h lt a b = rw (a, b) (omega (arith, fewer f g ls h))
-fewer_at f g (l ∷ ls) (suc i) d h lt a b =
-    let rest = fewer_at f g ls i d h (omega arith) a b in
-    elim (cases_Bool (f l)) [
-      | inl t ↦ rw (t, h l t) (omega (arith, rest))
-      | inr n ↦ elim (cases_Bool (g l)) [ inl u ↦ rw (n, u) (omega (arith, rest)) | inr u ↦ rw (n, u) rest ]
-    ]
-
--- what the laws of the model say of paths
-abbrev pub IsReachPath : Type 0
-IsReachPath = (links : List Link) (a b : ℕ) → IsTrue (reaches links a b) ↔ Path links a b
-
--- what a law of the model says: where a driver reaches another, it reaches what that one reaches
-abbrev pub DoPathsJoin : Type 0
-DoPathsJoin = (links : List Link) (a b c : ℕ) → IsTrue (reaches links a b) → IsTrue (reaches links b c)
-    → IsTrue (reaches links a c)
-
--- the link leads from its upper driver to its lower one
-one_step : (links : List Link) (i : ℕ) (d : Link) → IsReachPath → i < length links
-    → reaches links (get_or links i d).ctl.driver (get_or links i d).lower.driver ≡ true
-one_step links i d path lt =
-    (path links (get_or links i d).ctl.driver (get_or links i d).lower.driver).1
-    (record { path = get_or links i d ∷ []; some = omega arith; leads = (Contains-get_or links i d lt, refl, refl) })
-
--- fewer links lead to the upper driver of this link than to its lower one
-abbrev pub ClimbsToFewer : List Link → Link → Type 0
-ClimbsToFewer links l = links_to links l.ctl.driver < links_to links l.lower.driver
-
--- where there is no cycle, fewer links lead to each link's upper driver than to its lower one
-pub climbs_to_fewer : (links : List Link) → IsReachPath → DoPathsJoin → HasNoCycle links
-    → All (ClimbsToFewer links) links
-climbs_to_fewer links path join no_cycle = λ i d lt.
-    fewer_at (λ l. reaches links l.ctl.driver (get_or links i d).ctl.driver)
-    (λ l. reaches links l.ctl.driver (get_or links i d).lower.driver) links i d
-    (λ l h. join links l.ctl.driver (get_or links i d).ctl.driver (get_or links i d).lower.driver h
-    (one_step links i d path lt)) lt
-    (false_from_ne_true _
-    (λ t. no_cycle (get_or links i d).ctl.driver
-    ((path links (get_or links i d).ctl.driver (get_or links i d).ctl.driver).0 t)))
-    (one_step links i d path lt)
+-- where there is no cycle, fewer drivers lead to each link's upper driver than to its lower one
+climbs_to_fewer : (drivers : List DriverSpec) (links : List Link) → HasNoCycle links
+    → All (λ l. IsKnown drivers l.ctl) links → All (ClimbsToFewer drivers links) links
+climbs_to_fewer drivers links none known = λ i d lt.
+    let l = get_or links i d in
+    up_less links (length drivers) l.ctl.driver l.lower.driver none
+    (reaches_at links i l lt (get_or_default links i l d lt)) (known i d lt).0
 
 -- ---- what is there stands
 
@@ -174,50 +134,53 @@ IsTight t l = is_held t l ≡ true → is_persistent l ≡ false → is_there t 
 abbrev pub IsHeldBelow : List Link → StreamTable → Type 0
 IsHeldBelow links t = (s : StreamId) → nat_lt 0 (number_at t.holds s) ≡ true → is_below links s ≡ true
 
-mutual_step : (links : List Link) (t : StreamTable) (n : ℕ) (s : StreamId) (ls : List Link)
-    → nat_lt 0 (number_at t.holds s) ≡ true → links_to links s.driver ≤ suc n
-    → ((x : StreamId) → links_to links x.driver ≤ n → is_there t x ≡ true → stands_within t.fds links n x ≡ true)
-    → AllByRecursion (IsTight t) ls → AllByRecursion (ClimbsToFewer links) ls
+-- where what fewer drivers lead to stands, so do the controlling streams of the links above a held stream
+mutual_step : (drivers : List DriverSpec) (links : List Link) (t : StreamTable) (n : ℕ) (s : StreamId) (ls : List Link)
+    → nat_lt 0 (number_at t.holds s) ≡ true → height drivers links s.driver ≤ suc n
+    → ((x : StreamId) → height drivers links x.driver ≤ n → is_there t x ≡ true → stands_within t.fds links n x ≡ true)
+    → AllByRecursion (IsTight t) ls → AllByRecursion (ClimbsToFewer drivers links) ls
     → AllByRecursion (λ l. same_stream l.lower s ≡ true → is_persistent l ≡ false
     → stands_within t.fds links n l.ctl ≡ true) ls
-mutual_step links t n s [] up few ih h r = tt
-mutual_step links t n s (l ∷ ls) up few ih h r = (
+mutual_step drivers links t n s [] up few ih h r = tt
+mutual_step drivers links t n s (l ∷ ls) up few ih h r = (
   (λ here o.
       let same = stream_is l.lower s here in
       let held : is_held t l ≡ true = ap (λ (x : StreamId). nat_lt 0 (number_at t.holds x)) same ∙ up in
       let less = r.0 in
-      let at : links_to links l.lower.driver ≡ links_to links s.driver = ap (λ (x : StreamId). links_to links x.driver)
-      same in
+      let at : height drivers links l.lower.driver ≡ height drivers links s.driver =
+      ap (λ (x : StreamId). height drivers links x.driver) same in
       ih l.ctl (omega (arith, less, at, few)) (h.0 held o)),
-  mutual_step links t n s ls up few ih h.1 r.1,
+  mutual_step drivers links t n s ls up few ih h.1 r.1,
 )
 
-none_lower : (links : List Link) (s : StreamId) (ls : List Link) → links_to links s.driver ≤ 0
-    → AllByRecursion (ClimbsToFewer links) ls → is_below ls s ≡ false
-none_lower links s [] few r = refl
-none_lower links s (l ∷ ls) few r = elim (cases_Bool (same_stream l.lower s)) [
+-- a stream whose driver no driver leads to is below no link
+none_lower : (drivers : List DriverSpec) (links : List Link) (s : StreamId) (ls : List Link)
+    → height drivers links s.driver ≤ 0 → AllByRecursion (ClimbsToFewer drivers links) ls → is_below ls s ≡ false
+none_lower drivers links s [] few r = refl
+none_lower drivers links s (l ∷ ls) few r = elim (cases_Bool (same_stream l.lower s)) [
   | inl here ↦
-      let at : links_to links l.lower.driver ≡ links_to links s.driver = ap (λ (x : StreamId). links_to links x.driver)
-      (stream_is l.lower s here) in
+      let at : height drivers links l.lower.driver ≡ height drivers links s.driver =
+      ap (λ (x : StreamId). height drivers links x.driver) (stream_is l.lower s here) in
       let less = r.0 in
       absurd (omega (arith, less, at, few))
-  | inr other ↦ rw other (none_lower links s ls few r.1)
+  | inr other ↦ rw other (none_lower drivers links s ls few r.1)
 ]
 
-there_stands_within : (links : List Link) (t : StreamTable) (n : ℕ) (s : StreamId) → IsHeldBelow links t
-    → AllByRecursion (IsTight t) links → AllByRecursion (ClimbsToFewer links) links
-    → links_to links s.driver ≤ n → is_there t s ≡ true → stands_within t.fds links n s ≡ true
-there_stands_within links t zero s up h r few there =
+-- what is there stands within as many climbs as drivers lead to its driver
+there_stands_within : (drivers : List DriverSpec) (links : List Link) (t : StreamTable) (n : ℕ) (s : StreamId)
+    → IsHeldBelow links t → AllByRecursion (IsTight t) links → AllByRecursion (ClimbsToFewer drivers links) links
+    → height drivers links s.driver ≤ n → is_there t s ≡ true → stands_within t.fds links n s ≡ true
+there_stands_within drivers links t zero s up h r few there =
     elim (or_cases (is_named t.fds s) (nat_lt 0 (number_at t.holds s)) there) [
       | inl named ↦ named_stands t.fds links 0 s named
-      | inr held ↦ absurd (false≢true (sym (none_lower links s links few r) ∙ up s held))
+      | inr held ↦ absurd (false≢true (sym (none_lower drivers links s links few r) ∙ up s held))
     ]
-there_stands_within links t (suc n) s up h r few there =
+there_stands_within drivers links t (suc n) s up h r few there =
     elim (or_cases (is_named t.fds s) (nat_lt 0 (number_at t.holds s)) there) [
       | inl named ↦ named_stands t.fds links (suc n) s named
       | inr held ↦
-          let climb = mutual_step links t n s links held few
-          (λ x less at. there_stands_within links t n x up h r less at) h r in
+          let climb = mutual_step drivers links t n s links held few
+          (λ x less at. there_stands_within drivers links t n x up h r less at) h r in
           elim (or_cases (list_any (λ l. is_persistent l && same_stream l.lower s) links)
           (list_any (λ l. not (is_persistent l) && (same_stream l.lower s && stands_within t.fds links n l.ctl)) links)
           (by_link (λ l. stands_within t.fds links n l.ctl) s links climb (up s held))) [
@@ -226,24 +189,20 @@ there_stands_within links t (suc n) s up h r few there =
           ]
     ]
 
--- what the law of the model says: as many climbs as there are drivers suffice
-abbrev pub DoClimbsSuffice : Type 0
-DoClimbsSuffice = (drivers : List DriverSpec) (c : Configuration) (s : StreamId) → AreLinksSound c.links
-    → All (λ l. IsKnown drivers l.ctl) c.links → (IsTrue (exists drivers c s) ↔ Stands c s)
-
 -- what is there exists
-pub there_exists : (drivers : List DriverSpec) (c : Configuration) (t : StreamTable) (s : StreamId) → DoClimbsSuffice
-    → IsReachPath → DoPathsJoin → AreLinksSound c.links → All (λ l. IsKnown drivers l.ctl) c.links
+pub there_exists : (drivers : List DriverSpec) (c : Configuration) (t : StreamTable) (s : StreamId)
+    → AreLinksSound c.links → All (λ l. IsKnown drivers l.ctl) c.links
     → t.fds ≡ c.fds → IsHeldBelow c.links t → AllByRecursion (IsTight t) c.links → is_there t s ≡ true
     → exists drivers c s ≡ true
-there_exists drivers c t s climbs path join sound known same up h there =
-    let r = recursion_from_All (ClimbsToFewer c.links) c.links (climbs_to_fewer c.links path join sound.no_cycle) in
-    let within = there_stands_within c.links t (links_to c.links s.driver) s up h r (omega arith) there in
-    (climbs drivers c s sound known).1
+there_exists drivers c t s sound known same up h there =
+    let n = height drivers c.links s.driver in
+    let r = recursion_from_All (ClimbsToFewer drivers c.links) c.links
+    (climbs_to_fewer drivers c.links sound.no_cycle known) in
+    let within = there_stands_within drivers c.links t n s up h r (omega arith) there in
+    (exists_is_stands drivers c s sound known).1
     (record {
-      climbs = links_to c.links s.driver;
-      within = subst
-          (λ (fds : List Descriptor). stands_within fds c.links (links_to c.links s.driver) s ≡ true) same within;
+      climbs = n;
+      within = subst (λ (fds : List Descriptor). stands_within fds c.links n s ≡ true) same within;
     })
 
 -- ---- the table, where each stream below a link is held
@@ -258,6 +217,7 @@ pub there_is : (links : List Link) (t : StreamTable) (s : StreamId) → AreHeld 
     → is_there t s ≡ (is_named t.fds s || is_below links s)
 there_is links t s h = ap (λ (b : Bool). is_named t.fds s || b) (held_is_below links t s h)
 
+-- where no ordinary link lacks its controlling stream, no link that holds its lower stream does
 all_linked : (t : StreamTable) (ls : List Link) → list_all (λ l. is_persistent l || is_there t l.ctl) ls ≡ true
     → AllByRecursion (IsTight t) ls
 all_linked t [] h = tt
@@ -268,14 +228,14 @@ all_linked t (l ∷ ls) h =
       all_linked t ls p.1,
     )
 
--- so the table tells which streams exist
-pub tells : (drivers : List DriverSpec) (c : Configuration) (t : StreamTable) → DoClimbsSuffice → IsReachPath
-    → DoPathsJoin → AreLinksSound c.links → All (λ l. IsKnown drivers l.ctl) c.links
+-- where no ordinary link lacks its controlling stream, and streams below links are held, the table tells which exist
+pub tells_existing : (drivers : List DriverSpec) (c : Configuration) (t : StreamTable)
+    → AreLinksSound c.links → All (λ l. IsKnown drivers l.ctl) c.links
     → t.fds ≡ c.fds → AreHeld c.links t → list_all (λ l. is_persistent l || is_there t l.ctl) c.links ≡ true
     → TellsExisting drivers c t
-tells drivers c t climbs path join sound known same held linked = λ s.
+tells_existing drivers c t sound known same held linked = λ s.
     same_test (is_there t s) (exists drivers c s)
-    (there_exists drivers c t s climbs path join sound known same (λ x up. sym (held_is_below c.links t x held) ∙ up)
+    (there_exists drivers c t s sound known same (λ x up. sym (held_is_below c.links t x held) ∙ up)
     (all_linked t c.links linked))
     (λ e. there_is c.links t s held ∙ subst (λ (fds : List Descriptor). (is_named fds s || is_below c.links s) ≡ true)
     (sym same) (stands_there c.fds c.links (length drivers) s e))
@@ -296,6 +256,7 @@ swept_is_linked drivers c t same held h =
 pub holds_few : (links : List Link) (s : StreamId) → holds_of links s ≤ 1
 holds_few links s = grind (arith, nat_tests)
 
+-- with one link more, below a link is what was so, and the lower stream of that link
 below_more : (links : List Link) (l : Link) (s : StreamId)
     → is_below (links ++ l ∷ []) s ≡ (is_below links s || same_stream l.lower s)
 below_more links l s = list_any-append (λ k. same_stream k.lower s) links (l ∷ [])
@@ -307,7 +268,7 @@ pub not_below_yet : (t : LinkList) (ctl lower : StreamId) (id : ℕ) → IsLinke
 not_below_yet t ctl lower id h =
     false_from_ne_true _ (λ b. let k : Ok id ≡ Err link_fault.Already = rw b at h in absurd cc)
 
--- so its lower stream has one hold from then on
+-- with a link above a stream that was below none, and one more hold of it, all below links have one hold
 pub held_by_one_more : (old : LinkList) (new : LinkList) (ctl lower : StreamId) (kind : LinkKind) (t u : StreamTable)
     → is_below old.links lower ≡ false → new ≡ with_link old ctl lower kind
     → AreHeld old.links t → HasHolds t lower (number_at t.holds lower + 1) u → AreHeld new.links u

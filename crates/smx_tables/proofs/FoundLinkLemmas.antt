@@ -21,13 +21,13 @@ found_itself test (l ∷ ls) (suc i) d o lt h = elim (cases_Bool (test l)) [
   | inr f ↦ rw f (found_itself test ls i d o.1 (omega arith) h)
 ]
 
--- what holds of each link holds of the one that is found
-pub found_has : (P : Link → Type 0) (test : Link → Bool) (ls : List Link) (l : Link) → AllByRecursion P ls
-    → find test ls ≡ Some l → (test l ≡ true) × P l
-found_has P test [] l h e = absurd cc
-found_has P test (k ∷ ks) l h e = elim (cases_Bool (test k)) [
-  | inl t ↦ let same = same_Some k l (rw t at e) in (subst (λ (y : Link). test y ≡ true) same t, subst P same h.0)
-  | inr f ↦ found_has P test ks l h.1 (rw f at e)
+-- what holds of each element holds of the one that is found
+pub found_has : {X : Type 0} (P : X → Type 0) (test : X → Bool) (xs : List X) (x : X) → AllByRecursion P xs
+    → find test xs ≡ Some x → (test x ≡ true) × P x
+found_has P test [] x h e = absurd cc
+found_has P test (y ∷ ys) x h e = elim (cases_Bool (test y)) [
+  | inl t ↦ let same = same_Some y x (rw t at e) in (subst (λ z. test z ≡ true) same t, subst P same h.0)
+  | inr f ↦ found_has P test ys x h.1 (rw f at e)
 ]
 
 -- the lower stream of each link is below a link

@@ -72,6 +72,7 @@ either_id t new s id (k ∷ ks) h = ap (λ (b : Bool). (eqb k.id id && b)
     ∙ ap (λ (b : Bool). (eqb k.id id && (not (is_held t k) || same_stream k.lower s)) || b) (either_id t new s id ks h)
     ∙ grind (arith, nat_tests)
 
+-- where one more lower stream is released, the ids of the released links have one more, that of its link
 id_more : (links : List Link) (t new : StreamTable) (ids : List ℕ) (i : ℕ) (l : Link) → AreLowersApart links
     → Some l ≡ slice_get links i → HasHolds t l.lower 0 new
     → AreIdsOf (λ k. not (is_held t k)) links ids → AreIdsOf (λ k. not (is_held new k)) links (ids ++ l.id ∷ [])

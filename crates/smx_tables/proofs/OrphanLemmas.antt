@@ -20,25 +20,27 @@ use Rattle.smx_tables.specs.ExistingStreams.{AreHeld, IsReleasing, is_held, is_l
 use Rattle.smx_tables.specs.ListedLinks.{is_orphaned, AreIdsOf}
 use Rattle.smx_links.specs.LinkLists.{is_one_of}
 use Rattle.smx_tables.proofs.AboveLemmas.{stream_is}
-use Rattle.smx_tables.proofs.ExistingLemmas.{DoClimbsSuffice, DoPathsJoin, IsReachPath, IsTight, there_exists}
+use Rattle.smx_tables.proofs.ExistingLemmas.{IsTight, there_exists}
 use Rattle.smx_tables.proofs.RemovalLemmas.{IsIdsRising, any_kept, links_stay, listed_any}
 
+-- where no link is loose, the controlling stream of each ordinary link that holds its lower one is there
 all_tight : (t : StreamTable) (ls : List Link) → list_any (is_loose t) ls ≡ false → AllByRecursion (IsTight t) ls
 all_tight t [] h = tt
 all_tight t (l ∷ ls) h =
     let p = or_parts (is_loose t l) (list_any (is_loose t) ls) h in
     ((λ held o. grind (arith, nat_tests, p.0)), all_tight t ls p.1)
 
+-- while links are released, what is held is below a link
 held_below : (links : List Link) (n : ℕ) (t : StreamTable) (s : StreamId) → IsReleasing links n t
     → nat_lt 0 (number_at t.holds s) ≡ true → is_below links s ≡ true
 held_below links n t s h up = grind (arith, nat_tests, h.once s)
 
 -- the links whose lower streams were released are those that are orphaned
-pub released_are_orphaned : (drivers : List DriverSpec) (c : Configuration) (t : StreamTable) → DoClimbsSuffice
-    → IsReachPath → DoPathsJoin → AreLinksSound c.links → All (λ l. IsKnown drivers l.ctl) c.links
+pub released_are_orphaned : (drivers : List DriverSpec) (c : Configuration) (t : StreamTable)
+    → AreLinksSound c.links → All (λ l. IsKnown drivers l.ctl) c.links
     → t.fds ≡ c.fds → IsReleasing c.links (length drivers) t → list_any (is_loose t) c.links ≡ false
     → AllByRecursion (λ l. not (is_held t l) ≡ is_orphaned c.fds c.links (length drivers) l) c.links
-released_are_orphaned drivers c t climbs path join sound known same h none =
+released_are_orphaned drivers c t sound known same h none =
     let linked = all_tight t c.links none in
     each c.links (recursion_from_All (λ l. is_held t l ≡ false → is_orphaned t.fds c.links (length drivers) l ≡ true)
     c.links h.orphaned) linked where
@@ -53,7 +55,7 @@ released_are_orphaned drivers c t climbs path join sound known same h none =
             | inl p ↦ rw p refl
             | inr o ↦
                 let there : stands_within c.fds c.links (length drivers) l.ctl
-                ≡ true = there_exists drivers c t l.ctl climbs path join sound known same
+                ≡ true = there_exists drivers c t l.ctl sound known same
                 (λ x up. held_below c.links (length drivers) t x h up) (all_tight t c.links none) (b.0 held o) in
                 rw (o, there) refl
           ])
@@ -84,7 +86,7 @@ pub held_is_left : (links : List Link) (n : ℕ) (t : StreamTable) → IsReleasi
     → AreHeld (filter (is_held t) links) t
 held_is_left links n t h = λ s. rw (below_held t s links) (grind (arith, nat_tests, h.once s))
 
--- and none of it is orphaned
+-- where no link is loose, no link that holds its lower stream lacks its controlling stream
 pub left_is_linked : (t : StreamTable) (ls : List Link) → list_any (is_loose t) ls ≡ false
     → list_all (λ l. is_persistent l || is_there t l.ctl) (filter (is_held t) ls) ≡ true
 left_is_linked t [] h = refl

@@ -12,6 +12,7 @@ use Rattle.smx_tables.specs.ModelOfLists.{configuration_of}
 abbrev pub with_queues : Lists → FlowLists → Lists
 with_queues l q = record l { queues = q }
 
+-- the table of queues with this much spare room
 abbrev with_spare : FlowLists → ℕ → FlowLists
 with_spare t n = record t { spare = n }
 

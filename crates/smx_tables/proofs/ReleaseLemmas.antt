@@ -17,7 +17,7 @@ use Rattle.smx_streams.specs.StreamTables.{StreamTable, HasHolds, number_at, exi
 use Rattle.smx_tables.specs.ExistingStreams.{AreHeld, IsReleasing, holds_below, is_held, is_loose}
 use Rattle.smx_tables.specs.ListedLinks.{is_orphaned}
 use Rattle.smx_tables.proofs.AboveLemmas.{stream_is, stream_self}
-use Rattle.smx_tables.proofs.ClimbLemmas.{more, stands_by, stands_is}
+use Rattle.smx_tables.proofs.ClimbLemmas.{one_climb_more, stands_by, stands_is}
 use Rattle.smx_tables.proofs.ExistingLemmas.{held_is_below}
 use Rattle.smx_tables.proofs.FoundLinkLemmas.{below_at, found_has, one_link}
 
@@ -43,14 +43,14 @@ gone_stands_not links n t s apart h gone =
           → stands_by t.fds links m (Some l) ≡ false
       above_goes zero l o f e = o
       above_goes (suc m) l o f e = rw o
-          (false_from_ne_true _ (λ up. let k = more t.fds links m l.ctl up in
+          (false_from_ne_true _ (λ up. let k = one_climb_more t.fds links m l.ctl up in
           false≢true (sym f ∙ subst (λ (x : ℕ). stands_within t.fds links x l.ctl ≡ true) e k)))
 
       by : (o : Option Link) (m : ℕ) → find (λ l. same_stream l.lower s) links ≡ o → m ≡ n
           → stands_by t.fds links m o ≡ false
       by None m e k = refl
       by (Some l) m e k =
-          let found = found_has (λ l. is_held t l ≡ false → is_orphaned t.fds links n l ≡ true)
+          let found = found_has (λ (l : Link). is_held t l ≡ false → is_orphaned t.fds links n l ≡ true)
           (λ l. same_stream l.lower s) links l
           (recursion_from_All (λ l. is_held t l ≡ false → is_orphaned t.fds links n l ≡ true) links h.orphaned) e in
           let parts = or_parts (is_named t.fds s) (nat_lt 0 (number_at t.holds s)) gone in
@@ -82,11 +82,13 @@ pub other_held : (t new : StreamTable) (s x : StreamId) → HasHolds t s (number
     → same_stream x s ≡ false → number_at new.holds x ≡ number_at t.holds x
 other_held t new s x h other = h.holds x ∙ rw other refl
 
+-- where no stream has more holds, the streams below links have no more together
 not_more_below : (ls : List Link) (t new : StreamTable) → ((x : StreamId) → number_at new.holds x ≤ number_at t.holds x)
     → holds_below ls new ≤ holds_below ls t
 not_more_below [] t new h = omega arith
 not_more_below (l ∷ ls) t new h = let a = h l.lower in let b = not_more_below ls t new h in omega (arith, a, b)
 
+-- where no stream has more holds, and the one below the link at an index has fewer, all below links have fewer
 less_at : (ls : List Link) (i : ℕ) (d : Link) (t new : StreamTable)
     → ((x : StreamId) → number_at new.holds x ≤ number_at t.holds x) → i < length ls
     → number_at new.holds (get_or ls i d).lower < number_at t.holds (get_or ls i d).lower

@@ -18,7 +18,7 @@ use Rattle.smx_streams.specs.StreamTables.{StreamTable, AreHungsSound, HasHolds,
 use Rattle.smx_tables.specs.ExistingStreams.{AreHeld}
 use Rattle.smx_tables.specs.ListedLinks.{is_listed}
 use Rattle.smx_links.specs.LinkLists.{is_one_of, others_of}
-use Rattle.smx_links.proofs.IdLemmas.{none_of_none}
+use Rattle.smx_links.proofs.IdLemmas.{none_of_none, one_of_more}
 use Rattle.smx_tables.proofs.AboveLemmas.{once_below, once_id, stream_is, stream_self}
 use Rattle.smx_tables.proofs.ExistingLemmas.{same_test}
 use Rattle.smx_tables.proofs.HungLemmas.{none_went}
@@ -52,13 +52,11 @@ pub listed_one_more : (ids : List ℕ) (id x : ℕ) → is_listed (ids ++ id ∷
 listed_one_more ids id x = list_any-append (λ i. eqb x i) ids (id ∷ [])
     ∙ ap (λ (b : Bool). is_listed ids x || b) (or-false (eqb x id))
 
-one_of_more : (ids : List ℕ) (id : ℕ) (l : Link) → is_one_of (ids ++ id ∷ []) l ≡ (is_one_of ids l || eqb l.id id)
-one_of_more ids id l = listed_one_more ids id l.id
-
 -- by id and by lower stream the same link is found
 abbrev pub IsFoundBy : ℕ → StreamId → Link → Type 0
 IsFoundBy id s l = eqb l.id id ≡ same_stream l.lower s
 
+-- below the links that are left by one id more is what was so, but for that link's lower stream
 below_one_less : (ids : List ℕ) (id : ℕ) (s x : StreamId) (ls : List Link) → AllByRecursion (IsFoundBy id s) ls
     → is_below (others_of (ids ++ id ∷ []) ls) x ≡ (is_below (others_of ids ls) x && not (same_stream x s))
 below_one_less ids id s x ls h =
@@ -84,7 +82,8 @@ found_by links id l apart rise found = λ i d lt.
     let k = get_or links i d in
     let by_id : eqb k.id id ≡ true → k ≡ l = λ t.
     same_Some k l (sym (found_itself (λ m. eqb m.id id) links i d (once_id id links rise) lt t) ∙ found) in
-    let has = found_has (λ m. find (λ n. same_stream n.lower m.lower) links ≡ Some m) (λ m. eqb m.id id) links l
+    let has = found_has (λ (m : Link). find (λ n. same_stream n.lower m.lower) links ≡ Some m) (λ m. eqb m.id id)
+    links l
     (recursion_from_All (λ m. find (λ n. same_stream n.lower m.lower) links ≡ Some m) links
     (λ j e in_range. found_itself (λ n. same_stream n.lower (get_or links j e).lower) links j e
     (once_below (get_or links j e).lower links apart) in_range (stream_self (get_or links j e).lower))) found in

@@ -46,6 +46,7 @@ not_later goes l (k ∷ ls) h =
 abbrev pub IsListOf : (Link → Bool) → List ℕ → List Link → Type 0
 IsListOf goes ids ls = AllByRecursion (λ l. is_listed ids l.id ≡ goes l) ls
 
+-- an id that comes before those of all links makes no difference to which of them are listed
 list_more : (goes : Link → Bool) (l : Link) (ids : List ℕ) (ls : List Link) → ComesBefore (λ l k. nat_lt l.id k.id) l ls
     → IsListOf goes ids ls → IsListOf goes (l.id ∷ ids) ls
 list_more goes l ids [] h a = tt
@@ -53,10 +54,12 @@ list_more goes l ids (k ∷ ls) h a =
     let f : eqb k.id l.id ≡ false = grind (arith, nat_tests, h.0) in
     (rw f a.0, list_more goes l ids ls h.1 a.1)
 
+-- where the first link goes, its id is in front of those of the others that go
 goes_first : (goes : Link → Bool) (l : Link) (ls : List Link) → goes l ≡ true
     → ids_of goes (l ∷ ls) ≡ l.id ∷ ids_of goes ls
 goes_first goes l ls h = rw h refl
 
+-- where the first link stays, the ids of those that go are those of the others
 stays_first : (goes : Link → Bool) (l : Link) (ls : List Link) → goes l ≡ false → ids_of goes (l ∷ ls) ≡ ids_of goes ls
 stays_first goes l ls h = rw h refl
 
@@ -105,6 +108,7 @@ any_kept key goes (l ∷ ls) = elim (cases_Bool (goes l)) [
   | inr n ↦ rw (n, and-false (key l)) (any_kept key goes ls)
 ]
 
+-- the link above a stream is listed just where the stream is below a link that goes
 below_listed : (goes : Link → Bool) (ids : List ℕ) (ls : List Link) (s : StreamId) → AreLowersApart ls
     → IsListOf goes ids ls
     → option_map_or (λ l. is_listed ids l.id) (find (λ l. same_stream l.lower s) ls) false ≡ is_below (filter goes ls) s
@@ -114,11 +118,13 @@ below_listed goes ids ls s apart h =
     (λ l. refl))
     ∙ sym (any_kept (λ l. same_stream l.lower s) goes ls)
 
+-- a place is a read side below a listed link just where it is one below a link that goes
 read_listed : (goes : Link → Bool) (ids : List ℕ) (ls : List Link) (p : Place) → AreLowersApart ls
     → IsListOf goes ids ls → is_read_below_listed ls ids p ≡ is_read_below (filter goes ls) p
 read_listed goes ids ls p apart h =
     ap (λ (x : Bool). same_side p.side side.Read && x) (below_listed goes ids ls p.stream apart h)
 
+-- two tests that agree on each element take the same ones away
 same_kept : {X : Type 0} (f g : X → Bool) (xs : List X) → ((x : X) → f x ≡ g x)
     → filter (λ x. not (f x)) xs ≡ filter (λ x. not (g x)) xs
 same_kept f g xs h = filter_agree (λ x. not (f x)) (λ x. not (g x)) (λ x. ap not (h x)) xs
@@ -144,9 +150,11 @@ without_listed c ids = record c {
   fulls = filter (λ p. not (is_read_below_listed c.links ids p)) c.fulls;
 }
 
+-- a configuration with these links, routes, messages and full places
 abbrev parts : Configuration → List Link → List Route → List QueuedMessage → List Place → Configuration
 parts c links routes flow fulls = record c { links = links; routes = routes; flow = flow; fulls = fulls }
 
+-- equal parts make equal configurations
 same_parts : (c : Configuration) (ls ks : List Link) (rs ss : List Route) (hs gs : List QueuedMessage)
     (ps qs : List Place) → ls ≡ ks → rs ≡ ss → hs ≡ gs → ps ≡ qs → parts c ls rs hs ps ≡ parts c ks ss gs qs
 same_parts c ls ks rs ss hs gs ps qs a b d e = cc
@@ -168,12 +176,14 @@ removed_is c ids apart rise goes h =
 pub is_nothing : (ids : List ℕ) → eqb (length ids) 0 ≡ true → ids ≡ []
 is_nothing ids h = nil_from_length ids (eqb-true (length ids) 0 h)
 
+-- where an empty list has the ids of the links that go, none goes
 none_goes : (goes : Link → Bool) (ls : List Link) → AreIdsOf goes ls [] → filter goes ls ≡ []
 none_goes goes ls h = no_ids (filter goes ls) h where
   no_ids : (ks : List Link) → ((id : ℕ) → is_listed [] id ≡ list_any (λ l. eqb l.id id) ks) → ks ≡ []
   no_ids [] f = refl
   no_ids (k ∷ ks) f = let e : false ≡ true = f k.id ∙ rw (eq-eqb k.id k.id refl) refl in absurd cc
 
+-- where no link goes, all of them stay
 all_stay : (goes : Link → Bool) (ls : List Link) → filter goes ls ≡ [] → filter (λ l. not (goes l)) ls ≡ ls
 all_stay goes [] h = refl
 all_stay goes (l ∷ ls) h = elim (cases_Bool (goes l)) [
@@ -182,6 +192,7 @@ all_stay goes (l ∷ ls) h = elim (cases_Bool (goes l)) [
   | inr f ↦ rw f (ap (λ (zs : List Link). l ∷ zs) (all_stay goes ls (rw f at h)))
 ]
 
+-- where nothing passes a test, nothing is taken away by it
 none_passes : {X : Type 0} (t : X → Bool) (xs : List X) → ((x : X) → t x ≡ false) → filter (λ x. not (t x)) xs ≡ xs
 none_passes {X = X} t [] h = refl
 none_passes {X = X} t (x ∷ xs) h = rw (h x) (ap (λ (zs : List X). x ∷ zs) (none_passes t xs h))
@@ -200,6 +211,7 @@ kept_among t u xs h =
 pub none_listed : (ids : List ℕ) (ls : List Link) → ids ≡ [] → ls ≡ filter (λ l. not (is_one_of ids l)) ls
 none_listed ids ls none = sym (none_passes (is_one_of ids) ls (λ l. ap (λ (xs : List ℕ). is_one_of xs l) none))
 
+-- below no link there is no read side
 no_read : (p : Place) → is_read_below [] p ≡ false
 no_read p = and-false (same_side p.side side.Read)
 

@@ -39,7 +39,7 @@ module _ {X : Type 0} (driver addr value : X → ℕ) where
     pub has : value x ≡ v
     pub under : IsUnder xs x
 
-  -- so it is with what is shown
+  -- an item that a line shows has the words of that line, and is found under its own address
   pub shown_is : (drivers : List DriverSpec) (xs : List X) (name : List ℕ) (a v : ℕ) (x : X)
       → shown_by drivers xs name a v ≡ Some x → IsShown drivers xs name a v x
   shown_is drivers xs name a v x e =

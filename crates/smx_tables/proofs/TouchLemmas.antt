@@ -97,7 +97,7 @@ touched_without t ss c goes h = record {
   fulls = all_fewer _ _ c.fulls h.fulls;
 }
 
--- and without the messages of some places
+-- without the messages of some places, all that may have gone is still among the touched streams
 pub touched_emptied : (t : StreamTable) (ss : List StreamId) (c : Configuration) (goes : Place → Bool)
     → IsTouched t ss c → IsTouched t ss (without_queues_at c goes)
 touched_emptied t ss c goes h = record {

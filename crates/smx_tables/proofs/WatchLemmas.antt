@@ -32,12 +32,7 @@ pub listed_more : (x : StreamId) (ss : List StreamId) (s : StreamId)
 listed_more x ss s = list_any-append (same_stream x) ss (s ∷ [])
     ∙ ap (λ (b : Bool). list_any (same_stream x) ss || b) (or-false (same_stream x s))
 
--- with one stream more, each that was listed still is
-pub still_listed : (x : StreamId) (ss : List StreamId) (s : StreamId) → list_any (same_stream x) ss ≡ true
-    → list_any (same_stream x) (ss ++ s ∷ []) ≡ true
-still_listed x ss s h = listed_more x ss s ∙ or_left _ _ h
-
--- and behind another one
+-- with one stream more before the last one, each that was listed still is
 pub still_listed_before : (x : StreamId) (ss : List StreamId) (s last : StreamId)
     → list_any (same_stream x) (ss ++ last ∷ []) ≡ true → list_any (same_stream x) ((ss ++ s ∷ []) ++ last ∷ []) ≡ true
 still_listed_before x ss s last h =
@@ -49,6 +44,7 @@ listed_last ss s = listed_more s ss s ∙ or_right _ _ (stream_self s)
 
 -- ---- tests of the links up to one
 
+-- where all links pass a test, each that is got by an index does
 all_get : (test : Link → Bool) (ls : List Link) (i : ℕ) (d : Link) → i < length ls → list_all test ls ≡ true
     → test (get_or ls i d) ≡ true
 all_get test [] i d lt h = absurd (omega arith)
@@ -81,7 +77,7 @@ there_same t u s x n h other =
     ap (λ (fds : List Descriptor). is_named fds x || nat_lt 0 (number_at u.holds x)) h.fds
     ∙ ap (λ (m : ℕ). is_named t.fds x || nat_lt 0 m) as_many
 
--- so one that went is the one that was released
+-- where one stream is released, no other one went
 went_is_released : (t u : StreamTable) (s x : StreamId) (n : ℕ) → HasHolds t s n u → is_there t x ≡ true
     → is_there u x ≡ false → same_stream x s ≡ true
 went_is_released t u s x n h there gone = elim (cases_Bool (same_stream x s))
@@ -141,6 +137,7 @@ pub watched_less : (t : StreamTable) (ss : List StreamId) (ctl : StreamId) (l : 
     → is_watched t ss l ≡ true
 watched_less t ss ctl l other was = grind (arith, nat_tests, listed_more l.ctl ss ctl)
 
+-- the controlling stream of a loose link is not there
 loose_gone : (t : StreamTable) (l : Link) → is_loose t l ≡ true → not (is_there t l.ctl) ≡ true
 loose_gone t l loose = grind (arith, nat_tests)
 

@@ -4,6 +4,7 @@ use Rattle.std.proofs.Common.{◌∙◌, arith, inl, inr}
 use Rattle.std.specs.List.Sorted.{IsPermutation}
 use Rattle.std.proofs.lemmas.Bool.{cases_Bool}
 use Rattle.std.proofs.lemmas.List.{length-map}
+use Rattle.std.proofs.lemmas.List.Filters.{length-filter_both}
 use Rattle.std.proofs.lemmas.List.Sorted.{IsPermutation-refl, IsPermutation-swap, length_permutation}
 use Rattle.smx_types.specs.declared.stream.Side.TheVariants as side
 use Rattle.smx_model.specs.Configuration.{QueuedMessage}
@@ -15,20 +16,16 @@ use Rattle.smx_tables.proofs.DropLemmas.{dropped_more, times_permuted}
 
 -- ---- all are left or gone
 
-lengths : {X : Type 0} (keep : X → Bool) (xs : List X)
-    → length (filter keep xs) + length (filter (λ x. not (keep x)) xs) ≡ length xs
-lengths keep [] = refl
-lengths keep (x ∷ xs) = elim (cases_Bool (keep x))
-    [ inl t ↦ rw t (omega (arith, lengths keep xs)) | inr f ↦ rw f (omega (arith, lengths keep xs)) ]
-
 -- as many are left or dropped as there were
 pub as_many : (old new : List QueuedMessage) (dropped : List ℕ) → AreDropped old new dropped
     → length new + length dropped ≡ length old
 as_many old new dropped h =
     let gone = filter (λ x. not (h.keep x)) old in
     let told = length_permutation _ _ h.gone ∙ length-map gone (λ (x : QueuedMessage). x.message.serial) in
-    omega (arith, ap length h.left, told, lengths h.keep old)
+    let all = length-filter_both h.keep (λ x. not (h.keep x)) (λ x. refl) old in
+    omega (arith, ap length h.left, told, all)
 
+-- a serial is as often among what is kept and what goes together as it was before
 parts : (n : ℕ) (keep : QueuedMessage → Bool) (old : List QueuedMessage)
     → times n (serials (filter keep old)) + times n (serials (filter (λ x. not (keep x)) old)) ≡ times n (serials old)
 parts n keep [] = refl

@@ -8,7 +8,6 @@ ghost use Rattle.smx_model.specs.Removal.{serials, serials_that_left};
 ghost use Rattle.smx_tables.specs.DroppedMessages.{is_flushed_at, AreDropped, EmptiesPlaces, HasRoom};
 
 use crate::comparisons::same_side;
-use smx_model::laws_of_queues::dropped_are_not_kept;
 use smx_queues::FlowTable;
 use smx_types::{Place, Side, Sides, StreamId};
 
@@ -74,7 +73,6 @@ pub fn rising(dropped: Vec<u32>) -> Vec<u32>
     ensures { (old new : List QueuedMessage) → AllPairs (λ m n. m ≢ n) (serials old)
         → AreDropped old new dropped.items → result.items ≡ serials_that_left old new }
 {
-    dropped_are_not_kept();
     let mut sorted = dropped;
     sorted.sort_unstable();
     sorted.shrink_to_fit();

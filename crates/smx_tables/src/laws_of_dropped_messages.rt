@@ -11,8 +11,6 @@ ghost use Rattle.smx_tables.specs.DroppedMessages.{is_flushed_at, AreDropped, Dr
 ghost use Rattle.smx_tables.specs.DroppedMessages.{NamesDropped};
 ghost use Rattle.smx_tables.specs.WorkedDrops.{at, first, message, second, stream, three, three_queued, two_left};
 
-use smx_model::laws_of_queues::dropped_are_not_kept;
-
 /// Of some messages others are left, in their order, and the serials of those that are gone are told, in any order:
 /// each once, none that is left, and none that there wasn't.
 pub fn what_is_dropped()
@@ -84,9 +82,7 @@ pub fn what_a_reply_names()
     ensures not_those_before_alone { NamesDropped (first ∷ second ∷ []) (3 ∷ []) (second ∷ []) (Done (3 ∷ [])) → ⊥ }
     ensures not_another_reply { NamesDropped (first ∷ second ∷ []) (3 ∷ []) (second ∷ []) (Took 3) → ⊥ }
     ensures nothing_of_one_serial_twice { NamesDropped (second ∷ []) (2 ∷ []) (second ∷ []) (Done (7 ∷ [])) }
-{
-    dropped_are_not_kept();
-}
+{}
 
 /// A side of a stream is flushed where it is that side, of that stream, and named.
 pub fn what_is_flushed()

@@ -9,8 +9,6 @@ ghost use Rattle.smx_tables.specs.ExistingStreams.{AreHeld, TellsExisting};
 ghost use Rattle.smx_tables.specs.ModelOfLists.{configuration_of};
 
 use crate::lists::Lists;
-use smx_model::laws_of_links::{paths_join, reaches_is_path};
-use smx_model::laws_of_streams::climbs_suffice;
 use smx_types::{DriverSpec, Link, LinkKind};
 
 /// Whether the link outlives the stream that made it.
@@ -31,8 +29,5 @@ pub fn tells_existing(drivers: &[DriverSpec], lists: &Lists)
     requires linked { list_all (λ l. is_persistent l || is_there lists.now.streams l.ctl) lists.now.links.links ≡ true }
     ensures { TellsExisting drivers.now (configuration_of lists.now) lists.now.streams }
 {
-    climbs_suffice();
-    reaches_is_path();
-    paths_join();
     lists.links.is_sound();
 }

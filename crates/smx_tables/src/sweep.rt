@@ -23,8 +23,7 @@ use crate::orphans::release_orphans;
 use crate::removal::drop_links;
 use crate::standing::tells_existing;
 use smx_addresses::Bindings;
-use smx_model::laws_of_links::{paths_join, reaches_is_path};
-use smx_model::laws_of_streams::{climbs_suffice, sweeping_again_changes_nothing};
+use smx_model::laws_of_streams::sweeping_again_changes_nothing;
 use smx_streams::Streams;
 use smx_types::{DriverSpec, Reply, Serials, Sides, StreamId};
 use std::alloc::{AllocError, Global};
@@ -110,9 +109,6 @@ fn drop_orphans(drivers: &[DriverSpec], lists: &mut Lists, room: &mut SweepReser
     ensures drivers { sizes_of lists.new ≡ sizes_of lists.old }
 {
     lists.links.is_sound();
-    climbs_suffice();
-    reaches_is_path();
-    paths_join();
     release_orphans(
         &mut lists.streams,
         &lists.links,

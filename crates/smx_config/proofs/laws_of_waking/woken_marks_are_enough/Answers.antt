@@ -1,6 +1,6 @@
 use Rattle.smx_model.specs.Commands.{outcome}
 use Rattle.smx_model.specs.FreedPlaces.{freed_by}
-use Rattle.smx_model.specs.RunMarks.{both, woken_by, wanted_after}
+use Rattle.smx_model.specs.RunMarks.{either, woken_by, wanted_after}
 use Rattle.smx_model.specs.SettlingByMarks.{IsMarkedAfter}
 use Rattle.smx_queues.specs.PlaceMarks.{has_mark}
 use Rattle.smx_config.specs.Marking.{marked_configuration}
@@ -30,7 +30,7 @@ returns c = λ drivers old process command m n sound marks.
     let after : IsMarkedAfter drivers turned (marked_configuration old m) (marked_configuration x.0 n)
     = marked_after drivers old x.0 turned freed turned (freed_under wakes) m n marks among woken in
     marks_after drivers old x.0 turned freed turned (freed_under wakes) m n marks among woken
-    (c.more_marks_do.ensures drivers x.0 (both run (woken_by drivers old x.0 wanted turned))
+    (c.more_marks_do.ensures drivers x.0 (either run (woken_by drivers old x.0 wanted turned))
     (wanted_after old x.0 wanted) (has_mark n.run) (has_mark n.wanted)
     (c.a_change_wakes_few.ensures drivers old x.0 run wanted turned marks.waiting among.turns_only)
     after.run after.wanted))

@@ -3,9 +3,9 @@ use Rattle.std.proofs.lemmas.Bool.{false≢true}
 use Rattle.smx_types.specs.declared.driver.DriverSpec.{DriverSpec}
 use Rattle.smx_model.specs.Configuration.{Configuration, same_place}
 use Rattle.smx_model.specs.KnownStreams.{IsKnown}
-use Rattle.smx_model.specs.LoneMessages.{moved}
+use Rattle.smx_model.specs.LoneMessages.{after_move_between}
 use Rattle.smx_model.specs.Queues.{first_message}
-use Rattle.smx_model.specs.RunMarks.{AreMarked, both, is_one_of, nowhere}
+use Rattle.smx_model.specs.RunMarks.{AreMarked, either, is_one_of, nowhere}
 use Rattle.smx_queues.specs.PlaceMarks.{has_mark}
 use Rattle.smx_queues.specs.Waiters.{WaitList, target_of}
 use Rattle.smx_commands.specs.Machine.{Machine}
@@ -21,7 +21,7 @@ returns-clause-marks c =
     let from = c.args.from in
     let at = c.args.rest.at in
     let waits = c.args.rest.waits in
-    let d : Configuration = moved drivers now from at in
+    let d : Configuration = after_move_between drivers now from at in
     let old = c.args.marks.now in
     let new : Marks =
     record { run = c.clear.new.self; wanted = c.mark_wanted.new.wanted; waits = c.note_target.new.waits } in
@@ -62,7 +62,7 @@ returns-clause-marks c =
       others = λ r f g. c.note_target.ensures.others r g ∙ c.clear-2.ensures.others r f;
     } in
     let marked : AreMarked drivers d (has_mark new.run) (has_mark new.wanted) =
-    c.more_marks_do.ensures drivers d nowhere (both (has_mark old.wanted) (λ r. is_one_of (same_place r) waits))
+    c.more_marks_do.ensures drivers d nowhere (either (has_mark old.wanted) (λ r. is_one_of (same_place r) waits))
     (has_mark new.run) (has_mark new.wanted)
     (c.lone_messages_come_to_rest.ensures.marked drivers now (has_mark old.run) (has_mark old.wanted) from at m.0
     moves left waits c.requires.sound c.requires.alone m.1 way (c.requires.stays m.0 m.1))

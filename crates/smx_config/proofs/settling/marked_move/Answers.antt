@@ -5,7 +5,8 @@ use Rattle.smx_model.specs.Queues.{first_message}
 use Rattle.smx_model.specs.RunMarks.{has_addr}
 use Rattle.smx_queues.specs.PlaceMarks.{has_mark}
 use Rattle.smx_config.proofs.LoneMessageLemmas.{opened}
-use Rattle.smx_config.proofs.NextMoveLemmas.{least_none, movable_to, moves_to}
+use Rattle.smx_config.proofs.NextMoveLemmas.{movable_to, moves_to}
+use Rattle.smx_model.proofs.SettlingByMarksLemmas.{none_is_least}
 use Rattle.smx_config.proofs.settling.marked_move.Goals as goal
 
 pub returns-in-Some-if_open-clause-least : goal.returns-in-Some-if_open-clause-least
@@ -27,6 +28,6 @@ returns-in-Some-if_open-clause-least c =
 pub returns-clause-least : goal.returns-clause-least
 returns-clause-least c =
     let now = c.args.tables.now.configuration in
-    least_none c.args.tables.now.drivers now
+    none_is_least c.args.tables.now.drivers now
     (c.without_marks_it_is_settled.ensures c.args.tables.now.drivers now (has_mark c.loop-from.marks.run)
     (has_mark c.loop-from.marks.wanted) c.loop-from.invariant.marks.waiting c.in_default.ensures)

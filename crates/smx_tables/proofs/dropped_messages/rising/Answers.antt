@@ -7,6 +7,6 @@ use Rattle.smx_tables.proofs.dropped_messages.rising.Goals as goal
 pub returns : goal.returns
 returns c = λ old new apart h.
     subst (λ (ns : List ℕ). ns ≡ serials_that_left old new) (sym c.shrink_to_fit.ensures.items)
-    (left_in_order old new c.args.dropped.items c.sort_unstable.new.self.items c.dropped_are_not_kept.ensures apart h
+    (left_in_order old new c.args.dropped.items c.sort_unstable.new.self.items apart h
     c.sort_unstable.ensures.permutation
     (IsNonDecreasingBy-from_sort (λ (n : ℕ). n) c.sort_unstable.new.self.items c.sort_unstable.ensures.sorted))

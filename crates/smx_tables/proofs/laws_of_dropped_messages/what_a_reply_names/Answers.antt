@@ -14,12 +14,12 @@ apart = grind arith
 
 pub returns-clause-both : goal.returns-clause-both
 returns-clause-both c = λ old differ h.
-    ap Done (left_in_order old (second ∷ []) (3 ∷ 1 ∷ []) (1 ∷ 3 ∷ []) c.dropped_are_not_kept.ensures differ
+    ap Done (left_in_order old (second ∷ []) (3 ∷ 1 ∷ []) (1 ∷ 3 ∷ []) differ
     (first_dropped old h) turned (grind arith))
 
 pub returns-clause-none : goal.returns-clause-none
 returns-clause-none c = λ old differ h.
-    ap Done (left_in_order old three [] [] c.dropped_are_not_kept.ensures differ h (IsPermutation-refl [])
+    ap Done (left_in_order old three [] [] differ h (IsPermutation-refl [])
     (grind arith))
 
 pub returns-clause-not_falling : goal.returns-clause-not_falling
@@ -38,7 +38,7 @@ returns-clause-not_another_reply c h = absurd (cc (h three apart third_dropped))
 pub returns-clause-nothing_of_one_serial_twice : goal.returns-clause-nothing_of_one_serial_twice
 returns-clause-nothing_of_one_serial_twice c = λ old differ h.
     let told : 2 ∷ [] ≡ serials_that_left old (second ∷ []) =
-    left_in_order old (second ∷ []) (2 ∷ []) (2 ∷ []) c.dropped_are_not_kept.ensures differ h
+    left_in_order old (second ∷ []) (2 ∷ []) (2 ∷ []) differ h
     (IsPermutation-refl (2 ∷ [])) (grind arith) in
     let none : times 2 (serials_that_left old (second ∷ [])) ≡ 0 =
     times_rising 2 _ ∙ times_filter 2 (λ n. not (list_any (λ m. n == m) (2 ∷ []))) (serials old) in

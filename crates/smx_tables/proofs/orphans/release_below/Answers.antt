@@ -2,6 +2,7 @@ use Rattle.std.proofs.Common.{take, not, ◌++◌, ◌∷◌, [], length, length
 use Rattle.std.proofs.lemmas.Bool.{and_parts}
 use Rattle.smx_model.specs.Configuration.{same_stream}
 use Rattle.smx_model.specs.Standing.{is_persistent}
+use Rattle.smx_model.proofs.TestLemmas.{any_push}
 use Rattle.smx_links.specs.LinkLists.{ordinary_of}
 use Rattle.smx_tables.specs.ExistingStreams.{is_loose}
 use Rattle.smx_tables.specs.TouchedStreams.{is_watched, AreReleased}
@@ -11,7 +12,7 @@ use Rattle.smx_tables.proofs.ReleaseLemmas.{less_this, loose_held, releases_this
 use Rattle.smx_tables.proofs.LinkWalkLemmas.{among_all, link_at, one_at}
 use Rattle.smx_tables.proofs.TouchLemmas.{still_touched}
 use Rattle.smx_tables.proofs.WatchLemmas.{all_at, all_in_all, all_more, all_watch_on, listed_last, none_by}
-use Rattle.smx_tables.proofs.WatchLemmas.{released_is_watched, still_listed, still_listed_before, watched_in_all}
+use Rattle.smx_tables.proofs.WatchLemmas.{released_is_watched, still_listed_before, watched_in_all}
 use Rattle.smx_tables.proofs.WatchLemmas.{watched_less}
 use Rattle.smx_tables.proofs.orphans.release_below.Goals as goal
 use Rattle.smx_tables.proofs.orphans.release_below.Goals.{then-is_loose_by, else-is_loose_by}
@@ -105,7 +106,7 @@ loop-link-preserved c =
                 ((c.loop-link.touched.items ++ link.lower ∷ []) ++ c.args.ctl ∷ []) c.args.links.now.links
                 w.release-gone.ensures.rest
                 (λ x. still_listed_before x c.loop-link.touched.items link.lower c.args.ctl)
-                (still_listed link.lower (c.loop-link.touched.items ++ link.lower ∷ []) c.args.ctl
+                (any_push (same_stream link.lower) (c.loop-link.touched.items ++ link.lower ∷ []) c.args.ctl
                 (listed_last c.loop-link.touched.items link.lower)) c.loop-link.invariant.all);
             so_far = rw pushed
                 (all_more (is_watched w.release-gone.new.self (c.loop-link.touched.items ++ link.lower ∷ []))
@@ -113,7 +114,7 @@ loop-link-preserved c =
                 (all_watch_on c.loop-link.streams w.release-gone.new.self link.lower c.loop-link.touched.items
                 (c.loop-link.touched.items ++ link.lower ∷ [])
                 (take c.loop-link.link-index (ordinary_of c.args.links.now.links)) w.release-gone.ensures.rest
-                (λ x. still_listed x c.loop-link.touched.items link.lower)
+                (λ x. any_push (same_stream x) c.loop-link.touched.items link.lower)
                 (listed_last c.loop-link.touched.items link.lower) c.loop-link.invariant.so_far)
                 (released_is_watched c.args.links.now.links c.loop-link.streams w.release-gone.new.self
                 (c.loop-link.touched.items ++ link.lower ∷ []) link

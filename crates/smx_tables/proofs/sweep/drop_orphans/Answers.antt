@@ -77,8 +77,8 @@ returns-clause-value c =
     let n = length c.args.drivers.now in
     let t = c.release_orphans.new.streams in
     let goes = is_orphaned c.args.lists.now.streams.fds links n in
-    let alike = released_are_orphaned c.args.drivers.now (configuration_of c.args.lists.now) t c.climbs_suffice.ensures
-    c.reaches_is_path.ensures c.paths_join.ensures c.is_sound.ensures.sound c.requires.known
+    let alike = released_are_orphaned c.args.drivers.now (configuration_of c.args.lists.now) t
+    c.is_sound.ensures.sound c.requires.known
     c.release_orphans.ensures.fds (c.release_orphans.ensures.releasing n) c.release_orphans.ensures.none in
     c.drop_links.ensures.value goes
     (subst (λ (ls : List Link). (id : ℕ) → is_listed c.deref.result.now id ≡ list_any (λ l. eqb l.id id) ls)

@@ -44,7 +44,7 @@ returns c =
     rw (sym c.stream_of.ensures ∙ c.in_ok-stream.was)
     (accepted c.self.inside c.args.self.now _ (λ m. closing m.drivers m.configuration c.args.process c.args.fd) _
     c.self.view_is
-    (closes_shared ds old c.args.process c.args.fd u.fds _ _ (c.idle_changes_drop_none.ensures ds)
+    (closes_shared ds old c.args.process c.args.fd u.fds _ _
     (swept_still ds (record old { fds = u.fds }) u []
     (rw (← c.deref-2.ensures.value) c.tells_existing-2.ensures) refl (touched_fds u [] old u.fds touched) stays)
     c.close_fd-stays.ensures.rest.fds

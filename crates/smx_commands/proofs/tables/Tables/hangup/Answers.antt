@@ -7,7 +7,7 @@ pub returns : goal.returns
 returns c = λ process. (
   ap (λ (m : Machine). m.drivers) c.self.view_is,
   hangup_does c.args.self.now.drivers c.args.self.now.configuration process c.args.name.now c.args.minor
-      c.in_ok-stream.stream _ _ (c.idle_changes_drop_none.ensures c.args.self.now.drivers) c.requires.swept
+      c.in_ok-stream.stream _ _ c.requires.swept
       (sym c.leaf_stream.ensures ∙ c.in_ok-stream.was)
       (rw (c.hang.ensures.fds, c.hang.ensures.hungs, ← c.self.view_is) refl) c.done.ensures,
 )

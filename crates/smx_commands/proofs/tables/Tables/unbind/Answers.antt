@@ -24,7 +24,7 @@ returns c =
     let binds = c.self.inside.lists.binds in (
       ap (λ (m : Machine). m.drivers) c.self.view_is,
       unbind_does c.args.self.now.drivers c.args.self.now.configuration c.args.process c.args.fd c.in_ok-stream.stream _
-          _ (c.idle_changes_drop_none.ensures c.args.self.now.drivers) c.requires.swept
+          _ c.requires.swept
           (sym c.mux_stream.ensures ∙ c.in_ok-stream.was)
           (rw (← c.self.view_is) (any_found bound binds _ (sym c.in-Some.ensures.binding)))
           (rw (c.unbind.ensures.rest, ← c.self.view_is) refl) c.done.ensures,

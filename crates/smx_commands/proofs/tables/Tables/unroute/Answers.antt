@@ -22,7 +22,7 @@ returns c =
     let routes = c.self.inside.lists.routes in (
       ap (λ (m : Machine). m.drivers) c.self.view_is,
       unroute_does c.args.self.now.drivers c.args.self.now.configuration c.args.process c.args.fd c.args.addr
-          c.in_ok-stream.stream _ _ (c.idle_changes_drop_none.ensures c.args.self.now.drivers) c.requires.swept
+          c.in_ok-stream.stream _ _ c.requires.swept
           (sym c.mux_stream.ensures ∙ c.in_ok-stream.was)
           (rw (← c.self.view_is) (any_found routed routes _ (sym c.in-Some.ensures.route)))
           (rw (c.unroute.ensures.rest, ← c.self.view_is) refl) c.done.ensures,
