@@ -13,7 +13,7 @@ use Rattle.smx_model.specs.Headline.{IsReportOf}
 use Rattle.smx_model.specs.Histories.{call_of}
 use Rattle.smx_text.specs.Grammar.{Spells}
 use Rattle.smx_text.specs.ProgramsText.{programs_grammar}
-use Rattle.smx_text.specs.TranscriptText.{SpellsTranscript, transcript_grammar, transcript_text}
+use Rattle.smx_text.specs.TranscriptText.{transcript_grammar, transcript_text}
 use Rattle.smx_text.specs.declared.text_fault.TextFault.{TextFault}
 use Rattle.smx_config.specs.DriverFaults.{RefusesDrivers}
 use Rattle.smx_config.specs.Verdicts.{IsVerdict}
@@ -21,38 +21,36 @@ use Rattle.smx_config.specs.declared.config_fault.ConfigFault.{ConfigFault}
 use Rattle.smx_config.specs.declared.config_fault.ConfigFault.TheVariants as config
 use Rattle.smx_config.specs.declared.verdict.Verdict.{Verdict}
 use Rattle.smx_config.specs.declared.verdict.Verdict.TheVariants.{Legal}
-use Rattle.smx_replay.specs.Replays.{IsReplayOf}
 use Rattle.smx_run.specs.RunFaults.{RefusesAlone}
 use Rattle.smx_run.specs.declared.run_fault.RunFault.{RunFault}
 use Rattle.smx_run.specs.declared.run_fault.RunFault.TheVariants as run
+use Rattle.smx_model.proofs.ReportLemmas.{one_report}
+use Rattle.smx_config.proofs.DriverFaultLemmas.{one_fault as one_refusal}
 use Rattle.smx_filters.proofs.OneProcessLemmas.{in_turn}
 use Rattle.smx_filters.proofs.ReadingLemmas.{HasOneReading, no_fault, one_fault, one_value}
+use Rattle.smx_filters.proofs.ReplayTextLemmas.{HasOneReplay}
 use Rattle.smx_explain.specs.Explanations.{IsExplanation}
 use Rattle.smx_filters.specs.CheckText.{checking, verdict_line}
 use Rattle.smx_filters.specs.ExplainText.{explaining}
 use Rattle.smx_filters.specs.Filters.{Answers, Filter, GivesFor, HadMemory, RefusesFor}
 use Rattle.smx_filters.specs.ReplayText.{replaying}
-use Rattle.smx_filters.specs.RunText.{IsTranscriptInTurn, IsWrittenFor, running}
+use Rattle.smx_filters.specs.RunText.{IsTranscriptFor, IsTranscriptInTurn, IsWrittenFor, running}
 use Rattle.smx_filters.specs.declared.main_fault.MainFault.{MainFault}
 use Rattle.smx_filters.specs.declared.main_fault.MainFault.TheVariants.{Refused, Text, TooLong, ReadFailed, WriteFailed}
 
 -- ---- what other crates' laws say
 
+-- drivers that a configuration can't have are refused for one fault
 abbrev pub HaveOneFault : Type 0
 HaveOneFault =
     (drivers : List DriverSpec) (f g : ConfigFault) → RefusesDrivers drivers f → RefusesDrivers drivers g → f ≡ g
 
+-- what a transcript says has one verdict
 abbrev pub HasOneVerdict : Type 0
 HasOneVerdict = (drivers : List DriverSpec) (entries : List Entry) (shown : ConfigView) (v w : Verdict)
     → IsVerdict drivers entries shown v → IsVerdict drivers entries shown w → v ≡ w
 
-abbrev pub HasOneReplay : Type 0
-HasOneReplay = (t r s : Transcript) → IsReplayOf t r → IsReplayOf t s → r ≡ s
-
-abbrev pub HaveOneReport : Type 0
-HaveOneReport = (programs : ProgramLists) (one other : Transcript) → IsReportOf programs one → IsReportOf programs other
-    → map call_of one.entries ≡ map call_of other.entries → one ≡ record other { version = one.version }
-
+-- the reports of programs are judged legal
 abbrev pub AreJudgedLegal : Type 0
 AreJudgedLegal = (programs : ProgramLists) (report : Transcript) → IsReportOf programs report
     → IsVerdict report.drivers report.entries report.view Legal
@@ -129,40 +127,40 @@ drivers_had determined drivers had run.HistoryFull h = absurd h
 drivers_had determined drivers had run.Held h = absurd h
 
 -- and else for one fault
-refused_alone : HaveOneFault → (drivers : List DriverSpec) (r s : RunFault) → RefusesAlone drivers r
+refused_alone : (drivers : List DriverSpec) (r s : RunFault) → RefusesAlone drivers r
     → RefusesAlone drivers s → r ≢ run.NoMemory → s ≢ run.NoMemory → r ≡ s
-refused_alone determined drivers (run.ConfigFault f) (run.ConfigFault g) h k known known_too =
-    ap run.ConfigFault (determined drivers f g h.0 k.0)
-refused_alone determined drivers run.NoMemory s h k known known_too = absurd (known refl)
-refused_alone determined drivers (run.Strange p) s h k known known_too = absurd h
-refused_alone determined drivers run.HistoryFull s h k known known_too = absurd h
-refused_alone determined drivers run.Held s h k known known_too = absurd h
-refused_alone determined drivers (run.ConfigFault f) run.NoMemory h k known known_too = absurd (known_too refl)
-refused_alone determined drivers (run.ConfigFault f) (run.Strange p) h k known known_too = absurd k
-refused_alone determined drivers (run.ConfigFault f) run.HistoryFull h k known known_too = absurd k
-refused_alone determined drivers (run.ConfigFault f) run.Held h k known known_too = absurd k
+refused_alone drivers (run.ConfigFault f) (run.ConfigFault g) h k known known_too =
+    ap run.ConfigFault (one_refusal drivers f g h.0 k.0)
+refused_alone drivers run.NoMemory s h k known known_too = absurd (known refl)
+refused_alone drivers (run.Strange p) s h k known known_too = absurd h
+refused_alone drivers run.HistoryFull s h k known known_too = absurd h
+refused_alone drivers run.Held s h k known known_too = absurd h
+refused_alone drivers (run.ConfigFault f) run.NoMemory h k known known_too = absurd (known_too refl)
+refused_alone drivers (run.ConfigFault f) (run.Strange p) h k known known_too = absurd k
+refused_alone drivers (run.ConfigFault f) run.HistoryFull h k known known_too = absurd k
+refused_alone drivers (run.ConfigFault f) run.Held h k known known_too = absurd k
 
 -- ---- the filters
 
 -- a check
-pub checked : HasOneReading transcript_grammar → HaveOneFault → HasOneVerdict
+pub checked : HasOneReading transcript_grammar → HasOneVerdict
     → (input : List ℕ) (one other : Result (Verdict × List ℕ) MainFault)
     → Answers checking input one → Answers checking input other
     → HadMemory one → HadMemory other → one ≡ other
-checked reading determined judged input = one_answer checking reading (λ t. Unit {0})
+checked reading judged input = one_answer checking reading (λ t. Unit {0})
     (λ t fits v w x y h k. let same = judged t.drivers t.entries t.view v w h.judged k.judged in
     (same, h.written ∙ ap (verdict_line (length t.entries)) same ∙ sym k.written))
-    (λ t fits r s. refused_alone determined t.drivers r s)
-    (λ t fits v x r h refuses. drivers_had determined t.drivers h.can_be_had r refuses)
+    (λ t fits r s. refused_alone t.drivers r s)
+    (λ t fits v x r h refuses. drivers_had one_refusal t.drivers h.can_be_had r refuses)
     input (λ version t spells. tt)
 
 -- a check that explains itself
-pub explained : HasOneReading transcript_grammar → HaveOneFault → HasOneVerdict
+pub explained : HasOneReading transcript_grammar → HasOneVerdict
     → ((t : Transcript) (one other : List ℕ) → IsExplanation t one → IsExplanation t other → one ≡ other)
     → (input : List ℕ) (one other : Result (Verdict × List ℕ) MainFault)
     → Answers explaining input one → Answers explaining input other
     → HadMemory one → HadMemory other → one ≡ other
-explained reading determined judged told_once input = one_answer explaining reading (λ t. Unit {0})
+explained reading judged told_once input = one_answer explaining reading (λ t. Unit {0})
     (λ t fits v w x y h k.
     let same = judged t.drivers t.entries t.view v w h.judged.judged k.judged.judged in
     let told = told_once t h.told k.told h.explained k.explained in (
@@ -170,108 +168,102 @@ explained reading determined judged told_once input = one_answer explaining read
       h.written ∙ ap (λ (verdict : Verdict). verdict_line (length t.entries) verdict ++ h.told) same
           ∙ ap (λ (bytes : List ℕ). verdict_line (length t.entries) w ++ bytes) told ∙ sym k.written,
     ))
-    (λ t fits r s. refused_alone determined t.drivers r s)
-    (λ t fits v x r h refuses. drivers_had determined t.drivers h.judged.can_be_had r refuses)
+    (λ t fits r s. refused_alone t.drivers r s)
+    (λ t fits v x r h refuses. drivers_had one_refusal t.drivers h.judged.can_be_had r refuses)
     input (λ version t spells. tt)
 
 -- a replay
-pub replayed : HasOneReading transcript_grammar → HaveOneFault → HasOneReplay
+pub replayed : HasOneReading transcript_grammar → HasOneReplay
     → (input : List ℕ) (one other : Result (Unit {0} × List ℕ) MainFault)
     → Answers replaying input one → Answers replaying input other
     → HadMemory one → HadMemory other → one ≡ other
-replayed reading determined replay input = one_answer replaying reading (λ t. Unit {0})
+replayed reading replay input = one_answer replaying reading (λ t. Unit {0})
     (λ t fits a b x y h k. (
       refl,
       h.written.text ∙ ap transcript_text (replay t h.replay k.replay h.replays k.replays)
           ∙ sym k.written.text,
     ))
-    (λ t fits r s. refused_alone determined t.drivers r s)
-    (λ t fits a x r h refuses. drivers_had determined t.drivers h.replays.can_be_had r refuses)
+    (λ t fits r s. refused_alone t.drivers r s)
+    (λ t fits a x r h refuses. drivers_had one_refusal t.drivers h.replays.can_be_had r refuses)
     input (λ version t spells. tt)
 
 -- ---- what a run writes
 
--- what any number of workers write for a transcript spells a report
-abbrev SpellsReport : ProgramLists → List ℕ → Type 0
-SpellsReport programs output = (report : Transcript) × IsReportOf programs report × (report.version ≡ programs.version)
-    × SpellsTranscript output report
-
+-- what any number of workers write for a transcript is one of a report
 report_of : (workers : ℕ) (programs : ProgramLists) (output : List ℕ) → IsWrittenFor false workers programs output
-    → SpellsReport programs output
-report_of zero programs output h = (h.report, h.promised, h.version, h.written)
-report_of (suc zero) programs output h = (h.report, h.promised, h.version, h.written)
-report_of (suc (suc more)) programs output h = (h.report, h.promised, h.version, h.written)
+    → IsTranscriptFor programs output
+report_of zero programs output h = h
+report_of (suc zero) programs output h = h.transcript
+report_of (suc (suc more)) programs output h = h
 
 -- what is written of two reports with the same calls is the same
-told_once : HaveOneReport → (programs : ProgramLists) (one other : List ℕ) (a : SpellsReport programs one)
-    (b : SpellsReport programs other)
-    → map call_of a.0.entries ≡ map call_of b.0.entries → one ≡ other
-told_once determined programs one other (r, promised, version, spells)
-    (s, promised_too, version_too, spells_too) calls =
-    let alike = determined programs r s promised promised_too calls in
-    let same = alike ∙ ap (λ (v : Version). record s { version = v }) (version ∙ sym version_too) in
-    spells.text ∙ ap transcript_text same ∙ sym spells_too.text
+told_once : (programs : ProgramLists) (one other : List ℕ) (a : IsTranscriptFor programs one)
+    (b : IsTranscriptFor programs other)
+    → map call_of a.report.entries ≡ map call_of b.report.entries → one ≡ other
+told_once programs one other a b calls =
+    let alike = one_report programs a.report b.report a.promised b.promised calls in
+    let same = alike ∙ ap (λ (v : Version). record b.report { version = v }) (a.version ∙ sym b.version) in
+    a.written.text ∙ ap transcript_text same ∙ sym b.written.text
 
--- so it is of one worker
-pub in_turn_once : HaveOneReport → (programs : ProgramLists) (one other : List ℕ) → IsTranscriptInTurn programs one
+-- what one worker writes for the same programs is the same each time
+pub in_turn_once : (programs : ProgramLists) (one other : List ℕ) → IsTranscriptInTurn programs one
     → IsTranscriptInTurn programs other → one ≡ other
-in_turn_once determined programs one other a b =
-    told_once determined programs one other (a.report, a.promised, a.version, a.written)
-    (b.report, b.promised, b.version, b.written) (a.in_turn ∙ sym b.in_turn)
+in_turn_once programs one other a b =
+    told_once programs one other a.transcript b.transcript (a.in_turn ∙ sym b.in_turn)
 
--- and of one process, by however many workers
-one_process_once : HaveOneReport → (workers : ℕ) (programs : ProgramLists) → length programs.programs ≤ 1
+-- what is written of one process, by however many workers, is the same each time
+one_process_once : (workers : ℕ) (programs : ProgramLists) → length programs.programs ≤ 1
     → (one other : List ℕ)
     → IsWrittenFor false workers programs one → IsWrittenFor false workers programs other → one ≡ other
-one_process_once determined workers programs few one other h k =
+one_process_once workers programs few one other h k =
     let a = report_of workers programs one h in
     let b = report_of workers programs other k in
-    told_once determined programs one other a b (in_turn programs.programs a.0.entries few a.1.holds
-    ∙ sym (in_turn programs.programs b.0.entries few b.1.holds))
+    told_once programs one other a b (in_turn programs.programs a.report.entries few a.promised.holds
+    ∙ sym (in_turn programs.programs b.report.entries few b.promised.holds))
 
 -- what is written of a run is of drivers that can be had
 run_had : (fronts : Bool) (workers : ℕ) (programs : ProgramLists) (output : List ℕ)
     → IsWrittenFor fronts workers programs output → IsDriverList programs.drivers
 run_had true workers programs output h = h.promised.can_be_had
-run_had false workers programs output h = (report_of workers programs output h).1.can_be_had
+run_had false workers programs output h = (report_of workers programs output h).promised.can_be_had
 
 -- ---- a run
 
 -- a run on one worker
-pub run_by_one : HasOneReading programs_grammar → HaveOneFault → HaveOneReport
-    → (input : List ℕ) (one other : Result (Unit {0} × List ℕ) MainFault)
+pub run_by_one : HasOneReading programs_grammar → (input : List ℕ) (one other : Result (Unit {0} × List ℕ) MainFault)
     → Answers (running false 1) input one → Answers (running false 1) input other
     → HadMemory one → HadMemory other → one ≡ other
-run_by_one reading determined reports input = one_answer (running false 1) reading (λ p. Unit {0})
-    (λ p fits a b x y h k. (refl, in_turn_once reports p x y h k))
-    (λ p fits r s h k. refused_alone determined p.drivers r s (h.1 (inl (omega arith))) (k.1 (inl (omega arith))))
-    (λ p fits a x r h refuses. drivers_had determined p.drivers h.promised.can_be_had r (refuses.1 (inl (omega arith))))
+run_by_one reading input = one_answer (running false 1) reading (λ p. Unit {0})
+    (λ p fits a b x y h k. (refl, in_turn_once p x y h k))
+    (λ p fits r s h k. refused_alone p.drivers r s (h.1 (inl (omega arith))) (k.1 (inl (omega arith))))
+    (λ p fits a x r h refuses. drivers_had one_refusal p.drivers h.transcript.promised.can_be_had r
+    (refuses.1 (inl (omega arith))))
     input (λ version p spells. tt)
 
 -- a run of one process
-pub run_of_one : HasOneReading programs_grammar → HaveOneFault → HaveOneReport
-    → (workers : ℕ) (input : List ℕ) (one other : Result (Unit {0} × List ℕ) MainFault)
+pub run_of_one : HasOneReading programs_grammar → (workers : ℕ) (input : List ℕ)
+    (one other : Result (Unit {0} × List ℕ) MainFault)
     → ((version : Version) (p : ProgramLists) → Spells (programs_grammar version) input p → length p.programs ≤ 1)
     → Answers (running false workers) input one → Answers (running false workers) input other
     → HadMemory one → HadMemory other → one ≡ other
-run_of_one reading determined reports workers input one other few =
+run_of_one reading workers input one other few =
     one_answer (running false workers) reading (λ p. length p.programs ≤ 1)
-    (λ p fits a b x y h k. (refl, one_process_once reports workers p fits x y h k))
-    (λ p fits r s h k. refused_alone determined p.drivers r s (h.1 (inr fits)) (k.1 (inr fits)))
-    (λ p fits a x r h refuses. drivers_had determined p.drivers (run_had false workers p x h) r (refuses.1 (inr fits)))
+    (λ p fits a b x y h k. (refl, one_process_once workers p fits x y h k))
+    (λ p fits r s h k. refused_alone p.drivers r s (h.1 (inr fits)) (k.1 (inr fits)))
+    (λ p fits a x r h refuses. drivers_had one_refusal p.drivers (run_had false workers p x h) r (refuses.1 (inr fits)))
     input few one other
 
 -- drivers of what is run are not refused
-pub run_or_refused : HasOneReading programs_grammar → HaveOneFault
-    → (fronts : Bool) (workers : ℕ) (input output : List ℕ) (done : Unit {0}) (fault : ConfigFault)
+pub run_or_refused : HasOneReading programs_grammar → (fronts : Bool) (workers : ℕ) (input output : List ℕ)
+    (done : Unit {0}) (fault : ConfigFault)
     → GivesFor (running fronts workers) input done output
     → RefusesFor (running fronts workers) input (run.ConfigFault fault) → ⊥
-run_or_refused reading determined fronts workers input output done fault (v, p, spells, gives)
+run_or_refused reading fronts workers input output done fault (v, p, spells, gives)
     (w, q, spells_too, refuses) =
     let same : p ≡ q = one_value programs_grammar reading input v w p q spells spells_too in
     let had : IsDriverList q.drivers = subst (λ (u : ProgramLists). IsDriverList u.drivers) same
     (run_had fronts workers p output gives) in
-    refuses.0.1 (determined q.drivers fault config.NoMemory refuses.0.0 had)
+    refuses.0.1 (one_refusal q.drivers fault config.NoMemory refuses.0.0 had)
 
 -- ---- what is written of it
 
@@ -280,27 +272,28 @@ pub run_is_legal : AreJudgedLegal → (workers : ℕ) (programs : ProgramLists) 
     → IsWrittenFor false workers programs output
     → (line : List ℕ) × GivesFor checking output Legal line
 run_is_legal legal workers programs output h =
-    let (report, promised, version, spells) = report_of workers programs output h in (
-      verdict_line (length report.entries) Legal,
+    let t = report_of workers programs output h in (
+      verdict_line (length t.report.entries) Legal,
       (
-        report.version,
-        report,
-        spells,
+        t.report.version,
+        t.report,
+        t.written,
         record {
-          can_be_had = rw promised.drivers promised.can_be_had;
-          judged = legal programs report promised;
+          can_be_had = rw t.promised.drivers t.promised.can_be_had;
+          judged = legal programs t.report t.promised;
           written = refl;
         },
       ),
     )
 
--- and it spells no other
+-- what is written for a transcript spells a report of the programs in their version, and nothing else
 pub run_spells_one : HasOneReading transcript_grammar
     → (workers : ℕ) (programs : ProgramLists) (output : List ℕ) (version : Version) (t : Transcript)
     → IsWrittenFor false workers programs output → Spells (transcript_grammar version) output t
     → (t.version ≡ programs.version) × IsReportOf programs t
 run_spells_one reading workers programs output version t h spells_too =
-    let (report, promised, told, spells) = report_of workers programs output h in
-    let same : report ≡ t = one_value transcript_grammar reading output report.version version report t spells
-    spells_too in
-    subst (λ (u : Transcript). (u.version ≡ programs.version) × IsReportOf programs u) same (told, promised)
+    let told = report_of workers programs output h in
+    let same : told.report ≡ t = one_value transcript_grammar reading output told.report.version version told.report t
+    told.written spells_too in
+    subst (λ (u : Transcript). (u.version ≡ programs.version) × IsReportOf programs u) same
+    (told.version, told.promised)

@@ -16,6 +16,7 @@ use Rattle.smx_filters.specs.declared.main_fault.MainFault.TheVariants.{Refused}
 
 module _ (form : Form) (bytes input : List ℕ) (same : bytes ≡ input) (t : Transcript)
     (read : ReadsAny transcript_grammar bytes (Ok t)) where
+  -- the input spells what was read of its bytes
   spelled : Spells (transcript_grammar read.0) input t
   spelled = subst (λ (bs : List ℕ). Spells (transcript_grammar read.0) bs t) same read.1
 

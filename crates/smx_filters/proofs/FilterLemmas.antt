@@ -97,11 +97,9 @@ module _ {V K T : Type 0} (filter : Filter V K T) (had left : Option (List ℕ))
 -- what one worker writes, any number may write
 pub written_by_any : (workers : ℕ) (programs : ProgramLists) (output : List ℕ) → IsTranscriptInTurn programs output
     → IsWrittenFor false workers programs output
-written_by_any zero programs output t =
-    record { report = t.report; promised = t.promised; version = t.version; written = t.written }
+written_by_any zero programs output t = t.transcript
 written_by_any (suc zero) programs output t = t
-written_by_any (suc (suc more)) programs output t =
-    record { report = t.report; promised = t.promised; version = t.version; written = t.written }
+written_by_any (suc (suc more)) programs output t = t.transcript
 
 -- and what it answers, they may answer
 pub answered_by_any : (workers : ℕ) (input : List ℕ) (answer : Result (Vec ℕ Global) MainFault)

@@ -35,11 +35,13 @@ alone c (e ∷ es) h = elim (cases_eq e.process 0) [
       ap (λ x. x ∷ map call_of es) first ∙ ap (λ xs. (0, e.command) ∷ xs) (alone rest es others) ∙ ap (calls_of 0) all
   | inr not_mine ↦ absurd (strange e.process refl not_mine)
 ] where
+  -- the entries behind the first hold the commands that are left of the one program
   left : (rest : List Command) → e.process ≡ 0 → (p : ℕ)
       → commands_of p es ≡ slice_index_or (commands_of 0 es ∷ []) p []
   left rest mine zero = refl
   left rest mine (suc p) = sym (another e es (suc p) (λ is. absurd (omega (arith, mine, is)))) ∙ h (suc p)
 
+  -- no entry is of another process than the first
   strange : (p : ℕ) → e.process ≡ p → e.process ≢ 0 → ⊥
   strange zero is not_mine = not_mine is
   strange (suc p) is not_mine =

@@ -25,15 +25,19 @@ use Rattle.smx_filters.proofs.ReadingLemmas.{HasOneReading, one_value}
 
 -- ---- what other crates' laws say
 
+-- a replay of an allowed transcript, if it can be spelled, is within the limits of its own version
 abbrev CanBeTold : Type 0
 CanBeTold = (t r : Transcript) → IsAllowed t.version t → IsReplayOf t r → IsSpellable r → IsAllowed r.version r
 
-abbrev HasOneReplay : Type 0
+-- a transcript has one replay
+abbrev pub HasOneReplay : Type 0
 HasOneReplay = (t r s : Transcript) → IsReplayOf t r → IsReplayOf t s → r ≡ s
 
+-- a legal transcript is its own replay
 abbrev IsItsOwn : Type 0
 IsItsOwn = (t : Transcript) → IsDriverList t.drivers → IsVerdict t.drivers t.entries t.view Legal → IsReplayOf t t
 
+-- a replay is judged legal
 abbrev IsJudgedLegal : Type 0
 IsJudgedLegal = (t r : Transcript) → IsReplayOf t r → IsVerdict r.drivers r.entries r.view Legal
 

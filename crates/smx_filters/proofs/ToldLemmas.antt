@@ -1,7 +1,7 @@
 -- A report of programs can be told in their version.
 use Rattle.std.proofs.Common.{◌≡◌, ℕ, ◌≤◌, Bool, true, false, ◌||◌, List, length, refl, sym, subst, ◌∙◌, rules}
 use Rattle.smx_types.specs.ProgramLists.{ProgramLists, AreWithinLimits}
-use Rattle.smx_types.specs.Versions.{are_more_drivers, least_of_programs, least_of_transcript, most_drivers}
+use Rattle.smx_types.specs.Versions.{are_more_drivers, least_of_transcript, most_drivers}
 use Rattle.smx_types.specs.Versions.{version_2_where}
 use Rattle.smx_types.specs.declared.driver.DriverSpec.{DriverSpec}
 use Rattle.smx_types.specs.declared.limits.TheConstants.{MAX_COMMANDS, MAX_DRIVERS}
@@ -10,11 +10,7 @@ use Rattle.smx_types.specs.declared.version.Version.{Version}
 use Rattle.smx_types.specs.declared.version.Version.TheVariants.{V1, V2}
 use Rattle.smx_model.specs.Headline.{IsReportOf}
 use Rattle.smx_text.specs.TranscriptText.{IsAllowed, IsSpellable, SpellsTranscript, transcript_text}
-
--- what the model says of reports: version 1 can tell them where it can tell their programs
-abbrev pub NeedNoLaterVersion : Type 0
-NeedNoLaterVersion = (programs : ProgramLists) (report : Transcript) → IsReportOf programs report
-    → least_of_programs programs.drivers programs.programs ≡ V1 → least_of_transcript report ≡ V1
+use Rattle.smx_model.proofs.QuietHistoryLemmas.{report_is_quiet}
 
 -- where version 1 can tell it, there are no more drivers than it has
 not_more : (more other : Bool) → version_2_where (more || other) ≡ V1 → more ≡ false
@@ -28,29 +24,29 @@ few_drivers V1 drivers few fits = let is = fits refl in search rules
 few_drivers V2 drivers few fits = few
 
 -- what the limits of programs say of a report in their version
-pub told : NeedNoLaterVersion → (p : ProgramLists) (r : Transcript) → AreWithinLimits p → IsReportOf p r
+pub told : (p : ProgramLists) (r : Transcript) → AreWithinLimits p → IsReportOf p r
     → r.version ≡ p.version → r.version ≡ V1 → least_of_transcript r ≡ V1
-told need p r within report same is = need p r report (within.version (sym same ∙ is))
+told p r within report same is = report_is_quiet p r report (within.version (sym same ∙ is))
 
 -- the transcript of such a report is within the limits of its version
-pub can_be_told : NeedNoLaterVersion → (p : ProgramLists) (r : Transcript) → AreWithinLimits p → IsReportOf p r
+pub can_be_told : (p : ProgramLists) (r : Transcript) → AreWithinLimits p → IsReportOf p r
     → r.version ≡ p.version → length r.entries ≤ MAX_COMMANDS → IsSpellable r → IsAllowed r.version r
-can_be_told need p r within report same few spellable = record {
+can_be_told p r within report same few spellable = record {
   version_is = refl;
   drivers = few_drivers r.version r.drivers
       (subst (λ (ds : List DriverSpec). length ds ≤ MAX_DRIVERS) (sym report.drivers) within.drivers)
-      (λ is. not_more _ _ (told need p r within report same is));
+      (λ is. not_more _ _ (told p r within report same is));
   entries = few;
   spellable = spellable;
-  told = told need p r within report same;
+  told = told p r within report same;
 }
 
 -- and what is its one text spells it
-pub spelled : NeedNoLaterVersion → (p : ProgramLists) (r : Transcript) → AreWithinLimits p → IsReportOf p r
+pub spelled : (p : ProgramLists) (r : Transcript) → AreWithinLimits p → IsReportOf p r
     → r.version ≡ p.version → length r.entries ≤ MAX_COMMANDS → IsSpellable r → (bytes : List ℕ)
     → bytes ≡ transcript_text r
     → SpellsTranscript bytes r
-spelled need p r within report same few spellable bytes is = record {
-  allowed = can_be_told need p r within report same few spellable;
+spelled p r within report same few spellable bytes is = record {
+  allowed = can_be_told p r within report same few spellable;
   text = is;
 }

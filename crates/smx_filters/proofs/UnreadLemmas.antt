@@ -1,17 +1,17 @@
 -- Programs that are read while they run: how many commands they have, and what their texts say of them.
 use Rattle.std.proofs.Common.{◌≡◌, ℕ, zero, suc, ◌+◌, ◌≤◌, false, List, [], ◌∷◌, length, map, refl, ap}
 use Rattle.std.proofs.Common.{arith, inl, inr}
-use Rattle.std.proofs.lemmas.Bool.{cases_eq, false_from_ne_true, ltb-true}
+use Rattle.std.proofs.lemmas.Bool.{cases_eq}
 use Rattle.std.proofs.lemmas.List.Sums.{sum_by-cons}
 use Rattle.std.specs.Borrow.{Bor}
 use Rattle.std.specs.List.{AllByRecursion, AllZip, list_any, sum_by}
 use Rattle.std.specs.Prelude.{slice_index_or}
 use Rattle.smx_types.specs.ProgramLists.{AreWithinLimits}
-use Rattle.smx_types.specs.Versions.{are_more_drivers, is_hangup, least_of_programs, most_drivers}
+use Rattle.smx_types.specs.Versions.{is_hangup, least_of_programs, most_drivers}
 use Rattle.smx_types.specs.declared.command.Command.{Command}
 use Rattle.smx_types.specs.declared.command.Entry.{Entry}
 use Rattle.smx_types.specs.declared.driver.DriverSpec.{DriverSpec}
-use Rattle.smx_types.specs.declared.limits.TheConstants.{MAX_DRIVERS, MAX_DRIVERS_OF_VERSION_1}
+use Rattle.smx_types.specs.declared.limits.TheConstants.{MAX_DRIVERS}
 use Rattle.smx_types.specs.declared.version.Version.{Version}
 use Rattle.smx_types.specs.declared.version.Version.TheVariants.{V1, V2}
 use Rattle.smx_model.specs.Histories.{commands_of, HoldsPrograms}
@@ -20,6 +20,7 @@ use Rattle.smx_words.specs.Spellable.{FitsCommandIn}
 use Rattle.smx_text.specs.ProgramsText.{SpellsPrograms}
 use Rattle.smx_text.specs.SplitPrograms.{IsProgramText}
 use Rattle.smx_filters.specs.declared.unread_program.UnreadProgram.{UnreadProgram}
+use Rattle.smx_text.proofs.LeastVersionLemmas.{few_drivers}
 use Rattle.smx_filters.proofs.OneProcessLemmas.{another, own}
 
 -- ---- a history has as many commands as the programs that it holds
@@ -70,6 +71,7 @@ few_from n (commands ∷ programs) es holds =
     let more = few_from (suc n) programs es (λ i p is. holds (suc i) p (omega (arith, is))) in
     omega (arith, first, more, sum_by-cons length commands programs)
 
+-- programs that a history holds have no more commands than it has entries
 pub held_few : (es : List Entry) (programs : List (List Command)) → HoldsPrograms es programs
     → sum_by length programs ≤ length es
 unfolding asked_below
@@ -79,10 +81,12 @@ held_few es programs holds =
 
 -- ---- what texts of version 1 say needs no later version
 
+-- of commands that version 1 can tell, none is a hangup
 no_hangup : (commands : List Command) → AllByRecursion (FitsCommandIn V1) commands → list_any is_hangup commands ≡ false
 no_hangup [] fit = refl
 no_hangup (c ∷ cs) fit = rw (fit.0.1, no_hangup cs fit.1) refl
 
+-- of programs that texts of version 1 tell, none has a hangup
 no_hangups : (texts : List (List ℕ)) (programs : List (List Command)) → AllZip (IsProgramText V1) texts programs
     → list_any (list_any is_hangup) programs ≡ false
 no_hangups [] [] each = refl
@@ -90,16 +94,14 @@ no_hangups (text ∷ texts) [] each = absurd each
 no_hangups [] (p ∷ ps) each = absurd each
 no_hangups (text ∷ texts) (p ∷ ps) each = rw (no_hangup p each.0.fits, no_hangups texts ps each.1) refl
 
-few_drivers : (drivers : List DriverSpec) → length drivers ≤ most_drivers V1 → are_more_drivers drivers ≡ false
-few_drivers drivers few = false_from_ne_true (are_more_drivers drivers)
-    (λ more. omega (arith, ltb-true MAX_DRIVERS_OF_VERSION_1 (length drivers) more, few))
-
+-- what texts of version 1 tell, that version can tell
 needs_first : (version : Version) (drivers : List DriverSpec) (texts : List (List ℕ)) (programs : List (List Command))
     → AllZip (IsProgramText version) texts programs → length drivers ≤ most_drivers version
     → version ≡ V1 → least_of_programs drivers programs ≡ V1
 needs_first V1 drivers texts programs each few is = rw (few_drivers drivers few, no_hangups texts programs each) refl
 needs_first V2 drivers texts programs each few is = absurd cc
 
+-- no version has more drivers than there may be
 most : (version : Version) → most_drivers version ≤ MAX_DRIVERS
 most V1 = omega arith
 most V2 = omega arith

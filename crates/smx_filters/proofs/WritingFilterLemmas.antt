@@ -25,12 +25,15 @@ module _ {V K : Type 0} (f : Filter V K (Unit {0})) (had left : Option (List ℕ
     (before after : Option (List ℕ)) (flushed : Bool) (written : ℕ) (v : Vec ℕ Global)
     (read : List ℕ) (h : IsInput had left ended failures (Ok v) read) (bytes : List ℕ)
     (given : GivesFor f v.items tt bytes) where
+  -- the input was read whole
   whole : IsWhole had ended read
   whole = h.whole
 
+  -- what was read, where reading it was not refused
   abbrev ok : Result (Vec ℕ Global) MainFault
   ok = Ok v
 
+  -- what is given for the vector is given for the bytes that were read
   gives_read : GivesFor f read tt bytes
   gives_read = subst (λ (input : List ℕ). GivesFor f input tt bytes) h.answered given
 

@@ -41,14 +41,10 @@ pub record IsFrontsTextFor (workers : ℕ) (programs : ProgramLists) (output : L
 
 -- the transcript of the report in which each program comes whole, by rising number; there is one such report at most
 pub record IsTranscriptInTurn (programs : ProgramLists) (output : List ℕ) : Type 0 where
-  -- There is a report that is promised for these programs, to be told in their version, with one program after the
-  -- other,
-  pub report : Transcript
-  pub promised : IsReportOf programs report
-  pub version : report.version ≡ programs.version
-  pub in_turn : map call_of report.entries ≡ calls_from 0 programs.programs
-  -- and the output is its transcript, and nothing else.
-  pub written : SpellsTranscript output report
+  -- The output is the transcript of a report that is promised for these programs, in their version, and nothing else.
+  pub transcript : IsTranscriptFor programs output
+  -- In this report one program comes after the other.
+  pub in_turn : map call_of transcript.report.entries ≡ calls_from 0 programs.programs
 
 -- what a run on one thread gives: that transcript, or why it is refused
 abbrev pub IsRunAlone : ProgramLists → Result (Vec ℕ Global) RunFault → Type 0

@@ -23,10 +23,8 @@ ghost use Rattle.smx_filters.specs.ReplayText.{replaying};
 ghost use Rattle.smx_filters.specs.RunText.{IsWrittenFor, running};
 ghost use Rattle.smx_filters.specs.declared.main_fault.MainFault.{MainFault};
 
-use smx_config::laws_of_drivers::drivers_have_one_fault;
 use smx_config::laws_of_verdicts::{reports_are_judged_legal, there_is_one_verdict};
 use smx_explain::laws_of_explanations::a_transcript_has_one_explanation;
-use smx_model::laws_of_reports::reports_are_determined;
 use smx_replay::laws_of_replays::a_transcript_has_one_replay;
 use smx_text::laws::{one_text_has_one_reading, one_transcript_has_one_reading};
 
@@ -46,9 +44,7 @@ pub fn an_input_has_one_answer()
         → Answers (running false 1) input one → Answers (running false 1) input other
         → HadMemory one → HadMemory other → one ≡ other }
 {
-    drivers_have_one_fault();
     there_is_one_verdict();
-    reports_are_determined();
     a_transcript_has_one_replay();
     a_transcript_has_one_explanation();
     one_text_has_one_reading();
@@ -62,8 +58,6 @@ pub fn a_run_of_one_process_has_one_answer()
         → Answers (running false workers) input one → Answers (running false workers) input other
         → HadMemory one → HadMemory other → one ≡ other }
 {
-    drivers_have_one_fault();
-    reports_are_determined();
     one_text_has_one_reading();
 }
 
@@ -74,7 +68,6 @@ pub fn what_is_run_has_drivers()
         → GivesFor (running fronts workers) input done output
         → RefusesFor (running fronts workers) input (run.ConfigFault fault) → ⊥ }
 {
-    drivers_have_one_fault();
     one_text_has_one_reading();
 }
 

@@ -12,8 +12,6 @@ ghost use Rattle.smx_filters.specs.RunText.{IsWrittenFor, RunsText, running};
 ghost use Rattle.smx_filters.specs.declared.main_fault.MainFault.{MainFault};
 ghost use Rattle.smx_filters.specs.declared.main_fault.MainFault.TheVariants.{ReadFailed};
 
-use smx_model::laws_of_reports::reports_are_determined;
-
 /// What a run says of an input in memory, by devices that don't fail; where the reader fails it says so and writes
 /// nothing, and where the writer fails a beginning of what it writes is out.
 pub fn runs_end_in_memory()
@@ -35,9 +33,7 @@ pub fn runs_end_in_memory()
 pub fn one_worker_writes_one_transcript()
     ensures { (programs : ProgramLists) (one other : List ℕ) → IsWrittenFor false 1 programs one
         → IsWrittenFor false 1 programs other → one ≡ other }
-{
-    reports_are_determined();
-}
+{}
 
 /// The same of a check, which answers its verdict.
 pub fn checks_end_in_memory()

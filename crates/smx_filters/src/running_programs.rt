@@ -1,7 +1,6 @@
 //! A run of the programs of a text, while the text is read.
 
 use crate::text_recorder::TextRecorder;
-use smx_model::laws_of_hangups::reports_need_no_later_version;
 use smx_run::{Gate, GrowingRun, RunFault};
 use smx_text::ProgramTaker;
 use smx_types::{Command, DriverSpec, NoMemory, Version};
@@ -64,7 +63,6 @@ impl<'a, G: Gate> ProgramTaker for RunningPrograms<'a, G> {
     }
 
     fn finish(self) -> Result<Vec<u8>, RunFault> {
-        reports_need_no_later_version();
         let (TextRecorder { writer }, view) = self.run.finish()?;
         Ok(writer.finish(&view)?)
     }

@@ -21,7 +21,6 @@ use crate::refusal::Refusal;
 use crate::running_programs::RunningPrograms;
 use crate::text_recorder::TextRecorder;
 use crate::unread_program::transcript_of_unread;
-use smx_model::laws_of_hangups::reports_need_no_later_version;
 use smx_run::{Gate, Report, RunFault, run_programs, run_recorded_together};
 use smx_text::{read_programs, split_programs, take_programs};
 use smx_types::{NoMemory, Programs};
@@ -230,7 +229,6 @@ fn transcript_of_several<R: Threads + Wait + Sync, G: Gate + Sync>(
     ensures written { IfOk result (λ text. IsTranscriptFor programs text.items) }
     ensures refused { IfErr result (RefusesRun programs.drivers) }
 {
-    reports_need_no_later_version();
     // For the proof: the programs are within their limits, and tell nothing that is of a later version.
     let _version = programs.version();
     let (TextRecorder { writer }, view) = run_recorded_together(

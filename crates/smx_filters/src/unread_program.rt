@@ -11,7 +11,6 @@ ghost use Rattle.smx_text.specs.SplitPrograms.{IsProgramText};
 ghost use Rattle.smx_filters.specs.RunText.{IsTranscriptFor};
 
 use crate::text_recorder::TextRecorder;
-use smx_model::laws_of_hangups::reports_need_no_later_version;
 use smx_run::{CommandSource, Gate, run_sources_together};
 use smx_text::{SplitPrograms, next_command};
 use smx_types::{Bytes, Command, NoMemory, Version};
@@ -96,7 +95,6 @@ pub(crate) fn transcript_of_unread<R: Threads + Wait + Sync, G: Gate + Sync>(
     ensures { IfSome result (λ text.
         (programs : ProgramLists) × SpellsPrograms input.now programs × IsTranscriptFor programs text.items) }
 {
-    reports_need_no_later_version();
     let SplitPrograms {
         version,
         drivers,

@@ -14,6 +14,7 @@ use Rattle.smx_shared.specs.Seats.{IsBeginningOf}
 use Rattle.smx_shared.specs.declared.front.Front.{Front}
 use Rattle.smx_run.specs.Fronts.{IsFrontAfter}
 
+-- the three entries of the example
 abbrev whole : List Entry
 whole = opened ∷ exited ∷ copied ∷ []
 

@@ -1,31 +1,20 @@
 -- How many entries of each transcript a history has.
-use Rattle.std.proofs.Common.{◌≡◌, ◌≢◌, ℕ, suc, All, ◌<◌, ◌≤◌, true, false, List, [], ◌∷◌, ◌++◌, length, set, replicate}
-use Rattle.std.proofs.Common.{get_or, Option, Some, None, refl, sym, ap, subst, ◌∙◌, arith, inl, inr}
+use Rattle.std.proofs.Common.{◌≡◌, ◌≢◌, ℕ, suc, All, ◌<◌, ◌≤◌, false, List, [], ◌∷◌, ◌++◌, length, set, replicate}
+use Rattle.std.proofs.Common.{get_or, Option, Some, None, refl, sym, subst, ◌∙◌, arith, inl, inr}
 use Rattle.std.specs.Prelude.{◌==◌, IfSome}
-use Rattle.std.proofs.lemmas.Bool.{cases_Bool, cases_lt}
+use Rattle.std.proofs.lemmas.Bool.{cases_eq, cases_lt}
 use Rattle.std.proofs.lemmas.Bool.Decides.{nat_tests}
 use Rattle.std.proofs.lemmas.List.{append-nil, get_or-set_same, get_or-set_other, get_or-replicate, get_or_past}
-use Rattle.std.proofs.lemmas.List.Elements.{filter-append}
 use Rattle.smx_types.specs.declared.command.Entry.{Entry}
 use Rattle.smx_types.specs.declared.limits.TheConstants.{MAX_PROCESSES}
 use Rattle.smx_run.specs.Gathering.{entries_of, IsBorneOut, IsLeastStrange, IsMet}
+use Rattle.smx_shared.proofs.OwnEntryLemmas.{entries_append, entries_mine, entries_other}
 
 -- nothing was met yet
 pub none_met_yet : (transcripts : List (List Entry)) (met : List (Option ℕ)) → met ≡ replicate MAX_PROCESSES (Some 0)
     → (p : ℕ) → p < MAX_PROCESSES → IsMet (get_or transcripts p []) [] (get_or met p None)
 none_met_yet transcripts met is p below =
     rw (is, get_or-replicate {A = Option ℕ} MAX_PROCESSES p (Some 0) None below) (omega arith, refl)
-
--- an entry of the process stands behind those before it
-own_entry : (p : ℕ) (es : List Entry) (e : Entry) → (e.process == p) ≡ true
-    → entries_of p (es ++ e ∷ []) ≡ entries_of p es ++ e ∷ []
-own_entry p es e same = filter-append (λ (d : Entry). d.process == p) es (e ∷ []) ∙ rw same refl
-
--- an entry of another process is none of its own
-other_entry : (p : ℕ) (es : List Entry) (e : Entry) → (e.process == p) ≡ false
-    → entries_of p (es ++ e ∷ []) ≡ entries_of p es
-other_entry p es e other =
-    filter-append (λ (d : Entry). d.process == p) es (e ∷ []) ∙ rw other (append-nil (entries_of p es))
 
 -- what was met of each process, with one entry more of the history
 pub one_more_met : (transcripts : List (List Entry)) (es more : List Entry) (e : Entry) (n : ℕ) (met : List (Option ℕ))
@@ -36,18 +25,19 @@ pub one_more_met : (transcripts : List (List Entry)) (es more : List Entry) (e :
     → ((own : List Entry) → IsMet transcript own m → IsMet transcript (own ++ e ∷ []) r)
     → (p : ℕ) → p < MAX_PROCESSES → IsMet (get_or transcripts p []) (entries_of p more) (get_or (set met n r) p None)
 one_more_met transcripts es more e n met m r transcript counted number within added its was before here p below =
-    rw added (elim (cases_Bool (e.process == p)) [
-      | inl t ↦
-          let same : n ≡ p = grind (arith, nat_tests) in
+    rw added (elim (cases_eq e.process p) [
+      | inl is ↦
+          let same : n ≡ p = number ∙ is in
           let at : get_or (set met n r) n None ≡ r = get_or-set_same met n r None (omega arith) in
-          let its_own : (e.process == n) ≡ true = ap (λ (q : ℕ). e.process == q) same ∙ t in
           let now : IsMet (get_or transcripts n []) (entries_of n (es ++ e ∷ [])) (get_or (set met n r) n None) =
-          rw (at, own_entry n es e its_own, ← its) (here (entries_of n es) (rw (its, was) (before n within))) in
+          rw (at, entries_append n es (e ∷ []), entries_mine n e (sym number), ← its)
+          (here (entries_of n es) (rw (its, was) (before n within))) in
           subst (λ (q : ℕ). IsMet (get_or transcripts q []) (entries_of q (es ++ e ∷ [])) (get_or (set met n r) q None))
           same now
-      | inr f ↦
-          let other : p ≢ n = grind (arith, nat_tests) in
-          rw (other_entry p es e f, get_or-set_other met n p r None other) (before p below)
+      | inr differs ↦
+          let other : p ≢ n = λ same. differs (sym number ∙ sym same) in
+          rw (entries_append p es (e ∷ []), entries_other p e differs, append-nil (entries_of p es))
+          (rw (get_or-set_other met n p r None other) (before p below))
     ])
 
 -- where others were met, they are not the transcript

@@ -12,7 +12,7 @@ use Rattle.std.proofs.lemmas.List.{get_or-set_other}
 use Rattle.std.proofs.lemmas.List.Elements.{All-push, All-set, filter-append}
 use Rattle.smx_shared.specs.Seats.{Seated}
 use Rattle.smx_run.specs.Hands.{hand_of, hands_of}
-use Rattle.smx_run.specs.ProgramOrder.{numbered}
+use Rattle.smx_run.specs.ProgramOrder.{with_numbers}
 
 -- two lists that are alike by what stands in them, and one more at the end of each
 pub one_more : {A B C : Type 0} (f : A → C) (g : B → C) (xs more : List A) (ys : List B) (x : A) (y : B)
@@ -30,12 +30,12 @@ pub all_more : {A : Type 0} (P : A → Type 0) (xs more : List A) (x : A) → Al
     → All P more
 all_more P xs more x before here added = subst (All P) (sym added) (All-push P xs x before here)
 
--- nothing is in an empty list that it could not be so of
+-- anything is so of all elements of an empty list
 pub all_of_none : {A : Type 0} (P : A → Type 0) (xs : List A) → xs ≡ [] → All P xs
 all_of_none P [] none k d below = absurd (omega arith)
 all_of_none P (x ∷ xs) none k d below = absurd cc
 
--- what is so of an answer, and what else is
+-- two things that are each so of what a call answers are so of it together
 pub if_both : {T E : Type 0} (P Q : T → Type 0) (result : Result T E) → IfOk result P → IfOk result Q
     → IfOk result (λ x. P x × Q x)
 if_both P Q (Ok x) p q = (p, q)
@@ -93,14 +93,15 @@ next_seat n all seats s programs later program first next h =
 
 -- what was dealt and what is left to deal, before a process and after it
 pub deal_next : {P : Type 0} (workers n m p k : ℕ) (old new goal : List (ℕ × P)) (program : P) (programs later : List P)
-    → old ++ hand_of workers (numbered n programs) k ≡ goal
+    → old ++ hand_of workers (with_numbers n programs) k ≡ goal
     → new ≡ old ++ hand_of workers ((p, program) ∷ []) k → p ≡ n → m ≡ n + 1 → programs ≡ program ∷ later
-    → new ++ hand_of workers (numbered m later) k ≡ goal
+    → new ++ hand_of workers (with_numbers m later) k ≡ goal
 deal_next {P = P} workers n m p k old new goal program programs later before now who more next =
     let one : ℕ × P = (n, program) in
-    let first = hand_first workers one (numbered (n + 1) later) k in
-    let was : old ++ hand_of workers (numbered n (program ∷ later)) k ≡ goal = rw next at before in
-    rw (now, who, more) (append_assoc old (hand_of workers (one ∷ []) k) (hand_of workers (numbered (n + 1) later) k)
+    let first = hand_first workers one (with_numbers (n + 1) later) k in
+    let was : old ++ hand_of workers (with_numbers n (program ∷ later)) k ≡ goal = rw next at before in
+    rw (now, who, more)
+    (append_assoc old (hand_of workers (one ∷ []) k) (hand_of workers (with_numbers (n + 1) later) k)
     ∙ ap (λ (cs : List (ℕ × P)). old ++ cs) (sym first) ∙ was)
 
 -- nothing was dealt yet
@@ -111,7 +112,7 @@ none_dealt workers hands none k below goal = rw (none, hand_at workers [] k belo
 
 -- nothing is left to deal
 pub all_dealt : {P : Type 0} (workers n : ℕ) (hands all : List (ℕ × P)) (k : ℕ) (programs : List P)
-    → hands ++ hand_of workers (numbered n programs) k ≡ all → length programs ≡ 0 → hands ≡ all
+    → hands ++ hand_of workers (with_numbers n programs) k ≡ all → length programs ≡ 0 → hands ≡ all
 all_dealt workers n hands all k [] h none = sym (append-nil hands) ∙ h
 all_dealt workers n hands all k (program ∷ programs) h none = absurd (omega arith)
 
@@ -194,16 +195,16 @@ next_program {P = P} (suc p) (program ∷ programs) below =
 
 -- the next process stands first in the hand of its worker
 pub next_in_hand : {P : Type 0} (workers p : ℕ) (programs later : List P) (program : P) → programs ≡ program ∷ later
-    → hand_of workers (numbered p programs) (p % workers)
-    ≡ (p, program) ∷ hand_of workers (numbered (p + 1) later) (p % workers)
+    → hand_of workers (with_numbers p programs) (p % workers)
+    ≡ (p, program) ∷ hand_of workers (with_numbers (p + 1) later) (p % workers)
 next_in_hand workers p programs later program next =
     let own : (p % workers == p % workers) ≡ true = grind (arith, nat_tests) in
     rw (next, own) refl
 
--- and in no other hand
+-- the next process is in no hand but that of its worker
 pub next_not_in : {P : Type 0} (workers p k : ℕ) (programs later : List P) (program : P)
     → programs ≡ program ∷ later → k ≢ p % workers
-    → hand_of workers (numbered p programs) k ≡ hand_of workers (numbered (p + 1) later) k
+    → hand_of workers (with_numbers p programs) k ≡ hand_of workers (with_numbers (p + 1) later) k
 next_not_in workers p k programs later program next other =
     let not_own : (p % workers == k) ≡ false = grind (arith, nat_tests) in
     rw (next, not_own) refl
@@ -211,19 +212,19 @@ next_not_in workers p k programs later program next other =
 -- the hands once the next process is taken from them
 pub take_next : {P : Type 0} (workers p m : ℕ) (programs later : List P) (program : P)
     (old new : List (List (ℕ × P))) (one : ℕ × P) → programs ≡ program ∷ later → m ≡ p + 1
-    → ((k : ℕ) → k < workers → get_or old k [] ≡ hand_of workers (numbered p programs) k) → p % workers < workers
+    → ((k : ℕ) → k < workers → get_or old k [] ≡ hand_of workers (with_numbers p programs) k) → p % workers < workers
     → get_or old (p % workers) [] ≡ one ∷ get_or new (p % workers) []
     → ((k : ℕ) → k ≢ p % workers → get_or new k [] ≡ get_or old k [])
     → (one ≡ (p, program))
-    × ((k : ℕ) → k < workers → get_or new k [] ≡ hand_of workers (numbered m later) k)
+    × ((k : ℕ) → k < workers → get_or new k [] ≡ hand_of workers (with_numbers m later) k)
 take_next workers p m programs later program old new one next more before within first others =
     let was : one ∷ get_or new (p % workers) []
-    ≡ (p, program) ∷ hand_of workers (numbered (p + 1) later) (p % workers) =
+    ≡ (p, program) ∷ hand_of workers (with_numbers (p + 1) later) (p % workers) =
     sym first ∙ before (p % workers) within ∙ next_in_hand workers p programs later program next in (
       cc,
       (λ k below. rw more (elim (cases_Bool (p % workers == k)) [
         | inl t ↦ let here : p % workers ≡ k = grind (arith, nat_tests) in
-            let now : get_or new (p % workers) [] ≡ hand_of workers (numbered (p + 1) later) (p % workers) = cc in
+            let now : get_or new (p % workers) [] ≡ hand_of workers (with_numbers (p + 1) later) (p % workers) = cc in
             rw here at now
         | inr f ↦ let other : k ≢ p % workers = grind (arith, nat_tests) in
             others k other ∙ before k below ∙ next_not_in workers p k programs later program next other
@@ -233,12 +234,12 @@ take_next workers p m programs later program old new one next more before within
 -- what was called and what is left to collect, before a process and after it
 pub collect_next : {P : Type 0} (p m : ℕ) (old new goal : List (ℕ × P)) (one : ℕ × P) (programs later : List P)
     (program : P)
-    → old ++ numbered p programs ≡ goal → new ≡ old ++ one ∷ [] → one ≡ (p, program) → m ≡ p + 1
+    → old ++ with_numbers p programs ≡ goal → new ≡ old ++ one ∷ [] → one ≡ (p, program) → m ≡ p + 1
     → programs ≡ program ∷ later
-    → new ++ numbered m later ≡ goal
+    → new ++ with_numbers m later ≡ goal
 collect_next p m old new goal one programs later program before now is more next =
-    let was : old ++ ((p, program) ∷ numbered (p + 1) later) ≡ goal = rw next at before in
-    rw (now, is, more) (append_assoc old ((p, program) ∷ []) (numbered (p + 1) later) ∙ was)
+    let was : old ++ ((p, program) ∷ with_numbers (p + 1) later) ≡ goal = rw next at before in
+    rw (now, is, more) (append_assoc old ((p, program) ∷ []) (with_numbers (p + 1) later) ∙ was)
 
 -- there are as many hands as workers
 pub hand_count : {P : Type 0} (workers : ℕ) (all : List (ℕ × P)) (hands : List (List (ℕ × P)))

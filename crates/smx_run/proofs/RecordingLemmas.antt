@@ -15,7 +15,6 @@ use Rattle.smx_types.specs.declared.view.ConfigView.{ConfigView}
 use Rattle.smx_model.specs.DriverList.{IsDriverList}
 use Rattle.smx_model.specs.Headline.{IsReportOf}
 use Rattle.smx_model.specs.Histories.{after, call_of, HoldsPrograms, IsLegal}
-use Rattle.smx_model.specs.LawfulHistories.{AreDropsAllowed, IsLawfulThroughout}
 use Rattle.smx_model.specs.Views.{view}
 use Rattle.smx_config.specs.Machine.{Machine}
 use Rattle.smx_shared.specs.Recorded.{Recorded, IsSoundSystem}
@@ -25,16 +24,9 @@ use Rattle.smx_run.specs.RecordedRuns.{IsRecordOf, IsRecordOfRun, IsRecordOfSour
 use Rattle.smx_run.specs.RunFaults.{RefusesAlone, RefusesRun}
 use Rattle.smx_run.specs.declared.run_fault.RunFault.{RunFault}
 use Rattle.smx_run.specs.declared.run_fault.RunFault.TheVariants as run
+use Rattle.smx_model.proofs.DropLemmas.{few_drop}
+use Rattle.smx_model.proofs.HistoryLemmas.{lawful_throughout}
 use Rattle.smx_run.proofs.ProgramOrderLemmas.{holds}
-
--- ---- what the laws of histories say
-
-abbrev LegalIsLawful : Type 0
-LegalIsLawful =
-    (drivers : List DriverSpec) (history : List Entry) → IsLegal drivers history → IsLawfulThroughout drivers history
-
-abbrev FewDrop : Type 0
-FewDrop = (drivers : List DriverSpec) (history : List Entry) → IsLegal drivers history → AreDropsAllowed history
 
 -- ---- the whole
 
@@ -67,29 +59,31 @@ alone_refuses drivers run.HistoryFull h = absurd h
 alone_refuses drivers run.Held h = absurd h
 
 -- what was told once all programs were asked, with the view at the end
-pub record_of : {K : Type 0} (told : Version → List DriverSpec → List Entry → K → Type 0) → LegalIsLawful → FewDrop
-    → (programs : ProgramLists) (recorder : K) (m : Machine) (shown : ConfigView)
+pub record_of : {K : Type 0} (told : Version → List DriverSpec → List Entry → K → Type 0)
+    (programs : ProgramLists) (recorder : K) (m : Machine) (shown : ConfigView)
     → AreWithinLimits programs → IsDriverList programs.drivers → m.drivers ≡ programs.drivers
     → HasRecorded (told programs.version) recorder m (calls_from 0 programs.programs)
     → shown ≡ view m.drivers m.configuration
     → IsRecordOf programs told recorder shown
-record_of told lawful drops programs recorder m shown few can same h is =
+record_of told programs recorder m shown few can same h is =
     let legal : IsLegal programs.drivers h.entries = subst
     (λ (ds : List DriverSpec). IsLegal ds h.entries) same h.legal in
     record {
-      entries = h.entries;
-      was_told = subst (λ (ds : List DriverSpec). told programs.version ds h.entries recorder) same h.was_told;
-      promised = record {
-        drivers = refl;
-        can_be_had = can;
-        legal = legal;
-        holds = holds h.entries programs.programs h.calls;
-        shown = is ∙ ap (view m.drivers) h.now ∙ ap (λ (ds : List DriverSpec). view ds (after ds h.entries)) same;
-        lawful = lawful programs.drivers h.entries legal;
-        drops = drops programs.drivers h.entries legal;
+      recorded = record {
+        entries = h.entries;
+        was_told = subst (λ (ds : List DriverSpec). told programs.version ds h.entries recorder) same h.was_told;
+        promised = record {
+          drivers = refl;
+          can_be_had = can;
+          legal = legal;
+          holds = holds h.entries programs.programs h.calls;
+          shown = is ∙ ap (view m.drivers) h.now ∙ ap (λ (ds : List DriverSpec). view ds (after ds h.entries)) same;
+          lawful = lawful_throughout programs.drivers h.entries legal;
+          drops = few_drop programs.drivers h.entries legal;
+        };
+        few = within programs h.entries few h.calls;
       };
       asked = h.calls;
-      few = within programs h.entries few h.calls;
     }
 
 -- a recorder that keeps all that it is told has the report
@@ -100,10 +94,11 @@ pub kept_all : (programs : ProgramLists) (version : Version) (drivers : List Dri
     (record { version = version; drivers = drivers; entries = entries; view = shown })
     × (map call_of entries ≡ calls_from 0 programs.programs) × (length entries ≤ MAX_COMMANDS)
 kept_all programs version drivers entries shown h =
-    let v : version ≡ programs.version = ap (λ (k : Version × List DriverSpec × List Entry). k.0) h.was_told in
-    let d : drivers ≡ programs.drivers = ap (λ (k : Version × List DriverSpec × List Entry). k.1) h.was_told in
-    let e : entries ≡ h.entries = ap (λ (k : Version × List DriverSpec × List Entry). k.2) h.was_told in
-    (v, rw (v, d, e) h.promised, rw e h.asked, rw e h.few)
+    let r = h.recorded in
+    let v : version ≡ programs.version = ap (λ (k : Version × List DriverSpec × List Entry). k.0) r.was_told in
+    let d : drivers ≡ programs.drivers = ap (λ (k : Version × List DriverSpec × List Entry). k.1) r.was_told in
+    let e : entries ≡ r.entries = ap (λ (k : Version × List DriverSpec × List Entry). k.2) r.was_told in
+    (v, rw (v, d, e) r.promised, rw e h.asked, rw e r.few)
 
 -- ---- many workers
 
@@ -114,13 +109,13 @@ memory_refused_together drivers (Ok x) is can = tt
 memory_refused_together drivers (Err e) is can = subst (RefusesRun drivers) (sym is) can
 
 -- what was told of a sound system, whose history holds the programs, with the view at the end
-pub record_of_run : {K : Type 0} (told : Version → List DriverSpec → List Entry → K → Type 0) → FewDrop
-    → (version : Version) (drivers : List DriverSpec) (s : Recorded) (programs : List (List Command)) (recorder : K)
+pub record_of_run : {K : Type 0} (told : Version → List DriverSpec → List Entry → K → Type 0) (version : Version)
+    (drivers : List DriverSpec) (s : Recorded) (programs : List (List Command)) (recorder : K)
     (shown : ConfigView)
     → s.drivers ≡ drivers → IsSoundSystem s → told version drivers s.history recorder
     → HoldsPrograms s.history programs → shown ≡ view s.drivers (after s.drivers s.history)
     → IsRecordOfRun (run_of version drivers programs) told recorder shown
-record_of_run told drops version drivers s programs recorder shown same sound was holds is = record {
+record_of_run told version drivers s programs recorder shown same sound was holds is = record {
   entries = s.history;
   was_told = was;
   promised = record {
@@ -130,7 +125,7 @@ record_of_run told drops version drivers s programs recorder shown same sound wa
     holds = holds;
     shown = rw (← same) is;
     lawful = rw (← same) sound.lawful;
-    drops = drops s.drivers s.history sound.legal;
+    drops = few_drop s.drivers s.history sound.legal;
   };
   few = omega (arith, sound.within, sound.limited);
 }

@@ -8,21 +8,20 @@ use Rattle.smx_types.specs.declared.command.Command.{Command}
 use Rattle.smx_types.specs.declared.command.Entry.{Entry}
 use Rattle.smx_types.specs.declared.driver.DriverSpec.{DriverSpec}
 use Rattle.smx_model.specs.Histories.{call_of, commands_of, HoldsPrograms}
-use Rattle.smx_shared.specs.Calls.{AddsEntry, HasSeenMore, EndsAs, Refuses}
+use Rattle.smx_shared.specs.Calls.{AddsEntry, HasSeenMore, EndsAs}
 use Rattle.smx_shared.specs.Fronts.{IsFrontOf}
 use Rattle.smx_shared.specs.Recorded.{Recorded}
 use Rattle.smx_shared.specs.Seats.{Known, Seated, SharedId, GoesOnNamed, IsBeginningOf, IsMetBy}
 use Rattle.smx_shared.specs.Seats.{AreMetBy, entries_of, first_seat, met_seat}
 use Rattle.smx_shared.specs.declared.front.Front.{Front}
-use Rattle.smx_shared.specs.declared.shared_fault.ApplyFault.{ApplyFault}
-use Rattle.smx_shared.specs.declared.shared_fault.ApplyFault.TheVariants as apply
 use Rattle.smx_shared.specs.declared.seat_view.MetSeat.{MetSeat}
 use Rattle.smx_run.specs.Fronts.{IsFrontAfter, AreFrontsFrom}
-use Rattle.smx_run.specs.Hands.{ran, calls_in, known_at, HasCalled, IsFresh, EndsAt}
+use Rattle.smx_run.specs.Hands.{program_run, calls_in, known_at, HasCalled, IsFresh, EndsAt}
 use Rattle.smx_run.specs.Meeting.{IsBorneOutBy}
-use Rattle.smx_run.specs.ProgramOrder.{calls_of, calls_from, numbered}
+use Rattle.smx_run.specs.ProgramOrder.{calls_of, calls_from, with_numbers}
 use Rattle.smx_run.specs.declared.worker.EndedProgram.{EndedProgram}
-use Rattle.smx_shared.proofs.OwnEntryLemmas.{entries_none}
+use Rattle.smx_shared.proofs.EachLemmas.{all_right}
+use Rattle.smx_shared.proofs.OwnEntryLemmas.{begins_trans, entries_none}
 use Rattle.smx_run.proofs.HandLemmas.{take_off}
 use Rattle.smx_run.proofs.ProgramOrderLemmas.{holds}
 
@@ -82,7 +81,7 @@ commands_ended h k n commands is exact =
 
 -- where there are programs, somebody has ended
 pub some_ended : {P : Type 0} (ended : List (EndedProgram Seated P)) (programs : List P)
-    → map (ran known_at) ended ≡ numbered 0 programs → 1 ≤ length programs → ended ≢ []
+    → map (program_run known_at) ended ≡ with_numbers 0 programs → 1 ≤ length programs → ended ≢ []
 some_ended ended [] is some none = omega arith
 some_ended [] (program ∷ programs) is some none = cc
 some_ended (d ∷ ended) (program ∷ programs) is some none = cc
@@ -90,17 +89,17 @@ some_ended (d ∷ ended) (program ∷ programs) is some none = cc
 -- some commands may be all of each program, and these were called
 pub all_called : {P : Type 0} (left : P → List Command → Type 0) (name : SharedId) (n : ℕ)
     (ended : List (EndedProgram Seated P)) (sources : List P)
-    → map (ran known_at) ended ≡ numbered n sources → All (EndsAt left name) ended
+    → map (program_run known_at) ended ≡ with_numbers n sources → All (EndsAt left name) ended
     → (programs : List (List Command)) × AllZip left sources programs
     × (map (called known_at) ended ≡ numbered_calls n programs)
 all_called left name n [] [] is ends = ([], tt, refl)
 all_called left name n [] (source ∷ sources) is ends = absurd cc
 all_called left name n (d ∷ ended) [] is ends = absurd cc
 all_called {P = P} left name n (d ∷ ended) (source ∷ sources) is ends =
-    let first : ran known_at d ≡ (n, source) = cc in
+    let first : program_run known_at d ≡ (n, source) = cc in
     let process : d.seat.known.process ≡ n = ap (λ (x : ℕ × P). x.0) first in
     let program : d.program.value ≡ source = ap (λ (x : ℕ × P). x.1) first in
-    let others : map (ran known_at) ended ≡ numbered (n + 1) sources = cc in
+    let others : map (program_run known_at) ended ≡ with_numbers (n + 1) sources = cc in
     let end = take_off (EndsAt left name) (d ∷ ended) ended d refl ends in
     let rest = all_called left name (n + 1) ended sources others end.1 in
     let run = end.0.run in
@@ -131,9 +130,6 @@ pub record StillKnows (old new : Known) : Type 0 where
   pub own : new.own ≡ old.own
   pub seen : IsBeginningOf old.seen new.seen
 
-begins_trans : (xs ys zs : List Entry) → IsBeginningOf xs ys → IsBeginningOf ys zs → IsBeginningOf xs zs
-begins_trans xs ys zs p q = (p.0 ++ q.0, sym (append_assoc xs p.0 q.0) ∙ ap (λ (l : List Entry). l ++ q.0) p.1 ∙ q.1)
-
 -- a process that has seen more, and has made nothing, still knows as much as it did
 pub still_more : (a b c : Known) → StillKnows a b → HasSeenMore b c → c.own ≡ b.own → StillKnows a c
 still_more a b c s more own = record {
@@ -154,17 +150,12 @@ bears_out_first a b met s still ends = record {
   exact = ap (λ (p : ℕ). entries_of p s.history) (sym still.process) ∙ ends.exact ∙ still.own;
 }
 
--- those behind others
-met_behind : (s : Recorded) (xs ys : List MetSeat) → AreMetBy s (xs ++ ys) → AreMetBy s ys
-met_behind s [] ys p = p
-met_behind s (x ∷ xs) ys p = met_behind s xs ys p.1
-
 -- and those that it met, one more and those before
 pub bears_out_next : (s : Recorded) (old new others : List MetSeat) (k : Known) → new ≡ met_seat k ∷ others ++ old
     → AreMetBy s new → IsMetBy s (met_seat k) × AreMetBy s old
 bears_out_next s old new others k is met =
     let now : AreMetBy s (met_seat k ∷ others ++ old) = subst (AreMetBy s) is met in
-    (now.0, met_behind s others old now.1)
+    (now.0, all_right (IsMetBy s) others old now.1)
 
 -- what was taken of a list and what is left, with one more taken
 pub next_taken : {A : Type 0} (taken left rest all : List A) (x : A) → taken ++ left ≡ all → left ≡ x ∷ rest
@@ -196,17 +187,6 @@ called_more a b c commands command was more added =
       calls = map_behind (λ (each : Command). (a.process, each)) (calls_in a.own) (calls_in b.own) (calls_in c.own)
           commands command was.calls (own ∙ ap (λ (call : ℕ × Command). calls_in b.own ++ call ∷ []) one);
     }
-
--- a call that is refused has added nothing
-pub none_added : (old new : Known) (fault : ApplyFault) → Refuses old new fault → new.own ≡ old.own
-none_added old new apply.HistoryFull refused = refused.0
-none_added old new apply.NoMemory refused = refused.0
-
--- what was called with a seat stays so where it has made nothing since
-pub called_same : (a b c : Known) (commands : List Command) → HasCalled a commands b → HasSeenMore b c → c.own ≡ b.own
-    → HasCalled a commands c
-called_same a b c commands was more same =
-    record { process = more.process ∙ was.process; calls = ap calls_in same ∙ was.calls }
 
 -- ---- the whole history
 
@@ -264,13 +244,23 @@ fronts_all left name s n (d ∷ ended) (commands ∷ programs) is ends borne =
 
 -- ---- one worker alone
 
--- what is asked by one program more
+-- the calls of some programs and of those behind them are the calls of the first ones, and then those of the others
+pub calls_apart : (n : ℕ) (programs later : List (List Command))
+    → calls_from n (programs ++ later) ≡ calls_from n programs ++ calls_from (n + length programs) later
+calls_apart n [] later = let here : n + 0 ≡ n = omega arith in rw here refl
+calls_apart n (cs ∷ programs) later =
+    let next : (n + 1) + length programs ≡ n + length (cs ∷ programs) = omega arith in
+    ap (λ (l : List (ℕ × Command)). calls_of n cs ++ l)
+    (calls_apart (n + 1) programs later ∙ ap (λ (m : ℕ). calls_from (n + 1) programs ++ calls_from m later) next)
+    ∙ sym (append_assoc (calls_of n cs) (calls_from (n + 1) programs) (calls_from (n + length (cs ∷ programs)) later))
+
+-- the calls of some programs and of one more behind them are those of the first ones, and then those of the last
 pub calls_more : (n m : ℕ) (programs : List (List Command)) (commands : List Command) → m ≡ n + length programs
     → calls_from n (programs ++ commands ∷ []) ≡ calls_from n programs ++ calls_of m commands
-calls_more n m [] commands is = let here : n ≡ m = omega arith in rw here (append-nil (calls_of m commands))
-calls_more n m (first ∷ programs) commands is =
-    ap (λ (cs : List (ℕ × Command)). calls_of n first ++ cs) (calls_more (n + 1) m programs commands (omega arith))
-    ∙ sym (append_assoc (calls_of n first) (calls_from (n + 1) programs) (calls_of m commands))
+calls_more n m programs commands is =
+    let last = append-nil (calls_of (n + length programs) commands) in
+    rw is (calls_apart n programs (commands ∷ [])
+    ∙ ap (λ (l : List (ℕ × Command)). calls_from n programs ++ l) last)
 
 -- fronts stay fronts where the history goes on
 fronts_stay : (drivers : List DriverSpec) (h h' : List Entry) (n : ℕ) (programs : List (List Command))
@@ -301,6 +291,7 @@ front_behind drivers h n m (c ∷ programs) [] commands front is are last = absu
 front_behind drivers h n m (c ∷ programs) (f ∷ fronts) commands front is are last =
     (are.0, front_behind drivers h (n + 1) m programs fronts commands front (omega arith) are.1 last)
 
+-- the program at the end of a list is the one that was put there
 last_program : (programs : List (List Command)) (commands : List Command)
     → get_or (programs ++ commands ∷ []) (length programs) [] ≡ commands
 last_program [] commands = refl

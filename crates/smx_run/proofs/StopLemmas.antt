@@ -1,8 +1,7 @@
 -- What a run on one thread performs, and where it stops: there is room for all commands, so it is want of memory alone
 -- that stops it.
 use Rattle.std.proofs.Common.{◌≡◌, ◌≢◌, ℕ, ◌+◌, ◌<◌, List, [], ◌∷◌, ◌++◌, length, map, refl, sym, ap, ◌∙◌, arith}
-use Rattle.std.proofs.Common.{append_assoc, Result, Ok, Err}
-use Rattle.std.specs.Prelude.{OnErr}
+use Rattle.std.proofs.Common.{append_assoc}
 use Rattle.std.proofs.lemmas.List.{length-append, length-map, map-append}
 use Rattle.std.specs.List.{sum_by}
 use Rattle.smx_types.specs.declared.command.Command.{Command}
@@ -14,12 +13,7 @@ use Rattle.smx_shared.specs.Recorded.{Recorded, next_entry, with_entry}
 use Rattle.smx_run.specs.Alone.{PerformedAlone}
 use Rattle.smx_run.specs.ProgramOrder.{calls_of, calls_from}
 use Rattle.smx_run.proofs.RecordingLemmas.{counted}
-use Rattle.smx_run.proofs.RunLemmas.{map_behind}
-
--- what is so is so where a fault is answered
-pub on_err : {T E : Type 0} (result : Result T E) (P : Type 0) → P → OnErr result P
-on_err (Ok value) P h = tt
-on_err (Err fault) P h = h
+use Rattle.smx_run.proofs.RunLemmas.{calls_apart, map_behind}
 
 -- these commands, and then one more
 pub alone_more : (process : ℕ) (a b c : Recorded) (commands : List Command) (command : Command)
@@ -39,16 +33,6 @@ alone_more process a b c commands command was is =
           (map call_of (b.history ++ entry ∷ [])) commands command was.calls
           (map-append call_of b.history (entry ∷ []));
     })
-
--- what is asked by some programs, and then by those behind them
-calls_apart : (n : ℕ) (programs later : List (List Command))
-    → calls_from n (programs ++ later) ≡ calls_from n programs ++ calls_from (n + length programs) later
-calls_apart n [] later = let here : n + 0 ≡ n = omega arith in rw here refl
-calls_apart n (cs ∷ programs) later =
-    let next : (n + 1) + length programs ≡ n + length (cs ∷ programs) = omega arith in
-    ap (λ (l : List (ℕ × Command)). calls_of n cs ++ l)
-    (calls_apart (n + 1) programs later ∙ ap (λ (m : ℕ). calls_from (n + 1) programs ++ calls_from m later) next)
-    ∙ sym (append_assoc (calls_of n cs) (calls_from (n + 1) programs) (calls_from (n + length (cs ∷ programs)) later))
 
 -- what was asked where one program stopped, and the next command is the first that is left
 pub left_of : {asked was : List (ℕ × Command)} {p : ℕ} {programs behind later : List (List Command)}

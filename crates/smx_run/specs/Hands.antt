@@ -14,16 +14,16 @@ use Rattle.smx_run.specs.declared.worker.SeatedProgram.{SeatedProgram}
 use Rattle.smx_run.specs.declared.worker.EndedProgram.{EndedProgram}
 
 -- the process of a seat, and the program that it is to run
-abbrev pub given : {S P : Type 0} → (S → Known) → SeatedProgram S P → ℕ × P
-given known job = ((known job.seat).process, job.program)
+abbrev pub program_given : {S P : Type 0} → (S → Known) → SeatedProgram S P → ℕ × P
+program_given known job = ((known job.seat).process, job.program)
 
 -- the calls that these entries are of
 abbrev pub calls_in : List Entry → List (ℕ × Command)
 calls_in entries = map call_of entries
 
 -- the process of a seat, and the program that it has run
-abbrev pub ran : {S P : Type 0} → (S → Known) → EndedProgram S P → ℕ × P
-ran known done = ((known done.seat).process, done.program.value)
+abbrev pub program_run : {S P : Type 0} → (S → Known) → EndedProgram S P → ℕ × P
+program_run known done = ((known done.seat).process, done.program.value)
 
 -- as far as the history was seen, it has as many entries as it may
 abbrev pub KnowsItFull : Known → Type 0
@@ -47,8 +47,8 @@ pub record HasRun {P : Type 0} (left : P → List Command → Type 0) (k : Known
   pub all_of_it : left program commands
   pub calls : calls_in k.own ≡ calls_of k.process commands
 
--- what is known once a program has ended: what was made here is just what the history has of the process, as far as it
--- was seen, and the front is that of it
+-- what is known once a program has ended: of the process, the history that was seen has just those entries that were
+-- made here, and the front is that of this history
 pub record HasEnded (k : Known) (front : Front) : Type 0 where
   pub exact : k.own ≡ entries_of k.process k.seen
   pub numbers : IsFrontOf front k.drivers k.seen
@@ -74,11 +74,11 @@ known_at seat = seat.known
 
 -- what a hand of processes is to run, in order
 abbrev pub given_hand : {P A : Type 0} → Vec (SeatedProgram Seated P) A → List (ℕ × P)
-given_hand hand = map (given known_at) hand.items
+given_hand hand = map (program_given known_at) hand.items
 
 -- what a hand of processes has run, in order
 abbrev pub ran_hand : {P A : Type 0} → Vec (EndedProgram Seated P) A → List (ℕ × P)
-ran_hand hand = map (ran known_at) hand.items
+ran_hand hand = map (program_run known_at) hand.items
 
 -- a seat of this shared system, with which nothing was called yet
 abbrev pub IsFresh : SharedId → Seated → Type 0

@@ -16,6 +16,6 @@ abbrev pub BeginsCalls : List (ℕ × Command) → ℕ → List (List Command) �
 BeginsCalls calls n programs = (left : List (ℕ × Command)) × (calls ++ left ≡ calls_from n programs)
 
 -- process n with its program, then the next with its own, and so on
-abbrev pub numbered : {P : Type 0} → ℕ → List P → List (ℕ × P)
-numbered n [] = []
-numbered n (program ∷ programs) = (n, program) ∷ numbered (n + 1) programs
+abbrev pub with_numbers : {P : Type 0} → ℕ → List P → List (ℕ × P)
+with_numbers n [] = []
+with_numbers n (program ∷ programs) = (n, program) ∷ with_numbers (n + 1) programs

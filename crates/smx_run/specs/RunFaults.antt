@@ -30,7 +30,8 @@ RefusesAlone drivers (run.ConfigFault f) = RefusesDrivers drivers f × (f ≢ co
 RefusesAlone drivers run.HistoryFull = ⊥
 RefusesAlone drivers run.Held = ⊥
 
--- or they are not, and the workers met a full history, or a turn that was never given back
+-- the drivers are refused, and that is said; or they are not, and memory was wanting, or the workers met a full history
+-- or a turn that was never given back
 abbrev pub RefusesRun : List DriverSpec → RunFault → Type 0
 RefusesRun drivers run.NoMemory = IsDriverList drivers
 RefusesRun drivers (run.Strange process) = ⊥

@@ -15,8 +15,6 @@ use crate::past::Past;
 use crate::recorder::NewRecorder;
 use crate::recording::Recording;
 use crate::run_fault::RunFault;
-use smx_model::laws::lawful_after_each_entry;
-use smx_model::laws_of_messages::few_commands_drop;
 use smx_types::{Command, ConfigView, DriverSpec, Drivers, NoMemory, Process, Programs, Version};
 use std::alloc::Global;
 use std::marker::Model;
@@ -146,8 +144,6 @@ impl<K: NewRecorder> GrowingRun<K> {
         ensures report { IfOk result (λ r. IsRecordOf self K.told r.0 r.1) }
         ensures refused { IfErr result (RefusesAlone self.drivers) }
     {
-        lawful_after_each_entry();
-        few_commands_drop();
         let recording = recording_of(self.alloc, self.version, self.stage)?;
         Ok(recording.finish()?)
     }

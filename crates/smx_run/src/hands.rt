@@ -3,10 +3,10 @@
 ghost use Rattle.std.specs.Prelude.{◌≡◌, ◌≢◌, ◌≤◌, ◌<◌, ℕ, [], ◌∷◌, ◌++◌, All, length, map, slice_index_or};
 ghost use Rattle.std.specs.Prelude.{vec_len, IfOk, OnOk};
 ghost use Rattle.std.specs.List.{range_with_len};
-ghost use Rattle.smx_run.specs.Hands.{ran, known_at, given_hand, ran_hand, hand_of, hands_of};
+ghost use Rattle.smx_run.specs.Hands.{program_run, known_at, given_hand, ran_hand, hand_of, hands_of};
 ghost use Rattle.smx_run.specs.Hands.{AreFresh, EndsAt, HaveEnded, IsFresh};
 ghost use Rattle.smx_shared.specs.Seats.{SharedId};
-ghost use Rattle.smx_run.specs.ProgramOrder.{numbered};
+ghost use Rattle.smx_run.specs.ProgramOrder.{with_numbers};
 
 use crate::command_source::CommandSource;
 use crate::worker::{EndedProgram, SeatedProgram};
@@ -26,7 +26,7 @@ pub fn deal<K: Keeper, P: CommandSource>(
     requires seats { map (λ s. s.known.process) seats.items ≡ range_with_len 0 (length programs.items) }
     ensures fresh { IfOk result (λ v. (name : SharedId)
         → All (IsFresh name) seats.items → All (AreFresh name) v.items) }
-    ensures dealt { IfOk result (λ v. map given_hand v.items ≡ hands_of workers (numbered 0 programs.items)) }
+    ensures dealt { IfOk result (λ v. map given_hand v.items ≡ hands_of workers (with_numbers 0 programs.items)) }
 {
     let mut hands = empty_hands(alloc, workers)?;
     let mut programs = programs.into_iter();
@@ -82,11 +82,11 @@ pub fn collect<K: Keeper, P: CommandSource>(
     programs: Snapshot<Vec<P>>,
 ) -> Result<Vec<EndedProgram<Seat<K>, P>>, NoMemory>
     requires workers { 1 ≤ vec_len hands }
-    requires dealt { map ran_hand hands.items ≡ hands_of (vec_len hands) (numbered 0 programs.value.items) }
+    requires dealt { map ran_hand hands.items ≡ hands_of (vec_len hands) (with_numbers 0 programs.value.items) }
     requires processes { length programs.value.items ≡ processes }
     ensures ended { IfOk result (λ v. (name : SharedId)
         → All (HaveEnded P.left name) hands.items → HaveEnded P.left name v) }
-    ensures ran { IfOk result (λ v. ran_hand v ≡ numbered 0 programs.value.items) }
+    ensures ran { IfOk result (λ v. ran_hand v ≡ with_numbers 0 programs.value.items) }
 {
     let mut ended = Vec::with_capacity(alloc, processes)?;
     for process in 0..processes {
@@ -105,7 +105,7 @@ fn take_first<K: Keeper, P: CommandSource>(
     requires some { slice_index_or (map ran_hand hands.old.items) worker [] ≢ [] }
     ensures workers { vec_len hands.new ≡ vec_len hands.old }
     ensures first { slice_index_or (map ran_hand hands.old.items) worker []
-        ≡ ran known_at result ∷ slice_index_or (map ran_hand hands.new.items) worker [] }
+        ≡ program_run known_at result ∷ slice_index_or (map ran_hand hands.new.items) worker [] }
     ensures ended { (name : SharedId)
         → All (HaveEnded P.left name) hands.old.items
         → EndsAt P.left name result × All (HaveEnded P.left name) hands.new.items }

@@ -18,10 +18,10 @@ ghost use Rattle.smx_run.specs.Alone.{KeepsBehind, StopsAmong};
 ghost use Rattle.smx_run.specs.CommandSources.{AreLinesFor};
 ghost use Rattle.smx_run.specs.Fronts.{AreFrontsFrom};
 ghost use Rattle.smx_run.specs.Gathering.{IsLeastStrange};
-ghost use Rattle.smx_run.specs.Hands.{given, ran, HasCalled, KnowsItFull};
+ghost use Rattle.smx_run.specs.Hands.{program_given, program_run, HasCalled, KnowsItFull};
 ghost use Rattle.smx_run.specs.WorkedRuns.{ended_at, second, to_run, HasEndedOf, IsFirstToRun, IsListOf};
 ghost use Rattle.smx_run.specs.WorkedRuns.{IsNextOfAny, IsNextOfList, StopsWithinList};
-ghost use Rattle.smx_run.specs.ProgramOrder.{calls_from, numbered, BeginsCalls};
+ghost use Rattle.smx_run.specs.ProgramOrder.{calls_from, with_numbers, BeginsCalls};
 ghost use Rattle.smx_run.specs.RecordedRuns.{IsRecordOf, IsRecordOfRun, IsRecordOfSources, KeepsAll};
 ghost use Rattle.smx_run.specs.RunFaults.{RefusesAlone, RefusesRun};
 ghost use Rattle.smx_run.specs.declared.run_fault.RunFault.{RunFault};
@@ -163,9 +163,9 @@ pub fn what_has_ended()
 /// What a process is to run is what it then has run: its program, under its own number. Programs are numbered in their
 /// order.
 pub fn whose_program_it_is()
-    ensures to_run { given (λ k. k) (to_run (knows 1 0 9) (Dup 0 ∷ [])) ≡ (1, Dup 0 ∷ []) }
-    ensures has_run { ran (λ k. k) (ended_at (knows 1 1 9) (front 1 0 false) (Dup 0 ∷ [])) ≡ (1, Dup 0 ∷ []) }
-    ensures in_order { numbered 3 ((Dup 0 ∷ []) ∷ [] ∷ []) ≡ (3, Dup 0 ∷ []) ∷ (4, []) ∷ [] }
+    ensures to_run { program_given (λ k. k) (to_run (knows 1 0 9) (Dup 0 ∷ [])) ≡ (1, Dup 0 ∷ []) }
+    ensures has_run { program_run (λ k. k) (ended_at (knows 1 1 9) (front 1 0 false) (Dup 0 ∷ [])) ≡ (1, Dup 0 ∷ []) }
+    ensures in_order { with_numbers 3 ((Dup 0 ∷ []) ∷ [] ∷ []) ≡ (3, Dup 0 ∷ []) ∷ (4, []) ∷ [] }
 {}
 
 /// A history of one entry is known to be full where it may have one, and not where it may have two.

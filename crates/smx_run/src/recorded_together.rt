@@ -15,7 +15,6 @@ use crate::run_fault::RunFault;
 use crate::scribe::{About, Scribe};
 use crate::threads::run_together;
 use smx_config::Config;
-use smx_model::laws_of_messages::few_commands_drop;
 use smx_shared::System;
 use smx_types::{Command, ConfigView, DriverSpec, MAX_COMMANDS, Programs, Version};
 use std::alloc::Global;
@@ -125,7 +124,6 @@ fn run_about<
         (λ r. IsRecordOfSources version config.drivers P.left programs.items K.told r.0 r.1) }
     ensures refused { IfErr result (RefusesRun config.drivers) }
 {
-    few_commands_drop();
     let scribe = Scribe::<A, K>::new(recorder);
     let system = System::begin(alloc, config, MAX_COMMANDS, scribe);
     let hands = workers.min(programs.len());

@@ -21,7 +21,6 @@ use crate::gathering::report;
 use crate::report::Report;
 use crate::run_fault::RunFault;
 use crate::threads::run_together;
-use smx_model::laws_of_messages::few_commands_drop;
 use smx_shared::{ApplyFault, Front, Fronts, System};
 use smx_types::{Commands, DriverSpec, MAX_COMMANDS, Process, ProgramList, Programs};
 use std::alloc::Global;
@@ -53,7 +52,6 @@ pub fn run_programs<R: Threads + Wait + Sync, G: Gate + Sync>(
     ensures in_turn { (workers ≤ 1) ⊎ (length programs.programs ≤ 1)
         → IfOk result (λ r. map call_of r.entries ≡ calls_from 0 programs.programs) }
 {
-    few_commands_drop();
     let (drivers, programs) = programs.into_parts();
     let system = new_system(
         alloc,

@@ -10,7 +10,7 @@ ghost use Rattle.smx_shared.specs.declared.shared_fault.ApplyFault.TheVariants a
 ghost use Rattle.smx_run.specs.CommandSources.{AreLinesFor};
 ghost use Rattle.smx_run.specs.Hands.{ran_hand, given_hand, AllHaveEnded, HaveRun, AreFresh, HaveEnded, IsFresh};
 ghost use Rattle.smx_run.specs.Hands.{HasRunAll, IsSeenFull};
-ghost use Rattle.smx_run.specs.ProgramOrder.{numbered};
+ghost use Rattle.smx_run.specs.ProgramOrder.{with_numbers};
 ghost use Rattle.smx_run.specs.RunFaults.{RefusesRun};
 
 use crate::command_source::CommandSource;
@@ -71,7 +71,7 @@ fn run_seats<R: Threads + Wait + Sync, K: Keeper + Send, P: CommandSource + Send
     requires lines { AreLinesFor P.spells K.spells }
     requires workers { 1 ≤ workers }
     ensures ended { IfOk result (HaveEnded P.left shared.now.name) }
-    ensures ran { IfOk result (λ v. ran_hand v ≡ numbered 0 programs.items) }
+    ensures ran { IfOk result (λ v. ran_hand v ≡ with_numbers 0 programs.items) }
     ensures full { IsErrOf result apply.HistoryFull → IsSeenFull shared.now.name }
 {
     let processes = programs.len();

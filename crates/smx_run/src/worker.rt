@@ -4,7 +4,8 @@ ghost use Rattle.std.specs.Prelude.{◌≡◌, All, map, IfOk, OnOk, OnErr, IsEr
 ghost use Rattle.smx_shared.specs.declared.shared_fault.ApplyFault.TheVariants as apply;
 ghost use Rattle.smx_run.specs.Alone.{StopsWithin};
 ghost use Rattle.smx_run.specs.CommandSources.{AreLinesFor};
-ghost use Rattle.smx_run.specs.Hands.{given, ran, HasCalled, HasCalledAll, IsToRunWith, HasEndedWith, KnowsItFull};
+ghost use Rattle.smx_run.specs.Hands.{program_given, program_run, HasCalled, HasCalledAll, IsToRunWith, HasEndedWith};
+ghost use Rattle.smx_run.specs.Hands.{KnowsItFull};
 ghost use Rattle.smx_run.specs.Hands.{SomeKnowsItFull};
 
 use crate::command_source::CommandSource;
@@ -43,7 +44,7 @@ where
     D::Seat: Drop,
     requires seats { All (IsToRunWith (D.is_seat door.now) D.known) hand.items }
     requires lines { AreLinesFor P.spells D.spells }
-    ensures ran { IfOk result (λ v. map (ran D.known) v.items ≡ map (given D.known) hand.items) }
+    ensures ran { IfOk result (λ v. map (program_run D.known) v.items ≡ map (program_given D.known) hand.items) }
     ensures ended { IfOk result (λ v. All (HasEndedWith (D.is_seat door.now) D.known P.left) v.items) }
     ensures full { IsErrOf result apply.HistoryFull → SomeKnowsItFull (D.is_seat door.now) D.known }
 {
@@ -66,7 +67,7 @@ where
     D::Seat: Drop,
     requires seat { IsToRunWith (D.is_seat door.now) D.known job }
     requires lines { AreLinesFor P.spells D.spells }
-    ensures ran { IfOk result (λ d. ran D.known d ≡ given D.known job) }
+    ensures ran { IfOk result (λ d. program_run D.known d ≡ program_given D.known job) }
     ensures ended { IfOk result (HasEndedWith (D.is_seat door.now) D.known P.left) }
     ensures full { IsErrOf result apply.HistoryFull → SomeKnowsItFull (D.is_seat door.now) D.known }
 {

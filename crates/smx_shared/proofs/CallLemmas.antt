@@ -1,13 +1,12 @@
 -- What contracts see of what a seat learns.
-use Rattle.std.proofs.Common.{◌≡◌, ℕ, ◌+◌, ◌*◌, ◌%◌, ◌<◌, ◌≤◌, true, List, [], ◌++◌, ◌∷◌, map, Some, None, sym, ap, ◌∙◌}
+use Rattle.std.proofs.Common.{◌≡◌, ℕ, ◌+◌, ◌*◌, ◌%◌, ◌<◌, true, List, [], ◌++◌, ◌∷◌, map, Some, None, sym, ap, ◌∙◌}
 use Rattle.std.proofs.Common.{subst, refl, arith}
 use Rattle.std.specs.List.{range_with_len}
 use Rattle.std.proofs.lemmas.List.FromFn.{map-range_with_len_more}
 use Rattle.smx_types.specs.declared.command.Entry.{Entry}
-use Rattle.smx_types.specs.declared.driver.DriverSpec.{DriverSpec}
 use Rattle.smx_shared.specs.Calls.{GoesOnFrom, HasSeenMore, SeesFront, EndsAs}
 use Rattle.smx_shared.specs.CloseFaults.{ShowsHeld}
-use Rattle.smx_shared.specs.Fronts.{links_after, word_of, turn_bit}
+use Rattle.smx_shared.specs.Fronts.{word_of, turn_bit}
 use Rattle.smx_shared.specs.Recorded.{Recorded, IsSoundSystem}
 use Rattle.smx_shared.specs.Seats.{SharedAs, GoesOnNamed, SharedId, Seated, first_seat, entries_of, AreMetBy}
 use Rattle.smx_shared.specs.Seats.{IsBeginningOf}
@@ -15,6 +14,7 @@ use Rattle.smx_shared.specs.SeatViews.{known_of, IsInformed, HasGrown, FoundWord
 use Rattle.smx_shared.specs.TurnRule.{Slot, system_with}
 use Rattle.smx_shared.specs.declared.front.Front.{Front}
 use Rattle.smx_shared.specs.declared.seat_view.SeatView.{SeatView}
+use Rattle.smx_model.proofs.LimitLemmas.{always_within}
 use Rattle.smx_shared.proofs.TellLemmas.{grown_trans}
 use Rattle.smx_shared.proofs.FrontWordLemmas.{word_small, reads_front, shows_held}
 
@@ -35,28 +35,26 @@ pub has_seen_more_by : (u v w : SeatView) → HasGrown u v → HasGrown v w → 
     → HasSeenMore (known_of u) (known_of w)
 has_seen_more_by u v w first second = has_seen_more u w (grown_trans u v w first second)
 
--- the law of the limits, of links
-abbrev AreLinksFew : Type 0
-AreLinksFew = (drivers : List DriverSpec) (history : List Entry) → links_after drivers history ≤ 1024
-
 -- a word that was found can be read
-pub found_small : AreLinksFew → (v w : SeatView) (n : ℕ) → FoundWord v w n → IsInformed w → n < 4096 * 4294967296
-found_small few v w n found informed =
+pub found_small : (v w : SeatView) (n : ℕ) → FoundWord v w n → IsInformed w → n < 4096 * 4294967296
+found_small v w n found informed =
     let within = informed.sound.within in
     let limited = informed.sound.limited in
-    word_small w.drivers n w.seen found.front (omega arith) (few w.drivers w.seen)
+    word_small w.drivers n w.seen found.front (omega arith)
+    (always_within w.drivers w.seen).links
 
 -- what is read of it is the front of what was seen
-pub found_front : AreLinksFew → (v w : SeatView) (n : ℕ) (front : Front) → FoundWord v w n → word_of front ≡ n
+pub found_front : (v w : SeatView) (n : ℕ) (front : Front) → FoundWord v w n → word_of front ≡ n
     → front.links < 2048 → SeesFront (known_of v) (known_of w) front × (turn_bit front.held ≡ n % 2)
-found_front few v w n front found word links =
-    let read = reads_front w.drivers n w.seen front found.front (few w.drivers w.seen) word links in
+found_front v w n front found word links =
+    let read = reads_front w.drivers n w.seen front found.front (always_within w.drivers w.seen).links word links in
     (record { numbers = read.0; own = found.own }, read.1)
 
 -- and shows the turn held where its bit is set
 pub found_held : (n : ℕ) (front : Front) → turn_bit front.held ≡ n % 2 → n % 2 ≡ 1 → front.held ≡ true
 found_held n front bit odd = shows_held front.held (bit ∙ odd)
 
+-- the system that lies in a slot, or this one where the slot is empty
 slot_or : Recorded → Slot → Recorded
 slot_or s (Some x) = x
 slot_or s None = s
@@ -95,15 +93,17 @@ goes_on_from shared v x s h is there begun drivers limit =
     subst (GoesOnFrom shared) (sym same) record { drivers = drivers; limit = limit; history = begun }
 
 -- a word that is the front of a history that goes on from what was seen is small
-pub from_small : AreLinksFew → (v : SeatView) (n : ℕ) → IsWordFrom v n → n < 4096 * 4294967296
-from_small few v n word =
+pub from_small : (v : SeatView) (n : ℕ) → IsWordFrom v n → n < 4096 * 4294967296
+from_small v n word =
     let within = word.sound.within in
     let limited = word.sound.limited in
-    word_small v.drivers n word.history word.front (omega arith) (few v.drivers word.history)
+    word_small v.drivers n word.history word.front (omega arith)
+    (always_within v.drivers word.history).links
 
 -- and what is read from it, with the turn bit set, shows the turn held
-pub from_held : AreLinksFew → (v : SeatView) (n : ℕ) (front : Front) → n % 2 ≡ 1 → IsWordFrom v n → word_of front ≡ n
+pub from_held : (v : SeatView) (n : ℕ) (front : Front) → n % 2 ≡ 1 → IsWordFrom v n → word_of front ≡ n
     → front.links < 2048 → ShowsHeld (known_of v) front
-from_held few v n front odd word is links =
-    let read = reads_front v.drivers n word.history front word.front (few v.drivers word.history) is links in
+from_held v n front odd word is links =
+    let few = (always_within v.drivers word.history).links in
+    let read = reads_front v.drivers n word.history front word.front few is links in
     record { held = found_held n front read.1 odd; history = word.history; seen = word.seen; numbers = read.0 }

@@ -10,6 +10,7 @@ use Rattle.smx_shared.specs.Fronts.{front_of, links_after, word_of, turn_bit, Is
 use Rattle.smx_shared.specs.TurnRule.{Turn, free, held, bit_of}
 use Rattle.smx_shared.specs.declared.front.Front.{Front}
 
+-- with no bit of 0 set besides, a number stays what it is
 or_zero : (a : ℕ) → bit_or a 0 ≡ a
 or_zero a = let e : bit_or (a * 1) 0 ≡ a * 1 + 0 = or_shifted a 0 0 (omega arith) in
     let one : a * 1 ≡ a = omega arith in ap (λ (k : ℕ). bit_or k 0) (sym one) ∙ (e ∙ (omega arith))

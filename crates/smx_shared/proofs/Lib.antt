@@ -1,8 +1,10 @@
 pub mod CallLemmas
+pub mod EachLemmas
 pub mod MetSeatLemmas
 pub mod OwnEntryLemmas
 pub mod RecordLemmas
 pub mod SeatListLemmas
+pub mod SeatStepLemmas
 pub mod StepLemmas
 pub mod TellLemmas
 pub mod TurnLemmas

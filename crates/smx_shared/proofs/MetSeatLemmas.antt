@@ -6,41 +6,26 @@ use lib.ListN.{get_elem?}
 use Rattle.atomic_table.proofs.Lists.{at_set}
 use Rattle.smx_types.specs.declared.command.Entry.{Entry}
 use Rattle.smx_types.specs.declared.driver.DriverSpec.{DriverSpec}
-use Rattle.smx_shared.specs.Recorded.{Recorded}
 use Rattle.smx_shared.specs.Seats.{AreMetBy}
-use Rattle.smx_shared.specs.SeatViews.{after_meeting, spent, AddsFor}
+use Rattle.smx_shared.specs.SeatViews.{after_meeting, spent_view, AddsFor}
 use Rattle.smx_shared.specs.TurnRule.{system_with, AreMetBelow, IsNotMet, AreMetApart, AreNamedApart, IsNamed}
 use Rattle.smx_shared.specs.declared.seat_view.MetSeat.{MetSeat}
 use Rattle.smx_shared.specs.declared.seat_view.SeatView.{SeatView}
+use Rattle.smx_shared.proofs.EachLemmas.{all_append, all_weaker}
 use Rattle.smx_shared.proofs.OwnEntryLemmas.{begins_trans, others_stay}
 use Rattle.smx_shared.proofs.SeatListLemmas.{at_end}
 
 -- ---- lists of them
 
--- if what the met seats of two lists knew is so of a system, so it is for both lists together
-pub met_join : (s : Recorded) (xs ys : List MetSeat) → AreMetBy s xs → AreMetBy s ys → AreMetBy s (xs ++ ys)
-met_join s [] ys p q = q
-met_join s (x ∷ xs) ys p q = (p.0, met_join s xs ys p.1 q)
-
--- if the processes of the seats in two lists are below a name, so they are in both lists together
-pub met_named_join : (n : ℕ) (xs ys : List MetSeat) → AreMetBelow n xs → AreMetBelow n ys → AreMetBelow n (xs ++ ys)
-met_named_join n [] ys p q = q
-met_named_join n (x ∷ xs) ys p q = (p.0, met_named_join n xs ys p.1 q)
-
--- one name more
+-- processes of met seats that are below a name are below the name after that
 pub met_named_more : (n : ℕ) (xs : List MetSeat) → AreMetBelow n xs → AreMetBelow (n + 1) xs
-met_named_more n [] p = tt
-met_named_more n (x ∷ xs) p = let lt : x.process < n = p.0 in ((omega arith), met_named_more n xs p.1)
+met_named_more n xs below = all_weaker (λ (x : MetSeat). x.process < n) (λ (x : MetSeat). x.process < n + 1)
+    (λ (x : MetSeat) (lt : x.process < n). omega arith) xs below
 
-not_met_join : (p : ℕ) (xs ys : List MetSeat) → IsNotMet p xs → IsNotMet p ys → IsNotMet p (xs ++ ys)
-not_met_join p [] ys f g = g
-not_met_join p (x ∷ xs) ys f g = (f.0, not_met_join p xs ys f.1 g)
-
--- the next name was not met
+-- where the processes of all met seats are below a name, none of them has that name
 pub not_met_next : (n p : ℕ) (xs : List MetSeat) → p ≡ n → AreMetBelow n xs → IsNotMet p xs
-not_met_next n p [] is below = tt
-not_met_next n p (x ∷ xs) is below =
-    let lt : x.process < n = below.0 in ((λ same. absurd (omega arith)), not_met_next n p xs is below.1)
+not_met_next n p xs is below = all_weaker (λ (x : MetSeat). x.process < n) (λ (x : MetSeat). x.process ≢ p)
+    (λ (x : MetSeat) (lt : x.process < n) (same : x.process ≡ p). absurd (omega arith)) xs below
 
 -- what was made under their processes stays, where another process adds
 pub met_stays : (p : ℕ) (d : List DriverSpec) (l : ℕ) (h h' : List Entry) (xs : List MetSeat) → AddsFor p h h'
@@ -104,12 +89,12 @@ met_apart_end views w apart unnamed none i j u v at_i at_j named =
 -- where a seat meets another, which is spent
 pub met_apart_meeting : (views : List SeatView) (id other : ℕ) (v w : SeatView) → AreNamedApart views
     → AreMetApart views → get_elem? views id ≡ some v → other ≢ id → get_elem? views other ≡ some w → IsNamed w
-    → AreMetApart (set (set views id (after_meeting v w)) other spent)
+    → AreMetApart (set (set views id (after_meeting v w)) other spent_view)
 met_apart_meeting views id other v w apart met_apart at others there named_w i j u x at_i at_j named =
     let both = set views id (after_meeting v w) in
     let live : (j ≢ other) × (y : SeatView) × (get_elem? views j ≡ some y) × (y.process ≡ x.process)
     × IsNamed y = ⊎_elim
-    (λ (a : (j ≡ other) × (spent ≡ x)). absurd (true≢false (ap (λ (z : SeatView). z.spent) a.1 ∙ named.0)))
+    (λ (a : (j ≡ other) × (spent_view ≡ x)). absurd (true≢false (ap (λ (z : SeatView). z.spent) a.1 ∙ named.0)))
     (λ (a : (j ≢ other) × (get_elem? both j ≡ some x)). ⊎_elim
     (λ (b : (j ≡ id) × (after_meeting v w ≡ x)). (
       a.0,
@@ -120,18 +105,18 @@ met_apart_meeting views id other v w apart met_apart at others there named_w i j
     ))
     (λ (b : (j ≢ id) × (get_elem? views j ≡ some x)). (a.0, x, b.1, (λ k. x.process), named))
     (at_set views id j (after_meeting v w) x a.1))
-    (at_set both other j spent x at_j) in
+    (at_set both other j spent_view x at_j) in
     let y = live.1 in
     let not_by : (k : ℕ) (z : SeatView) → get_elem? views k ≡ some z
     → IsNotMet x.process z.met =
     λ k z e. subst (λ (p : ℕ). IsNotMet p z.met) live.3 (met_apart k j z y e live.2 live.4) in
     ⊎_elim
-    (λ (a : (i ≡ other) × (spent ≡ u)). subst (λ (z : SeatView). IsNotMet x.process z.met) a.1 tt)
+    (λ (a : (i ≡ other) × (spent_view ≡ u)). subst (λ (z : SeatView). IsNotMet x.process z.met) a.1 tt)
     (λ (a : (i ≢ other) × (get_elem? both i ≡ some u)). ⊎_elim
     (λ (b : (i ≡ id) × (after_meeting v w ≡ u)). subst (λ (z : SeatView). IsNotMet x.process z.met) b.1 (
       (λ same. live.0 (apart j other y w live.2 there live.4 named_w (live.3 ∙ sym same))),
-      not_met_join x.process w.met v.met (not_by other w there) (not_by id v at),
+      all_append (λ (z : MetSeat). z.process ≢ x.process) w.met v.met (not_by other w there) (not_by id v at),
     ))
     (λ (b : (i ≢ id) × (get_elem? views i ≡ some u)). not_by i u b.1)
     (at_set views id i (after_meeting v w) u a.1))
-    (at_set both other i spent u at_i)
+    (at_set both other i spent_view u at_i)

@@ -7,6 +7,7 @@ use Rattle.std.proofs.lemmas.Bool.{ne_eqb}
 use Rattle.smx_types.specs.declared.command.Entry.{Entry}
 use Rattle.smx_shared.specs.Seats.{entries_of, AreNamedBelow, GoesOnNamed, IsBeginningOf}
 use Rattle.smx_shared.specs.SeatViews.{AddsFor}
+use Rattle.smx_shared.proofs.EachLemmas.{all_append, all_weaker}
 
 -- ---- beginnings
 
@@ -43,21 +44,12 @@ entries_none n p (e ∷ es) below le =
 
 -- ---- histories that go on by named processes
 
-named_append : (n : ℕ) (xs ys : List Entry) → AreNamedBelow n xs → AreNamedBelow n ys → AreNamedBelow n (xs ++ ys)
-named_append n [] ys p q = q
-named_append n (x ∷ xs) ys p q = (p.0, named_append n xs ys p.1 q)
-
--- one name more
-named_more : (n : ℕ) (xs : List Entry) → AreNamedBelow n xs → AreNamedBelow (n + 1) xs
-named_more n [] p = tt
-named_more n (x ∷ xs) p = let lt : x.process < n = p.0 in ((omega arith), named_more n xs p.1)
-
 -- a history that goes on by named processes from one that does so goes on by them from the first
 pub goes_on_trans : (n : ℕ) (xs ys zs : List Entry) → GoesOnNamed n xs ys → GoesOnNamed n ys zs → GoesOnNamed n xs zs
 unfolding begins_trans
 goes_on_trans n xs ys zs p q =
     let t = begins_trans xs ys zs (p.0, p.1) (q.0, q.1) in
-    (t.0, t.1, named_append n p.0 q.0 p.2 q.2)
+    (t.0, t.1, all_append (λ (e : Entry). e.process < n) p.0 q.0 p.2 q.2)
 
 -- a history goes on by named processes from itself, by no entry
 pub goes_on_itself : (n : ℕ) (xs : List Entry) → GoesOnNamed n xs xs
@@ -65,7 +57,12 @@ goes_on_itself n xs = ([], append-nil xs, tt)
 
 -- a history that goes on by named processes does so with one name more
 pub goes_on_more : (n : ℕ) (xs ys : List Entry) → GoesOnNamed n xs ys → GoesOnNamed (n + 1) xs ys
-goes_on_more n xs ys p = (p.0, p.1, named_more n p.0 p.2)
+goes_on_more n xs ys p = (
+  p.0,
+  p.1,
+  all_weaker (λ (e : Entry). e.process < n) (λ (e : Entry). e.process < n + 1)
+      (λ (e : Entry) (below : e.process < n). omega arith) p.0 p.2,
+)
 
 -- a history that goes on from another by named processes begins with that
 pub goes_on_begins : (n : ℕ) (xs ys : List Entry) → GoesOnNamed n xs ys → IsBeginningOf xs ys

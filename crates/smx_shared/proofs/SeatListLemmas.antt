@@ -81,6 +81,7 @@ holder_stays views t id v w at off there j is = let h = there j is in
     ∙ ap (λ (z : SeatView). z.turn) (some-injective h.0 v (sym h.1 ∙ ap (get_elem? views) e ∙ at)) ∙ off) in
     (h.0, set_else views id j w apart ∙ h.1, h.2)
 
+-- where a seat changes that has the turn as before, a seat that had the turn is still there, and has it
 same_turn : (views : List SeatView) (id k : ℕ) (v w u : SeatView) → get_elem? views id ≡ some v → w.turn ≡ v.turn
     → get_elem? views k ≡ some u → u.turn ≡ true
     → (x : SeatView) × (get_elem? (set views id w) k ≡ some x) × (x.turn ≡ true)

@@ -13,7 +13,7 @@ use Rattle.smx_shared.specs.Calls.{AnswersEntry, AddsEntry}
 use Rattle.smx_shared.specs.Fronts.{front_of}
 use Rattle.smx_shared.specs.Recorded.{Recorded, IsSoundSystem, next_entry, with_entry}
 use Rattle.smx_shared.specs.Seats.{entries_of, AreMetBy, GoesOnNamed, IsBeginningOf}
-use Rattle.smx_shared.specs.SeatViews.{Mine, after_meeting, stepped, Shows, Looked, Taken, Published, history_in}
+use Rattle.smx_shared.specs.SeatViews.{Mine, after_meeting, after_step, Shows, Looked, Taken, Published, history_in}
 use Rattle.smx_shared.specs.SeatViews.{known_of, system_of, IsAtRest, IsInformed, RestsAfter, HasTurn, HasGrown, HasMet}
 use Rattle.smx_shared.specs.SeatViews.{FoundWord, AddsFor}
 use Rattle.smx_shared.specs.TurnRule.{Slot, Turn, free, held, bit_of, home_of, system_with, TurnRule}
@@ -39,7 +39,7 @@ grown_trans u v w p q = record {
 
 -- by a step that showed it a history
 grown_by : (v : SeatView) (h : List Entry) (n : ℕ) (on : Bool) (own : List Entry) → Shows v h
-    → HasGrown v (stepped v h n on own)
+    → HasGrown v (after_step v h n on own)
 grown_by v h n on own s = record {
   drivers = refl;
   limit = refl;
@@ -67,9 +67,10 @@ pub taken_free : (m m' : Mine) (n : ℕ) → IsAtRest m → Taken (step 0 0 1 0 
     HasTurn m' (Some (system_of m'.0)) × HasGrown m.0 m'.0 × (m'.0.own ≡ m.0.own) × (m'.0.looks ≡ m.0.looks + 1)
 taken_free m m' n r t even = ⊎_elim
     (λ (x : (n ≡ front_of m.0.drivers t.0 + 1)
-    × (m' ≡ (stepped m.0 t.0 n false m.0.own, m.1))). absurd (let odd = held_odd m.0.drivers n t.0 x.0 in omega arith))
+    × (m' ≡ (after_step m.0 t.0 n false m.0.own, m.1))).
+    absurd (let odd = held_odd m.0.drivers n t.0 x.0 in omega arith))
     (λ (x : (n ≡ front_of m.0.drivers t.0)
-    × (m' ≡ (stepped m.0 t.0 n true m.0.own, (0, Some (system_with m.0.drivers m.0.limit t.0)) ∷ m.1))).
+    × (m' ≡ (after_step m.0 t.0 n true m.0.own, (0, Some (system_with m.0.drivers m.0.limit t.0)) ∷ m.1))).
     subst (λ (k : Mine). HasTurn k (Some (system_of k.0)) × HasGrown m.0 k.0 × (k.0.own ≡ m.0.own)
     × (k.0.looks ≡ m.0.looks + 1)) (sym x.1) (
       record {
@@ -88,7 +89,7 @@ taken_free m m' n r t even = ⊎_elim
 pub taken_held : (m m' : Mine) (n : ℕ) → IsAtRest m → Taken (step 0 0 1 0 none) m n m' → n % 2 ≢ 0 →
     RestsAfter m.0 m' × FoundWord m.0 m'.0 n × (n % 2 ≡ 1)
 taken_held m m' n r t odd = ⊎_elim
-    (λ (x : (n ≡ front_of m.0.drivers t.0 + 1) × (m' ≡ (stepped m.0 t.0 n false m.0.own, m.1))).
+    (λ (x : (n ≡ front_of m.0.drivers t.0 + 1) × (m' ≡ (after_step m.0 t.0 n false m.0.own, m.1))).
     let one : n % 2 ≡ 1 = held_odd m.0.drivers n t.0 x.0 in
     subst (λ (k : Mine). RestsAfter m.0 k × FoundWord m.0 k.0 n × (n % 2 ≡ 1)) (sym x.1) (
       ((r.0, refl, r.2), grown_by m.0 t.0 n false m.0.own t.1, record { sound = t.1.sound; own = t.1.own }),
@@ -96,7 +97,7 @@ taken_held m m' n r t odd = ⊎_elim
       one,
     ))
     (λ (x : (n ≡ front_of m.0.drivers t.0)
-    × (m' ≡ (stepped m.0 t.0 n true m.0.own, (0, Some (system_with m.0.drivers m.0.limit t.0)) ∷ m.1))).
+    × (m' ≡ (after_step m.0 t.0 n true m.0.own, (0, Some (system_with m.0.drivers m.0.limit t.0)) ∷ m.1))).
     absurd (odd (free_even m.0.drivers n t.0 x.0)))
     t.2
 
@@ -143,8 +144,8 @@ pub published : (m m1 m2 : Mine) (s : Recorded) (n : ℕ) → IsReady m m1 s n �
     → RestsAfter m.0 m2 × (m2.0.seen ≡ s.history) × (m2.0.looks ≡ m.0.looks + 1)
 published m m1 m2 s n r is =
     let entries : history_in m1.1 ≡ s.history = ap history_in r.has.has in
-    let same : m2 ≡ (stepped m1.0 s.history n false (entries_of m1.0.process s.history), []) =
-    is ∙ ap₂ (λ (h : List Entry) (c : List (ℕ × Slot)). (stepped m1.0 h n false (entries_of m1.0.process h), rest c))
+    let same : m2 ≡ (after_step m1.0 s.history n false (entries_of m1.0.process s.history), []) =
+    is ∙ ap₂ (λ (h : List Entry) (c : List (ℕ × Slot)). (after_step m1.0 h n false (entries_of m1.0.process h), rest c))
     entries r.has.has in
     subst (λ (k : Mine). RestsAfter m.0 k × (k.0.seen ≡ s.history) × (k.0.looks ≡ m.0.looks + 1)) (sym same) (
       (

@@ -42,32 +42,33 @@ unnamed s may_name next = record {
 }
 
 -- the first seat, which may take the first name
-abbrev pub opened : Recorded → SeatView
-opened s = unnamed s true 0
+abbrev pub first_view : Recorded → SeatView
+first_view s = unnamed s true 0
 
 -- a seat that was given up in a meeting
-abbrev pub spent : SeatView
-spent = record (unnamed (system_with [] 0 []) false 0) { spent = true }
+abbrev pub spent_view : SeatView
+spent_view = record (unnamed (system_with [] 0 []) false 0) { spent = true }
 
 -- a new seat beside another: it has seen as much, and has the right to the next name from it
-abbrev pub dealt : SeatView → SeatView
-dealt v = record (unnamed (system_with v.drivers v.limit v.seen) v.may_name v.next) { spent = v.spent }
+abbrev pub view_beside : SeatView → SeatView
+view_beside v = record (unnamed (system_with v.drivers v.limit v.seen) v.may_name v.next) { spent = v.spent }
 
--- and the other afterwards
-abbrev pub left : SeatView → SeatView
-left v = record v { may_name = false; next = 0 }
+-- a seat that has given the right to the next name away
+abbrev pub without_right : SeatView → SeatView
+without_right v = record v { may_name = false; next = 0 }
 
 -- a seat that takes the next name
-abbrev pub called : SeatView → SeatView
-called v = record v { named = true; process = v.next; own = entries_of v.next v.seen; next = v.next + 1 }
+abbrev pub with_next_name : SeatView → SeatView
+with_next_name v = record v { named = true; process = v.next; own = entries_of v.next v.seen; next = v.next + 1 }
 
 -- a seat that takes in what another has seen
 abbrev pub after_meeting : SeatView → SeatView → SeatView
 after_meeting v w = record v { met = met_seat (known_of w) ∷ w.met ++ v.met }
 
 -- a seat after a step on the first word: it has seen this history, found or left this word, and has the turn or not
-abbrev pub stepped : SeatView → List Entry → ℕ → Bool → List Entry → SeatView
-stepped v history word turn own = record v { seen = history; last = word; looks = v.looks + 1; turn = turn; own = own }
+abbrev pub after_step : SeatView → List Entry → ℕ → Bool → List Entry → SeatView
+after_step v history word turn own =
+    record v { seen = history; last = word; looks = v.looks + 1; turn = turn; own = own }
 
 -- ---- what the steps tell
 
@@ -83,15 +84,15 @@ abbrev pub Looked : Step Slot → Mine → ℕ → Mine → Type 0
 Looked st m n m' =
     (h : List Entry) × (t : Turn) × Shows m.0 h
     × (n ≡ front_of m.0.drivers h + bit_of t)
-    × (m' ≡ (stepped m.0 h n false m.0.own, m.1))
+    × (m' ≡ (after_step m.0 h n false m.0.own, m.1))
 
 -- the turn bit is set: the turn was held before; or it was free, and is this seat's now, and the slot with the system
 abbrev pub Taken : Step Slot → Mine → ℕ → Mine → Type 0
 Taken st m n m' =
     (h : List Entry) × Shows m.0 h
-    × (((n ≡ front_of m.0.drivers h + 1) × (m' ≡ (stepped m.0 h n false m.0.own, m.1)))
+    × (((n ≡ front_of m.0.drivers h + 1) × (m' ≡ (after_step m.0 h n false m.0.own, m.1)))
     ⊎ ((n ≡ front_of m.0.drivers h)
-    × (m' ≡ (stepped m.0 h n true m.0.own, (0, Some (system_with m.0.drivers m.0.limit h)) ∷ m.1))))
+    × (m' ≡ (after_step m.0 h n true m.0.own, (0, Some (system_with m.0.drivers m.0.limit h)) ∷ m.1))))
 
 -- the history in a slot
 abbrev pub history_at : Slot → List Entry
@@ -106,11 +107,11 @@ history_in (x ∷ xs) = history_at x.1
 -- a store: the history is that of the slot, which goes home
 abbrev pub Published : Step Slot → Mine → ℕ → Mine → Type 0
 Published st m n m' =
-    m' ≡ (stepped m.0 (history_in m.1) n false (entries_of m.0.process (history_in m.1)), rest m.1)
+    m' ≡ (after_step m.0 (history_in m.1) n false (entries_of m.0.process (history_in m.1)), rest m.1)
 
 -- a name is taken, the next one
 abbrev pub Called : Step Slot → Mine → ℕ → Mine → Type 0
-Called st m n m' = (n ≡ m.0.next) × (m' ≡ (called m.0, m.1))
+Called st m n m' = (n ≡ m.0.next) × (m' ≡ (with_next_name m.0, m.1))
 
 -- ---- seats at rest and with the turn
 

@@ -1,5 +1,6 @@
 -- What contracts see of a seat.
-use Rattle.std.specs.Prelude.{◌≡◌, ℕ, ◌<◌, ◌==◌, Bool, false, List, [], ◌∷◌, ◌++◌, filter}
+use Rattle.std.specs.Prelude.{◌≡◌, ℕ, ◌<◌, ◌==◌, Bool, false, List, [], ◌++◌, filter}
+use Rattle.std.specs.List.{AllByRecursion}
 use Rattle.atomic_table.specs.Seated.{TableId}
 use Rattle.smx_types.specs.declared.command.Entry.{Entry}
 use Rattle.smx_types.specs.declared.driver.DriverSpec.{DriverSpec}
@@ -29,8 +30,7 @@ IsBeginningOf first whole = (more : List Entry) × (first ++ more ≡ whole)
 
 -- the processes of all these entries have names below this one
 abbrev pub AreNamedBelow : ℕ → List Entry → Type 0
-AreNamedBelow names [] = Unit {0}
-AreNamedBelow names (e ∷ es) = (e.process < names) × AreNamedBelow names es
+AreNamedBelow names es = AllByRecursion (λ e. e.process < names) es
 
 -- the history begins so, and each entry after that is of a named process
 abbrev pub GoesOnNamed : ℕ → List Entry → List Entry → Type 0
@@ -73,10 +73,9 @@ pub record IsMetBy (s : Recorded) (m : MetSeat) : Type 0 where
   pub seen : IsBeginningOf m.seen s.history
   pub exact : entries_of m.process s.history ≡ m.own
 
--- and so of all that were met
+-- what the seats knew that were met is so of a system
 abbrev pub AreMetBy : Recorded → List MetSeat → Type 0
-AreMetBy s [] = Unit {0}
-AreMetBy s (m ∷ met) = IsMetBy s m × AreMetBy s met
+AreMetBy s met = AllByRecursion (IsMetBy s) met
 
 -- the system, as far as it was seen
 abbrev pub seen_by : Known → Recorded

@@ -1,5 +1,6 @@
 -- The rule of the turn: what is so of the words, the slot and all seats of a shared system between any two steps.
 use Rattle.std.specs.Prelude.{◌≡◌, ◌≢◌, ℕ, ◌+◌, ◌<◌, ◌≤◌, List, [], ◌∷◌, true, false, Option, Some}
+use Rattle.std.specs.List.{AllByRecursion}
 use mathlib.Core.Option as maybe
 use mathlib.Core.Option.{none, some}
 use lib.ListN.{get_elem?}
@@ -37,13 +38,11 @@ home_of s (held j) = none
 
 -- the processes of all seats that were met have names below this one
 abbrev pub AreMetBelow : ℕ → List MetSeat → Type 0
-AreMetBelow names [] = Unit {0}
-AreMetBelow names (m ∷ met) = (m.process < names) × AreMetBelow names met
+AreMetBelow names met = AllByRecursion (λ m. m.process < names) met
 
 -- no seat of this process was met
 abbrev pub IsNotMet : ℕ → List MetSeat → Type 0
-IsNotMet process [] = Unit {0}
-IsNotMet process (m ∷ met) = (m.process ≢ process) × IsNotMet process met
+IsNotMet process met = AllByRecursion (λ m. m.process ≢ process) met
 
 -- what is so of one seat, that of number j with the view v
 pub record Fits (drivers : List DriverSpec) (limit : ℕ) (history : List Entry) (t : Turn) (names namer j : ℕ)

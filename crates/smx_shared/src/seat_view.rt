@@ -60,12 +60,12 @@ pub struct Start<K: Keeper> {
 
 impl<K: Keeper> TableRule<Option<Parked<K>>, SeatView, Start<K>> for OneTurn {
     ghost use Rattle.smx_shared.specs.TurnRule.{TurnRule};
-    ghost use Rattle.smx_shared.specs.SeatViews.{opened};
+    ghost use Rattle.smx_shared.specs.SeatViews.{first_view};
 
     ghost holds = { λ start. TurnRule start.system.value.drivers start.system.value.limit start.system.value.history
         start.processes };
 
-    ghost first = { λ start. opened start.system.value };
+    ghost first = { λ start. first_view start.system.value };
 }
 
 /// A load of the first word.
@@ -108,20 +108,20 @@ impl<K: Keeper> Play<Option<Parked<K>>, SeatView> for Call {
 pub struct Deal;
 
 impl Split<SeatView> for Deal {
-    ghost use Rattle.smx_shared.specs.SeatViews.{left, dealt};
+    ghost use Rattle.smx_shared.specs.SeatViews.{view_beside, without_right};
 
-    ghost left = { left };
+    ghost left = { without_right };
 
-    ghost right = { dealt };
+    ghost right = { view_beside };
 }
 
 /// A seat takes in what another has seen, which is spent.
 pub struct Meet;
 
 impl Join<SeatView> for Meet {
-    ghost use Rattle.smx_shared.specs.SeatViews.{after_meeting, spent};
+    ghost use Rattle.smx_shared.specs.SeatViews.{after_meeting, spent_view};
 
     ghost both = { after_meeting };
 
-    ghost spent = { spent };
+    ghost spent = { spent_view };
 }

@@ -8,7 +8,7 @@ ghost use Rattle.smx_shared.specs.Calls.{AddsEntry, AnswersEntry, EndsAs, GoesOn
 ghost use Rattle.smx_shared.specs.Calls.{Refuses, RefusesTry, Rests};
 ghost use Rattle.smx_shared.specs.CloseFaults.{IsHeld};
 ghost use Rattle.smx_shared.specs.Recorded.{IsSoundSystem};
-ghost use Rattle.smx_shared.specs.SeatViews.{opened};
+ghost use Rattle.smx_shared.specs.SeatViews.{first_view};
 ghost use Rattle.smx_shared.specs.Seats.{first_seat};
 
 use crate::close_fault::CloseFault;
@@ -21,7 +21,6 @@ use crate::shared_fault::ApplyFault;
 use crate::system::System;
 use crate::try_fault::TryFault;
 use crate::turn_table::{Token, TurnTable};
-use smx_model::laws_of_limits::limits_hold;
 use smx_types::{Command, Entry, NoMemory, Process};
 use std::alloc::Global;
 use std::marker::Model;
@@ -52,7 +51,7 @@ fn deal_seats<K: Keeper>(
     seats: &mut Vec<Seat<K>>,
 )
     requires table { first.table_id ≡ turns.now.table.shared.table_id }
-    requires first { first.me ≡ (opened turns.now.table.shared.key.system.value, []) }
+    requires first { first.me ≡ (first_view turns.now.table.shared.key.system.value, []) }
     requires processes { (turns.now.table.shared.key.processes ≡ processes) × (processes ≤ MAX_PROCESSES) }
     requires room { (seats.old.items ≡ []) × (processes ≤ vec_capacity seats.old) }
     ensures { seats.new.items
@@ -105,7 +104,6 @@ impl<K: Keeper> Shared<K> {
         ensures steps { OnOk result (seat.new.looks ≡ seat.old.looks + 2) }
         ensures refused { IfErr result (RefusesTry seat.old seat.new) }
     {
-        limits_hold();
         if let Err(word) = self.turns.try_take(&mut seat.token) {
             return Err(TryFault::Busy(Front::read(word)));
         }
@@ -152,7 +150,6 @@ impl<K: Keeper> Shared<K> {
         ensures begun { IfOk result (GoesOnFrom self) }
         ensures held { IfErr result (IsHeld seat.known) }
     {
-        limits_hold();
         match self.turns.close(seat.token) {
             Ok(system) => Ok(system),
             Err(word) => Err(CloseFault::Held(Front::read(word))),
@@ -220,7 +217,6 @@ impl<K: Keeper> Door for Shared<K> {
         ensures seen { HasSeenMore seat.old.known seat.new.known }
         ensures front { LooksOnce seat.old seat.new result }
     {
-        limits_hold();
         Front::read(self.turns.look(&mut seat.token))
     }
 }

@@ -13,7 +13,6 @@ ghost use Rattle.smx_shared.specs.declared.shared_fault.ApplyFault.TheVariants.{
 use crate::keeper::Keeper;
 use crate::shared_fault::ApplyFault;
 use smx_config::{Config, ConfigFault};
-use smx_model::laws::lawful_after_each_entry;
 use smx_types::{Command, Copied, DriverSpec, Entries, Entry, NoMemory, Process};
 use std::alloc::Global;
 use std::marker::Model;
@@ -135,7 +134,6 @@ impl<K: Keeper> System<K> {
         ensures limit { result.limit ≡ limit }
         ensures empty { result.history ≡ [] }
     {
-        lawful_after_each_entry();
         System {
             alloc,
             config,
@@ -158,7 +156,6 @@ impl<K: Keeper> System<K> {
         // What it is afterwards, either way.
         ensures sound { IsSoundSystem self.new }
     {
-        lawful_after_each_entry();
         make_room(&mut self.kept, self.limit)?;
         let mut kept = command.copy(self.alloc)?;
         let command_again = command.copy(self.alloc)?;
@@ -189,7 +186,6 @@ impl<K: Keeper> System<K> {
         // What it is afterwards, either way.
         ensures sound { IsSoundSystem self.new }
     {
-        lawful_after_each_entry();
         make_room(&mut self.kept, self.limit)?;
         let mut reply = self.config.step(process, command)?;
         self.kept.add(process, command, line, &mut reply);

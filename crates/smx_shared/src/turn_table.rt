@@ -7,7 +7,8 @@ ghost use Rattle.smx_shared.specs.Fronts.{front_of};
 ghost use Rattle.smx_shared.specs.Recorded.{IsSoundSystem};
 ghost use Rattle.smx_shared.specs.declared.turn_table.TheConstants.{MOST_TRIES};
 ghost use Rattle.smx_shared.specs.Seats.{shared_as};
-ghost use Rattle.smx_shared.specs.SeatViews.{opened, dealt, left, called, known_of, system_of, IsAtRest, IsInformed};
+ghost use Rattle.smx_shared.specs.SeatViews.{first_view, view_beside, without_right, with_next_name, known_of};
+ghost use Rattle.smx_shared.specs.SeatViews.{system_of, IsAtRest, IsInformed};
 ghost use Rattle.smx_shared.specs.SeatViews.{RestsAfter, HasTurn, HasGrown, HasMet, FoundWord, IsWordFrom, AddsFor};
 
 use crate::keeper::Keeper;
@@ -88,7 +89,7 @@ impl<K: Keeper> TurnTable<K> {
         processes: usize,
     ) -> Result<(TurnTable<K>, Token<K>), NoMemory>
         ensures table { IfOk result (λ r. r.1.table_id ≡ r.0.table.shared.table_id) }
-        ensures first { IfOk result (λ r. r.1.me ≡ (opened system, [])) }
+        ensures first { IfOk result (λ r. r.1.me ≡ (first_view system, [])) }
         ensures start { IfOk result (λ r. (r.0.table.shared.key.system.value ≡ system)
             × (r.0.table.shared.key.processes ≡ processes)) }
         ensures sound { IsSoundSystem system }
@@ -111,8 +112,8 @@ impl<K: Keeper> TurnTable<K> {
     pub fn deal(&self, token: &mut Token<K>) -> Token<K>
         requires { token.old.table_id ≡ self.now.table.shared.table_id }
         ensures same { (token.new.table_id ≡ token.old.table_id)
-            × (token.new.me ≡ (left token.old.me.0, token.old.me.1)) }
-        ensures other { (result.table_id ≡ token.old.table_id) × (result.me ≡ (dealt token.old.me.0, [])) }
+            × (token.new.me ≡ (without_right token.old.me.0, token.old.me.1)) }
+        ensures other { (result.table_id ≡ token.old.table_id) × (result.me ≡ (view_beside token.old.me.0, [])) }
     {
         self.table.shared.split_seat::<Deal>(token)
     }
@@ -124,7 +125,7 @@ impl<K: Keeper> TurnTable<K> {
         requires one_of { token.old.me.0.next < self.now.table.shared.key.processes }
         requires idle { (token.old.me.0.spent ≡ false) × (token.old.me.0.turn ≡ false) }
         ensures same { (token.new.table_id ≡ token.old.table_id)
-            × (token.new.me ≡ (called token.old.me.0, token.old.me.1)) }
+            × (token.new.me ≡ (with_next_name token.old.me.0, token.old.me.1)) }
     {
         self.table.shared.fetch_add::<Call>(token, NAMES, 1);
     }

@@ -2,5 +2,4 @@ use Rattle.smx_filters.proofs.AnswerLemmas.{run_of_one}
 use Rattle.smx_filters.proofs.laws_of_answers.a_run_of_one_process_has_one_answer.Goals as goal
 
 pub returns : goal.returns
-returns c =
-    run_of_one c.one_text_has_one_reading.ensures c.drivers_have_one_fault.ensures c.reports_are_determined.ensures
+returns c = run_of_one c.one_text_has_one_reading.ensures

@@ -12,7 +12,7 @@ returns-clause-written g c =
       report = report;
       promised = recorded.promised;
       version = refl;
-      written = spelled c.reports_need_no_later_version.ensures p report c.version-version.ensures.within
+      written = spelled p report c.version-version.ensures.within
           recorded.promised refl recorded.few
           (c.in_ok-finish.ensures.spellable _ _ _ recorded.was_told) _
           (c.in_ok-finish.ensures.written _ _ _ recorded.was_told);

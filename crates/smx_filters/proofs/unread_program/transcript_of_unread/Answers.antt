@@ -32,7 +32,7 @@ returns-in-Ok-finish g c =
         report = report;
         promised = recorded.promised;
         version = refl;
-        written = spelled c.reports_need_no_later_version.ensures p report
+        written = spelled p report
             (within_limits c.args.input.now split.version drivers texts run.programs each input)
             recorded.promised refl recorded.few
             (c.in-Ok-finish.ensures.spellable split.version drivers recorded.entries recorded.was_told)

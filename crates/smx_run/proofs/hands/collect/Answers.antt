@@ -1,6 +1,6 @@
 use Rattle.std.proofs.Common.{◌≡◌, ◌+◌, ◌%◌, ℕ, vec_len, arith, refl, ◌∙◌}
 use Rattle.std.proofs.Math.Nat.{mod-lt}
-use Rattle.smx_run.specs.Hands.{ran, known_at, EndsAt}
+use Rattle.smx_run.specs.Hands.{program_run, known_at, EndsAt}
 use Rattle.smx_run.proofs.HandLemmas.{pushed, all_more, all_of_none, hand_at, next_program, next_in_hand, take_next}
 use Rattle.smx_run.proofs.HandLemmas.{collect_next}
 use Rattle.smx_run.proofs.hands.collect.Goals as goal
@@ -40,7 +40,7 @@ loop-process-preserved g c =
     let len : c.len.result ≡ workers = c.len.ensures ∙ before.workers in
     let next = next_program p c.args.programs.value.items
     (omega (arith, c.loop-process-test.true, c.requires.processes)) in
-    let one = ran known_at c.take_first.result in
+    let one = program_run known_at c.take_first.result in
     let taken = take_next workers p (p + 1) _ _ _ _ _ one next.1 refl before.dealt (mod-lt p c.requires.workers)
     (rw len at c.take_first.ensures.first) (rw len at c.take_first.ensures.others) in
     record {
@@ -53,7 +53,7 @@ loop-process-preserved g c =
           (next.1, all_more (EndsAt g.P.CommandSource.left name) _ _ _ was.1 next.0 c.push_reserved.ensures.items);
       dealt = taken.1;
       called = collect_next p (p + 1) _ _ _ one _ _ _ before.called
-          (pushed (ran known_at) _ _ _ _ _ c.push_reserved.ensures.items refl refl) taken.0 refl next.1;
+          (pushed (program_run known_at) _ _ _ _ _ c.push_reserved.ensures.items refl refl) taken.0 refl next.1;
     }
 
 pub returns-clause-ended : goal.returns-clause-ended

@@ -2,7 +2,7 @@ use Rattle.std.proofs.Common.{◌≡◌, ◌≤◌, ◌<◌, ℕ, ◌++◌, [], 
 use Rattle.std.specs.Prelude.{vec_capacity}
 use Rattle.smx_shared.specs.Seats.{SharedId}
 use Rattle.smx_run.specs.Hands.{ran_hand, hand_of, HaveEnded}
-use Rattle.smx_run.specs.ProgramOrder.{numbered}
+use Rattle.smx_run.specs.ProgramOrder.{with_numbers}
 use Rattle.smx_run.proofs.hands.collect.Given as goal
 
 abbrev pub invariant-loop-process : goal.invariant-loop-process
@@ -13,7 +13,7 @@ invariant-loop-process g l = record {
   ended : (name : SharedId) → All (HaveEnded g.P.CommandSource.left name) l.fn.hands.items
       → All (HaveEnded g.P.CommandSource.left name) l.hands.items × HaveEnded g.P.CommandSource.left name l.ended;
   dealt : (k : ℕ) → k < vec_len l.fn.hands → get_or (map ran_hand l.hands.items) k []
-      ≡ hand_of (vec_len l.fn.hands) (numbered l.process (drop l.process l.programs.value.items)) k;
-  called : ran_hand l.ended ++ numbered l.process (drop l.process l.programs.value.items)
-      ≡ numbered 0 l.programs.value.items;
+      ≡ hand_of (vec_len l.fn.hands) (with_numbers l.process (drop l.process l.programs.value.items)) k;
+  called : ran_hand l.ended ++ with_numbers l.process (drop l.process l.programs.value.items)
+      ≡ with_numbers 0 l.programs.value.items;
 }

@@ -1,7 +1,7 @@
 use Rattle.std.proofs.Common.{rules, ◌≡◌, ◌+◌, ◌++◌, ◌∷◌, [], ℕ, arith, length, map, ap, ◌∙◌}
 use Rattle.std.proofs.lemmas.List.{length-append, length-map}
 use Rattle.smx_run.specs.Hands.{given_hand, hand_of, IsFresh}
-use Rattle.smx_run.specs.ProgramOrder.{numbered}
+use Rattle.smx_run.specs.ProgramOrder.{with_numbers}
 use Rattle.smx_run.proofs.HandLemmas.{hands_are, none_dealt, none_left, all_dealt, next_seat, deal_next, take_off}
 use Rattle.smx_run.proofs.hands.deal.Goals as goal
 
@@ -17,7 +17,7 @@ loop-seat-init g c =
       fresh = λ name all. (rw seats all, c.in_ok-hands.ensures.fresh name);
       dealt = λ k below. rw programs
           (none_dealt c.args.workers _ c.in_ok-hands.ensures.none k below
-          (hand_of c.args.workers (numbered 0 c.args.programs.items) k));
+          (hand_of c.args.workers (with_numbers 0 c.args.programs.items) k));
     }
 
 pub loop-seat-preserved : goal.loop-seat-preserved
@@ -53,7 +53,7 @@ returns g c =
     let none = none_left _ _ _ end.seats (omega (arith, end.counted, c.in-None.ensures.steps.0)) in
     record {
       fresh = λ name all. (end.fresh name all).1;
-      dealt = hands_are c.args.workers (numbered 0 c.args.programs.items) (map given_hand c.loop-seat.hands.items)
+      dealt = hands_are c.args.workers (with_numbers 0 c.args.programs.items) (map given_hand c.loop-seat.hands.items)
           (omega (arith, end.workers, length-map c.loop-seat.hands.items given_hand))
           (λ k below. all_dealt _ _ _ _ k _ (end.dealt k below) none);
     }

@@ -3,7 +3,7 @@ use Rattle.std.specs.List.{range_with_len}
 use Rattle.std.specs.Vec.Iter.{into_iter_items, into_iter_len}
 use Rattle.smx_shared.specs.Seats.{Seated, SharedId}
 use Rattle.smx_run.specs.Hands.{given_hand, hand_of, AreFresh, IsFresh}
-use Rattle.smx_run.specs.ProgramOrder.{numbered}
+use Rattle.smx_run.specs.ProgramOrder.{with_numbers}
 use Rattle.smx_run.proofs.hands.deal.Given as goal
 
 abbrev pub invariant-loop-seat : goal.invariant-loop-seat
@@ -17,6 +17,6 @@ invariant-loop-seat g l = record {
       → All (IsFresh name) (into_iter_items l.seat-iterator) × All (AreFresh name) l.hands.items;
   dealt : (k : ℕ) → k < l.workers
       → get_or (map given_hand l.hands.items) k [] ++ hand_of l.workers
-      (numbered (length l.yielded) (into_iter_items l.programs)) k
-      ≡ hand_of l.workers (numbered 0 l.fn.programs.items) k;
+      (with_numbers (length l.yielded) (into_iter_items l.programs)) k
+      ≡ hand_of l.workers (with_numbers 0 l.fn.programs.items) k;
 }

@@ -1,5 +1,5 @@
 use Rattle.std.proofs.Common.{rules, ap, map, sym, ◌∙◌}
-use Rattle.smx_run.specs.Hands.{given, known_at, given_hand, AreFresh, IsFresh}
+use Rattle.smx_run.specs.Hands.{program_given, known_at, given_hand, AreFresh, IsFresh}
 use Rattle.smx_run.proofs.HandLemmas.{pushed, one_empty_more, all_more, all_of_none}
 use Rattle.smx_run.proofs.hands.empty_hands.Goals as goal
 
@@ -10,5 +10,5 @@ loop-preserved g c = record {
   fresh = λ name. all_more (AreFresh name) _ _ _ (c.loop.invariant.fresh name)
       (all_of_none (λ job. IsFresh name job.seat) _ c.new.ensures.items) c.push_reserved.ensures.items;
   none = pushed given_hand _ _ _ _ _ c.push_reserved.ensures.items c.loop.invariant.none
-      (ap (map (given known_at)) c.new.ensures.items) ∙ sym (one_empty_more c.loop.counter);
+      (ap (map (program_given known_at)) c.new.ensures.items) ∙ sym (one_empty_more c.loop.counter);
 }

@@ -1,5 +1,5 @@
 use Rattle.std.proofs.Common.{rules, ◌<◌, length}
-use Rattle.smx_run.specs.Hands.{ran, known_at, ran_hand, EndsAt}
+use Rattle.smx_run.specs.Hands.{program_run, known_at, ran_hand, EndsAt}
 use Rattle.smx_run.proofs.HandLemmas.{first_and_rest, first_then_rest, take_from, keep_others, all_taken}
 use Rattle.smx_run.proofs.hands.take_first.Goals as goal
 
@@ -8,8 +8,8 @@ returns-clause-first g c =
     let done = c.remove.ensures in
     let within : c.args.worker < length c.args.hands.now.items = search rules in
     take_from ran_hand c.args.hands.now.items c.args.worker c.index_mut.result.now c.remove.new.self
-    (ran known_at c.remove.result) within c.index_mut.ensures.value
-    (first_and_rest (ran known_at) _ _ c.remove.result done.value done.items (search rules))
+    (program_run known_at c.remove.result) within c.index_mut.ensures.value
+    (first_and_rest (program_run known_at) _ _ c.remove.result done.value done.items (search rules))
 
 pub returns-clause-others : goal.returns-clause-others
 returns-clause-others g c = keep_others ran_hand c.args.hands.now.items c.args.worker c.remove.new.self

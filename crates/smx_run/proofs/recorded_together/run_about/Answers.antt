@@ -24,6 +24,6 @@ returns-clause-report g c =
     record {
       programs = run.ran.programs;
       all_of_them = run.ran.all_of_them;
-      recorded = record_of_run told c.few_commands_drop.ensures c.args.version c.args.config.drivers s
+      recorded = record_of_run told c.args.version c.args.config.drivers s
           run.ran.programs _ _ same parts.sound was run.ran.holds shown;
     }

@@ -1,10 +1,11 @@
 use Rattle.std.proofs.Common.{rules, ◌∷◌, ◌++◌, [], List, ap, sym, ◌∙◌, arith}
 use Rattle.std.specs.Vec.Iter.{into_iter_items}
 use Rattle.std.proofs.lemmas.List.{length-append}
+use Rattle.std.proofs.lemmas.Result.{err_from_is_err_and}
 use Rattle.smx_types.specs.declared.command.Command.{Command}
 use Rattle.smx_run.specs.Alone.{PerformedAlone, StopsAmong}
 use Rattle.smx_run.proofs.RunLemmas.{next_taken}
-use Rattle.smx_run.proofs.StopLemmas.{alone_more, on_err}
+use Rattle.smx_run.proofs.StopLemmas.{alone_more}
 use Rattle.smx_run.proofs.run.append_all.Goals as goal
 
 pub returns-in_err-outcome-clause-stops : goal.returns-in_err-outcome-clause-stops
@@ -19,7 +20,7 @@ returns-in_err-outcome-clause-stops g c =
       all = ap (λ (cs : List Command). done ++ cs) (sym c.in-Some.ensures.steps.0) ∙ before.all;
       came = rw c.in_err-outcome.ensures.err before.performed;
     } in
-    on_err _ _ stops
+    rw (err_from_is_err_and c.from_residual.result c.from_residual.ensures.1).1 stops
 
 pub loop-command-preserved : goal.loop-command-preserved
 loop-command-preserved g c =

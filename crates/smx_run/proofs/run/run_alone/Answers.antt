@@ -2,6 +2,7 @@ use Rattle.std.proofs.Common.{rules, ◌≡◌, ◌≢◌, ◌+◌, ◌++◌, �
 use Rattle.std.proofs.Common.{arith, ◌∙◌, Err}
 use Rattle.std.specs.Vec.Iter.{into_iter_items}
 use Rattle.std.proofs.lemmas.List.{length-append}
+use Rattle.std.proofs.lemmas.Result.{err_from_is_err_and}
 use Rattle.smx_types.specs.declared.driver.DriverSpec.{DriverSpec}
 use Rattle.smx_types.specs.declared.command.Command.{Command}
 use Rattle.smx_types.specs.declared.command.Entry.{Entry}
@@ -9,7 +10,7 @@ use Rattle.smx_model.specs.Histories.{call_of}
 use Rattle.smx_shared.specs.declared.shared_fault.ApplyFault.TheVariants as apply
 use Rattle.smx_run.specs.Fronts.{AreFrontsFrom}
 use Rattle.smx_run.specs.ProgramOrder.{BeginsCalls, calls_of, calls_from}
-use Rattle.smx_run.proofs.StopLemmas.{left_of, memory_left, on_err, room_left}
+use Rattle.smx_run.proofs.StopLemmas.{left_of, memory_left, room_left}
 use Rattle.smx_run.proofs.RunLemmas.{calls_more, front_next, next_taken}
 use Rattle.smx_run.proofs.run.run_alone.Goals as goal
 
@@ -49,7 +50,7 @@ returns-in_err-fronts-clause-stops g c =
     let asked = calls_from 0 c.args.programs in
     let none : BeginsCalls (map call_of c.args.system.now.history) 0 c.args.programs =
     (asked, ap (λ (es : List Entry). map call_of es ++ asked) c.requires.empty) in
-    on_err _ _ none
+    rw (err_from_is_err_and c.from_residual.result c.from_residual.ensures.1).1 none
 
 pub returns-in_err-append_all-clause-stops : goal.returns-in_err-append_all-clause-stops
 returns-in_err-append_all-clause-stops g c =
@@ -60,7 +61,8 @@ returns-in_err-append_all-clause-stops g c =
     number before.calls did.came.calls in
     let begins : BeginsCalls (map call_of c.append_all.new.system.history) 0 c.args.programs =
     ((c.unwrap.result, did.next) ∷ left.0, left.1) in
-    on_err _ _ begins
+    let back = c.from_residual-in_err-append_all in
+    rw (err_from_is_err_and back.result back.ensures.1).1 begins
 
 pub returns-in_err-append_all-clause-refused : goal.returns-in_err-append_all-clause-refused
 returns-in_err-append_all-clause-refused g c =

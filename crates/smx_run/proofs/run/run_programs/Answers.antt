@@ -10,7 +10,7 @@ returns-clause-report g c =
     let report = c.in_ok-report.ensures.report in
     let parts = c.into_parts-drivers.ensures in
     let drivers : c.in_ok-system-2.system.drivers ≡ c.args.programs.drivers = search rules in
-    report_of c.args.programs _ _ _ report (c.few_commands_drop.ensures _ _ report.sound.legal) drivers
+    report_of c.args.programs _ _ _ report drivers
     (subst (HoldsPrograms c.in_ok-system-2.system.history) parts.programs run.holds)
 
 pub returns-clause-fronts : goal.returns-clause-fronts

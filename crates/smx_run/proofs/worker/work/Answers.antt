@@ -1,6 +1,6 @@
 use Rattle.std.proofs.Common.{arith, ◌∷◌, [], refl}
 use Rattle.std.proofs.lemmas.List.{length-append}
-use Rattle.smx_run.specs.Hands.{given, ran, HasEndedWith}
+use Rattle.smx_run.specs.Hands.{program_given, program_run, HasEndedWith}
 use Rattle.smx_run.proofs.FullHistoryLemmas.{handed_on, memory_is_not_full}
 use Rattle.smx_run.proofs.HandLemmas.{one_more, all_more}
 use Rattle.smx_run.proofs.worker.work.Goals as goal
@@ -24,7 +24,8 @@ loop-job-preserved g c =
         c.in-Some.ensures.steps.1,
         length-append c.loop-job.yielded (c.in-Some.job ∷ []),
       );
-      ran = one_more (ran known) (given known) _ _ _ _ _ before.ran here.ran c.push_reserved.ensures.items;
+      ran = one_more (program_run known) (program_given known) _ _ _ _ _ before.ran here.ran
+          c.push_reserved.ensures.items;
       ended = all_more (HasEndedWith (g.D.Door.is_seat c.args.door.now) known g.P.CommandSource.left) _ _ _
           before.ended here.ended c.push_reserved.ensures.items;
     }

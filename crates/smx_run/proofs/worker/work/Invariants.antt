@@ -1,7 +1,7 @@
 use Rattle.std.proofs.Common.{◌≡◌, ◌≤◌, ◌+◌, All, map, length, vec_len}
 use Rattle.std.specs.Prelude.{vec_capacity}
 use Rattle.std.specs.Vec.Iter.{into_iter_len}
-use Rattle.smx_run.specs.Hands.{given, ran, HasEndedWith}
+use Rattle.smx_run.specs.Hands.{program_given, program_run, HasEndedWith}
 use Rattle.smx_run.proofs.worker.work.Given as goal
 
 abbrev pub invariant-loop-job : goal.invariant-loop-job
@@ -9,6 +9,6 @@ invariant-loop-job g l = record {
   room : vec_len l.fn.hand ≤ vec_capacity l.done;
   left : length l.yielded + into_iter_len l.job-iterator ≡ vec_len l.fn.hand;
   counted : vec_len l.done ≡ length l.yielded;
-  ran : map (ran g.D.Door.known) l.done.items ≡ map (given g.D.Door.known) l.yielded;
+  ran : map (program_run g.D.Door.known) l.done.items ≡ map (program_given g.D.Door.known) l.yielded;
   ended : All (HasEndedWith (g.D.Door.is_seat l.door) g.D.Door.known g.P.CommandSource.left) l.done.items;
 }

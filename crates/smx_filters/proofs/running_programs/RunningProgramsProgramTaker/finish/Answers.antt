@@ -6,14 +6,17 @@ use Rattle.smx_filters.proofs.running_programs.RunningProgramsProgramTaker.finis
 pub returns : goal.returns
 returns g c =
     let p = c.args.self.run in
-    let recorded = c.in_ok-writer.ensures.report in
+    let in_turn = c.in_ok-writer.ensures.report in
+    let recorded = in_turn.recorded in
     let report = transcript_with p.version p.drivers recorded.entries c.in_ok-writer.view in
     record {
-      report = report;
-      promised = recorded.promised;
-      version = refl;
-      in_turn = recorded.asked;
-      written = spelled c.reports_need_no_later_version.ensures p report c.requires recorded.promised refl recorded.few
-          (c.in_ok-finish.ensures.spellable _ _ _ recorded.was_told) _
-          (c.in_ok-finish.ensures.written _ _ _ recorded.was_told);
+      transcript = record {
+        report = report;
+        promised = recorded.promised;
+        version = refl;
+        written = spelled p report c.requires recorded.promised refl recorded.few
+            (c.in_ok-finish.ensures.spellable _ _ _ recorded.was_told) _
+            (c.in_ok-finish.ensures.written _ _ _ recorded.was_told);
+      };
+      in_turn = in_turn.asked;
     }

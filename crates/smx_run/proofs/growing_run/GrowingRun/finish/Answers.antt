@@ -20,6 +20,5 @@ returns-clause-report g c =
     c.self.invariant.grown in
     let here = (c.in_ok-recording.ensures c.args.self version grown).0 in
     let end = c.in_ok-recording.recording in
-    rw c.in_ok-finish.ensures.recorder (record_of g.K.Recorder.told c.lawful_after_each_entry.ensures
-    c.few_commands_drop.ensures c.args.self end.recorder end.config _ c.requires here.can_be_had here.drivers
-    here.recorded c.in_ok-finish.ensures.view)
+    rw c.in_ok-finish.ensures.recorder (record_of g.K.Recorder.told c.args.self end.recorder end.config _ c.requires
+    here.can_be_had here.drivers here.recorded c.in_ok-finish.ensures.view)

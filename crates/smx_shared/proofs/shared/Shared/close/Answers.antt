@@ -2,10 +2,10 @@ use Rattle.smx_shared.proofs.CallLemmas.{from_held, from_small}
 use Rattle.smx_shared.proofs.shared.Shared.close.Goals as goal
 
 pub read-requires : goal.read-requires
-read-requires g c = from_small c.limits_hold.ensures.links _ _ c.in-Err.ensures.held.1
+read-requires g c = from_small _ _ c.in-Err.ensures.held.1
 
 pub returns-in-Err-clause-held : goal.returns-in-Err-clause-held
 returns-in-Err-clause-held g c =
     let held = c.in-Err.ensures.held in
     rw (← c.seat.view_is)
-    (from_held c.limits_hold.ensures.links _ _ c.read.result held.0 held.1 c.read.ensures.word c.read.ensures.links)
+    (from_held _ _ c.read.result held.0 held.1 c.read.ensures.word c.read.ensures.links)

@@ -12,7 +12,7 @@ invariant_of-self-2 g c =
     rw (← c.in_ok-make_room.ensures.same) c.add.ensures in
     let did = c.in_ok-reply.ensures in
     rw c.take_back.ensures
-    (one_entry_more c.lawful_after_each_entry.ensures old.config c.step.new.self old.limit (told old.kept)
+    (one_entry_more old.config c.step.new.self old.limit (told old.kept)
     (told c.add.new.self) e c.self.invariant c.in_ok-make_room.ensures.below did.drivers did.ok added)
 
 pub returns-clause-sound : goal.returns-clause-sound

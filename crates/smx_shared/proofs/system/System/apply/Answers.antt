@@ -10,7 +10,7 @@ invariant_of-self-2 g c =
     let told = g.K.Keeper.told in
     let added : told c.add.new.self ≡ told old.kept ++ e ∷ [] = rw (← c.in_ok-make_room.ensures.same) c.add.ensures in
     let did = c.in_ok-reply.ensures in
-    one_entry_more c.lawful_after_each_entry.ensures old.config c.step_twin.new.self old.limit (told old.kept)
+    one_entry_more old.config c.step_twin.new.self old.limit (told old.kept)
     (told c.add.new.self) e c.self.invariant c.in_ok-make_room.ensures.below did.drivers
     (rw c.in_ok-kept.ensures did.ok) added
 

@@ -5,5 +5,5 @@ use Rattle.smx_shared.proofs.system.System.begin.Goals as goal
 pub invariant_of-result : goal.invariant_of-result
 invariant_of-result g c =
     let r = c.requires in
-    none_yet c.lawful_after_each_entry.ensures c.args.config c.args.config.drivers c.args.limit
+    none_yet c.args.config c.args.config.drivers c.args.limit
     (g.K.Keeper.told c.args.kept) r.untold r.limited (refl, r.can_be_had) r.fresh

@@ -1,5 +1,5 @@
 use Rattle.std.proofs.Common.{rules}
-use Rattle.smx_shared.proofs.StepLemmas.{deals}
+use Rattle.smx_shared.proofs.SeatStepLemmas.{deals}
 use Rattle.smx_shared.proofs.turn_table.TurnTable.deal.Goals as goal
 
 pub split_seat-requires : goal.split_seat-requires

@@ -1,5 +1,6 @@
 use Rattle.std.proofs.Common.{rules, ap, ◌∙◌}
-use Rattle.smx_shared.proofs.StepLemmas.{meets, looks}
+use Rattle.smx_shared.proofs.SeatStepLemmas.{meets}
+use Rattle.smx_shared.proofs.StepLemmas.{looks}
 use Rattle.smx_shared.proofs.TellLemmas.{met_all}
 use Rattle.smx_shared.proofs.turn_table.TurnTable.meet.Goals as goal
 

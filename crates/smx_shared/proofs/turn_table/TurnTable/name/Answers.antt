@@ -1,5 +1,5 @@
 use Rattle.std.proofs.Common.{rules}
-use Rattle.smx_shared.proofs.StepLemmas.{calls}
+use Rattle.smx_shared.proofs.SeatStepLemmas.{calls}
 use Rattle.smx_shared.proofs.turn_table.TurnTable.name.Goals as goal
 
 pub fetch_add-requires : goal.fetch_add-requires

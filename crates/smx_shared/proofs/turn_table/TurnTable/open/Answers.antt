@@ -1,5 +1,5 @@
 use Rattle.std.proofs.Common.{rules, ◌≡◌, [], ◌∷◌, Some}
-use Rattle.smx_shared.proofs.StepLemmas.{opens}
+use Rattle.smx_shared.proofs.SeatStepLemmas.{opens}
 use Rattle.smx_shared.proofs.turn_table.TurnTable.open.Goals as goal
 
 pub new-requires : goal.new-requires
