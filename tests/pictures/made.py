@@ -54,11 +54,45 @@ def of_no_driver():
     return transcript(["driver eth leaf 2 8 3 16"], lines, version=2, following="next 4294967295 4294967295")
 
 
+def of_one_minor():
+    """Streams of what is no driver, of one minor: the second one has a message."""
+    return transcript([], ["fd 0 0 zz 5", "fd 1 0 yy 5", "msg yy 5 w 1 7 aa"])
+
+
+def behind_the_last_minor():
+    """Minors that no driver has, one of them hung up."""
+    lines = ["fd 0 0 eth 63", "fd 0 1 eth 64", "fd 0 2 eth 65", "fd 0 3 eth 4294967295", "hung eth 65"]
+    return transcript(["driver eth leaf 64 8 3 16"], lines, version=2)
+
+
+def of_one_name():
+    """Drivers of one name: the first one has the streams, the links and the routes."""
+    drivers = ["driver ip mux 4 16 8 16", "driver eth leaf 2 8 3 16", "driver ip leaf 9 32 2 4", "driver eth mux 3 6 5 7"]
+    lines = ["fd 0 0 ip 0", "link 1 ip 0 eth 1 link", "route ip 7 1", "msg eth 1 w 1 7 aabb", "full eth 1 w"]
+    return transcript(drivers, lines)
+
+
+def routes_of_no_driver():
+    """Routes of what is no driver, which has a link below it and no stream."""
+    lines = ["link 1 zz 0 eth 0 link", "route zz 1 1", "route yy 2 1", "route zz 3 1"]
+    return transcript(["driver eth leaf 2 8 3 16"], lines)
+
+
+def many_lines():
+    """200,000 descriptors of 20,000 streams, half of which are of no driver."""
+    lines = [f"fd {i % 64} {i} {'eth' if i % 2 == 0 else 'zz'} {i * 7 % 20_000}" for i in range(200_000)]
+    return transcript(["driver eth leaf 2 8 3 16"], lines)
+
+
 def transcripts():
     yield "nothing at all", transcript([], [])
     yield "180 links", many_links()
     yield "eight layers", pyramid()
     yield "long queues", long_queues()
     yield "cycle", cycle()
-    yield "strange names", of_no_driver()
-    yield "strange many", transcript(["driver eth leaf 2 8 3 16"], [f"fd 0 0 eth {minor}" for minor in range(200_000)])
+    yield "no driver", of_no_driver()
+    yield "one minor", of_one_minor()
+    yield "last minor", behind_the_last_minor()
+    yield "one name", of_one_name()
+    yield "routes of no driver", routes_of_no_driver()
+    yield "many lines", many_lines()

@@ -10,10 +10,12 @@ mod column;
 mod counting;
 mod ends;
 mod frame;
+mod hints;
 mod layers;
 mod mark_elements;
 mod placing;
 mod plan;
+mod stream;
 mod strokes;
 mod view_elements;
 
@@ -22,6 +24,7 @@ use crate::svg::boxes::{gauges_of, streams_of};
 use crate::svg::counting::count_all;
 use crate::svg::ends::{put_foot, put_head};
 use crate::svg::plan::Plan;
+use crate::svg::stream::name_all;
 use smx_types::{ConfigView, DriverSpec, NoMemory, Side};
 use std::alloc::Global;
 
@@ -60,16 +63,26 @@ pub fn write_svg(
 // The plan of the picture.
 fn plan_of(alloc: Global, drivers: &[DriverSpec], view: &ConfigView) -> Result<Plan, NoMemory> {
     let mut plan = Plan::new(alloc, drivers)?;
+    name_streams(&mut plan, view)?;
     count_all(&mut plan, view.fds.as_slice());
     count_all(&mut plan, view.links.as_slice());
     count_all(&mut plan, view.binds.as_slice());
     count_all(&mut plan, view.routes.as_slice());
     count_all(&mut plan, view.msgs.as_slice());
-    count_all(&mut plan, view.fulls.as_slice());
-    count_all(&mut plan, view.hungs.as_slice());
     plan.sink(alloc, view.links.as_slice())?;
     plan.place_all();
     Ok(plan)
+}
+
+// A column for each stream that a line of the view names.
+fn name_streams(plan: &mut Plan, view: &ConfigView) -> Result<(), NoMemory> {
+    name_all(plan, view.fds.as_slice())?;
+    name_all(plan, view.links.as_slice())?;
+    name_all(plan, view.binds.as_slice())?;
+    name_all(plan, view.msgs.as_slice())?;
+    name_all(plan, view.fulls.as_slice())?;
+    name_all(plan, view.hungs.as_slice())?;
+    plan.make_columns()
 }
 
 // The drivers, and the streams and queues that the view names.

@@ -43,11 +43,11 @@ pub fn streams_of(alloc: Global, plan: &Plan) -> Result<Vec<StreamBox>, NoMemory
 }
 
 fn stream_at(plan: &Plan, at: usize) -> Option<StreamBox> {
+    let stream = plan.streams.get(at)?;
     let column = plan.columns.get(at)?;
-    let (driver, minor) = column.stream?;
     Some(StreamBox {
-        driver,
-        minor,
+        driver: stream.driver,
+        minor: stream.minor,
         area: column.area(),
     })
 }
@@ -65,7 +65,6 @@ pub fn gauges_of(alloc: Global, plan: &Plan, side: Side) -> Result<Vec<Gauge>, N
 
 fn gauge_at(plan: &Plan, at: usize, side: Side) -> Option<Gauge> {
     let column = plan.columns.get(at)?;
-    let _stream = column.stream?;
     let (high, low) = marks_of(plan, at);
     let bytes = column.bytes(side);
     let area = column.gauge(side);
@@ -100,11 +99,7 @@ impl Drawn for DriverSpec {
     ghost element = { driver_element };
 
     fn place(&self, plan: &mut Plan) -> Area {
-        let at = plan.frame_of(&self.name);
-        match plan.frames.get(at) {
-            Some(frame) => frame.area(),
-            None => Area::NOWHERE,
-        }
+        plan.take_frame()
     }
 
     fn put_at(&self, at: Area, out: &mut Vec<u8>) -> Result<(), NoMemory> {

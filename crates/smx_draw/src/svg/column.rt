@@ -1,7 +1,7 @@
 //! The column of a stream: what hangs below its head, and where.
 
 use crate::svg::area::Area;
-use smx_types::{Name, Side};
+use smx_types::Side;
 
 /// How wide a column is.
 pub const WIDTH: u32 = 144;
@@ -21,12 +21,10 @@ pub struct Rows {
     pub next: u32,
 }
 
-/// A stream that the view names, and the rows that are drawn in its column.
+/// What is drawn in the column of a stream.
 #[derive(Clone, Copy, Debug)]
 pub struct Column {
-    /// Its driver and minor, once a line of the view names it.
-    pub stream: Option<(Name, u32)>,
-    /// Whether it is linked below a driver. The two lines of the link then stand below its name.
+    /// Whether the stream is linked below a driver. The two lines of the link then stand below its name.
     pub linked: bool,
     pub left: u32,
     pub top: u32,
@@ -87,9 +85,8 @@ impl Queue {
 }
 
 impl Column {
-    /// The column of a stream that no line names yet.
-    pub const UNNAMED: Column = Column {
-        stream: None,
+    /// A stream of which no line is counted yet.
+    pub const EMPTY: Column = Column {
         linked: false,
         left: 0,
         top: 0,

@@ -2,9 +2,7 @@
 
 use crate::pieces::shown_length;
 use crate::svg::plan::Plan;
-use smx_types::{
-    BindingLine, DescriptorLine, FullLine, HungLine, LinkLine, MessageLine, RouteLine,
-};
+use smx_types::{BindingLine, DescriptorLine, LinkLine, MessageLine, RouteLine};
 
 /// A line of a view that takes room.
 pub trait Counted {
@@ -21,15 +19,14 @@ pub fn count_all<T: Counted>(plan: &mut Plan, items: &[T]) {
 
 impl Counted for DescriptorLine {
     fn count(&self, plan: &mut Plan) {
-        let column = plan.name(&self.driver, self.minor);
+        let column = plan.column_of(&self.driver, self.minor);
         plan.add_descriptor(column);
     }
 }
 
 impl Counted for LinkLine {
     fn count(&self, plan: &mut Plan) {
-        // The controlling stream of a persistent link may be gone; where it isn't, another line names it.
-        let lower = plan.name(&self.lower_driver, self.lower_minor);
+        let lower = plan.column_of(&self.lower_driver, self.lower_minor);
         plan.add_lower(lower);
         let upper = plan.frame_of(&self.ctl_driver);
         plan.add_link(upper);
@@ -38,7 +35,7 @@ impl Counted for LinkLine {
 
 impl Counted for BindingLine {
     fn count(&self, plan: &mut Plan) {
-        let column = plan.name(&self.driver, self.minor);
+        let column = plan.column_of(&self.driver, self.minor);
         plan.add_binding(column);
     }
 }
@@ -52,20 +49,8 @@ impl Counted for RouteLine {
 
 impl Counted for MessageLine {
     fn count(&self, plan: &mut Plan) {
-        let column = plan.name(&self.driver, self.minor);
+        let column = plan.column_of(&self.driver, self.minor);
         let bytes = shown_length(self.message.bytes.as_slice());
         plan.add_message(column, self.side, bytes);
-    }
-}
-
-impl Counted for FullLine {
-    fn count(&self, plan: &mut Plan) {
-        let _column = plan.name(&self.driver, self.minor);
-    }
-}
-
-impl Counted for HungLine {
-    fn count(&self, plan: &mut Plan) {
-        let _column = plan.name(&self.driver, self.minor);
     }
 }

@@ -50,6 +50,11 @@ impl Frame {
         next_route: 0,
     };
 
+    /// Whether some line of the view says anything of it.
+    pub fn is_named(&self) -> bool {
+        self.columns > 0 || self.links > 0 || self.routes > 0
+    }
+
     /// One column more, of this height.
     pub fn add_column(&mut self, height: u32) {
         self.columns = self.columns.saturating_add(1);

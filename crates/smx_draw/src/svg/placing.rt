@@ -83,20 +83,12 @@ impl Plan {
     }
 
     fn measure_column(&mut self, at: usize) {
-        let Some(height) = self.height_of(at) else {
+        let frame = self.frame_at(at);
+        let Some(column) = self.columns.get(at) else {
             return;
         };
-        let frame = self.frame_at(at);
         if let Some(frame) = self.frames.get_mut(frame) {
-            frame.add_column(height);
-        }
-    }
-
-    // How high a column is that some line names.
-    fn height_of(&self, column: usize) -> Option<u32> {
-        match self.columns.get(column) {
-            Some(column) if column.stream.is_some() => Some(column.height()),
-            Some(_) | None => None,
+            frame.add_column(column.height());
         }
     }
 
@@ -114,7 +106,7 @@ impl Plan {
     fn place_frame(&mut self, at: usize, layer: usize, corner: Corner) -> Corner {
         let known = at < self.drivers.len();
         let (width, height) = match self.frames.get_mut(at) {
-            Some(frame) if frame.layer == layer && (known || frame.columns > 0) => {
+            Some(frame) if frame.layer == layer && (known || frame.is_named()) => {
                 frame.put_at(corner.left, corner.top);
                 (frame.width(), frame.height())
             }
@@ -131,15 +123,12 @@ impl Plan {
         }
     }
 
-    // Puts a column that some line names beside the last one of its frame.
+    // Puts a column beside the last one of its frame.
     fn place_column(&mut self, at: usize) {
         let frame = self.frame_at(at);
         let Some(column) = self.columns.get_mut(at) else {
             return;
         };
-        if column.stream.is_none() {
-            return;
-        }
         if let Some(frame) = self.frames.get_mut(frame) {
             let (left, top) = frame.take_column();
             column.put_at(left, top);

@@ -1,42 +1,48 @@
 //! The plan of a picture: the frames of the drivers and the columns of the streams.
 
+use crate::svg::area::Area;
 use crate::svg::column::Column;
 use crate::svg::frame::Frame;
+use crate::svg::hints::Hints;
+use crate::svg::stream::Stream;
 use smx_types::{DriverSpec, Name, NoMemory, Side};
 use std::alloc::Global;
 
-// The columns of a driver: one for each minor that there can be, and one for all others.
-const COLUMNS: usize = 65;
-
-/// The frames of the drivers, the last one for what names none of them, and the columns of each of them.
+/// The frames of the drivers, the last one for what names none of them, and the columns of the streams that the view
+/// names.
 #[derive(Debug, Drop)]
 pub struct Plan {
     pub drivers: Vec<DriverSpec>,
     pub frames: Vec<Frame>,
+    /// The streams, each once and in the order of `Stream::order` once they are all named, and the column of each.
+    pub streams: Vec<Stream>,
     pub columns: Vec<Column>,
     pub width: u32,
     pub height: u32,
+    // How many frames of drivers are taken.
+    taken: usize,
+    hints: Hints,
 }
 
 impl Plan {
-    /// Nothing is counted yet. Fails only for want of memory.
+    /// No stream is named yet. Fails only for want of memory.
     pub fn new(alloc: Global, drivers: &[DriverSpec]) -> Result<Plan, NoMemory> {
         let drivers = Vec::from_slice(alloc, drivers)?;
-        let count = drivers.len().saturating_add(1);
         let mut frames = Vec::new(alloc);
-        frames.resize(count, Frame::EMPTY)?;
-        let mut columns = Vec::new(alloc);
-        columns.resize(count.saturating_mul(COLUMNS), Column::UNNAMED)?;
+        frames.resize(drivers.len().saturating_add(1), Frame::EMPTY)?;
         Ok(Plan {
             drivers,
             frames,
-            columns,
+            streams: Vec::new(alloc),
+            columns: Vec::new(alloc),
             width: 0,
             height: 0,
+            taken: 0,
+            hints: Hints::new(alloc)?,
         })
     }
 
-    /// The number of a driver's frame.
+    /// The number of a driver's frame. Of drivers of one name it is the first one's.
     pub fn frame_of(&self, name: &Name) -> usize {
         match self.drivers.iter().position(|driver| driver.name == *name) {
             Some(at) => at,
@@ -44,28 +50,72 @@ impl Plan {
         }
     }
 
+    /// The frame of the next driver, once all have their places.
+    pub fn take_frame(&mut self) -> Area {
+        let at = self.taken;
+        self.taken = at.saturating_add(1);
+        match self.frames.get(at) {
+            Some(frame) => frame.area(),
+            None => Area::NOWHERE,
+        }
+    }
+
+    /// A stream that a line of the view names. Fails only for want of memory.
+    pub fn name(&mut self, driver: &Name, minor: u32) -> Result<(), NoMemory> {
+        let hint = self.hints.get(driver, minor);
+        match self.streams.get(hint) {
+            Some(stream) if stream.is(driver, minor) => return Ok(()),
+            Some(_) | None => {}
+        }
+        let stream = self.stream_of(driver, minor);
+        self.hints.set(driver, minor, self.streams.len());
+        self.streams.push(stream)?;
+        Ok(())
+    }
+
+    /// Gives each stream its column, once all are named. Nothing is counted yet. Fails only for want of memory.
+    pub fn make_columns(&mut self) -> Result<(), NoMemory> {
+        self.streams.sort_unstable_by_key(|stream| stream.order());
+        self.streams.dedup_by_key(|stream| stream.order());
+        self.columns.resize(self.streams.len(), Column::EMPTY)?;
+        Ok(())
+    }
+
     /// The number of the frame that a column is in.
     pub fn frame_at(&self, column: usize) -> usize {
-        column / COLUMNS
+        match self.streams.get(column) {
+            Some(stream) => stream.frame,
+            None => self.drivers.len(),
+        }
     }
 
     /// The number of a stream's column.
-    pub fn column_of(&self, driver: &Name, minor: u32) -> usize {
-        let minor = (minor as usize).min(COLUMNS - 1);
-        self.frame_of(driver)
-            .saturating_mul(COLUMNS)
-            .saturating_add(minor)
+    pub fn column_of(&mut self, driver: &Name, minor: u32) -> usize {
+        let hint = self.hints.get(driver, minor);
+        match self.streams.get(hint) {
+            Some(stream) if stream.is(driver, minor) => return hint,
+            Some(_) | None => {}
+        }
+        let found = self.find(driver, minor);
+        self.hints.set(driver, minor, found);
+        found
     }
 
-    /// The number of the column of a stream that a line of the view names.
-    pub fn name(&mut self, driver: &Name, minor: u32) -> usize {
-        let at = self.column_of(driver, minor);
-        if let Some(column) = self.columns.get_mut(at) {
-            if column.stream.is_none() {
-                column.stream = Some((*driver, minor));
-            }
+    // The number of a stream among all, or how many there are where it is none of them.
+    fn find(&self, driver: &Name, minor: u32) -> usize {
+        let order = self.stream_of(driver, minor).order();
+        match self
+            .streams
+            .binary_search_by_key(&order, |stream| stream.order())
+        {
+            Ok(at) => at,
+            Err(_) => self.streams.len(),
         }
-        at
+    }
+
+    // This stream, in the frame of its driver.
+    fn stream_of(&self, driver: &Name, minor: u32) -> Stream {
+        Stream::new(driver, minor, self.frame_of(driver))
     }
 
     /// A link to this column.
