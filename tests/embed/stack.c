@@ -1,11 +1,13 @@
-// usage: stack PROGRAMS [leave|unlocked|scarce|race]   performs the commands of a programs text by the library, and writes
-// their transcript
+// usage: stack PROGRAMS [leave|unlocked|scarce|race]   performs the commands of a programs text by the library, and
+// writes their transcript
 //
-// Before that, each call is made where it has to answer another code than 0. Two threads share the session, and each performs
-// every other command. With `leave` the session is not closed. With `unlocked` they go past the session's lock, by turns that
-// a sanitizer of threads can't see. With `scarce` one thread performs them, once for each growth, which is refused: the call
-// says so, and is made again, and the transcript has to be the same. With `race` nothing is written: eight threads perform commands at once, and each has to
-// get the replies to its own. The status is 1 where a call answers what it shouldn't.
+// Before that, each call is made where it has to answer another code than 0, and the words of refused texts are asked
+// for. Two threads share the session, and each performs every other command. With `leave` the session is not closed.
+// With `unlocked` they go past the session's lock, by turns that a sanitizer of threads can't see. With `scarce` one
+// thread performs them, once for each growth, which is refused: the call says so, and is made again, and the
+// transcript has to be the same; so have the words of refused texts. With `race` nothing is written: eight threads
+// perform commands at once, and each has to get the replies to its own; then one performs more than a transcript may
+// have. The status is 1 where a call answers what it shouldn't.
 #include <pthread.h>
 #include <sched.h>
 #include <stdatomic.h>
@@ -21,8 +23,8 @@ enum { ROOM = 1 << 20 };
 static char input[ROOM];
 static char transcripts[2][ROOM];
 
-// Which growth is refused, from 1 on, or 0 for none; and how many were asked for. The program is linked so that malloc and
-// realloc are the two below.
+// Which growth is refused, from 1 on, or 0 for none; and how many were asked for. The program is linked so that malloc
+// and realloc are the two below.
 static size_t refused;
 static size_t asked;
 
@@ -51,13 +53,31 @@ static void wants_text(const struct muxsim_text *text, const char *wanted, const
     }
 }
 
-static int32_t open_with(struct muxsim *shared, const char *programs) {
-    return muxsim_open(shared, programs, strlen(programs));
+static int32_t open_with(struct muxsim *shared, const char *programs, struct muxsim_text *text) {
+    return muxsim_open(shared, programs, strlen(programs), text);
 }
 
 static int32_t perform(struct muxsim *shared, const char *line, struct muxsim_text *text) {
     return muxsim_perform(shared, line, strlen(line), text);
 }
+
+// Texts of which there is no session, and why.
+static const struct refusal {
+    const char *programs;
+    int32_t code;
+    const char *words;
+} refusals[] = {
+    {"", MUXSIM_TEXT, "line 1: cut"},
+    {"programs 3\nend\n", MUXSIM_TEXT, "line 1: header"},
+    {"programs 1\nend", MUXSIM_TEXT, "line 2: cut"},
+    {"programs 1\ndriver ip mux\nend\n", MUXSIM_TEXT, "line 2: form"},
+    {"programs 1\nclone ip\nend\n", MUXSIM_TEXT, "line 2: form"},
+    {"programs 1\nend\n\n", MUXSIM_TEXT, "line 3: trailing"},
+    {"programs 1\ndriver ip mux 4 8 8 16\nend\n", MUXSIM_DRIVERS, "driver 0 marks"},
+    {"programs 1\ndriver ip mux 4 8 3 16\ndriver eth leaf 0 8 3 16\nend\n", MUXSIM_DRIVERS, "driver 1 minors"},
+    {"programs 2\ndriver ip mux 4 8 3 0\nend\n", MUXSIM_DRIVERS, "driver 0 max"},
+    {"programs 1\ndriver ip mux 4 8 3 16\ndriver ip leaf 1 8 3 16\nend\n", MUXSIM_DRIVERS, "driver 1 same name"},
+};
 
 // The calls that threads share, each where it answers another code.
 static void other_codes(void) {
@@ -67,12 +87,16 @@ static void other_codes(void) {
     wants(muxsim_entry(&shared, &text), MUXSIM_CLOSED, "closed: entry");
     wants(muxsim_show(&shared, &text), MUXSIM_CLOSED, "closed: show");
     wants(muxsim_close(&shared), MUXSIM_CLOSED, "closed: close");
-    wants(open_with(&shared, ""), MUXSIM_TEXT, "an empty text");
-    wants(open_with(&shared, "programs 1\nend"), MUXSIM_TEXT, "a cut text");
-    wants(open_with(&shared, "programs 1\ndriver ip mux 4 8 8 16\nend\n"), MUXSIM_DRIVERS, "a refused driver");
+    for (size_t i = 0; i < sizeof refusals / sizeof *refusals; i++) {
+        wants(open_with(&shared, refusals[i].programs, &text), refusals[i].code, refusals[i].programs);
+        wants_text(&text, refusals[i].words, refusals[i].programs);
+    }
     wants(muxsim_close(&shared), MUXSIM_CLOSED, "not opened: close");
-    wants(open_with(&shared, "programs 1\ndriver ip mux 4 8 3 16\nend\n"), MUXSIM_DONE, "open");
-    wants(open_with(&shared, "programs 1\nend\n"), MUXSIM_IS_OPEN, "open again");
+    wants(open_with(&shared, "programs 1\ndriver ip mux 4 8 3 16\nend\n", &text), MUXSIM_DONE, "open");
+    wants_text(&text, "", "no words of a session");
+    wants(open_with(&shared, "programs 1\nend\n", &text), MUXSIM_IS_OPEN, "open again");
+    wants(open_with(&shared, "", &text), MUXSIM_IS_OPEN, "open again, with a text that is none");
+    wants_text(&text, "", "no words of another one");
     wants(muxsim_entry(&shared, &text), MUXSIM_NO_ENTRY, "no entry");
     const char *lines[] = {"", "clone ip", "64 clone ip", "0 clone", "0  clone ip", "0 clone ip\n", "0 hangup ip 0",
                            "0 clone ip = fd 0 0", "0 clone ip = done", "00 exit"};
@@ -88,7 +112,7 @@ static void other_codes(void) {
     wants_text(&text, "config\nnext 1 1\nfd 0 0 ip 0\n", "the lines");
     wants(muxsim_close(&shared), MUXSIM_DONE, "close");
     wants(muxsim_close(&shared), MUXSIM_CLOSED, "close again");
-    wants(open_with(&shared, "programs 2\ndriver eth leaf 1 8 3 16\nend\n"), MUXSIM_DONE, "open another");
+    wants(open_with(&shared, "programs 2\ndriver eth leaf 1 8 3 16\nend\n", &text), MUXSIM_DONE, "open another");
     wants(perform(&shared, "0 hangup eth 0", &text), MUXSIM_DONE, "a command of version 2");
     wants_text(&text, "0 hangup eth 0 = ENXIO minor\n", "its entry");
     wants(muxsim_close(&shared), MUXSIM_DONE, "close another");
@@ -98,7 +122,8 @@ static void other_codes(void) {
 // The library's own calls, with buffers of all lengths.
 static void buffers(void) {
     struct muxsim_session session = {NULL};
-    const char *programs = "programs 1\ndriver ip mux 4 8 3 16\nend\n", *line = "63 clone ip", *entry = "63 clone ip = fd 0 0\n";
+    const char *programs = "programs 1\ndriver ip mux 4 8 3 16\nend\n";
+    const char *line = "63 clone ip", *entry = "63 clone ip = fd 0 0\n";
     uint8_t text[32];
     size_t len = 0;
     wants(muxsim_session_open(&session, (const uint8_t *)programs, strlen(programs)), MUXSIM_DONE, "open");
@@ -117,6 +142,52 @@ static void buffers(void) {
     wants(memcmp(text, "config\nnext 1 1\nfd 63 0 ip 0\n", 29) == 0, 1, "the bytes of the lines");
     wants(muxsim_session_close(&session), MUXSIM_DONE, "close");
     wants(session.at == NULL, 1, "no session");
+}
+
+// The words of why there is no session, by themselves, with buffers of all lengths.
+static void reasons(void) {
+    const char *fine = "programs 1\ndriver ip mux 4 8 3 16\nend\n";
+    struct muxsim_text words = {0};
+    uint8_t text[32];
+    size_t len = 7;
+    for (size_t i = 0; i < sizeof refusals / sizeof *refusals; i++) {
+        const struct refusal *refusal = &refusals[i];
+        size_t wanted = strlen(refusal->words);
+        for (size_t room = 0; room <= sizeof text; room++) {
+            memset(text, '.', sizeof text);
+            wants(muxsim_session_why((const uint8_t *)refusal->programs, strlen(refusal->programs), text, room, &len),
+                  room < wanted ? MUXSIM_NO_ROOM : MUXSIM_DONE, refusal->words);
+            wants(len == wanted, 1, "the length of the words");
+            for (size_t j = 0; j < sizeof text; j++)
+                wants(text[j], room >= wanted && j < wanted ? refusal->words[j] : '.', "a byte of the words");
+        }
+        wants(muxsim_why(refusal->programs, strlen(refusal->programs), &words), MUXSIM_DONE, "why");
+        wants_text(&words, refusal->words, refusal->programs);
+    }
+    memset(text, '.', sizeof text);
+    wants(muxsim_session_why((const uint8_t *)fine, strlen(fine), text, 0, &len), MUXSIM_DONE, "no words");
+    wants(len == 0 && text[0] == '.', 1, "no byte of a text that is fine");
+    wants(muxsim_why(fine, strlen(fine), &words), MUXSIM_DONE, "why not");
+    wants_text(&words, "", "no words of a text that is fine");
+    free(words.bytes);
+}
+
+// Sessions on the heap, which end while they have a session and while they have none.
+static void on_the_heap(void) {
+    struct muxsim *shared = malloc(sizeof *shared);
+    struct muxsim_text text = {0};
+    if (shared == NULL) exit(2);
+    memset(shared, 0xff, sizeof *shared);
+    wants(muxsim_init(shared), MUXSIM_DONE, "init");
+    wants(muxsim_show(shared, &text), MUXSIM_CLOSED, "made: show");
+    wants(muxsim_destroy(shared), MUXSIM_DONE, "destroy without a session");
+    wants(muxsim_init(shared), MUXSIM_DONE, "init again");
+    wants(open_with(shared, "programs 1\ndriver ip mux 4 8 3 16\nend\n", &text), MUXSIM_DONE, "made: open");
+    wants(perform(shared, "0 clone ip", &text), MUXSIM_DONE, "made: perform");
+    wants_text(&text, "0 clone ip = fd 0 0\n", "made: the entry");
+    wants(muxsim_destroy(shared), MUXSIM_DONE, "destroy");
+    free(text.bytes);
+    free(shared);
 }
 
 struct work {
@@ -179,6 +250,14 @@ static void *at_once(void *data) {
     return NULL;
 }
 
+// Performs more commands than a transcript has entries: a session has no limit of them.
+static void on_and_on(struct muxsim *shared) {
+    struct muxsim_text text = {0};
+    for (size_t i = 0; i <= 100000; i++) wants(perform(shared, "9 exit", &text), MUXSIM_DONE, "one more");
+    wants_text(&text, "9 exit = done\n", "the last entry");
+    free(text.bytes);
+}
+
 static void on_threads(void *each(void *), struct work *work, size_t count) {
     struct worker workers[8];
     pthread_t threads[8];
@@ -231,7 +310,7 @@ static size_t performs_scarce(struct work *work, size_t len, size_t number, char
     int32_t code;
     asked = 0;
     refused = number;
-    while ((code = muxsim_open(&work->shared, input, len)) == MUXSIM_NO_MEMORY) continue;
+    while ((code = muxsim_open(&work->shared, input, len, &text)) == MUXSIM_NO_MEMORY) continue;
     wants(code, MUXSIM_DONE, "open");
     for (size_t i = 0; i < work->count; i++) {
         while ((code = perform(&work->shared, work->lines[i], &text)) == MUXSIM_NO_MEMORY) continue;
@@ -246,6 +325,33 @@ static size_t performs_scarce(struct work *work, size_t len, size_t number, char
     at = append(transcript, at, &text);
     free(text.bytes);
     return at;
+}
+
+// The words of why there is no session, where each growth is refused in turn. Where memory is wanting for the words
+// alone, the code stays, and they are asked for again.
+static void reasons_scarce(struct work *work) {
+    size_t wordless = 0;
+    for (size_t i = 0; i < sizeof refusals / sizeof *refusals; i++) {
+        const struct refusal *refusal = &refusals[i];
+        size_t number = 0;
+        do {
+            struct muxsim_text text = {0};
+            int32_t code;
+            asked = 0;
+            refused = ++number;
+            while ((code = open_with(&work->shared, refusal->programs, &text)) == MUXSIM_NO_MEMORY)
+                wants_text(&text, "", "no words of want of memory");
+            wants(code, refusal->code, refusal->programs);
+            if (text.len == 0) {
+                wordless++;
+                wants(muxsim_why(refusal->programs, strlen(refusal->programs), &text), MUXSIM_DONE, "why");
+            }
+            wants_text(&text, refusal->words, refusal->programs);
+            refused = 0;
+            free(text.bytes);
+        } while (asked >= number);
+    }
+    wants(wordless > 0, 1, "words without a growth");
 }
 
 static void performs_each_scarce(struct work *work, size_t len) {
@@ -273,15 +379,22 @@ int main(int argc, char **argv) {
     work.is_locked = strcmp(how, "unlocked") != 0;
     other_codes();
     buffers();
+    reasons();
+    on_the_heap();
     if (strcmp(how, "scarce") == 0) {
+        reasons_scarce(&work);
         performs_each_scarce(&work, len);
         return 0;
     }
-    wants(muxsim_open(&work.shared, input, len), MUXSIM_DONE, "open");
-    if (strcmp(how, "race") == 0)
+    struct muxsim_text text = {0};
+    wants(muxsim_open(&work.shared, input, len, &text), MUXSIM_DONE, "open");
+    free(text.bytes);
+    if (strcmp(how, "race") == 0) {
         on_threads(at_once, &work, 8);
-    else
+        on_and_on(&work.shared);
+    } else {
         performs_all(&work);
+    }
     if (strcmp(how, "leave") != 0) wants(muxsim_close(&work.shared), MUXSIM_DONE, "close");
     work.shared.session.at = NULL;
     return 0;

@@ -1,2 +1,3 @@
 pub mod HandleLemmas
 pub mod LooseLemmas
+pub mod WorkedLemmas

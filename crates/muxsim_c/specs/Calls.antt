@@ -1,8 +1,11 @@
 -- What each call does with a handle, which has a session or none.
-use Rattle.std.specs.Prelude.{◌≡◌, ◌<◌, ◌≤◌, ◌⊎◌, ℕ, ℤ, List, ◌++◌, drop, length, Option, Some, None, Ok, Err}
+use Rattle.std.specs.Prelude.{◌≡◌, ◌≢◌, ◌<◌, ◌≤◌, ◌⊎◌, ℕ, ℤ, List, [], ◌++◌, drop, length, Option, Some, None}
+use Rattle.std.specs.Prelude.{Result, Ok, Err, IfErr}
 use Rattle.smx_session.specs.Sessions.{IsLastLine, IsNoCall, StartsAs, State, shown_lines}
 use Rattle.smx_session.specs.Sessions.{Performs as Steps}
+use Rattle.smx_session.specs.TroubleWords.{trouble_words}
 use Rattle.smx_session.specs.declared.trouble.Trouble.{Trouble as SessionTrouble}
+use Rattle.smx_session.specs.declared.trouble.Trouble.TheVariants.{NoMemory as memory}
 use Rattle.muxsim_c.specs.Codes.{Outcome, code, told_of}
 use Rattle.muxsim_c.specs.declared.call_fault.CallFault.{CallFault}
 use Rattle.muxsim_c.specs.declared.call_fault.CallFault.TheVariants.{NoMemory, Line, NoEntry, NoRoom, Closed, IsOpen}
@@ -45,6 +48,20 @@ abbrev pub Writes : (List ℕ → Type 0) → List ℕ → List ℕ → ℕ → 
 Writes IsText old new was len outcome =
     ((text : List ℕ) × IsText text × Copies text old new len outcome)
     ⊎ (WritesNothing old new was len × (outcome ≡ Err NoMemory))
+
+-- the words in which a trouble prints itself, and none of a session
+abbrev pub why_words : Result State SessionTrouble → List ℕ
+why_words (Ok s) = []
+why_words (Err t) = trouble_words t
+
+-- the words of the text's first fault, or of that of its drivers; none where a session starts over its drivers
+abbrev pub IsWhy : List ℕ → List ℕ → Type 0
+IsWhy text words = (start : Result State SessionTrouble) × StartsAs text start × IfErr start (λ t. t ≢ memory)
+    × (words ≡ why_words start)
+
+-- the words of why no session starts over the text are written, none where one does; or memory was wanting
+abbrev pub TellsWhy : List ℕ → List ℕ → List ℕ → ℕ → ℕ → Outcome → Type 0
+TellsWhy text old new was len outcome = Writes (IsWhy text) old new was len outcome
 
 -- the line of the entry that was made last is written; or there is no entry, or no session
 abbrev pub Tells : Option State → List ℕ → List ℕ → ℕ → ℕ → Outcome → Type 0

@@ -1,6 +1,11 @@
--- Worked codes and copies, typed in.
-use Rattle.std.specs.Prelude.{◌≡◌, [], ◌∷◌, map, Ok, Err, pos, refl}
+-- Worked codes, texts and words, typed in.
+use Rattle.std.specs.Prelude.{◌≡◌, ℕ, List, [], ◌∷◌, map, Ok, Err, codes, pos, refl}
+use Rattle.std.specs.Fmt.{digits}
+use Rattle.smx_config.specs.declared.config_fault.ConfigFault.TheVariants as config
+use Rattle.smx_session.specs.TroubleWords.{trouble_words}
 use Rattle.smx_session.specs.declared.trouble.Trouble.TheVariants as session
+use Rattle.smx_text.specs.declared.text_fault.Cause.TheVariants as cause
+use Rattle.smx_types.specs.declared.driver.SpecFault.TheVariants.{BadMarks}
 use Rattle.muxsim_c.specs.Codes.{code, told_of}
 use Rattle.muxsim_c.specs.declared.call_fault.CallFault.TheVariants.{NoMemory, Text, Drivers, Line, NoEntry}
 use Rattle.muxsim_c.specs.declared.call_fault.CallFault.TheVariants.{NoRoom, Closed, IsOpen}
@@ -15,3 +20,21 @@ codes_of_the_header = refl
 pub three_are_told : map told_of (session.NoMemory ∷ session.Line ∷ session.NoEntry ∷ [])
     ≡ NoMemory ∷ Line ∷ NoEntry ∷ []
 three_are_told = refl
+
+-- a command before the first process
+abbrev pub without_a_process : List ℕ
+without_a_process = codes "programs 1\nclone ip\nend\n"
+
+-- a driver whose water marks are the same
+abbrev pub without_marks : List ℕ
+without_marks = codes "programs 1\ndriver ip mux 4 8 8 16\nend\n"
+
+-- the words of their faults
+pub words_without_a_process : trouble_words (session.Text (record { line = 2; cause = cause.Form }))
+    ≡ codes "line 2: form"
+unfolding digits
+words_without_a_process = refl
+
+pub words_without_marks : trouble_words (session.Drivers (config.BadSpec 0 BadMarks)) ≡ codes "driver 0 marks"
+unfolding digits
+words_without_marks = refl

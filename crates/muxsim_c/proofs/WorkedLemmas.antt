@@ -1,0 +1,90 @@
+-- Worked texts that make no session, with the words of why.
+use Rattle.std.proofs.Common.{◌≡◌, ℕ, List, [], ◌∷◌, Ok, Err, inl, inr, refl, sym, ap, subst, get_or, arith, rules}
+use Rattle.std.specs.Prelude.{codes, pos}
+use Rattle.std.specs.Fmt.{digits}
+use Rattle.smx_types.specs.ProgramLists.{ProgramLists, program_lists}
+use Rattle.smx_types.specs.declared.driver.DriverKind.TheVariants as kind
+use Rattle.smx_types.specs.declared.driver.DriverSpec.{DriverSpec}
+use Rattle.smx_types.specs.declared.driver.SpecFault.TheVariants.{BadMarks}
+use Rattle.smx_types.specs.declared.version.Version.TheVariants.{V1}
+use Rattle.smx_config.specs.DriverFaults.{RefusesDrivers}
+use Rattle.smx_config.specs.declared.config_fault.ConfigFault.TheVariants as config
+use Rattle.smx_text.specs.Grammar.{Spells}
+use Rattle.smx_text.specs.ProgramsText.{programs_grammar, programs_text}
+use Rattle.smx_text.specs.WorkedFaults.{AreWrongPrograms}
+use Rattle.smx_text.specs.declared.text_fault.Cause.TheVariants as cause
+use Rattle.smx_session.specs.Sessions.{IsStartOf}
+use Rattle.smx_session.specs.WorkedSessions.{begun, table}
+use Rattle.smx_session.specs.declared.trouble.Trouble.TheVariants as session
+use Rattle.muxsim_c.specs.Calls.{Answers, Copies, IsWhy, TellsWhy}
+use Rattle.muxsim_c.specs.Codes.{Outcome, code}
+use Rattle.muxsim_c.specs.WorkedCalls.{without_a_process, without_marks, words_without_a_process, words_without_marks}
+
+-- a text that goes wrong at line 2 for its form has the words that say so
+pub form : AreWrongPrograms without_a_process 2 cause.Form → IsWhy without_a_process (codes "line 2: form")
+form wrong = (
+  Err (session.Text (record { line = 2; cause = cause.Form })),
+  (wrong.0, λ e. cc),
+  λ e. cc,
+  sym words_without_a_process,
+)
+
+-- a driver whose water marks are the same
+abbrev same_marks : DriverSpec
+same_marks = record { name = codes "ip"; kind = kind.Mux; minors = 4; high = 8; low = 8; max = 16 }
+
+-- the driver whose water marks are the same alone, and no program
+abbrev programs : ProgramLists
+programs = program_lists (same_marks ∷ []) []
+
+-- the worked text of a driver whose water marks are the same is the text of that driver and no program
+is_text : without_marks ≡ programs_text programs
+unfolding digits
+is_text = refl
+
+-- the text spells that driver and no program
+spelled : Spells (programs_grammar V1) without_marks programs
+spelled = record { allowed = search (rules, arith); text = is_text }
+
+-- drivers of which the first has the same water mark twice are refused for its marks
+refused : RefusesDrivers programs.drivers (config.BadSpec 0 BadMarks)
+refused = (same_marks, record { few = omega arith; here = refl; before = search (rules, arith) }, refl)
+
+-- a text whose driver has the same water mark twice has the words that say so
+pub marks : IsWhy without_marks (codes "driver 0 marks")
+marks = (
+  Err (session.Drivers (config.BadSpec 0 BadMarks)),
+  ((V1, programs, spelled, refused), λ e. cc),
+  λ e. cc,
+  sym words_without_marks,
+)
+
+-- a text that makes a session has no words of why not
+pub fine : IsStartOf table begun → IsWhy table []
+fine starts = (Ok begun, starts, tt, refl)
+
+module _ (apart : (one other : Outcome) → code one ≡ code other → one ≡ other)
+    (one_why : (text one other : List ℕ) → IsWhy text one → IsWhy text other → one ≡ other) where
+  -- the words of a text are what is copied where the code is 0
+  copied : (text words old new : List ℕ) (was len : ℕ) → IsWhy text words
+      → Answers (pos 0) (TellsWhy text old new was len) → Copies words old new len (Ok tt)
+  copied text words old new was len is (Ok tt, inl (written, is_too, copies), code_is) =
+      subst (λ (w : List ℕ). Copies w old new len (Ok tt)) (one_why text written words is_too is) copies
+  copied text words old new was len is (Ok tt, inr (nothing, no_memory), code_is) = absurd cc
+  copied text words old new was len is (Err t, told, code_is) =
+      let same : ◌≡◌ {A = Outcome} (Ok tt) (Err t) = apart (Ok tt) (Err t) code_is in
+      absurd cc
+
+  -- a fault at line 2 is not told as one at line 3
+  pub not_line_3 : AreWrongPrograms without_a_process 2 cause.Form
+      → Answers (pos 0) (TellsWhy without_a_process (codes "............") (codes "line 3: form") 7 12) → ⊥
+  not_line_3 wrong told =
+      let copies = copied without_a_process (codes "line 2: form") _ _ 7 12 (form wrong) told in
+      let digit : 51 ≡ 50 = ap (λ (xs : List ℕ). get_or xs 5 0) copies.2 in
+      omega (arith, digit)
+
+  -- drivers at fault are not told by no words
+  pub not_silent : Answers (pos 0) (TellsWhy without_marks (codes "...") (codes "...") 7 0) → ⊥
+  not_silent told =
+      let copies = copied without_marks (codes "driver 0 marks") _ _ 7 0 marks told in
+      omega (arith, copies.0)

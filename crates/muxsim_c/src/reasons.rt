@@ -1,0 +1,47 @@
+//! Why a text makes no session, in words.
+
+ghost use Rattle.std.specs.Prelude.{◌≡◌, IfErr, IfOk, string_bytes};
+ghost use Rattle.muxsim_c.specs.Calls.{IsWhy, TellsWhy};
+ghost use Rattle.muxsim_c.specs.declared.call_fault.CallFault.TheVariants.{NoMemory};
+ghost use Rattle.smx_session.specs.TroubleWords.{trouble_words};
+
+use crate::call_fault::CallFault;
+use crate::texts::copy_out;
+use smx_session::{Session, Trouble};
+use std::alloc::{AllocError, Global};
+
+/// Writes the words of why a text makes no session, and no byte where it makes one.
+pub fn why(
+    alloc: Global,
+    programs: &[u8],
+    text: &mut [u8],
+    len: &mut usize,
+) -> Result<(), CallFault>
+    ensures { TellsWhy programs.now text.old text.new len.old len.new result }
+{
+    let words = reason(alloc, programs)?;
+    copy_out(words.as_bytes(), text, len)
+}
+
+// The words of why a text makes no session, none where it makes one.
+fn reason(alloc: Global, programs: &[u8]) -> Result<String, CallFault>
+    ensures words { IfOk result (λ words. IsWhy programs.now (string_bytes words)) }
+    ensures none { IfErr result (λ t. t ≡ NoMemory) }
+{
+    let trouble = match Session::new(alloc, programs) {
+        Ok(_) => return Ok(String::new(alloc)),
+        Err(Trouble::NoMemory) => return Err(CallFault::NoMemory),
+        Err(trouble) => trouble,
+    };
+    match printed(alloc, trouble) {
+        Ok(words) => Ok(words),
+        Err(_) => Err(CallFault::NoMemory),
+    }
+}
+
+// A trouble as it prints itself.
+fn printed(alloc: Global, trouble: Trouble) -> Result<String, AllocError>
+    ensures { IfOk result (λ words. string_bytes words ≡ trouble_words trouble) }
+{
+    format!(in alloc; "{trouble}")
+}
