@@ -19,8 +19,14 @@ _muxsim() {
             check) words='--explain --help' ;;
             replay | live) words='--help' ;;
             draw) words='--dot --help' ;;
-            help) words='run check replay draw live commands' ;;
+            help) ((COMP_CWORD == 2)) && words='run check replay draw live commands' ;;
         esac
+        # Each option may stand once.
+        local given
+        for given in "${COMP_WORDS[@]:2:COMP_CWORD - 2}"; do
+            words=" $words "
+            words=${words/" $given "/ }
+        done
     fi
     mapfile -t COMPREPLY < <(compgen -W "$words" -- "$word")
 }
