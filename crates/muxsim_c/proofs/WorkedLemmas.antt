@@ -1,29 +1,33 @@
--- Worked texts that make no session, with the words of why.
-use Rattle.std.proofs.Common.{◌≡◌, ℕ, List, [], ◌∷◌, Ok, Err, inl, inr, refl, sym, ap, subst, get_or, arith, rules}
+-- Worked texts that make no session, with the words of why; and what C is not told.
+use Rattle.std.proofs.Common.{◌≡◌, ℕ, List, [], ◌∷◌, Some, Ok, Err, inl, inr, refl, sym, ap, subst, ◌∙◌, get_or}
+use Rattle.std.proofs.Common.{arith, rules}
 use Rattle.std.specs.Prelude.{codes, pos}
 use Rattle.std.specs.Fmt.{digits}
 use Rattle.smx_types.specs.ProgramLists.{ProgramLists, program_lists}
 use Rattle.smx_types.specs.declared.driver.DriverKind.TheVariants as kind
 use Rattle.smx_types.specs.declared.driver.DriverSpec.{DriverSpec}
 use Rattle.smx_types.specs.declared.driver.SpecFault.TheVariants.{BadMarks}
-use Rattle.smx_types.specs.declared.version.Version.TheVariants.{V1}
+use Rattle.smx_types.specs.declared.version.Version.TheVariants.{V1, V2}
 use Rattle.smx_config.specs.DriverFaults.{RefusesDrivers}
 use Rattle.smx_config.specs.declared.config_fault.ConfigFault.TheVariants as config
 use Rattle.smx_text.specs.Grammar.{Spells}
 use Rattle.smx_text.specs.ProgramsText.{programs_grammar, programs_text}
 use Rattle.smx_text.specs.WorkedFaults.{AreWrongPrograms}
 use Rattle.smx_text.specs.declared.text_fault.Cause.TheVariants as cause
-use Rattle.smx_session.specs.Sessions.{IsStartOf}
+use Rattle.smx_session.specs.Sessions.{IsNotPerformed, IsStartOf}
 use Rattle.smx_session.specs.WorkedSessions.{begun, table}
-use Rattle.smx_session.specs.declared.trouble.Trouble.TheVariants as session
-use Rattle.muxsim_c.specs.Calls.{Answers, Copies, IsWhy, TellsWhy}
+use Rattle.smx_session.specs.declared.line_fault.LineFault.TheVariants as line
+use Rattle.smx_session.specs.declared.start_fault.StartFault.TheVariants as start
+use Rattle.muxsim_c.specs.Calls.{Answers, Copies, IsWhy, Performs, Tells, TellsWhy}
 use Rattle.muxsim_c.specs.Codes.{Outcome, code}
+use Rattle.muxsim_c.specs.declared.call_fault.CallFault.{CallFault}
+use Rattle.muxsim_c.specs.declared.call_fault.CallFault.TheVariants.{Line, NoEntry}
 use Rattle.muxsim_c.specs.WorkedCalls.{without_a_process, without_marks, words_without_a_process, words_without_marks}
 
 -- a text that goes wrong at line 2 for its form has the words that say so
 pub form : AreWrongPrograms without_a_process 2 cause.Form → IsWhy without_a_process (codes "line 2: form")
 form wrong = (
-  Err (session.Text (record { line = 2; cause = cause.Form })),
+  Err (start.Text (record { line = 2; cause = cause.Form })),
   (wrong.0, λ e. cc),
   λ e. cc,
   sym words_without_a_process,
@@ -53,7 +57,7 @@ refused = (same_marks, record { few = omega arith; here = refl; before = search 
 -- a text whose driver has the same water mark twice has the words that say so
 pub marks : IsWhy without_marks (codes "driver 0 marks")
 marks = (
-  Err (session.Drivers (config.BadSpec 0 BadMarks)),
+  Err (start.Drivers (config.BadSpec 0 BadMarks)),
   ((V1, programs, spelled, refused), λ e. cc),
   λ e. cc,
   sym words_without_marks,
@@ -88,3 +92,19 @@ module _ (apart : (one other : Outcome) → code one ≡ code other → one ≡ 
   not_silent told =
       let copies = copied without_marks (codes "driver 0 marks") _ _ 7 0 marks told in
       omega (arith, copies.0)
+
+-- a line that is no command is not refused for want of memory
+pub not_for_want : (IsNotPerformed V2 (codes "dup 0") line.NoMemory → ⊥)
+    → Answers (pos 1) (Performs (Some begun) (codes "dup 0") (Some begun)) → ⊥
+not_for_want none (Ok tt, performed, code_is) = absurd cc
+not_for_want none (Err t, (same, line.NoMemory, is, told), code_is) = none is
+not_for_want none (Err t, (same, line.NoCommand, is, told), code_is) =
+    let codes_are : pos 1 ≡ code (Err Line) = code_is ∙ ap (λ (x : CallFault). code (Err x)) told in
+    absurd (cc codes_are)
+
+-- before the first entry no memory is wanting for its line
+pub no_memory_for_none : Answers (pos 1) (Tells (Some begun) (codes "1") (codes "1") 7 7) → ⊥
+no_memory_for_none (outcome, inl (some, written), code_is) = absurd (cc some)
+no_memory_for_none (outcome, inr (none, nothing, no_entry), code_is) =
+    let codes_are : pos 1 ≡ code (Err NoEntry) = code_is ∙ ap code no_entry in
+    absurd (cc codes_are)

@@ -1,14 +1,15 @@
 -- What each call does with a handle, which has a session or none.
 use Rattle.std.specs.Prelude.{◌≡◌, ◌≢◌, ◌<◌, ◌≤◌, ◌⊎◌, ℕ, ℤ, List, [], ◌++◌, drop, length, Option, Some, None}
-use Rattle.std.specs.Prelude.{Result, Ok, Err, IfErr}
-use Rattle.smx_session.specs.Sessions.{IsLastLine, IsNoCall, StartsAs, State, shown_lines}
+use Rattle.std.specs.Prelude.{IsSome, Result, Ok, Err, IfErr}
+use Rattle.smx_session.specs.Sessions.{IsLastLine, IsNotPerformed, StartsAs, State, shown_lines}
 use Rattle.smx_session.specs.Sessions.{Performs as Steps}
-use Rattle.smx_session.specs.TroubleWords.{trouble_words}
-use Rattle.smx_session.specs.declared.trouble.Trouble.{Trouble as SessionTrouble}
-use Rattle.smx_session.specs.declared.trouble.Trouble.TheVariants.{NoMemory as memory}
-use Rattle.muxsim_c.specs.Codes.{Outcome, code, told_of}
+use Rattle.smx_session.specs.FaultWords.{start_fault_words}
+use Rattle.smx_session.specs.declared.line_fault.LineFault.{LineFault}
+use Rattle.smx_session.specs.declared.start_fault.StartFault.{StartFault}
+use Rattle.smx_session.specs.declared.start_fault.StartFault.TheVariants.{NoMemory as memory}
+use Rattle.muxsim_c.specs.Codes.{Outcome, code, told_of_line, told_of_start}
 use Rattle.muxsim_c.specs.declared.call_fault.CallFault.{CallFault}
-use Rattle.muxsim_c.specs.declared.call_fault.CallFault.TheVariants.{NoMemory, Line, NoEntry, NoRoom, Closed, IsOpen}
+use Rattle.muxsim_c.specs.declared.call_fault.CallFault.TheVariants.{NoMemory, NoEntry, NoRoom, Closed, IsOpen}
 
 -- n is the code of an outcome for which this holds
 abbrev pub Answers : ℤ → (Outcome → Type 0) → Type 0
@@ -16,7 +17,7 @@ Answers n Holds = (outcome : Outcome) × Holds outcome × (n ≡ code outcome)
 
 -- the text's first fault, or that of its drivers, or want of memory, as C is told of it
 abbrev pub HasFault : List ℕ → CallFault → Type 0
-HasFault text t = (fault : SessionTrouble) × StartsAs text (Err fault) × (t ≡ told_of fault)
+HasFault text t = (fault : StartFault) × StartsAs text (Err fault) × (t ≡ told_of_start fault)
 
 -- a session over the drivers of the text, where there is none; one that is there stays
 abbrev pub Opens : Option State → List ℕ → Option State → Outcome → Type 0
@@ -25,12 +26,13 @@ Opens None text None (Ok _) = ⊥
 Opens None text new (Err t) = (new ≡ None) × HasFault text t
 Opens (Some s) text new outcome = (new ≡ Some s) × (outcome ≡ Err IsOpen)
 
--- the command of the line is performed; or the session stays, for want of memory or since the line has no command
+-- the command of the line is performed; or the session stays, for want of memory or since the line is none
 abbrev pub Performs : Option State → List ℕ → Option State → Outcome → Type 0
 Performs None line new outcome = (new ≡ None) × (outcome ≡ Err Closed)
 Performs (Some s) line (Some n) (Ok _) = Steps s line n
 Performs (Some s) line None (Ok _) = ⊥
-Performs (Some s) line new (Err t) = (new ≡ Some s) × ((t ≡ NoMemory) ⊎ ((t ≡ Line) × IsNoCall s.version line))
+Performs (Some s) line new (Err t) =
+    (new ≡ Some s) × (fault : LineFault) × IsNotPerformed s.version line fault × (t ≡ told_of_line fault)
 
 -- the text is at the head of the buffer; or it is longer than the buffer, which stays
 abbrev pub Copies : List ℕ → List ℕ → List ℕ → ℕ → Outcome → Type 0
@@ -49,14 +51,14 @@ Writes IsText old new was len outcome =
     ((text : List ℕ) × IsText text × Copies text old new len outcome)
     ⊎ (WritesNothing old new was len × (outcome ≡ Err NoMemory))
 
--- the words in which a trouble prints itself, and none of a session
-abbrev pub why_words : Result State SessionTrouble → List ℕ
+-- the words in which a fault prints itself, and none of a session
+abbrev pub why_words : Result State StartFault → List ℕ
 why_words (Ok s) = []
-why_words (Err t) = trouble_words t
+why_words (Err fault) = start_fault_words fault
 
 -- the words of the text's first fault, or of that of its drivers; none where a session starts over its drivers
 abbrev pub IsWhy : List ℕ → List ℕ → Type 0
-IsWhy text words = (start : Result State SessionTrouble) × StartsAs text start × IfErr start (λ t. t ≢ memory)
+IsWhy text words = (start : Result State StartFault) × StartsAs text start × IfErr start (λ t. t ≢ memory)
     × (words ≡ why_words start)
 
 -- the words of why no session starts over the text are written, none where one does; or memory was wanting
@@ -67,7 +69,7 @@ TellsWhy text old new was len outcome = Writes (IsWhy text) old new was len outc
 abbrev pub Tells : Option State → List ℕ → List ℕ → ℕ → ℕ → Outcome → Type 0
 Tells None old new was len outcome = WritesNothing old new was len × (outcome ≡ Err Closed)
 Tells (Some s) old new was len outcome =
-    Writes (IsLastLine s) old new was len outcome
+    (IsSome s.last × Writes (IsLastLine s) old new was len outcome)
     ⊎ ((s.last ≡ None) × WritesNothing old new was len × (outcome ≡ Err NoEntry))
 
 -- the lines of the configuration are written, as they stand in a transcript; or there is no session

@@ -1,7 +1,11 @@
 -- The codes that C gets.
 use Rattle.std.specs.Prelude.{Result, Ok, Err, ℤ, pos}
-use Rattle.smx_session.specs.declared.trouble.Trouble.{Trouble as SessionTrouble}
-use Rattle.smx_session.specs.declared.trouble.Trouble.TheVariants as session
+use Rattle.smx_session.specs.declared.entry_fault.EntryFault.{EntryFault}
+use Rattle.smx_session.specs.declared.entry_fault.EntryFault.TheVariants as entry
+use Rattle.smx_session.specs.declared.line_fault.LineFault.{LineFault}
+use Rattle.smx_session.specs.declared.line_fault.LineFault.TheVariants as line
+use Rattle.smx_session.specs.declared.start_fault.StartFault.{StartFault}
+use Rattle.smx_session.specs.declared.start_fault.StartFault.TheVariants as start
 use Rattle.muxsim_c.specs.declared.call_fault.CallFault.{CallFault}
 use Rattle.muxsim_c.specs.declared.call_fault.CallFault.TheVariants.{NoMemory, Text, Drivers, Line, NoEntry}
 use Rattle.muxsim_c.specs.declared.call_fault.CallFault.TheVariants.{NoRoom, Closed, IsOpen}
@@ -22,10 +26,18 @@ code (Err NoRoom) = pos 6
 code (Err Closed) = pos 7
 code (Err IsOpen) = pos 8
 
--- what C is told of a session's trouble
-abbrev pub told_of : SessionTrouble → CallFault
-told_of session.NoMemory = NoMemory
-told_of (session.Text fault) = Text
-told_of (session.Drivers fault) = Drivers
-told_of session.Line = Line
-told_of session.NoEntry = NoEntry
+-- what C is told where no session starts
+abbrev pub told_of_start : StartFault → CallFault
+told_of_start start.NoMemory = NoMemory
+told_of_start (start.Text fault) = Text
+told_of_start (start.Drivers fault) = Drivers
+
+-- what C is told where a line is not performed
+abbrev pub told_of_line : LineFault → CallFault
+told_of_line line.NoMemory = NoMemory
+told_of_line line.NoCommand = Line
+
+-- what C is told where no entry is written
+abbrev pub told_of_entry : EntryFault → CallFault
+told_of_entry entry.NoMemory = NoMemory
+told_of_entry entry.NoEntry = NoEntry

@@ -2,11 +2,13 @@
 use Rattle.std.specs.Prelude.{◌≡◌, ℕ, List, [], ◌∷◌, map, Ok, Err, codes, pos, refl}
 use Rattle.std.specs.Fmt.{digits}
 use Rattle.smx_config.specs.declared.config_fault.ConfigFault.TheVariants as config
-use Rattle.smx_session.specs.TroubleWords.{trouble_words}
-use Rattle.smx_session.specs.declared.trouble.Trouble.TheVariants as session
+use Rattle.smx_session.specs.FaultWords.{start_fault_words}
+use Rattle.smx_session.specs.declared.entry_fault.EntryFault.TheVariants as entry
+use Rattle.smx_session.specs.declared.line_fault.LineFault.TheVariants as line
+use Rattle.smx_session.specs.declared.start_fault.StartFault.TheVariants as start
 use Rattle.smx_text.specs.declared.text_fault.Cause.TheVariants as cause
 use Rattle.smx_types.specs.declared.driver.SpecFault.TheVariants.{BadMarks}
-use Rattle.muxsim_c.specs.Codes.{code, told_of}
+use Rattle.muxsim_c.specs.Codes.{code, told_of_entry, told_of_line, told_of_start}
 use Rattle.muxsim_c.specs.declared.call_fault.CallFault.TheVariants.{NoMemory, Text, Drivers, Line, NoEntry}
 use Rattle.muxsim_c.specs.declared.call_fault.CallFault.TheVariants.{NoRoom, Closed, IsOpen}
 
@@ -16,10 +18,17 @@ pub codes_of_the_header : map code (Ok tt ∷ Err NoMemory ∷ Err Text ∷ Err 
     ≡ pos 0 ∷ pos 1 ∷ pos 2 ∷ pos 3 ∷ pos 4 ∷ pos 5 ∷ pos 6 ∷ pos 7 ∷ pos 8 ∷ []
 codes_of_the_header = refl
 
--- what C is told of the troubles that say no more than their names
-pub three_are_told : map told_of (session.NoMemory ∷ session.Line ∷ session.NoEntry ∷ [])
-    ≡ NoMemory ∷ Line ∷ NoEntry ∷ []
-three_are_told = refl
+-- what C is told of the faults of a line
+pub line_faults_are_told : map told_of_line (line.NoMemory ∷ line.NoCommand ∷ []) ≡ NoMemory ∷ Line ∷ []
+line_faults_are_told = refl
+
+-- what C is told of the faults of an entry
+pub entry_faults_are_told : map told_of_entry (entry.NoMemory ∷ entry.NoEntry ∷ []) ≡ NoMemory ∷ NoEntry ∷ []
+entry_faults_are_told = refl
+
+-- what C is told where memory was wanting for a session
+pub start_is_told : told_of_start start.NoMemory ≡ NoMemory
+start_is_told = refl
 
 -- a command before the first process
 abbrev pub without_a_process : List ℕ
@@ -30,11 +39,11 @@ abbrev pub without_marks : List ℕ
 without_marks = codes "programs 1\ndriver ip mux 4 8 8 16\nend\n"
 
 -- the words of their faults
-pub words_without_a_process : trouble_words (session.Text (record { line = 2; cause = cause.Form }))
+pub words_without_a_process : start_fault_words (start.Text (record { line = 2; cause = cause.Form }))
     ≡ codes "line 2: form"
 unfolding digits
 words_without_a_process = refl
 
-pub words_without_marks : trouble_words (session.Drivers (config.BadSpec 0 BadMarks)) ≡ codes "driver 0 marks"
+pub words_without_marks : start_fault_words (start.Drivers (config.BadSpec 0 BadMarks)) ≡ codes "driver 0 marks"
 unfolding digits
 words_without_marks = refl

@@ -1,8 +1,9 @@
 //! Why a call did nothing, and its code in C.
 
 ghost use Rattle.std.specs.Prelude.{◌≡◌};
-ghost use Rattle.muxsim_c.specs.Codes.{code, told_of};
+ghost use Rattle.muxsim_c.specs.Codes.{code};
 
+use smx_session::{EntryFault, LineFault, StartFault};
 use smx_types::NoMemory;
 
 /// Why a call did nothing.
@@ -43,16 +44,46 @@ pub fn code_of(outcome: &Result<(), CallFault>) -> i32
     }
 }
 
-/// What C is told of a session's trouble.
-pub fn told(trouble: smx_session::Trouble) -> CallFault
-    ensures { result ≡ told_of trouble }
-{
-    match trouble {
-        smx_session::Trouble::NoMemory => CallFault::NoMemory,
-        smx_session::Trouble::Text(_) => CallFault::Text,
-        smx_session::Trouble::Drivers(_) => CallFault::Drivers,
-        smx_session::Trouble::Line => CallFault::Line,
-        smx_session::Trouble::NoEntry => CallFault::NoEntry,
+impl From<StartFault> for CallFault {
+    ghost use Rattle.std.specs.Prelude.{◌≡◌};
+    ghost use Rattle.muxsim_c.specs.Codes.{told_of_start};
+
+    ghost from_gives = { λ fault f. f ≡ told_of_start fault };
+
+    fn from(fault: StartFault) -> CallFault {
+        match fault {
+            StartFault::NoMemory => CallFault::NoMemory,
+            StartFault::Text(_) => CallFault::Text,
+            StartFault::Drivers(_) => CallFault::Drivers,
+        }
+    }
+}
+
+impl From<LineFault> for CallFault {
+    ghost use Rattle.std.specs.Prelude.{◌≡◌};
+    ghost use Rattle.muxsim_c.specs.Codes.{told_of_line};
+
+    ghost from_gives = { λ fault f. f ≡ told_of_line fault };
+
+    fn from(fault: LineFault) -> CallFault {
+        match fault {
+            LineFault::NoMemory => CallFault::NoMemory,
+            LineFault::NoCommand => CallFault::Line,
+        }
+    }
+}
+
+impl From<EntryFault> for CallFault {
+    ghost use Rattle.std.specs.Prelude.{◌≡◌};
+    ghost use Rattle.muxsim_c.specs.Codes.{told_of_entry};
+
+    ghost from_gives = { λ fault f. f ≡ told_of_entry fault };
+
+    fn from(fault: EntryFault) -> CallFault {
+        match fault {
+            EntryFault::NoMemory => CallFault::NoMemory,
+            EntryFault::NoEntry => CallFault::NoEntry,
+        }
     }
 }
 

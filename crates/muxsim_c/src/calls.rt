@@ -1,12 +1,9 @@
 //! The calls of a handle.
 
-ghost use Rattle.std.specs.Prelude.{◌≡◌, ◌⊎◌, None, IfOk, IfErr};
-ghost use Rattle.smx_session.specs.Sessions.{IsLastLine};
+ghost use Rattle.std.specs.Prelude.{◌≡◌};
 ghost use Rattle.muxsim_c.specs.Calls.{Closes, Opens, Performs, Shows, Tells};
-ghost use Rattle.muxsim_c.specs.declared.call_fault.CallFault.TheVariants.{Line, NoEntry, NoMemory};
-ghost use Rattle.smx_session.specs.declared.trouble.Trouble.TheVariants.{Line as SessionLine};
 
-use crate::call_fault::{CallFault, told};
+use crate::call_fault::CallFault;
 use crate::handle::Handle;
 use crate::slots::{put, take};
 use crate::texts::copy_out;
@@ -29,7 +26,7 @@ pub fn open(alloc: Global, handle: &mut Handle, programs: &[u8]) -> Result<(), C
             }
             Err(_) => Err(CallFault::NoMemory),
         },
-        Err(trouble) => Err(told(trouble)),
+        Err(fault) => Err(CallFault::from(fault)),
     }
 }
 
@@ -42,37 +39,8 @@ pub fn perform(alloc: Global, handle: &mut Handle, line: &[u8]) -> Result<(), Ca
     };
     let outcome = session.perform(alloc, line);
     put(handle, session);
-    match outcome {
-        Ok(()) => Ok(()),
-        Err(trouble) => Err(line_or_memory(trouble)),
-    }
-}
-
-// A session performs every line that has a command, unless memory is wanting.
-fn line_or_memory(trouble: smx_session::Trouble) -> CallFault
-    ensures { (result ≡ NoMemory) ⊎ ((result ≡ Line) × (trouble ≡ SessionLine)) }
-{
-    match trouble {
-        smx_session::Trouble::Line => CallFault::Line,
-        smx_session::Trouble::NoMemory
-        | smx_session::Trouble::Text(_)
-        | smx_session::Trouble::Drivers(_)
-        | smx_session::Trouble::NoEntry => CallFault::NoMemory,
-    }
-}
-
-// The line of the entry that was made last. A session has it wherever there is an entry, unless memory is wanting.
-fn last_line(alloc: Global, session: &Session) -> Result<Vec<u8>, CallFault>
-    ensures line { IfOk result (λ v. IsLastLine session.now v.items) }
-    ensures none { IfErr result (λ t. (t ≡ NoMemory) ⊎ ((t ≡ NoEntry) × (session.now.last ≡ None))) }
-{
-    if session.last().is_none() {
-        return Err(CallFault::NoEntry);
-    }
-    match session.entry(alloc) {
-        Ok(line) => Ok(line),
-        Err(_) => Err(CallFault::NoMemory),
-    }
+    outcome?;
+    Ok(())
 }
 
 /// Writes the line of the entry that was made last.
@@ -88,7 +56,7 @@ pub fn entry(
     let Some(session) = take(alloc, handle) else {
         return Err(CallFault::Closed);
     };
-    let line = last_line(alloc, &session);
+    let line = session.entry(alloc);
     put(handle, session);
     copy_out(line?.as_slice(), text, len)
 }

@@ -48,6 +48,7 @@ pub fn a_worked_session_in_c()
     ensures tell_none { Answers (pos 5) (Tells (Some begun) (codes "1") (codes "1") 7 7) }
     ensures close { Answers (pos 0) (Closes (Some hung) None) }
     ensures close_none { Answers (pos 7) (Closes None None) }
+    ensures not_performed { Answers (pos 4) (Performs (Some begun) (codes "dup 0") (Some begun)) }
     ensures not_opened { Answers (pos 0) (Opens None table None) → ⊥ }
     ensures not_replaced { Answers (pos 0) (Opens (Some opened) table (Some begun)) → ⊥ }
     ensures not_line_3 { Answers (pos 0)
@@ -55,6 +56,8 @@ pub fn a_worked_session_in_c()
     ensures not_silent { Answers (pos 0) (TellsWhy without_marks (codes "...") (codes "...") 7 0) → ⊥ }
     ensures not_undone { Answers (pos 0) (Performs (Some begun) (codes "3 clone eth") (Some begun)) → ⊥ }
     ensures not_without { Answers (pos 0) (Performs None (codes "3 clone eth") None) → ⊥ }
+    ensures not_for_want_of_memory { Answers (pos 1) (Performs (Some begun) (codes "dup 0") (Some begun)) → ⊥ }
+    ensures no_memory_for_none { Answers (pos 1) (Tells (Some begun) (codes "1") (codes "1") 7 7) → ⊥ }
     ensures not_told { Answers (pos 0) (Tells (Some begun) (codes "1") (codes "1") 0 0) → ⊥ }
     ensures no_length { Answers (pos 7) (Shows None (codes "1") (codes "1") 0 1) → ⊥ }
     ensures not_kept { Answers (pos 0) (Closes (Some hung) (Some hung)) → ⊥ }

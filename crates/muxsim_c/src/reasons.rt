@@ -3,11 +3,11 @@
 ghost use Rattle.std.specs.Prelude.{◌≡◌, IfErr, IfOk, string_bytes};
 ghost use Rattle.muxsim_c.specs.Calls.{IsWhy, TellsWhy};
 ghost use Rattle.muxsim_c.specs.declared.call_fault.CallFault.TheVariants.{NoMemory};
-ghost use Rattle.smx_session.specs.TroubleWords.{trouble_words};
+ghost use Rattle.smx_session.specs.FaultWords.{start_fault_words};
 
 use crate::call_fault::CallFault;
 use crate::texts::copy_out;
-use smx_session::{Session, Trouble};
+use smx_session::{Session, StartFault};
 use std::alloc::{AllocError, Global};
 
 /// Writes the words of why a text makes no session, and no byte where it makes one.
@@ -28,20 +28,20 @@ fn reason(alloc: Global, programs: &[u8]) -> Result<String, CallFault>
     ensures words { IfOk result (λ words. IsWhy programs.now (string_bytes words)) }
     ensures none { IfErr result (λ t. t ≡ NoMemory) }
 {
-    let trouble = match Session::new(alloc, programs) {
+    let fault = match Session::new(alloc, programs) {
         Ok(_) => return Ok(String::new(alloc)),
-        Err(Trouble::NoMemory) => return Err(CallFault::NoMemory),
-        Err(trouble) => trouble,
+        Err(StartFault::NoMemory) => return Err(CallFault::NoMemory),
+        Err(fault) => fault,
     };
-    match printed(alloc, trouble) {
+    match printed(alloc, fault) {
         Ok(words) => Ok(words),
         Err(_) => Err(CallFault::NoMemory),
     }
 }
 
-// A trouble as it prints itself.
-fn printed(alloc: Global, trouble: Trouble) -> Result<String, AllocError>
-    ensures { IfOk result (λ words. string_bytes words ≡ trouble_words trouble) }
+// A fault as it prints itself.
+fn printed(alloc: Global, fault: StartFault) -> Result<String, AllocError>
+    ensures { IfOk result (λ words. string_bytes words ≡ start_fault_words fault) }
 {
-    format!(in alloc; "{trouble}")
+    format!(in alloc; "{fault}")
 }

@@ -6,5 +6,5 @@ use Rattle.smx_words.specs.Spelling.{command_words}
 use Rattle.smx_words.specs.Words.{line_of}
 
 -- the command can be spelled, and this is its line
-abbrev pub IsLineOf : List ℕ → Command → Type 0
-IsLineOf line command = (line ≡ line_of (command_words command)) × FitsCommand command
+abbrev pub IsLineOfCommand : List ℕ → Command → Type 0
+IsLineOfCommand line command = (line ≡ line_of (command_words command)) × FitsCommand command

@@ -7,7 +7,8 @@ use smx_run::RunFault;
 #[derive(Drop)]
 pub struct Refusal {
     pub fault: MainFault,
-    /// All that was read, where that is no text of its kind, and of a check where its drivers are refused too.
+    /// All that was read, where the fault is the text's. A check has it too where drivers are refused or memory was
+    /// wanting.
     pub text: Option<Vec<u8>>,
 }
 

@@ -12,11 +12,11 @@ pub struct TextRecorder {
 
 impl Recorder for TextRecorder {
     ghost use Rattle.smx_text.specs.GrowingTranscripts.{BeginsTranscript};
-    ghost use Rattle.smx_filters.specs.CommandLines.{IsLineOf};
+    ghost use Rattle.smx_filters.specs.CommandLines.{IsLineOfCommand};
 
     ghost told = { λ version drivers entries recorder. BeginsTranscript version drivers entries recorder.writer };
 
-    ghost spells = { IsLineOf };
+    ghost spells = { IsLineOfCommand };
 
     fn add(&mut self, process: Process, command: &Command, reply: &Reply) -> Result<(), NoMemory> {
         self.writer.add_entry(process, command, reply)

@@ -31,15 +31,15 @@ pub struct UnreadProgram<'a> {
 impl<'a> CommandSource for UnreadProgram<'a> {
     ghost use Rattle.std.specs.Prelude.{length};
     ghost use Rattle.smx_text.specs.SplitPrograms.{IsProgramText};
-    ghost use Rattle.smx_filters.specs.CommandLines.{IsLineOf};
+    ghost use Rattle.smx_filters.specs.CommandLines.{IsLineOfCommand};
 
     ghost left = { λ program commands. IsProgramText program.version program.text.now commands };
 
     ghost size = { λ program. length program.text.now };
 
-    ghost spells = { IsLineOf };
+    ghost spells = { IsLineOfCommand };
 
-    ghost has_read = { λ program command. IsLineOf program.line.now command };
+    ghost has_read = { λ program command. IsLineOfCommand program.line.now command };
 
     fn next_command(
         &mut self,

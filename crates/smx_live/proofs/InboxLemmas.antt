@@ -11,7 +11,7 @@ use Rattle.smx_text.proofs.EachLemmas.{all_append}
 use lib.Seq.{drop-drop, take-add}
 use Rattle.smx_filters.specs.declared.main_fault.MainFault.{MainFault}
 use Rattle.smx_filters.specs.declared.main_fault.MainFault.TheVariants.{Refused, Text, TooLong, ReadFailed, WriteFailed}
-use Rattle.smx_live.specs.Inboxes.{FailsToRead, HasLine, IsFound, IsLineOf, IsTooLong}
+use Rattle.smx_live.specs.Inboxes.{FailsToRead, HasLine, IsFound, IsTooLong, MayBeTaken}
 use Rattle.smx_filters.specs.declared.input.TheConstants.{MAX_INPUT}
 
 -- bytes have no line feed where none stands among the first of them, nor among the others
@@ -84,7 +84,7 @@ fails_so Long before held read piece failures WriteFailed is one why = absurd wh
 
 -- a line that may be taken, or is too long, ends the reads so
 pub line_found : (n : ℕ) (held longer : List ℕ) (r : Result (Option ℕ) MainFault) (ended : Bool) (failures : ℕ)
-    (Unfinished : Type 0) → held ≡ longer → HasLine n held → failures ≡ 0 → IsLineOf n r
+    (Unfinished : Type 0) → held ≡ longer → HasLine n held → failures ≡ 0 → MayBeTaken n r
     → IfOk r (IsFound ended held) × IfErr r (FailsToRead (IsTooLong longer) Unfinished failures)
 line_found n held longer (Ok o) ended failures Unfinished is line fine told =
     (rw told.0 (line, told.1), tt)

@@ -1,13 +1,12 @@
 -- What was written of a live session is a legal transcript, but for what is no entry.
 use Rattle.std.proofs.Common.{◌≡◌, ℕ, ◌≤◌, Bool, false, List, [], ◌∷◌, ◌++◌, length, map, refl, sym, ap}
 use Rattle.std.proofs.Common.{subst, ◌∙◌, append_assoc, rules}
-use Rattle.std.proofs.lemmas.Bool.{or_from, or_parts}
+use Rattle.std.proofs.lemmas.Bool.{or_from}
 use Rattle.std.proofs.lemmas.List.{append-nil}
 use Rattle.std.specs.List.{AllByRecursion, list_any}
 use Rattle.std.specs.Prelude.{codes, nat_lt}
 use Rattle.smx_types.specs.Versions.{are_more_drivers, is_hangup, is_of_hangup, least_of_transcript, most_drivers}
-use Rattle.smx_types.specs.Versions.{tells_of_hangup, version_2_where}
-use Rattle.smx_types.specs.declared.command.Command.{Command}
+use Rattle.smx_types.specs.Versions.{version_2_where}
 use Rattle.smx_types.specs.declared.command.Entry.{Entry}
 use Rattle.smx_types.specs.declared.driver.DriverSpec.{DriverSpec}
 use Rattle.smx_types.specs.declared.limits.TheConstants.{MAX_DRIVERS_OF_VERSION_1}
@@ -22,7 +21,7 @@ use Rattle.smx_words.specs.Spellable.{FitsEntry}
 use Rattle.smx_words.specs.Spelling.{entry_words}
 use Rattle.smx_words.specs.Words.{text_of}
 use Rattle.smx_text.specs.GrowingTranscripts.{BeginsTranscript}
-use Rattle.smx_text.specs.TranscriptText.{line_words, transcript_text, view_body, IsAllowed}
+use Rattle.smx_text.specs.TranscriptText.{transcript_text, view_lines, IsAllowed}
 use Rattle.smx_text.proofs.GrowingLemmas.{grown, finished}
 use Rattle.smx_live.specs.LiveText.{IsOver, IsLegalTranscript, transcript_of, transcript_part}
 use Rattle.smx_live.specs.Turns.{Entered, Shown, NotDone, Turn, Answer, AreAnswered, IsAnswer, entries_in, entries_of}
@@ -76,10 +75,7 @@ quiet ds h [] was = refl
 quiet ds h (t ∷ ts) was = one t.answer was.1 (quiet ds (h ++ entries_in t.answer) ts was.2) where
   one : (a : Answer) → IsAnswer V1 ds h t.line a → list_any (λ e. is_hangup e.command) (entries_of ts) ≡ false
       → list_any (λ e. is_hangup e.command) (entries_in a ++ entries_of ts) ≡ false
-  one (Entered e) is behind =
-      let asked = (or_parts (is_hangup is.asked.command) (tells_of_hangup is.asked.reply) is.told.1).0 in
-      let same = ap (λ (c : ℕ × Command). is_hangup c.1) is.call in
-      or_from (is_hangup e.command) _ (same ∙ asked) behind
+  one (Entered e) is behind = or_from (is_hangup e.command) _ is.told.1 behind
   one (Shown s) is behind = behind
   one (NotDone w) is behind = behind
 
@@ -117,11 +113,8 @@ module _ (stays : StaysLegal) (tells : TellsOfNone) (leaves : LeavesNone)
   text : transcript_part o ≡ transcript_text (transcript_of o)
   text =
       let start : List ℕ = o.live.opening ++ text_of (map entry_words es) in
-      let config : List ℕ = start ++ codes "config\n" in
-      let lines : List ℕ = text_of (map line_words (view_body shown)) in
-      let regrouped : start ++ ((codes "config\n" ++ lines) ++ codes "end\n")
-      ≡ ((start ++ codes "config\n") ++ lines) ++ codes "end\n" = simp append_assoc in
-      regrouped ∙ finished o.s.version o.s.drivers es shown start config _ _ refl refl refl begins
+      sym (append_assoc start (view_lines shown) (codes "end\n"))
+      ∙ finished o.s.version o.s.drivers es shown start _ _ refl refl begins
 
   -- in version 1 the session's transcript needs no later version
   told : o.s.version ≡ V1 → least_of_transcript (transcript_of o) ≡ V1

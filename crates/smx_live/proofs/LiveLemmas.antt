@@ -11,7 +11,9 @@ use Rattle.smx_model.specs.Commands.{step}
 use Rattle.smx_model.specs.Configuration.{Configuration}
 use Rattle.smx_model.specs.Histories.{after, call_of}
 use Rattle.smx_model.specs.Views.{view}
-use Rattle.smx_words.specs.Words.{LINE_FEED}
+use Rattle.smx_words.specs.Spellable.{FitsCallIn}
+use Rattle.smx_words.specs.Spelling.{call_words, entry_line}
+use Rattle.smx_words.specs.Words.{LINE_FEED, line_of}
 use Rattle.smx_text.specs.Grammar.{Spells}
 use Rattle.smx_text.specs.GrowingTranscripts.{BeginsTranscript}
 use Rattle.smx_text.specs.ProgramsText.{programs_grammar}
@@ -23,8 +25,8 @@ use Rattle.smx_live.specs.LiveText.{IsLive, IsOver, closing_text, cut_words}
 use Rattle.smx_live.specs.LiveTurns.{IsClosing}
 use Rattle.smx_live.specs.Tables.{IsTable, table_text}
 use Rattle.smx_live.specs.Turns.{Answer, AsksToShow, Entered, Shown, NotDone, Turn, AreAnswered, IsAnswer, IsEntered}
-use Rattle.smx_live.specs.Turns.{IsEntryOf, IsTaken, IsWrong, answer_text, asked_text, entries_in, entries_of}
-use Rattle.smx_live.specs.Turns.{entry_line, said_text}
+use Rattle.smx_live.specs.Turns.{IsEntryOf, IsTaken, IsRefusedFor, answer_text, asked_text, entries_in, entries_of}
+use Rattle.smx_live.specs.Turns.{said_text}
 use Rattle.smx_live.proofs.TableLemmas.{flat_more, still_a_table}
 
 -- a history with one entry more leads where the command of that entry leads
@@ -123,22 +125,20 @@ module _ (further : OneFurther) {read : List ℕ} {ended : Bool} {output : List 
       → IsLive read ended (output ++ entry_line e) next more (drop (n + 1) held)
   enters e next more h =
       let p = h.performs in
-      let made : Entry = record { process = p.asked.process; command = p.asked.command; reply = p.reply } in
-      let is : Some e ≡ Some made = sym h.last ∙ p.last in
-      let same : e ≡ made = cc in
+      let is : Some e ≡ Some p.entry = sym h.last ∙ p.last in
+      let same : p.entry ≡ e = cc in
       let a : Answer = Entered e in
       let es : List Entry = entries_of l.turns in
       let longer : entries_of (l.turns ++ turn a ∷ []) ≡ es ++ e ∷ [] =
       flat_more (λ (u : Turn). entries_in u.answer) l.turns (turn a) in
-      let does : step s.drivers (after s.drivers es) e.process e.command ≡ (next.configuration, p.reply) =
-      ap (λ (x : Entry). step s.drivers (after s.drivers es) x.process x.command) same
-      ∙ ap (λ (c : Configuration). step s.drivers c p.asked.process p.asked.command) (sym l.now) ∙ p.does in
+      let does : step s.drivers (after s.drivers es) e.process e.command ≡ (next.configuration, e.reply) =
+      ap (λ (c : Configuration). step s.drivers c e.process e.command) (sym l.now)
+      ∙ subst (λ (x : Entry). step s.drivers s.configuration x.process x.command ≡ (next.configuration, x.reply)) same
+      p.does in
       let right : IsEntryOf s.version s.drivers es (take n held) e = record {
-        asked = p.asked;
-        told = p.fits;
-        is_read = p.is_read;
-        call = ap call_of same;
-        legal = ap (λ (x : Configuration × Reply). x.1) does ∙ ap (λ (x : Entry). x.reply) (sym same);
+        told = subst (λ (x : Entry). FitsCallIn s.version (call_of x)) same p.fits;
+        is_read = subst (λ (x : Entry). take n held ≡ line_of (call_words (call_of x))) same p.is_read;
+        legal = ap (λ (x : Configuration × Reply). x.1) does;
         spelled = h.spelled;
         room = omega (arith, h.room, l.counted);
       } in
@@ -177,7 +177,7 @@ module _ (further : OneFurther) {read : List ℕ} {ended : Bool} {output : List 
       (h.0, h.1 ∙ ap (view s.drivers) l.now) in
       rw (h.2, h.3) (stays (Shown v) refl shown)
   turned (NotDone w) next more h =
-      rw (h.1, h.2) (stays (NotDone w) refl (subst (λ (k : ℕ). IsWrong s.version k (take n held) w) l.counted h.0))
+      rw (h.1, h.2) (stays (NotDone w) refl (subst (λ (k : ℕ). IsRefusedFor s.version k (take n held) w) l.counted h.0))
 
   -- a session whose line at the front asks for the end is over once its last lines are written
   pub ended_by_line : (whole : List ℕ) → IsClosing s (take n held) whole → IsOver read ended (output ++ whole)

@@ -73,7 +73,7 @@ module _ (further : OneFurther) {read : List ℕ} {ended : Bool} {output : List 
       (h.0, h.1, h.2, h.4, ended_by_line further l line small h.2 h.3)
   turned_on next more before after flushed failures (Ok false) h =
       (h.0, h.1, answer_text h.2, h.4, goes_on h.2 next more h.3)
-  turned_on next more before after flushed failures (Err (Refused f)) h = h
+  turned_on next more before after flushed failures (Err (Refused f)) h = (h.0, h.1, h.2)
   turned_on next more before after flushed failures (Err WriteFailed) h = (h.0, h.1, h.2, either h.1 h.3)
   turned_on next more before after flushed failures (Err (Text f)) h = absurd h
   turned_on next more before after flushed failures (Err TooLong) h = absurd h

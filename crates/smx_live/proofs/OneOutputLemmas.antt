@@ -20,13 +20,13 @@ use Rattle.smx_model.specs.Histories.{after, call_of}
 use Rattle.smx_model.specs.Views.{view}
 use Rattle.smx_words.proofs.CutLemmas.{apart}
 use Rattle.smx_words.proofs.NumberLemmas.{own}
-use Rattle.smx_words.specs.Spellable.{FitsEntry}
-use Rattle.smx_words.specs.Spelling.{entry_words}
-use Rattle.smx_words.specs.Words.{LINE_FEED, line_of}
+use Rattle.smx_words.specs.Spellable.{FitsCall}
+use Rattle.smx_words.specs.Spelling.{call_words, command_words}
+use Rattle.smx_words.specs.Words.{LINE_FEED, line_of, lines_text}
 use Rattle.smx_text.specs.Grammar.{IsOneLine, ReadsAny, Spells, beginning}
 use Rattle.smx_text.specs.ProgramsText.{programs_grammar}
 use Rattle.smx_text.specs.TranscriptLines as line
-use Rattle.smx_text.specs.TranscriptText.{transcript_grammar}
+use Rattle.smx_text.specs.TranscriptText.{transcript_grammar, view_lines}
 use Rattle.smx_text.specs.declared.text_fault.Cause.TheVariants as cause
 use Rattle.smx_text.specs.declared.text_fault.TextFault.{TextFault}
 use Rattle.smx_run.specs.RunFaults.{RefusesAlone}
@@ -37,10 +37,10 @@ use Rattle.smx_filters.specs.declared.input.TheConstants.{MAX_INPUT}
 use Rattle.smx_filters.proofs.AnswerLemmas.{HaveOneFault, drivers_had}
 use Rattle.smx_live.specs.Inboxes.{HasLine, IsShort}
 use Rattle.smx_live.specs.LiveText.{HasComeSoFar, IsAtEnd, IsLive, IsOver, RefusesDriversOf}
-use Rattle.smx_live.specs.Tables.{AreOfTable, HasTableOf, IsOverAt, IsTable, begins_driver, lines_text, table_text}
+use Rattle.smx_live.specs.Tables.{AreOfTable, HasTableOf, IsOverAt, IsTable, begins_driver, table_text}
 use Rattle.smx_live.specs.Turns.{Answer, AreAnswered, AsksToShow, Entered, HadMemory, IsAnswer, IsEntryOf, NotDone}
-use Rattle.smx_live.specs.Turns.{Shown, Turn, asked_text, entries_in, entries_of, said_text, view_lines}
-use Rattle.smx_live.specs.declared.wrong.Wrong.TheVariants.{NoCommand, NoMemory, Full}
+use Rattle.smx_live.specs.Turns.{Shown, Turn, asked_text, entries_in, entries_of, said_text}
+use Rattle.smx_live.specs.declared.turn_fault.TurnFault.TheVariants.{NoCommand, NoMemory, Full}
 
 -- ---- what other crates' laws say
 
@@ -50,10 +50,10 @@ HasOneReading = (bytes : List ℕ) (r s : Result ProgramLists TextFault) → Rea
     → ReadsAny programs_grammar bytes s → IfErr r (λ f. f.cause ≢ cause.NoMemory)
     → IfErr s (λ f. f.cause ≢ cause.NoMemory) → r ≡ s
 
--- no two entries have one line
+-- no two calls have one line
 abbrev pub AreToldApart : Type 0
 AreToldApart =
-    (x y : Entry) → FitsEntry x → FitsEntry y → line_of (entry_words x) ≡ line_of (entry_words y) → x ≡ y
+    (x y : ℕ × Command) → FitsCall x → FitsCall y → line_of (call_words x) ≡ line_of (call_words y) → x ≡ y
 
 -- ---- lines
 
@@ -139,57 +139,66 @@ table_once ended table other rest more t u e =
     let same : table ≡ other = t.text ∙ ap lines_text lines ∙ sym u.text in
     (same, append_cancel_left other rest more (ap (λ (x : List ℕ). x ++ rest) (sym same) ∙ e))
 
--- ---- entries
+-- ---- calls
 
 -- the first byte of a line is the first byte of its first word
 begins_so : (b c : ℕ) (w rest : List ℕ) (words : List (List ℕ)) → line_of ((c ∷ w) ∷ words) ≡ b ∷ rest → c ≡ b
 begins_so b c w rest [] is = cc is
 begins_so b c w rest (word ∷ words) is = cc is
 
--- the line of an entry begins with a digit
-pub no_entry : (e : Entry) → FitsEntry e → (b : ℕ) (rest : List ℕ)
-    → ((ds : List ℕ) → all_ascii_digits (b ∷ ds) ≡ true → ⊥) → line_of (entry_words e) ≡ b ∷ rest → ⊥
-no_entry e fits b rest no_digit = by_word (decimal e.process) refl where
-  small : e.process < 2 ^ 64
-  small = omega (arith, fits.process)
+-- a line whose first word has a byte has one too
+has_some : (c : ℕ) (w : List ℕ) (words : List (List ℕ)) → line_of ((c ∷ w) ∷ words) ≢ []
+has_some c w [] is = cc is
+has_some c w (word ∷ words) is = cc is
 
-  by_word : (w : List ℕ) → w ≡ decimal e.process → line_of (w ∷ drop 1 (entry_words e)) ≡ b ∷ rest → ⊥
-  by_word [] same is = absurd (omega (arith, decimal_nonempty e.process small, ap (λ (x : List ℕ). length x) same))
-  by_word (c ∷ w) same is =
-      let first : c ≡ b = begins_so b c w rest (drop 1 (entry_words e)) is in
-      no_digit w (subst (λ (x : ℕ). all_ascii_digits (x ∷ w) ≡ true) first
-      (subst (λ (x : List ℕ). all_ascii_digits x ≡ true) (sym same) (digits_decimal own e.process small)))
+module _ (c : ℕ × Command) (fits : FitsCall c) where
+  -- the number of a process is one of 64 bits
+  small : c.0 < 2 ^ 64
+  small = omega (arith, fits.0)
+
+  -- the line of a call begins with a digit
+  pub no_call : (b : ℕ) (rest : List ℕ) → ((ds : List ℕ) → all_ascii_digits (b ∷ ds) ≡ true → ⊥)
+      → line_of (call_words c) ≡ b ∷ rest → ⊥
+  no_call b rest no_digit = by_word (decimal c.0) refl where
+    by_word : (w : List ℕ) → w ≡ decimal c.0 → line_of (w ∷ command_words c.1) ≡ b ∷ rest → ⊥
+    by_word [] same is = absurd (omega (arith, decimal_nonempty c.0 small, ap (λ (x : List ℕ). length x) same))
+    by_word (d ∷ w) same is =
+        let first : d ≡ b = begins_so b d w rest (command_words c.1) is in
+        no_digit w (subst (λ (x : ℕ). all_ascii_digits (x ∷ w) ≡ true) first
+        (subst (λ (x : List ℕ). all_ascii_digits x ≡ true) (sym same) (digits_decimal own c.0 small)))
+
+  -- no call has a line without a byte
+  some_call : line_of (call_words c) ≢ []
+  some_call = by_word (decimal c.0) refl where
+    by_word : (w : List ℕ) → w ≡ decimal c.0 → line_of (w ∷ command_words c.1) ≢ []
+    by_word [] same is = absurd (omega (arith, decimal_nonempty c.0 small, ap (λ (x : List ℕ). length x) same))
+    by_word (d ∷ w) same is = has_some d w (command_words c.1) is
 
 module _ (version : Version) (drivers : List DriverSpec) (history : List Entry) (l : List ℕ) where
   -- a line that asks for the configuration is not that of an entry
   not_shown : (e : Entry) → IsEntryOf version drivers history l e → AsksToShow l → ⊥
-  not_shown e is (inl none) =
-      no_entry is.asked is.told.0 32 (codes "= done") (λ ds h. absurd (cc h))
-      (sym is.is_read ∙ ap (λ (x : List ℕ). x ++ codes " = done") none)
+  not_shown e is (inl none) = some_call (call_of e) is.told.0 (sym is.is_read ∙ none)
   not_shown e is (inr show) =
-      no_entry is.asked is.told.0 115 (codes "how = done") (λ ds h. absurd (cc h))
-      (sym is.is_read ∙ ap (λ (x : List ℕ). x ++ codes " = done") show)
+      no_call (call_of e) is.told.0 115 (codes "how") (λ ds h. absurd (cc h)) (sym is.is_read ∙ show)
 
   -- the line `end` is not that of an entry
   not_ended : (e : Entry) → IsEntryOf version drivers history l e → l ≡ codes "end" → ⊥
   not_ended e is end =
-      no_entry is.asked is.told.0 101 (codes "nd = done") (λ ds h. absurd (cc h))
-      (sym is.is_read ∙ ap (λ (x : List ℕ). x ++ codes " = done") end)
+      no_call (call_of e) is.told.0 101 (codes "nd") (λ ds h. absurd (cc h)) (sym is.is_read ∙ end)
 
   -- the entry of a call and its reply
-  abbrev entry_of : ℕ × Command → Reply → Entry
-  entry_of call reply = record { process = call.0; command = call.1; reply = reply }
+  abbrev entry_with : ℕ × Command → Reply → Entry
+  entry_with call reply = record { process = call.0; command = call.1; reply = reply }
 
   -- a line is that of at most one entry
   entry_once : AreToldApart → (e f : Entry) → IsEntryOf version drivers history l e
       → IsEntryOf version drivers history l f → e ≡ f
   entry_once told_apart e f is is_too =
-      let asked : is.asked ≡ is_too.asked = told_apart is.asked is_too.asked is.told.0 is_too.told.0
+      let call : call_of e ≡ call_of f = told_apart (call_of e) (call_of f) is.told.0 is_too.told.0
       (sym is.is_read ∙ is_too.is_read) in
-      let call : call_of e ≡ call_of f = is.call ∙ ap call_of asked ∙ sym is_too.call in
       let reply : e.reply ≡ f.reply = sym is.legal
       ∙ ap (λ (c : ℕ × Command). (step drivers (after drivers history) c.0 c.1).1) call ∙ is_too.legal in
-      ap (λ (c : ℕ × Command). entry_of c e.reply) call ∙ ap (λ (r : Reply). entry_of (call_of f) r) reply
+      ap (λ (c : ℕ × Command). entry_with c e.reply) call ∙ ap (λ (r : Reply). entry_with (call_of f) r) reply
 
   -- a line has at most one answer, but for want of memory
   answer_once : AreToldApart → (a b : Answer) → IsAnswer version drivers history l a
@@ -199,7 +208,7 @@ module _ (version : Version) (drivers : List DriverSpec) (history : List Entry) 
       (entry_once told_apart e f is is_too)
   answer_once told_apart (Entered e) (Shown v) is is_too had had_too = absurd (not_shown e is is_too.0)
   answer_once told_apart (Entered e) (NotDone NoCommand) is is_too had had_too =
-      absurd (is_too.1 is.asked is.told is.is_read)
+      absurd (is_too.1 (call_of e) is.told is.is_read)
   answer_once told_apart (Entered e) (NotDone NoMemory) is is_too had had_too = absurd (had_too refl)
   answer_once told_apart (Entered e) (NotDone Full) is is_too had had_too = absurd (omega (arith, is.room, is_too.1))
   answer_once told_apart (Shown v) (Entered e) is is_too had had_too = absurd (not_shown e is_too is.0)
@@ -209,7 +218,7 @@ module _ (version : Version) (drivers : List DriverSpec) (history : List Entry) 
   answer_once told_apart (Shown v) (NotDone Full) is is_too had had_too = absurd (is_too.0.0 is.0)
   answer_once told_apart (NotDone NoMemory) b is is_too had had_too = absurd (had refl)
   answer_once told_apart (NotDone NoCommand) (Entered e) is is_too had had_too =
-      absurd (is.1 is_too.asked is_too.told is_too.is_read)
+      absurd (is.1 (call_of e) is_too.told is_too.is_read)
   answer_once told_apart (NotDone NoCommand) (Shown v) is is_too had had_too = absurd (is.0.0 is_too.0)
   answer_once told_apart (NotDone NoCommand) (NotDone NoCommand) is is_too had had_too = refl
   answer_once told_apart (NotDone NoCommand) (NotDone NoMemory) is is_too had had_too = absurd (had_too refl)

@@ -4,7 +4,7 @@ use Rattle.std.proofs.Common.{sym, ap, subst, ◌∙◌, append_assoc, arith, in
 use Rattle.std.proofs.lemmas.List.{append-nil, length-append, take-append-le}
 use Rattle.std.specs.List.{flat_map}
 use Rattle.std.specs.Prelude.{◌⊎◌}
-use Rattle.smx_words.specs.Words.{LINE_FEED}
+use Rattle.smx_words.specs.Words.{LINE_FEED, lines_text}
 use Rattle.smx_text.specs.Grammar.{IsOneLine}
 use Rattle.smx_text.proofs.EachLemmas.{all_push}
 use Rattle.smx_filters.specs.declared.input.TheConstants.{MAX_INPUT}
@@ -12,7 +12,7 @@ use Rattle.smx_filters.specs.declared.main_fault.MainFault.{MainFault}
 use Rattle.smx_filters.specs.declared.main_fault.MainFault.TheVariants.{Refused, Text, TooLong, ReadFailed, WriteFailed}
 use Rattle.smx_live.specs.Inboxes.{FailsToRead, HasLine, IsShort, IsTooLong}
 use Rattle.smx_live.specs.Tables.{AreOfTable, BeginsAsTable, IsEndlessTable, IsOverAt, IsTable, IsUnfinished}
-use Rattle.smx_live.specs.Tables.{begins_driver, lines_text}
+use Rattle.smx_live.specs.Tables.{begins_driver}
 use Rattle.smx_live.proofs.InboxLemmas.{line_stays, unmoved, with_line_feed}
 
 -- what a list with one more item gives is what the others give, and then what that item gives

@@ -1,26 +1,29 @@
 -- The worked live session.
 use Rattle.std.proofs.Common.{◌≡◌, ℕ, ◌+◌, false, List, [], ◌∷◌, ◌++◌, map, take, drop}
-use Rattle.std.proofs.Common.{Option, Some, None, refl, sym, ap, subst}
+use Rattle.std.proofs.Common.{refl, sym, subst}
 use Rattle.std.proofs.Common.{inl, inr, arith, rules}
 use Rattle.std.specs.Fmt.{digits}
 use Rattle.std.specs.Prelude.{codes}
-use Rattle.smx_types.specs.declared.command.Command.{Command}
 use Rattle.smx_types.specs.declared.command.Entry.{Entry}
+use Rattle.smx_types.specs.declared.limits.TheConstants.{MAX_COMMANDS}
 use Rattle.smx_types.specs.declared.version.Version.TheVariants.{V2}
 use Rattle.smx_model.specs.Histories.{call_of}
-use Rattle.smx_model.specs.Worked.Common.{CloseAll, Fd, OpenClone, ◌does◌gets◌, eth}
+use Rattle.smx_model.specs.Worked.Common.{Fd, OpenClone, ◌does◌gets◌, eth}
 use Rattle.smx_text.specs.Grammar.{IsOneLine, beginning}
 use Rattle.smx_text.specs.TranscriptLines as line
 use Rattle.smx_text.specs.TranscriptText.{transcript_grammar}
-use Rattle.smx_session.specs.Sessions.{IsNoCall, IsStartOf, Performs}
+use Rattle.smx_words.specs.LineReading.{IsNoCallLine}
+use Rattle.smx_words.specs.Spelling.{call_words}
+use Rattle.smx_words.specs.Words.{line_of}
+use Rattle.smx_session.specs.Sessions.{IsStartOf}
 use Rattle.smx_session.specs.WorkedSessions.{begun, drivers, opened, table}
 use Rattle.smx_live.specs.LiveText.{IsOver, closing_text}
 use Rattle.smx_live.specs.Tables.{IsTable}
-use Rattle.smx_live.specs.Turns.{AsksForNeither, Entered, IsAnswer, IsEntryOf, NotDone, asked_text}
-use Rattle.smx_live.specs.Turns.{said_text}
+use Rattle.smx_live.specs.Turns.{AsksForNeither, Entered, IsAnswer, IsEntryOf, IsRefusedFor, NotDone}
+use Rattle.smx_live.specs.Turns.{asked_text, said_text}
 use Rattle.smx_live.specs.WorkedLives.{worked_answers, worked_input, worked_output, worked_table, worked_turns}
-use Rattle.smx_live.specs.declared.wrong.Wrong.TheVariants.{NoCommand, Full}
-use Rattle.smx_live.proofs.OneOutputLemmas.{no_entry, not_one, table_once}
+use Rattle.smx_live.specs.declared.turn_fault.TurnFault.TheVariants.{NoCommand, NoMemory, Full}
+use Rattle.smx_live.proofs.OneOutputLemmas.{no_call, not_one, table_once}
 
 -- ---- tables
 
@@ -103,7 +106,7 @@ not_full is = omega (arith, is.1)
 -- the line `x` is not answered by an entry
 pub not_performed : (e : Entry) → IsAnswer V2 drivers [] (codes "x") (Entered e) → ⊥
 not_performed e is =
-    no_entry is.asked is.told.0 120 (codes " = done") (λ ds h. absurd (cc h)) (sym is.is_read)
+    no_call (call_of e) is.told.0 120 [] (λ ds h. absurd (cc h)) (sym is.is_read)
 
 -- ---- the session
 
@@ -117,23 +120,24 @@ asks_for_neither = (
   λ end. absurd (cc end),
 )
 
--- the line `x` is no command of a process that version 2 can tell
-no_call : IsNoCall V2 (codes "x")
-no_call e fits is = no_entry e fits.0 120 (codes " = done") (λ ds h. absurd (cc h)) (sym is)
+-- where the history is full, the line `x` is not refused for want of memory
+pub full_is_told : IsRefusedFor V2 MAX_COMMANDS (codes "x") NoMemory → ⊥
+full_is_told is = omega (arith, is asks_for_neither)
 
--- the call of an entry, where there is one
-abbrev call_in : Option Entry → ℕ × Command
-call_in (Some e) = call_of e
-call_in None = (64, CloseAll)
+-- the line `x` is no command of a process that version 2 can tell
+x_is_none : IsNoCallLine V2 (codes "x")
+x_is_none c fits is = no_call c fits.0 120 [] (λ ds h. absurd (cc h)) (sym is)
+
+-- `3 clone eth` is the line of a clone by process 3
+clone_line : codes "3 clone eth" ≡ line_of (call_words (3, OpenClone eth))
+unfolding digits
+clone_line = refl
 
 -- the line `3 clone eth` is that of the entry of a clone by process 3, which the model answers so
-cloned : Performs begun (codes "3 clone eth") opened → IsEntryOf V2 drivers [] (codes "3 clone eth")
-    (3 does OpenClone eth gets Fd 0 0)
-cloned p = record {
-  asked = p.asked;
-  told = p.fits;
-  is_read = p.is_read;
-  call = ap call_in p.last;
+cloned : IsEntryOf V2 drivers [] (codes "3 clone eth") (3 does OpenClone eth gets Fd 0 0)
+cloned = record {
+  told = search (rules, arith);
+  is_read = clone_line;
   legal = refl;
   spelled = search (rules, arith);
   room = search arith;
@@ -174,8 +178,8 @@ table_over = record {
 }
 
 -- the worked session is over, and its output is the worked one
-pub over : IsStartOf table begun → Performs begun (codes "3 clone eth") opened → IsOver worked_input false worked_output
-over start opens = record {
+pub over : IsStartOf table begun → IsOver worked_input false worked_output
+over start = record {
   before = worked_answers;
   s = opened;
   count = 1;
@@ -192,11 +196,11 @@ over start opens = record {
     can_be_had = start.can_be_had;
     answered = (
       (one_clone, search arith),
-      cloned opens,
+      cloned,
       (
         (tt, search arith),
         (inl refl, refl),
-        ((search (rules, arith), search arith), (asks_for_neither, no_call, search arith), tt),
+        ((search (rules, arith), search arith), (asks_for_neither, x_is_none, search arith), tt),
       ),
     );
     few = search arith;

@@ -34,9 +34,9 @@ FailsToRead Long Unfinished failures (Text fault) = ⊥
 FailsToRead Long Unfinished failures WriteFailed = ⊥
 
 -- a line of so many bytes may be taken, or is too long
-abbrev pub IsLineOf : ℕ → Result (Option ℕ) MainFault → Type 0
-IsLineOf n (Ok line) = (line ≡ Some n) × (n ≤ MAX_INPUT)
-IsLineOf n (Err fault) = (fault ≡ TooLong) × (MAX_INPUT < n)
+abbrev pub MayBeTaken : ℕ → Result (Option ℕ) MainFault → Type 0
+MayBeTaken n (Ok line) = (line ≡ Some n) × (n ≤ MAX_INPUT)
+MayBeTaken n (Err fault) = (fault ≡ TooLong) × (MAX_INPUT < n)
 
 -- these bytes were read, and no others, by a read of a feed that had `had` and has `left`, has shown the end or not,
 -- and has failed so many times; they stand behind what was held

@@ -16,14 +16,14 @@ use Rattle.smx_words.specs.Words.{text_of}
 use Rattle.smx_text.specs.Grammar.{IsOneLine, ReadsAny, Spells}
 use Rattle.smx_text.specs.GrowingTranscripts.{transcript_with, BeginsTranscript}
 use Rattle.smx_text.specs.ProgramsText.{programs_grammar}
-use Rattle.smx_text.specs.TranscriptText.{IsSpellableView, SpellsTranscript}
+use Rattle.smx_text.specs.TranscriptText.{IsSpellableView, SpellsTranscript, view_lines}
 use Rattle.smx_config.specs.Verdicts.{IsVerdict}
 use Rattle.smx_config.specs.declared.verdict.Verdict.TheVariants.{Legal}
 use Rattle.smx_session.specs.Sessions.{State, HasDrivers}
 use Rattle.smx_filters.specs.declared.input.TheConstants.{MAX_INPUT}
 use Rattle.smx_live.specs.Inboxes.{IsShort, IsTooLong}
 use Rattle.smx_live.specs.Tables.{HasTableOf, IsEndlessTable, IsTable, IsUnfinished, table_text}
-use Rattle.smx_live.specs.Turns.{AreAnswered, Turn, asked_text, entries_of, said_text, view_lines}
+use Rattle.smx_live.specs.Turns.{AreAnswered, Turn, asked_text, entries_of, said_text}
 use Rattle.smx_filters.specs.declared.main_fault.MainFault.{MainFault}
 use Rattle.smx_filters.specs.declared.main_fault.MainFault.TheVariants.{Refused, Text, TooLong, ReadFailed, WriteFailed}
 

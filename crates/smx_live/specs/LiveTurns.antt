@@ -4,7 +4,7 @@ use Rattle.std.specs.Io.KnownBytes.{Appends, Keeps}
 use Rattle.smx_model.specs.Views.{view}
 use Rattle.smx_run.specs.declared.run_fault.RunFault.TheVariants as run
 use Rattle.smx_text.specs.TranscriptText.{IsSpellableView}
-use Rattle.smx_session.specs.Sessions.{State}
+use Rattle.smx_session.specs.Sessions.{Performs, State}
 use Rattle.smx_live.specs.LiveText.{closing_text}
 use Rattle.smx_filters.specs.Output.{AppendsBeginning}
 use Rattle.smx_live.specs.Turns.{Answer, AsksForNeither, AsksToShow, IsTaken, answer_text}
@@ -49,7 +49,8 @@ module _ (s : State) (count : ℕ) (line : List ℕ) (next : State) (more : ℕ)
   TakesTurn (Ok false) = (failures ≡ 0) × (flushed ≡ true)
       × (a : Answer) × IsTaken s count line a next more × Appends before after (answer_text a)
   -- It was performed, and there was no memory for the line of its entry.
-  TakesTurn (Err (Refused fault)) = (failures ≡ 0) × (fault ≡ run.NoMemory) × Keeps before after
+  TakesTurn (Err (Refused fault)) =
+      (failures ≡ 0) × (fault ≡ run.NoMemory) × Keeps before after × Performs s line next
   TakesTurn (Err WriteFailed) = (failures ≡ 1) × (whole : List ℕ) × AppendsBeginning before after whole
       × (MaySay s count line whole ⊎ IsClosing s line whole)
   TakesTurn (Err (Text fault)) = ⊥

@@ -1,8 +1,8 @@
 -- A driver table, and where it is over.
 use Rattle.std.specs.Prelude.{◌≡◌, ◌≢◌, ℕ, ◌<◌, ◌≤◌, ◌⊎◌, Bool, true, false, List, [], ◌∷◌, ◌++◌, length, drop, take}
 use Rattle.std.specs.Prelude.{codes, nat_eq}
-use Rattle.std.specs.List.{AllByRecursion, flat_map, starts_with}
-use Rattle.smx_words.specs.Words.{LINE_FEED}
+use Rattle.std.specs.List.{AllByRecursion, starts_with}
+use Rattle.smx_words.specs.Words.{lines_text}
 use Rattle.smx_text.specs.Grammar.{IsOneLine}
 use Rattle.smx_filters.specs.declared.input.TheConstants.{MAX_INPUT}
 use Rattle.smx_live.specs.Inboxes.{HasLine, IsShort, IsTooLong}
@@ -10,10 +10,6 @@ use Rattle.smx_live.specs.Inboxes.{HasLine, IsShort, IsTooLong}
 -- whether a line begins as that of a driver
 abbrev pub begins_driver : List ℕ → Bool
 begins_driver line = starts_with nat_eq line (codes "driver")
-
--- these lines, each with its line feed
-abbrev pub lines_text : List (List ℕ) → List ℕ
-lines_text lines = flat_map (λ line. line ++ LINE_FEED ∷ []) lines
 
 -- the lines of a table: any first one, and behind it those that begin as that of a driver
 pub record AreOfTable (lines : List (List ℕ)) : Type 0 where

@@ -1,5 +1,5 @@
 -- The turns of a live session: a line, and what it is answered.
-use Rattle.std.specs.Prelude.{◌≡◌, ◌≢◌, ℕ, ◌+◌, ◌<◌, ◌≤◌, ◌⊎◌, List, [], ◌∷◌, ◌++◌, length, map, Option}
+use Rattle.std.specs.Prelude.{◌≡◌, ◌≢◌, ℕ, ◌+◌, ◌<◌, ◌≤◌, ◌⊎◌, List, [], ◌∷◌, ◌++◌, length, Option}
 use Rattle.std.specs.Prelude.{Some, None, codes}
 use Rattle.std.specs.List.{AllByRecursion, flat_map}
 use Rattle.smx_types.specs.declared.command.Entry.{Entry}
@@ -10,42 +10,35 @@ use Rattle.smx_types.specs.declared.view.ConfigView.{ConfigView}
 use Rattle.smx_model.specs.Commands.{step}
 use Rattle.smx_model.specs.Histories.{after, call_of}
 use Rattle.smx_model.specs.Views.{view}
-use Rattle.smx_words.specs.Spellable.{FitsEntry, FitsEntryIn}
-use Rattle.smx_words.specs.Spelling.{entry_words}
-use Rattle.smx_words.specs.Words.{LINE_FEED, line_of, text_of}
-use Rattle.smx_text.specs.TranscriptText.{line_words, view_body}
-use Rattle.smx_session.specs.Sessions.{IsNoCall, Performs, State, done_behind}
+use Rattle.smx_words.specs.LineReading.{IsNoCallLine}
+use Rattle.smx_words.specs.Spellable.{FitsCallIn, FitsEntry}
+use Rattle.smx_words.specs.Spelling.{call_words, entry_line}
+use Rattle.smx_words.specs.Words.{LINE_FEED, line_of}
+use Rattle.smx_text.specs.TranscriptText.{view_lines}
+use Rattle.smx_session.specs.Sessions.{Performs, State}
 use Rattle.smx_live.specs.Inboxes.{IsShort}
-use Rattle.smx_live.specs.declared.wrong.Wrong.{Wrong}
-use Rattle.smx_live.specs.declared.wrong.Wrong.TheVariants.{NoCommand, NoMemory, Full}
+use Rattle.smx_live.specs.declared.turn_fault.TurnFault.{TurnFault}
+use Rattle.smx_live.specs.declared.turn_fault.TurnFault.TheVariants.{NoCommand, NoMemory, Full}
 
 -- ---- what is written
 
 -- the line that says why a line is refused
-abbrev pub wrong_line : Wrong → List ℕ
-wrong_line NoCommand = codes "? no command\n"
-wrong_line NoMemory = codes "? no memory\n"
-wrong_line Full = codes "? history full\n"
-
--- the line of an entry
-abbrev pub entry_line : Entry → List ℕ
-entry_line e = line_of (entry_words e) ++ LINE_FEED ∷ []
-
--- the lines of a configuration, as they stand in a transcript before its last line
-abbrev pub view_lines : ConfigView → List ℕ
-view_lines v = codes "config\n" ++ text_of (map line_words (view_body v))
+abbrev pub fault_line : TurnFault → List ℕ
+fault_line NoCommand = codes "? no command\n"
+fault_line NoMemory = codes "? no memory\n"
+fault_line Full = codes "? history full\n"
 
 -- what a line is answered: the entry of its command, the configuration, or why it is refused
 pub data Answer : Type 0 where
   Entered : Entry → Answer
   Shown : ConfigView → Answer
-  NotDone : Wrong → Answer
+  NotDone : TurnFault → Answer
 
 -- what is written of an answer
 abbrev pub answer_text : Answer → List ℕ
 answer_text (Entered e) = entry_line e
 answer_text (Shown v) = view_lines v ++ codes "shown\n"
-answer_text (NotDone w) = wrong_line w
+answer_text (NotDone w) = fault_line w
 
 -- a line with its answer
 pub record Turn : Type 0 where
@@ -79,10 +72,8 @@ AsksToShow line = (line ≡ []) ⊎ (line ≡ codes "show")
 -- the line is the process and the command of this entry, which has the reply that the model gives after these entries
 pub record IsEntryOf (version : Version) (drivers : List DriverSpec) (history : List Entry) (line : List ℕ)
     (e : Entry) : Type 0 where
-  pub asked : Entry
-  pub told : FitsEntryIn version asked
-  pub is_read : line ++ done_behind ≡ line_of (entry_words asked)
-  pub call : call_of e ≡ call_of asked
+  pub told : FitsCallIn version (call_of e)
+  pub is_read : line ≡ line_of (call_words (call_of e))
   pub legal : (step drivers (after drivers history) e.process e.command).1 ≡ e.reply
   pub spelled : FitsEntry e
   pub room : length history < MAX_COMMANDS
@@ -92,16 +83,17 @@ abbrev pub AsksForNeither : List ℕ → Type 0
 AsksForNeither line = (AsksToShow line → ⊥) × (line ≢ codes "end")
 
 -- why a line is refused, after so many entries
-abbrev pub IsWrong : Version → ℕ → List ℕ → Wrong → Type 0
-IsWrong version count line NoCommand = AsksForNeither line × IsNoCall version line × (count < MAX_COMMANDS)
-IsWrong version count line NoMemory = Unit {0}
-IsWrong version count line Full = AsksForNeither line × (MAX_COMMANDS ≤ count)
+abbrev pub IsRefusedFor : Version → ℕ → List ℕ → TurnFault → Type 0
+IsRefusedFor version count line NoCommand =
+    AsksForNeither line × IsNoCallLine version line × (count < MAX_COMMANDS)
+IsRefusedFor version count line NoMemory = AsksForNeither line → count < MAX_COMMANDS
+IsRefusedFor version count line Full = AsksForNeither line × (MAX_COMMANDS ≤ count)
 
 -- what a line may be answered after these entries
 abbrev pub IsAnswer : Version → List DriverSpec → List Entry → List ℕ → Answer → Type 0
 IsAnswer version drivers history line (Entered e) = IsEntryOf version drivers history line e
 IsAnswer version drivers history line (Shown v) = AsksToShow line × (v ≡ view drivers (after drivers history))
-IsAnswer version drivers history line (NotDone w) = IsWrong version (length history) line w
+IsAnswer version drivers history line (NotDone w) = IsRefusedFor version (length history) line w
 
 -- the line of each turn is one line, and not too long, and is answered so, where these entries came before
 abbrev pub AreAnswered : Version → List DriverSpec → List Entry → List Turn → Type 0
@@ -128,10 +120,10 @@ abbrev pub IsTaken : State → ℕ → List ℕ → Answer → State → ℕ →
 IsTaken s count line (Entered e) next more = IsEntered s count line e next more
 IsTaken s count line (Shown v) next more =
     AsksToShow line × (v ≡ view s.drivers s.configuration) × (next ≡ s) × (more ≡ count)
-IsTaken s count line (NotDone w) next more = IsWrong s.version count line w × (next ≡ s) × (more ≡ count)
+IsTaken s count line (NotDone w) next more = IsRefusedFor s.version count line w × (next ≡ s) × (more ≡ count)
 
 -- a line was performed, and this is the line of its entry; or it was refused for this
-abbrev pub IsPerformed : State → ℕ → List ℕ → Option Wrong → State → ℕ → List ℕ → Type 0
+abbrev pub IsPerformed : State → ℕ → List ℕ → Option TurnFault → State → ℕ → List ℕ → Type 0
 IsPerformed s count line None next more text =
     (e : Entry) × IsEntered s count line e next more × (text ≡ entry_line e)
-IsPerformed s count line (Some w) next more text = IsWrong s.version count line w × (next ≡ s) × (more ≡ count)
+IsPerformed s count line (Some w) next more text = IsRefusedFor s.version count line w × (next ≡ s) × (more ≡ count)

@@ -6,8 +6,8 @@ use Rattle.smx_model.specs.Worked.Common.{Fd, OpenClone, ◌does◌gets◌, eth}
 use Rattle.smx_session.specs.WorkedSessions.{begun, drivers, hung, one_open}
 use Rattle.smx_live.specs.LiveText.{closing_text, cut_words}
 use Rattle.smx_live.specs.Tables.{table_text}
-use Rattle.smx_live.specs.Turns.{Entered, NotDone, Shown, Turn, answer_text, wrong_line}
-use Rattle.smx_live.specs.declared.wrong.Wrong.TheVariants.{NoCommand, NoMemory, Full}
+use Rattle.smx_live.specs.Turns.{Entered, NotDone, Shown, Turn, answer_text, fault_line}
+use Rattle.smx_live.specs.declared.turn_fault.TurnFault.TheVariants.{NoCommand, NoMemory, Full}
 
 -- the table of a worked session
 abbrev pub worked_table : List ℕ
@@ -55,15 +55,15 @@ unfolding digits
 end_told = refl
 
 -- a line that is no command is refused in these words
-pub no_command_told : wrong_line NoCommand ≡ codes "? no command\n"
+pub no_command_told : fault_line NoCommand ≡ codes "? no command\n"
 no_command_told = refl
 
 -- a line for which memory is wanting is refused in these words
-pub no_memory_told : wrong_line NoMemory ≡ codes "? no memory\n"
+pub no_memory_told : fault_line NoMemory ≡ codes "? no memory\n"
 no_memory_told = refl
 
 -- a command for which the history is full is refused in these words
-pub full_told : wrong_line Full ≡ codes "? history full\n"
+pub full_told : fault_line Full ≡ codes "? history full\n"
 full_told = refl
 
 -- a last line that is not whole is answered by these words

@@ -5,7 +5,7 @@ ghost use Rattle.smx_live.specs.LiveTurns.{Says, TakesTurn};
 ghost use Rattle.smx_live.specs.Turns.{AsksForNeither, AsksToShow};
 
 use crate::talk::{Asked, Talk, asked_by, shown_with};
-use crate::wrong::{Wrong, line_of_wrong};
+use crate::turn_fault::{TurnFault, line_of_fault};
 use smx_filters::{MainFault, Sink, write_all};
 use smx_run::RunFault;
 use std::alloc::Global;
@@ -49,7 +49,7 @@ fn show<S: Sink>(alloc: Global, sink: &mut S, talk: &Talk, line: &[u8]) -> Resul
 {
     match shown_with(alloc, &talk.session, b"shown\n") {
         Ok(text) => say(sink, text.as_slice(), false),
-        Err(_) => say(sink, line_of_wrong(Wrong::NoMemory), false),
+        Err(_) => say(sink, line_of_fault(TurnFault::NoMemory), false),
     }
 }
 
@@ -62,7 +62,7 @@ fn end<S: Sink>(alloc: Global, sink: &mut S, talk: &Talk, line: &[u8]) -> Result
 {
     match shown_with(alloc, &talk.session, b"end\n") {
         Ok(text) => say(sink, text.as_slice(), true),
-        Err(_) => say(sink, line_of_wrong(Wrong::NoMemory), false),
+        Err(_) => say(sink, line_of_fault(TurnFault::NoMemory), false),
     }
 }
 
@@ -80,7 +80,7 @@ fn call<S: Sink>(
 {
     match talk.perform(alloc, line) {
         Ok(None) => say(sink, talk.text.as_slice(), false),
-        Ok(Some(wrong)) => say(sink, line_of_wrong(wrong), false),
+        Ok(Some(fault)) => say(sink, line_of_fault(fault), false),
         Err(_) => Err(MainFault::Refused(RunFault::NoMemory)),
     }
 }

@@ -1,7 +1,7 @@
 //! Lines that come from a feed piece by piece.
 
 ghost use Rattle.std.specs.Prelude.{◌≡◌, ℕ, ◌+◌, ◌<◌, ◌∷◌, ◌++◌, [], List, false, length, take, drop, MatchOption};
-ghost use Rattle.smx_live.specs.Inboxes.{IsLineOf, IsNextLine, IsPiece};
+ghost use Rattle.smx_live.specs.Inboxes.{IsNextLine, IsPiece, MayBeTaken};
 ghost use Rattle.smx_text.specs.Grammar.{IsOneLine};
 ghost use Rattle.smx_words.specs.Words.{LINE_FEED};
 
@@ -85,7 +85,7 @@ fn line_in(bytes: &[u8]) -> Option<usize>
 
 // A line of so many bytes, unless that is too long.
 fn line_of(n: usize) -> Result<Option<usize>, MainFault>
-    ensures { IsLineOf n result }
+    ensures { MayBeTaken n result }
 {
     if n > MAX_INPUT {
         return Err(MainFault::TooLong);

@@ -4,6 +4,7 @@ ghost use Rattle.std.specs.List.{AllByRecursion};
 ghost use Rattle.std.specs.Prelude.{◌≡◌, ◌≢◌, ℕ, ◌≤◌, Bool, false, List, [], length, Err, codes};
 ghost use Rattle.smx_types.specs.declared.command.Entry.{Entry};
 ghost use Rattle.smx_types.specs.declared.driver.SpecFault.TheVariants.{BadMinors};
+ghost use Rattle.smx_types.specs.declared.limits.TheConstants.{MAX_COMMANDS};
 ghost use Rattle.smx_types.specs.declared.version.Version.TheVariants.{V2};
 ghost use Rattle.smx_config.specs.declared.config_fault.ConfigFault.TheVariants as config;
 ghost use Rattle.smx_run.specs.declared.run_fault.RunFault.{RunFault as AnyFault};
@@ -17,9 +18,9 @@ ghost use Rattle.smx_session.specs.WorkedSessions.{drivers};
 ghost use Rattle.smx_filters.specs.declared.input.TheConstants.{MAX_INPUT};
 ghost use Rattle.smx_live.specs.LiveText.{HasComeSoFar, IsLegalTranscript, IsLive, IsOver, RefusesDriversOf};
 ghost use Rattle.smx_live.specs.Tables.{HasTableOf, IsTable, table_text};
-ghost use Rattle.smx_live.specs.Turns.{Entered, HadMemory, IsAnswer, NotDone};
+ghost use Rattle.smx_live.specs.Turns.{Entered, HadMemory, IsAnswer, IsRefusedFor, NotDone};
 ghost use Rattle.smx_live.specs.WorkedLives.{minorless_text, worked_input, worked_output, worked_table};
-ghost use Rattle.smx_live.specs.declared.wrong.Wrong.TheVariants.{NoCommand, Full};
+ghost use Rattle.smx_live.specs.declared.turn_fault.TurnFault.TheVariants.{NoCommand, NoMemory, Full};
 
 use smx_config::laws_of_drivers::drivers_have_one_fault;
 use smx_model::laws::one_entry_more;
@@ -75,6 +76,7 @@ pub fn a_worked_live_session()
     ensures show_is_asked { IsAnswer V2 drivers [] (codes "show") (NotDone NoCommand) → ⊥ }
     ensures end_is_asked { IsAnswer V2 drivers [] (codes "end") (NotDone NoCommand) → ⊥ }
     ensures not_full { IsAnswer V2 drivers [] (codes "x") (NotDone Full) → ⊥ }
+    ensures full_is_told { IsRefusedFor V2 MAX_COMMANDS (codes "x") NoMemory → ⊥ }
     ensures not_performed { (e : Entry) → IsAnswer V2 drivers [] (codes "x") (Entered e) → ⊥ }
 {
     a_worked_session();

@@ -6,7 +6,7 @@ mod inbox;
 pub mod laws_of_live;
 mod live;
 mod talk;
-mod wrong;
+mod turn_fault;
 
 pub use live::live_text;
-pub use wrong::Wrong;
+pub use turn_fault::TurnFault;

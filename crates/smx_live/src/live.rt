@@ -15,7 +15,7 @@ use crate::talk::{Talk, shown_with};
 use smx_filters::{Feed, MAX_INPUT, MainFault, Sink, write_all};
 use smx_model::laws::one_entry_more;
 use smx_run::RunFault;
-use smx_session::{Session, Trouble};
+use smx_session::{Session, StartFault};
 use smx_types::NoMemory;
 use std::alloc::{AllocError, Global};
 
@@ -109,11 +109,9 @@ fn begin(alloc: Global, table: Vec<u8>) -> Result<Talk, MainFault>
             count: 0,
             text: Vec::new(alloc),
         }),
-        Err(Trouble::Text(fault)) => Err(MainFault::Text(fault)),
-        Err(Trouble::Drivers(fault)) => Err(MainFault::Refused(RunFault::from(fault))),
-        Err(Trouble::NoMemory | Trouble::Line | Trouble::NoEntry) => {
-            Err(MainFault::Refused(RunFault::NoMemory))
-        }
+        Err(StartFault::Text(fault)) => Err(MainFault::Text(fault)),
+        Err(StartFault::Drivers(fault)) => Err(MainFault::Refused(RunFault::from(fault))),
+        Err(StartFault::NoMemory) => Err(MainFault::Refused(RunFault::NoMemory)),
     }
 }
 

@@ -1,15 +1,17 @@
 //! A live session: its configuration, how many entries it has, and the texts that it answers.
 
-ghost use Rattle.std.specs.Prelude.{◌≡◌, ◌+◌, ◌++◌, ◌<◌, [], Some, None, IfOk, IfSome, OnOk};
+ghost use Rattle.std.specs.Prelude.{◌≡◌, ◌+◌, ◌++◌, ◌<◌, [], Some, None, IfOk, IfSome, OnErr, OnOk};
 ghost use Rattle.smx_live.specs.LiveTurns.{IsAsked};
-ghost use Rattle.smx_live.specs.Turns.{AsksForNeither, IsPerformed, entry_line, view_lines};
+ghost use Rattle.smx_live.specs.Turns.{AsksForNeither, IsPerformed};
 ghost use Rattle.smx_model.specs.Views.{view};
-ghost use Rattle.smx_text.specs.TranscriptText.{IsSpellableView};
+ghost use Rattle.smx_session.specs.Sessions.{Performs};
+ghost use Rattle.smx_text.specs.TranscriptText.{IsSpellableView, view_lines};
 ghost use Rattle.smx_types.specs.declared.limits.TheConstants.{MAX_COMMANDS};
 ghost use Rattle.smx_words.specs.Spellable.{FitsEntry};
+ghost use Rattle.smx_words.specs.Spelling.{entry_line};
 
-use crate::wrong::Wrong;
-use smx_session::{Session, Trouble};
+use crate::turn_fault::TurnFault;
+use smx_session::{LineFault, Session};
 use smx_types::{MAX_COMMANDS, MAX_MESSAGE, NoMemory};
 use std::alloc::Global;
 
@@ -61,28 +63,26 @@ fn make_room(text: &mut Vec<u8>, len: usize, count: usize) -> Result<(), NoMemor
 
 impl Talk {
     /// Performs the command of a line, and makes the line of its entry. Where it answers why not, nothing has changed.
-    /// The room for the line is taken first. `NoMemory` comes where that was not enough: the command was then
-    /// performed.
-    pub fn perform(&mut self, alloc: Global, line: &[u8]) -> Result<Option<Wrong>, NoMemory>
+    /// The room for the line is taken first. Fails where that was not enough, and then the command was performed.
+    pub fn perform(&mut self, alloc: Global, line: &[u8]) -> Result<Option<TurnFault>, NoMemory>
         requires { AsksForNeither line.now }
-        ensures { IfOk result (λ o. IsPerformed self.old.session self.old.count line.now o
+        ensures answered { IfOk result (λ o. IsPerformed self.old.session self.old.count line.now o
             self.new.session self.new.count self.new.text.items) }
+        ensures performed { OnErr result (Performs self.old.session line.now self.new.session) }
     {
         if self.count >= MAX_COMMANDS {
-            return Ok(Some(Wrong::Full));
+            return Ok(Some(TurnFault::Full));
         }
         if make_room(&mut self.text, line.len(), self.count).is_err() {
-            return Ok(Some(Wrong::NoMemory));
+            return Ok(Some(TurnFault::NoMemory));
         }
         match self.session.perform(alloc, line) {
             Ok(()) => {
                 self.tell()?;
                 Ok(None)
             }
-            Err(Trouble::Line) => Ok(Some(Wrong::NoCommand)),
-            Err(Trouble::NoMemory | Trouble::Text(_) | Trouble::Drivers(_) | Trouble::NoEntry) => {
-                Ok(Some(Wrong::NoMemory))
-            }
+            Err(LineFault::NoCommand) => Ok(Some(TurnFault::NoCommand)),
+            Err(LineFault::NoMemory) => Ok(Some(TurnFault::NoMemory)),
         }
     }
 

@@ -9,13 +9,12 @@ use Rattle.smx_model.specs.Configuration.{Configuration}
 use Rattle.smx_model.specs.Histories.{IsLegal, after}
 use Rattle.smx_model.specs.Views.{view}
 use Rattle.smx_text.specs.GrowingTranscripts.{BeginsTranscript, transcript_with}
-use Rattle.smx_text.specs.TranscriptText.{line_words, transcript_text, view_body}
+use Rattle.smx_text.specs.TranscriptText.{transcript_text}
 use Rattle.smx_text.proofs.GrowingLemmas.{finished, grown}
 use Rattle.smx_words.specs.Spellable.{FitsEntry}
-use Rattle.smx_words.specs.Spelling.{entry_words}
-use Rattle.smx_words.specs.Words.{LINE_FEED, line_of, text_of}
+use Rattle.smx_words.specs.Spelling.{entry_line, entry_words}
+use Rattle.smx_words.specs.Words.{text_of}
 use Rattle.smx_session.specs.Sessions.{IsAfter, IsLastLine, IsStartOf, Performs, State, shown_lines}
-use Rattle.smx_session.proofs.LawLemmas.{entry_of}
 
 -- a history with one entry more leads where the command of that entry leads
 abbrev pub IsOneFurther : Type 0
@@ -36,9 +35,9 @@ pub goes_on : IsOneFurther → StaysLegal → (history : List Entry) (old new : 
     → IsAfter history old → Performs old line new
     → (e : Entry) × (new.last ≡ Some e) × IsAfter (history ++ e ∷ []) new
 goes_on further stays history old new line come h =
-    let e : Entry = entry_of h.asked h.reply in
-    let does : step old.drivers (after old.drivers history) e.process e.command ≡ (new.configuration, h.reply) =
-    subst (λ (c : Configuration). step old.drivers c e.process e.command ≡ (new.configuration, h.reply)) come.now
+    let e : Entry = h.entry in
+    let does : step old.drivers (after old.drivers history) e.process e.command ≡ (new.configuration, e.reply) =
+    subst (λ (c : Configuration). step old.drivers c e.process e.command ≡ (new.configuration, e.reply)) come.now
     h.does in
     let is : new.configuration ≡ after old.drivers (history ++ e ∷ []) =
     sym (ap (λ (p : Configuration × Reply). p.0) does) ∙ sym (further old.drivers history e) in
@@ -61,7 +60,7 @@ grows s before e text line was last fits (made, is, written) =
     let same : Some made ≡ Some e = sym is ∙ last in
     let one : made ≡ e = cc in
     let said : line ≡ text_of (map entry_words (e ∷ [])) =
-    written ∙ (ap (λ (x : Entry). line_of (entry_words x) ++ LINE_FEED ∷ []) one ∙ sym (append-nil _)) in
+    written ∙ (ap entry_line one ∙ sym (append-nil (entry_line e))) in
     grown s.version s.drivers before (e ∷ []) text (text ++ line) (ap (λ (t : List ℕ). text ++ t) said) (fits, tt) was
 
 -- the lines of the configuration, and `end`, make the beginning of a transcript the whole of it
@@ -69,11 +68,5 @@ pub ends : (s : State) (entries : List Entry) (text : List ℕ) → BeginsTransc
     → text ++ (shown_lines s ++ codes "end\n")
     ≡ transcript_text (transcript_with s.version s.drivers entries (view s.drivers s.configuration))
 ends s entries text was =
-    let v = view s.drivers s.configuration in
-    let lines : List ℕ = text_of (map line_words (view_body v)) in
-    let joined : text ++ ((codes "config\n" ++ lines) ++ codes "end\n")
-    ≡ ((text ++ codes "config\n") ++ lines) ++ codes "end\n" =
-    simp append_assoc in
-    joined ∙ finished s.version s.drivers entries v text (text ++ codes "config\n")
-    ((text ++ codes "config\n") ++ lines) (((text ++ codes "config\n") ++ lines) ++ codes "end\n")
-    refl refl refl was
+    sym (append_assoc text (shown_lines s) (codes "end\n"))
+    ∙ finished s.version s.drivers entries (view s.drivers s.configuration) text _ _ refl refl was

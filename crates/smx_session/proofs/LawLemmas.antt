@@ -1,8 +1,9 @@
 -- A text has one start, and a line is performed in one way.
 use Rattle.std.proofs.Common.{◌≡◌, ◌≢◌, ℕ, List, Option, Some, None, Result, Ok, Err, inl, inr, refl, sym, ap, subst}
 use Rattle.std.proofs.Common.{◌∙◌}
-use Rattle.std.specs.Prelude.{◌⊎◌, ◌++◌, IfErr}
+use Rattle.std.specs.Prelude.{◌⊎◌, IfErr}
 use Rattle.smx_types.specs.ProgramLists.{ProgramLists}
+use Rattle.smx_types.specs.declared.command.Command.{Command}
 use Rattle.smx_types.specs.declared.command.Entry.{Entry}
 use Rattle.smx_types.specs.declared.driver.DriverSpec.{DriverSpec}
 use Rattle.smx_types.specs.declared.reply.Reply.{Reply}
@@ -13,17 +14,18 @@ use Rattle.smx_config.specs.declared.config_fault.ConfigFault.TheVariants as con
 use Rattle.smx_model.specs.Commands.{step}
 use Rattle.smx_model.specs.Configuration.{Configuration}
 use Rattle.smx_model.specs.DriverList.{IsDriverList}
+use Rattle.smx_model.specs.Histories.{call_of}
 use Rattle.smx_text.specs.Grammar.{ReadsAny, Spells}
 use Rattle.smx_text.specs.ProgramsText.{programs_grammar}
 use Rattle.smx_text.specs.declared.text_fault.Cause.TheVariants as cause
 use Rattle.smx_text.specs.declared.text_fault.TextFault.{TextFault}
-use Rattle.smx_words.specs.LineReading.{IsReadAs}
-use Rattle.smx_words.specs.Spellable.{FitsEntry, FitsEntryIn}
-use Rattle.smx_words.specs.Spelling.{entry_words}
+use Rattle.smx_words.specs.LineReading.{IsNoCallLine, IsReadAs}
+use Rattle.smx_words.specs.Spellable.{FitsCall, FitsCallIn}
+use Rattle.smx_words.specs.Spelling.{call_words}
 use Rattle.smx_words.specs.Words.{line_of}
-use Rattle.smx_session.specs.Sessions.{HasDrivers, IsNoCall, IsStartOf, Performs, StartsAs, State, done_behind}
-use Rattle.smx_session.specs.declared.trouble.Trouble.{Trouble}
-use Rattle.smx_session.specs.declared.trouble.Trouble.TheVariants.{NoMemory, Text, Drivers, Line, NoEntry}
+use Rattle.smx_session.specs.Sessions.{HasDrivers, IsStartOf, Performs, StartsAs, State}
+use Rattle.smx_session.specs.declared.start_fault.StartFault.{StartFault}
+use Rattle.smx_session.specs.declared.start_fault.StartFault.TheVariants.{NoMemory, Text, Drivers}
 
 -- ---- what other crates' laws say
 
@@ -38,14 +40,15 @@ abbrev pub HaveOneFault : Type 0
 HaveOneFault =
     (drivers : List DriverSpec) (f g : ConfigFault) → RefusesDrivers drivers f → RefusesDrivers drivers g → f ≡ g
 
--- no two entries have one line
+-- no two calls have one line
 abbrev pub AreToldApart : Type 0
 AreToldApart =
-    (x y : Entry) → FitsEntry x → FitsEntry y → line_of (entry_words x) ≡ line_of (entry_words y) → x ≡ y
+    (x y : ℕ × Command) → FitsCall x → FitsCall y → line_of (call_words x) ≡ line_of (call_words y) → x ≡ y
 
--- each line has a reading as an entry
+-- each line has a reading as a call
 abbrev pub HaveReadings : Type 0
-HaveReadings = (v : Version) (line : List ℕ) → (o : Option Entry) × IsReadAs (FitsEntryIn v) entry_words line o
+HaveReadings =
+    (v : Version) (line : List ℕ) → (o : Option (ℕ × Command)) × IsReadAs (FitsCallIn v) call_words line o
 
 -- ---- starts
 
@@ -117,15 +120,11 @@ module _ (text : List ℕ) (reading : HasOneReading) (one_fault : HaveOneFault) 
       one_fault q.drivers f g (subst (λ (x : ProgramLists). RefusesDrivers x.drivers f) same bad) bad_too
 
   -- a text has at most one start, but for want of memory
-  pub one_start : (one other : Result State Trouble) → StartsAs text one → StartsAs text other
+  pub one_start : (one other : Result State StartFault) → StartsAs text one → StartsAs text other
       → IfErr one (λ t. t ≢ NoMemory) → IfErr other (λ t. t ≢ NoMemory) → one ≡ other
   one_start (Ok a) (Ok b) h k known known_too = ap Ok (one_session a b h k)
   one_start (Err NoMemory) other h k known known_too = absurd (known refl)
-  one_start (Err Line) other h k known known_too = absurd h
-  one_start (Err NoEntry) other h k known known_too = absurd h
   one_start (Ok a) (Err NoMemory) h k known known_too = absurd (known_too refl)
-  one_start (Ok a) (Err Line) h k known known_too = absurd k
-  one_start (Ok a) (Err NoEntry) h k known known_too = absurd k
   one_start (Ok a) (Err (Text f)) h k known known_too =
       absurd (no_fault a.version h.programs f h.spelled k.0 k.1)
   one_start (Ok a) (Err (Drivers f)) h k known known_too = absurd (none_refused a f h k.0 k.1)
@@ -135,57 +134,54 @@ module _ (text : List ℕ) (reading : HasOneReading) (one_fault : HaveOneFault) 
       ap (λ (x : TextFault). Err (Text x)) (one_text_fault f g h.0 k.0 h.1 k.1)
   one_start (Err (Text f)) (Err (Drivers g)) h k known known_too = absurd (no_fault k.0.0 k.0.1 f k.0.2 h.0 h.1)
   one_start (Err (Text f)) (Err NoMemory) h k known known_too = absurd (known_too refl)
-  one_start (Err (Text f)) (Err Line) h k known known_too = absurd k
-  one_start (Err (Text f)) (Err NoEntry) h k known known_too = absurd k
   one_start (Err (Drivers f)) (Ok b) h k known known_too = absurd (none_refused b f k h.0 h.1)
   one_start (Err (Drivers f)) (Err (Text g)) h k known known_too =
       absurd (no_fault h.0.0 h.0.1 g h.0.2 k.0 k.1)
   one_start (Err (Drivers f)) (Err (Drivers g)) h k known known_too =
       ap (λ (x : ConfigFault). Err (Drivers x)) (one_refusal f g h.0 k.0)
   one_start (Err (Drivers f)) (Err NoMemory) h k known known_too = absurd (known_too refl)
-  one_start (Err (Drivers f)) (Err Line) h k known known_too = absurd k
-  one_start (Err (Drivers f)) (Err NoEntry) h k known known_too = absurd k
 
 -- ---- lines
 
 -- the entry of a call and its reply
-abbrev pub entry_of : Entry → Reply → Entry
-entry_of asked reply = record { process = asked.process; command = asked.command; reply = reply }
+abbrev pub entry_with : ℕ × Command → Reply → Entry
+entry_with call reply = record { process = call.0; command = call.1; reply = reply }
 
 -- a line is performed in one way
 pub one_step : AreToldApart → (old new other : State) (line : List ℕ) → Performs old line new
     → Performs old line other → new ≡ other
 one_step apart old new other line h k =
-    let asked : h.asked ≡ k.asked = apart h.asked k.asked h.fits.0 k.fits.0 (sym h.is_read ∙ k.is_read) in
-    let same : (new.configuration, h.reply) ≡ (other.configuration, k.reply) =
+    let call : call_of h.entry ≡ call_of k.entry =
+    apart (call_of h.entry) (call_of k.entry) h.fits.0 k.fits.0 (sym h.is_read ∙ k.is_read) in
+    let same : (new.configuration, h.entry.reply) ≡ (other.configuration, k.entry.reply) =
     sym h.does
-    ∙ (ap (λ (e : Entry). step old.drivers old.configuration e.process e.command) asked ∙ k.does) in
-    let reply : h.reply ≡ k.reply = ap (λ (p : Configuration × Reply). p.1) same in
-    let last : entry_of h.asked h.reply ≡ entry_of k.asked k.reply =
-    ap (λ (e : Entry). entry_of e h.reply) asked ∙ ap (entry_of k.asked) reply in
+    ∙ (ap (λ (c : ℕ × Command). step old.drivers old.configuration c.0 c.1) call ∙ k.does) in
+    let reply : h.entry.reply ≡ k.entry.reply = ap (λ (p : Configuration × Reply). p.1) same in
+    let last : h.entry ≡ k.entry =
+    ap (λ (c : ℕ × Command). entry_with c h.entry.reply) call ∙ ap (entry_with (call_of k.entry)) reply in
     same_state new other (h.version ∙ sym k.version) (h.drivers ∙ sym k.drivers)
     (ap (λ (p : Configuration × Reply). p.0) same) (h.last ∙ (ap Some last ∙ sym k.last))
 
--- a line that is performed has a command
-pub not_both : (old new : State) (line : List ℕ) → Performs old line new → IsNoCall old.version line → ⊥
-not_both old new line h none = none h.asked h.fits h.is_read
+-- a line that is performed is one of a call
+pub not_both : (old new : State) (line : List ℕ) → Performs old line new → IsNoCallLine old.version line → ⊥
+not_both old new line h none = none (call_of h.entry) h.fits h.is_read
 
--- a line is performed, or it has no command
+-- a line is performed, or it is one of no call
 pub always : HaveReadings → (old : State) (line : List ℕ)
-    → ((new : State) × Performs old line new) ⊎ IsNoCall old.version line
-always readings old line = found (readings old.version (line ++ done_behind)) where
-  found : (o : Option Entry) × IsReadAs (FitsEntryIn old.version) entry_words (line ++ done_behind) o
-      → ((new : State) × Performs old line new) ⊎ IsNoCall old.version line
+    → ((new : State) × Performs old line new) ⊎ IsNoCallLine old.version line
+always readings old line = found (readings old.version line) where
+  found : (o : Option (ℕ × Command)) × IsReadAs (FitsCallIn old.version) call_words line o
+      → ((new : State) × Performs old line new) ⊎ IsNoCallLine old.version line
   found (None, none) = inr none
-  found (Some e, (fits, read)) =
-      let made = step old.drivers old.configuration e.process e.command in
+  found (Some c, (fits, read)) =
+      let made = step old.drivers old.configuration c.0 c.1 in
+      let e : Entry = entry_with c made.1 in
       inl (
-        state_of old.version old.drivers made.0 (Some (entry_of e made.1)),
+        state_of old.version old.drivers made.0 (Some e),
         record {
-          asked = e;
+          entry = e;
           fits = fits;
           is_read = read;
-          reply = made.1;
           does = refl;
           last = refl;
           drivers = refl;

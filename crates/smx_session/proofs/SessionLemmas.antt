@@ -15,30 +15,30 @@ use Rattle.smx_text.specs.ProgramsText.{programs_grammar}
 use Rattle.smx_text.specs.declared.text_fault.Cause.TheVariants as cause
 use Rattle.smx_text.specs.declared.text_fault.TextFault.{TextFault}
 use Rattle.smx_session.specs.Sessions.{IsStartOf, StartsAs}
-use Rattle.smx_session.specs.declared.trouble.Trouble.{Trouble}
-use Rattle.smx_session.specs.declared.trouble.Trouble.TheVariants.{NoMemory, Text, Drivers}
+use Rattle.smx_session.specs.declared.start_fault.StartFault.{StartFault}
+use Rattle.smx_session.specs.declared.start_fault.StartFault.TheVariants.{NoMemory, Text, Drivers}
 
 -- a session doesn't start over a text that is at fault, or for which memory was wanting
-pub at_fault : (text : List ℕ) (fault : TextFault) (t : Trouble) → ReadsAny programs_grammar text (Err fault)
+pub at_fault : (text : List ℕ) (fault : TextFault) (t : StartFault) → ReadsAny programs_grammar text (Err fault)
     → ((t ≡ NoMemory) × (fault.cause ≡ cause.NoMemory)) ⊎ ((t ≡ Text fault) × (fault.cause ≢ cause.NoMemory))
     → StartsAs text (Err t)
 at_fault text fault t read (inl (is, wanting)) =
-    subst (λ (x : Trouble). StartsAs text (Err x)) (sym is) (inl (fault, read, wanting))
+    subst (λ (x : StartFault). StartsAs text (Err x)) (sym is) (inl (fault, read, wanting))
 at_fault text fault t read (inr (is, other)) =
-    subst (λ (x : Trouble). StartsAs text (Err x)) (sym is) (read, other)
+    subst (λ (x : StartFault). StartsAs text (Err x)) (sym is) (read, other)
 
 -- a session doesn't start over drivers that are refused, or for which memory was wanting
-pub refused : (text : List ℕ) (p : ProgramLists) (ds : List DriverSpec) (fault : ConfigFault) (t : Trouble)
+pub refused : (text : List ℕ) (p : ProgramLists) (ds : List DriverSpec) (fault : ConfigFault) (t : StartFault)
     → ReadsAny programs_grammar text (Ok p) → ds ≡ p.drivers → RefusesDrivers ds fault
     → ((t ≡ NoMemory) × (fault ≡ config.NoMemory)) ⊎ ((t ≡ Drivers fault) × (fault ≢ config.NoMemory))
     → StartsAs text (Err t)
 refused text p ds fault t read same bad (inl (is, wanting)) =
     let why : RefusesDrivers p.drivers fault = subst (λ (xs : List DriverSpec). RefusesDrivers xs fault) same bad in
     let can : IsDriverList p.drivers = subst (RefusesDrivers p.drivers) wanting why in
-    subst (λ (x : Trouble). StartsAs text (Err x)) (sym is) (inr (read.0, p, read.1, can))
+    subst (λ (x : StartFault). StartsAs text (Err x)) (sym is) (inr (read.0, p, read.1, can))
 refused text p ds fault t read same bad (inr (is, other)) =
     let why : RefusesDrivers p.drivers fault = subst (λ (xs : List DriverSpec). RefusesDrivers xs fault) same bad in
-    subst (λ (x : Trouble). StartsAs text (Err x)) (sym is) ((read.0, p, read.1, why), other)
+    subst (λ (x : StartFault). StartsAs text (Err x)) (sym is) ((read.0, p, read.1, why), other)
 
 -- a session starts over a text with nothing open, where its drivers can be had
 pub started : (text : List ℕ) (p : ProgramLists) (v : Version) (ds : List DriverSpec) (m : Machine)

@@ -1,6 +1,6 @@
 -- The worked session.
 use Rattle.std.proofs.Common.{◌≡◌, ℕ, [], ◌∷◌, Option, Some, None, refl, ap, arith, rules}
-use Rattle.std.specs.Prelude.{◌++◌, codes}
+use Rattle.std.specs.Prelude.{codes}
 use Rattle.std.specs.Fmt.{digits}
 use Rattle.smx_types.specs.ProgramLists.{ProgramLists, program_lists, raised}
 use Rattle.smx_types.specs.declared.command.Entry.{Entry}
@@ -8,9 +8,9 @@ use Rattle.smx_types.specs.declared.version.Version.TheVariants.{V2}
 use Rattle.smx_model.specs.Worked.Common.{Done, Fd, Hangup, OpenClone, ◌does◌gets◌, eth}
 use Rattle.smx_text.specs.Grammar.{Spells}
 use Rattle.smx_text.specs.ProgramsText.{programs_grammar, programs_text}
-use Rattle.smx_words.specs.Spelling.{entry_words}
-use Rattle.smx_words.specs.Words.{LINE_FEED, line_of}
-use Rattle.smx_session.specs.Sessions.{IsLastLine, IsStartOf, Performs, State, done_behind}
+use Rattle.smx_words.specs.Spelling.{call_words, entry_line}
+use Rattle.smx_words.specs.Words.{line_of}
+use Rattle.smx_session.specs.Sessions.{IsLastLine, IsStartOf, Performs, State}
 use Rattle.smx_session.specs.WorkedSessions.{begun, drivers, hung, opened, table}
 use Rattle.smx_session.proofs.LawLemmas.{AreToldApart, one_step}
 
@@ -39,17 +39,13 @@ starts =
       no_entry = refl;
     }
 
--- the entry of a clone of `eth` by this process, with the reply `done`
-abbrev clone_of : ℕ → Entry
-clone_of process = process does OpenClone eth gets Done []
-
--- `3 clone eth` with ` = done` behind it is the line of a clone of `eth` by process 3
-three : codes "3 clone eth" ++ done_behind ≡ line_of (entry_words (clone_of 3))
+-- `3 clone eth` is the line of a clone of `eth` by process 3
+three : codes "3 clone eth" ≡ line_of (call_words (3, OpenClone eth))
 unfolding digits
 three = refl
 
--- `2 clone eth` with ` = done` behind it is the line of a clone of `eth` by process 2
-two : codes "2 clone eth" ++ done_behind ≡ line_of (entry_words (clone_of 2))
+-- `2 clone eth` is the line of a clone of `eth` by process 2
+two : codes "2 clone eth" ≡ line_of (call_words (2, OpenClone eth))
 unfolding digits
 two = refl
 
@@ -57,18 +53,17 @@ two = refl
 pub opens : Performs begun (codes "3 clone eth") opened
 opens =
     record {
-      asked = clone_of 3;
+      entry = 3 does OpenClone eth gets Fd 0 0;
       fits = search (rules, arith);
       is_read = three;
-      reply = Fd 0 0;
       does = refl;
       last = refl;
       drivers = refl;
       version = refl;
     }
 
--- `5 hangup eth 0` with ` = done` behind it is the line of the entry of a hangup by process 5
-hangup_is_read : codes "5 hangup eth 0" ++ done_behind ≡ line_of (entry_words (5 does Hangup eth 0 gets Done []))
+-- `5 hangup eth 0` is the line of a hangup by process 5
+hangup_is_read : codes "5 hangup eth 0" ≡ line_of (call_words (5, Hangup eth 0))
 unfolding digits
 hangup_is_read = refl
 
@@ -76,10 +71,9 @@ hangup_is_read = refl
 pub hangs_up : Performs opened (codes "5 hangup eth 0") hung
 hangs_up =
     record {
-      asked = 5 does Hangup eth 0 gets Done [];
+      entry = 5 does Hangup eth 0 gets Done [];
       fits = search (rules, arith);
       is_read = hangup_is_read;
-      reply = Done [];
       does = refl;
       last = refl;
       drivers = refl;
@@ -87,7 +81,7 @@ hangs_up =
     }
 
 -- `3 clone eth = fd 0 0` is the line of the entry of a clone with that reply
-told : codes "3 clone eth = fd 0 0\n" ≡ line_of (entry_words (3 does OpenClone eth gets Fd 0 0)) ++ LINE_FEED ∷ []
+told : codes "3 clone eth = fd 0 0\n" ≡ entry_line (3 does OpenClone eth gets Fd 0 0)
 unfolding digits
 told = refl
 
@@ -113,10 +107,9 @@ opened_by_2 =
 opens_by_2 : Performs begun (codes "2 clone eth") opened_by_2
 opens_by_2 =
     record {
-      asked = clone_of 2;
+      entry = 2 does OpenClone eth gets Fd 0 0;
       fits = search (rules, arith);
       is_read = two;
-      reply = Fd 0 0;
       does = refl;
       last = refl;
       drivers = refl;

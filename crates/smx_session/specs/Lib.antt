@@ -1,3 +1,3 @@
+pub mod FaultWords
 pub mod Sessions
-pub mod TroubleWords
 pub mod WorkedSessions

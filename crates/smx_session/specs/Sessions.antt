@@ -1,27 +1,32 @@
 -- What a session is seen as, how it starts, and what it does with a line.
-use Rattle.std.specs.Prelude.{◌≡◌, ◌≢◌, ◌⊎◌, ℕ, List, [], ◌∷◌, ◌++◌, map, Option, Some, None, Result, Ok, Err, codes}
+use Rattle.std.specs.Prelude.{◌≡◌, ◌≢◌, ◌⊎◌, ℕ, List, Option, Some, None, IsSome, Result, Ok, Err}
 use Rattle.smx_types.specs.ProgramLists.{ProgramLists}
 use Rattle.smx_types.specs.declared.command.Entry.{Entry}
 use Rattle.smx_types.specs.declared.driver.DriverSpec.{DriverSpec}
-use Rattle.smx_types.specs.declared.reply.Reply.{Reply}
 use Rattle.smx_types.specs.declared.version.Version.{Version}
 use Rattle.smx_config.specs.DriverFaults.{RefusesDrivers}
 use Rattle.smx_config.specs.declared.config_fault.ConfigFault.TheVariants as config
 use Rattle.smx_model.specs.Commands.{step}
 use Rattle.smx_model.specs.Configuration.{Configuration, empty}
 use Rattle.smx_model.specs.DriverList.{IsDriverList}
-use Rattle.smx_model.specs.Histories.{IsLegal, after}
+use Rattle.smx_model.specs.Histories.{IsLegal, after, call_of}
 use Rattle.smx_model.specs.Views.{view}
 use Rattle.smx_text.specs.Grammar.{ReadsAny, Spells}
 use Rattle.smx_text.specs.ProgramsText.{programs_grammar}
-use Rattle.smx_text.specs.TranscriptText.{line_words, view_body}
+use Rattle.smx_text.specs.TranscriptText.{view_lines}
 use Rattle.smx_text.specs.declared.text_fault.Cause.TheVariants as cause
 use Rattle.smx_text.specs.declared.text_fault.TextFault.{TextFault}
-use Rattle.smx_words.specs.Spellable.{FitsEntryIn}
-use Rattle.smx_words.specs.Spelling.{entry_words}
-use Rattle.smx_words.specs.Words.{LINE_FEED, line_of, text_of}
-use Rattle.smx_session.specs.declared.trouble.Trouble.{Trouble}
-use Rattle.smx_session.specs.declared.trouble.Trouble.TheVariants.{NoMemory, Text, Drivers, Line, NoEntry}
+use Rattle.smx_words.specs.LineReading.{IsCallLine, IsNoCallLine}
+use Rattle.smx_words.specs.Spellable.{FitsCallIn}
+use Rattle.smx_words.specs.Spelling.{call_words, entry_line}
+use Rattle.smx_words.specs.Words.{line_of}
+use Rattle.smx_session.specs.declared.entry_fault.EntryFault.{EntryFault}
+use Rattle.smx_session.specs.declared.entry_fault.EntryFault.TheVariants as entry_fault
+use Rattle.smx_session.specs.declared.line_fault.LineFault.{LineFault}
+use Rattle.smx_session.specs.declared.line_fault.LineFault.TheVariants as line_fault
+use Rattle.smx_session.specs.declared.start_fault.StartFault.{StartFault}
+use Rattle.smx_session.specs.declared.start_fault.StartFault.TheVariants as start
+use Rattle.smx_session.specs.declared.start_fault.StartFault.TheVariants.{Text, Drivers}
 
 -- the version of its texts, its drivers, its configuration, and the entry that was made last
 pub record State : Type 0 where
@@ -51,46 +56,41 @@ WantsMemory text =
     ⊎ HasDrivers text IsDriverList
 
 -- a session over the drivers of a text; or its first fault, or that of its drivers, or memory was wanting
-abbrev pub StartsAs : List ℕ → Result State Trouble → Type 0
+abbrev pub StartsAs : List ℕ → Result State StartFault → Type 0
 StartsAs text (Ok s) = IsStartOf text s
-StartsAs text (Err NoMemory) = WantsMemory text
+StartsAs text (Err start.NoMemory) = WantsMemory text
 StartsAs text (Err (Text fault)) = ReadsAny programs_grammar text (Err fault) × (fault.cause ≢ cause.NoMemory)
 StartsAs text (Err (Drivers fault)) =
     HasDrivers text (λ drivers. RefusesDrivers drivers fault) × (fault ≢ config.NoMemory)
-StartsAs text (Err Line) = ⊥
-StartsAs text (Err NoEntry) = ⊥
-
--- ` = done`
-abbrev pub done_behind : List ℕ
-done_behind = codes " = done"
-
--- no entry that this version can tell begins with this line
-abbrev pub IsNoCall : Version → List ℕ → Type 0
-IsNoCall version line = (e : Entry) → FitsEntryIn version e → line ++ done_behind ≢ line_of (entry_words e)
 
 -- the line is a process and a command that the version can tell, as an entry begins; the session has made the model's
 -- step, and keeps the entry
 pub record Performs (old : State) (line : List ℕ) (new : State) : Type 0 where
-  pub asked : Entry
-  pub fits : FitsEntryIn old.version asked
-  pub is_read : line ++ done_behind ≡ line_of (entry_words asked)
-  pub reply : Reply
-  pub does : step old.drivers old.configuration asked.process asked.command ≡ (new.configuration, reply)
-  pub last : new.last ≡ Some (record { process = asked.process; command = asked.command; reply = reply })
+  pub entry : Entry
+  pub fits : FitsCallIn old.version (call_of entry)
+  pub is_read : line ≡ line_of (call_words (call_of entry))
+  pub does : step old.drivers old.configuration entry.process entry.command ≡ (new.configuration, entry.reply)
+  pub last : new.last ≡ Some entry
   pub drivers : new.drivers ≡ old.drivers
   pub version : new.version ≡ old.version
 
+-- why a line is not performed: memory was wanting for the call that it is, or it is none that the version can tell
+abbrev pub IsNotPerformed : Version → List ℕ → LineFault → Type 0
+IsNotPerformed version line line_fault.NoMemory = IsCallLine version line
+IsNotPerformed version line line_fault.NoCommand = IsNoCallLine version line
+
 -- the line of the entry that was made last, with its line feed
 abbrev pub IsLastLine : State → List ℕ → Type 0
-IsLastLine s line = (e : Entry) × (s.last ≡ Some e) × (line ≡ line_of (entry_words e) ++ LINE_FEED ∷ [])
+IsLastLine s line = (e : Entry) × (s.last ≡ Some e) × (line ≡ entry_line e)
 
--- why there is no such line: memory was wanting, or there is no entry
-abbrev pub HasNoLine : State → Trouble → Type 0
-HasNoLine s t = (t ≡ NoMemory) ⊎ ((t ≡ NoEntry) × (s.last ≡ None))
+-- why there is no such line: memory was wanting for it, or there is no entry
+abbrev pub HasNoLine : State → EntryFault → Type 0
+HasNoLine s entry_fault.NoMemory = IsSome s.last
+HasNoLine s entry_fault.NoEntry = s.last ≡ None
 
--- the lines of the configuration, as they stand in a transcript
+-- the lines of the configuration, as they stand in a transcript before its last line
 abbrev pub shown_lines : State → List ℕ
-shown_lines s = codes "config\n" ++ text_of (map line_words (view_body (view s.drivers s.configuration)))
+shown_lines s = view_lines (view s.drivers s.configuration)
 
 -- the session has come to the end of this history, which is legal
 pub record IsAfter (history : List Entry) (s : State) : Type 0 where

@@ -6,9 +6,10 @@ use Rattle.smx_types.specs.declared.version.Version.TheVariants.{V2}
 use Rattle.smx_model.specs.Configuration.{Configuration, empty}
 use Rattle.smx_model.specs.Worked.Common.{Done, Fd, Hangup, OpenClone, ◌does◌gets◌}
 use Rattle.smx_model.specs.Worked.Common.{eth, leaf}
+use Rattle.smx_session.specs.FaultWords.{entry_fault_words, line_fault_words}
 use Rattle.smx_session.specs.Sessions.{State, shown_lines}
-use Rattle.smx_session.specs.TroubleWords.{trouble_words}
-use Rattle.smx_session.specs.declared.trouble.Trouble.TheVariants.{Line, NoEntry, NoMemory}
+use Rattle.smx_session.specs.declared.entry_fault.EntryFault.TheVariants.{NoEntry}
+use Rattle.smx_session.specs.declared.line_fault.LineFault.TheVariants.{NoCommand, NoMemory}
 
 -- the table of one driver of two minors
 abbrev pub table : List ℕ
@@ -54,13 +55,13 @@ unfolding digits
 a_hangup_is_shown = refl
 
 -- want of memory is told in these words
-pub memory_words : trouble_words NoMemory ≡ codes "no memory"
+pub memory_words : line_fault_words NoMemory ≡ codes "no memory"
 memory_words = refl
 
 -- a line that is no command is told in these words
-pub line_words : trouble_words Line ≡ codes "no command"
+pub line_words : line_fault_words NoCommand ≡ codes "no command"
 line_words = refl
 
 -- that there is no entry yet is told in these words
-pub entry_words : trouble_words NoEntry ≡ codes "no entry yet"
+pub entry_words : entry_fault_words NoEntry ≡ codes "no entry yet"
 entry_words = refl

@@ -2,25 +2,31 @@
 
 ghost use Rattle.std.specs.Prelude.{◌≡◌, ◌≢◌, ◌⊎◌, ℕ, List, [], ◌∷◌, ◌++◌, Result, Ok, Some, IfErr, codes};
 ghost use Rattle.smx_types.specs.declared.command.Entry.{Entry};
+ghost use Rattle.smx_types.specs.declared.version.Version.TheVariants.{V2};
 ghost use Rattle.smx_model.specs.Views.{view};
 ghost use Rattle.smx_text.specs.GrowingTranscripts.{BeginsTranscript, transcript_with};
 ghost use Rattle.smx_text.specs.TranscriptText.{transcript_text};
+ghost use Rattle.smx_words.specs.LineReading.{IsNoCallLine};
 ghost use Rattle.smx_words.specs.Spellable.{FitsEntry};
-ghost use Rattle.smx_session.specs.Sessions.{IsAfter, IsLastLine, IsNoCall, IsStartOf, Performs, StartsAs, State};
-ghost use Rattle.smx_session.specs.Sessions.{shown_lines};
+ghost use Rattle.smx_session.specs.Sessions.{HasNoLine, IsAfter, IsLastLine, IsNotPerformed, IsStartOf, Performs};
+ghost use Rattle.smx_session.specs.Sessions.{StartsAs, State, shown_lines};
 ghost use Rattle.smx_session.specs.WorkedSessions.{begun, hung, opened, table};
-ghost use Rattle.smx_session.specs.declared.trouble.Trouble.{Trouble};
-ghost use Rattle.smx_session.specs.declared.trouble.Trouble.TheVariants.{NoMemory};
+ghost use Rattle.smx_session.specs.declared.entry_fault.EntryFault.TheVariants as entry_fault;
+ghost use Rattle.smx_session.specs.declared.entry_fault.EntryFault.TheVariants.{NoEntry};
+ghost use Rattle.smx_session.specs.declared.line_fault.LineFault.TheVariants as line_fault;
+ghost use Rattle.smx_session.specs.declared.line_fault.LineFault.TheVariants.{NoCommand};
+ghost use Rattle.smx_session.specs.declared.start_fault.StartFault.{StartFault};
+ghost use Rattle.smx_session.specs.declared.start_fault.StartFault.TheVariants.{NoMemory};
 
 use smx_config::laws_of_drivers::drivers_have_one_fault;
 use smx_model::laws::one_entry_more;
 use smx_text::laws::one_text_has_one_reading;
 use smx_words::laws::one_value_each;
-use smx_words::laws_of_reading::each_line_has_a_reading;
+use smx_words::laws_of_reading::{each_line_has_a_reading, which_lines_are_calls};
 
-/// A text has no two starts, unless memory is wanting: the session over its drivers, or a trouble.
+/// A text has no two starts, unless memory is wanting: the session over its drivers, or a fault.
 pub fn a_text_has_one_start()
-    ensures { (text : List ℕ) (one other : Result State Trouble) → StartsAs text one → StartsAs text other
+    ensures { (text : List ℕ) (one other : Result State StartFault) → StartsAs text one → StartsAs text other
         → IfErr one (λ t. t ≢ NoMemory) → IfErr other (λ t. t ≢ NoMemory) → one ≡ other }
 {
     one_text_has_one_reading();
@@ -31,9 +37,9 @@ pub fn a_text_has_one_start()
 pub fn a_line_is_performed_in_one_way()
     ensures one { (old new other : State) (line : List ℕ) → Performs old line new → Performs old line other
         → new ≡ other }
-    ensures not_both { (old new : State) (line : List ℕ) → Performs old line new → IsNoCall old.version line → ⊥ }
+    ensures not_both { (old new : State) (line : List ℕ) → Performs old line new → IsNoCallLine old.version line → ⊥ }
     ensures always { (old : State) (line : List ℕ)
-        → ((new : State) × Performs old line new) ⊎ IsNoCall old.version line }
+        → ((new : State) × Performs old line new) ⊎ IsNoCallLine old.version line }
 {
     one_value_each();
     each_line_has_a_reading();
@@ -58,8 +64,8 @@ pub fn what_is_written_is_a_transcript()
         ≡ transcript_text (transcript_with s.version s.drivers entries (view s.drivers s.configuration)) }
 {}
 
-/// A worked session: how it starts, the states that its lines make of it, and the lines of its entries; and what they
-/// don't make of it.
+/// A worked session: how it starts, the states that its lines make of it, and the lines of its entries; what they don't
+/// make of it; and why a line is not performed, or no entry written.
 pub fn a_worked_session()
     ensures starts { StartsAs table (Ok begun) }
     ensures opens { Performs begun (codes "3 clone eth") opened }
@@ -68,6 +74,13 @@ pub fn a_worked_session()
     ensures tells_none { IsLastLine begun (codes "3 clone eth = fd 0 0\n") → ⊥ }
     ensures no_other_process { Performs begun (codes "2 clone eth") opened → ⊥ }
     ensures not_undone { Performs begun (codes "3 clone eth") begun → ⊥ }
+    ensures no_command { IsNotPerformed V2 (codes "dup 0") NoCommand }
+    ensures not_for_want_of_memory { IsNotPerformed V2 (codes "dup 0") line_fault.NoMemory → ⊥ }
+    ensures not_as_no_command { IsNotPerformed V2 (codes "0 hangup ip 0") NoCommand → ⊥ }
+    ensures no_entry { HasNoLine begun NoEntry }
+    ensures no_memory_for_none { HasNoLine begun entry_fault.NoMemory → ⊥ }
+    ensures not_as_no_entry { HasNoLine opened NoEntry → ⊥ }
 {
     one_value_each();
+    which_lines_are_calls();
 }

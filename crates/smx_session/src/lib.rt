@@ -1,10 +1,14 @@
 //! Sessions: a configuration that performs one line after the other, and is shown in between.
 #![tactic(auto)]
 
+mod entry_fault;
 pub mod laws_of_sessions;
+mod line_fault;
 mod session;
+mod start_fault;
 mod text;
-mod trouble;
 
+pub use entry_fault::EntryFault;
+pub use line_fault::LineFault;
 pub use session::Session;
-pub use trouble::Trouble;
+pub use start_fault::StartFault;

@@ -1,18 +1,15 @@
 //! A configuration, with the version of its texts and the entry that was made last.
 
-ghost use Rattle.std.specs.Prelude.{◌≡◌, ◌⊎◌, ◌++◌, IfOk, IfErr, OnOk, OnErr, option_copied};
+ghost use Rattle.std.specs.Prelude.{◌≡◌, IfOk, IfErr, OnOk, OnErr, option_copied};
 ghost use Rattle.smx_model.specs.Views.{view};
-ghost use Rattle.smx_words.specs.Spellable.{FitsEntryIn};
-ghost use Rattle.smx_words.specs.Words.{line_of};
-ghost use Rattle.smx_words.specs.Spelling.{entry_words};
-ghost use Rattle.smx_session.specs.Sessions.{IsNoCall, Performs, StartsAs, done_behind};
-ghost use Rattle.smx_session.specs.declared.trouble.Trouble.TheVariants.{Line, NoMemory as memory};
+ghost use Rattle.smx_session.specs.Sessions.{IsNotPerformed, Performs, StartsAs};
 
-use crate::trouble::{Trouble, of_drivers, of_text};
+use crate::line_fault::LineFault;
+use crate::start_fault::{StartFault, of_drivers, of_text};
 use smx_config::Config;
 use smx_text::read_programs;
 use smx_types::{ConfigView, DriverSpec, Entry, NoMemory, Version};
-use smx_words::entry_of;
+use smx_words::call_of_line;
 use std::alloc::Global;
 use std::marker::Model;
 
@@ -38,26 +35,10 @@ impl Model for Session {
     } };
 }
 
-// The process and the command of a line, as those of an entry that was answered `done`.
-fn asked(alloc: Global, version: Version, line: &[u8]) -> Result<Entry, Trouble>
-    ensures fits { IfOk result (FitsEntryIn version) }
-    ensures read { IfOk result (λ e. line.now ++ done_behind ≡ line_of (entry_words e)) }
-    ensures none { IfErr result (λ t. t ≡ Line → IsNoCall version line.now) }
-    ensures why { IfErr result (λ t. (t ≡ memory) ⊎ (t ≡ Line)) }
-{
-    let mut text = Vec::from_slice(alloc, line)?;
-    text.extend_from_slice(b" = done")?;
-    match entry_of(alloc, version, text.as_slice()) {
-        Ok(Some(entry)) => Ok(entry),
-        Ok(None) => Err(Trouble::Line),
-        Err(_) => Err(Trouble::NoMemory),
-    }
-}
-
 impl Session {
     /// Nothing is open, over the drivers of a programs text and in its version. Its programs aren't run. Refused at the
     /// first fault of the text, then for drivers that a configuration can't have, or for want of memory.
-    pub fn new(alloc: Global, programs: &[u8]) -> Result<Session, Trouble>
+    pub fn new(alloc: Global, programs: &[u8]) -> Result<Session, StartFault>
         ensures { StartsAs programs.now result }
     {
         let programs = match read_programs(alloc, programs) {
@@ -75,19 +56,16 @@ impl Session {
     }
 
     /// Performs the command of a line, `PROCESS COMMAND` as an entry's line begins, and keeps the entry of it and its
-    /// reply. `Line` comes only where the line is none that the version can tell; else memory was wanting. Neither
-    /// changes anything.
-    pub fn perform(&mut self, alloc: Global, line: &[u8]) -> Result<(), Trouble>
+    /// reply. Refused where the line is none that the version can tell, or for want of memory, which only a command
+    /// has. Neither changes anything.
+    pub fn perform(&mut self, alloc: Global, line: &[u8]) -> Result<(), LineFault>
         ensures ok { OnOk result (Performs self.old line.now self.new) }
         ensures err { OnErr result (self.new ≡ self.old) }
-        ensures none { IfErr result (λ t. t ≡ Line → IsNoCall self.old.version line.now) }
-        ensures why { IfErr result (λ t. (t ≡ memory) ⊎ (t ≡ Line)) }
+        ensures none { IfErr result (IsNotPerformed self.old.version line.now) }
     {
-        let Entry {
-            process,
-            command,
-            reply: _,
-        } = asked(alloc, self.version, line)?;
+        let Some((process, command)) = call_of_line(alloc, self.version, line)? else {
+            return Err(LineFault::NoCommand);
+        };
         let reply = self.config.step(process, &command)?;
         self.last = Some(Entry {
             process,

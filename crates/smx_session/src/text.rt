@@ -1,18 +1,18 @@
 //! What a session writes.
 
-ghost use Rattle.std.specs.Prelude.{◌≡◌, ℕ, List, ◌∷◌, ◌++◌, [], map, IfErr, IfOk, IfSome, OnOk};
+ghost use Rattle.std.specs.Prelude.{◌≡◌, ℕ, List, ◌++◌, [], Err, IfErr, IfOk, IfSome, OnOk};
 ghost use Rattle.smx_model.specs.Views.{view};
 ghost use Rattle.smx_text.specs.GrowingTranscripts.{BeginsTranscript};
-ghost use Rattle.smx_text.specs.TranscriptText.{view_body, IsSpellableView, line_words};
+ghost use Rattle.smx_text.specs.TranscriptText.{IsSpellableView};
 ghost use Rattle.smx_words.specs.Spellable.{FitsEntry};
 ghost use Rattle.smx_session.specs.Sessions.{HasNoLine, IsLastLine, shown_lines};
-ghost use Rattle.smx_words.specs.Words.{LINE_FEED, text_of};
+ghost use Rattle.smx_session.specs.declared.entry_fault.EntryFault.TheVariants.{NoEntry};
 
+use crate::entry_fault::EntryFault;
 use crate::session::Session;
-use crate::trouble::Trouble;
-use smx_text::{transcript_header, write_view};
+use smx_text::{transcript_opening, write_view};
 use smx_types::NoMemory;
-use smx_words::{Spell, write_lines};
+use smx_words::Spell;
 use std::alloc::Global;
 
 impl Session {
@@ -20,13 +20,11 @@ impl Session {
     pub fn opening(&self, alloc: Global) -> Result<Vec<u8>, NoMemory>
         ensures { IfOk result (λ v. BeginsTranscript self.now.version self.now.drivers [] v.items) }
     {
-        let mut text = Vec::from_slice(alloc, transcript_header(self.version()))?;
-        write_lines(&mut text, self.drivers())?;
-        Ok(text)
+        transcript_opening(Vec::new(alloc), self.version(), self.drivers())
     }
 
     /// The line of the entry that was made last, with its line feed. Fails before the first, or for want of memory.
-    pub fn entry(&self, alloc: Global) -> Result<Vec<u8>, Trouble>
+    pub fn entry(&self, alloc: Global) -> Result<Vec<u8>, EntryFault>
         ensures line { IfOk result (λ v. IsLastLine self.now v.items) }
         ensures none { IfErr result (HasNoLine self.now) }
     {
@@ -35,16 +33,17 @@ impl Session {
         Ok(text)
     }
 
-    /// The line of the entry that was made last, with its line feed, behind `out`. Fails before the first, or for want
-    /// of memory, and then `out` may have a part of it.
-    pub fn write_entry(&self, out: &mut Vec<u8>) -> Result<(), Trouble>
+    /// The line of the entry that was made last, with its line feed, behind `out`. Fails before the first, and then
+    /// `out` is as it was, or for want of memory; what `out` has then is left open.
+    pub fn write_entry(&self, out: &mut Vec<u8>) -> Result<(), EntryFault>
         ensures written { OnOk result ((line : List ℕ) × IsLastLine self.now line
             × (out.new.items ≡ out.old.items ++ line)) }
         ensures fits { OnOk result (IfSome self.now.last FitsEntry) }
         ensures none { IfErr result (HasNoLine self.now) }
+        ensures kept { result ≡ Err NoEntry → out.new.items ≡ out.old.items }
     {
         let Some(entry) = self.last() else {
-            return Err(Trouble::NoEntry);
+            return Err(EntryFault::NoEntry);
         };
         entry.write_line(out)?;
         Ok(())
@@ -57,7 +56,7 @@ impl Session {
         ensures spellable { OnOk result (IsSpellableView (view self.now.drivers self.now.configuration)) }
     {
         let view = self.show()?;
-        let mut text = Vec::from_slice(alloc, b"config\n")?;
+        let mut text = Vec::new(alloc);
         write_view(&mut text, &view)?;
         Ok(text)
     }

@@ -14,7 +14,7 @@ use Rattle.smx_text.specs.Grammar.{beginning, header}
 use Rattle.smx_text.specs.GrowingTranscripts.{transcript_with, BeginsTranscript}
 use Rattle.smx_text.specs.TranscriptLines as row
 use Rattle.smx_text.specs.TranscriptText.{transcript_grammar, transcript_text, view_body, IsSpellable, IsSpellableView}
-use Rattle.smx_text.specs.TranscriptText.{line_words as transcript_words}
+use Rattle.smx_text.specs.TranscriptText.{line_words as transcript_words, view_lines}
 use Rattle.smx_text.proofs.EachLemmas.{all_append}
 use Rattle.smx_text.proofs.ReadingLemmas.{texts_append}
 use Rattle.smx_types.specs.declared.version.Version.{Version}
@@ -85,14 +85,15 @@ whole_text version drivers entries v = by_version version (view_body v) where
   by_version V1 ls = simp (map-append, map-map, texts_append, append_assoc)
   by_version V2 ls = simp (map-append, map-map, texts_append, append_assoc)
 
--- what begins a transcript, then `config`, the lines of a view and `end`, is the text of it with that view
+-- what begins a transcript, then the lines of a view and `end`, is the text of it with that view
 pub finished : (version : Version) (drivers : List DriverSpec) (entries : List Entry) (v : ConfigView)
-    (start config view end : List ℕ) → config ≡ start ++ codes "config\n" → view ≡ config ++ view_text v
-    → end ≡ view ++ codes "end\n" → BeginsTranscript version drivers entries start
-    → end ≡ transcript_text (transcript_with version drivers entries v)
-finished version drivers entries v start config view end a b c was =
+    (start view end : List ℕ) → view ≡ start ++ view_lines v → end ≡ view ++ codes "end\n"
+    → BeginsTranscript version drivers entries start → end ≡ transcript_text (transcript_with version drivers entries v)
+finished version drivers entries v start view end a b was =
     let begins : start ≡ begun_text version drivers entries = was.written ∙ begun_is version drivers entries in
-    c ∙ rw (b, a, begins) (sym (whole_text version drivers entries v))
+    let shown : view ≡ start ++ codes "config\n" ++ view_text v =
+    a ∙ sym (append_assoc start (codes "config\n") (view_text v)) in
+    b ∙ rw (shown, begins) (sym (whole_text version drivers entries v))
 
 -- a transcript can be spelled whose beginning was written and whose view can be spelled
 pub finished_fits : (version : Version) (drivers : List DriverSpec) (entries : List Entry) (v : ConfigView)

@@ -8,10 +8,10 @@ use Rattle.std.specs.Prelude.{IfOk}
 use Rattle.std.specs.List.{slice_set}
 use Rattle.smx_types.specs.declared.command.Command.{Command}
 use Rattle.smx_types.specs.declared.version.Version.{Version}
-use Rattle.smx_words.specs.LineReading.{IsPushed as IsPushedBehind}
+use Rattle.smx_words.specs.LineReading.{IsPushed}
 use Rattle.smx_words.specs.Spellable.{FitsCommandIn}
 use Rattle.smx_words.specs.Spelling.{command_words}
-use Rattle.smx_text.specs.Growing.{IsPushed}
+use Rattle.smx_text.specs.Growing.{IsPutLast}
 use Rattle.smx_types.specs.GrowingPrograms.{with_last, last_of}
 
 -- a list whose last element is set to another is the others and then that one
@@ -42,8 +42,8 @@ last_again programs last more =
 -- what is pushed behind the commands of the last program is pushed into the programs
 pushed_one : (version : Version) (line : List ℕ) (view programs : List (List Command))
     (last before after : List Command) (r : Bool) → 0 < length view → with_last programs last ≡ view → before ≡ last
-    → IsPushedBehind (FitsCommandIn version) command_words line before after r
-    → IsPushed version line view (with_last programs after) r
+    → IsPushed (FitsCommandIn version) command_words line before after r
+    → IsPutLast version line view (with_last programs after) r
 pushed_one version line view programs last before after true some is same more =
     let here : last_of view ≡ last = subst (λ (v : List (List Command)). last_of v ≡ last) is
     (last_is programs last (subst (λ (v : List (List Command)). 0 < length v) (sym is) some)) in
@@ -59,8 +59,8 @@ pushed_one version line view programs last before after false some is same none 
 -- a command pushed behind those of the last program, unless memory is wanting, is pushed into the programs
 pub pushed : {E : Type 0} (version : Version) (line : List ℕ) (view programs : List (List Command))
     (last before after : List Command) (r : Result Bool E) → 0 < length view → with_last programs last ≡ view
-    → before ≡ last → IfOk r (IsPushedBehind (FitsCommandIn version) command_words line before after)
-    → IfOk r (IsPushed version line view (with_last programs after))
+    → before ≡ last → IfOk r (IsPushed (FitsCommandIn version) command_words line before after)
+    → IfOk r (IsPutLast version line view (with_last programs after))
 pushed version line view programs last before after (Ok b) some is same more =
     pushed_one version line view programs last before after b some is same more
 pushed version line view programs last before after (Err e) some is same more = tt

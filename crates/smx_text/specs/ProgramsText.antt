@@ -1,13 +1,12 @@
 -- The programs text: drivers, and a program of commands for each process.
 use Rattle.std.specs.Prelude.{◌≡◌, ℕ, ◌+◌, ◌≤◌, List, [], ◌∷◌, ◌++◌, length, map, codes}
 use Rattle.std.specs.List.{AllByRecursion, sum_by}
-use Rattle.std.specs.Fmt.{decimal}
 use Rattle.smx_types.specs.ProgramLists.{ProgramLists}
 use Rattle.smx_types.specs.Versions.{most_drivers}
 use Rattle.smx_types.specs.declared.command.Command.{Command}
 use Rattle.smx_types.specs.declared.limits.TheConstants.{MAX_COMMANDS, MAX_PROCESSES}
 use Rattle.smx_types.specs.declared.version.Version.{Version}
-use Rattle.smx_words.specs.Spelling.{driver_words, command_words}
+use Rattle.smx_words.specs.Spelling.{driver_words, process_words, command_words}
 use Rattle.smx_words.specs.Spellable.{FitsNumber, FitsDriver, FitsCommandIn}
 use Rattle.smx_text.specs.Grammar.{Grammar, full_text, Spells}
 use Rattle.smx_text.specs.ProgramLines.{Line}
@@ -17,7 +16,7 @@ use Rattle.smx_text.specs.TextVersions.{version_word}
 -- the words of each line
 abbrev pub line_words : Line → List (List ℕ)
 line_words (line.Driver d) = driver_words d
-line_words (line.Process number) = codes "process" ∷ decimal number ∷ []
+line_words (line.Process number) = process_words number
 line_words (line.Command c) = command_words c
 line_words line.End = codes "end" ∷ []
 

@@ -1,9 +1,9 @@
 -- A programs text, split into the text of each program before any of them is read.
-use Rattle.std.specs.Prelude.{◌≡◌, ◌≢◌, ℕ, ◌+◌, ◌<◌, List, [], ◌∷◌, ◌++◌, length, map}
+use Rattle.std.specs.Prelude.{◌≡◌, ℕ, ◌+◌, ◌<◌, List, [], ◌∷◌, ◌++◌, length, map}
 use Rattle.std.specs.List.{AllByRecursion}
 use Rattle.smx_types.specs.declared.command.Command.{Command}
 use Rattle.smx_types.specs.declared.version.Version.{Version}
-use Rattle.smx_words.specs.LineReading.{IsCommandLine}
+use Rattle.smx_words.specs.LineReading.{IsCommandLine, IsNoCommandLine}
 use Rattle.smx_words.specs.Spellable.{FitsCommandIn}
 use Rattle.smx_words.specs.Spelling.{command_words, process_words}
 use Rattle.smx_words.specs.Words.{LINE_FEED, line_of, text_of}
@@ -28,7 +28,7 @@ sections n (text ∷ texts) = line_of (process_words n) ++ LINE_FEED ∷ (text +
 abbrev pub IsUnreadFor : Version → List ℕ → Cause → Type 0
 IsUnreadFor version text cause.Cut = IsOneLine text × (0 < length text)
 IsUnreadFor version text cause.Form = (line after : List ℕ) × IsOneLine line × (text ≡ line ++ LINE_FEED ∷ after)
-    × ((c : Command) → FitsCommandIn version c → line ≢ line_of (command_words c))
+    × IsNoCommandLine version line
 IsUnreadFor version text cause.NoMemory = (line after : List ℕ) × IsOneLine line × (text ≡ line ++ LINE_FEED ∷ after)
     × IsCommandLine version line
 IsUnreadFor version text cause.Header = ⊥

@@ -1,9 +1,10 @@
 -- What was taken of a programs text while its lines are read.
-use Rattle.std.specs.Prelude.{◌≡◌, ◌≢◌, ℕ, List, [], Bool, true, false}
+use Rattle.std.specs.Prelude.{◌≡◌, ℕ, List, [], Bool, true, false}
 use Rattle.smx_types.specs.GrowingPrograms.{with_command}
 use Rattle.smx_types.specs.ProgramLists.{ProgramLists}
 use Rattle.smx_types.specs.declared.command.Command.{Command}
 use Rattle.smx_types.specs.declared.version.Version.{Version}
+use Rattle.smx_words.specs.LineReading.{IsNoCommandLine}
 use Rattle.smx_words.specs.Spellable.{FitsCommandIn}
 use Rattle.smx_words.specs.Spelling.{command_words}
 use Rattle.smx_words.specs.Words.{line_of}
@@ -16,5 +17,4 @@ nothing_of version = record { version = version; drivers = []; programs = [] }
 abbrev pub IsTaken : List ℕ → ProgramLists → ProgramLists → Bool → Type 0
 IsTaken line old new true =
     (c : Command) × FitsCommandIn old.version c × (line ≡ line_of (command_words c)) × (new ≡ with_command old c)
-IsTaken line old new false =
-    (new ≡ old) × ((c : Command) → FitsCommandIn old.version c → line ≢ line_of (command_words c))
+IsTaken line old new false = (new ≡ old) × IsNoCommandLine old.version line

@@ -1,7 +1,6 @@
 -- The transcript text: drivers, history, and the configuration at its end.
 use Rattle.std.specs.Prelude.{◌≡◌, ◌≤◌, ℕ, true, List, [], ◌∷◌, ◌++◌, length, map, codes}
 use Rattle.std.specs.List.{AllByRecursion}
-use Rattle.std.specs.Fmt.{decimal}
 use Rattle.smx_types.specs.Versions.{least_of_transcript, most_drivers}
 use Rattle.smx_types.specs.declared.limits.TheConstants.{MAX_COMMANDS}
 use Rattle.smx_types.specs.declared.transcript.Transcript.{Transcript}
@@ -9,10 +8,11 @@ use Rattle.smx_types.specs.declared.version.Version.{Version}
 use Rattle.smx_types.specs.declared.version.Version.TheVariants.{V1}
 use Rattle.smx_types.specs.declared.view.ConfigView.{ConfigView}
 use Rattle.smx_types.specs.declared.view.HungLine.{HungLine}
-use Rattle.smx_words.specs.Spelling.{driver_words, entry_words, descriptor_words, link_words, bind_words}
-use Rattle.smx_words.specs.Spelling.{route_words, message_words, full_words, hung_words}
-use Rattle.smx_words.specs.Spellable.{CanTell, FitsNumber, FitsDriver, FitsEntry, FitsEntryIn, FitsDescriptor}
-use Rattle.smx_words.specs.Spellable.{FitsLink, FitsBinding, FitsRoute, FitsMessage, FitsFull, FitsHung}
+use Rattle.smx_words.specs.Spelling.{driver_words, entry_words, next_words, descriptor_words, link_words}
+use Rattle.smx_words.specs.Spelling.{bind_words, route_words, message_words, full_words, hung_words}
+use Rattle.smx_words.specs.Spellable.{CanTell, FitsNumber, FitsDriver, FitsEntry, FitsEntryIn, FitsNext}
+use Rattle.smx_words.specs.Spellable.{FitsDescriptor, FitsLink, FitsBinding, FitsRoute, FitsMessage, FitsFull, FitsHung}
+use Rattle.smx_words.specs.Words.{text_of}
 use Rattle.smx_text.specs.Grammar.{Grammar, full_text, Spells}
 use Rattle.smx_text.specs.TextVersions.{version_word}
 use Rattle.smx_text.specs.TranscriptLines.{TranscriptLine}
@@ -23,7 +23,7 @@ abbrev pub line_words : TranscriptLine → List (List ℕ)
 line_words (line.Driver d) = driver_words d
 line_words (line.Entry e) = entry_words e
 line_words line.Config = codes "config" ∷ []
-line_words (line.Next id serial) = codes "next" ∷ decimal id ∷ decimal serial ∷ []
+line_words (line.Next id serial) = next_words (id, serial)
 line_words (line.Fd d) = descriptor_words d
 line_words (line.Link l) = link_words l
 line_words (line.Bind b) = bind_words b
@@ -42,7 +42,7 @@ abbrev pub FitsLine : Version → TranscriptLine → Type 0
 FitsLine version (line.Driver d) = FitsDriver d
 FitsLine version (line.Entry e) = FitsEntryIn version e
 FitsLine version line.Config = Unit {0}
-FitsLine version (line.Next id serial) = FitsNumber id × FitsNumber serial
+FitsLine version (line.Next id serial) = FitsNext (id, serial)
 FitsLine version (line.Fd d) = FitsDescriptor d
 FitsLine version (line.Link l) = FitsLink l
 FitsLine version (line.Bind b) = FitsBinding b
@@ -58,6 +58,10 @@ view_body v =
     line.Next v.next_id v.next_serial ∷ (map line.Fd v.fds
     ++ (map line.Link v.links ++ (map line.Bind v.binds ++ (map line.Route v.routes
     ++ (map line.Msg v.msgs ++ (map line.Full v.fulls ++ map line.Hung v.hungs))))))
+
+-- the lines of a view with `config` above them, as they stand in a transcript before its last line
+abbrev pub view_lines : ConfigView → List ℕ
+view_lines v = codes "config\n" ++ text_of (map line_words (view_body v))
 
 -- the lines between the header and the end: drivers, entries, `config`, the view
 abbrev pub body : Transcript → List TranscriptLine

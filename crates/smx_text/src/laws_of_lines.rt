@@ -6,7 +6,7 @@ ghost use Rattle.smx_types.specs.ProgramLists.{ProgramLists};
 ghost use Rattle.smx_types.specs.declared.command.Command.TheVariants as command;
 ghost use Rattle.smx_types.specs.declared.transcript.Transcript.{Transcript};
 ghost use Rattle.smx_types.specs.declared.version.Version.TheVariants.{V1, V2};
-ghost use Rattle.smx_text.specs.Growing.{IsPushed};
+ghost use Rattle.smx_text.specs.Growing.{IsPutLast};
 ghost use Rattle.smx_text.specs.ProgramLines.{Line};
 ghost use Rattle.smx_text.specs.Reading.{AnswersLine, AnswersText, EndsAs, EndsText, RefusesLine};
 ghost use Rattle.smx_text.specs.TranscriptText.{transcript_grammar};
@@ -108,16 +108,16 @@ pub fn answers_at_the_last_line()
 /// A command whose words a line is comes to the end of the last program, where the version can tell it; and of a line
 /// that is no such command's nothing comes.
 pub fn what_is_pushed_to_programs()
-    ensures pushed { IsPushed V1 (codes "dup 0") ([] ∷ [] ∷ []) ([] ∷ (command.Dup 0 ∷ []) ∷ []) true }
-    ensures pushed_behind { IsPushed V1 (codes "dup 0") ((command.Dup 1 ∷ []) ∷ [])
+    ensures pushed { IsPutLast V1 (codes "dup 0") ([] ∷ [] ∷ []) ([] ∷ (command.Dup 0 ∷ []) ∷ []) true }
+    ensures pushed_behind { IsPutLast V1 (codes "dup 0") ((command.Dup 1 ∷ []) ∷ [])
         ((command.Dup 1 ∷ command.Dup 0 ∷ []) ∷ []) true }
-    ensures not_in_front { IsPushed V1 (codes "dup 0") ((command.Dup 1 ∷ []) ∷ [])
+    ensures not_in_front { IsPutLast V1 (codes "dup 0") ((command.Dup 1 ∷ []) ∷ [])
         ((command.Dup 0 ∷ command.Dup 1 ∷ []) ∷ []) true → ⊥ }
-    ensures not_to_the_first { IsPushed V1 (codes "dup 0") ([] ∷ [] ∷ []) ((command.Dup 0 ∷ []) ∷ [] ∷ []) true → ⊥ }
-    ensures not_another { IsPushed V1 (codes "dup 1") ([] ∷ []) ((command.Dup 0 ∷ []) ∷ []) true → ⊥ }
-    ensures not_a_hangup { IsPushed V1 (codes "hangup ip 0") ([] ∷ []) ((command.Hangup (codes "ip") 0 ∷ []) ∷ []) true
+    ensures not_to_the_first { IsPutLast V1 (codes "dup 0") ([] ∷ [] ∷ []) ((command.Dup 0 ∷ []) ∷ [] ∷ []) true → ⊥ }
+    ensures not_another { IsPutLast V1 (codes "dup 1") ([] ∷ []) ((command.Dup 0 ∷ []) ∷ []) true → ⊥ }
+    ensures not_a_hangup { IsPutLast V1 (codes "hangup ip 0") ([] ∷ []) ((command.Hangup (codes "ip") 0 ∷ []) ∷ []) true
         → ⊥ }
-    ensures none { IsPushed V1 (codes "hangup ip 0") ([] ∷ []) ([] ∷ []) false }
-    ensures none_of_version_2 { IsPushed V2 (codes "hangup ip 0") ([] ∷ []) ([] ∷ []) false → ⊥ }
-    ensures not_yet_pushed { IsPushed V1 (codes "hangup ip 0") ([] ∷ []) ((command.Dup 0 ∷ []) ∷ []) false → ⊥ }
+    ensures none { IsPutLast V1 (codes "hangup ip 0") ([] ∷ []) ([] ∷ []) false }
+    ensures none_of_version_2 { IsPutLast V2 (codes "hangup ip 0") ([] ∷ []) ([] ∷ []) false → ⊥ }
+    ensures not_yet_pushed { IsPutLast V1 (codes "hangup ip 0") ([] ∷ []) ((command.Dup 0 ∷ []) ∷ []) false → ⊥ }
 {}

@@ -16,6 +16,7 @@ pub use programs::{
     ProgramTaker, SplitPrograms, TakenPrograms, next_command, read_programs, split_programs,
     take_programs,
 };
+pub use reading::next_line;
 pub use smx_types::{
     Binding, BindingLine, BindingLines, Bytes, Command, Commands, ConfigView, Copied, Descriptor,
     DescriptorLine, DescriptorLines, DriverKind, DriverSpec, Drivers, Entries, Entry, Fault,
@@ -27,5 +28,5 @@ pub use smx_types::{
 };
 pub use text_fault::{Cause, TextFault};
 pub use transcript::read_transcript;
-pub use transcript_writer::{TranscriptWriter, transcript_header, write_view};
+pub use transcript_writer::{TranscriptWriter, transcript_opening, write_view};
 pub use write::{write_programs, write_transcript};

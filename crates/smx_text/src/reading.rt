@@ -63,8 +63,8 @@ pub trait Draft: Drop {
     ghost end_is: { (v : AnyVersion) → line_text (grammar v) (grammar v).end ≡ codes "end" };
 }
 
-// The first line, and what follows it; nothing where no line is whole.
-pub(crate) fn next_line(bytes: &[u8]) -> Option<(&[u8], &[u8])>
+/// The first line, without its line feed, and what stands behind that; nothing where no line is whole. Takes no memory.
+pub fn next_line(bytes: &[u8]) -> Option<(&[u8], &[u8])>
     ensures next { MatchOption result (IsOneLine bytes.now)
         (λ x. IsOneLine x.0.now × (bytes.now ≡ x.0.now ++ LINE_FEED ∷ x.1.now)) }
 {

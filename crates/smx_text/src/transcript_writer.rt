@@ -1,18 +1,17 @@
 //! A transcript that is written while its history grows, so that no entry is kept for it.
 
-ghost use Rattle.std.specs.Prelude.{◌≡◌, ◌∷◌, ◌++◌, [], List, map, IfOk, OnOk};
+ghost use Rattle.std.specs.Prelude.{◌≡◌, ◌∷◌, ◌++◌, [], List, IfOk, OnOk};
 ghost use Rattle.smx_types.specs.declared.command.Command.{Command as AnyCommand};
 ghost use Rattle.smx_types.specs.declared.command.Entry.{Entry as AnyEntry};
 ghost use Rattle.smx_types.specs.declared.driver.DriverSpec.{DriverSpec as AnyDriver};
 ghost use Rattle.smx_types.specs.declared.version.Version.{Version as AnyVersion};
 ghost use Rattle.smx_text.specs.Grammar.{header};
 ghost use Rattle.smx_text.specs.GrowingTranscripts.{transcript_with, BeginsTranscript};
-ghost use Rattle.smx_text.specs.TranscriptText.{transcript_grammar, transcript_text, view_body};
+ghost use Rattle.smx_text.specs.TranscriptText.{transcript_grammar, transcript_text, view_lines};
 ghost use Rattle.smx_text.specs.TranscriptText.{IsSpellable, IsSpellableView};
-ghost use Rattle.smx_text.specs.TranscriptText.{line_words as view_words};
 ghost use Rattle.smx_words.specs.Spellable.{FitsCommand};
 ghost use Rattle.smx_words.specs.Spelling.{command_words};
-ghost use Rattle.smx_words.specs.Words.{LINE_FEED, line_of, text_of};
+ghost use Rattle.smx_words.specs.Words.{LINE_FEED, line_of};
 
 use smx_types::{Command, ConfigView, DriverSpec, Entry, NoMemory, Process, Reply, Version};
 use smx_words::{write_entry, write_entry_of_line, write_lines, write_next};
@@ -43,11 +42,9 @@ impl TranscriptWriter {
     ) -> Result<TranscriptWriter, NoMemory>
         ensures { IfOk result (BeginsTranscript version drivers.now []) }
     {
-        let mut text = room;
-        text.clear();
-        text.extend_from_slice(transcript_header(version))?;
-        write_lines(&mut text, drivers)?;
-        Ok(TranscriptWriter { text })
+        Ok(TranscriptWriter {
+            text: transcript_opening(room, version, drivers)?,
+        })
     }
 
     /// These entries more, behind those so far. Fails only for want of memory.
@@ -96,15 +93,30 @@ impl TranscriptWriter {
             → IsSpellable (transcript_with version drivers entries view.now)) }
     {
         let mut text = self.text;
-        text.extend_from_slice(b"config\n")?;
         write_view(&mut text, view)?;
         text.extend_from_slice(b"end\n")?;
         Ok(text)
     }
 }
 
-/// The header of a transcript of this version, with its line feed. Takes no memory.
-pub fn transcript_header(version: Version) -> &'static [u8]
+/// The beginning of a transcript of this version: its header, and a line for each driver, in the room of a vector whose
+/// bytes are no longer wanted. Fails only for want of memory.
+pub fn transcript_opening(
+    room: Vec<u8>,
+    version: Version,
+    drivers: &[DriverSpec],
+) -> Result<Vec<u8>, NoMemory>
+    ensures { IfOk result (λ v. BeginsTranscript version drivers.now [] v.items) }
+{
+    let mut text = room;
+    text.clear();
+    text.extend_from_slice(transcript_header(version))?;
+    write_lines(&mut text, drivers)?;
+    Ok(text)
+}
+
+// The header of a transcript of this version, with its line feed.
+fn transcript_header(version: Version) -> &'static [u8]
     ensures { result.now ≡ header (transcript_grammar version) ++ LINE_FEED ∷ [] }
 {
     match version {
@@ -113,12 +125,13 @@ pub fn transcript_header(version: Version) -> &'static [u8]
     }
 }
 
-/// The lines of a view, its groups in their order, behind `out`. Fails only for want of memory, and then `out` may have
-/// a part of them.
+/// The lines of a view, `config` first and then its groups in their order, behind `out`. Fails only for want of memory;
+/// what `out` has then is left open.
 pub fn write_view(out: &mut Vec<u8>, view: &ConfigView) -> Result<(), NoMemory>
-    ensures written { OnOk result (out.new.items ≡ out.old.items ++ text_of (map view_words (view_body view.now))) }
+    ensures written { OnOk result (out.new.items ≡ out.old.items ++ view_lines view.now) }
     ensures spellable { OnOk result (IsSpellableView view.now) }
 {
+    out.extend_from_slice(b"config\n")?;
     write_next(out, view.next_id, view.next_serial)?;
     write_lines(out, view.fds.as_slice())?;
     write_lines(out, view.links.as_slice())?;

@@ -7,8 +7,8 @@ use Rattle.smx_types.specs.declared.command.Command.TheVariants as command
 use Rattle.smx_types.specs.declared.command.Entry.{Entry}
 use Rattle.smx_types.specs.declared.reply.Reply.TheVariants as reply
 use Rattle.smx_words.specs.LineReading.{IsReadAs}
-use Rattle.smx_words.specs.Spellable.{FitsCommand, FitsEntry, FitsReply}
-use Rattle.smx_words.specs.Spelling.{command_words, entry_words, reply_words}
+use Rattle.smx_words.specs.Spellable.{FitsCall, FitsCommand, FitsEntry, FitsReply}
+use Rattle.smx_words.specs.Spelling.{call_words, command_words, entry_words, reply_words}
 use Rattle.smx_words.specs.Words.{EQUALS, IsFree}
 use Rattle.smx_words.proofs.DecidedLemmas.{Answer, HasWords, after, each, first, joined, last, nothing, or_else}
 use Rattle.smx_words.proofs.DecidedLemmas.{reading, via}
@@ -108,6 +108,10 @@ reply_has_words = record {
   are_words = λ r h. plain_words (reply_words r) (reply_plain r h);
 }
 
+-- each call has words of its own, and whether words are a call's is told
+pub call_has_words : HasWords FitsCall call_words
+call_has_words = first process command_has_words
+
 -- each entry has words of its own, and whether words are an entry's is told
 pub entry_has_words : HasWords FitsEntry entry_words
 entry_has_words = via (λ p. record { process = p.0; command = p.1.0; reply = p.1.1 })
@@ -127,3 +131,7 @@ command_reading = reading command_has_words some_command
 -- each line is that of an entry, or of none
 pub entry_reading : (line : List ℕ) → (o : Option Entry) × IsReadAs FitsEntry entry_words line o
 entry_reading = reading entry_has_words (λ e. omega arith)
+
+-- each line is that of a call, or of none
+pub call_reading : (line : List ℕ) → (o : Option (ℕ × Command)) × IsReadAs FitsCall call_words line o
+call_reading = reading call_has_words (λ c. omega arith)

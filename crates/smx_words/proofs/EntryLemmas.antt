@@ -1,4 +1,4 @@
--- An entry: its process, its command, and its reply behind an equals sign.
+-- A call, a process and its command; and an entry, which has a reply behind an equals sign.
 use Rattle.std.proofs.Common.{◌≡◌, ◌≢◌, ℕ, ◌<◌, List, [], ◌∷◌, ◌++◌, length, refl, sym, ap, ◌∙◌, append_assoc, arith}
 use Rattle.std.specs.Prelude.{codes}
 use Rattle.std.specs.Fmt.{decimal}
@@ -7,7 +7,7 @@ use Rattle.smx_types.specs.declared.command.Command.{Command}
 use Rattle.smx_types.specs.declared.command.Entry.{Entry}
 use Rattle.smx_types.specs.declared.reply.Reply.{Reply}
 use Rattle.smx_words.specs.Spellable.{FitsCommand, FitsEntry, FitsNumber, FitsProcess, FitsReply}
-use Rattle.smx_words.specs.Spelling.{command_words, entry_words, reply_words}
+use Rattle.smx_words.specs.Spelling.{call_words, command_words, entry_words, reply_words}
 use Rattle.smx_words.specs.Words.{EQUALS, SPACE, IsFree, line_of}
 use Rattle.smx_words.proofs.CutLemmas.{apart}
 use Rattle.smx_words.proofs.NumberLemmas.{number_free, same_number}
@@ -49,7 +49,7 @@ sides_are text front back command reply space one free is before after =
     ∙ ap (λ (x : List ℕ). (command ++ 32 ∷ []) ++ EQUALS ∷ x) back_is in
     (free_left EQUALS command (32 ∷ []) clear, whole ∙ sym (regrouped command reply))
 
--- ---- an entry's line
+-- ---- the lines of a call and of an entry
 
 -- the text behind an entry's process
 abbrev pub sides_text : Entry → List ℕ
@@ -59,6 +59,19 @@ sides_text e = line_of (command_words e.command) ++ codes " = " ++ line_of (repl
 front : (w : List ℕ) (ws : List (List ℕ)) → 0 < length ws → line_of (w ∷ ws) ≡ w ++ SPACE ∷ line_of ws
 front w [] some = absurd (omega arith)
 front w (v ∷ ws) some = refl
+
+-- the line of a call is the number of its process, a space, and the line of its command
+pub call_line : (call : ℕ × Command)
+    → line_of (call_words call) ≡ decimal call.0 ++ SPACE ∷ line_of (command_words call.1)
+call_line call = front (decimal call.0) (command_words call.1) (some_command call.1)
+
+-- the number before the first space is the process of a line that begins with a process
+pub process_of : (line rest : List ℕ) (n p : ℕ) (after : List ℕ) → FitsProcess p → FitsNumber n
+    → line ≡ decimal n ++ SPACE ∷ rest → line ≡ decimal p ++ SPACE ∷ after → n ≡ p
+process_of line rest n p after fits small is all =
+    let process : FitsNumber p = omega (arith, fits) in
+    same_number n p small process
+    (apart SPACE (decimal n) (decimal p) rest after (number_free n small) (number_free p process) (sym is ∙ all)).0
 
 -- the line of two joined lists of words is the line of the first, a space, and the line of the second
 line_append : (ws vs : List (List ℕ)) → 0 < length ws → 0 < length vs
@@ -85,17 +98,6 @@ entry_line e =
 pub free_command : (c : Command) → FitsCommand c → IsFree EQUALS (line_of (command_words c))
 free_command c fits =
     line_free EQUALS (λ e. cc) (command_words c) (plain_words_free (command_words c) (command_plain c fits))
-
--- the number before the first space is the entry's process, and what stands behind it the entry's two sides
-pub sides_of : (line rest : List ℕ) (n : ℕ) (e : Entry) → FitsEntry e → FitsNumber n
-    → line ≡ decimal n ++ SPACE ∷ rest → line ≡ line_of (entry_words e)
-    → (n ≡ e.process) × (rest ≡ sides_text e)
-sides_of line rest n e fits small is all =
-    let process : FitsNumber e.process = omega (arith, fits.process) in
-    let words =
-    apart SPACE (decimal n) (decimal e.process) rest (sides_text e) (number_free n small)
-    (number_free e.process process) (sym is ∙ all ∙ entry_line e) in
-    (same_number n e.process small process words.0, words.1)
 
 -- the two sides of an entry's line are the line of its command and the line of its reply
 pub each_side : (rest command reply : List ℕ) (e : Entry) → FitsEntry e → IsFree EQUALS command

@@ -10,12 +10,13 @@ use Rattle.smx_types.specs.declared.view.HungLine.{HungLine}
 use Rattle.smx_types.specs.declared.view.LinkLine.{LinkLine}
 use Rattle.smx_types.specs.declared.view.MessageLine.{MessageLine}
 use Rattle.smx_types.specs.declared.view.RouteLine.{RouteLine}
-use Rattle.smx_words.specs.Spellable.{FitsBinding, FitsCommand, FitsDescriptor, FitsDriver, FitsEntry, FitsFull}
-use Rattle.smx_words.specs.Spellable.{FitsHung, FitsLink, FitsMessage, FitsNext, FitsNumber, FitsRoute}
-use Rattle.smx_words.specs.Spelling.{bind_words, command_words, descriptor_words, driver_words, entry_words, full_words}
-use Rattle.smx_words.specs.Spelling.{hung_words, link_words, message_words, next_words, process_words, route_words}
+use Rattle.smx_words.specs.Spellable.{FitsBinding, FitsCall, FitsCommand, FitsDescriptor, FitsDriver, FitsEntry}
+use Rattle.smx_words.specs.Spellable.{FitsFull, FitsHung, FitsLink, FitsMessage, FitsNext, FitsNumber, FitsRoute}
+use Rattle.smx_words.specs.Spelling.{bind_words, call_words, command_words, descriptor_words, driver_words, entry_words}
+use Rattle.smx_words.specs.Spelling.{full_words, hung_words, link_words, message_words, next_words, process_words}
+use Rattle.smx_words.specs.Spelling.{route_words}
 use Rattle.smx_words.specs.Words.{AreWords, line_of}
-use Rattle.smx_words.proofs.DecidedCommandLemmas.{command_has_words, entry_has_words}
+use Rattle.smx_words.proofs.DecidedCommandLemmas.{call_has_words, command_has_words, entry_has_words}
 use Rattle.smx_words.proofs.DecidedLemmas.{one_line}
 use Rattle.smx_words.proofs.DecidedLineLemmas.{bind_has_words, descriptor_has_words, driver_has_words, full_has_words}
 use Rattle.smx_words.proofs.DecidedLineLemmas.{hung_has_words, link_has_words, message_has_words, next_has_words}
@@ -39,6 +40,10 @@ process_spelled x fits = (process_has_words.are_words x fits, omega arith)
 -- the next id and the next serial are spelled by words, one or more
 pub next_spelled : (x : ℕ × ℕ) → FitsNext x → AreWords (next_words x)
 next_spelled x fits = (next_has_words.are_words x fits, omega arith)
+
+-- a call is spelled by words, one or more
+pub call_spelled : (x : ℕ × Command) → FitsCall x → AreWords (call_words x)
+call_spelled x fits = (call_has_words.are_words x fits, omega arith)
 
 -- an entry is spelled by words, one or more
 pub entry_spelled : (x : Entry) → FitsEntry x → AreWords (entry_words x)
@@ -92,6 +97,10 @@ one_process = one_line process_has_words
 -- no two next ids and serials have one line
 pub one_next : (x y : ℕ × ℕ) → FitsNext x → FitsNext y → line_of (next_words x) ≡ line_of (next_words y) → x ≡ y
 one_next = one_line next_has_words
+
+-- no two calls have one line
+pub one_call : (x y : ℕ × Command) → FitsCall x → FitsCall y → line_of (call_words x) ≡ line_of (call_words y) → x ≡ y
+one_call = one_line call_has_words
 
 -- no two entries have one line
 pub one_entry : (x y : Entry) → FitsEntry x → FitsEntry y → line_of (entry_words x) ≡ line_of (entry_words y) → x ≡ y

@@ -1,6 +1,6 @@
 -- What a version can tell.
 use Rattle.std.proofs.Common.{◌≡◌, ◌≢◌, Bool, true, false, ◌||◌, ℕ, List, Option, Some, None, ◌++◌, ◌∷◌, codes, refl}
-use Rattle.std.proofs.Common.{sym, ◌∙◌}
+use Rattle.std.proofs.Common.{ap, subst, sym, ◌∙◌}
 use Rattle.std.specs.Fmt.{decimal}
 use Rattle.smx_types.specs.Versions.{is_hangup, is_of_hangup, tells_of_hangup}
 use Rattle.smx_types.specs.declared.command.Command.{Command}
@@ -9,12 +9,12 @@ use Rattle.smx_types.specs.declared.reply.Reply.{Reply}
 use Rattle.smx_types.specs.declared.version.Version.{Version}
 use Rattle.smx_types.specs.declared.version.Version.TheVariants.{V1, V2}
 use Rattle.smx_words.specs.LineReading.{IsLineOf, IsReadAs}
-use Rattle.smx_words.specs.Spellable.{CanTell, FitsCommand, FitsCommandIn, FitsEntry, FitsEntryIn, FitsProcess}
-use Rattle.smx_words.specs.Spellable.{FitsReplyIn}
-use Rattle.smx_words.specs.Spelling.{command_words, entry_words, reply_words}
+use Rattle.smx_words.specs.Spellable.{CanTell, FitsCall, FitsCallIn, FitsCommand, FitsCommandIn, FitsEntry}
+use Rattle.smx_words.specs.Spellable.{FitsEntryIn, FitsProcess, FitsReplyIn}
+use Rattle.smx_words.specs.Spelling.{call_words, command_words, entry_words, reply_words}
 use Rattle.smx_words.specs.Words.{SPACE, line_of}
-use Rattle.smx_words.proofs.EntryLemmas.{entry_is}
-use Rattle.smx_words.proofs.LawLemmas.{one_command, one_entry}
+use Rattle.smx_words.proofs.EntryLemmas.{call_line, entry_is}
+use Rattle.smx_words.proofs.LawLemmas.{one_call, one_command, one_entry}
 
 -- a line whose command can't be told is no told command's
 pub no_told_command : (v : Version) (line : List ℕ) (c : Command) → FitsCommand c → line ≡ line_of (command_words c)
@@ -29,6 +29,23 @@ pub no_told_entry : (v : Version) (line : List ℕ) (n : Entry) → FitsEntry n 
 no_told_entry v line n fits is cannot x told e =
     let same : n ≡ x = one_entry n x fits told.0 (sym is ∙ e) in
     cannot (rw same told.1)
+
+-- a line whose call can't be told is no told call's
+pub no_told_call : (v : Version) (line : List ℕ) (c : ℕ × Command) → FitsCall c → line ≡ line_of (call_words c)
+    → (CanTell v (is_hangup c.1) → ⊥) → (x : ℕ × Command) → FitsCallIn v x → line ≢ line_of (call_words x)
+no_told_call v line c fits is cannot x told e =
+    let same : c ≡ x = one_call c x fits told.0 (sym is ∙ e) in
+    cannot (rw same told.1)
+
+-- the number of a process, and the line of a command that can be told, make the line of a call that can be told
+pub told_call_is : (v : Version) (line rest : List ℕ) (n p : ℕ) (c : Command) → p ≡ n → FitsProcess n
+    → line ≡ decimal n ++ SPACE ∷ rest → FitsCommandIn v c → rest ≡ line_of (command_words c)
+    → FitsCallIn v (p, c) × (line ≡ line_of (call_words (p, c)))
+told_call_is v line rest n p c same small is fits behind = (
+  ((subst FitsProcess (sym same) small, fits.0), fits.1),
+  is ∙ ap (λ (x : List ℕ). decimal n ++ SPACE ∷ x) behind
+      ∙ ap (λ (m : ℕ). decimal m ++ SPACE ∷ line_of (command_words c)) (sym same) ∙ sym (call_line (p, c)),
+)
 
 -- an entry can be told where its command and its reply can
 pub can_tell_both : (v : Version) (h k : Bool) → CanTell v h → CanTell v k → CanTell v (h || k)
@@ -74,7 +91,7 @@ told_entry_spelled v line rest command reply p process is sides c r =
     told_entry_is v line rest command reply p c.0 r.0 process is sides (c.1, c.2) (r.1, r.2) entry refl in
     (entry, all.0, all.1)
 
--- ---- whether a line is a told command's or entry's is decided
+-- ---- whether a line is a told command's, call's or entry's is decided
 
 -- whether a version can tell something is decided
 can_tell_or : (v : Version) (hangup : Bool) → Dec (CanTell v hangup)
@@ -98,4 +115,13 @@ told_entry v line None none = (None, λ x told e. none x told.0 e)
 told_entry v line (Some x) found = elim (can_tell_or v (is_of_hangup x)) [
   | yes can ↦ (Some x, ((found.0, can), found.1))
   | no cannot ↦ (None, no_told_entry v line x found.0 found.1 cannot)
+]
+
+-- where it is known which call a line is, it is known which told one it is
+pub told_call : (v : Version) (line : List ℕ) (o : Option (ℕ × Command)) → IsReadAs FitsCall call_words line o
+    → (t : Option (ℕ × Command)) × IsReadAs (FitsCallIn v) call_words line t
+told_call v line None none = (None, λ x told e. none x told.0 e)
+told_call v line (Some c) found = elim (can_tell_or v (is_hangup c.1)) [
+  | yes can ↦ (Some c, ((found.0, can), found.1))
+  | no cannot ↦ (None, no_told_call v line c found.0 found.1 cannot)
 ]

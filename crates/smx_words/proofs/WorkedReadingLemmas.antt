@@ -1,19 +1,20 @@
--- Bytes that spell a number or a command, and bytes that spell none.
-use Rattle.std.proofs.Common.{◌≡◌, ◌≢◌, ℕ, List, [], ◌∷◌, ◌++◌, refl, sym, ap, ◌∙◌, arith, rules}
+-- Bytes that spell a number, a command or a call, and bytes that spell none.
+use Rattle.std.proofs.Common.{◌≡◌, ◌≢◌, true, ℕ, List, [], ◌∷◌, ◌++◌, refl, sym, ap, ◌∙◌, arith, rules}
 use Rattle.std.specs.Fmt.{decimal, digits}
 use Rattle.std.specs.Prelude.{codes}
 use Rattle.std.specs.Str.Parse.{digits_value}
 use Rattle.std.proofs.lemmas.Fmt.{decimal_digit, digits_value-decimal}
+use Rattle.smx_types.specs.Versions.{is_hangup}
 use Rattle.smx_types.specs.declared.command.Command.{Command}
 use Rattle.smx_types.specs.declared.command.Command.TheVariants as command
 use Rattle.smx_types.specs.declared.version.Version.TheVariants.{V1, V2}
-use Rattle.smx_words.specs.LineReading.{IsCommandLine}
-use Rattle.smx_words.specs.Spellable.{FitsCommand, FitsNumber}
-use Rattle.smx_words.specs.Spelling.{command_words, process_words}
+use Rattle.smx_words.specs.LineReading.{IsCallLine, IsCommandLine}
+use Rattle.smx_words.specs.Spellable.{FitsCall, FitsCommand, FitsNumber}
+use Rattle.smx_words.specs.Spelling.{call_words, command_words, process_words}
 use Rattle.smx_words.specs.Words.{AreWords, SPACE, line_of}
 use Rattle.smx_words.specs.declared.reading.verb.Verb.TheVariants as verb
 use Rattle.smx_words.proofs.CutLemmas.{apart, free_whole}
-use Rattle.smx_words.proofs.LawLemmas.{command_spelled}
+use Rattle.smx_words.proofs.LawLemmas.{call_spelled, command_spelled}
 use Rattle.smx_words.proofs.LineLemmas.{same_words}
 use Rattle.smx_words.proofs.NumberLemmas.{number_free, own}
 use Rattle.smx_words.proofs.SameCommandLemmas.{verb_is, verb_of}
@@ -111,3 +112,67 @@ pub no_large_dup : IsCommandLine V2 (codes "dup 4294967296") → ⊥
 no_large_dup (c, fits, e) =
     let same = told (codes "dup" ∷ codes "4294967296" ∷ []) c (search (rules, arith)) fits.0 e in
     large_dup c fits.0 (verb_is c verb.Dup (codes "4294967296" ∷ []) same) same
+
+-- ---- lines of a call
+
+-- words that have the line of a call are the words of that call
+told_call : (ws : List (List ℕ)) (c : ℕ × Command) → AreWords ws → FitsCall c → line_of ws ≡ line_of (call_words c)
+    → ws ≡ call_words c
+told_call ws c are fits e = same_words ws (call_words c) are.0 (call_spelled c fits).0 e
+
+-- `63 dup 0` is the line of a call that version 1 can tell
+pub dup_call : IsCallLine V1 (codes "63 dup 0")
+unfolding digits
+dup_call = ((63, command.Dup 0), search (rules, arith), refl)
+
+-- `0 hangup ip 0` is the line of a call that version 2 can tell
+pub hangup_call : IsCallLine V2 (codes "0 hangup ip 0")
+unfolding digits
+hangup_call = ((0, command.Hangup (codes "ip") 0), search (rules, arith), refl)
+
+-- a command with the words of a hangup is one
+hangup_is : (c : Command) → verb_of c ≡ verb.Hangup → is_hangup c ≡ true
+hangup_is (command.Hangup d n) v = refl
+hangup_is c v = absurd (cc v)
+
+-- `0 hangup ip 0` is the line of no call that version 1 can tell
+pub no_early_hangup : IsCallLine V1 (codes "0 hangup ip 0") → ⊥
+no_early_hangup (c, fits, e) =
+    let ws : List (List ℕ) = codes "hangup" ∷ codes "ip" ∷ codes "0" ∷ [] in
+    let same = told_call (codes "0" ∷ ws) c (search (rules, arith)) fits.0 e in
+    let hangup : is_hangup c.1 ≡ true =
+    hangup_is c.1 (verb_is c.1 verb.Hangup (codes "ip" ∷ codes "0" ∷ []) (cc same)) in
+    absurd (cc (sym hangup ∙ fits.1))
+
+-- `64 dup 0`, whose process is one too many, is the line of no call
+pub no_call_of_64 : IsCallLine V2 (codes "64 dup 0") → ⊥
+no_call_of_64 (c, fits, e) =
+    let same = told_call (codes "64" ∷ codes "dup" ∷ codes "0" ∷ []) c (search (rules, arith)) fits.0 e in
+    let process : codes "64" ≡ decimal c.0 = cc same in
+    let is : 64 ≡ c.0 = worth (codes "64") c.0 (omega (arith, fits.0.0)) process in
+    omega (arith, is, fits.0.0)
+
+-- `0` is the one word of no command
+no_number : (c : Command) → codes "0" ∷ [] ≢ command_words c
+no_number command.CloseAll e = cc e
+no_number c e = cc e
+
+-- `dup 0`, which has no process, is the line of no call
+pub no_call_without_process : IsCallLine V2 (codes "dup 0") → ⊥
+no_call_without_process (c, fits, e) =
+    let same = told_call (codes "dup" ∷ codes "0" ∷ []) c (search (rules, arith)) fits.0 e in
+    no_number c.1 (cc same)
+
+-- no `dup` has four words
+long_dup : (c : Command) → verb_of c ≡ verb.Dup
+    → codes "dup" ∷ codes "0" ∷ codes "=" ∷ codes "done" ∷ [] ≢ command_words c
+long_dup (command.Dup n) v e = cc e
+long_dup c v e = absurd (cc v)
+
+-- `0 dup 0 = done`, which has a reply, is the line of no call
+pub no_call_with_reply : IsCallLine V2 (codes "0 dup 0 = done") → ⊥
+no_call_with_reply (c, fits, e) =
+    let ws : List (List ℕ) = codes "0" ∷ codes "=" ∷ codes "done" ∷ [] in
+    let same = told_call (codes "0" ∷ codes "dup" ∷ ws) c (search (rules, arith)) fits.0 e in
+    let words : codes "dup" ∷ ws ≡ command_words c.1 = cc same in
+    long_dup c.1 (verb_is c.1 verb.Dup ws words) words

@@ -2,8 +2,8 @@
 use Rattle.std.specs.Prelude.{◌≡◌, ◌≢◌, ℕ, List, [], ◌++◌, ◌∷◌, Bool, true, false, Option, Some, None, MatchOption}
 use denote.Ref.{Bor}
 use Rattle.smx_types.specs.declared.version.Version.{Version}
-use Rattle.smx_words.specs.Spellable.{FitsCommandIn}
-use Rattle.smx_words.specs.Spelling.{command_words}
+use Rattle.smx_words.specs.Spellable.{FitsCallIn, FitsCommandIn}
+use Rattle.smx_words.specs.Spelling.{call_words, command_words}
 use Rattle.smx_words.specs.Words.{SPACE, line_of}
 
 -- a value that fits and that the bytes spell, or nothing where they spell none
@@ -34,6 +34,18 @@ IsLineOf {X} Fits words_of line = IsSpelled Fits (λ x. line_of (words_of x)) li
 -- the line is the words of a command that this version can tell
 abbrev pub IsCommandLine : Version → List ℕ → Type 0
 IsCommandLine version line = IsLineOf (FitsCommandIn version) command_words line
+
+-- the line is the words of no command that this version can tell
+abbrev pub IsNoCommandLine : Version → List ℕ → Type 0
+IsNoCommandLine version line = IsReadAs (FitsCommandIn version) command_words line None
+
+-- the line is the words of a call that this version can tell
+abbrev pub IsCallLine : Version → List ℕ → Type 0
+IsCallLine version line = IsLineOf (FitsCallIn version) call_words line
+
+-- the line is the words of no call that this version can tell
+abbrev pub IsNoCallLine : Version → List ℕ → Type 0
+IsNoCallLine version line = IsReadAs (FitsCallIn version) call_words line None
 
 -- whether the line is the words of some value that fits, which then stands behind the others
 abbrev pub IsPushed : {X : Type 0} → (X → Type 0) → (X → List (List ℕ)) → List ℕ → List X → List X → Bool → Type 0

@@ -109,9 +109,17 @@ FitsCommandIn version c = FitsCommand c × CanTell version (is_hangup c)
 abbrev pub FitsReplyIn : Version → Reply → Type 0
 FitsReplyIn version r = FitsReply r × CanTell version (tells_of_hangup r)
 
+-- there is such a process, and its command can be spelled
+abbrev pub FitsCall : ℕ × Command → Type 0
+FitsCall call = FitsProcess call.0 × FitsCommand call.1
+
+-- a call can be spelled, and its command can be told in this version
+abbrev pub FitsCallIn : Version → ℕ × Command → Type 0
+FitsCallIn version call = FitsCall call × CanTell version (is_hangup call.1)
+
 -- there is such a process, and its command and reply can be spelled
 pub record FitsEntry (e : Entry) : Type 0 where
-  pub process : e.process < MAX_PROCESSES
+  pub process : FitsProcess e.process
   pub command : FitsCommand e.command
   pub reply : FitsReply e.reply
 
@@ -121,7 +129,7 @@ FitsEntryIn version e = FitsEntry e × CanTell version (is_of_hangup e)
 
 -- an open descriptor that can be shown
 pub record FitsDescriptor (d : DescriptorLine) : Type 0 where
-  pub process : d.process < MAX_PROCESSES
+  pub process : FitsProcess d.process
   pub fd : FitsNumber d.fd
   pub driver : FitsName d.driver
   pub minor : FitsNumber d.minor

@@ -27,6 +27,7 @@ use Rattle.smx_types.specs.declared.view.LinkLine.{LinkLine}
 use Rattle.smx_types.specs.declared.view.MessageLine.{MessageLine}
 use Rattle.smx_types.specs.declared.view.RouteLine.{RouteLine}
 use Rattle.smx_words.specs.HexWords.{hex_word}
+use Rattle.smx_words.specs.Words.{LINE_FEED, line_of}
 
 -- the kind of a driver
 abbrev pub kind_word : DriverKind → List ℕ
@@ -83,6 +84,10 @@ command_words (command.Inject driver minor addr bytes) =
 command_words (command.Transmit driver minor) = codes "transmit" ∷ driver ∷ decimal minor ∷ []
 command_words (command.Hangup driver minor) = codes "hangup" ∷ driver ∷ decimal minor ∷ []
 
+-- a call: the process, and its command
+abbrev pub call_words : ℕ × Command → List (List ℕ)
+call_words call = decimal call.0 ∷ command_words call.1
+
 -- an error of errno(3), and a word that tells its causes apart
 abbrev pub fault_words : Fault → List (List ℕ)
 fault_words fault.BadDescriptor = codes "EBADF" ∷ codes "fd" ∷ []
@@ -113,9 +118,13 @@ reply_words (reply.Done dropped) = codes "done" ∷ map decimal dropped
 reply_words reply.Eof = codes "eof" ∷ []
 reply_words (reply.Fault f) = fault_words f
 
--- the process, the command, and behind an equals sign the reply
+-- the call, and behind an equals sign the reply
 abbrev pub entry_words : Entry → List (List ℕ)
-entry_words e = decimal e.process ∷ (command_words e.command ++ codes "=" ∷ reply_words e.reply)
+entry_words e = call_words (e.process, e.command) ++ codes "=" ∷ reply_words e.reply
+
+-- the line of an entry, with its line feed
+abbrev pub entry_line : Entry → List ℕ
+entry_line e = line_of (entry_words e) ++ LINE_FEED ∷ []
 
 -- where the program of the process of this number begins
 abbrev pub process_words : ℕ → List (List ℕ)

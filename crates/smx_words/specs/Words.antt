@@ -30,6 +30,10 @@ IsFree byte bytes = AllByRecursion (λ b. b ≢ byte) bytes
 abbrev pub line_of : List (List ℕ) → List ℕ
 line_of words = join_with_byte SPACE words
 
+-- these lines, each with a line feed at its end
+abbrev pub lines_text : List (List ℕ) → List ℕ
+lines_text lines = flat_map (λ line. line ++ LINE_FEED ∷ []) lines
+
 -- a text: its lines, each with a line feed at its end
 abbrev pub text_of : List (List (List ℕ)) → List ℕ
 text_of lines = flat_map (λ words. line_of words ++ LINE_FEED ∷ []) lines

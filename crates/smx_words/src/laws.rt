@@ -12,11 +12,11 @@ ghost use Rattle.smx_types.specs.declared.view.HungLine.{HungLine};
 ghost use Rattle.smx_types.specs.declared.view.LinkLine.{LinkLine};
 ghost use Rattle.smx_types.specs.declared.view.MessageLine.{MessageLine};
 ghost use Rattle.smx_types.specs.declared.view.RouteLine.{RouteLine};
-ghost use Rattle.smx_words.specs.Spellable.{FitsDriver, FitsNumber, FitsCommand, FitsEntry, FitsNext};
+ghost use Rattle.smx_words.specs.Spellable.{FitsDriver, FitsNumber, FitsCommand, FitsCall, FitsEntry, FitsNext};
 ghost use Rattle.smx_words.specs.Spellable.{FitsDescriptor, FitsLink, FitsBinding, FitsRoute, FitsMessage, FitsFull};
 ghost use Rattle.smx_words.specs.Spellable.{FitsHung};
-ghost use Rattle.smx_words.specs.Spelling.{driver_words, process_words, command_words, entry_words, next_words};
-ghost use Rattle.smx_words.specs.Spelling.{descriptor_words, link_words, bind_words, route_words};
+ghost use Rattle.smx_words.specs.Spelling.{driver_words, process_words, command_words, call_words, entry_words};
+ghost use Rattle.smx_words.specs.Spelling.{next_words, descriptor_words, link_words, bind_words, route_words};
 ghost use Rattle.smx_words.specs.Spelling.{message_words, full_words, hung_words};
 ghost use Rattle.smx_words.specs.Words.{AreWords, IsWord, line_of};
 
@@ -25,6 +25,7 @@ pub fn spellings_are_words()
     ensures driver { (x : DriverSpec) → FitsDriver x → AreWords (driver_words x) }
     ensures process { (x : ℕ) → FitsNumber x → AreWords (process_words x) }
     ensures command { (x : Command) → FitsCommand x → AreWords (command_words x) }
+    ensures call { (x : ℕ × Command) → FitsCall x → AreWords (call_words x) }
     ensures entry { (x : Entry) → FitsEntry x → AreWords (entry_words x) }
     ensures next { (x : ℕ × ℕ) → FitsNext x → AreWords (next_words x) }
     ensures descriptor { (x : DescriptorLine) → FitsDescriptor x → AreWords (descriptor_words x) }
@@ -50,6 +51,8 @@ pub fn one_value_each()
         → line_of (process_words x) ≡ line_of (process_words y) → x ≡ y }
     ensures command { (x y : Command) → FitsCommand x → FitsCommand y
         → line_of (command_words x) ≡ line_of (command_words y) → x ≡ y }
+    ensures call { (x y : ℕ × Command) → FitsCall x → FitsCall y
+        → line_of (call_words x) ≡ line_of (call_words y) → x ≡ y }
     ensures entry { (x y : Entry) → FitsEntry x → FitsEntry y
         → line_of (entry_words x) ≡ line_of (entry_words y) → x ≡ y }
     ensures next { (x y : ℕ × ℕ) → FitsNext x → FitsNext y

@@ -16,12 +16,13 @@ ghost use Rattle.smx_types.specs.declared.view.LinkLine.{LinkLine};
 ghost use Rattle.smx_types.specs.declared.view.MessageLine.{MessageLine};
 ghost use Rattle.smx_types.specs.declared.view.RouteLine.{RouteLine};
 ghost use Rattle.smx_words.specs.HexWords.{AreSet, IsValueOf};
-ghost use Rattle.smx_words.specs.LineReading.{BeginsWith, IsCommandLine, IsFoundIn, IsPushed, IsReadAs, IsSpelled};
+ghost use Rattle.smx_words.specs.LineReading.{BeginsWith, IsCallLine, IsCommandLine, IsFoundIn, IsPushed, IsReadAs};
+ghost use Rattle.smx_words.specs.LineReading.{IsSpelled};
 ghost use Rattle.smx_words.specs.Spellable.{FitsDriver, FitsNumber, FitsCommand, FitsEntry, FitsNext};
 ghost use Rattle.smx_words.specs.Spellable.{FitsDescriptor, FitsLink, FitsBinding, FitsRoute, FitsMessage, FitsFull};
-ghost use Rattle.smx_words.specs.Spellable.{FitsAlways, FitsHung, FitsCommandIn, FitsEntryIn};
-ghost use Rattle.smx_words.specs.Spelling.{driver_words, process_words, command_words, entry_words, next_words};
-ghost use Rattle.smx_words.specs.Spelling.{descriptor_words, link_words, bind_words, route_words};
+ghost use Rattle.smx_words.specs.Spellable.{FitsAlways, FitsHung, FitsCommandIn, FitsEntryIn, FitsCallIn};
+ghost use Rattle.smx_words.specs.Spelling.{driver_words, process_words, command_words, call_words, entry_words};
+ghost use Rattle.smx_words.specs.Spelling.{next_words, descriptor_words, link_words, bind_words, route_words};
 ghost use Rattle.smx_words.specs.Spelling.{message_words, full_words, hung_words};
 ghost use Rattle.smx_words.specs.WorkedWords.{a_or_a_b};
 
@@ -36,6 +37,8 @@ pub fn each_line_has_a_reading()
         × IsReadAs (FitsCommandIn v) command_words line o }
     ensures told_entry { (v : Version) (line : List ℕ) → (o : Option Entry)
         × IsReadAs (FitsEntryIn v) entry_words line o }
+    ensures told_call { (v : Version) (line : List ℕ) → (o : Option (ℕ × Command))
+        × IsReadAs (FitsCallIn v) call_words line o }
     ensures next { (line : List ℕ) → (o : Option (ℕ × ℕ)) × IsReadAs FitsNext next_words line o }
     ensures descriptor { (line : List ℕ) → (o : Option DescriptorLine)
         × IsReadAs FitsDescriptor descriptor_words line o }
@@ -93,6 +96,16 @@ pub fn which_lines_are_commands()
     ensures not_of_a_hangup { IsCommandLine V1 (codes "hangup ip 0") → ⊥ }
     ensures not_of_a_large_number { IsCommandLine V2 (codes "dup 4294967296") → ⊥ }
     ensures not_of_a_process { IsCommandLine V2 (codes "process 0") → ⊥ }
+{}
+
+/// A line is a call's where it is the words of a process and of a command that its version can tell.
+pub fn which_lines_are_calls()
+    ensures dup { IsCallLine V1 (codes "63 dup 0") }
+    ensures hangup { IsCallLine V2 (codes "0 hangup ip 0") }
+    ensures not_of_a_hangup { IsCallLine V1 (codes "0 hangup ip 0") → ⊥ }
+    ensures not_of_a_large_process { IsCallLine V2 (codes "64 dup 0") → ⊥ }
+    ensures not_without_its_process { IsCallLine V2 (codes "dup 0") → ⊥ }
+    ensures not_of_an_entry { IsCallLine V2 (codes "0 dup 0 = done") → ⊥ }
 {}
 
 /// A value that is pushed fits, is the one whose words the line is, and stands behind the others; where the line is the

@@ -1,5 +1,6 @@
 //! Values read from the words of a line.
 
+mod call;
 mod command;
 mod cutting;
 mod entry;
@@ -12,6 +13,7 @@ mod verb;
 mod view;
 pub mod word;
 
+pub use call::call_of_line;
 pub use command::{command_in, command_of};
 pub use entry::entry_of;
 pub use line::{driver_of, next_of, process_of};

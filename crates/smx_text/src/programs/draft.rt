@@ -4,7 +4,7 @@ ghost use Rattle.std.specs.Prelude.{◌≡◌, ◌≢◌, ◌<◌, codes, length
 ghost use Rattle.std.specs.List.{sum_by};
 ghost use Rattle.smx_types.specs.declared.limits.TheConstants.{MAX_COMMANDS};
 ghost use Rattle.smx_types.specs.declared.command.Command.{Command as AnyCommand};
-ghost use Rattle.smx_words.specs.LineReading.{IsLineOf, IsReadAs};
+ghost use Rattle.smx_words.specs.LineReading.{IsLineOf, IsNoCommandLine, IsReadAs};
 ghost use Rattle.smx_words.specs.Words.{line_of};
 ghost use Rattle.smx_words.specs.Spelling.{command_words};
 ghost use Rattle.smx_words.specs.Spellable.{FitsNumber, FitsDriver, FitsCommandIn};
@@ -100,8 +100,7 @@ impl<P: ProgramTaker> ProgramsDraft<P> {
     // A line that is no command.
     fn add_other(&mut self, alloc: Global, text: &[u8]) -> Result<(), Cause>
         requires begun { IsBegun (programs_grammar self.old.version) (body self.old) }
-        requires no_command { (c : AnyCommand) → FitsCommandIn self.old.version c
-            → text.now ≢ line_of (command_words c) }
+        requires no_command { IsNoCommandLine self.old.version text.now }
         requires no_end { text.now ≢ codes "end" }
         ensures answers { AnswersText (programs_grammar self.old.version) (body self.old) text.now
             (body self.new) result }

@@ -1,14 +1,10 @@
 //! Programs that are being read, of which the last one still grows.
 
-ghost use Rattle.std.specs.Prelude.{◌≡◌, ◌≢◌, ◌<◌, [], ◌∷◌, ◌++◌, ◌≤◌, ◌-◌, ◌==◌, false, length, IfOk, IfErr};
+ghost use Rattle.std.specs.Prelude.{◌≡◌, ◌<◌, [], ◌∷◌, ◌++◌, ◌≤◌, ◌-◌, ◌==◌, false, length, IfOk, IfErr};
 ghost use Rattle.std.specs.Prelude.{OnOk, OnErr};
 ghost use Rattle.std.specs.Vec.{vec_len, vec_capacity};
-ghost use Rattle.smx_types.specs.declared.command.Command.{Command as AnyCommand};
-ghost use Rattle.smx_words.specs.LineReading.{IsCommandLine};
-ghost use Rattle.smx_words.specs.Spellable.{FitsCommandIn};
-ghost use Rattle.smx_words.specs.Spelling.{command_words};
-ghost use Rattle.smx_words.specs.Words.{line_of};
-ghost use Rattle.smx_text.specs.Growing.{IsPushed};
+ghost use Rattle.smx_words.specs.LineReading.{IsCommandLine, IsNoCommandLine};
+ghost use Rattle.smx_text.specs.Growing.{IsPutLast};
 ghost use Rattle.smx_types.specs.GrowingPrograms.{with_last};
 
 use smx_types::{Command, Commands, NoMemory, ProgramList, Version};
@@ -83,7 +79,7 @@ impl GrowingPrograms {
         line: &[u8],
     ) -> Result<bool, NoMemory>
         requires { 0 < length self.old }
-        ensures pushed { IfOk result (IsPushed version line.now self.old self.new) }
+        ensures pushed { IfOk result (IsPutLast version line.now self.old self.new) }
         ensures wanted { IfErr result (λ _. IsCommandLine version line.now) }
         ensures kept { OnErr result (self.new ≡ self.old) }
     {
@@ -116,8 +112,7 @@ fn put_last(programs: &mut Vec<Commands>, last: Vec<Command>)
 
 // Whether a line is a command's, for which there is no memory then.
 fn without_room(alloc: Global, version: Version, line: &[u8]) -> Result<bool, NoMemory>
-    ensures none { IfOk result (λ pushed. (pushed ≡ false)
-        × ((c : AnyCommand) → FitsCommandIn version c → line.now ≢ line_of (command_words c))) }
+    ensures none { IfOk result (λ pushed. (pushed ≡ false) × IsNoCommandLine version line.now) }
     ensures wanted { IfErr result (λ _. IsCommandLine version line.now) }
 {
     match command_of(alloc, version, line) {

@@ -2,7 +2,7 @@ use Rattle.smx_live.proofs.WorkedLiveLemmas as worked
 use Rattle.smx_live.proofs.laws_of_live.a_worked_live_session.Goals as goal
 
 pub returns-clause-over : goal.returns-clause-over
-returns-clause-over c = worked.over c.a_worked_session.ensures.starts c.a_worked_session.ensures.opens
+returns-clause-over c = worked.over c.a_worked_session.ensures.starts
 
 pub returns-clause-table : goal.returns-clause-table
 returns-clause-table c = worked.is_over
@@ -30,3 +30,6 @@ returns-clause-not_full c = worked.not_full
 
 pub returns-clause-not_performed : goal.returns-clause-not_performed
 returns-clause-not_performed c = worked.not_performed
+
+pub returns-clause-full_is_told : goal.returns-clause-full_is_told
+returns-clause-full_is_told c = worked.full_is_told

@@ -2,7 +2,8 @@ use Rattle.std.proofs.Common.{◌≡◌, ◌⊎◌, ◌+◌, ◌++◌, ◌∙◌
 use Rattle.std.proofs.Common.{sym, take}
 use Rattle.std.proofs.KnownBytes.{Consumes-nil, Consumes-trans}
 use Rattle.std.proofs.lemmas.List.{append-nil}
-use Rattle.smx_live.specs.Tables.{begins_driver, lines_text}
+use Rattle.smx_words.specs.Words.{lines_text}
+use Rattle.smx_live.specs.Tables.{begins_driver}
 use Rattle.smx_live.proofs.InboxLemmas.{moved, unmoved}
 use Rattle.smx_live.proofs.TableLemmas.{fails_with, one_line_more, over_at_a_line, over_at_the_end, text_more}
 use Rattle.smx_live.proofs.live.read_table.Goals as goal

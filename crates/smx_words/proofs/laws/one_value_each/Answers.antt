@@ -1,5 +1,5 @@
-use Rattle.smx_words.proofs.LawLemmas.{one_bind, one_command, one_descriptor, one_driver, one_entry, one_hung}
-use Rattle.smx_words.proofs.LawLemmas.{one_full, one_link, one_message, one_next, one_process, one_route}
+use Rattle.smx_words.proofs.LawLemmas.{one_bind, one_call, one_command, one_descriptor, one_driver, one_entry}
+use Rattle.smx_words.proofs.LawLemmas.{one_full, one_hung, one_link, one_message, one_next, one_process, one_route}
 use Rattle.smx_words.proofs.laws.one_value_each.Goals as goal
 
 pub returns : goal.returns
@@ -7,6 +7,7 @@ returns c = record {
   driver = one_driver;
   process = one_process;
   command = one_command;
+  call = one_call;
   entry = one_entry;
   next = one_next;
   descriptor = one_descriptor;

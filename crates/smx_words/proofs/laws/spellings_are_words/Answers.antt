@@ -1,5 +1,5 @@
-use Rattle.smx_words.proofs.LawLemmas.{bind_spelled, command_spelled, descriptor_spelled, driver_spelled, hung_spelled}
-use Rattle.smx_words.proofs.LawLemmas.{entry_spelled, full_spelled, link_spelled, message_spelled}
+use Rattle.smx_words.proofs.LawLemmas.{bind_spelled, call_spelled, command_spelled, descriptor_spelled, driver_spelled}
+use Rattle.smx_words.proofs.LawLemmas.{hung_spelled, entry_spelled, full_spelled, link_spelled, message_spelled}
 use Rattle.smx_words.proofs.LawLemmas.{next_spelled, process_spelled, route_spelled}
 use Rattle.smx_words.proofs.laws.spellings_are_words.Goals as goal
 
@@ -8,6 +8,7 @@ returns c = record {
   driver = driver_spelled;
   process = process_spelled;
   command = command_spelled;
+  call = call_spelled;
   entry = entry_spelled;
   next = next_spelled;
   descriptor = descriptor_spelled;

@@ -1,7 +1,7 @@
 use Rattle.std.proofs.Common.{ℕ, ◌∷◌, ◌++◌, refl, sym, ◌∙◌, ap, arith}
 use Rattle.std.specs.Fmt.{decimal}
 use Rattle.smx_words.specs.Words.{SPACE}
-use Rattle.smx_words.proofs.EntryLemmas.{each_side, entry_line, free_command, sides_of}
+use Rattle.smx_words.proofs.EntryLemmas.{each_side, entry_line, free_command, process_of, sides_text}
 use Rattle.smx_words.proofs.reading.entry.entry_of.Goals as goal
 use Rattle.smx_words.proofs.ToldLemmas.{command_fits, reply_fits, told_entry_is, told_entry_spelled}
 
@@ -11,27 +11,23 @@ returns-in_default-clause-reading c = λ x fits e.
 
 pub returns-in_default-new-clause-reading : goal.returns-in_default-new-clause-reading
 returns-in_default-new-clause-reading c = λ x fits e.
-    let both =
-    sides_of c.args.line.now c.in-Some.rest.now c.in-Some.number x fits.0 c.in-Some.ensures.0
-    c.in-Some.ensures.1 e in
-    let some = c.in_default-new.ensures.valid.1 (omega (arith, both.0, fits.0.process)) in
+    let process =
+    process_of c.args.line.now c.in-Some.rest.now c.in-Some.number x.process _ fits.0.process c.in-Some.ensures.0
+    c.in-Some.ensures.1 (e ∙ entry_line x) in
+    let some = c.in_default-new.ensures.valid.1 (omega (arith, process, fits.0.process)) in
     cc some
 
 pub returns-in_default-sides-clause-reading : goal.returns-in_default-sides-clause-reading
 returns-in_default-sides-clause-reading c = λ x fits e.
-    let both =
-    sides_of c.args.line.now c.in-Some.rest.now c.in-Some.number x fits.0 c.in-Some.ensures.0
-    c.in-Some.ensures.1 e in
-    c.in_default-sides.ensures _ _ (free_command x.command fits.0.command) both.1
+    c.in_default-sides.ensures _ _ (free_command x.command fits.0.command)
+    (sym (c.in-Some.ensures.2 x.process (sides_text x) (omega (arith, fits.0.process)) (e ∙ entry_line x)))
 
 pub returns-in-Ok-None-clause-reading : goal.returns-in-Ok-None-clause-reading
 returns-in-Ok-None-clause-reading c = λ x fits e.
-    let both =
-    sides_of c.args.line.now c.in-Some.rest.now c.in-Some.number x fits.0 c.in-Some.ensures.0
-    c.in-Some.ensures.1 e in
     let each =
     each_side c.in-Some.rest.now c.in-Some-sides.command.now c.in-Some-sides.reply.now x fits.0
-    c.in-Some-sides.ensures.0 c.in-Some-sides.ensures.1 both.1 in
+    c.in-Some-sides.ensures.0 c.in-Some-sides.ensures.1
+    (sym (c.in-Some.ensures.2 x.process (sides_text x) (omega (arith, fits.0.process)) (e ∙ entry_line x))) in
     let none = rw c.in-Ok-None.field-0-is at c.in-Ok-None.ensures.reading in
     none x.command x.reply (command_fits c.args.version x fits) (reply_fits c.args.version x fits) each.0 each.1
 

@@ -1,11 +1,11 @@
 //! Why a line of a live session is refused.
 
 ghost use Rattle.std.specs.Prelude.{◌≡◌};
-ghost use Rattle.smx_live.specs.Turns.{wrong_line};
+ghost use Rattle.smx_live.specs.Turns.{fault_line};
 
 /// Why a line is refused, which changes nothing.
 #[derive(Clone, Copy, Debug, PartialEq, Eq)]
-pub enum Wrong {
+pub enum TurnFault {
     /// It is no process with a command that the version can tell, and asks for nothing else.
     NoCommand,
     /// A growth was refused.
@@ -15,12 +15,12 @@ pub enum Wrong {
 }
 
 // The line that tells it, with its line feed.
-pub(crate) fn line_of_wrong(wrong: Wrong) -> &'static [u8]
-    ensures { result.now ≡ wrong_line wrong }
+pub(crate) fn line_of_fault(fault: TurnFault) -> &'static [u8]
+    ensures { result.now ≡ fault_line fault }
 {
-    match wrong {
-        Wrong::NoCommand => b"? no command\n",
-        Wrong::NoMemory => b"? no memory\n",
-        Wrong::Full => b"? history full\n",
+    match fault {
+        TurnFault::NoCommand => b"? no command\n",
+        TurnFault::NoMemory => b"? no memory\n",
+        TurnFault::Full => b"? history full\n",
     }
 }

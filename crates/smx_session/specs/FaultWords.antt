@@ -1,0 +1,27 @@
+-- The words in which faults print themselves.
+use Rattle.std.specs.Prelude.{ℕ, List, codes}
+use Rattle.smx_types.specs.FaultWords.{no_memory_words}
+use Rattle.smx_config.specs.FaultWords.{config_fault_words}
+use Rattle.smx_text.specs.FaultWords.{text_fault_words}
+use Rattle.smx_session.specs.declared.entry_fault.EntryFault.{EntryFault}
+use Rattle.smx_session.specs.declared.entry_fault.EntryFault.TheVariants as entry
+use Rattle.smx_session.specs.declared.line_fault.LineFault.{LineFault}
+use Rattle.smx_session.specs.declared.line_fault.LineFault.TheVariants as line
+use Rattle.smx_session.specs.declared.start_fault.StartFault.{StartFault}
+use Rattle.smx_session.specs.declared.start_fault.StartFault.TheVariants as start
+
+-- the words of a text's fault, or of a fault of its drivers, or that memory was wanting
+abbrev pub start_fault_words : StartFault → List ℕ
+start_fault_words start.NoMemory = no_memory_words
+start_fault_words (start.Text fault) = text_fault_words fault
+start_fault_words (start.Drivers fault) = config_fault_words fault
+
+-- that a line has no command, or that memory was wanting
+abbrev pub line_fault_words : LineFault → List ℕ
+line_fault_words line.NoMemory = no_memory_words
+line_fault_words line.NoCommand = codes "no command"
+
+-- that there is no entry yet, or that memory was wanting
+abbrev pub entry_fault_words : EntryFault → List ℕ
+entry_fault_words entry.NoMemory = no_memory_words
+entry_fault_words entry.NoEntry = codes "no entry yet"

@@ -1,0 +1,34 @@
+//! The words of a call: a process, and its command.
+
+ghost use Rattle.std.specs.Prelude.{IfOk, IfErr};
+ghost use Rattle.smx_words.specs.LineReading.{IsCallLine, IsReadAs};
+ghost use Rattle.smx_words.specs.Spellable.{FitsCallIn};
+ghost use Rattle.smx_words.specs.Spelling.{call_words};
+
+use crate::reading::command::command_of;
+use crate::reading::number::first_number;
+use smx_types::{Command, NoMemory, Process, Version};
+use std::alloc::Global;
+
+/// The process and the command whose words a line is, `PROCESS COMMAND` as an entry's line begins, if it is those of
+/// a command that a version can tell. Fails only for want of memory, and then the line is such a call's.
+pub fn call_of_line(
+    alloc: Global,
+    version: Version,
+    line: &[u8],
+) -> Result<Option<(Process, Command)>, NoMemory>
+    ensures reading { IfOk result (IsReadAs (FitsCallIn version) call_words line.now) }
+    ensures wanted { IfErr result (λ _. IsCallLine version line.now) }
+{
+    let Some((number, rest)) = first_number(line) else {
+        return Ok(None);
+    };
+    let Some(process) = Process::new(number) else {
+        return Ok(None);
+    };
+    match command_of(alloc, version, rest) {
+        Ok(Some(command)) => Ok(Some((process, command))),
+        Ok(None) => Ok(None),
+        Err(error) => Err(error),
+    }
+}
