@@ -193,13 +193,13 @@ strict digraph muxsim {
   edge [dir=none color=gray fontname="sans-serif" fontsize=10];
   "ip" [style=bold label="ip mux\\nminors 2, longest 16\\nhigh 8, low 3"];
   "eth" [style=bold label="eth leaf\\nminors 1, longest 16\\nhigh 8, low 3"];
-  "eth 0 write" [style=dashed label="write queue, 1 bytes\\nhigh 8, low 3"];
+  "eth 0 write" [style=dashed label="write queue, 1 B\\nhigh 8, low 3"];
   "fd:0:0" [shape=plain label="process 0 fd 0"]; "fd:0:0" -> "ip 1" -> "ip";
   "fd:0:1" [shape=plain label="process 0 fd 1"]; "fd:0:1" -> "eth 0" -> "eth";
   "fd:1:0" [shape=plain label="process 1 fd 0"]; "fd:1:0" -> "ip 0" -> "ip";
   "link:1" [shape=plain label="link 1, ordinary\\nby ip 1"]; "ip" -> "link:1" -> "eth 0" [color=steelblue]; "eth 0" -> "eth";
   "route:ip:5" [shape=plain label="address 5\\nby link 1"]; "ip" -> "route:ip:5" [style=dotted];
-  "message:1" [shape=note style=solid label="message 1\\nto 5, 1 bytes"]; "message:1" -> "eth 0 write" -> "eth 0" -> "eth";
+  "message:1" [shape=note style=solid label="message 1\\nto 5, 1 B"]; "message:1" -> "eth 0 write" -> "eth 0" -> "eth";
 }
 """
 
@@ -934,7 +934,7 @@ end
      "header",
      """\
 line 1: transcript 2
-this is a transcript, for 'muxsim check' or 'muxsim replay'
+this is a transcript, for 'muxsim check', 'muxsim replay' or 'muxsim draw'
 """),
     ("check",
      """\
@@ -968,6 +968,37 @@ the first line has to be 'programs 1' or 'programs 2'
      3,
      "form",
      "line 3: dup \\x5c\ncolumn 5: a number from 0 to 4294967295 is wanted\n"),
+    # A space at the end of a line is shown by its digits, and no other.
+    ("run",
+     "programs 1\nprocess 0\nclose 0 \nend\n",
+     3,
+     "form",
+     "line 3: close 0\\x20\ncolumn 9: the end of the line is wanted, with no space before it\n"),
+    ("run",
+     "programs 1\nprocess 0\nclose 0  \nend\n",
+     3,
+     "form",
+     "line 3: close 0 \\x20\ncolumn 9: the end of the line is wanted\n"),
+    ("run",
+     "programs 1\nprocess 0\nclose \nend\n",
+     3,
+     "form",
+     "line 3: close\\x20\ncolumn 7: a number from 0 to 4294967295 is wanted\n"),
+    ("check",
+     "transcript 1\n0 exit = done \nconfig\nnext 1 1\nend\n",
+     2,
+     "form",
+     "line 2: 0 exit = done\\x20\ncolumn 15: a number from 0 to 4294967295, or the end of the line is wanted\n"),
+    ("run",
+     "programs 1 \nend\n",
+     1,
+     "header",
+     "line 1: programs 1\\x20\nthe first line has to be 'programs 1' or 'programs 2'\n"),
+    ("run",
+     "programs 1\nend\n ",
+     3,
+     "trailing",
+     "line 3: \\x20\nnothing may stand below the line 'end'\n"),
     ("run",
      "programs 1\n0123456789012345678901234567890123456789012345678901234567890123456789012345678\x09\nend\n",
      2,
@@ -975,20 +1006,6 @@ the first line has to be 'programs 1' or 'programs 2'
      """\
 line 2: 0123456789012345678901234567890123456789012345678901234567890123456789012345678..
 column 1: 'driver', 'process', 'end', a command, or in version 2 'hangup' is wanted
-"""),
-    ("check",
-     """\
-transcript 1
-config
-0 exit = done
-next 1 1
-end
-""",
-     3,
-     "form",
-     """\
-line 3: 0 exit = done
-a line of this form may not stand there
 """),
     ("run",
      """\
@@ -1022,7 +1039,31 @@ a command stands below the line of its process
      "many",
      """\
 line 66: driver d64 leaf 1 8 3 16
-there may be 64 drivers, or in version 2 128, 64 processes and 100,000 commands
+at most 64 drivers may stand in version 1
+"""),
+    ("run",
+     "programs 2\n" + "".join(f"driver d{number} leaf 1 8 3 16\n" for number in range(129)) + "end\n",
+     130,
+     "many",
+     """\
+line 130: driver d128 leaf 1 8 3 16
+at most 128 drivers may stand in version 2
+"""),
+    ("run",
+     "programs 1\n" + "".join(f"process {number}\n" for number in range(65)) + "end\n",
+     66,
+     "many",
+     """\
+line 66: process 64
+at most 64 processes may stand
+"""),
+    ("run",
+     "programs 2\nprocess 0\n" + "exit\n" * 100_001 + "end\n",
+     100_003,
+     "many",
+     """\
+line 100003: exit
+at most 100,000 commands may stand
 """),
     ("check",
      "transcript 1\n" + "".join(f"driver d{number} leaf 1 8 3 16\n" for number in range(65)) + "config\nnext 1 1\nend\n",
@@ -1030,7 +1071,24 @@ there may be 64 drivers, or in version 2 128, 64 processes and 100,000 commands
      "many",
      """\
 line 66: driver d64 leaf 1 8 3 16
-there may be 64 drivers, or in version 2 128, and 100,000 entries
+at most 64 drivers may stand in version 1
+"""),
+    ("check",
+     "transcript 2\n" + "".join(f"driver d{number} leaf 1 8 3 16\n" for number in range(129))
+     + "config\nnext 1 1\nend\n",
+     130,
+     "many",
+     """\
+line 130: driver d128 leaf 1 8 3 16
+at most 128 drivers may stand in version 2
+"""),
+    ("check",
+     "transcript 1\n" + "0 exit = done\n" * 100_001 + "config\nnext 1 1\nend\n",
+     100_002,
+     "many",
+     """\
+line 100002: 0 exit = done
+at most 100,000 entries may stand
 """),
     ("run",
      """\
@@ -1064,7 +1122,7 @@ end
      "header",
      """\
 line 1: transcript 1
-this is a transcript, for 'muxsim check' or 'muxsim replay'
+this is a transcript, for 'muxsim check', 'muxsim replay' or 'muxsim draw'
 """),
     ("check",
      """\
@@ -1079,6 +1137,42 @@ these are programs, for 'muxsim run'
 """),
 ]
 
+# The lines of a transcript below its header, up to one that is well-formed and may not stand where it does, and what is
+# said of that.
+MISPLACED = [
+    (["0 exit = done", "driver ip mux 4 8 3 16"], "the drivers stand above the entries and above 'config'"),
+    (["config", "driver ip mux 4 8 3 16"], "the drivers stand above the entries and above 'config'"),
+    (["config", "next 1 1", "driver ip mux 4 8 3 16"], "the drivers stand above the entries and above 'config'"),
+    (["config", "0 exit = done"], "the entries stand above 'config'"),
+    (["config", "next 1 1", "fd 0 0 ip 0", "63 exit = done"], "the entries stand above 'config'"),
+    (["config", "config"], "'config' stands once, below the entries"),
+    (["config", "next 1 1", "config"], "'config' stands once, below the entries"),
+    (["next 1 1"], "'next' stands once, just below 'config'"),
+    (["0 exit = done", "next 1 1"], "'next' stands once, just below 'config'"),
+    (["config", "next 1 1", "next 1 1"], "'next' stands once, just below 'config'"),
+    (["config", "next 1 1", "fd 0 0 ip 0", "next 1 1"], "'next' stands once, just below 'config'"),
+    (["end"], "'config' and 'next' stand above 'end'"),
+    (["driver ip mux 4 8 3 16", "0 exit = done", "end"], "'config' and 'next' stand above 'end'"),
+    (["config", "end"], "'config' and 'next' stand above 'end'"),
+]
+
+# The lines below `next`, in their order; the last of them in version 2 alone.
+GROUPS = [
+    "fd 0 0 ip 0",
+    "link 1 ip 0 eth 0 plink",
+    "bind ip 9 0",
+    "route ip 5 1",
+    "msg eth 0 w 3 5 0303",
+    "full eth 0 w",
+    "hung eth 0",
+]
+
+# What is said of one of them that may not stand where it does, in both versions.
+OTHER_GROUPS = [
+    "below 'next' stand 'fd', 'link', 'bind', 'route', 'msg' and 'full' lines, in this order",
+    "below 'next' stand 'fd', 'link', 'bind', 'route', 'msg', 'full' and 'hung' lines, in this order",
+]
+
 # A job, a header and a line behind it that stops being one, and what may stand there.
 WANTED = [
     ("run", "programs 1", "clone 9a", "column 7: a name of 1 to 8 small letters and digits, a letter first, is wanted"),
@@ -1090,7 +1184,6 @@ WANTED = [
     ("run", "programs 1", "", "column 1: 'driver', 'process', 'end', a command, or in version 2 'hangup' is wanted"),
     ("run", "programs 1", "0 exit = done", "column 1: 'driver', 'process', 'end', a command, or in version 2 'hangup' is wanted"),
     ("run", "programs 1", "exit = done", "column 6: the end of the line is wanted"),
-    ("run", "programs 1", "exit ", "column 6: the end of the line is wanted"),
     ("run", "programs 2", "hangup eth", "column 12: a number from 0 to 4294967295 is wanted"),
     ("check",
      "transcript 1",
@@ -1146,4 +1239,21 @@ CUT = [
     (" !~}\\[]", " !~}\\x5c[]"),
     ("\x00\x09\x1f\x7f\x80\xff", "\\x00\\x09\\x1f\\x7f\\x80\\xff"),
     ("\r", "\\x0d"),
+]
+
+# Lines of a transcript in which '=' is wanted, the column at which it is, and what is shown of each: where the first 80
+# columns leave that one out, from 60 bytes before it on.
+FAR = [
+    ("0 write 0 5 " + "ab" * 33 + " is took 1", 80, "0 write 0 5 " + "ab" * 33 + " i.."),
+    ("0 write 0 5 " + "ab" * 34 + " is took 1", 82, "..b" + "ab" * 29 + " is took 1"),
+    ("0 write 0 5 " + "ab" * 34 + " is took 1 and more t", 82, "..b" + "ab" * 29 + " is took 1 and more t"),
+    ("0 write 0 5 " + "ab" * 34 + " is took 1 and more th", 82, "..b" + "ab" * 29 + " is took 1 and more t.."),
+    # A byte that takes four columns fits, or doesn't.
+    ("0 write 0 5 " + "ab" * 31 + " \x09took 1", 76, "0 write 0 5 " + "ab" * 31 + " \\x09t.."),
+    ("0 write 0 5 " + "ab" * 32 + " \x09took 1", 78, "..b" + "ab" * 29 + " \\x09took 1"),
+    # The word is wanting at the end of the line.
+    ("0 write 0 5 " + "ab" * 34, 82, "0 write 0 5 " + "ab" * 34),
+    ("0 write 0 5 " + "ab" * 35, 84, "..b" + "ab" * 29),
+    ("0 write 0 5 " + "ab" * 33 + " ", 80, "..b" + "ab" * 29 + "\\x20"),
+    ("0 write 0 5 " + "ab" * 35 + " ", 84, "..b" + "ab" * 29 + "\\x20"),
 ]

@@ -2,29 +2,29 @@
 use Rattle.std.proofs.Common.{◌≡◌, ℕ, ◌+◌, List, [], ◌∷◌, ◌++◌, length, refl, sym, ap, ◌∙◌, append_assoc, arith}
 use Rattle.std.specs.List.{AllByRecursion}
 use Rattle.std.proofs.lemmas.List.{length-append}
-use Rattle.smx_words.specs.Words.{LINE_FEED}
+use Rattle.smx_words.specs.Words.{LINE_FEED, lines_text}
 use Rattle.smx_text.specs.Grammar.{IsOneLine}
-use Rattle.smx_explain.specs.Differences.{Begin, whole_lines}
+use Rattle.smx_explain.specs.Differences.{Begin}
 
 -- ---- lines
 
 -- lines with one more are the text of the others, then that line and its line feed
 whole_more : (lines : List (List ℕ)) (line : List ℕ)
-    → whole_lines (lines ++ line ∷ []) ≡ whole_lines lines ++ (line ++ LINE_FEED ∷ [])
+    → lines_text (lines ++ line ∷ []) ≡ lines_text lines ++ (line ++ LINE_FEED ∷ [])
 whole_more [] line = append_nothing (line ++ LINE_FEED ∷ []) where
   append_nothing : (xs : List ℕ) → xs ++ [] ≡ xs
   append_nothing [] = refl
   append_nothing (x ∷ xs) = ap (λ (ys : List ℕ). x ∷ ys) (append_nothing xs)
 whole_more (l ∷ lines) line = ap (λ (xs : List ℕ). (l ++ LINE_FEED ∷ []) ++ xs) (whole_more lines line)
-    ∙ sym (append_assoc (l ++ LINE_FEED ∷ []) (whole_lines lines) (line ++ LINE_FEED ∷ []))
+    ∙ sym (append_assoc (l ++ LINE_FEED ∷ []) (lines_text lines) (line ++ LINE_FEED ∷ []))
 
 -- bytes that begin with lines and go on with one more begin with these and that one
-shifted : (lines : List (List ℕ)) (line more bytes : List ℕ) → bytes ≡ whole_lines lines ++ (line ++ LINE_FEED ∷ more)
-    → bytes ≡ whole_lines (lines ++ line ∷ []) ++ more
+shifted : (lines : List (List ℕ)) (line more bytes : List ℕ) → bytes ≡ lines_text lines ++ (line ++ LINE_FEED ∷ more)
+    → bytes ≡ lines_text (lines ++ line ∷ []) ++ more
 shifted lines line more bytes is =
     rw (
       whole_more lines line,
-      append_assoc (whole_lines lines) (line ++ LINE_FEED ∷ []) more,
+      append_assoc (lines_text lines) (line ++ LINE_FEED ∷ []) more,
       append_assoc line (LINE_FEED ∷ []) more,
     ) is
 

@@ -11,7 +11,7 @@ use Rattle.smx_types.specs.declared.version.Version.{Version}
 use Rattle.smx_types.specs.declared.version.Version.TheVariants.{V1, V2}
 use Rattle.smx_words.specs.Spellable.{FitsDriver, FitsEntry}
 use Rattle.smx_words.specs.Spelling.{driver_words, entry_words}
-use Rattle.smx_words.specs.Words.{AreWords, LINE_FEED, line_of}
+use Rattle.smx_words.specs.Words.{AreWords, LINE_FEED, line_of, lines_text}
 use Rattle.smx_text.specs.Grammar.{IsOneLine, ReadsAny}
 use Rattle.smx_text.specs.TranscriptLines.{TranscriptLine}
 use Rattle.smx_text.specs.TranscriptLines as line
@@ -30,7 +30,7 @@ use Rattle.smx_config.specs.Verdicts.{IsVerdict}
 use Rattle.smx_config.specs.declared.verdict.Verdict.TheVariants.{ConfigDiffers, Legal}
 use Rattle.smx_replay.specs.Answers.{answered}
 use Rattle.smx_replay.specs.Replays.{IsReplayOf, IsReplayText}
-use Rattle.smx_explain.specs.Differences.{AreAlike, IsFirstDifference, whole_lines}
+use Rattle.smx_explain.specs.Differences.{AreAlike, IsFirstDifference}
 use Rattle.smx_explain.specs.Explanations.{IsExplanation, difference_text}
 use Rattle.smx_explain.proofs.HistoryLemmas.{stands_in}
 use Rattle.smx_explain.proofs.LineLemmas.{no_difference, no_rest, one_difference, past_front}
@@ -103,18 +103,18 @@ module _ (reading : HasOneReading) (t r : Transcript) (allowed : IsAllowed t.ver
       absurd cc
 
   -- where one of two texts has no whole line behind lines that both have, the transcripts are the same
-  end_alike : (lines : List (List ℕ)) (rest behind : List ℕ) → transcript_text t ≡ whole_lines lines ++ rest
-      → transcript_text r ≡ whole_lines lines ++ behind
+  end_alike : (lines : List (List ℕ)) (rest behind : List ℕ) → transcript_text t ≡ lines_text lines ++ rest
+      → transcript_text r ≡ lines_text lines ++ behind
       → IsOneLine rest → r ≡ t
   end_alike lines rest behind is is_too one =
       let end = text_ends (transcript_grammar t.version) t in
-      let none : rest ≡ [] = no_rest (whole_lines lines) end.0 rest (sym is ∙ end.1) one in
-      let whole : transcript_text t ≡ whole_lines lines = is ∙ ap (λ (xs : List ℕ). whole_lines lines ++ xs) none
-      ∙ append-nil (whole_lines lines) in
+      let none : rest ≡ [] = no_rest (lines_text lines) end.0 rest (sym is ∙ end.1) one in
+      let whole : transcript_text t ≡ lines_text lines = is ∙ ap (λ (xs : List ℕ). lines_text lines ++ xs) none
+      ∙ append-nil (lines_text lines) in
       by_rest behind whole is_too where
-        by_rest : (behind : List ℕ) → transcript_text t ≡ whole_lines lines
-            → transcript_text r ≡ whole_lines lines ++ behind → r ≡ t
-        by_rest [] whole is_too = same_text (is_too ∙ append-nil (whole_lines lines) ∙ sym whole)
+        by_rest : (behind : List ℕ) → transcript_text t ≡ lines_text lines
+            → transcript_text r ≡ lines_text lines ++ behind → r ≡ t
+        by_rest [] whole is_too = same_text (is_too ∙ append-nil (lines_text lines) ∙ sym whole)
         by_rest (b ∷ more) whole is_too =
             absurd (no_longer b more (is_too ∙ ap (λ (xs : List ℕ). xs ++ b ∷ more) (sym whole)))
 
@@ -266,10 +266,10 @@ module _ (driver : DriversAreWords) (entry : EntriesAreWords) (t : Transcript) (
       (body_at h.replay front there s.more_too s.its_replay) in
       let tail = line_of (entry_words there) ++ LINE_FEED ∷ at_too.0 in
       let as_version = subst (λ (v : Version). transcript_text h.replay
-      ≡ whole_lines (lines_before (transcript_grammar v) (lines_to h.replay.drivers front)) ++ tail)
+      ≡ lines_text (lines_before (transcript_grammar v) (lines_to h.replay.drivers front)) ++ tail)
       h.replays.version at_too.1 in
       let as_it = subst (λ (ds : List DriverSpec). transcript_text h.replay
-      ≡ whole_lines (lines_before (transcript_grammar t.version) (lines_to ds front)) ++ tail)
+      ≡ lines_text (lines_before (transcript_grammar t.version) (lines_to ds front)) ++ tail)
       h.replays.drivers as_version in
       record {
         before = lines_before (transcript_grammar t.version) (lines_to t.drivers front);
@@ -363,13 +363,13 @@ module _ (driver : DriversAreWords) (entry : EntriesAreWords) (t : Transcript) (
       let at_too = text_behind (transcript_grammar r.version) r (lines_above r.drivers r.entries) (view_body r.view)
       (body_behind r) in
       let as_version = subst (λ (v : Version). transcript_text r
-      ≡ whole_lines (lines_before (transcript_grammar v) (lines_above r.drivers r.entries)) ++ at_too.0)
+      ≡ lines_text (lines_before (transcript_grammar v) (lines_above r.drivers r.entries)) ++ at_too.0)
       h.replays.version at_too.1 in
       let as_drivers = subst (λ (ds : List DriverSpec). transcript_text r
-      ≡ whole_lines (lines_before (transcript_grammar t.version) (lines_above ds r.entries)) ++ at_too.0)
+      ≡ lines_text (lines_before (transcript_grammar t.version) (lines_above ds r.entries)) ++ at_too.0)
       h.replays.drivers as_version in
       let as_it = subst (λ (es : List Entry). transcript_text r
-      ≡ whole_lines (lines_before (transcript_grammar t.version) (lines_above t.drivers es)) ++ at_too.0)
+      ≡ lines_text (lines_before (transcript_grammar t.version) (lines_above t.drivers es)) ++ at_too.0)
       entries as_drivers in
       elim h.told [
         | inl same ↦

@@ -4,10 +4,10 @@ use Rattle.std.proofs.Common.{append_assoc, arith, inl, inr}
 use Rattle.std.proofs.lemmas.List.{append_cancel_left}
 use Rattle.std.specs.Prelude.{◌⊎◌}
 use Rattle.std.specs.List.{AllByRecursion, flat_map}
-use Rattle.smx_words.specs.Words.{LINE_FEED}
+use Rattle.smx_words.specs.Words.{LINE_FEED, lines_text}
 use Rattle.smx_text.specs.Grammar.{IsOneLine}
 use Rattle.smx_text.proofs.LineLemmas.{not_one, one_cut}
-use Rattle.smx_explain.specs.Differences.{AreAlike, IsFirstDifference, IsFirstLine, whole_lines}
+use Rattle.smx_explain.specs.Differences.{AreAlike, IsFirstDifference, IsFirstLine}
 
 -- ---- bytes
 
@@ -26,12 +26,12 @@ no_rest (x ∷ xs) (y ∷ ys) rest e one = let more : xs ++ rest ≡ ys ++ LINE_
 
 -- lines with bytes behind them begin with the first line and its line feed
 cons : (line : List ℕ) (lines : List (List ℕ)) (rest : List ℕ)
-    → whole_lines (line ∷ lines) ++ rest ≡ line ++ LINE_FEED ∷ (whole_lines lines ++ rest)
+    → lines_text (line ∷ lines) ++ rest ≡ line ++ LINE_FEED ∷ (lines_text lines ++ rest)
 cons line lines rest = simp append_assoc
 
 -- what is written of values, each with a line feed behind it, is the lines that are made of them
 pub whole_map : {A : Type 0} (f : A → List ℕ) (xs : List A)
-    → flat_map (λ x. f x ++ LINE_FEED ∷ []) xs ≡ whole_lines (map f xs)
+    → flat_map (λ x. f x ++ LINE_FEED ∷ []) xs ≡ lines_text (map f xs)
 whole_map f [] = refl
 whole_map f (x ∷ xs) = ap (λ (rest : List ℕ). (f x ++ LINE_FEED ∷ []) ++ rest) (whole_map f xs)
 
@@ -47,8 +47,8 @@ pub one_front : (ls ms : List (List ℕ)) (told has told_too has_too more rest m
     → AllByRecursion IsOneLine ls → AllByRecursion IsOneLine ms → IsOneLine told → IsOneLine has → IsOneLine told_too
     → IsOneLine has_too
     → told ≢ has → told_too ≢ has_too
-    → whole_lines ls ++ (told ++ LINE_FEED ∷ more) ≡ whole_lines ms ++ (told_too ++ LINE_FEED ∷ more_too)
-    → whole_lines ls ++ (has ++ LINE_FEED ∷ rest) ≡ whole_lines ms ++ (has_too ++ LINE_FEED ∷ rest_too)
+    → lines_text ls ++ (told ++ LINE_FEED ∷ more) ≡ lines_text ms ++ (told_too ++ LINE_FEED ∷ more_too)
+    → lines_text ls ++ (has ++ LINE_FEED ∷ rest) ≡ lines_text ms ++ (has_too ++ LINE_FEED ∷ rest_too)
     → (length ls ≡ length ms) × (told ≡ told_too) × (has ≡ has_too)
 one_front [] [] told has told_too has_too more rest more_too rest_too all all_too a b c d differ differ_too e k =
     (refl, (one_cut told told_too more more_too a c e).0, (one_cut has has_too rest rest_too b d k).0)
@@ -73,8 +73,8 @@ one_front (l ∷ ls) (m ∷ ms) told has told_too has_too more rest more_too res
 -- lines that both begin with come before the difference
 pub past_front : (ps ls : List (List ℕ)) (told has more rest x y : List ℕ)
     → AllByRecursion IsOneLine ps → AllByRecursion IsOneLine ls → IsOneLine told → IsOneLine has → told ≢ has
-    → whole_lines ls ++ (told ++ LINE_FEED ∷ more) ≡ whole_lines ps ++ x
-    → whole_lines ls ++ (has ++ LINE_FEED ∷ rest) ≡ whole_lines ps ++ y
+    → lines_text ls ++ (told ++ LINE_FEED ∷ more) ≡ lines_text ps ++ x
+    → lines_text ls ++ (has ++ LINE_FEED ∷ rest) ≡ lines_text ps ++ y
     → length ps ≤ length ls
 past_front [] ls told has more rest x y all all_too a b differ e k = omega arith
 past_front (p ∷ ps) [] told has more rest x y all all_too a b differ e k =
@@ -102,14 +102,14 @@ one_difference one other n m told has told_too has_too h k =
 pub no_difference : (one other : List ℕ) (n : ℕ) (told has : List ℕ) → IsFirstDifference one other n told has
     → one ≡ other → ⊥
 no_difference one other n told has h same =
-    let rests = append_cancel_left (whole_lines h.before) _ _ (sym h.begin.one_is ∙ same ∙ h.begin.other_is) in
+    let rests = append_cancel_left (lines_text h.before) _ _ (sym h.begin.one_is ∙ same ∙ h.begin.other_is) in
     h.differ (one_cut told has h.more h.rest h.told_is_one h.has_is_one rests).0
 
 -- two texts with the same lines, behind which one of them has no whole line more, have no line that differs
 alike_before : (ps ls : List (List ℕ)) (told has more rest x y : List ℕ)
     → AllByRecursion IsOneLine ps → AllByRecursion IsOneLine ls → IsOneLine told → IsOneLine has → told ≢ has
-    → whole_lines ls ++ (told ++ LINE_FEED ∷ more) ≡ whole_lines ps ++ x
-    → whole_lines ls ++ (has ++ LINE_FEED ∷ rest) ≡ whole_lines ps ++ y
+    → lines_text ls ++ (told ++ LINE_FEED ∷ more) ≡ lines_text ps ++ x
+    → lines_text ls ++ (has ++ LINE_FEED ∷ rest) ≡ lines_text ps ++ y
     → IsOneLine x ⊎ IsOneLine y → ⊥
 alike_before [] [] told has more rest x y all all_too a b differ e k (inl one) =
     not_one told more (subst IsOneLine (sym e) one)
@@ -150,9 +150,9 @@ one_first_line bytes one other (a, inr (after, is)) (b, inr (behind, is_too)) =
 abbrev pub IsFrom : List ℕ → ℕ → ℕ → List ℕ → Type 0
 IsFrom text number at bytes =
     (before : List (List ℕ)) (rest : List ℕ) → AllByRecursion IsOneLine before → number ≡ length before + 1
-    → text ≡ whole_lines before ++ rest
+    → text ≡ lines_text before ++ rest
     → (behind : List (List ℕ)) × AllByRecursion IsOneLine behind × (length behind + at ≡ number)
-    × (bytes ≡ whole_lines behind ++ rest)
+    × (bytes ≡ lines_text behind ++ rest)
 
 -- behind a whole line, the lines from the next number on follow
 pub one_further : (text : List ℕ) (number at : ℕ) (bytes line after : List ℕ) → IsFrom text number at bytes
@@ -162,25 +162,25 @@ one_further text number at bytes line after h less one is =
     λ before rest all count e. behind_one (h before rest all count e) where
       behind_one : {rest : List ℕ}
           → ((behind : List (List ℕ)) × AllByRecursion IsOneLine behind × (length behind + at ≡ number)
-          × (bytes ≡ whole_lines behind ++ rest))
+          × (bytes ≡ lines_text behind ++ rest))
           → (behind : List (List ℕ)) × AllByRecursion IsOneLine behind × (length behind + (at + 1) ≡ number)
-          × (after ≡ whole_lines behind ++ rest)
+          × (after ≡ lines_text behind ++ rest)
       behind_one ([], all, long, e) = absurd (omega (arith, long, less))
       behind_one {rest} (b ∷ behind, all, long, e) = (
         behind,
         all.1,
         omega (arith, long),
-        (one_cut line b after (whole_lines behind ++ rest) one all.0 (sym is ∙ e ∙ cons b behind rest)).1,
+        (one_cut line b after (lines_text behind ++ rest) one all.0 (sym is ∙ e ∙ cons b behind rest)).1,
       )
 
 -- where no line feed stands in what follows, there is no line of the number that is wanted
 pub none_further : (text : List ℕ) (number at : ℕ) (bytes : List ℕ) → IsFrom text number at bytes → at < number
     → IsOneLine bytes
     → (before : List (List ℕ)) (rest : List ℕ) → AllByRecursion IsOneLine before → number ≡ length before + 1
-    → text ≡ whole_lines before ++ rest → ⊥
+    → text ≡ lines_text before ++ rest → ⊥
 none_further text number at bytes h less one before rest all count e = no_lines (h before rest all count e) where
   no_lines : ((behind : List (List ℕ)) × AllByRecursion IsOneLine behind × (length behind + at ≡ number)
-      × (bytes ≡ whole_lines behind ++ rest)) → ⊥
+      × (bytes ≡ lines_text behind ++ rest)) → ⊥
   no_lines ([], all, long, e) = omega (arith, long, less)
   no_lines (b ∷ behind, all, long, e) =
-      not_one b (whole_lines behind ++ rest) (subst IsOneLine (e ∙ cons b behind rest) one)
+      not_one b (lines_text behind ++ rest) (subst IsOneLine (e ∙ cons b behind rest) one)

@@ -2,11 +2,10 @@
 use Rattle.std.proofs.Common.{◌≡◌, ℕ, List, [], ◌∷◌, ◌++◌, map, sym, ap, ◌∙◌, append_assoc}
 use Rattle.std.specs.List.{AllByRecursion}
 use Rattle.std.proofs.lemmas.List.{append-nil, map-append}
-use Rattle.smx_words.specs.Words.{LINE_FEED, line_of, text_of}
+use Rattle.smx_words.specs.Words.{LINE_FEED, line_of, lines_text, text_of}
 use Rattle.smx_text.specs.Grammar.{Grammar, IsOneLine, full_text, line_text}
 use Rattle.smx_text.proofs.EachLemmas.{all_map}
 use Rattle.smx_text.proofs.ReadingLemmas.{texts_append}
-use Rattle.smx_explain.specs.Differences.{whole_lines}
 use Rattle.smx_explain.proofs.LineLemmas.{whole_map}
 
 module _ {V K : Type 0} (g : Grammar V K) where
@@ -30,7 +29,7 @@ module _ {V K : Type 0} (g : Grammar V K) where
 
   -- the text of a value is the header and some lines of it, and then the text from the others on
   text_from : (v : V) (lines more : List K) → g.body v ≡ lines ++ more
-      → full_text g v ≡ whole_lines (lines_before lines) ++ rest_of more
+      → full_text g v ≡ lines_text (lines_before lines) ++ rest_of more
   text_from v lines more is =
       let rest = map g.line_words more ++ g.line_words g.end ∷ [] in
       let before = g.header_words ∷ map g.line_words lines in
@@ -44,15 +43,15 @@ module _ {V K : Type 0} (g : Grammar V K) where
 
   -- a text goes on somehow behind its header and some lines of its value
   pub text_behind : (v : V) (lines more : List K) → g.body v ≡ lines ++ more
-      → (after : List ℕ) × (full_text g v ≡ whole_lines (lines_before lines) ++ after)
+      → (after : List ℕ) × (full_text g v ≡ lines_text (lines_before lines) ++ after)
   text_behind v lines more is = (rest_of more, text_from v lines more is)
 
   -- the text goes on with any line of the value behind those before it
   pub text_at : (v : V) (lines : List K) (k : K) (more : List K) → g.body v ≡ lines ++ k ∷ more
-      → (after : List ℕ) × (full_text g v ≡ whole_lines (lines_before lines) ++ (line_text g k ++ LINE_FEED ∷ after))
+      → (after : List ℕ) × (full_text g v ≡ lines_text (lines_before lines) ++ (line_text g k ++ LINE_FEED ∷ after))
   text_at v lines k more is = (
     rest_of more,
-    text_from v lines (k ∷ more) is ∙ ap (λ (bytes : List ℕ). whole_lines (lines_before lines) ++ bytes)
+    text_from v lines (k ∷ more) is ∙ ap (λ (bytes : List ℕ). lines_text (lines_before lines) ++ bytes)
         (append_assoc (line_text g k) (LINE_FEED ∷ []) (rest_of more)),
   )
 

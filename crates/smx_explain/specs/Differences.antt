@@ -1,12 +1,8 @@
 -- The first line in which two texts differ.
-use Rattle.std.specs.Prelude.{◌≡◌, ◌≢◌, ℕ, ◌+◌, List, [], ◌∷◌, ◌++◌, length, ◌⊎◌}
-use Rattle.std.specs.List.{AllByRecursion, flat_map}
-use Rattle.smx_words.specs.Words.{LINE_FEED}
+use Rattle.std.specs.Prelude.{◌≡◌, ◌≢◌, ℕ, ◌+◌, List, ◌∷◌, ◌++◌, length, ◌⊎◌}
+use Rattle.std.specs.List.{AllByRecursion}
+use Rattle.smx_words.specs.Words.{LINE_FEED, lines_text}
 use Rattle.smx_text.specs.Grammar.{IsOneLine}
-
--- these lines, each with its line feed
-abbrev pub whole_lines : List (List ℕ) → List ℕ
-whole_lines lines = flat_map (λ line. line ++ LINE_FEED ∷ []) lines
 
 -- the first line of some bytes, whole or not
 abbrev pub IsFirstLine : List ℕ → List ℕ → Type 0
@@ -15,8 +11,8 @@ IsFirstLine line bytes = IsOneLine line × ((bytes ≡ line) ⊎ ((after : List 
 -- both texts begin with these lines
 pub record Begin (one other : List ℕ) (lines : List (List ℕ)) (rest behind : List ℕ) : Type 0 where
   pub are_lines : AllByRecursion IsOneLine lines
-  pub one_is : one ≡ whole_lines lines ++ rest
-  pub other_is : other ≡ whole_lines lines ++ behind
+  pub one_is : one ≡ lines_text lines ++ rest
+  pub other_is : other ≡ lines_text lines ++ behind
 
 -- The line of this number is `told` in the one text and `has` in the other, and those before it are the same.
 pub record IsFirstDifference (one other : List ℕ) (number : ℕ) (told has : List ℕ) : Type 0 where

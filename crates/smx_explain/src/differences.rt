@@ -1,12 +1,10 @@
 //! The first line in which two texts differ.
 
-ghost use Rattle.std.specs.Prelude.{◌≡◌, ◌∷◌, ◌++◌, MatchOption, IfOk};
+ghost use Rattle.std.specs.Prelude.{◌≡◌, MatchOption, IfOk};
 ghost use Rattle.smx_explain.specs.Differences.{AreAlike, IsFirstDifference};
 ghost use Rattle.smx_explain.specs.Explanations.{difference_text};
-ghost use Rattle.smx_text.specs.Grammar.{IsOneLine};
-ghost use Rattle.smx_words.specs.Words.{LINE_FEED};
 
-use crate::lines::next_line;
+use smx_text::next_line;
 use smx_types::NoMemory;
 use std::alloc::Global;
 
@@ -46,14 +44,11 @@ pub fn first_difference<'a>(one: &'a [u8], other: &'a [u8]) -> Option<Difference
 }
 
 /// The two lines that tell of a difference. Fails only for want of memory.
-pub fn difference_text(
-    alloc: Global,
-    number: usize,
-    told: &[u8],
-    has: &[u8],
-) -> Result<Vec<u8>, NoMemory>
-    ensures { IfOk result (λ text. text.items ≡ difference_text number told.now has.now) }
+pub fn difference_text(alloc: Global, difference: &Difference) -> Result<Vec<u8>, NoMemory>
+    ensures { IfOk result (λ text. text.items
+        ≡ difference_text difference.now.number difference.now.told.now difference.now.has.now) }
 {
+    let Difference { number, told, has } = *difference;
     let begin = format!(in alloc; "line {number}: ")?;
     let mut text = Vec::from_slice(alloc, begin.as_bytes())?;
     text.extend_from_slice(told)?;

@@ -5,7 +5,7 @@ ghost use Rattle.smx_config.specs.DriverFaults.{RefusesDrivers};
 ghost use Rattle.smx_explain.specs.Explanations.{IsExplanation};
 ghost use Rattle.smx_text.specs.TranscriptText.{SpellsTranscript};
 
-use crate::differences::{Difference, difference_text, first_difference};
+use crate::differences::{difference_text, first_difference};
 use smx_config::ConfigFault;
 use smx_replay::laws_of_replays::replays_can_be_told;
 use smx_replay::replay;
@@ -25,7 +25,7 @@ pub fn explain(alloc: Global, text: &[u8], transcript: Transcript) -> Result<Vec
     one_transcript_has_one_reading();
     let replayed = replay(alloc, transcript, Vec::new(alloc))?;
     match first_difference(text, replayed.as_slice()) {
-        Some(Difference { number, told, has }) => Ok(difference_text(alloc, number, told, has)?),
+        Some(difference) => Ok(difference_text(alloc, &difference)?),
         None => Ok(Vec::new(alloc)),
     }
 }

@@ -6,9 +6,9 @@ mod explaining;
 mod fault;
 pub mod laws_of_explanations;
 mod lines;
+mod reasons;
+mod shown;
 
-pub use differences::{Difference, first_difference};
 pub use explaining::explain;
 pub use fault::FaultExplanation;
-pub use lines::line_at;
 pub use smx_place::TextKind;

@@ -6,10 +6,10 @@ use Rattle.smx_explain.proofs.differences.first_difference.Goals as goal
 
 pub lines-preserved : goal.lines-preserved
 lines-preserved c =
-    let told = c.in-Some.ensures in
+    let told = c.in-Some.ensures.next in
     let same : c.in-Some.told.now ≡ c.in-Some-next_line.has.now = search rules in
     record {
-      come = one_more _ _ _ _ _ c.lines.invariant.come _ _ _ _ told.0 told.1 c.in-Some-next_line.ensures.1 same;
+      come = one_more _ _ _ _ _ c.lines.invariant.come _ _ _ _ told.0 told.1 c.in-Some-next_line.ensures.next.1 same;
       room = omega (
         arith,
         ap (length {A = _}) told.1,
