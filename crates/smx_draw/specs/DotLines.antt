@@ -1,4 +1,5 @@
--- The line of each part of a view in the language of Graphviz. Nodes are named so that no two parts share one.
+-- The line of each part of a view in the language of Graphviz. A driver, a stream, a queue and what hangs on them have
+-- names of their own, so that no two of them share a node.
 use Rattle.std.specs.Prelude.{ℕ, List, [], ◌∷◌, codes}
 use Rattle.std.specs.Fmt.{decimal}
 use Rattle.smx_types.specs.declared.driver.DriverSpec.{DriverSpec}
@@ -58,7 +59,7 @@ message_line m =
     joined (codes "  \"message:" ∷ decimal m.message.serial ∷
     codes "\" [shape=note style=solid label=\"message " ∷ decimal m.message.serial ∷ codes "\\nto " ∷
     decimal m.message.addr ∷ codes ", " ∷ decimal (shown_length m.message.bytes) ∷
-    codes " bytes\"]; \"message:" ∷ decimal m.message.serial ∷ codes "\" -> \"" ∷ m.driver ∷ codes " " ∷
+    codes " B\"]; \"message:" ∷ decimal m.message.serial ∷ codes "\" -> \"" ∷ m.driver ∷ codes " " ∷
     decimal m.minor ∷ codes " " ∷ side_word m.side ∷ codes "\" -> \"" ∷ m.driver ∷ codes " " ∷ decimal m.minor ∷
     codes "\" -> \"" ∷ m.driver ∷ codes "\";\n" ∷ [])
 
@@ -82,4 +83,4 @@ abbrev pub queue_line : DotQueue → List ℕ
 queue_line q =
     joined (codes "  \"" ∷ q.driver ∷ codes " " ∷ decimal q.minor ∷ codes " " ∷ side_word q.side ∷
     codes "\" [style=dashed label=\"" ∷ side_word q.side ∷ codes " queue, " ∷ decimal q.bytes ∷
-    codes " bytes\\nhigh " ∷ decimal q.high ∷ codes ", low " ∷ decimal q.low ∷ codes "\"];\n" ∷ [])
+    codes " B\\nhigh " ∷ decimal q.high ∷ codes ", low " ∷ decimal q.low ∷ codes "\"];\n" ∷ [])

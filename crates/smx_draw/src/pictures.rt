@@ -10,7 +10,7 @@ use smx_types::{NoMemory, Transcript};
 use std::alloc::Global;
 
 /// A picture of the configuration that a transcript shows, whether its history is legal or not, and whatever it shows.
-/// The same transcript has the same picture. Fails only for want of memory.
+/// Where it is for Graphviz, the same transcript has the same text. Fails only for want of memory.
 pub fn draw(alloc: Global, transcript: &Transcript, form: Form) -> Result<Vec<u8>, NoMemory>
     ensures { IfOk result (λ v. IsPictureOf form transcript.now v.items) }
 {

@@ -132,7 +132,7 @@ impl DotLine for DotQueue {
                 Piece::Side(self.side),
                 Piece::Text(b" queue, "),
                 Piece::Number(self.bytes),
-                Piece::Text(b" bytes\\nhigh "),
+                Piece::Text(b" B\\nhigh "),
                 Piece::Number(self.high),
                 Piece::Text(b", low "),
                 Piece::Number(self.low),

@@ -178,7 +178,7 @@ impl DotLine for MessageLine {
                 Piece::Number(self.message.addr),
                 Piece::Text(b", "),
                 Piece::Length(&self.message.bytes),
-                Piece::Text(b" bytes\"]; \"message:"),
+                Piece::Text(b" B\"]; \"message:"),
                 Piece::Number(self.message.serial),
                 Piece::Text(b"\" -> \""),
                 Piece::Name(&self.driver),
