@@ -12,12 +12,12 @@ _muxsim() {
         --workers) return ;;
     esac
     if ((COMP_CWORD == 1)); then
-        words='run check replay draw live help --help --version'
+        words='run check replay draw live commands help --help --version'
     else
         case ${COMP_WORDS[1]} in
             run) words='--workers --fronts --explain --help' ;;
             check) words='--explain --help' ;;
-            replay | live) words='--help' ;;
+            replay | live | commands) words='--help' ;;
             draw) words='--dot --help' ;;
             help) ((COMP_CWORD == 2)) && words='run check replay draw live commands' ;;
         esac

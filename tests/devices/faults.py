@@ -34,13 +34,15 @@ def calls_before(call, words, given):
     return ours[0], len(ours)
 
 
-def refused(call, errors, words, given):
-    """Each of these calls of the program fails, by each error: status 5, its line, and nothing was written."""
+def refused(call, errors, words, given, whole=""):
+    """Each of these calls of the program fails, by each error: status 5, its line, and nothing was written, but for what
+    earlier writes of the whole output took."""
     before, count = calls_before(call, words, given)
     for nth in range(before + 1, before + count + 1):
         for error in errors:
             ran, lines = traced(["-e", f"trace={call}", "-e", f"inject={call}:{error}:when={nth}"], words, given)
-            right = (ran.returncode, ran.stdout, ran.stderr) == (5, "", LINES[call])
+            right = (ran.returncode, ran.stderr) == (5, LINES[call]) and whole.startswith(ran.stdout)
+            right = right and (ran.stdout == "") == (nth == before + 1 or not whole)
             injected = any("INJECTED" in line for line in lines)
             is_so(f"{words}, {call} {nth} as {error}", right and injected, ran)
 
@@ -59,8 +61,8 @@ def by_strace():
         refused("write", [f"error={error}" for error in ON_WRITES] + ["retval=0"], words, given)
     for lines in LIVE:
         refused("read", [f"error={error}" for error in ON_READS], ["live"], f"{lines}/stdin")
-    for words in [["--help"], ["--version"]]:
-        refused("write", [f"error={error}" for error in ON_WRITES[1:]] + ["retval=0"], words, f"{EXAMPLE}.mux")
-        ran, _ = traced(["-e", "trace=write", "-e", "inject=write:error=EINTR:when=1"], words, f"{EXAMPLE}.mux")
+    for words in [["--help"], ["commands"], ["--version"]]:
         shown = subprocess.run([MUXSIM, *words], capture_output=True, text=True, timeout=60).stdout
+        refused("write", [f"error={error}" for error in ON_WRITES[1:]] + ["retval=0"], words, f"{EXAMPLE}.mux", shown)
+        ran, _ = traced(["-e", "trace=write", "-e", "inject=write:error=EINTR:when=1"], words, f"{EXAMPLE}.mux")
         is_so(f"{words}, interrupted, is tried again", (ran.returncode, ran.stdout, ran.stderr) == (0, shown, ""), ran)

@@ -19,8 +19,8 @@ const VERSION: &str = "0.1.0";
 
 /// What the words ask for, of which the first is the program's name. Any other words than `run`, with `--workers`,
 /// `--fronts` and `--explain` or without, `check`, with `--explain` or without, `replay`, `draw`, with `--dot` or
-/// without, and `live` are clap's error, and so is a request for help or the version; want of memory is its kind
-/// `OutOfMemory`.
+/// without, and `live` are clap's error, and so is a request for help or the version, as `commands`; want of memory is
+/// its kind `OutOfMemory`.
 pub fn job<'a, S: AsStr>(alloc: Global, words: &'a [S]) -> Result<Job, Error>
     ensures { IfOk result CanRun }
 {
@@ -50,7 +50,7 @@ fn job_of(alloc: Global, matches: &ArgMatches) -> Result<Job, Error>
             explain: check.get_flag("explain"),
         }),
         // `commands` is left: clap has refused all others, and words without a subcommand.
-        Some(_) | None => Err(no_job_of_its_own(alloc)?),
+        Some(_) | None => Err(help_of_commands(alloc)?),
     }
 }
 
@@ -74,10 +74,20 @@ fn form_of(draw: &ArgMatches) -> Form {
     }
 }
 
-// The page of help that lists the commands is asked for by `help commands`.
-fn no_job_of_its_own(alloc: Global) -> Result<Error, AllocError> {
-    let message = "'commands' is a page of the help, which 'muxsim help commands' prints";
-    program(alloc)?.error(ErrorKind::InvalidSubcommand, message)
+// What clap answers to `help commands`: the page of help that `commands` by itself asks for too.
+fn help_of_commands(alloc: Global) -> Result<Error, AllocError> {
+    let mut program = program(alloc)?;
+    match program.try_get_matches_from_mut(&["muxsim", "help", "commands"]) {
+        Err(help) => Ok(help),
+        // A request for help has no matches.
+        Ok(matches) => {
+            forget(matches);
+            program.error(
+                ErrorKind::InvalidSubcommand,
+                "'commands' is a page of the help",
+            )
+        }
+    }
 }
 
 // The program with its subcommands. Its usage names it so, whatever the file is called.

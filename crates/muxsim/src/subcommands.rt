@@ -10,7 +10,7 @@ pub const SEE: &str =
     "Exit status: 0 done or legal, 1 refused, 2 wrong words, 3 wrong text, 4 illegal or differing,
 5 input or output failed.
 More is in muxsim(1), and beside the sources in docs/: the texts in FORMATS.md, commands and replies in
-COMMANDS.md. 'muxsim help commands' lists the commands of a program.";
+COMMANDS.md. 'muxsim commands' shows how the texts are written, and the commands of a program.";
 
 /// The one that runs programs.
 pub fn run<'a>(alloc: Global) -> Result<Command<'a>, AllocError> {
@@ -70,11 +70,11 @@ pub fn live<'a>(alloc: Global) -> Command<'a> {
     .override_usage("muxsim live < LINES")
 }
 
-/// The page of the help that lists the commands of a program.
+/// The one that shows the page of the help on the texts and the commands of a program.
 pub fn commands<'a>(alloc: Global) -> Command<'a> {
     Command::new(alloc, "commands")
+        .about("Show how the texts are written, and the commands of a program")
         .override_help(COMMANDS)
-        .hide(true)
 }
 
 // A subcommand without options.
