@@ -80,7 +80,8 @@ int32_t muxsim_session_open(struct muxsim_session *session, const uint8_t *progr
 int32_t muxsim_session_why(const uint8_t *programs, size_t len, uint8_t *text, size_t room, size_t *text_len);
 
 /* Performs the command of a line of `len` bytes, as "0 clone ip", which has no line feed. MUXSIM_LINE, MUXSIM_CLOSED
- * and MUXSIM_NO_MEMORY perform nothing. */
+ * and MUXSIM_NO_MEMORY perform nothing. A line that is no process with a command is MUXSIM_LINE, whatever memory there
+ * is. */
 int32_t muxsim_session_perform(struct muxsim_session *session, const uint8_t *line, size_t len);
 
 /* Writes the line of the command that was performed last, with its reply and a line feed, to `text` and `len` as
@@ -173,7 +174,7 @@ static inline int32_t muxsim_open(struct muxsim *shared, const char *programs, s
  * the reply and a line feed: "0 clone ip = fd 0 0\n". A command that is refused is performed too: its reply says why.
  * With MUXSIM_NO_LINE it was performed, and nothing is written: muxsim_entry is asked again for its line. With any
  * other code but MUXSIM_DONE nothing has changed, and nothing is written: MUXSIM_LINE, where the line is no process
- * with a command, MUXSIM_NO_MEMORY, MUXSIM_CLOSED and MUXSIM_NO_LOCK.
+ * with a command, whatever memory there is, MUXSIM_NO_MEMORY, MUXSIM_CLOSED and MUXSIM_NO_LOCK.
  *
  * A session performs any number of commands, and keeps the last one alone. A transcript has at most 100,000 entries:
  * one that is made of the lines of more commands is no transcript to `muxsim check`, which answers `many`. */
