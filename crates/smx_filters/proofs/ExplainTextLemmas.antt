@@ -1,5 +1,5 @@
 -- What a check that explains itself says of a transcript, and which texts are kept.
-use Rattle.std.proofs.Common.{◌≡◌, ℕ, ◌++◌, Bool, List, length, Option, Some, Result, Ok, Err, Vec}
+use Rattle.std.proofs.Common.{◌≡◌, ℕ, ◌++◌, Bool, List, length, Option, None, Result, Ok, Err, Vec}
 use Rattle.std.proofs.Common.{refl, sym}
 use Rattle.std.proofs.Common.{ap, subst, ◌∙◌}
 use Rattle.std.specs.Prelude.{IsErrAnd}
@@ -81,22 +81,24 @@ is_explained t drivers entries verdict line told output same same_too can judged
 module _ {V K T : Type 0} (f : Filter V K T) (had left : Option (List ℕ)) (ended : Bool) (failures : ℕ)
     (held : Option (List ℕ)) (flushed : Bool) (written : ℕ) (v : Vec ℕ Global) (read : List ℕ)
     (h : IsInput had left ended failures (Ok v) read) (fine : written ≡ 0) where
-  -- where nothing came of what was read, it is kept
-  pub with_text : (e : MainFault) → Answers f v.items (Err e)
-      → KeepsText f had left ended failures held held flushed written (Err (record { fault = e; text = Some v }))
-  with_text e a = record {
-    filtered = at_answer f had left ended failures held flushed written v read h fine e a;
-    kept = λ fault is. are_read f had left ended failures held flushed written v read h fine e a;
+  -- nothing came of what was read, which is kept just where it is at fault
+  pub kept_so : (r : Refusal) → Answers f v.items (Err r.fault)
+      → ((fault : TextFault) → r.fault ≡ Text fault → IsKept r.text v.items)
+      → ((fault : RunFault) → r.fault ≡ Refused fault → r.text ≡ None)
+      → KeepsText f had left ended failures held held flushed written (Err r)
+  kept_so r a keeps gives_up = record {
+    filtered = at_answer f had left ended failures held flushed written v read h fine r.fault a;
+    kept = λ fault same. subst (IsKept r.text)
+        (are_read f had left ended failures held flushed written v read h fine r.fault a) (keeps fault same);
+    given_up = gives_up;
   }
 
-  -- and where a text is kept just where it is at fault, a `?` passes that on as it is
+  -- and a `?` passes that on as it is
   pub kept_on : (r : Refusal) (answer : Result T Refusal) → IsErrAnd answer (λ x. x ≡ r)
       → Answers f v.items (Err r.fault) → ((fault : TextFault) → r.fault ≡ Text fault → IsKept r.text v.items)
+      → ((fault : RunFault) → r.fault ≡ Refused fault → r.text ≡ None)
       → KeepsText f had left ended failures held held flushed written answer
-  kept_on r (Ok done) is a keeps = absurd is
-  kept_on r (Err x) is a keeps =
-      subst (λ (y : Refusal). KeepsText f had left ended failures held held flushed written (Err y)) (sym is) (record {
-        filtered = at_answer f had left ended failures held flushed written v read h fine r.fault a;
-        kept = λ fault same. subst (IsKept r.text)
-            (are_read f had left ended failures held flushed written v read h fine r.fault a) (keeps fault same);
-      })
+  kept_on r (Ok done) is a keeps gives_up = absurd is
+  kept_on r (Err x) is a keeps gives_up =
+      subst (λ (y : Refusal). KeepsText f had left ended failures held held flushed written (Err y)) (sym is)
+      (kept_so r a keeps gives_up)

@@ -9,10 +9,11 @@ use Rattle.smx_text.specs.declared.text_fault.TextFault.{TextFault}
 use Rattle.smx_config.specs.declared.verdict.Verdict.{Verdict}
 use Rattle.smx_explain.specs.Explanations.{IsExplanation}
 use Rattle.smx_run.specs.RunFaults.{RefusesAlone}
+use Rattle.smx_run.specs.declared.run_fault.RunFault.{RunFault}
 use Rattle.smx_filters.specs.CheckText.{IsJudged, checking, verdict_line}
 use Rattle.smx_filters.specs.Filters.{Filter, FiltersText}
 use Rattle.smx_filters.specs.declared.main_fault.MainFault.{MainFault}
-use Rattle.smx_filters.specs.declared.main_fault.MainFault.TheVariants.{Text}
+use Rattle.smx_filters.specs.declared.main_fault.MainFault.TheVariants.{Refused, Text}
 use Rattle.smx_filters.specs.declared.refusal.Refusal.{Refusal}
 
 -- ---- a verdict
@@ -66,3 +67,5 @@ pub record KeepsText {V K T : Type 0} (f : Filter V K T) (had left : Option (Lis
   pub filtered : FiltersText f had left ended read_failures before after flushed write_failures (answer_of answer)
   -- Where the text is at fault, all that was read is kept.
   pub kept : IfErr answer (λ r. (fault : TextFault) → r.fault ≡ Text fault → IsKept r.text filtered.read)
+  -- Where drivers are refused or memory was wanting, nothing is.
+  pub given_up : IfErr answer (λ r. (fault : RunFault) → r.fault ≡ Refused fault → r.text ≡ None)

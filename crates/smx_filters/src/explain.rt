@@ -11,7 +11,7 @@ use crate::device::{Feed, Sink};
 use crate::input::read_all;
 use crate::main_fault::MainFault;
 use crate::output::write_all;
-use crate::refusal::Refusal;
+use crate::refusal::{Refusal, kept_for};
 use crate::text::text_for;
 use smx_config::{Verdict, check_history};
 use smx_explain::explain;
@@ -42,10 +42,7 @@ pub fn check_explained<F: Feed, S: Sink>(
             write_all(sink, output.as_slice())?;
             Ok(verdict)
         }
-        Err(fault) => Err(Refusal {
-            fault,
-            text: Some(input),
-        }),
+        Err(fault) => Err(kept_for(fault, input)),
     }
 }
 

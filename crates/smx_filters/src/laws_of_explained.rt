@@ -2,16 +2,17 @@
 //! nothing.
 
 ghost use Rattle.std.specs.Global.{Global};
-ghost use Rattle.std.specs.Prelude.{◌≡◌, ℕ, ◌++◌, Bool, List, [], Some, Result, Err, Vec};
+ghost use Rattle.std.specs.Prelude.{◌≡◌, ℕ, ◌++◌, Bool, List, [], Some, None, Result, Err, Vec};
 ghost use Rattle.smx_config.specs.declared.verdict.Verdict.{Verdict};
 ghost use Rattle.smx_config.specs.declared.verdict.Verdict.TheVariants.{Legal};
+ghost use Rattle.smx_run.specs.declared.run_fault.RunFault.{RunFault as AnyFault};
 ghost use Rattle.smx_text.specs.declared.text_fault.TextFault.{TextFault};
 ghost use Rattle.smx_filters.specs.CheckText.{checking};
 ghost use Rattle.smx_filters.specs.ExplainText.{KeepsText, answer_of, explaining, judging};
 ghost use Rattle.smx_filters.specs.Filters.{GivesFor};
 ghost use Rattle.smx_filters.specs.InMemory.{EndsInMemory};
 ghost use Rattle.smx_filters.specs.RunText.{running};
-ghost use Rattle.smx_filters.specs.declared.main_fault.MainFault.TheVariants.{Text};
+ghost use Rattle.smx_filters.specs.declared.main_fault.MainFault.TheVariants.{Refused, Text};
 ghost use Rattle.smx_filters.specs.declared.refusal.Refusal.{Refusal as AnyRefusal};
 
 use smx_explain::laws_of_explanations::a_legal_transcript_needs_none;
@@ -27,7 +28,7 @@ pub fn an_explained_check_is_a_check()
 }
 
 /// What is said of an input in memory, by devices that don't fail, is what the filter says; and where the text is at
-/// fault, the whole input is kept.
+/// fault, the whole input is kept, and nothing where drivers are refused or memory was wanting.
 pub fn faults_are_explained_in_memory()
     ensures check { (input left output : List ℕ) (ended flushed : Bool) (answer : Result Verdict AnyRefusal)
         → KeepsText explaining (Some input) (Some left) ended 0 (Some []) (Some output) flushed 0 answer
@@ -45,4 +46,7 @@ pub fn faults_are_explained_in_memory()
         → KeepsText (running fronts workers) (Some input) (Some left) ended 0 (Some []) (Some output) flushed 0
         (Err refusal) → refusal.fault ≡ Text fault
         → (text : Vec ℕ Global) × (refusal.text ≡ Some text) × (text.items ≡ input) }
+    ensures none_kept { (input left output : List ℕ) (ended flushed : Bool) (refusal : AnyRefusal) (fault : AnyFault)
+        → KeepsText explaining (Some input) (Some left) ended 0 (Some []) (Some output) flushed 0 (Err refusal)
+        → refusal.fault ≡ Refused fault → refusal.text ≡ None }
 {}

@@ -1,5 +1,11 @@
 //! A fault that is to be explained.
 
+ghost use Rattle.std.specs.Prelude.{◌≡◌, None};
+ghost use Rattle.smx_run.specs.declared.run_fault.RunFault.{RunFault as AnyFault};
+ghost use Rattle.smx_text.specs.declared.text_fault.TextFault.{TextFault};
+ghost use Rattle.smx_filters.specs.ExplainText.{IsKept};
+ghost use Rattle.smx_filters.specs.declared.main_fault.MainFault.TheVariants.{Refused, Text};
+
 use crate::main_fault::MainFault;
 use smx_run::RunFault;
 
@@ -7,9 +13,24 @@ use smx_run::RunFault;
 #[derive(Drop)]
 pub struct Refusal {
     pub fault: MainFault,
-    /// All that was read, where the fault is the text's. A check has it too where drivers are refused or memory was
-    /// wanting.
+    /// All that was read, where the fault is the text's; else none.
     pub text: Option<Vec<u8>>,
+}
+
+/// What is told of this fault, with the input where that is at fault, and else without it.
+pub(crate) fn kept_for(fault: MainFault, input: Vec<u8>) -> Refusal
+    ensures fault { result.fault ≡ fault }
+    ensures kept { (f : TextFault) → fault ≡ Text f → IsKept result.text input.items }
+    ensures given_up { (f : AnyFault) → fault ≡ Refused f → result.text ≡ None }
+{
+    let text = match fault {
+        MainFault::Text(_) => Some(input),
+        MainFault::Refused(_)
+        | MainFault::TooLong
+        | MainFault::ReadFailed
+        | MainFault::WriteFailed => None,
+    };
+    Refusal { fault, text }
 }
 
 impl From<MainFault> for Refusal {

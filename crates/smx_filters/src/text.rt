@@ -17,7 +17,7 @@ use crate::fronts_text::fronts_text;
 use crate::input::read_all;
 use crate::main_fault::MainFault;
 use crate::output::write_all;
-use crate::refusal::Refusal;
+use crate::refusal::{Refusal, kept_for};
 use crate::running_programs::RunningPrograms;
 use crate::text_recorder::TextRecorder;
 use crate::unread_program::transcript_of_unread;
@@ -138,22 +138,6 @@ fn text_of_read<R: Threads + Wait + Sync, G: Gate + Sync>(
         return transcript_on_one_thread(alloc, input, gate);
     }
     Ok(transcript_of_several(rt, alloc, input, programs, workers, gate)?)
-}
-
-// What is told of this fault, with the input where that is at fault.
-fn kept_for(fault: MainFault, input: Vec<u8>) -> Refusal
-    ensures fault { result.fault ≡ fault }
-    ensures kept { (f : TextFault) → fault ≡ Text f → IsKept result.text input.items }
-    ensures given_up { (f : AnyFault) → fault ≡ Refused f → result.text ≡ None }
-{
-    let text = match fault {
-        MainFault::Text(_) => Some(input),
-        MainFault::Refused(_)
-        | MainFault::TooLong
-        | MainFault::ReadFailed
-        | MainFault::WriteFailed => None,
-    };
-    Refusal { fault, text }
 }
 
 // The transcript of a run on this thread alone, which answers for any number of workers. The input is kept where it is

@@ -7,4 +7,4 @@ returns-in_err-output g c =
     let input = c.in_ok-input.ensures in
     let said = c.in_err-output.ensures in
     kept_on (running c.args.fronts c.args.workers) _ _ _ _ _ _ _ c.in_ok-input.input input.0 input.1 c.requires.sunk
-    c.in_err-output.field-0.0 _ c.from_residual-in_err-output.ensures.1 said.answers said.kept
+    c.in_err-output.field-0.0 _ c.from_residual-in_err-output.ensures.1 said.answers said.kept said.given_up

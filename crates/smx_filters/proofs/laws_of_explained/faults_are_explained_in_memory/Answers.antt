@@ -18,3 +18,6 @@ returns-clause-check_keeps c = λ input left output ended flushed refusal fault.
 pub returns-clause-run_keeps : goal.returns-clause-run_keeps
 returns-clause-run_keeps c = λ workers fronts input left output ended flushed refusal fault.
     keeps_all _ input _ _ _ ended flushed _ _ refusal fault
+
+pub returns-clause-none_kept : goal.returns-clause-none_kept
+returns-clause-none_kept c = λ input left output ended flushed refusal fault h is. h.given_up fault is
