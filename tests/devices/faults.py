@@ -35,8 +35,8 @@ def calls_before(call, words, given):
 
 
 def refused(call, errors, words, given, whole=""):
-    """Each of these calls of the program fails, by each error: status 5, its line, and nothing was written, but for what
-    earlier writes of the whole output took."""
+    """Each of these calls of the program fails, by each error: status 5, its line, and nothing was written, but for
+    what earlier writes of the whole output took."""
     before, count = calls_before(call, words, given)
     for nth in range(before + 1, before + count + 1):
         for error in errors:

@@ -99,7 +99,8 @@ static void other_codes(void) {
     wants_text(&text, "", "no words of another one");
     wants(muxsim_entry(&shared, &text), MUXSIM_NO_ENTRY, "no entry");
     const char *lines[] = {"", "clone ip", "64 clone ip", "0 clone", "0  clone ip", "0 clone ip\n", "0 hangup ip 0",
-                           "0 clone ip = fd 0 0", "0 clone ip = done", "00 exit", "0 write 0 5 a", "0 inject ip 0 5 -0"};
+                           "0 clone ip = fd 0 0", "0 clone ip = done", "00 exit", "0 write 0 5 a",
+                           "0 inject ip 0 5 -0"};
     for (size_t i = 0; i < sizeof lines / sizeof *lines; i++)
         wants(perform(&shared, lines[i], &text), MUXSIM_LINE, lines[i]);
     // The same whatever memory there is: each time the first growth would be refused.

@@ -26,7 +26,7 @@ Opens None text None (Ok _) = ⊥
 Opens None text new (Err t) = (new ≡ None) × HasFault text t
 Opens (Some s) text new outcome = (new ≡ Some s) × (outcome ≡ Err IsOpen)
 
--- the command of the line is performed; or the session stays, for want of memory or since the line is none
+-- the command of the line is performed; or the session stays, since the line is no call, or memory was wanting for it
 abbrev pub Performs : Option State → List ℕ → Option State → Outcome → Type 0
 Performs None line new outcome = (new ≡ None) × (outcome ≡ Err Closed)
 Performs (Some s) line (Some n) (Ok _) = Steps s line n

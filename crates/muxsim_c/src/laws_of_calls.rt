@@ -44,7 +44,8 @@ pub fn a_worked_session_in_c()
     ensures tell_no_room { Answers (pos 6) (TellsWhy without_marks (codes "...") (codes "...") 7 14) }
     ensures tell_no_fault { Answers (pos 0) (TellsWhy table (codes "...") (codes "...") 7 0) }
     ensures perform { Answers (pos 0) (Performs (Some begun) (codes "3 clone eth") (Some opened)) }
-    ensures tell { Answers (pos 0) (Tells (Some opened) (codes "123456789012345678901") (codes "3 clone eth = fd 0 0\n") 0 21) }
+    ensures tell { Answers (pos 0)
+        (Tells (Some opened) (codes "123456789012345678901") (codes "3 clone eth = fd 0 0\n") 0 21) }
     ensures tell_none { Answers (pos 5) (Tells (Some begun) (codes "1") (codes "1") 7 7) }
     ensures close { Answers (pos 0) (Closes (Some hung) None) }
     ensures close_none { Answers (pos 7) (Closes None None) }

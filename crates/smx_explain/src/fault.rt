@@ -8,16 +8,17 @@ use smx_text::{Cause, TextFault};
 use smx_types::Version;
 use std::fmt;
 
-/// A text, and its fault. It prints two lines: the line at fault by its number, of which 80 columns at the most, and what
-/// is wrong with it. Where it is no line of such a text, the second tells the column from which it is none, which the
-/// first then shows, and what may stand there.
+/// A text, and its fault. It prints two lines: the line at fault by its number, of which 80 columns at the most, and
+/// what is wrong with it. Where it is no line of such a text, the second tells the column from which it is none, which
+/// the first then shows, and what may stand there.
 #[derive(Clone, Copy)]
 pub struct FaultExplanation<'a> {
     /// What the text was to be.
     pub kind: TextKind,
+    /// All that was read.
     pub text: &'a [u8],
-    /// What a reader of such texts has answered for it. Of a line that the text doesn't have, what stands behind its last
-    /// line feed is shown.
+    /// What a reader of such texts has answered for it. Of a line that the text doesn't have, what stands behind its
+    /// last line feed is shown.
     pub fault: TextFault,
 }
 
@@ -66,8 +67,8 @@ fn version_of(text: &[u8]) -> Version {
     }
 }
 
-// A line of no form, and below it where it stops being one. A space at its end is told, where nothing else is wrong with
-// a line that can't go on.
+// A line of no form, and below it where it stops being one. A space at its end is told, where nothing else is wrong
+// with a line that can't go on.
 fn write_place<W: fmt::Write>(
     f: &mut fmt::Formatter<W>,
     line: &[u8],
