@@ -1,7 +1,7 @@
 -- A text has one start, and a line is performed in one way.
 use Rattle.std.proofs.Common.{◌≡◌, ◌≢◌, ℕ, List, Option, Some, None, Result, Ok, Err, inl, inr, refl, sym, ap, subst}
-use Rattle.std.proofs.Common.{◌∙◌}
-use Rattle.std.specs.Prelude.{◌⊎◌, IfErr}
+use Rattle.std.proofs.Common.{◌∙◌, arith}
+use Rattle.std.specs.Prelude.{◌<◌, ◌⊎◌, IfErr}
 use Rattle.smx_types.specs.ProgramLists.{ProgramLists}
 use Rattle.smx_types.specs.declared.command.Command.{Command}
 use Rattle.smx_types.specs.declared.command.Entry.{Entry}
@@ -15,7 +15,7 @@ use Rattle.smx_model.specs.Commands.{step}
 use Rattle.smx_model.specs.Configuration.{Configuration}
 use Rattle.smx_model.specs.DriverList.{IsDriverList}
 use Rattle.smx_model.specs.Histories.{call_of}
-use Rattle.smx_text.specs.Grammar.{ReadsAny, Spells}
+use Rattle.smx_text.specs.Grammar.{IsFault, ReadsAny, Spells, last_line}
 use Rattle.smx_text.specs.ProgramsText.{programs_grammar}
 use Rattle.smx_text.specs.declared.text_fault.Cause.TheVariants as cause
 use Rattle.smx_text.specs.declared.text_fault.TextFault.{TextFault}
@@ -34,6 +34,12 @@ abbrev pub HasOneReading : Type 0
 HasOneReading = (bytes : List ℕ) (r s : Result ProgramLists TextFault) → ReadsAny programs_grammar bytes r
     → ReadsAny programs_grammar bytes s → IfErr r (λ f. f.cause ≢ cause.NoMemory)
     → IfErr s (λ f. f.cause ≢ cause.NoMemory) → r ≡ s
+
+-- want of memory is told only before the line at which any other reading of a programs text ends
+abbrev pub IsToldBefore : Type 0
+IsToldBefore = (version : Version) (bytes : List ℕ) (line : ℕ) (r : Result ProgramLists TextFault)
+    → IsFault (programs_grammar version) bytes line cause.NoMemory → ReadsAny programs_grammar bytes r
+    → IfErr r (λ f. f.cause ≢ cause.NoMemory) → line < last_line (programs_grammar version) r
 
 -- drivers are refused for one fault
 abbrev pub HaveOneFault : Type 0
@@ -65,7 +71,7 @@ same_state a b v d c l =
     ∙ (ap (λ (x : Configuration). state_of b.version b.drivers x a.last) c
     ∙ ap (λ (x : Option Entry). state_of b.version b.drivers b.configuration x) l))
 
-module _ (text : List ℕ) (reading : HasOneReading) (one_fault : HaveOneFault) where
+module _ (text : List ℕ) (reading : HasOneReading) where
   -- a text spells one value, whatever the version
   one_value : (v w : Version) (x y : ProgramLists) → Spells (programs_grammar v) text x
       → Spells (programs_grammar w) text y → x ≡ y
@@ -103,43 +109,54 @@ module _ (text : List ℕ) (reading : HasOneReading) (one_fault : HaveOneFault) 
       (h.drivers ∙ (ap (λ (p : ProgramLists). p.drivers) same ∙ sym k.drivers)) (h.nothing ∙ sym k.nothing)
       (h.no_entry ∙ sym k.no_entry)
 
-  -- no session starts over drivers that are refused
-  none_refused : (a : State) (f : ConfigFault) → IsStartOf text a → HasDrivers text (λ ds. RefusesDrivers ds f)
-      → f ≢ config.NoMemory → ⊥
-  none_refused a f h (v, p, spelled, bad) known =
-      let same : h.programs ≡ p = one_value a.version v h.programs p h.spelled spelled in
-      let can : IsDriverList p.drivers =
-      subst IsDriverList (h.drivers ∙ ap (λ (q : ProgramLists). q.drivers) same) h.can_be_had in
-      known (one_fault p.drivers f config.NoMemory bad can)
+  -- memory is wanting for no text whose first or second line is at fault
+  pub before_the_fault : IsToldBefore → (fault : TextFault) → StartsAs text (Err (Text fault))
+      → StartsAs text (Err NoMemory) → 2 < fault.line
+  before_the_fault told fault (reads, known) (inl (want, (v, is, other), memory)) =
+      let at : IsFault (programs_grammar v) text want.line cause.NoMemory =
+      subst (IsFault (programs_grammar v) text want.line) memory is in
+      let before : want.line < fault.line = told v text want.line (Err fault) at reads known in
+      omega (arith, at.2.numbered, before)
+  before_the_fault told fault (reads, known) (inr (v, p, spelled, can)) = absurd (no_fault v p fault spelled reads known)
 
-  -- the drivers of a text are refused for at most one fault
-  one_refusal : (f g : ConfigFault) → HasDrivers text (λ ds. RefusesDrivers ds f)
-      → HasDrivers text (λ ds. RefusesDrivers ds g) → f ≡ g
-  one_refusal f g (v, p, spelled, bad) (w, q, spelled_too, bad_too) =
-      let same : p ≡ q = one_value v w p q spelled spelled_too in
-      one_fault q.drivers f g (subst (λ (x : ProgramLists). RefusesDrivers x.drivers f) same bad) bad_too
+  module _ (one_fault : HaveOneFault) where
+    -- no session starts over drivers that are refused
+    none_refused : (a : State) (f : ConfigFault) → IsStartOf text a → HasDrivers text (λ ds. RefusesDrivers ds f)
+        → f ≢ config.NoMemory → ⊥
+    none_refused a f h (v, p, spelled, bad) known =
+        let same : h.programs ≡ p = one_value a.version v h.programs p h.spelled spelled in
+        let can : IsDriverList p.drivers =
+        subst IsDriverList (h.drivers ∙ ap (λ (q : ProgramLists). q.drivers) same) h.can_be_had in
+        known (one_fault p.drivers f config.NoMemory bad can)
 
-  -- a text has at most one start, but for want of memory
-  pub one_start : (one other : Result State StartFault) → StartsAs text one → StartsAs text other
-      → IfErr one (λ t. t ≢ NoMemory) → IfErr other (λ t. t ≢ NoMemory) → one ≡ other
-  one_start (Ok a) (Ok b) h k known known_too = ap Ok (one_session a b h k)
-  one_start (Err NoMemory) other h k known known_too = absurd (known refl)
-  one_start (Ok a) (Err NoMemory) h k known known_too = absurd (known_too refl)
-  one_start (Ok a) (Err (Text f)) h k known known_too =
-      absurd (no_fault a.version h.programs f h.spelled k.0 k.1)
-  one_start (Ok a) (Err (Drivers f)) h k known known_too = absurd (none_refused a f h k.0 k.1)
-  one_start (Err (Text f)) (Ok b) h k known known_too =
-      absurd (no_fault b.version k.programs f k.spelled h.0 h.1)
-  one_start (Err (Text f)) (Err (Text g)) h k known known_too =
-      ap (λ (x : TextFault). Err (Text x)) (one_text_fault f g h.0 k.0 h.1 k.1)
-  one_start (Err (Text f)) (Err (Drivers g)) h k known known_too = absurd (no_fault k.0.0 k.0.1 f k.0.2 h.0 h.1)
-  one_start (Err (Text f)) (Err NoMemory) h k known known_too = absurd (known_too refl)
-  one_start (Err (Drivers f)) (Ok b) h k known known_too = absurd (none_refused b f k h.0 h.1)
-  one_start (Err (Drivers f)) (Err (Text g)) h k known known_too =
-      absurd (no_fault h.0.0 h.0.1 g h.0.2 k.0 k.1)
-  one_start (Err (Drivers f)) (Err (Drivers g)) h k known known_too =
-      ap (λ (x : ConfigFault). Err (Drivers x)) (one_refusal f g h.0 k.0)
-  one_start (Err (Drivers f)) (Err NoMemory) h k known known_too = absurd (known_too refl)
+    -- the drivers of a text are refused for at most one fault
+    one_refusal : (f g : ConfigFault) → HasDrivers text (λ ds. RefusesDrivers ds f)
+        → HasDrivers text (λ ds. RefusesDrivers ds g) → f ≡ g
+    one_refusal f g (v, p, spelled, bad) (w, q, spelled_too, bad_too) =
+        let same : p ≡ q = one_value v w p q spelled spelled_too in
+        one_fault q.drivers f g (subst (λ (x : ProgramLists). RefusesDrivers x.drivers f) same bad) bad_too
+
+    -- a text has at most one start, but for want of memory
+    pub one_start : (one other : Result State StartFault) → StartsAs text one → StartsAs text other
+        → IfErr one (λ t. t ≢ NoMemory) → IfErr other (λ t. t ≢ NoMemory) → one ≡ other
+    one_start (Ok a) (Ok b) h k known known_too = ap Ok (one_session a b h k)
+    one_start (Err NoMemory) other h k known known_too = absurd (known refl)
+    one_start (Ok a) (Err NoMemory) h k known known_too = absurd (known_too refl)
+    one_start (Ok a) (Err (Text f)) h k known known_too =
+        absurd (no_fault a.version h.programs f h.spelled k.0 k.1)
+    one_start (Ok a) (Err (Drivers f)) h k known known_too = absurd (none_refused a f h k.0 k.1)
+    one_start (Err (Text f)) (Ok b) h k known known_too =
+        absurd (no_fault b.version k.programs f k.spelled h.0 h.1)
+    one_start (Err (Text f)) (Err (Text g)) h k known known_too =
+        ap (λ (x : TextFault). Err (Text x)) (one_text_fault f g h.0 k.0 h.1 k.1)
+    one_start (Err (Text f)) (Err (Drivers g)) h k known known_too = absurd (no_fault k.0.0 k.0.1 f k.0.2 h.0 h.1)
+    one_start (Err (Text f)) (Err NoMemory) h k known known_too = absurd (known_too refl)
+    one_start (Err (Drivers f)) (Ok b) h k known known_too = absurd (none_refused b f k h.0 h.1)
+    one_start (Err (Drivers f)) (Err (Text g)) h k known known_too =
+        absurd (no_fault h.0.0 h.0.1 g h.0.2 k.0 k.1)
+    one_start (Err (Drivers f)) (Err (Drivers g)) h k known known_too =
+        ap (λ (x : ConfigFault). Err (Drivers x)) (one_refusal f g h.0 k.0)
+    one_start (Err (Drivers f)) (Err NoMemory) h k known known_too = absurd (known_too refl)
 
 -- ---- lines
 

@@ -1,18 +1,21 @@
 -- The worked session.
-use Rattle.std.proofs.Common.{◌≡◌, ℕ, [], ◌∷◌, Option, Some, None, refl, ap, arith, rules}
-use Rattle.std.specs.Prelude.{codes}
+use Rattle.std.proofs.Common.{◌≡◌, ◌≢◌, ℕ, [], ◌∷◌, Option, Some, None, Err, inr, refl, ap, arith, rules}
+use Rattle.std.specs.Prelude.{◌<◌, codes}
 use Rattle.std.specs.Fmt.{digits}
 use Rattle.smx_types.specs.ProgramLists.{ProgramLists, program_lists, raised}
 use Rattle.smx_types.specs.declared.command.Entry.{Entry}
 use Rattle.smx_types.specs.declared.version.Version.TheVariants.{V2}
 use Rattle.smx_model.specs.Worked.Common.{Done, Fd, Hangup, OpenClone, ◌does◌gets◌, eth}
-use Rattle.smx_text.specs.Grammar.{Spells}
+use Rattle.smx_text.specs.Grammar.{ReadsAny, Spells}
 use Rattle.smx_text.specs.ProgramsText.{programs_grammar, programs_text}
+use Rattle.smx_text.specs.declared.text_fault.Cause.TheVariants as cause
+use Rattle.smx_text.specs.declared.text_fault.TextFault.{TextFault}
 use Rattle.smx_words.specs.Spelling.{call_words, entry_line}
 use Rattle.smx_words.specs.Words.{line_of}
-use Rattle.smx_session.specs.Sessions.{IsLastLine, IsStartOf, Performs, State}
+use Rattle.smx_session.specs.Sessions.{IsLastLine, IsStartOf, Performs, StartsAs, State}
 use Rattle.smx_session.specs.WorkedSessions.{begun, drivers, hung, opened, table}
-use Rattle.smx_session.proofs.LawLemmas.{AreToldApart, one_step}
+use Rattle.smx_session.specs.declared.start_fault.StartFault.TheVariants.{NoMemory}
+use Rattle.smx_session.proofs.LawLemmas.{AreToldApart, HasOneReading, IsToldBefore, before_the_fault, one_step}
 
 -- programs of the worked drivers, without a process
 abbrev programs : ProgramLists
@@ -38,6 +41,23 @@ starts =
       nothing = refl;
       no_entry = refl;
     }
+
+-- memory may be wanting for the drivers of the worked table
+pub no_memory : StartsAs table (Err NoMemory)
+no_memory = inr (V2, programs, spelled, starts.can_be_had)
+
+-- the header of a third version is wrong
+abbrev wrong_header : TextFault
+wrong_header = record { line = 1; cause = cause.Header }
+
+-- a text with a wrong header never wants memory
+pub no_memory_for_a_wrong_header : HasOneReading → IsToldBefore
+    → ReadsAny programs_grammar (codes "programs 3\n") (Err wrong_header)
+    → StartsAs (codes "programs 3\n") (Err NoMemory) → ⊥
+no_memory_for_a_wrong_header reading told wrong wants =
+    let known : cause.Header ≢ cause.NoMemory = λ e. absurd (cc e) in
+    let late : 2 < 1 = before_the_fault (codes "programs 3\n") reading told wrong_header (wrong, known) wants in
+    omega (arith, late)
 
 -- `3 clone eth` is the line of a clone of `eth` by process 3
 three : codes "3 clone eth" ≡ line_of (call_words (3, OpenClone eth))

@@ -6,10 +6,11 @@ use Rattle.smx_types.specs.declared.version.Version.TheVariants.{V2}
 use Rattle.smx_model.specs.Configuration.{Configuration, empty}
 use Rattle.smx_model.specs.Worked.Common.{Done, Fd, Hangup, OpenClone, ◌does◌gets◌}
 use Rattle.smx_model.specs.Worked.Common.{eth, leaf}
-use Rattle.smx_session.specs.FaultWords.{entry_fault_words, line_fault_words}
+use Rattle.smx_session.specs.FaultWords.{entry_fault_words, line_fault_words, start_fault_words}
 use Rattle.smx_session.specs.Sessions.{State, shown_lines}
-use Rattle.smx_session.specs.declared.entry_fault.EntryFault.TheVariants.{NoEntry}
-use Rattle.smx_session.specs.declared.line_fault.LineFault.TheVariants.{NoCommand, NoMemory}
+use Rattle.smx_session.specs.declared.entry_fault.EntryFault.TheVariants as entry
+use Rattle.smx_session.specs.declared.line_fault.LineFault.TheVariants as line
+use Rattle.smx_session.specs.declared.start_fault.StartFault.TheVariants as start
 
 -- the table of one driver of two minors
 abbrev pub table : List ℕ
@@ -54,14 +55,22 @@ pub a_hangup_is_shown : shown_lines hung ≡ codes "config\nnext 1 1\nfd 3 0 eth
 unfolding digits
 a_hangup_is_shown = refl
 
--- want of memory is told in these words
-pub memory_words : line_fault_words NoMemory ≡ codes "no memory"
+-- where no session starts, want of memory is told in these words
+pub start_memory_words : start_fault_words start.NoMemory ≡ codes "no memory"
+start_memory_words = refl
+
+-- where a line is not performed, in the same
+pub memory_words : line_fault_words line.NoMemory ≡ codes "no memory"
 memory_words = refl
 
+-- and where no entry is written
+pub entry_memory_words : entry_fault_words entry.NoMemory ≡ codes "no memory"
+entry_memory_words = refl
+
 -- a line that is no command is told in these words
-pub line_words : line_fault_words NoCommand ≡ codes "no command"
+pub line_words : line_fault_words line.NoCommand ≡ codes "no command"
 line_words = refl
 
 -- that there is no entry yet is told in these words
-pub entry_words : entry_fault_words NoEntry ≡ codes "no entry yet"
+pub entry_words : entry_fault_words entry.NoEntry ≡ codes "no entry yet"
 entry_words = refl

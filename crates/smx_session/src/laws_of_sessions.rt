@@ -1,11 +1,13 @@
 //! Laws of sessions, each the contract of a function that does nothing.
 
-ghost use Rattle.std.specs.Prelude.{◌≡◌, ◌≢◌, ◌⊎◌, ℕ, List, [], ◌∷◌, ◌++◌, Result, Ok, Some, IfErr, codes};
+ghost use Rattle.std.specs.Prelude.{◌≡◌, ◌≢◌, ◌<◌, ◌⊎◌, ℕ, List, [], ◌∷◌, ◌++◌, Result, Ok, Err, Some, IfErr};
+ghost use Rattle.std.specs.Prelude.{codes};
 ghost use Rattle.smx_types.specs.declared.command.Entry.{Entry};
 ghost use Rattle.smx_types.specs.declared.version.Version.TheVariants.{V2};
 ghost use Rattle.smx_model.specs.Views.{view};
 ghost use Rattle.smx_text.specs.GrowingTranscripts.{BeginsTranscript, transcript_with};
 ghost use Rattle.smx_text.specs.TranscriptText.{transcript_text};
+ghost use Rattle.smx_text.specs.declared.text_fault.TextFault.{TextFault};
 ghost use Rattle.smx_words.specs.LineReading.{IsNoCallLine};
 ghost use Rattle.smx_words.specs.Spellable.{FitsEntry};
 ghost use Rattle.smx_session.specs.Sessions.{HasNoLine, IsAfter, IsLastLine, IsNotPerformed, IsStartOf, Performs};
@@ -16,20 +18,25 @@ ghost use Rattle.smx_session.specs.declared.entry_fault.EntryFault.TheVariants.{
 ghost use Rattle.smx_session.specs.declared.line_fault.LineFault.TheVariants as line_fault;
 ghost use Rattle.smx_session.specs.declared.line_fault.LineFault.TheVariants.{NoCommand};
 ghost use Rattle.smx_session.specs.declared.start_fault.StartFault.{StartFault};
-ghost use Rattle.smx_session.specs.declared.start_fault.StartFault.TheVariants.{NoMemory};
+ghost use Rattle.smx_session.specs.declared.start_fault.StartFault.TheVariants.{NoMemory, Text};
 
 use smx_config::laws_of_drivers::drivers_have_one_fault;
 use smx_model::laws::one_entry_more;
-use smx_text::laws::one_text_has_one_reading;
+use smx_text::laws::{one_text_has_one_reading, want_of_memory_comes_before};
+use smx_text::worked_texts::wrong_programs;
 use smx_words::laws::one_value_each;
 use smx_words::laws_of_reading::{each_line_has_a_reading, which_lines_are_calls};
 
-/// A text has no two starts, unless memory is wanting: the session over its drivers, or a fault.
+/// A text has no two starts, unless memory is wanting: the session over its drivers, or a fault. And memory is wanting
+/// only before the fault: never where the first or the second line is at fault.
 pub fn a_text_has_one_start()
-    ensures { (text : List ℕ) (one other : Result State StartFault) → StartsAs text one → StartsAs text other
+    ensures one { (text : List ℕ) (one other : Result State StartFault) → StartsAs text one → StartsAs text other
         → IfErr one (λ t. t ≢ NoMemory) → IfErr other (λ t. t ≢ NoMemory) → one ≡ other }
+    ensures before { (text : List ℕ) (fault : TextFault) → StartsAs text (Err (Text fault))
+        → StartsAs text (Err NoMemory) → 2 < fault.line }
 {
     one_text_has_one_reading();
+    want_of_memory_comes_before();
     drivers_have_one_fault();
 }
 
@@ -68,6 +75,8 @@ pub fn what_is_written_is_a_transcript()
 /// make of it; and why a line is not performed, or no entry written.
 pub fn a_worked_session()
     ensures starts { StartsAs table (Ok begun) }
+    ensures no_memory { StartsAs table (Err NoMemory) }
+    ensures no_memory_for_a_wrong_header { StartsAs (codes "programs 3\n") (Err NoMemory) → ⊥ }
     ensures opens { Performs begun (codes "3 clone eth") opened }
     ensures hangs_up { Performs opened (codes "5 hangup eth 0") hung }
     ensures tells { IsLastLine opened (codes "3 clone eth = fd 0 0\n") }
@@ -83,4 +92,7 @@ pub fn a_worked_session()
 {
     one_value_each();
     which_lines_are_calls();
+    one_text_has_one_reading();
+    want_of_memory_comes_before();
+    wrong_programs();
 }

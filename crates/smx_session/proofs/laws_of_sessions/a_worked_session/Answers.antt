@@ -5,6 +5,14 @@ use Rattle.smx_session.proofs.laws_of_sessions.a_worked_session.Goals as goal
 pub returns-clause-starts : goal.returns-clause-starts
 returns-clause-starts c = worked.starts
 
+pub returns-clause-no_memory : goal.returns-clause-no_memory
+returns-clause-no_memory c = worked.no_memory
+
+pub returns-clause-no_memory_for_a_wrong_header : goal.returns-clause-no_memory_for_a_wrong_header
+returns-clause-no_memory_for_a_wrong_header c =
+    worked.no_memory_for_a_wrong_header c.one_text_has_one_reading.ensures c.want_of_memory_comes_before.ensures
+    c.wrong_programs.ensures.version_3.0
+
 pub returns-clause-opens : goal.returns-clause-opens
 returns-clause-opens c = worked.opens
 
