@@ -840,7 +840,7 @@ config
 next 1 1
 end
 """),
-    ("programs 1\ndriver ip mux 4 8 3",
+    ("programs 1\ndriv",
      """\
 transcript 1
 ? cut
@@ -886,6 +886,9 @@ NO_LINES = ["0", "64 exit", "00 exit", "0 exit ", "0 exit = done", "0 hangup eth
 NO_TABLES = [
     ("", "line 1: cut", 3),
     ("programs 1", "line 1: cut", 3),
+    ("programs 1\ndriver", "line 2: cut", 3),
+    ("programs 1\ndriver ip mux 4 8 3 16", "line 2: cut", 3),
+    ("programs 1\ndriver ip mux 4 8 8 16\ndriver eth leaf 1 8 3", "line 3: cut", 3),
     ("""\
 transcript 1
 end

@@ -3,7 +3,7 @@ use Rattle.std.proofs.Common.{◌≡◌, ◌≢◌, ℕ, ◌+◌, ◌<◌, ◌�
 use Rattle.std.proofs.Common.{map, take, drop}
 use Rattle.std.proofs.Common.{Result, Ok, Err, refl, sym, ap, subst, ◌∙◌, append_assoc, arith, inl, inr}
 use Rattle.std.proofs.lemmas.Fmt.{decimal_nonempty, digits_decimal}
-use Rattle.std.proofs.lemmas.List.{append_cancel_left}
+use Rattle.std.proofs.lemmas.List.{append-nil, append_cancel_left}
 use Rattle.std.specs.Fmt.{decimal}
 use Rattle.std.specs.List.{AllByRecursion}
 use Rattle.std.specs.Prelude.{◌⊎◌, IfErr, codes}
@@ -37,7 +37,7 @@ use Rattle.smx_filters.specs.declared.input.TheConstants.{MAX_INPUT}
 use Rattle.smx_filters.proofs.AnswerLemmas.{HaveOneFault, drivers_had}
 use Rattle.smx_live.specs.Inboxes.{HasLine, IsShort}
 use Rattle.smx_live.specs.LiveText.{HasComeSoFar, IsAtEnd, IsLive, IsOver, RefusesDriversOf}
-use Rattle.smx_live.specs.Tables.{AreOfTable, HasTableOf, IsOverAt, IsTable, begins_driver, table_text}
+use Rattle.smx_live.specs.Tables.{AreOfTable, HasTableOf, IsCutDriver, IsOverAt, IsTable, begins_driver, table_text}
 use Rattle.smx_live.specs.Turns.{Answer, AreAnswered, AsksToShow, Entered, HadMemory, IsAnswer, IsEntryOf, NotDone}
 use Rattle.smx_live.specs.Turns.{Shown, Turn, asked_text, entries_in, entries_of, said_text}
 use Rattle.smx_live.specs.declared.turn_fault.TurnFault.TheVariants.{NoCommand, NoMemory, Full}
@@ -104,39 +104,102 @@ drivers_once ended (l ∷ ls) (m ∷ ms) rest more all all_too are are_too stops
     let others = drivers_once ended ls ms rest more all.1 all_too.1 are.1 are_too.1 stops stops_too cut.1 in
     ap (λ (x : List ℕ). x ∷ ls) cut.0 ∙ ap (λ (xs : List (List ℕ)). m ∷ xs) others
 
+-- where no line is cut, what stands behind a table is all that stands behind its whole lines
+all_behind : (cut rest : List ℕ) → cut ≡ [] → rest ≡ cut ++ rest
+all_behind cut rest none = ap (λ (c : List ℕ). c ++ rest) (sym none)
+
+-- where nothing stands behind a table, its cut line is all that stands behind its whole lines
+all_cut : (cut rest : List ℕ) → rest ≡ [] → cut ≡ cut ++ rest
+all_cut cut rest none = sym (ap (λ (r : List ℕ). cut ++ r) none ∙ append-nil cut)
+
 -- where a table is over, the lines of drivers stop
-stops_there : (ended : Bool) (ls : List (List ℕ)) (rest : List ℕ) → IsOverAt ended ls rest → Stops ended rest
-stops_there ended ls rest (inl (n, has, small, some, other)) = inl (n, has, other)
-stops_there ended ls rest (inr (end, short)) = inr (end, short.0)
+stops_there : (ended : Bool) (ls : List (List ℕ)) (cut rest : List ℕ) → IsOverAt ended ls cut rest
+    → Stops ended (cut ++ rest)
+stops_there ended ls cut rest (inl (n, none, has, small, some, other)) =
+    subst (Stops ended) (all_behind cut rest none) (inl (n, has, other))
+stops_there ended ls cut rest (inr (end, inl (driver, none))) =
+    subst (Stops ended) (all_cut cut rest none) (inr (end, driver.1))
+stops_there ended ls cut rest (inr (end, inr (none, short, other))) =
+    subst (Stops ended) (all_behind cut rest none) (inr (end, short.0))
 
 -- a table without a line is not over where there is a first line
-no_table : (ended : Bool) (m : List ℕ) (ms : List (List ℕ)) (rest more : List ℕ) → IsOverAt ended [] rest
-    → rest ≡ lines_text (m ∷ ms) ++ more → ⊥
-no_table ended m ms rest more (inl (n, has, small, some, other)) is = some refl
-no_table ended m ms rest more (inr (end, short)) is =
-    not_one m (lines_text ms ++ more) (subst IsOneLine (is ∙ cons m ms more) short.0)
+no_table : (ended : Bool) (m : List ℕ) (ms : List (List ℕ)) (cut rest more : List ℕ) → IsOverAt ended [] cut rest
+    → cut ++ rest ≡ lines_text (m ∷ ms) ++ more → ⊥
+no_table ended m ms cut rest more (inl (n, none, has, small, some, other)) is = some refl
+no_table ended m ms cut rest more (inr (end, inl (driver, none))) is = driver.0 refl
+no_table ended m ms cut rest more (inr (end, inr (none, short, other))) is =
+    not_one m (lines_text ms ++ more) (subst IsOneLine (all_behind cut rest none ∙ is ∙ cons m ms more) short.0)
 
--- the lines of a table that is over are determined by the bytes
-lines_once : (ended : Bool) (ls ms : List (List ℕ)) (rest more : List ℕ) → AreOfTable ls → AreOfTable ms
-    → IsOverAt ended ls rest → IsOverAt ended ms more → lines_text ls ++ rest ≡ lines_text ms ++ more → ls ≡ ms
-lines_once ended [] [] rest more are are_too over over_too e = refl
-lines_once ended [] (m ∷ ms) rest more are are_too over over_too e = absurd (no_table ended m ms rest more over e)
-lines_once ended (l ∷ ls) [] rest more are are_too over over_too e =
-    absurd (no_table ended l ls more rest over_too (sym e))
-lines_once ended (l ∷ ls) (m ∷ ms) rest more are are_too over over_too e =
-    let cut = apart LINE_FEED l m (lines_text ls ++ rest) (lines_text ms ++ more) are.each.0 are_too.each.0
-    (sym (cons l ls rest) ∙ e ∙ cons m ms more) in
-    let others = drivers_once ended ls ms rest more are.each.1 are_too.each.1 are.drivers are_too.drivers
-    (stops_there ended (l ∷ ls) rest over) (stops_there ended (m ∷ ms) more over_too) cut.1 in
-    ap (λ (x : List ℕ). x ∷ ls) cut.0 ∙ ap (λ (xs : List (List ℕ)). m ∷ xs) others
+-- the whole lines of a table that is over are determined by the bytes
+lines_once : (ended : Bool) (ls ms : List (List ℕ)) (cut rest own more : List ℕ) → AreOfTable ls cut
+    → AreOfTable ms own → IsOverAt ended ls cut rest → IsOverAt ended ms own more
+    → lines_text ls ++ (cut ++ rest) ≡ lines_text ms ++ (own ++ more) → ls ≡ ms
+lines_once ended [] [] cut rest own more are are_too over over_too e = refl
+lines_once ended [] (m ∷ ms) cut rest own more are are_too over over_too e =
+    absurd (no_table ended m ms cut rest (own ++ more) over e)
+lines_once ended (l ∷ ls) [] cut rest own more are are_too over over_too e =
+    absurd (no_table ended l ls own more (cut ++ rest) over_too (sym e))
+lines_once ended (l ∷ ls) (m ∷ ms) cut rest own more are are_too over over_too e =
+    let parts = apart LINE_FEED l m (lines_text ls ++ (cut ++ rest)) (lines_text ms ++ (own ++ more)) are.each.0
+    are_too.each.0 (sym (cons l ls (cut ++ rest)) ∙ e ∙ cons m ms (own ++ more)) in
+    let others = drivers_once ended ls ms (cut ++ rest) (own ++ more) are.each.1 are_too.each.1 are.drivers
+    are_too.drivers (stops_there ended (l ∷ ls) cut rest over) (stops_there ended (m ∷ ms) own more over_too) parts.1 in
+    ap (λ (x : List ℕ). x ∷ ls) parts.0 ∙ ap (λ (xs : List (List ℕ)). m ∷ xs) others
+
+-- a table whose last line is whole is not over where the same bytes are one with a last line that is cut
+not_cut : (ended : Bool) (ls : List (List ℕ)) (cut rest own more : List ℕ) → IsOverAt ended ls cut rest → cut ≡ []
+    → IsCutDriver ls own → more ≡ [] → cut ++ rest ≡ own ++ more → ⊥
+not_cut ended ls cut rest own more over none driver no_more e = by_over over where
+  same : rest ≡ own
+  same = all_behind cut rest none ∙ e ∙ sym (all_cut own more no_more)
+
+  by_over : IsOverAt ended ls cut rest → ⊥
+  by_over (inl (n, nothing, has, small, some, other)) =
+      not_one (take n rest) (drop (n + 1) rest) (subst IsOneLine (sym same ∙ has.parts) driver.1)
+  by_over (inr (end, inl (is, no_rest))) =
+      let wrong : false ≡ true = ap begins_driver (sym none) ∙ is.2 in absurd (cc wrong)
+  by_over (inr (end, inr (nothing, short, inl no_lines))) = driver.0 no_lines
+  by_over (inr (end, inr (nothing, short, inr other))) =
+      let wrong : false ≡ true = sym other ∙ ap begins_driver same ∙ driver.2 in absurd (cc wrong)
+
+-- the cut line of a table that is over is determined by the bytes behind its whole lines
+cut_once : (ended : Bool) (ls : List (List ℕ)) (cut rest own more : List ℕ) → AreOfTable ls cut → AreOfTable ls own
+    → IsOverAt ended ls cut rest → IsOverAt ended ls own more → cut ++ rest ≡ own ++ more → cut ≡ own
+cut_once ended ls cut rest own more are are_too over over_too e = by_last are.last are_too.last where
+  -- behind a cut line stands nothing
+  no_more : (c r : List ℕ) → IsOverAt ended ls c r → IsCutDriver ls c → r ≡ []
+  no_more c r (inl (n, none, has, small, some, other)) driver =
+      let wrong : false ≡ true = ap begins_driver (sym none) ∙ driver.2 in absurd (cc wrong)
+  no_more c r (inr (end, inl (is, none))) driver = none
+  no_more c r (inr (end, inr (none, short, other))) driver =
+      let wrong : false ≡ true = ap begins_driver (sym none) ∙ driver.2 in absurd (cc wrong)
+
+  by_last : (cut ≡ []) ⊎ IsCutDriver ls cut → (own ≡ []) ⊎ IsCutDriver ls own → cut ≡ own
+  by_last (inl none) (inl none_too) = none ∙ sym none_too
+  by_last (inl none) (inr driver) =
+      absurd (not_cut ended ls cut rest own more over none driver (no_more own more over_too driver) e)
+  by_last (inr driver) (inl none) =
+      absurd (not_cut ended ls own more cut rest over_too none driver (no_more cut rest over driver) (sym e))
+  by_last (inr driver) (inr driver_too) =
+      all_cut cut rest (no_more cut rest over driver) ∙ e
+      ∙ sym (all_cut own more (no_more own more over_too driver_too))
 
 -- what was read has one table
 pub table_once : (ended : Bool) (table other rest more : List ℕ) → IsTable ended table rest → IsTable ended other more
     → table ++ rest ≡ other ++ more → (table ≡ other) × (rest ≡ more)
 table_once ended table other rest more t u e =
-    let lines : t.lines ≡ u.lines = lines_once ended t.lines u.lines rest more t.of_table u.of_table t.over u.over
-    (ap (λ (x : List ℕ). x ++ rest) (sym t.text) ∙ e ∙ ap (λ (x : List ℕ). x ++ more) u.text) in
-    let same : table ≡ other = t.text ∙ ap lines_text lines ∙ sym u.text in
+    let parts : lines_text t.lines ++ (t.cut ++ rest) ≡ lines_text u.lines ++ (u.cut ++ more) =
+    sym (append_assoc (lines_text t.lines) t.cut rest) ∙ ap (λ (x : List ℕ). x ++ rest) (sym t.text) ∙ e
+    ∙ ap (λ (x : List ℕ). x ++ more) u.text ∙ append_assoc (lines_text u.lines) u.cut more in
+    let lines : t.lines ≡ u.lines = lines_once ended t.lines u.lines t.cut rest u.cut more t.of_table u.of_table t.over
+    u.over parts in
+    let behind : t.cut ++ rest ≡ u.cut ++ more = append_cancel_left (lines_text u.lines) (t.cut ++ rest)
+    (u.cut ++ more) (ap (λ (ls : List (List ℕ)). lines_text ls ++ (t.cut ++ rest)) (sym lines) ∙ parts) in
+    let cut : t.cut ≡ u.cut = cut_once ended u.lines t.cut rest u.cut more
+    (subst (λ (ls : List (List ℕ)). AreOfTable ls t.cut) lines t.of_table) u.of_table
+    (subst (λ (ls : List (List ℕ)). IsOverAt ended ls t.cut rest) lines t.over) u.over behind in
+    let same : table ≡ other = t.text ∙ ap (λ (ls : List (List ℕ)). lines_text ls ++ t.cut) lines
+    ∙ ap (λ (c : List ℕ). lines_text u.lines ++ c) cut ∙ sym u.text in
     (same, append_cancel_left other rest more (ap (λ (x : List ℕ). x ++ rest) (sym same) ∙ e))
 
 -- ---- calls

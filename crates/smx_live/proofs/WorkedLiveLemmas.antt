@@ -1,5 +1,5 @@
 -- The worked live session.
-use Rattle.std.proofs.Common.{◌≡◌, ℕ, ◌+◌, false, List, [], ◌∷◌, ◌++◌, map, take, drop}
+use Rattle.std.proofs.Common.{◌≡◌, ℕ, ◌+◌, true, false, List, [], ◌∷◌, ◌++◌, map, take, drop}
 use Rattle.std.proofs.Common.{refl, sym, subst}
 use Rattle.std.proofs.Common.{inl, inr, arith, rules}
 use Rattle.std.specs.Fmt.{digits}
@@ -12,13 +12,13 @@ use Rattle.smx_model.specs.Worked.Common.{Fd, OpenClone, ◌does◌gets◌, eth}
 use Rattle.smx_text.specs.Grammar.{IsOneLine, beginning}
 use Rattle.smx_text.specs.TranscriptLines as line
 use Rattle.smx_text.specs.TranscriptText.{transcript_grammar}
-use Rattle.smx_words.specs.LineReading.{IsNoCallLine}
+use Rattle.smx_words.specs.LineReading.{IsCallLine, IsNoCallLine}
 use Rattle.smx_words.specs.Spelling.{call_words}
 use Rattle.smx_words.specs.Words.{line_of}
 use Rattle.smx_session.specs.Sessions.{IsStartOf}
 use Rattle.smx_session.specs.WorkedSessions.{begun, drivers, opened, table}
 use Rattle.smx_live.specs.LiveText.{IsOver, closing_text}
-use Rattle.smx_live.specs.Tables.{IsTable}
+use Rattle.smx_live.specs.Tables.{IsCutDriver, IsTable}
 use Rattle.smx_live.specs.Turns.{AsksForNeither, Entered, IsAnswer, IsEntryOf, IsRefusedFor, NotDone}
 use Rattle.smx_live.specs.Turns.{asked_text, said_text}
 use Rattle.smx_live.specs.WorkedLives.{worked_answers, worked_input, worked_output, worked_table, worked_turns}
@@ -35,10 +35,12 @@ no_lines l ls none = absurd (cc none)
 pub is_over : IsTable false worked_table (codes "3 clone eth\n")
 is_over = record {
   lines = codes "programs 2" ∷ codes "driver eth leaf 2 8 3 16" ∷ [];
+  cut = [];
   text = refl;
-  of_table = record { each = search (rules, arith); drivers = (refl, tt) };
+  of_table = record { each = search (rules, arith); drivers = (refl, tt); last = inl refl };
   over = inl (
     11,
+    refl,
     record { within = search arith; one = search (rules, arith); parts = refl },
     search arith,
     no_lines _ _,
@@ -50,10 +52,12 @@ is_over = record {
 header_alone : IsTable false (codes "programs 2\n") (codes "show\nend\n")
 header_alone = record {
   lines = codes "programs 2" ∷ [];
+  cut = [];
   text = refl;
-  of_table = record { each = search (rules, arith); drivers = tt };
+  of_table = record { each = search (rules, arith); drivers = tt; last = inl refl };
   over = inl (
     4,
+    refl,
     record { within = search arith; one = search (rules, arith); parts = refl },
     search arith,
     no_lines _ _,
@@ -84,10 +88,40 @@ one_clone = search (rules, arith)
 -- a table is not over where the input has not ended and no whole line stands behind it
 pub not_within_a_line : IsTable false worked_table (codes "3 clone eth") → ⊥
 not_within_a_line t = elim t.over [
-  | inl (n, has, small, some, other) ↦ not_one (take n (codes "3 clone eth")) (drop (n + 1) (codes "3 clone eth"))
-      (subst IsOneLine has.parts one_clone)
-  | inr (end, short) ↦ absurd (cc end)
+  | inl (n, none, has, small, some, other) ↦ not_one (take n (codes "3 clone eth"))
+      (drop (n + 1) (codes "3 clone eth")) (subst IsOneLine has.parts one_clone)
+  | inr (end, behind) ↦ absurd (cc end)
 ]
+
+-- behind the header, `driver eth` is the line of a driver
+cut_driver : IsCutDriver (codes "programs 2" ∷ []) (codes "driver eth")
+cut_driver = (no_lines _ _, search (rules, arith), refl)
+
+-- a table is over where the input has ended within the line of a driver, which is of it
+pub over_within_a_driver : IsTable true (codes "programs 2\ndriver eth") []
+over_within_a_driver = record {
+  lines = codes "programs 2" ∷ [];
+  cut = codes "driver eth";
+  text = refl;
+  of_table = record { each = search (rules, arith); drivers = tt; last = inr cut_driver };
+  over = inr (refl, inl (cut_driver, refl));
+}
+
+-- the line of a driver that is cut is of the table
+pub not_before_a_cut_driver : IsTable true (codes "programs 2\n") (codes "driver eth") → ⊥
+not_before_a_cut_driver t =
+    let same = table_once true (codes "programs 2\ndriver eth") (codes "programs 2\n") _ _ over_within_a_driver t refl
+    in absurd (cc same.0)
+
+-- a table that has a line is over where the input has ended within another line than a driver's
+pub over_within_another : IsTable true (codes "programs 2\n") (codes "3 clone")
+over_within_another = record {
+  lines = codes "programs 2" ∷ [];
+  cut = [];
+  text = refl;
+  of_table = record { each = search (rules, arith); drivers = tt; last = inl refl };
+  over = inr (refl, inr (refl, (search (rules, arith), search arith), inr refl));
+}
 
 -- ---- answers
 
@@ -120,13 +154,29 @@ asks_for_neither = (
   λ end. absurd (cc end),
 )
 
--- where the history is full, the line `x` is not refused for want of memory
-pub full_is_told : IsRefusedFor V2 MAX_COMMANDS (codes "x") NoMemory → ⊥
-full_is_told is = omega (arith, is asks_for_neither)
+-- the line `3 clone eth` asks neither for the configuration nor for the end
+clone_asks_for_neither : AsksForNeither (codes "3 clone eth")
+clone_asks_for_neither = (
+  λ asks. elim asks [
+    | inl none ↦ absurd (cc none)
+    | inr show ↦ absurd (cc show)
+  ],
+  λ end. absurd (cc end),
+)
+
+-- where the history is full, the line `3 clone eth` is not refused for want of memory
+pub full_is_told : IsRefusedFor V2 MAX_COMMANDS (codes "3 clone eth") NoMemory → ⊥
+full_is_told is = omega (arith, (is clone_asks_for_neither).1)
 
 -- the line `x` is no command of a process that version 2 can tell
 x_is_none : IsNoCallLine V2 (codes "x")
 x_is_none c fits is = no_call c fits.0 120 [] (λ ds h. absurd (cc h)) (sym is)
+
+-- the line `x` is not refused for want of memory
+pub no_memory_for_no_command : IsRefusedFor V2 0 (codes "x") NoMemory → ⊥
+no_memory_for_no_command is =
+    let call : IsCallLine V2 (codes "x") = (is asks_for_neither).0 in
+    x_is_none call.0 call.1 call.2
 
 -- `3 clone eth` is the line of a clone by process 3
 clone_line : codes "3 clone eth" ≡ line_of (call_words (3, OpenClone eth))
@@ -166,10 +216,12 @@ whole_is = refl
 table_over : IsTable false worked_table (asked_text worked_turns ++ codes "end\n3 exit\n")
 table_over = record {
   lines = codes "programs 2" ∷ codes "driver eth leaf 2 8 3 16" ∷ [];
+  cut = [];
   text = refl;
-  of_table = record { each = search (rules, arith); drivers = (refl, tt) };
+  of_table = record { each = search (rules, arith); drivers = (refl, tt); last = inl refl };
   over = inl (
     11,
+    refl,
     record { within = search arith; one = one_clone; parts = refl },
     search arith,
     no_lines _ _,

@@ -1,6 +1,6 @@
 -- The stages of a live session: its table, its beginning, a turn, all turns, its end.
-use Rattle.std.specs.Prelude.{◌≡◌, ℕ, ◌≤◌, ◌⊎◌, Bool, true, false, List, [], ◌++◌, length, Option, Result, Vec, Ok, Err}
-use Rattle.std.specs.Prelude.{IfOk, IfErr, OnOk}
+use Rattle.std.specs.Prelude.{◌≡◌, ◌≢◌, ℕ, ◌<◌, ◌≤◌, ◌⊎◌, Bool, true, false, List, [], ◌++◌, length, Option, Result}
+use Rattle.std.specs.Prelude.{Vec, Ok, Err, IfOk, IfErr, OnOk}
 use Rattle.std.specs.Global.{Global}
 use Rattle.std.specs.Io.KnownBytes.{Consumes, Appends, Keeps}
 use Rattle.smx_run.specs.declared.run_fault.RunFault.TheVariants.{NoMemory}
@@ -11,7 +11,7 @@ use Rattle.smx_session.specs.Sessions.{IsStartOf, State}
 use Rattle.smx_filters.specs.declared.input.TheConstants.{MAX_INPUT}
 use Rattle.smx_live.specs.Inboxes.{FailsToRead}
 use Rattle.smx_live.specs.LiveText.{HasComeSoFar, IsLive, IsOutcome, IsOver, RefusesDriversOf}
-use Rattle.smx_live.specs.Tables.{IsEndlessTable, IsTable, IsUnfinished, table_text}
+use Rattle.smx_live.specs.Tables.{IsEndlessTable, IsTable, IsUnfinished, begins_driver, table_text}
 use Rattle.smx_filters.specs.Output.{AppendsBeginning}
 use Rattle.smx_filters.specs.declared.main_fault.MainFault.{MainFault}
 use Rattle.smx_filters.specs.declared.main_fault.MainFault.TheVariants.{Refused, Text, TooLong, ReadFailed, WriteFailed}
@@ -30,6 +30,20 @@ pub record HasTable (had left : Option (List ℕ)) (ended : Bool) (failures : �
   pub fault : IfErr result (FailsToRead (IsEndlessTable (old.held.items ++ read))
       (IsUnfinished (old.held.items ++ read))
       failures)
+
+-- At the end of the input, what is held was taken into a table that has a line, where it begins as that of a driver,
+-- and else it is held as before; or the table would have been too long with it, or memory was wanting.
+abbrev pub TakesCutLine : List ℕ → List ℕ → List ℕ → Result (Vec ℕ Global) MainFault → Type 0
+TakesCutLine table held now (Ok made) =
+    ((made.items ≡ table) × (now ≡ held) × ((table ≡ []) ⊎ (begins_driver held ≡ false)))
+    ⊎ ((made.items ≡ table ++ held) × (now ≡ []) × (table ≢ []) × (begins_driver held ≡ true)
+    × (length (table ++ held) ≤ MAX_INPUT))
+TakesCutLine table held now (Err TooLong) =
+    (table ≢ []) × (begins_driver held ≡ true) × (MAX_INPUT < length (table ++ held))
+TakesCutLine table held now (Err (Refused fault)) = fault ≡ NoMemory
+TakesCutLine table held now (Err ReadFailed) = ⊥
+TakesCutLine table held now (Err (Text fault)) = ⊥
+TakesCutLine table held now (Err WriteFailed) = ⊥
 
 -- a session begins over the drivers of a table, or the table or its drivers are at fault, or memory was wanting
 abbrev pub Begins : List ℕ → Result Talk MainFault → Type 0

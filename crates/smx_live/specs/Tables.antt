@@ -1,7 +1,7 @@
 -- A driver table, and where it is over.
 use Rattle.std.specs.Prelude.{◌≡◌, ◌≢◌, ℕ, ◌<◌, ◌≤◌, ◌⊎◌, Bool, true, false, List, [], ◌∷◌, ◌++◌, length, drop, take}
 use Rattle.std.specs.Prelude.{codes, nat_eq}
-use Rattle.std.specs.List.{AllByRecursion, starts_with}
+use Rattle.std.specs.List.{AllByRecursion, ends_with, starts_with}
 use Rattle.smx_words.specs.Words.{lines_text}
 use Rattle.smx_text.specs.Grammar.{IsOneLine}
 use Rattle.smx_filters.specs.declared.input.TheConstants.{MAX_INPUT}
@@ -11,28 +11,40 @@ use Rattle.smx_live.specs.Inboxes.{HasLine, IsShort, IsTooLong}
 abbrev pub begins_driver : List ℕ → Bool
 begins_driver line = starts_with nat_eq line (codes "driver")
 
--- the lines of a table: any first one, and behind it those that begin as that of a driver
-pub record AreOfTable (lines : List (List ℕ)) : Type 0 where
+-- the line of a driver behind a first line, without a line feed
+abbrev pub IsCutDriver : List (List ℕ) → List ℕ → Type 0
+IsCutDriver lines cut = (lines ≢ []) × IsOneLine cut × (begins_driver cut ≡ true)
+
+-- The lines of a table: any first one, and behind it those that begin as that of a driver; and the last one, if it is
+-- cut, or nothing.
+pub record AreOfTable (lines : List (List ℕ)) (cut : List ℕ) : Type 0 where
   pub each : AllByRecursion IsOneLine lines
   pub drivers : AllByRecursion (λ line. begins_driver line ≡ true) (drop 1 lines)
+  pub last : (cut ≡ []) ⊎ IsCutDriver lines cut
+
+-- the input has ended behind these lines: within that of a driver, which is of the table; or within another, or none
+abbrev pub EndsBehind : List (List ℕ) → List ℕ → List ℕ → Type 0
+EndsBehind lines cut rest = (IsCutDriver lines cut × (rest ≡ []))
+    ⊎ ((cut ≡ []) × IsShort rest × ((lines ≡ []) ⊎ (begins_driver rest ≡ false)))
 
 -- a table of these lines is over: the next line begins otherwise, or the input has ended before there was a next one
-abbrev pub IsOverAt : Bool → List (List ℕ) → List ℕ → Type 0
-IsOverAt ended lines rest =
-    ((n : ℕ) × HasLine n rest × (n ≤ MAX_INPUT) × (lines ≢ []) × (begins_driver (take n rest) ≡ false))
-    ⊎ ((ended ≡ true) × IsShort rest)
+abbrev pub IsOverAt : Bool → List (List ℕ) → List ℕ → List ℕ → Type 0
+IsOverAt ended lines cut rest = ((n : ℕ) × (cut ≡ []) × HasLine n rest × (n ≤ MAX_INPUT) × (lines ≢ [])
+    × (begins_driver (take n rest) ≡ false))
+    ⊎ ((ended ≡ true) × EndsBehind lines cut rest)
 
 -- a table, and what was read behind it, of an input that has ended or not
 pub record IsTable (ended : Bool) (table rest : List ℕ) : Type 0 where
   pub lines : List (List ℕ)
-  pub text : table ≡ lines_text lines
-  pub of_table : AreOfTable lines
-  pub over : IsOverAt ended lines rest
+  pub cut : List ℕ
+  pub text : table ≡ lines_text lines ++ cut
+  pub of_table : AreOfTable lines cut
+  pub over : IsOverAt ended lines cut rest
 
 -- these bytes begin with lines of a table; its text so far, and what stands behind it, are so
 abbrev pub BeginsAsTable : List ℕ → (List ℕ → List ℕ → Type 0) → Type 0
-BeginsAsTable read AreSo = (lines : List (List ℕ)) × (rest : List ℕ) × (read ≡ lines_text lines ++ rest)
-    × AreOfTable lines × AreSo (lines_text lines) rest
+BeginsAsTable read AreSo = (lines : List (List ℕ)) × (cut rest : List ℕ) × (read ≡ (lines_text lines ++ cut) ++ rest)
+    × AreOfTable lines cut × AreSo (lines_text lines ++ cut) rest
 
 -- the table goes on, and each whole line is of it
 abbrev pub IsUnfinished : List ℕ → Type 0
@@ -42,10 +54,14 @@ IsUnfinished read = BeginsAsTable read (λ text rest. IsOneLine rest)
 abbrev pub IsEndlessTable : List ℕ → Type 0
 IsEndlessTable read = BeginsAsTable read (λ text rest. (MAX_INPUT < length text) ⊎ IsTooLong rest)
 
--- a table as a programs text: with the line `end` behind it, unless it has no line
+-- the line `end` behind a line that is whole
+abbrev pub end_behind : Bool → List ℕ
+end_behind true = codes "end\n"
+end_behind false = []
+
+-- a table as a programs text: with the line `end` behind it, where it has a line, and its last one is whole
 abbrev pub table_text : List ℕ → List ℕ
-table_text [] = []
-table_text (b ∷ bs) = b ∷ (bs ++ codes "end\n")
+table_text table = table ++ end_behind (ends_with nat_eq table (codes "\n"))
 
 -- what was read begins with a table, as a text of which this is so
 abbrev pub HasTableOf : List ℕ → Bool → (List ℕ → Type 0) → Type 0

@@ -10,7 +10,7 @@ use Rattle.smx_types.specs.declared.view.ConfigView.{ConfigView}
 use Rattle.smx_model.specs.Commands.{step}
 use Rattle.smx_model.specs.Histories.{after, call_of}
 use Rattle.smx_model.specs.Views.{view}
-use Rattle.smx_words.specs.LineReading.{IsNoCallLine}
+use Rattle.smx_words.specs.LineReading.{IsCallLine, IsNoCallLine}
 use Rattle.smx_words.specs.Spellable.{FitsCallIn, FitsEntry}
 use Rattle.smx_words.specs.Spelling.{call_words, entry_line}
 use Rattle.smx_words.specs.Words.{LINE_FEED, line_of}
@@ -86,7 +86,8 @@ AsksForNeither line = (AsksToShow line → ⊥) × (line ≢ codes "end")
 abbrev pub IsRefusedFor : Version → ℕ → List ℕ → TurnFault → Type 0
 IsRefusedFor version count line NoCommand =
     AsksForNeither line × IsNoCallLine version line × (count < MAX_COMMANDS)
-IsRefusedFor version count line NoMemory = AsksForNeither line → count < MAX_COMMANDS
+IsRefusedFor version count line NoMemory =
+    AsksForNeither line → IsCallLine version line × (count < MAX_COMMANDS)
 IsRefusedFor version count line Full = AsksForNeither line × (MAX_COMMANDS ≤ count)
 
 -- what a line may be answered after these entries

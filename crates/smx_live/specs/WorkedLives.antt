@@ -78,6 +78,10 @@ no_cut_told = refl
 pub table_ends : table_text worked_table ≡ codes "programs 2\ndriver eth leaf 2 8 3 16\nend\n"
 table_ends = refl
 
+-- a table whose last line is cut is so as programs too
+pub cut_table_ends : table_text (codes "programs 2\ndriver eth") ≡ codes "programs 2\ndriver eth"
+cut_table_ends = refl
+
 -- a table of no line as programs has none
 pub no_table_ends : table_text [] ≡ []
 no_table_ends = refl

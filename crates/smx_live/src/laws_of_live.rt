@@ -1,7 +1,7 @@
 //! Laws of live sessions, each the contract of a function that does nothing.
 
 ghost use Rattle.std.specs.List.{AllByRecursion};
-ghost use Rattle.std.specs.Prelude.{◌≡◌, ◌≢◌, ℕ, ◌≤◌, Bool, false, List, [], length, Err, codes};
+ghost use Rattle.std.specs.Prelude.{◌≡◌, ◌≢◌, ℕ, ◌≤◌, Bool, true, false, List, [], length, Err, codes};
 ghost use Rattle.smx_types.specs.declared.command.Entry.{Entry};
 ghost use Rattle.smx_types.specs.declared.driver.SpecFault.TheVariants.{BadMinors};
 ghost use Rattle.smx_types.specs.declared.limits.TheConstants.{MAX_COMMANDS};
@@ -64,8 +64,9 @@ pub fn a_session_has_its_drivers()
     drivers_have_one_fault();
 }
 
-/// A worked session: what is read, and what is written. Its table is over behind its last driver, and at no other
-/// place; and what asks for the configuration or the end is not refused, as no line is performed that is none.
+/// A worked session: what is read, and what is written. Its table is over behind its last driver, also one that is cut,
+/// and at no other place; and what asks for the configuration or the end is not refused, as no line is performed that
+/// is none.
 pub fn a_worked_live_session()
     ensures over { IsOver worked_input false worked_output }
     ensures table { IsTable false worked_table (codes "3 clone eth\n") }
@@ -73,10 +74,14 @@ pub fn a_worked_live_session()
     ensures not_too_late { IsTable false (codes "programs 2\nshow\n") (codes "end\n") → ⊥ }
     ensures not_before_its_header { IsTable false [] (codes "programs 2\nshow\nend\n") → ⊥ }
     ensures not_within_a_line { IsTable false worked_table (codes "3 clone eth") → ⊥ }
+    ensures over_within_a_driver { IsTable true (codes "programs 2\ndriver eth") [] }
+    ensures not_before_a_cut_driver { IsTable true (codes "programs 2\n") (codes "driver eth") → ⊥ }
+    ensures over_within_another { IsTable true (codes "programs 2\n") (codes "3 clone") }
     ensures show_is_asked { IsAnswer V2 drivers [] (codes "show") (NotDone NoCommand) → ⊥ }
     ensures end_is_asked { IsAnswer V2 drivers [] (codes "end") (NotDone NoCommand) → ⊥ }
     ensures not_full { IsAnswer V2 drivers [] (codes "x") (NotDone Full) → ⊥ }
-    ensures full_is_told { IsRefusedFor V2 MAX_COMMANDS (codes "x") NoMemory → ⊥ }
+    ensures full_is_told { IsRefusedFor V2 MAX_COMMANDS (codes "3 clone eth") NoMemory → ⊥ }
+    ensures no_memory_for_no_command { IsRefusedFor V2 0 (codes "x") NoMemory → ⊥ }
     ensures not_performed { (e : Entry) → IsAnswer V2 drivers [] (codes "x") (Entered e) → ⊥ }
 {
     a_worked_session();

@@ -3,7 +3,8 @@
 ghost use Rattle.std.specs.Prelude.{◌≡◌, ◌≢◌, ◌+◌, ◌≤◌, ◌⊎◌, ◌++◌, List, ℕ, Bool, true, false, drop, IfOk};
 ghost use Rattle.std.specs.Prelude.{MatchBool, OnOk};
 ghost use Rattle.smx_live.specs.Inboxes.{HasLine, IsShort};
-ghost use Rattle.smx_live.specs.LiveStages.{Begins, Converses, Finishes, HasTable, Opens, TurnsOn, Writes};
+ghost use Rattle.smx_live.specs.LiveStages.{Begins, Converses, Finishes, HasTable, Opens, TakesCutLine, TurnsOn};
+ghost use Rattle.smx_live.specs.LiveStages.{Writes};
 ghost use Rattle.smx_live.specs.LiveText.{IsLive, LivesText, closing_text, cut_words};
 ghost use Rattle.smx_live.specs.Tables.{begins_driver, table_text};
 ghost use Rattle.smx_model.specs.Views.{view};
@@ -52,7 +53,7 @@ pub fn live_text<F: Feed, S: Sink>(
     }
 }
 
-// The lines of the driver table: the first one, and those behind it that begin with `driver`.
+// The lines of the driver table: the first one, and those behind it that begin with `driver`, also one that is cut.
 fn read_table<F: Feed>(alloc: Global, feed: &mut F, inbox: &mut Inbox) -> Result<Vec<u8>, MainFault>
     requires end { F.ended feed.old ≡ inbox.old.ended }
     requires fine_so_far { F.failures feed.old ≡ 0 }
@@ -63,7 +64,7 @@ fn read_table<F: Feed>(alloc: Global, feed: &mut F, inbox: &mut Inbox) -> Result
     'lines: while table.len() <= MAX_INPUT {
         let n = match inbox.next_line(feed) {
             Ok(Some(n)) => n,
-            Ok(None) => return Ok(table),
+            Ok(None) => return with_cut_line(table, &mut inbox.held),
             Err(fault) => return Err(fault),
         };
         if !is_of_table(table.len(), &inbox.held[..n]) {
@@ -75,6 +76,24 @@ fn read_table<F: Feed>(alloc: Global, feed: &mut F, inbox: &mut Inbox) -> Result
         inbox.drop_line(n);
     }
     Err(MainFault::TooLong)
+}
+
+// The table at the end of the input, with what is held, where that is the line of a driver: it is told to be cut then.
+fn with_cut_line(table: Vec<u8>, held: &mut Vec<u8>) -> Result<Vec<u8>, MainFault>
+    ensures { TakesCutLine table.items held.old.items held.new.items result }
+{
+    let mut whole = table;
+    if whole.is_empty() || !held.starts_with(b"driver") {
+        return Ok(whole);
+    }
+    if whole.extend_from_slice(held).is_err() {
+        return Err(MainFault::Refused(RunFault::NoMemory));
+    }
+    if whole.len() > MAX_INPUT {
+        return Err(MainFault::TooLong);
+    }
+    held.clear();
+    Ok(whole)
 }
 
 // Whether a line is of the table, behind so many bytes of it.
@@ -90,7 +109,7 @@ fn text_of_table(table: Vec<u8>) -> Result<Vec<u8>, AllocError>
     ensures { IfOk result (λ v. v.items ≡ table_text table.items) }
 {
     let mut text = table;
-    if !text.is_empty() {
+    if text.ends_with(b"\n") {
         text.extend_from_slice(b"end\n")?;
     }
     Ok(text)

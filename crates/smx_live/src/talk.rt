@@ -1,18 +1,21 @@
 //! A live session: its configuration, how many entries it has, and the texts that it answers.
 
-ghost use Rattle.std.specs.Prelude.{◌≡◌, ◌+◌, ◌++◌, ◌<◌, [], Some, None, IfOk, IfSome, OnErr, OnOk};
+ghost use Rattle.std.specs.Prelude.{◌≡◌, ◌+◌, ◌++◌, ◌<◌, ◌⊎◌, [], Some, None, IfOk, IfSome, OnErr, OnOk};
 ghost use Rattle.smx_live.specs.LiveTurns.{IsAsked};
 ghost use Rattle.smx_live.specs.Turns.{AsksForNeither, IsPerformed};
+ghost use Rattle.smx_live.specs.declared.turn_fault.TurnFault.TheVariants as fault;
 ghost use Rattle.smx_model.specs.Views.{view};
 ghost use Rattle.smx_session.specs.Sessions.{Performs};
 ghost use Rattle.smx_text.specs.TranscriptText.{IsSpellableView, view_lines};
 ghost use Rattle.smx_types.specs.declared.limits.TheConstants.{MAX_COMMANDS};
+ghost use Rattle.smx_words.specs.LineReading.{IsCallLine, IsNoCallLine};
 ghost use Rattle.smx_words.specs.Spellable.{FitsEntry};
 ghost use Rattle.smx_words.specs.Spelling.{entry_line};
 
 use crate::turn_fault::TurnFault;
 use smx_session::{LineFault, Session};
-use smx_types::{MAX_COMMANDS, MAX_MESSAGE, NoMemory};
+use smx_types::{MAX_COMMANDS, MAX_MESSAGE, NoMemory, Version};
+use smx_words::call_of_line;
 use std::alloc::Global;
 
 // The room for a reply that has no list of dropped messages, with all that stands around it.
@@ -61,6 +64,17 @@ fn make_room(text: &mut Vec<u8>, len: usize, count: usize) -> Result<(), NoMemor
     Ok(())
 }
 
+// Why a line is refused where there is no room for the line of its entry, which only a command wants.
+fn fault_without_room(alloc: Global, version: Version, line: &[u8]) -> TurnFault
+    ensures { ((result ≡ fault.NoMemory) × IsCallLine version line.now)
+        ⊎ ((result ≡ fault.NoCommand) × IsNoCallLine version line.now) }
+{
+    match call_of_line(alloc, version, line) {
+        Ok(None) => TurnFault::NoCommand,
+        Ok(Some(_)) | Err(_) => TurnFault::NoMemory,
+    }
+}
+
 impl Talk {
     /// Performs the command of a line, and makes the line of its entry. Where it answers why not, nothing has changed.
     /// The room for the line is taken first. Fails where that was not enough, and then the command was performed.
@@ -74,7 +88,8 @@ impl Talk {
             return Ok(Some(TurnFault::Full));
         }
         if make_room(&mut self.text, line.len(), self.count).is_err() {
-            return Ok(Some(TurnFault::NoMemory));
+            let version = self.session.version();
+            return Ok(Some(fault_without_room(alloc, version, line)));
         }
         match self.session.perform(alloc, line) {
             Ok(()) => {

@@ -33,3 +33,15 @@ returns-clause-not_performed c = worked.not_performed
 
 pub returns-clause-full_is_told : goal.returns-clause-full_is_told
 returns-clause-full_is_told c = worked.full_is_told
+
+pub returns-clause-no_memory_for_no_command : goal.returns-clause-no_memory_for_no_command
+returns-clause-no_memory_for_no_command c = worked.no_memory_for_no_command
+
+pub returns-clause-over_within_a_driver : goal.returns-clause-over_within_a_driver
+returns-clause-over_within_a_driver c = worked.over_within_a_driver
+
+pub returns-clause-not_before_a_cut_driver : goal.returns-clause-not_before_a_cut_driver
+returns-clause-not_before_a_cut_driver c = worked.not_before_a_cut_driver
+
+pub returns-clause-over_within_another : goal.returns-clause-over_within_another
+returns-clause-over_within_another c = worked.over_within_another

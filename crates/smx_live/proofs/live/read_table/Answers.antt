@@ -5,7 +5,7 @@ use Rattle.std.proofs.lemmas.List.{append-nil}
 use Rattle.smx_words.specs.Words.{lines_text}
 use Rattle.smx_live.specs.Tables.{begins_driver}
 use Rattle.smx_live.proofs.InboxLemmas.{moved, unmoved}
-use Rattle.smx_live.proofs.TableLemmas.{fails_with, one_line_more, over_at_a_line, over_at_the_end, text_more}
+use Rattle.smx_live.proofs.TableLemmas.{fails_with, has_table, one_line_more, over_at_a_line, text_more}
 use Rattle.smx_live.proofs.live.read_table.Goals as goal
 
 pub lines-init : goal.lines-init
@@ -17,7 +17,7 @@ lines-init g c =
         Consumes-nil (g.F.Feed.remaining c.args.feed.now),
         append-nil held ∙ sym (ap (λ (t : List ℕ). t ++ held) c.new-table.ensures.items),
       );
-      lines = ([], c.new-table.ensures.items, record { each = tt; drivers = tt });
+      lines = ([], c.new-table.ensures.items, record { each = tt; drivers = tt; last = inl refl });
       end = c.requires.end;
       fine = c.requires.fine_so_far;
     }
@@ -27,18 +27,15 @@ returns-in-Ok-None g c =
     let (read, consumed, parts) = c.lines.invariant.so_far in
     let (lines, text, were) = c.lines.invariant.lines in
     let (piece, p) = c.in-Ok-None.ensures in
+    let held = c.next_line.new.self.held.items in
     let found = rw c.in-Ok-None.field-0-is at p.found in (
       read ++ piece,
-      record {
-        consumed = Consumes-trans _ _ _ read piece consumed p.consumed;
-        parts = unmoved c.args.inbox.now.held.items read piece c.lines.table.items c.lines.inbox.held.items
-            c.next_line.new.self.held.items parts p.held;
-        over = over_at_the_end _ c.lines.table.items lines c.next_line.new.self.held.items text were found.0 found.1;
-        end = p.end;
-        fine = p.fine;
-        fits = omega (arith, c.lines-test.true, c.len.ensures, c.lines.table.ok.0);
-        fault = tt;
-      },
+      has_table _ c.lines.table.items lines held text were found.0 found.1
+          (Consumes-trans _ _ _ read piece consumed p.consumed)
+          (unmoved c.args.inbox.now.held.items read piece c.lines.table.items c.lines.inbox.held.items held parts
+          p.held)
+          (omega (arith, c.lines-test.true, c.len.ensures, c.lines.table.ok.0)) p.end p.fine c.with_cut_line.result
+          c.with_cut_line.ensures,
     )
 
 pub returns-in-Err : goal.returns-in-Err

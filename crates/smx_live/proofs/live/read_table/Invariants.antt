@@ -1,4 +1,4 @@
-use Rattle.std.proofs.Common.{◌≡◌, ℕ, ◌+◌, ◌-◌, List, ◌++◌, length}
+use Rattle.std.proofs.Common.{◌≡◌, ℕ, ◌+◌, ◌-◌, List, [], ◌++◌, length}
 use Rattle.std.specs.Io.KnownBytes.{Consumes}
 use Rattle.smx_filters.specs.declared.input.TheConstants.{MAX_INPUT}
 use Rattle.smx_words.specs.Words.{lines_text}
@@ -9,7 +9,7 @@ abbrev pub invariant-lines : goal.invariant-lines
 invariant-lines g l = record {
   so_far : (read : List ℕ) × Consumes (g.F.Feed.remaining l.fn.feed) (g.F.Feed.remaining l.feed) read
       × (l.fn.inbox.held.items ++ read ≡ l.table.items ++ l.inbox.held.items);
-  lines : (lines : List (List ℕ)) × (l.table.items ≡ lines_text lines) × AreOfTable lines;
+  lines : (lines : List (List ℕ)) × (l.table.items ≡ lines_text lines) × AreOfTable lines [];
   end : g.F.Feed.ended l.feed ≡ l.inbox.ended;
   fine : g.F.Feed.failures l.feed ≡ 0;
 }
