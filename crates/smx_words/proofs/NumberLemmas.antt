@@ -29,6 +29,30 @@ own = numerals_by_value _ tells_all_ascii_digits
 pub decimal_digits : (n : ℕ) → FitsNumber n → all_ascii_digits (decimal n) ≡ true
 decimal_digits n fits = digits_decimal own n (omega arith)
 
+-- ---- one digit
+
+-- a digit that bytes begin with is the number that it spells
+pub one_digit : (w : List ℕ) → 0 < length w → is_ascii_digit (slice_index w 0) ≡ true
+    → take 1 w ≡ decimal (slice_index w 0 - 48)
+one_digit [] some is = absurd (omega arith)
+one_digit (b ∷ w) some is =
+    let least : 48 ≤ b = grind (arith, nat_tests) in
+    let most : b ≤ 57 = grind (arith, nat_tests) in
+    let same : 48 + (b - 48) ≡ b = omega (arith, least) in
+    sym (decimal_digit (b - 48) (omega (arith, least, most)) ∙ ap (λ (d : ℕ). d ∷ []) same)
+
+-- what a digit spells is a number
+pub digit_fits : (b : ℕ) → is_ascii_digit b ≡ true → FitsNumber (b - 48)
+digit_fits b is = let most : b ≤ 57 = grind (arith, nat_tests) in omega (arith, most)
+
+-- a word of one digit is the number that this spells
+pub one_alone : (w : List ℕ) → length w ≡ 1 → is_ascii_digit (slice_index w 0) ≡ true
+    → FitsNumber (slice_index w 0 - 48) × (w ≡ decimal (slice_index w 0 - 48))
+one_alone w one is = (
+  digit_fits (slice_index w 0) is,
+  sym (ap (λ (n : ℕ). take n w) (sym one) ∙ take-length w) ∙ one_digit w (omega (arith, one)) is,
+)
+
 -- ---- one digit more
 
 -- first bytes of a word that are digits are so with the next one, where that is a digit

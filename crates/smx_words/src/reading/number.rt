@@ -10,11 +10,14 @@ ghost use Rattle.smx_words.specs.Words.{SPACE};
 
 use smx_types::Process;
 
-/// The number that a word spells.
+/// The number that a word spells. Most are one digit, which is looked for first.
 #[inline(always)]
 pub fn number(word: &[u8]) -> Option<u32>
     ensures { IsFoundIn FitsNumber decimal word.now result }
 {
+    if word.len() == 1 && word[0].is_ascii_digit() {
+        return Some((word[0] - b'0') as u32);
+    }
     let Some((number, end)) = leading_number(word) else {
         return None;
     };
@@ -24,11 +27,14 @@ pub fn number(word: &[u8]) -> Option<u32>
     None
 }
 
-// The number before the first space.
+// The number before the first space, and what stands behind that. One digit is looked for first.
 #[inline(always)]
 pub fn first_number(text: &[u8]) -> Option<(u32, &[u8])>
     ensures { BeginsWith FitsNumber decimal text.now result }
 {
+    if text.len() > 1 && text[1] == b' ' && text[0].is_ascii_digit() {
+        return Some(((text[0] - b'0') as u32, &text[2..]));
+    }
     let Some((number, end)) = leading_number(text) else {
         return None;
     };
