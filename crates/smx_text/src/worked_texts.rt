@@ -1,6 +1,6 @@
 //! Worked texts: what some bytes spell, and where others go wrong, as the examples of `docs/FORMATS.md` do.
 
-ghost use Rattle.std.specs.Prelude.{◌++◌, [], codes};
+ghost use Rattle.std.specs.Prelude.{[], codes};
 ghost use Rattle.smx_text.specs.declared.text_fault.Cause.TheVariants.{Header, Form, Many, Cut, Trailing};
 ghost use Rattle.smx_text.specs.ProgramsText.{SpellsPrograms};
 ghost use Rattle.smx_text.specs.TranscriptText.{SpellsTranscript};

@@ -1,17 +1,14 @@
 //! The programs that are being read.
 
-ghost use Rattle.std.specs.Prelude.{◌≡◌, ◌≢◌, ◌<◌, codes, length, OnOk, IfOk, IfErr};
+ghost use Rattle.std.specs.Prelude.{◌≡◌, ◌≢◌, ◌<◌, codes, length, OnOk, IfErr};
 ghost use Rattle.std.specs.List.{sum_by};
 ghost use Rattle.smx_types.specs.declared.limits.TheConstants.{MAX_COMMANDS};
 ghost use Rattle.smx_types.specs.declared.command.Command.{Command as AnyCommand};
-ghost use Rattle.smx_words.specs.LineReading.{IsLineOf, IsNoCommandLine, IsReadAs};
-ghost use Rattle.smx_words.specs.Words.{line_of};
-ghost use Rattle.smx_words.specs.Spelling.{command_words};
-ghost use Rattle.smx_words.specs.Spellable.{FitsNumber, FitsDriver, FitsCommandIn};
-ghost use Rattle.smx_text.specs.Grammar.{IsBegun, line_text};
-ghost use Rattle.smx_text.specs.Reading.{AnswersLine, AnswersText, RefusesLine, EndsAs};
-ghost use Rattle.smx_text.specs.ProgramLines.{Driver as DriverLine, Process as ProcessLine};
-ghost use Rattle.smx_text.specs.ProgramLines.{Command as CommandLine, End};
+ghost use Rattle.smx_words.specs.LineReading.{IsNoCommandLine};
+ghost use Rattle.smx_words.specs.Spellable.{FitsDriver};
+ghost use Rattle.smx_text.specs.Grammar.{IsBegun};
+ghost use Rattle.smx_text.specs.Reading.{AnswersLine, AnswersText, RefusesLine};
+ghost use Rattle.smx_text.specs.ProgramLines.{Command as CommandLine, Driver as DriverLine, Process as ProcessLine};
 ghost use Rattle.smx_text.specs.ProgramsText.{body, programs_grammar};
 
 use crate::programs::taker::ProgramTaker;

@@ -1,6 +1,6 @@
 //! The words of an entry.
 
-ghost use Rattle.std.specs.Prelude.{◌≡◌, ◌≢◌, ◌++◌, ◌∷◌, List, ℕ, codes, None, MatchOption, IfOk, IfErr};
+ghost use Rattle.std.specs.Prelude.{◌≡◌, ◌≢◌, ◌++◌, List, ℕ, codes, None, MatchOption, IfOk, IfErr};
 ghost use Rattle.smx_words.specs.LineReading.{IsReadAs, IsCommandLine, IsLineOf};
 ghost use Rattle.smx_words.specs.Spellable.{FitsCommandIn, FitsEntryIn, FitsReplyIn};
 ghost use Rattle.smx_words.specs.Spelling.{command_words, entry_words, reply_words};

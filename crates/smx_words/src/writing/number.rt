@@ -1,6 +1,6 @@
 //! Numbers, and the lines that have nothing but numbers behind their name.
 
-ghost use Rattle.std.specs.Prelude.{◌≡◌, ◌+◌, ◌%◌, ◌<◌, ◌≤◌, ◌∷◌, ◌++◌, [], codes, OnOk};
+ghost use Rattle.std.specs.Prelude.{◌≡◌, ◌+◌, ◌%◌, ◌<◌, ◌≤◌, ◌∷◌, ◌++◌, [], OnOk};
 ghost use Rattle.std.specs.Fmt.{decimal};
 ghost use Rattle.smx_words.specs.Spellable.{FitsNumber};
 ghost use Rattle.smx_words.specs.declared.writing.number.TheConstants.{ZERO};

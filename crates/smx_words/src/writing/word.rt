@@ -1,6 +1,6 @@
 //! Words of a line other than numbers and bytes.
 
-ghost use Rattle.std.specs.Prelude.{◌≡◌, ◌∷◌, ◌++◌, [], codes, OnOk};
+ghost use Rattle.std.specs.Prelude.{◌≡◌, ◌∷◌, ◌++◌, [], OnOk};
 ghost use Rattle.smx_words.specs.Spellable.{FitsName};
 ghost use Rattle.smx_words.specs.Spelling.{side_word};
 ghost use Rattle.smx_words.specs.Words.{SPACE};
