@@ -91,8 +91,8 @@ fails_with start read piece table held lines parts text were failures e = by_fau
   )
   by_fault ReadFailed is = (
     is.0,
-    begins_as (start ++ (read ++ piece)) table (held ++ piece) lines [] (λ text rest. IsOneLine rest) all (whole table lines text)
-        were is.1,
+    begins_as (start ++ (read ++ piece)) table (held ++ piece) lines [] (λ text rest. IsOneLine rest) all
+        (whole table lines text) were is.1,
   )
   by_fault (Refused f) is = is
   by_fault (Text f) is = absurd is
@@ -251,3 +251,19 @@ still_a_table ended now table rest more t stays = record {
   of_table = t.of_table;
   over = over_still ended now t.lines t.cut rest more t.over stays;
 }
+
+-- ---- what is too long
+
+-- a line that is too long has more bytes than may be
+pub long_line : (held : List ℕ) → IsTooLong held → MAX_INPUT < length held
+long_line held (n, many, within, one) = omega (arith, many, within)
+
+-- where a table is too long, or the line behind it, more bytes were read than may be
+pub long_table : (read : List ℕ) → IsEndlessTable read → MAX_INPUT < length read
+long_table read (lines, cut, rest, parts, were, long) =
+    let text : List ℕ = lines_text lines ++ cut in
+    let all : length read ≡ length text + length rest = ap (λ (t : List ℕ). length t) parts ∙ length-append text rest in
+    elim long [
+      | inl table ↦ omega (arith, all, table)
+      | inr line ↦ omega (arith, all, long_line rest line)
+    ]

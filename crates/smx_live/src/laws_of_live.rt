@@ -1,7 +1,7 @@
 //! Laws of live sessions, each the contract of a function that does nothing.
 
 ghost use Rattle.std.specs.List.{AllByRecursion};
-ghost use Rattle.std.specs.Prelude.{◌≡◌, ◌≢◌, ℕ, ◌≤◌, Bool, true, false, List, [], length, Err, codes};
+ghost use Rattle.std.specs.Prelude.{◌≡◌, ◌≢◌, ℕ, ◌<◌, ◌≤◌, Bool, true, false, List, [], length, Err, codes};
 ghost use Rattle.smx_types.specs.declared.command.Entry.{Entry};
 ghost use Rattle.smx_types.specs.declared.driver.SpecFault.TheVariants.{BadMinors};
 ghost use Rattle.smx_types.specs.declared.limits.TheConstants.{MAX_COMMANDS};
@@ -16,8 +16,9 @@ ghost use Rattle.smx_text.specs.declared.text_fault.TextFault.{TextFault};
 ghost use Rattle.smx_session.specs.Sessions.{State};
 ghost use Rattle.smx_session.specs.WorkedSessions.{drivers};
 ghost use Rattle.smx_filters.specs.declared.input.TheConstants.{MAX_INPUT};
+ghost use Rattle.smx_live.specs.Inboxes.{IsTooLong};
 ghost use Rattle.smx_live.specs.LiveText.{HasComeSoFar, IsLegalTranscript, IsLive, IsOver, RefusesDriversOf};
-ghost use Rattle.smx_live.specs.Tables.{HasTableOf, IsTable, table_text};
+ghost use Rattle.smx_live.specs.Tables.{HasTableOf, IsEndlessTable, IsTable, table_text};
 ghost use Rattle.smx_live.specs.Turns.{Entered, HadMemory, IsAnswer, IsRefusedFor, NotDone};
 ghost use Rattle.smx_live.specs.WorkedLives.{minorless_text, worked_input, worked_output, worked_table};
 ghost use Rattle.smx_live.specs.declared.turn_fault.TurnFault.TheVariants.{NoCommand, NoMemory, Full};
@@ -63,6 +64,12 @@ pub fn a_session_has_its_drivers()
     one_text_has_one_reading();
     drivers_have_one_fault();
 }
+
+/// A table is too long only where more than 16,777,216 bytes were read, and a line only where it has more.
+pub fn what_is_too_long()
+    ensures table { (read : List ℕ) → IsEndlessTable read → MAX_INPUT < length read }
+    ensures line { (held : List ℕ) → IsTooLong held → MAX_INPUT < length held }
+{}
 
 /// A worked session: what is read, and what is written. Its table is over behind its last driver, also one that is cut,
 /// and at no other place; and what asks for the configuration or the end is not refused, as no line is performed that
