@@ -12,12 +12,12 @@ abbrev pub value_in_table : ℕ → ℕ
 value_in_table d = slice_index_or VALUES d 0
 
 -- each number below this one passes a test, as a test
-abbrev passes_below : ℕ → (ℕ → Bool) → Bool
+abbrev pub passes_below : ℕ → (ℕ → Bool) → Bool
 passes_below zero test = true
 passes_below (suc n) test = test n && passes_below n test
 
 -- where all numbers below one pass a test, each of them does
-each_passes : (n : ℕ) (test : ℕ → Bool) → passes_below n test ≡ true → (d : ℕ) → d < n → test d ≡ true
+pub each_passes : (n : ℕ) (test : ℕ → Bool) → passes_below n test ≡ true → (d : ℕ) → d < n → test d ≡ true
 each_passes zero test h d lt = absurd (omega (arith, lt))
 each_passes (suc n) test h d lt =
     let parts = and_parts (test n) (passes_below n test) h in

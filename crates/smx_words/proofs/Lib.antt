@@ -5,6 +5,7 @@ pub mod NumberLemmas
 pub mod WordLemmas
 pub mod HexLemmas
 pub mod DigitTableLemmas
+pub mod PairLemmas
 pub mod EntryLemmas
 pub mod ReplyLemmas
 pub mod CommandLemmas

@@ -66,22 +66,22 @@ decimal_three n least most =
 
 -- a number from 1,000 to 9,999 is four digits
 pub decimal_four : (n : ℕ) → 1000 ≤ n → n < 10000
-    → decimal n ≡ (48 + n / 1000 % 10) ∷ (48 + n / 100 % 10) ∷ (48 + n / 10 % 10) ∷ (48 + n % 10) ∷ []
+    → decimal n ≡ (48 + n / 100 / 10 % 10) ∷ (48 + n / 100 % 10) ∷ (48 + n / 10 % 10) ∷ (48 + n % 10) ∷ []
 decimal_four n least most =
+    let thousands : n / 10 / 100 ≡ n / 100 / 10 = omega arith in
     let hundreds : n / 10 / 10 ≡ n / 100 = omega arith in
-    let thousands : n / 10 / 100 ≡ n / 1000 = omega arith in
-    rw (← hundreds, ← thousands) (one_more n _ (omega arith) (omega arith)
+    rw (← thousands, ← hundreds) (one_more n _ (omega arith) (omega arith)
     (decimal_three (n / 10) (omega arith) (omega arith)))
 
 -- a number from 10,000 to 99,999 is five digits
 pub decimal_five : (n : ℕ) → 10000 ≤ n → n < 100000
     → decimal n
-    ≡ (48 + n / 10000 % 10) ∷ (48 + n / 1000 % 10) ∷ (48 + n / 100 % 10) ∷ (48 + n / 10 % 10) ∷ (48 + n % 10) ∷ []
+    ≡ (48 + n / 10000 % 10) ∷ (48 + n / 100 / 10 % 10) ∷ (48 + n / 100 % 10) ∷ (48 + n / 10 % 10) ∷ (48 + n % 10) ∷ []
 decimal_five n least most =
+    let many : n / 10 / 100 / 10 ≡ n / 10000 = omega arith in
+    let thousands : n / 10 / 100 ≡ n / 100 / 10 = omega arith in
     let hundreds : n / 10 / 10 ≡ n / 100 = omega arith in
-    let thousands : n / 10 / 100 ≡ n / 1000 = omega arith in
-    let many : n / 10 / 1000 ≡ n / 10000 = omega arith in
-    rw (← hundreds, ← thousands, ← many) (one_more n _ (omega arith) (omega arith)
+    rw (← many, ← thousands, ← hundreds) (one_more n _ (omega arith) (omega arith)
     (decimal_four (n / 10) (omega arith) (omega arith)))
 
 -- ---- bytes as hex digits

@@ -1,6 +1,7 @@
 //! Bytes as a word of hex digits, and the message that they are of.
 
-ghost use Rattle.std.specs.Prelude.{◌≡◌, ◌∷◌, ◌++◌, ◌<◌, ◌*◌, [], length, OnOk};
+ghost use Rattle.std.specs.Prelude.{◌≡◌, ◌+◌, ◌*◌, ◌<◌, ◌≤◌, ◌∷◌, ◌++◌, [], length, OnOk};
+ghost use Rattle.std.specs.Vec.{vec_capacity, vec_len};
 ghost use Rattle.std.specs.Fmt.{decimal};
 ghost use Rattle.hex.specs.Hex.{encode_lower, lower_digits};
 ghost use Rattle.std.specs.List.{slice_index};
@@ -10,7 +11,7 @@ ghost use Rattle.smx_words.specs.Spellable.{FitsBytes, FitsNumber};
 ghost use Rattle.smx_words.specs.Words.{LINE_FEED, SPACE, line_of};
 
 use super::number::put_spaced;
-use super::word::{put_byte, put_text};
+use super::word::{has_room, put_byte, put_text};
 use smx_types::NoMemory;
 
 // Quicker than a test where the bytes are few.
@@ -36,6 +37,30 @@ pub(super) fn put_message(
 {
     put_spaced(out, serial)?;
     put_spaced(out, addr)?;
+    put_last_bytes(out, bytes)
+}
+
+/// A space, the word of some bytes, and a line feed.
+#[inline(always)]
+pub(super) fn put_last_bytes(out: &mut Vec<u8>, bytes: &[u8]) -> Result<(), NoMemory>
+    ensures written { OnOk result (out.new.items
+        ≡ out.old.items ++ SPACE ∷ hex_word bytes.now ++ LINE_FEED ∷ []) }
+    ensures fits { FitsBytes bytes.now }
+{
+    if bytes.is_empty() || MANY <= bytes.len() || !has_room(out, 2 * MANY) {
+        return put_any_last(out, bytes);
+    }
+    push_few(out, bytes);
+    out.push_reserved(b'\n');
+    Ok(())
+}
+
+#[inline(never)]
+fn put_any_last(out: &mut Vec<u8>, bytes: &[u8]) -> Result<(), NoMemory>
+    ensures written { OnOk result (out.new.items
+        ≡ out.old.items ++ SPACE ∷ hex_word bytes.now ++ LINE_FEED ∷ []) }
+    ensures fits { FitsBytes bytes.now }
+{
     put_bytes(out, bytes)?;
     put_byte(out, b'\n')
 }
@@ -62,12 +87,23 @@ fn put_few(out: &mut Vec<u8>, bytes: &[u8]) -> Result<(), NoMemory>
     ensures { OnOk result (out.new.items ≡ out.old.items ++ SPACE ∷ encode_lower bytes.now) }
 {
     out.reserve(1 + 2 * bytes.len())?;
+    push_few(out, bytes);
+    Ok(())
+}
+
+// The same, for which there is room.
+#[inline(always)]
+fn push_few(out: &mut Vec<u8>, bytes: &[u8])
+    requires { vec_len out.old + 1 + 2 * length bytes.now ≤ vec_capacity out.old }
+    ensures items { out.new.items ≡ out.old.items ++ SPACE ∷ encode_lower bytes.now }
+    ensures len { vec_len out.new ≡ vec_len out.old + 1 + 2 * length bytes.now }
+    ensures capacity { vec_capacity out.new ≡ vec_capacity out.old }
+{
     out.push_reserved(b' ');
     for byte in bytes {
         out.push_reserved(DIGITS[(*byte / 16) as usize]);
         out.push_reserved(DIGITS[(*byte % 16) as usize]);
     }
-    Ok(())
 }
 
 // Two digits for each byte.

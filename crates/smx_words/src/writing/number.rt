@@ -1,13 +1,13 @@
 //! Numbers, and the lines that have nothing but numbers behind their name.
 
-ghost use Rattle.std.specs.Prelude.{◌≡◌, ◌+◌, ◌%◌, ◌<◌, ◌≤◌, ◌∷◌, ◌++◌, [], OnOk};
+ghost use Rattle.std.specs.Prelude.{◌≡◌, ◌+◌, ◌/◌, ◌%◌, ◌<◌, ◌≤◌, ◌∷◌, ◌++◌, [], OnOk};
 ghost use Rattle.std.specs.Fmt.{decimal};
 ghost use Rattle.smx_words.specs.Spellable.{FitsNumber};
 ghost use Rattle.smx_words.specs.declared.writing.number.TheConstants.{ZERO};
 ghost use Rattle.smx_words.specs.Spelling.{next_words, process_words};
 ghost use Rattle.smx_words.specs.Words.{LINE_FEED, SPACE, line_of};
 
-use super::word::{put_byte, put_text};
+use super::word::{has_room, put_array, put_byte, put_text};
 use itoa::Buffer;
 use smx_types::NoMemory;
 
@@ -86,47 +86,74 @@ fn put_longer(out: &mut Vec<u8>, n: u32) -> Result<(), NoMemory>
     requires { 10 ≤ n }
     ensures { OnOk result (out.new.items ≡ out.old.items ++ SPACE ∷ decimal n) }
 {
+    if 100_000 <= n || !has_room(out, 6) {
+        return put_any_spaced(out, n);
+    }
+    let [tens, ones] = pair(n);
     if n < 100 {
-        put_text(out, &[b' ', digit(n / 10), digit(n)])
+        put_array(out, [b' ', tens, ones])
     } else if n < 1_000 {
-        put_text(out, &[b' ', digit(n / 100), digit(n / 10), digit(n)])
+        put_array(out, [b' ', digit(n / 100), tens, ones])
     } else {
         put_longest(out, n)
     }
 }
 
-// A space and four digits or more.
+// A space and four digits or five.
 #[inline(always)]
 fn put_longest(out: &mut Vec<u8>, n: u32) -> Result<(), NoMemory>
-    requires { 1000 ≤ n }
+    requires { (1000 ≤ n) × (n < 100000) }
     ensures { OnOk result (out.new.items ≡ out.old.items ++ SPACE ∷ decimal n) }
 {
+    let ([thousands, hundreds], [tens, ones]) = (pair(n / 100), pair(n));
     if n < 10_000 {
-        let (thousands, hundreds) = (digit(n / 1_000), digit(n / 100));
-        put_text(out, &[b' ', thousands, hundreds, digit(n / 10), digit(n)])
-    } else if n < 100_000 {
-        let (many, thousands, hundreds) = (digit(n / 10_000), digit(n / 1_000), digit(n / 100));
-        put_text(
-            out,
-            &[b' ', many, thousands, hundreds, digit(n / 10), digit(n)],
-        )
+        put_array(out, [b' ', thousands, hundreds, tens, ones])
     } else {
-        put_byte(out, b' ')?;
-        put_any(out, n)
+        put_array(
+            out,
+            [b' ', digit(n / 10_000), thousands, hundreds, tens, ones],
+        )
     }
 }
 
-// Digits, however many.
+// A space and digits, however many.
 #[inline(never)]
-fn put_any(out: &mut Vec<u8>, n: u32) -> Result<(), NoMemory>
-    ensures { OnOk result (out.new.items ≡ out.old.items ++ decimal n) }
+fn put_any_spaced(out: &mut Vec<u8>, n: u32) -> Result<(), NoMemory>
+    ensures { OnOk result (out.new.items ≡ out.old.items ++ SPACE ∷ decimal n) }
 {
+    put_byte(out, b' ')?;
     put_text(out, Buffer::new().format(n).as_bytes())
 }
 
-// The last digit of a number.
+// The two digits of each number below 100, one behind the other.
+const PAIRS: [u8; 200] = [
+    b'0', b'0', b'0', b'1', b'0', b'2', b'0', b'3', b'0', b'4', b'0', b'5', b'0', b'6', b'0', b'7',
+    b'0', b'8', b'0', b'9', b'1', b'0', b'1', b'1', b'1', b'2', b'1', b'3', b'1', b'4', b'1', b'5',
+    b'1', b'6', b'1', b'7', b'1', b'8', b'1', b'9', b'2', b'0', b'2', b'1', b'2', b'2', b'2', b'3',
+    b'2', b'4', b'2', b'5', b'2', b'6', b'2', b'7', b'2', b'8', b'2', b'9', b'3', b'0', b'3', b'1',
+    b'3', b'2', b'3', b'3', b'3', b'4', b'3', b'5', b'3', b'6', b'3', b'7', b'3', b'8', b'3', b'9',
+    b'4', b'0', b'4', b'1', b'4', b'2', b'4', b'3', b'4', b'4', b'4', b'5', b'4', b'6', b'4', b'7',
+    b'4', b'8', b'4', b'9', b'5', b'0', b'5', b'1', b'5', b'2', b'5', b'3', b'5', b'4', b'5', b'5',
+    b'5', b'6', b'5', b'7', b'5', b'8', b'5', b'9', b'6', b'0', b'6', b'1', b'6', b'2', b'6', b'3',
+    b'6', b'4', b'6', b'5', b'6', b'6', b'6', b'7', b'6', b'8', b'6', b'9', b'7', b'0', b'7', b'1',
+    b'7', b'2', b'7', b'3', b'7', b'4', b'7', b'5', b'7', b'6', b'7', b'7', b'7', b'8', b'7', b'9',
+    b'8', b'0', b'8', b'1', b'8', b'2', b'8', b'3', b'8', b'4', b'8', b'5', b'8', b'6', b'8', b'7',
+    b'8', b'8', b'8', b'9', b'9', b'0', b'9', b'1', b'9', b'2', b'9', b'3', b'9', b'4', b'9', b'5',
+    b'9', b'6', b'9', b'7', b'9', b'8', b'9', b'9',
+];
+
+/// The last two digits of a number, of which the first may be a zero.
 #[inline(always)]
-fn digit(n: u32) -> u8
+pub(super) fn pair(n: u32) -> [u8; 2]
+    ensures { result ≡ (ZERO + n / 10 % 10) ∷ (ZERO + n % 10) ∷ [] }
+{
+    let at = 2 * (n % 100) as usize;
+    [PAIRS[at], PAIRS[at + 1]]
+}
+
+/// The last digit of a number.
+#[inline(always)]
+pub(super) fn digit(n: u32) -> u8
     ensures { result ≡ ZERO + n % 10 }
 {
     ZERO + (n % 10) as u8

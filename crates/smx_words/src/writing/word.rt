@@ -1,6 +1,7 @@
 //! Words of a line other than numbers and bytes.
 
-ghost use Rattle.std.specs.Prelude.{◌≡◌, ◌∷◌, ◌++◌, [], OnOk};
+ghost use Rattle.std.specs.Prelude.{◌≡◌, ◌+◌, ◌≤◌, ◌∷◌, ◌++◌, [], IsTrue, OnOk};
+ghost use Rattle.std.specs.Vec.{vec_capacity, vec_len};
 ghost use Rattle.smx_words.specs.Spellable.{FitsName};
 ghost use Rattle.smx_words.specs.Spelling.{side_word};
 ghost use Rattle.smx_words.specs.Words.{SPACE};
@@ -45,4 +46,21 @@ pub(super) fn put_byte(out: &mut Vec<u8>, byte: u8) -> Result<(), NoMemory>
 {
     out.push(byte)?;
     Ok(())
+}
+
+/// These bytes, whose length the compiler knows.
+#[inline(always)]
+pub(super) fn put_array<const N: usize>(out: &mut Vec<u8>, text: [u8; N]) -> Result<(), NoMemory>
+    ensures { OnOk result (out.new.items ≡ out.old.items ++ text.entry) }
+{
+    put_text(out, &text)
+}
+
+/// Whether there is room for so many bytes more. Where it was asked, what is inlined behind it has no step left that
+/// takes more room.
+#[inline(always)]
+pub(super) fn has_room(out: &Vec<u8>, len: usize) -> bool
+    ensures { IsTrue result → vec_len out.now + len ≤ vec_capacity out.now }
+{
+    len <= out.capacity() - out.len()
 }

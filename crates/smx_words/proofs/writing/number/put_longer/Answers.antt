@@ -3,13 +3,9 @@ use Rattle.smx_words.proofs.writing.number.put_longer.Goals as goal
 
 pub returns-then-n-lt100 : goal.returns-then-n-lt100
 returns-then-n-lt100 c =
-    rw (decimal_two c.args.n c.requires c.if-n-lt100.true)
-    (rw (c.digit.ensures, c.digit-then-n-lt100.ensures) at c.put_text.ensures)
+    rw (decimal_two c.args.n c.requires c.if-n-lt100.true) (rw c.pair.ensures at c.put_array.ensures)
 
 pub returns-then-n-lt1000 : goal.returns-then-n-lt1000
 returns-then-n-lt1000 c =
-    let first = c.digit-then-n-lt1000.ensures in
-    let second = c.digit-then-n-lt1000-2.ensures in
-    let third = c.digit-then-n-lt1000-3.ensures in
     rw (decimal_three c.args.n c.if-n-lt100.false c.if-n-lt1000.true)
-    (rw (first, second, third) at c.put_text-then-n-lt1000.ensures)
+    (rw (c.pair.ensures, c.digit.ensures) at c.put_array-then-n-lt1000.ensures)

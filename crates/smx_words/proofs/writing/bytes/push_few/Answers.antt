@@ -1,13 +1,14 @@
-use Rattle.std.proofs.Common.{append-nil, append_assoc, arith, sym}
+use Rattle.std.proofs.Common.{append-nil, append_assoc, arith, refl, sym, ◌∙◌}
 use Rattle.hex.specs.Hex.{encode_with}
 use Rattle.smx_words.proofs.WritingLemmas.{encode_more}
-use Rattle.smx_words.proofs.writing.bytes.put_few.Goals as goal
+use Rattle.smx_words.proofs.writing.bytes.push_few.Goals as goal
 
 pub loop-byte-init : goal.loop-byte-init
 unfolding encode_with
 loop-byte-init c = record {
   written = sym (append-nil _);
-  room = omega (arith, c.in_ok-reserve.ensures.ok, c.in_ok-reserve.ensures.len);
+  len = omega arith;
+  capacity = refl;
 }
 
 pub loop-byte-preserved : goal.loop-byte-preserved
@@ -17,5 +18,7 @@ loop-byte-preserved c =
     let low = c.push_reserved-in-loop-byte-2.ensures.items in
     record {
       written = rw (more, low, high, c.loop-byte.invariant.written) (simp append_assoc);
-      room = omega arith;
+      len = omega arith;
+      capacity = c.push_reserved-in-loop-byte-2.ensures.capacity ∙ c.push_reserved-in-loop-byte.ensures.capacity
+          ∙ c.loop-byte.invariant.capacity;
     }
