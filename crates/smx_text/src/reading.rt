@@ -1,7 +1,8 @@
 //! Reading a text line by line.
 
-ghost use Rattle.std.specs.Prelude.{◌≡◌, ◌≢◌, ◌<◌, ◌-◌, ◌^◌, ◌∷◌, ◌++◌, [], List, codes, MatchOption};
-ghost use Rattle.std.specs.Prelude.{IfOk, IfErr, OnOk};
+ghost use Rattle.std.specs.Prelude.{◌≡◌, ◌≢◌, ◌<◌, ◌-◌, ◌^◌, ◌∷◌, ◌++◌, [], List, codes};
+ghost use Rattle.std.specs.Prelude.{IfOk, IfErr, MatchBool, MatchOption, OnOk};
+ghost use Rattle.memchr.specs.Find.{IsFirstByte, is_byte};
 ghost use Rattle.smx_types.specs.declared.version.Version.{Version as AnyVersion};
 ghost use Rattle.smx_text.specs.Grammar.{Grammar, IsBegun, IsOneLine, IsFault, MakesAny, header};
 ghost use Rattle.smx_text.specs.Grammar.{line_text};
@@ -9,7 +10,7 @@ ghost use Rattle.smx_words.specs.Words.{LINE_FEED};
 ghost use Rattle.smx_text.specs.Reading.{AnswersText, EndsAs, EndsText};
 
 use crate::text_fault::{Cause, TextFault};
-use memchr::memchr;
+use memchr::memchr_iter;
 use smx_types::Version;
 use std::alloc::Global;
 
@@ -68,8 +69,27 @@ pub fn next_line(bytes: &[u8]) -> Option<(&[u8], &[u8])>
     ensures next { MatchOption result (IsOneLine bytes.now)
         (λ x. IsOneLine x.0.now × (bytes.now ≡ x.0.now ++ LINE_FEED ∷ x.1.now)) }
 {
-    let at = memchr(b'\n', bytes)?;
+    let at = first_line_feed(bytes)?;
     Some((&bytes[..at], &bytes[at + 1..]))
+}
+
+// The place of the first line feed. An iterator looks for one that is near.
+#[inline(always)]
+fn first_line_feed(bytes: &[u8]) -> Option<usize>
+    ensures { IsFirstByte (is_byte LINE_FEED) bytes.now result }
+{
+    memchr_iter(b'\n', bytes).next()
+}
+
+// Whether a line is the last one of a text.
+#[inline(always)]
+fn is_end(text: &[u8]) -> bool
+    ensures { MatchBool result (text.now ≡ codes "end") (text.now ≢ codes "end") }
+{
+    match text {
+        b"end" => true,
+        _ => false,
+    }
 }
 
 // What is made of what a text says, or the first line at which it goes wrong. Its header says of which version it is.
@@ -85,7 +105,7 @@ pub fn read<D: Draft>(alloc: Global, with: D::With, bytes: &[u8]) -> Result<D::W
         let Some((text, after)) = next_line(rest) else {
             return Err(Cause::Cut.at(number));
         };
-        if text == b"end".as_slice() {
+        if is_end(text) {
             return ended(draft, after, number);
         }
         if let Err(cause) = draft.add(alloc, text) {

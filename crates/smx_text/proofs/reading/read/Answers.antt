@@ -27,8 +27,8 @@ lines-init g c =
       );
     }
 
-pub returns-then-eq : goal.returns-then-eq
-returns-then-eq g c =
+pub returns-then-is_end : goal.returns-then-is_end
+returns-then-is_end g c =
     let end : c.in-Some.text.now ≡ codes "end" = search rules in
     let version = g.D.Draft.version_of c.lines.draft in
     any_of g.D.Draft.grammar c.args.bytes.now g.D.Draft.makes version c.ended.result
