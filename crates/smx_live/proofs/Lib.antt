@@ -6,5 +6,8 @@ pub mod LiveStageLemmas
 pub mod LiveTextLemmas
 pub mod TableLemmas
 pub mod OneOutputLemmas
+pub mod OverTableLemmas
 pub mod WorkedLiveLemmas
 pub mod RefusedDriverLemmas
+pub mod RefusedLineLemmas
+pub mod TableFaultLemmas

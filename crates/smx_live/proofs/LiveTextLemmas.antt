@@ -66,9 +66,9 @@ module _ {had left : Option (List ℕ)} {ended : Bool} {reads : ℕ} (read : Lis
       outcome = by_fault e why;
     } where
       by_fault : (f : MainFault) → Begins table (Err f) → IsOutcome read [] ended flushed reads writes (Err f)
-      by_fault (Text f) bad = ((fed, fine), refl, (table, held, parts, over, bad))
-      by_fault (Refused f) (inl is) = ((fed, fine), inl (is, inl refl))
-      by_fault (Refused f) (inr bad) = ((fed, fine), inr (refl, (table, held, parts, over, bad)))
+      by_fault (Text f) bad = ((fed, fine), refl, bad.1, (table, held, parts, over, fits, bad.0))
+      by_fault (Refused f) (inl is) = ((fed, fine), inl (is.0, inl refl))
+      by_fault (Refused f) (inr bad) = ((fed, fine), inr (refl, (table, held, parts, over, fits, bad)))
       by_fault TooLong bad = absurd bad
       by_fault ReadFailed bad = absurd bad
       by_fault WriteFailed bad = absurd bad

@@ -63,7 +63,7 @@ not_one [] after h = h.0 refl
 not_one (x ∷ xs) after h = not_one xs after h.1
 
 -- the text of lines with bytes behind it begins with the first line and its line feed
-cons : (l : List ℕ) (ls : List (List ℕ)) (rest : List ℕ)
+pub cons : (l : List ℕ) (ls : List (List ℕ)) (rest : List ℕ)
     → lines_text (l ∷ ls) ++ rest ≡ l ++ LINE_FEED ∷ (lines_text ls ++ rest)
 cons l ls rest = simp append_assoc
 
@@ -76,12 +76,12 @@ first_is n bytes l after one is has =
 -- ---- tables
 
 -- a line stands there that doesn't begin as a driver's, or the input has ended without one more
-abbrev Stops : Bool → List ℕ → Type 0
+abbrev pub Stops : Bool → List ℕ → Type 0
 Stops ended rest = ((n : ℕ) × HasLine n rest × (begins_driver (take n rest) ≡ false))
     ⊎ ((ended ≡ true) × IsOneLine rest)
 
 -- the lines of drivers don't stop where one more begins as a driver's
-stops_at : (ended : Bool) (rest l after : List ℕ) → IsOneLine l → begins_driver l ≡ true
+pub stops_at : (ended : Bool) (rest l after : List ℕ) → IsOneLine l → begins_driver l ≡ true
     → rest ≡ l ++ LINE_FEED ∷ after → Stops ended rest → ⊥
 stops_at ended rest l after one driver is (inl (n, has, other)) =
     let same = first_is n rest l after one is has in
@@ -105,15 +105,15 @@ drivers_once ended (l ∷ ls) (m ∷ ms) rest more all all_too are are_too stops
     ap (λ (x : List ℕ). x ∷ ls) cut.0 ∙ ap (λ (xs : List (List ℕ)). m ∷ xs) others
 
 -- where no line is cut, what stands behind a table is all that stands behind its whole lines
-all_behind : (cut rest : List ℕ) → cut ≡ [] → rest ≡ cut ++ rest
+pub all_behind : (cut rest : List ℕ) → cut ≡ [] → rest ≡ cut ++ rest
 all_behind cut rest none = ap (λ (c : List ℕ). c ++ rest) (sym none)
 
 -- where nothing stands behind a table, its cut line is all that stands behind its whole lines
-all_cut : (cut rest : List ℕ) → rest ≡ [] → cut ≡ cut ++ rest
+pub all_cut : (cut rest : List ℕ) → rest ≡ [] → cut ≡ cut ++ rest
 all_cut cut rest none = sym (ap (λ (r : List ℕ). cut ++ r) none ∙ append-nil cut)
 
 -- where a table is over, the lines of drivers stop
-stops_there : (ended : Bool) (ls : List (List ℕ)) (cut rest : List ℕ) → IsOverAt ended ls cut rest
+pub stops_there : (ended : Bool) (ls : List (List ℕ)) (cut rest : List ℕ) → IsOverAt ended ls cut rest
     → Stops ended (cut ++ rest)
 stops_there ended ls cut rest (inl (n, none, has, small, some, other)) =
     subst (Stops ended) (all_behind cut rest none) (inl (n, has, other))
@@ -123,7 +123,7 @@ stops_there ended ls cut rest (inr (end, inr (none, short, other))) =
     subst (Stops ended) (all_behind cut rest none) (inr (end, short.0))
 
 -- a table without a line is not over where there is a first line
-no_table : (ended : Bool) (m : List ℕ) (ms : List (List ℕ)) (cut rest more : List ℕ) → IsOverAt ended [] cut rest
+pub no_table : (ended : Bool) (m : List ℕ) (ms : List (List ℕ)) (cut rest more : List ℕ) → IsOverAt ended [] cut rest
     → cut ++ rest ≡ lines_text (m ∷ ms) ++ more → ⊥
 no_table ended m ms cut rest more (inl (n, none, has, small, some, other)) is = some refl
 no_table ended m ms cut rest more (inr (end, inl (driver, none))) is = driver.0 refl

@@ -18,12 +18,13 @@ use Rattle.smx_words.specs.Words.{line_of}
 use Rattle.smx_session.specs.Sessions.{IsStartOf}
 use Rattle.smx_session.specs.WorkedSessions.{begun, drivers, opened, table}
 use Rattle.smx_live.specs.LiveText.{IsOver, closing_text}
-use Rattle.smx_live.specs.Tables.{IsCutDriver, IsTable}
+use Rattle.smx_live.specs.Tables.{AreOfTable, IsCutDriver, IsTable, IsUnfinished}
 use Rattle.smx_live.specs.Turns.{AsksForNeither, Entered, IsAnswer, IsEntryOf, IsRefusedFor, NotDone}
 use Rattle.smx_live.specs.Turns.{asked_text, said_text}
 use Rattle.smx_live.specs.WorkedLives.{worked_answers, worked_input, worked_output, worked_table, worked_turns}
 use Rattle.smx_live.specs.declared.turn_fault.TurnFault.TheVariants.{NoCommand, NoMemory, Full}
 use Rattle.smx_live.proofs.OneOutputLemmas.{no_call, not_one, table_once}
+use Rattle.smx_live.proofs.OverTableLemmas.{finished}
 
 -- ---- tables
 
@@ -123,6 +124,44 @@ over_within_another = record {
   over = inr (refl, inr (refl, (search (rules, arith), search arith), inr refl));
 }
 
+-- the first lines of a table whose second one begins with a longer word than `driver`
+drivers_lines : AreOfTable (codes "programs 2" ∷ codes "drivers" ∷ []) []
+drivers_lines = record { each = search (rules, arith); drivers = (refl, tt); last = inl refl }
+
+-- a line `drivers` is of the table, and a line `drive` is none of it
+pub behind_drivers : IsTable false (codes "programs 2\ndrivers\n") (codes "drive\n")
+behind_drivers = record {
+  lines = codes "programs 2" ∷ codes "drivers" ∷ [];
+  cut = [];
+  text = refl;
+  of_table = drivers_lines;
+  over = inl (
+    5,
+    refl,
+    record { within = search arith; one = search (rules, arith); parts = refl },
+    search arith,
+    no_lines _ _,
+    refl,
+  );
+}
+
+-- a table is not over before a line `drivers`
+pub not_before_drivers : IsTable false (codes "programs 2\n") (codes "drivers\ndrive\n") → ⊥
+not_before_drivers t =
+    let same = table_once false (codes "programs 2\ndrivers\n") (codes "programs 2\n") _ _ behind_drivers t refl in
+    absurd (cc same.0)
+
+-- a table may go on where a line behind it is not whole
+pub unfinished : IsUnfinished (codes "programs 2\ndrivers\ndrive")
+unfinished =
+    (codes "programs 2" ∷ codes "drivers" ∷ [], [], codes "drive", refl, drivers_lines, search (rules, arith))
+
+-- a table that is over where the line `drive` stands behind it is not unfinished
+pub not_unfinished : IsUnfinished (codes "programs 2\ndrivers\ndrive\n") → ⊥
+not_unfinished is =
+    let ended : false ≡ true =
+    (finished false (codes "programs 2\ndrivers\n") (codes "drive\n") behind_drivers is).0 in absurd (cc ended)
+
 -- ---- answers
 
 -- the line `show` is not refused as no command
@@ -184,7 +223,7 @@ unfolding digits
 clone_line = refl
 
 -- the line `3 clone eth` is that of the entry of a clone by process 3, which the model answers so
-cloned : IsEntryOf V2 drivers [] (codes "3 clone eth") (3 does OpenClone eth gets Fd 0 0)
+pub cloned : IsEntryOf V2 drivers [] (codes "3 clone eth") (3 does OpenClone eth gets Fd 0 0)
 cloned = record {
   told = search (rules, arith);
   is_read = clone_line;

@@ -1,13 +1,15 @@
 -- The stages of a live session: its table, its beginning, a turn, all turns, its end.
 use Rattle.std.specs.Prelude.{◌≡◌, ◌≢◌, ℕ, ◌<◌, ◌≤◌, ◌⊎◌, Bool, true, false, List, [], ◌++◌, length, Option, Result}
-use Rattle.std.specs.Prelude.{Vec, Ok, Err, IfOk, IfErr, OnOk}
+use Rattle.std.specs.Prelude.{Vec, Ok, Err, IfOk, IfErr, OnOk, codes, nat_eq}
 use Rattle.std.specs.Global.{Global}
 use Rattle.std.specs.Io.KnownBytes.{Consumes, Appends, Keeps}
+use Rattle.std.specs.List.{ends_with}
 use Rattle.smx_run.specs.declared.run_fault.RunFault.TheVariants.{NoMemory}
 use Rattle.smx_text.specs.Grammar.{ReadsAny}
 use Rattle.smx_text.specs.GrowingTranscripts.{BeginsTranscript}
 use Rattle.smx_text.specs.ProgramsText.{programs_grammar}
-use Rattle.smx_session.specs.Sessions.{IsStartOf, State}
+use Rattle.smx_text.specs.declared.text_fault.Cause.TheVariants as cause
+use Rattle.smx_session.specs.Sessions.{IsStartOf, State, WantsMemory}
 use Rattle.smx_filters.specs.declared.input.TheConstants.{MAX_INPUT}
 use Rattle.smx_live.specs.Inboxes.{FailsToRead}
 use Rattle.smx_live.specs.LiveText.{HasComeSoFar, IsLive, IsOutcome, IsOver, RefusesDriversOf}
@@ -45,11 +47,14 @@ TakesCutLine table held now (Err ReadFailed) = ⊥
 TakesCutLine table held now (Err (Text fault)) = ⊥
 TakesCutLine table held now (Err WriteFailed) = ⊥
 
--- a session begins over the drivers of a table, or the table or its drivers are at fault, or memory was wanting
+-- A session begins over the drivers of a table, or the table or its drivers are at fault; or memory was wanting: for
+-- the line `end`, where the last line is whole, or as it may be where a session starts.
 abbrev pub Begins : List ℕ → Result Talk MainFault → Type 0
 Begins table (Ok talk) = IsStartOf (table_text table) talk.session × (talk.count ≡ 0)
-Begins table (Err (Text fault)) = ReadsAny programs_grammar (table_text table) (Err fault)
-Begins table (Err (Refused fault)) = (fault ≡ NoMemory)
+Begins table (Err (Text fault)) =
+    ReadsAny programs_grammar (table_text table) (Err fault) × (fault.cause ≢ cause.NoMemory)
+Begins table (Err (Refused fault)) = ((fault ≡ NoMemory)
+    × ((ends_with nat_eq table (codes "\n") ≡ true) ⊎ WantsMemory (table_text table)))
     ⊎ RefusesDriversOf fault (table_text table)
 Begins table (Err TooLong) = ⊥
 Begins table (Err ReadFailed) = ⊥

@@ -1,5 +1,5 @@
 -- What a live session reads and writes.
-use Rattle.std.specs.Prelude.{◌≡◌, ℕ, ◌+◌, ◌^◌, ◌≤◌, ◌⊎◌, Bool, true, List, [], ◌∷◌, ◌++◌, length, map, take}
+use Rattle.std.specs.Prelude.{◌≡◌, ◌≢◌, ℕ, ◌+◌, ◌^◌, ◌≤◌, ◌⊎◌, Bool, true, List, [], ◌∷◌, ◌++◌, length, map, take}
 use Rattle.std.specs.Prelude.{Option, Result, Ok, Err, codes}
 use Rattle.std.specs.Io.KnownBytes.{Consumes, Appends}
 use Rattle.smx_types.specs.ProgramLists.{ProgramLists}
@@ -17,12 +17,13 @@ use Rattle.smx_text.specs.Grammar.{IsOneLine, ReadsAny, Spells}
 use Rattle.smx_text.specs.GrowingTranscripts.{transcript_with, BeginsTranscript}
 use Rattle.smx_text.specs.ProgramsText.{programs_grammar}
 use Rattle.smx_text.specs.TranscriptText.{IsSpellableView, SpellsTranscript, view_lines}
+use Rattle.smx_text.specs.declared.text_fault.Cause.TheVariants as cause
 use Rattle.smx_config.specs.Verdicts.{IsVerdict}
 use Rattle.smx_config.specs.declared.verdict.Verdict.TheVariants.{Legal}
 use Rattle.smx_session.specs.Sessions.{State, HasDrivers}
 use Rattle.smx_filters.specs.declared.input.TheConstants.{MAX_INPUT}
 use Rattle.smx_live.specs.Inboxes.{IsShort, IsTooLong}
-use Rattle.smx_live.specs.Tables.{HasTableOf, IsEndlessTable, IsTable, IsUnfinished, table_text}
+use Rattle.smx_live.specs.Tables.{HasShortTableOf, IsEndlessTable, IsTable, IsUnfinished, table_text}
 use Rattle.smx_live.specs.Turns.{AreAnswered, Turn, asked_text, entries_of, said_text}
 use Rattle.smx_filters.specs.declared.main_fault.MainFault.{MainFault}
 use Rattle.smx_filters.specs.declared.main_fault.MainFault.TheVariants.{Refused, Text, TooLong, ReadFailed, WriteFailed}
@@ -137,13 +138,15 @@ module _ (read output : List ℕ) (ended flushed : Bool) (read_failures write_fa
   abbrev pub IsOutcome : Result (Unit {0}) MainFault → Type 0
   -- It is over, and all is flushed.
   IsOutcome (Ok done) = AreFine read_failures write_failures × (flushed ≡ true) × IsOver read ended output
-  -- There was no session: the table is at fault.
+  -- There was no session: the table is at fault, and not too long. That memory was wanting is never told so.
   IsOutcome (Err (Text fault)) = AreFine read_failures write_failures × (output ≡ [])
-      × HasTableOf read ended (λ text. ReadsAny programs_grammar text (Err fault))
-  -- Its drivers are refused, or memory was wanting for what is no command's.
+      × (fault.cause ≢ cause.NoMemory)
+      × HasShortTableOf read ended (λ text. ReadsAny programs_grammar text (Err fault))
+  -- Its drivers are refused, where the table is not too long; or memory was wanting, before there was a session, or
+  -- behind any line of it.
   IsOutcome (Err (Refused fault)) = AreFine read_failures write_failures
       × (((fault ≡ NoMemory) × IsBroken read ended output)
-      ⊎ ((output ≡ []) × HasTableOf read ended (RefusesDriversOf fault)))
+      ⊎ ((output ≡ []) × HasShortTableOf read ended (RefusesDriversOf fault)))
   -- A line is longer than 16,777,216 bytes, or the table is.
   IsOutcome (Err TooLong) = AreFine read_failures write_failures × IsEndless read ended output
   -- The reader failed, where there was nothing more to answer.

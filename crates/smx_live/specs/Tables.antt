@@ -1,5 +1,5 @@
 -- A driver table, and where it is over.
-use Rattle.std.specs.Prelude.{◌≡◌, ◌≢◌, ℕ, ◌<◌, ◌≤◌, ◌⊎◌, Bool, true, false, List, [], ◌∷◌, ◌++◌, length, drop, take}
+use Rattle.std.specs.Prelude.{◌≡◌, ◌≢◌, ℕ, ◌<◌, ◌≤◌, ◌⊎◌, Bool, true, false, List, [], ◌++◌, length, drop, take}
 use Rattle.std.specs.Prelude.{codes, nat_eq}
 use Rattle.std.specs.List.{AllByRecursion, ends_with, starts_with}
 use Rattle.smx_words.specs.Words.{lines_text}
@@ -67,3 +67,8 @@ table_text table = table ++ end_behind (ends_with nat_eq table (codes "\n"))
 abbrev pub HasTableOf : List ℕ → Bool → (List ℕ → Type 0) → Type 0
 HasTableOf read ended IsSo =
     (table rest : List ℕ) × (read ≡ table ++ rest) × IsTable ended table rest × IsSo (table_text table)
+
+-- what was read begins with a table of 16,777,216 bytes at most, as a text of which this is so
+abbrev pub HasShortTableOf : List ℕ → Bool → (List ℕ → Type 0) → Type 0
+HasShortTableOf read ended IsSo = (table rest : List ℕ) × (read ≡ table ++ rest) × IsTable ended table rest
+    × (length table ≤ MAX_INPUT) × IsSo (table_text table)

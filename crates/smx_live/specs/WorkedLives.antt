@@ -1,11 +1,11 @@
 -- A worked live session: what is read and written, and what its lines are answered, all typed in.
-use Rattle.std.specs.Prelude.{◌≡◌, ℕ, List, [], ◌∷◌, ◌++◌, codes, refl}
+use Rattle.std.specs.Prelude.{◌≡◌, ℕ, true, false, List, [], ◌∷◌, ◌++◌, codes, refl}
 use Rattle.std.specs.Fmt.{digits}
 use Rattle.smx_model.specs.Views.{view}
 use Rattle.smx_model.specs.Worked.Common.{Fd, OpenClone, ◌does◌gets◌, eth}
 use Rattle.smx_session.specs.WorkedSessions.{begun, drivers, hung, one_open}
 use Rattle.smx_live.specs.LiveText.{closing_text, cut_words}
-use Rattle.smx_live.specs.Tables.{table_text}
+use Rattle.smx_live.specs.Tables.{begins_driver, table_text}
 use Rattle.smx_live.specs.Turns.{Entered, NotDone, Shown, Turn, answer_text, fault_line}
 use Rattle.smx_live.specs.declared.turn_fault.TurnFault.TheVariants.{NoCommand, NoMemory, Full}
 
@@ -78,6 +78,10 @@ no_cut_told = refl
 pub table_ends : table_text worked_table ≡ codes "programs 2\ndriver eth leaf 2 8 3 16\nend\n"
 table_ends = refl
 
+-- a table of its header alone has the line `end` behind that
+pub header_ends : table_text (codes "programs 2\n") ≡ codes "programs 2\nend\n"
+header_ends = refl
+
 -- a table whose last line is cut is so as programs too
 pub cut_table_ends : table_text (codes "programs 2\ndriver eth") ≡ codes "programs 2\ndriver eth"
 cut_table_ends = refl
@@ -85,3 +89,19 @@ cut_table_ends = refl
 -- a table of no line as programs has none
 pub no_table_ends : table_text [] ≡ []
 no_table_ends = refl
+
+-- a line that is `driver` alone begins as that of a driver
+pub driver_alone : begins_driver (codes "driver") ≡ true
+driver_alone = refl
+
+-- and so does one that begins with a longer word
+pub longer_word : begins_driver (codes "drivers of none") ≡ true
+longer_word = refl
+
+-- but none that begins with a shorter one
+pub shorter_word : begins_driver (codes "drive eth") ≡ false
+shorter_word = refl
+
+-- nor one with a space before the word
+pub space_before : begins_driver (codes " driver eth") ≡ false
+space_before = refl

@@ -1,24 +1,26 @@
 //! Laws of live sessions, each the contract of a function that does nothing.
 
 ghost use Rattle.std.specs.List.{AllByRecursion};
-ghost use Rattle.std.specs.Prelude.{◌≡◌, ◌≢◌, ℕ, ◌<◌, ◌≤◌, Bool, true, false, List, [], length, Err, codes};
+ghost use Rattle.std.specs.Prelude.{◌≡◌, ◌≢◌, ℕ, ◌<◌, ◌≤◌, Bool, true, false, List, [], ◌++◌, length, Err, codes};
 ghost use Rattle.smx_types.specs.declared.command.Entry.{Entry};
 ghost use Rattle.smx_types.specs.declared.driver.SpecFault.TheVariants.{BadMinors};
 ghost use Rattle.smx_types.specs.declared.limits.TheConstants.{MAX_COMMANDS};
-ghost use Rattle.smx_types.specs.declared.version.Version.TheVariants.{V2};
+ghost use Rattle.smx_types.specs.declared.version.Version.TheVariants.{V1, V2};
 ghost use Rattle.smx_config.specs.declared.config_fault.ConfigFault.TheVariants as config;
 ghost use Rattle.smx_run.specs.declared.run_fault.RunFault.{RunFault as AnyFault};
 ghost use Rattle.smx_run.specs.declared.run_fault.RunFault.TheVariants as run;
-ghost use Rattle.smx_text.specs.Grammar.{ReadsAny};
+ghost use Rattle.smx_text.specs.Grammar.{IsOneLine, ReadsAny};
 ghost use Rattle.smx_text.specs.ProgramsText.{programs_grammar};
 ghost use Rattle.smx_text.specs.declared.text_fault.Cause.TheVariants as cause;
 ghost use Rattle.smx_text.specs.declared.text_fault.TextFault.{TextFault};
 ghost use Rattle.smx_session.specs.Sessions.{State};
 ghost use Rattle.smx_session.specs.WorkedSessions.{drivers};
 ghost use Rattle.smx_filters.specs.declared.input.TheConstants.{MAX_INPUT};
-ghost use Rattle.smx_live.specs.Inboxes.{IsTooLong};
-ghost use Rattle.smx_live.specs.LiveText.{HasComeSoFar, IsLegalTranscript, IsLive, IsOver, RefusesDriversOf};
-ghost use Rattle.smx_live.specs.Tables.{HasTableOf, IsEndlessTable, IsTable, table_text};
+ghost use Rattle.smx_filters.specs.declared.main_fault.MainFault.TheVariants.{Refused, Text};
+ghost use Rattle.smx_live.specs.Inboxes.{HasLine, IsTooLong};
+ghost use Rattle.smx_live.specs.LiveText.{HasComeSoFar, IsLegalTranscript, IsLive, IsOutcome, IsOver};
+ghost use Rattle.smx_live.specs.LiveText.{RefusesDriversOf};
+ghost use Rattle.smx_live.specs.Tables.{HasTableOf, IsEndlessTable, IsTable, IsUnfinished, table_text};
 ghost use Rattle.smx_live.specs.Turns.{Entered, HadMemory, IsAnswer, IsRefusedFor, NotDone};
 ghost use Rattle.smx_live.specs.WorkedLives.{minorless_text, worked_input, worked_output, worked_table};
 ghost use Rattle.smx_live.specs.declared.turn_fault.TurnFault.TheVariants.{NoCommand, NoMemory, Full};
@@ -30,6 +32,7 @@ use smx_session::laws_of_sessions::a_worked_session;
 use smx_text::laws::one_text_has_one_reading;
 use smx_text::worked_texts::wrong_programs;
 use smx_words::laws::one_value_each;
+use smx_words::laws_of_reading::which_lines_are_calls;
 
 /// What was written of a session that is over, but for the answers that are no entries, is the transcript of a legal
 /// history, which a check finds legal.
@@ -65,10 +68,45 @@ pub fn a_session_has_its_drivers()
     drivers_have_one_fault();
 }
 
-/// A table is too long only where more than 16,777,216 bytes were read, and a line only where it has more.
+/// A table that is at fault, or whose drivers are, is not too long; its fault is the only one, and no want of memory.
+pub fn a_table_has_one_fault()
+    ensures one { (read output : List ℕ) (ended flushed : Bool) (reads writes : ℕ) (one other : TextFault)
+        → IsOutcome read output ended flushed reads writes (Err (Text one))
+        → IsOutcome read output ended flushed reads writes (Err (Text other)) → one ≡ other }
+    ensures known { (read output : List ℕ) (ended flushed : Bool) (reads writes : ℕ) (fault : TextFault)
+        → IsOutcome read output ended flushed reads writes (Err (Text fault)) → fault.cause ≢ cause.NoMemory }
+    ensures short { (read output : List ℕ) (ended flushed : Bool) (reads writes : ℕ) (fault : TextFault)
+        → IsOutcome read output ended flushed reads writes (Err (Text fault)) → IsEndlessTable read → ⊥ }
+    ensures drivers { (read output : List ℕ) (ended flushed : Bool) (reads writes : ℕ) (fault : AnyFault)
+        → IsOutcome read output ended flushed reads writes (Err (Refused fault)) → fault ≢ run.NoMemory
+        → IsEndlessTable read → ⊥ }
+{
+    one_text_has_one_reading();
+}
+
+/// A table is too long only where more than 16,777,216 bytes were read, and a line only where it has more. Whatever
+/// stands behind them, a table that is over and a whole line, of no more bytes, are not too long; nor is the table of a
+/// session, nor what is held where one is over.
 pub fn what_is_too_long()
     ensures table { (read : List ℕ) → IsEndlessTable read → MAX_INPUT < length read }
     ensures line { (held : List ℕ) → IsTooLong held → MAX_INPUT < length held }
+    ensures no_table { (ended : Bool) (table rest : List ℕ) → IsTable ended table rest → length table ≤ MAX_INPUT
+        → IsEndlessTable (table ++ rest) → ⊥ }
+    ensures no_line { (n : ℕ) (held : List ℕ) → HasLine n held → n ≤ MAX_INPUT → IsTooLong held → ⊥ }
+    ensures no_session { (read output : List ℕ) (ended : Bool) → HasComeSoFar read ended output
+        → IsEndlessTable read → ⊥ }
+    ensures no_end { (read output : List ℕ) (ended : Bool) (o : IsOver read ended output) → IsTooLong o.held → ⊥ }
+{}
+
+/// A table that is over is unfinished only where the input has ended with no whole line behind it. Of a table are lines
+/// that begin with `driver`, be it of a longer word, and no line that begins with less.
+pub fn where_a_table_is_over()
+    ensures finished { (ended : Bool) (table rest : List ℕ) → IsTable ended table rest
+        → IsUnfinished (table ++ rest) → (ended ≡ true) × IsOneLine rest }
+    ensures behind_drivers { IsTable false (codes "programs 2\ndrivers\n") (codes "drive\n") }
+    ensures not_before_drivers { IsTable false (codes "programs 2\n") (codes "drivers\ndrive\n") → ⊥ }
+    ensures unfinished { IsUnfinished (codes "programs 2\ndrivers\ndrive") }
+    ensures not_unfinished { IsUnfinished (codes "programs 2\ndrivers\ndrive\n") → ⊥ }
 {}
 
 /// A worked session: what is read, and what is written. Its table is over behind its last driver, also one that is cut,
@@ -92,6 +130,28 @@ pub fn a_worked_live_session()
     ensures not_performed { (e : Entry) → IsAnswer V2 drivers [] (codes "x") (Entered e) → ⊥ }
 {
     a_worked_session();
+}
+
+/// Why lines are refused. A history of 100,000 entries is full, which is told of any line that asks neither for the
+/// configuration nor for the end, also of one that is no command. Want of memory is told of what asks for these, and
+/// else of a command alone that the version can tell, where the history is not full.
+pub fn why_lines_are_refused()
+    ensures full { IsRefusedFor V2 100000 (codes "x") Full }
+    ensures not_yet_full { IsRefusedFor V2 99999 (codes "x") Full → ⊥ }
+    ensures full_is_told { IsRefusedFor V2 100000 (codes "x") NoCommand → ⊥ }
+    ensures shown_when_full { IsRefusedFor V2 100000 (codes "show") Full → ⊥ }
+    ensures ended_when_full { IsRefusedFor V2 100000 (codes "end") Full → ⊥ }
+    ensures no_command { IsRefusedFor V2 99999 (codes "x") NoCommand }
+    ensures no_memory { IsAnswer V2 drivers [] (codes "3 clone eth") (NotDone NoMemory) }
+    ensures no_memory_up_to_the_last { IsRefusedFor V1 99999 (codes "63 dup 0") NoMemory }
+    ensures no_memory_when_full { IsRefusedFor V1 100000 (codes "63 dup 0") NoMemory → ⊥ }
+    ensures no_memory_to_show { IsRefusedFor V1 100000 (codes "show") NoMemory }
+    ensures no_memory_for_no_command { IsRefusedFor V1 0 (codes "x") NoMemory → ⊥ }
+    ensures no_command_of_version_1 { IsRefusedFor V1 0 (codes "0 hangup ip 0") NoCommand }
+    ensures none_of_version_1 { IsRefusedFor V1 0 (codes "0 hangup ip 0") NoMemory → ⊥ }
+    ensures a_command_of_version_2 { IsRefusedFor V2 0 (codes "0 hangup ip 0") NoCommand → ⊥ }
+{
+    which_lines_are_calls();
 }
 
 /// Drivers of a text are refused where it spells programs whose drivers can't be had, for the fault that they have; and

@@ -1,7 +1,8 @@
 //! A live session from bytes to bytes: each line is answered at once.
 
 ghost use Rattle.std.specs.Prelude.{◌≡◌, ◌≢◌, ◌+◌, ◌≤◌, ◌⊎◌, ◌++◌, List, ℕ, Bool, true, false, drop, IfOk};
-ghost use Rattle.std.specs.Prelude.{MatchBool, OnOk};
+ghost use Rattle.std.specs.List.{ends_with};
+ghost use Rattle.std.specs.Prelude.{MatchBool, OnErr, OnOk, codes, nat_eq};
 ghost use Rattle.smx_live.specs.Inboxes.{HasLine, IsShort};
 ghost use Rattle.smx_live.specs.LiveStages.{Begins, Converses, Finishes, HasTable, Opens, TakesCutLine, TurnsOn};
 ghost use Rattle.smx_live.specs.LiveStages.{Writes};
@@ -25,7 +26,7 @@ use std::alloc::{AllocError, Global};
 /// behind `show` and an empty line, and a line beginning with `?` for each line that is refused, which changes nothing.
 /// `end` and the end of the input end the transcript. Neither device has failed before, and no read has shown the end.
 /// The first fault that is met is answered: of reading, also a line that is too long; of the table, as a text and then
-/// as drivers; of writing; or want of memory, where it is of no command. What was answered before is out then.
+/// as drivers; of writing; or want of memory, which may come at any time. What was answered before is out then.
 pub fn live_text<F: Feed, S: Sink>(
     alloc: Global,
     feed: &mut F,
@@ -106,7 +107,8 @@ fn is_of_table(before: usize, line: &[u8]) -> bool
 
 // The table as a programs text.
 fn text_of_table(table: Vec<u8>) -> Result<Vec<u8>, AllocError>
-    ensures { IfOk result (λ v. v.items ≡ table_text table.items) }
+    ensures text { IfOk result (λ v. v.items ≡ table_text table.items) }
+    ensures memory { OnErr result (ends_with nat_eq table.items (codes "\n") ≡ true) }
 {
     let mut text = table;
     if text.ends_with(b"\n") {
