@@ -117,7 +117,8 @@ module _ (text : List ℕ) (reading : HasOneReading) where
       subst (IsFault (programs_grammar v) text want.line) memory is in
       let before : want.line < fault.line = told v text want.line (Err fault) at reads known in
       omega (arith, at.2.numbered, before)
-  before_the_fault told fault (reads, known) (inr (v, p, spelled, can)) = absurd (no_fault v p fault spelled reads known)
+  before_the_fault told fault (reads, known) (inr (v, p, spelled, can)) =
+      absurd (no_fault v p fault spelled reads known)
 
   module _ (one_fault : HaveOneFault) where
     -- no session starts over drivers that are refused
