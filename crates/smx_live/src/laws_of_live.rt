@@ -68,7 +68,9 @@ pub fn a_session_has_its_drivers()
     drivers_have_one_fault();
 }
 
-/// A table that is at fault, or whose drivers are, is not too long; its fault is the only one, and no want of memory.
+/// A table that is told to be at fault, or whose drivers are refused, is not too long, and nothing was written. As a
+/// text it is told by one fault alone, which is no want of memory; its drivers, where it is at no fault as a text, by
+/// one fault alone, or by want of memory.
 pub fn a_table_has_one_fault()
     ensures one { (read output : List ℕ) (ended flushed : Bool) (reads writes : ℕ) (one other : TextFault)
         → IsOutcome read output ended flushed reads writes (Err (Text one))
@@ -80,8 +82,21 @@ pub fn a_table_has_one_fault()
     ensures drivers { (read output : List ℕ) (ended flushed : Bool) (reads writes : ℕ) (fault : AnyFault)
         → IsOutcome read output ended flushed reads writes (Err (Refused fault)) → fault ≢ run.NoMemory
         → IsEndlessTable read → ⊥ }
+    ensures silent { (read output : List ℕ) (ended flushed : Bool) (reads writes : ℕ) (fault : TextFault)
+        → IsOutcome read output ended flushed reads writes (Err (Text fault)) → output ≡ [] }
+    ensures drivers_silent { (read output : List ℕ) (ended flushed : Bool) (reads writes : ℕ) (fault : AnyFault)
+        → IsOutcome read output ended flushed reads writes (Err (Refused fault)) → fault ≢ run.NoMemory
+        → output ≡ [] }
+    ensures one_refusal { (read output : List ℕ) (ended flushed : Bool) (reads writes : ℕ) (one other : AnyFault)
+        → IsOutcome read output ended flushed reads writes (Err (Refused one))
+        → IsOutcome read output ended flushed reads writes (Err (Refused other)) → one ≢ run.NoMemory
+        → other ≢ run.NoMemory → one ≡ other }
+    ensures text_first { (read output : List ℕ) (ended flushed : Bool) (reads writes : ℕ) (fault : TextFault)
+        (other : AnyFault) → IsOutcome read output ended flushed reads writes (Err (Text fault))
+        → IsOutcome read output ended flushed reads writes (Err (Refused other)) → other ≡ run.NoMemory }
 {
     one_text_has_one_reading();
+    drivers_have_one_fault();
 }
 
 /// A table is too long only where more than 16,777,216 bytes were read, and a line only where it has more. Whatever
@@ -98,8 +113,8 @@ pub fn what_is_too_long()
     ensures no_end { (read output : List ℕ) (ended : Bool) (o : IsOver read ended output) → IsTooLong o.held → ⊥ }
 {}
 
-/// A table that is over is unfinished only where the input has ended with no whole line behind it. Of a table are lines
-/// that begin with `driver`, be it of a longer word, and no line that begins with less.
+/// A table that is over is unfinished only where the input has ended with no whole line behind it. A line of a table
+/// begins with `driver`, be that a word or the front of a longer one; `drive` is not enough.
 pub fn where_a_table_is_over()
     ensures finished { (ended : Bool) (table rest : List ℕ) → IsTable ended table rest
         → IsUnfinished (table ++ rest) → (ended ≡ true) × IsOneLine rest }
@@ -133,8 +148,8 @@ pub fn a_worked_live_session()
 }
 
 /// Why lines are refused. A history of 100,000 entries is full, which is told of any line that asks neither for the
-/// configuration nor for the end, also of one that is no command. Want of memory is told of what asks for these, and
-/// else of a command alone that the version can tell, where the history is not full.
+/// configuration nor for the end, also of one that is no command. Want of memory is told of what asks for these, and,
+/// where the history is not full, of a line that is a command which the version can tell.
 pub fn why_lines_are_refused()
     ensures full { IsRefusedFor V2 100000 (codes "x") Full }
     ensures not_yet_full { IsRefusedFor V2 99999 (codes "x") Full → ⊥ }

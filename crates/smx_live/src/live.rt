@@ -26,7 +26,8 @@ use std::alloc::{AllocError, Global};
 /// behind `show` and an empty line, and a line beginning with `?` for each line that is refused, which changes nothing.
 /// `end` and the end of the input end the transcript. Neither device has failed before, and no read has shown the end.
 /// The first fault that is met is answered: of reading, also a line that is too long; of the table, as a text and then
-/// as drivers; of writing; or want of memory, which may come at any time. What was answered before is out then.
+/// as drivers; of writing; or want of memory, where that is not the answer of a line. What was answered before is out
+/// then.
 pub fn live_text<F: Feed, S: Sink>(
     alloc: Global,
     feed: &mut F,
