@@ -73,7 +73,8 @@ pub fn next_line(bytes: &[u8]) -> Option<(&[u8], &[u8])>
     Some((&bytes[..at], &bytes[at + 1..]))
 }
 
-// The place of the first line feed. An iterator looks for one that is near.
+// The place of the first line feed. The iterator over all of them looks at the next 32 bytes first, among which it
+// mostly is.
 #[inline(always)]
 fn first_line_feed(bytes: &[u8]) -> Option<usize>
     ensures { IsFirstByte (is_byte LINE_FEED) bytes.now result }

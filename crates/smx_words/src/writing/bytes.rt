@@ -55,6 +55,7 @@ pub(super) fn put_last_bytes(out: &mut Vec<u8>, bytes: &[u8]) -> Result<(), NoMe
     Ok(())
 }
 
+// The same of any number of bytes.
 #[inline(never)]
 fn put_any_last(out: &mut Vec<u8>, bytes: &[u8]) -> Result<(), NoMemory>
     ensures written { OnOk result (out.new.items

@@ -89,7 +89,7 @@ fn put_longer(out: &mut Vec<u8>, n: u32) -> Result<(), NoMemory>
     if 100_000 <= n || !has_room(out, 6) {
         return put_any_spaced(out, n);
     }
-    let [tens, ones] = pair(n);
+    let [tens, ones] = last_two_digits(n);
     if n < 100 {
         put_array(out, [b' ', tens, ones])
     } else if n < 1_000 {
@@ -105,7 +105,7 @@ fn put_longest(out: &mut Vec<u8>, n: u32) -> Result<(), NoMemory>
     requires { (1000 ≤ n) × (n < 100000) }
     ensures { OnOk result (out.new.items ≡ out.old.items ++ SPACE ∷ decimal n) }
 {
-    let ([thousands, hundreds], [tens, ones]) = (pair(n / 100), pair(n));
+    let ([thousands, hundreds], [tens, ones]) = (last_two_digits(n / 100), last_two_digits(n));
     if n < 10_000 {
         put_array(out, [b' ', thousands, hundreds, tens, ones])
     } else {
@@ -144,7 +144,7 @@ const PAIRS: [u8; 200] = [
 
 /// The last two digits of a number, of which the first may be a zero.
 #[inline(always)]
-pub(super) fn pair(n: u32) -> [u8; 2]
+pub(super) fn last_two_digits(n: u32) -> [u8; 2]
     ensures { result ≡ (ZERO + n / 10 % 10) ∷ (ZERO + n % 10) ∷ [] }
 {
     let at = 2 * (n % 100) as usize;

@@ -9,7 +9,7 @@ ghost use Rattle.smx_words.specs.Spelling.{fault_words, reply_words};
 ghost use Rattle.smx_words.specs.Words.{LINE_FEED, SPACE, line_of};
 
 use super::bytes::{put_last_bytes, put_message};
-use super::number::{digit, pair, put_last, put_spaced};
+use super::number::{digit, last_two_digits, put_last, put_spaced};
 use super::word::{has_room, put_array, put_byte, put_text};
 use smx_types::{Fault, NoMemory, Reply};
 
@@ -34,6 +34,7 @@ pub(super) fn put_reply(out: &mut Vec<u8>, reply: &Reply) -> Result<(), NoMemory
     }
 }
 
+// Each on its own, so that `put_reply` itself saves no registers.
 #[inline(never)]
 fn put_descriptor(out: &mut Vec<u8>, fd: u32, minor: u32) -> Result<(), NoMemory>
     ensures written { OnOk result (out.new.items
@@ -56,7 +57,7 @@ fn put_number(out: &mut Vec<u8>, before: &[u8], n: u32) -> Result<(), NoMemory>
     put_last(out, n)
 }
 
-// With four digits or five at once.
+// A serial of four digits or five at once, where there is room; any other in pieces.
 #[inline(never)]
 fn put_took(out: &mut Vec<u8>, n: u32) -> Result<(), NoMemory>
     ensures written { OnOk result (out.new.items
@@ -66,7 +67,7 @@ fn put_took(out: &mut Vec<u8>, n: u32) -> Result<(), NoMemory>
     if n < 1_000 || 100_000 <= n || !has_room(out, 14) {
         return put_number(out, b" = took", n);
     }
-    let ([thousands, hundreds], [tens, ones]) = (pair(n / 100), pair(n));
+    let ([thousands, hundreds], [tens, ones]) = (last_two_digits(n / 100), last_two_digits(n));
     if n < 10_000 {
         put_array(
             out,
@@ -76,18 +77,30 @@ fn put_took(out: &mut Vec<u8>, n: u32) -> Result<(), NoMemory>
             ],
         )
     } else {
-        let many = digit(n / 10_000);
+        let ten_thousands = digit(n / 10_000);
         put_array(
             out,
             [
-                b' ', b'=', b' ', b't', b'o', b'o', b'k', b' ', many, thousands, hundreds, tens,
-                ones, b'\n',
+                b' ',
+                b'=',
+                b' ',
+                b't',
+                b'o',
+                b'o',
+                b'k',
+                b' ',
+                ten_thousands,
+                thousands,
+                hundreds,
+                tens,
+                ones,
+                b'\n',
             ],
         )
     }
 }
 
-// With four digits or five, and an address of one, at once.
+// A serial of four digits or five and an address of one at once, where there is room; any others in pieces.
 #[inline(never)]
 fn put_got(out: &mut Vec<u8>, serial: u32, addr: u32, bytes: &[u8]) -> Result<(), NoMemory>
     ensures written { OnOk result (out.new.items
@@ -103,13 +116,17 @@ fn put_got(out: &mut Vec<u8>, serial: u32, addr: u32, bytes: &[u8]) -> Result<()
     put_last_bytes(out, bytes)
 }
 
+// ` = got`, and such a serial and address.
 #[inline(always)]
 fn put_serial_and_address(out: &mut Vec<u8>, serial: u32, addr: u32) -> Result<(), NoMemory>
     requires { (1000 ≤ serial) × (serial < 100000) × (addr < 10) }
     ensures { OnOk result (out.new.items
         ≡ out.old.items ++ codes " = got" ++ SPACE ∷ decimal serial ++ SPACE ∷ decimal addr) }
 {
-    let ([thousands, hundreds], [tens, ones]) = (pair(serial / 100), pair(serial));
+    let ([thousands, hundreds], [tens, ones]) = (
+        last_two_digits(serial / 100),
+        last_two_digits(serial),
+    );
     let last = digit(addr);
     if serial < 10_000 {
         put_array(
@@ -120,17 +137,30 @@ fn put_serial_and_address(out: &mut Vec<u8>, serial: u32, addr: u32) -> Result<(
             ],
         )
     } else {
-        let many = digit(serial / 10_000);
+        let ten_thousands = digit(serial / 10_000);
         put_array(
             out,
             [
-                b' ', b'=', b' ', b'g', b'o', b't', b' ', many, thousands, hundreds, tens, ones,
-                b' ', last,
+                b' ',
+                b'=',
+                b' ',
+                b'g',
+                b'o',
+                b't',
+                b' ',
+                ten_thousands,
+                thousands,
+                hundreds,
+                tens,
+                ones,
+                b' ',
+                last,
             ],
         )
     }
 }
 
+// Any serial, address and bytes.
 #[inline(never)]
 fn put_any_got(out: &mut Vec<u8>, serial: u32, addr: u32, bytes: &[u8]) -> Result<(), NoMemory>
     ensures written { OnOk result (out.new.items
@@ -178,9 +208,10 @@ fn put_serials(out: &mut Vec<u8>, serials: &[u32]) -> Result<(), NoMemory>
     Ok(())
 }
 
-// The bytes of the longest fault.
+// How many bytes the longest fault takes, from its equals sign's space to its line feed.
 const LONGEST: usize = 19;
 
+// The words of a fault at once, where there is room for the longest.
 #[inline(never)]
 fn put_fault(out: &mut Vec<u8>, fault: Fault) -> Result<(), NoMemory>
     ensures { OnOk result (out.new.items
@@ -193,6 +224,7 @@ fn put_fault(out: &mut Vec<u8>, fault: Fault) -> Result<(), NoMemory>
     }
 }
 
+// The same, with the steps that take more room.
 #[inline(never)]
 fn put_fault_apart(out: &mut Vec<u8>, fault: Fault) -> Result<(), NoMemory>
     ensures { OnOk result (out.new.items

@@ -56,8 +56,8 @@ pub(super) fn put_array<const N: usize>(out: &mut Vec<u8>, text: [u8; N]) -> Res
     put_text(out, &text)
 }
 
-/// Whether there is room for so many bytes more. Where it was asked, what is inlined behind it has no step left that
-/// takes more room.
+/// Whether there is room for so many bytes more. Of what is inlined where it has answered so, the compiler can leave
+/// out each step that takes more room.
 #[inline(always)]
 pub(super) fn has_room(out: &Vec<u8>, len: usize) -> bool
     ensures { IsTrue result → vec_len out.now + len ≤ vec_capacity out.now }

@@ -1,6 +1,6 @@
 use Rattle.std.proofs.Common.{◌≡◌, ◌/◌, ◌%◌, arith}
 use Rattle.smx_words.proofs.PairLemmas.{pair_is}
-use Rattle.smx_words.proofs.writing.number.pair.Goals as goal
+use Rattle.smx_words.proofs.writing.number.last_two_digits.Goals as goal
 
 pub returns : goal.returns
 returns c =
