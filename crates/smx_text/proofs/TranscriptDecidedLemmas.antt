@@ -17,7 +17,7 @@ use Rattle.smx_words.proofs.ToldLemmas.{told_entry}
 use Rattle.smx_text.specs.declared.text_fault.Cause.TheVariants as cause
 use Rattle.smx_text.specs.declared.transcript.draft.Stage.{Stage}
 use Rattle.smx_text.specs.declared.transcript.draft.Stage.TheVariants as stage
-use Rattle.smx_text.specs.declared.transcript.draft.TranscriptDraft.{TranscriptDraft}
+use Rattle.smx_text.specs.Drafts.{TranscriptSoFar}
 use Rattle.smx_text.specs.Drafts.{grammar_of, lines, is_view}
 use Rattle.smx_text.specs.Grammar.{IsBegun, IsNoLine, line_text}
 use Rattle.smx_text.specs.TranscriptLines.{TranscriptLine}
@@ -43,7 +43,7 @@ told_hung_reading V2 text =
     (λ none. (None, λ x told e. none x told.0 e))
 
 -- behind the lines of a draft, the text of a line that can be told and is not the end is decided
-judged : (d : TranscriptDraft) → IsBegun (grammar_of d) (lines d) → (text : List ℕ) (k : TranscriptLine)
+judged : (d : TranscriptSoFar) → IsBegun (grammar_of d) (lines d) → (text : List ℕ) (k : TranscriptLine)
     → k ≢ line.End → FitsLine d.transcript.version k → text ≡ line_text (grammar_of d) k
     → Decision (grammar_of d) (lines d) text
 judged d begun text k other fits is = by_place (takes d k) refl where
@@ -64,7 +64,7 @@ view_of stage.Config h = absurd cc
 view_of stage.View h = refl
 
 -- behind the lines of a draft, the text of the line `end` is decided
-at_end : (d : TranscriptDraft) → IsBegun (grammar_of d) (lines d) → (text : List ℕ)
+at_end : (d : TranscriptSoFar) → IsBegun (grammar_of d) (lines d) → (text : List ℕ)
     → text ≡ line_text (grammar_of d) line.End → Decision (grammar_of d) (lines d) text
 at_end d begun text end = by_stage (is_view d.stage) refl where
   by_stage : (b : Bool) → is_view d.stage ≡ b → Decision (grammar_of d) (lines d) text
@@ -73,7 +73,7 @@ at_end d begun text end = by_stage (is_view d.stage) refl where
   by_stage false early = inr (inl (subst (IsNoLine (grammar_of d) (lines d)) (sym end) (not_at_end d early)))
 
 -- behind the lines of a draft, any text is decided
-behind : (d : TranscriptDraft) → IsBegun (grammar_of d) (lines d) → (text : List ℕ)
+behind : (d : TranscriptSoFar) → IsBegun (grammar_of d) (lines d) → (text : List ℕ)
     → Decision (grammar_of d) (lines d) text
 behind d begun text =
     let version = d.transcript.version in

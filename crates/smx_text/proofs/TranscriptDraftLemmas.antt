@@ -16,7 +16,7 @@ use Rattle.smx_types.specs.declared.view.MessageLine.{MessageLine}
 use Rattle.smx_types.specs.declared.view.RouteLine.{RouteLine}
 use Rattle.smx_text.specs.declared.transcript.draft.Stage.{Stage}
 use Rattle.smx_text.specs.declared.transcript.draft.Stage.TheVariants as stage
-use Rattle.smx_text.specs.declared.transcript.draft.TranscriptDraft.{TranscriptDraft}
+use Rattle.smx_text.specs.Drafts.{TranscriptSoFar}
 use Rattle.smx_text.specs.TranscriptLines.{TranscriptLine}
 use Rattle.smx_text.specs.TranscriptLines as line
 use Rattle.smx_text.proofs.TranscriptDrafts.{◌>>=◌}
@@ -31,7 +31,7 @@ use Rattle.smx_types.specs.declared.view.HungLine.{HungLine}
 -- ---- the lines so far
 
 -- a transcript that is being read, and how far its reader came
-abbrev pub draft : Stage → Transcript → TranscriptDraft
+abbrev pub draft : Stage → Transcript → TranscriptSoFar
 draft s t = record { stage = s; transcript = t }
 
 -- the line is not the end
@@ -138,14 +138,14 @@ more_by stage.View t k h l =
 more_by s t k h l = absurd cc
 
 -- a draft with one more line, which it takes and which is not the end, has that line behind its own
-pub lines_more : (d : TranscriptDraft) (k : TranscriptLine) → takes d k ≡ true → is_line k ≡ true
+pub lines_more : (d : TranscriptSoFar) (k : TranscriptLine) → takes d k ≡ true → is_line k ≡ true
     → lines (with_line d k) ≡ lines d ++ k ∷ []
 lines_more d k h l = more_by d.stage d.transcript k h l
 
 -- ---- lines one by one
 
 -- the draft after these lines, taken one by one, or nothing where one of them may not come
-abbrev pub run : TranscriptDraft → List TranscriptLine → Option TranscriptDraft
+abbrev pub run : TranscriptSoFar → List TranscriptLine → Option TranscriptSoFar
 run d [] = Some d
 run d (k ∷ ks) = cond (takes d k && is_line k) (run (with_line d k) ks) None
 
@@ -155,11 +155,11 @@ cond_then true o f = refl
 cond_then false o f = refl
 
 -- joined lines are taken one list after the other
-pub run_append : (d : TranscriptDraft) (ks ls : List TranscriptLine) → run d (ks ++ ls) ≡ run d ks >>= (λ e. run e ls)
+pub run_append : (d : TranscriptSoFar) (ks ls : List TranscriptLine) → run d (ks ++ ls) ≡ run d ks >>= (λ e. run e ls)
 run_append d [] ls = refl
 run_append d (k ∷ ks) ls =
     rw (run_append (with_line d k) ks ls)
-    (sym (cond_then (takes d k && is_line k) (run (with_line d k) ks) (λ (e : TranscriptDraft). run e ls)))
+    (sym (cond_then (takes d k && is_line k) (run (with_line d k) ks) (λ (e : TranscriptSoFar). run e ls)))
 
 -- where a value comes through a test, the test holds and the value is there
 pub let_through : {A : Type 0} (b : Bool) (o : Option A) (x : A) → cond b o None ≡ Some x → (b ≡ true) × (o ≡ Some x)
@@ -167,7 +167,7 @@ let_through true o x e = (refl, e)
 let_through false o x e = absurd cc
 
 -- where several lines are taken, the first is taken, it is not the end, and the others are taken after it
-pub taken : (d e : TranscriptDraft) (k : TranscriptLine) (ks : List TranscriptLine) → run d (k ∷ ks) ≡ Some e
+pub taken : (d e : TranscriptSoFar) (k : TranscriptLine) (ks : List TranscriptLine) → run d (k ∷ ks) ≡ Some e
     → (takes d k ≡ true) × (is_line k ≡ true) × (run (with_line d k) ks ≡ Some e)
 taken d e k ks h =
     let t = let_through (takes d k && is_line k) (run (with_line d k) ks) e h in
@@ -175,7 +175,7 @@ taken d e k ks h =
     (p.0, p.1, t.1)
 
 -- the lines of a draft that took some more are its own and then these
-pub run_lines : (ks : List TranscriptLine) (d e : TranscriptDraft) → run d ks ≡ Some e → lines e ≡ lines d ++ ks
+pub run_lines : (ks : List TranscriptLine) (d e : TranscriptSoFar) → run d ks ≡ Some e → lines e ≡ lines d ++ ks
 run_lines [] d e h = let same : d ≡ e = cc h in rw (← same) (sym (append-nil (lines d)))
 run_lines (k ∷ ks) d e h =
     let t = taken d e k ks h in
@@ -185,7 +185,7 @@ run_lines (k ∷ ks) d e h =
 -- ---- the lines of a transcript give that transcript
 
 -- lines of one kind, each of which puts what it tells behind the others of its kind, put all of it there
-run_each : {X : Type 0} (line_of : X → TranscriptLine) (put : List X → TranscriptDraft) (rest : List TranscriptLine)
+run_each : {X : Type 0} (line_of : X → TranscriptLine) (put : List X → TranscriptSoFar) (rest : List TranscriptLine)
     → ((xs : List X) (x : X) (ks : List TranscriptLine)
     → run (put xs) (line_of x ∷ ks) ≡ run (put (xs ++ x ∷ [])) ks)
     → (xs ys : List X) → run (put xs) (map line_of ys ++ rest) ≡ run (put (xs ++ ys)) rest
@@ -195,7 +195,7 @@ run_each {X} line_of put rest one xs (y ∷ ys) = one xs y (map line_of ys ++ re
     ∙ ap (λ (zs : List X). run (put zs) rest) (append_assoc xs (y ∷ []) ys)
 
 -- a draft that has read these drivers and entries, and no line `config` yet
-abbrev in_history : Version → List DriverSpec → List Entry → TranscriptDraft
+abbrev in_history : Version → List DriverSpec → List Entry → TranscriptSoFar
 in_history version ds es =
     draft stage.History (record { version = version; drivers = ds; entries = es; view = new_view 0 0 })
 
@@ -213,7 +213,7 @@ run_entries version ds es0 es rest =
 
 -- a draft that has come to its view, with these groups in it
 abbrev in_view : Transcript → List DescriptorLine → List LinkLine → List BindingLine → List RouteLine
-    → List MessageLine → List FullLine → List HungLine → TranscriptDraft
+    → List MessageLine → List FullLine → List HungLine → TranscriptSoFar
 in_view t fds links binds routes msgs fulls hungs =
     draft stage.View
     (record t {

@@ -4,7 +4,7 @@ use Rattle.smx_types.specs.declared.limits.TheConstants.{MAX_COMMANDS}
 use Rattle.smx_types.specs.declared.view.ConfigView.{ConfigView}
 use Rattle.smx_text.specs.declared.transcript.draft.Stage.{Stage}
 use Rattle.smx_text.specs.declared.transcript.draft.Stage.TheVariants as stage
-use Rattle.smx_text.specs.declared.transcript.draft.TranscriptDraft.{TranscriptDraft}
+use Rattle.smx_text.specs.Drafts.{TranscriptSoFar}
 use Rattle.smx_text.specs.Drafts.{is_view, takes_fds, takes_links, takes_binds, takes_routes, takes_msgs, takes_fulls}
 use Rattle.smx_text.specs.Drafts.{takes_hungs}
 use Rattle.smx_text.specs.TranscriptLines.{TranscriptLine}
@@ -28,7 +28,7 @@ new_view id serial =
     }
 
 -- nothing read yet of a text of this version
-abbrev pub new_draft : Version → TranscriptDraft
+abbrev pub new_draft : Version → TranscriptSoFar
 new_draft version =
     record {
       stage = stage.History;
@@ -50,7 +50,7 @@ is_config s = false
 -- ---- one line more
 
 -- the line may come next
-abbrev pub takes : TranscriptDraft → TranscriptLine → Bool
+abbrev pub takes : TranscriptSoFar → TranscriptLine → Bool
 takes d (line.Driver x) = is_history d.stage && (length d.transcript.entries == 0)
 takes d (line.Entry x) = is_history d.stage
 takes d line.Config = is_history d.stage
@@ -65,7 +65,7 @@ takes d (line.Hung x) = takes_hungs d
 takes d line.End = is_view d.stage
 
 -- there are as many drivers or entries as may be, and the line would be one more
-abbrev pub is_full : TranscriptDraft → TranscriptLine → Bool
+abbrev pub is_full : TranscriptSoFar → TranscriptLine → Bool
 is_full d (line.Driver x) = nat_le (most_drivers d.transcript.version) (length d.transcript.drivers)
 is_full d (line.Entry x) = nat_le MAX_COMMANDS (length d.transcript.entries)
 is_full d k = false
@@ -77,7 +77,7 @@ abbrev pub ◌>>=◌ : {A B : Type 0} → Option A → (A → Option B) → Opti
 None >>= f = None
 
 -- a draft that has come to its view, with this view
-abbrev pub with_view : TranscriptDraft → ConfigView → TranscriptDraft
+abbrev pub with_view : TranscriptSoFar → ConfigView → TranscriptSoFar
 with_view d v =
     record {
       stage = stage.View;
@@ -90,7 +90,7 @@ with_view d v =
     }
 
 -- a draft with one line more
-abbrev pub with_line : TranscriptDraft → TranscriptLine → TranscriptDraft
+abbrev pub with_line : TranscriptSoFar → TranscriptLine → TranscriptSoFar
 with_line d (line.Driver x) = record d { transcript = record d.transcript { drivers = d.transcript.drivers ++ x ∷ [] } }
 with_line d (line.Entry x) = record d { transcript = record d.transcript { entries = d.transcript.entries ++ x ∷ [] } }
 with_line d line.Config = record d { stage = stage.Config }

@@ -11,7 +11,7 @@ use Rattle.smx_types.specs.declared.transcript.Transcript.{Transcript}
 use Rattle.smx_types.specs.declared.version.Version.{Version}
 use Rattle.smx_text.specs.declared.transcript.draft.Stage.{Stage}
 use Rattle.smx_text.specs.declared.transcript.draft.Stage.TheVariants as stage
-use Rattle.smx_text.specs.declared.transcript.draft.TranscriptDraft.{TranscriptDraft}
+use Rattle.smx_text.specs.Drafts.{TranscriptSoFar}
 use Rattle.smx_text.specs.TranscriptLines.{TranscriptLine}
 use Rattle.smx_text.specs.TranscriptLines as line
 use Rattle.smx_text.proofs.TranscriptDrafts.{◌>>=◌}
@@ -25,19 +25,19 @@ use Rattle.smx_text.proofs.TranscriptDraftLemmas.{draft, is_line, lines_more, ru
 use Rattle.smx_text.proofs.TranscriptWholeLemmas.{ended, completed, completes, still, IsWithin, allowed}
 
 -- the second draft is of the same version as the first, and has as many drivers and entries or more
-pub record Grows (d e : TranscriptDraft) : Type 0 where
+pub record Grows (d e : TranscriptSoFar) : Type 0 where
   pub version : e.transcript.version ≡ d.transcript.version
   pub drivers : length d.transcript.drivers ≤ length e.transcript.drivers
   pub entries : length d.transcript.entries ≤ length e.transcript.entries
 
 -- a line doesn't change the version
-pub version_stays : (d : TranscriptDraft) (k : TranscriptLine)
+pub version_stays : (d : TranscriptSoFar) (k : TranscriptLine)
     → (with_line d k).transcript.version ≡ d.transcript.version
 version_stays d line.End = refl
 version_stays d k = refl
 
 -- a draft with one line more is of the same version, and has as many drivers and entries or more
-one_grows : (d : TranscriptDraft) (k : TranscriptLine) → Grows d (with_line d k)
+one_grows : (d : TranscriptSoFar) (k : TranscriptLine) → Grows d (with_line d k)
 one_grows d (line.Driver x) =
     let more = length-append d.transcript.drivers (x ∷ []) in
     record { version = refl; drivers = omega (arith, more); entries = omega arith }
@@ -47,7 +47,7 @@ one_grows d (line.Entry x) =
 one_grows d k = record { version = refl; drivers = omega arith; entries = omega arith }
 
 -- while lines are taken, the version stays, and drivers and entries don't get fewer
-pub run_grows : (ks : List TranscriptLine) (d e : TranscriptDraft) → run d ks ≡ Some e → Grows d e
+pub run_grows : (ks : List TranscriptLine) (d e : TranscriptSoFar) → run d ks ≡ Some e → Grows d e
 run_grows [] d e h =
     let same : d ≡ e = cc h in rw same (record { version = refl; drivers = omega arith; entries = omega arith })
 run_grows (k ∷ ks) d e h =
@@ -61,7 +61,7 @@ run_grows (k ∷ ks) d e h =
     }
 
 -- a draft from which one within the limits grew was within them
-pub within_before : (d e : TranscriptDraft) → Grows d e → IsWithin e → IsWithin d
+pub within_before : (d e : TranscriptSoFar) → Grows d e → IsWithin e → IsWithin d
 within_before d e grows within =
     record {
       drivers = omega (arith, grows.drivers, within.drivers, ap most_drivers grows.version);
@@ -69,7 +69,7 @@ within_before d e grows within =
     }
 
 -- a line that leads to a draft within the limits is not one too many
-pub not_full : (d : TranscriptDraft) (k : TranscriptLine) → IsWithin (with_line d k) → is_full d k ≡ false
+pub not_full : (d : TranscriptSoFar) (k : TranscriptLine) → IsWithin (with_line d k) → is_full d k ≡ false
 not_full d (line.Driver x) within = let len = length-append d.transcript.drivers (x ∷ []) in
     let most = within.drivers in grind (arith, nat_tests)
 not_full d (line.Entry x) within = let len = length-append d.transcript.entries (x ∷ []) in
@@ -77,7 +77,7 @@ not_full d (line.Entry x) within = let len = length-append d.transcript.entries 
 not_full d k within = refl
 
 -- a draft within the limits is so with one line more that is not one too many
-pub still_within : (d : TranscriptDraft) (k : TranscriptLine) → IsWithin d → is_full d k ≡ false
+pub still_within : (d : TranscriptSoFar) (k : TranscriptLine) → IsWithin d → is_full d k ≡ false
     → IsWithin (with_line d k)
 still_within d (line.Driver x) within h = let len = length-append d.transcript.drivers (x ∷ []) in
     record { drivers = grind (arith, nat_tests); entries = within.entries }
@@ -110,17 +110,17 @@ abbrev pub of_version : Version → Transcript → Transcript
 of_version version t = record t { version = version }
 
 -- from where some lines lead, the rest of a transcript leads to it
-pub rest_leads : (version : Version) (t : Transcript) (ls rest : List TranscriptLine) (d : TranscriptDraft)
+pub rest_leads : (version : Version) (t : Transcript) (ls rest : List TranscriptLine) (d : TranscriptSoFar)
     → run (new_draft version) ls ≡ Some d → body t ≡ ls ++ rest
     → run d rest ≡ Some (draft stage.View (of_version version t))
 rest_leads version t ls rest d led e =
-    bind_some (λ (c : TranscriptDraft). run c rest) (run (new_draft version) ls) d
+    bind_some (λ (c : TranscriptSoFar). run c rest) (run (new_draft version) ls) d
     (draft stage.View (of_version version t)) led
     (sym (run_append (new_draft version) ls rest) ∙ sym (ap (run (new_draft version)) e)
     ∙ run_body (of_version version t))
 
 -- a draft takes a line with which some transcript goes on behind its lines
-pub may_takes : (version : Version) (ls : List TranscriptLine) (d : TranscriptDraft) (k : TranscriptLine)
+pub may_takes : (version : Version) (ls : List TranscriptLine) (d : TranscriptSoFar) (k : TranscriptLine)
     (t : Transcript) → run (new_draft version) ls ≡ Some d → GoesOn (transcript_grammar version) t ls k
     → takes d k ≡ true
 may_takes version ls d k t led (more, e) =
@@ -132,7 +132,7 @@ may_takes version ls d k t led (more, e) =
     ]
 
 -- where a line is one too many for a draft, no allowed transcript goes on with it behind the draft's lines
-pub full_stops : (version : Version) (ls : List TranscriptLine) (d : TranscriptDraft) (k : TranscriptLine)
+pub full_stops : (version : Version) (ls : List TranscriptLine) (d : TranscriptSoFar) (k : TranscriptLine)
     (t : Transcript) → run (new_draft version) ls ≡ Some d → is_full d k ≡ true → IsAllowed version t
     → GoesOn (transcript_grammar version) t ls k → ⊥
 full_stops version ls d k t led full allowed (more, e) =
@@ -150,11 +150,11 @@ full_stops version ls d k t led full allowed (more, e) =
     ]
 
 -- the least transcript that has a draft's lines and then this one
-abbrev pub next_of : TranscriptDraft → TranscriptLine → Transcript
+abbrev pub next_of : TranscriptSoFar → TranscriptLine → Transcript
 next_of d k = completed (with_line d k)
 
 -- a line that a draft takes may follow its lines: the least transcript with both goes on so
-pub takes_may : (version : Version) (d : TranscriptDraft) (k : TranscriptLine) → takes d k ≡ true
+pub takes_may : (version : Version) (d : TranscriptSoFar) (k : TranscriptLine) → takes d k ≡ true
     → GoesOn (transcript_grammar version) (next_of d k) (lines d) k
 takes_may version d k h = by_kind (is_line k) refl where
   at_end : (s : Stage) (t : Transcript) → is_view s ≡ true
@@ -163,7 +163,7 @@ takes_may version d k h = by_kind (is_line k) refl where
   at_end stage.Config t h = absurd cc
   at_end stage.View t h = ([], refl)
 
-  is_end : (d : TranscriptDraft) (k : TranscriptLine) → is_line k ≡ false → takes d k ≡ true
+  is_end : (d : TranscriptSoFar) (k : TranscriptLine) → is_line k ≡ false → takes d k ≡ true
       → GoesOn (transcript_grammar version) (next_of d k) (lines d) k
   is_end d line.End off h = at_end d.stage d.transcript h
   is_end d k off h = absurd cc
@@ -184,7 +184,7 @@ takes_may version d k h = by_kind (is_line k) refl where
   by_kind false l = is_end d k l h
 
 -- the least transcript with a draft's lines and one it takes is allowed, within the limits and where all can be told
-pub next_allowed : (d : TranscriptDraft) (k : TranscriptLine) → takes d k ≡ true → is_full d k ≡ false
+pub next_allowed : (d : TranscriptSoFar) (k : TranscriptLine) → takes d k ≡ true → is_full d k ≡ false
     → IsWithin d → AllByRecursion (FitsLine d.transcript.version) (lines d) → FitsLine d.transcript.version k
     → IsAllowed d.transcript.version (next_of d k)
 next_allowed d k h room within fits one =

@@ -24,9 +24,10 @@ use Rattle.smx_words.specs.Spellable.{FitsDriver, FitsEntryIn, FitsDescriptor, F
 use Rattle.smx_words.specs.Spellable.{FitsRoute, FitsMessage, FitsFull, FitsNext}
 use Rattle.smx_text.specs.declared.text_fault.Cause.{Cause}
 use Rattle.smx_text.specs.declared.text_fault.Cause.TheVariants as cause
+use Rattle.smx_text.specs.declared.transcript.draft.Stage.{Stage}
 use Rattle.smx_text.specs.declared.transcript.draft.Stage.TheVariants as stage
-use Rattle.smx_text.specs.declared.transcript.draft.TranscriptDraft.{TranscriptDraft}
-use Rattle.smx_text.specs.Drafts.{grammar_of, lines}
+use Rattle.smx_text.specs.Drafts.{TranscriptSoFar, grammar_of, lines, so_far}
+use Rattle.smx_text.specs.TakenHistories.{TakenHistory}
 use Rattle.smx_text.specs.Grammar.{IsBegun, IsNoLine, IsOneLine, header, line_text}
 use Rattle.smx_text.specs.Reading.{Refuses, RefusesLine, AnswersLine, AnswersText}
 use Rattle.smx_text.specs.TranscriptLines.{TranscriptLine}
@@ -36,7 +37,7 @@ use Rattle.smx_text.proofs.GrammarLemmas.{IsWellMade}
 use Rattle.smx_text.proofs.ReadingLemmas.{refuses, answers}
 use Rattle.smx_text.proofs.TranscriptDrafts.{new_draft, takes, is_full, with_line, with_view}
 use Rattle.smx_text.proofs.TranscriptDraftLemmas.{draft, run, run_append, run_body, taken}
-use Rattle.smx_text.proofs.TranscriptLemmas.{misplaced, some_of, is_group, group_answers}
+use Rattle.smx_text.proofs.TranscriptLemmas.{misplaced, some_of, is_group, group_answers_at}
 use Rattle.smx_text.proofs.TranscriptWholeLemmas.{fits_body}
 use Rattle.smx_text.proofs.VersionLemmas.{AreVersions}
 use Rattle.smx_text.proofs.LineWordLemmas.{one_spelling, first_word, end_spelled, config_spelled, one_line_of, differ}
@@ -150,7 +151,7 @@ one_value t u version e =
     ∙ ap (λ (v : Version). run (new_draft v) (body u)) version ∙ run_body u) where
       same_value : Some (draft stage.View t) ≡ Some (draft stage.View u) → t ≡ u
       same_value e = let same : draft stage.View t ≡ draft stage.View u = cc e in
-          ap (λ (d : TranscriptDraft). d.transcript) same
+          ap (λ (d : TranscriptSoFar). d.transcript) same
 
 -- the header of a transcript has no line feed in it
 header_is_line : (version : Version) → IsOneLine (header (transcript_grammar version))
@@ -182,17 +183,19 @@ pub answers_line : {A : Type 0} (version : Version) (ls longer : List Transcript
 answers_line version = answers (transcript_grammar version) (tells_apart version)
 
 -- what is answered to the text of a line of a group of the view by who puts it behind the others, if it may come
-pub group_text : {A X : Type 0} (d : TranscriptDraft) (k : TranscriptLine) (text : List ℕ)
-    → IsBegun (grammar_of d) (lines d) → is_group k ≡ true → is_full d k ≡ false → k ≢ line.End
+pub group_text : {A X : Type 0} {stage : Stage} {h : TakenHistory} {view : ConfigView} {d : TranscriptSoFar}
+    → so_far stage h view ≡ d → (k : TranscriptLine) (text : List ℕ) → IsBegun (grammar_of d) (lines d)
+    → is_group k ≡ true → is_full (so_far stage h view) k ≡ false → k ≢ line.End
     → (put : List X → ConfigView) (old new : List X) (x : X) (takes_it : Bool) → takes_it ≡ takes d k
-    → with_line d k ≡ with_view d (put (old ++ x ∷ []))
+    → with_line (so_far stage h view) k ≡ with_view (so_far stage h view) (put (old ++ x ∷ []))
     → FitsLine d.transcript.version k × (text ≡ line_text (grammar_of d) k)
     → (r : Result A Cause) → OnOk r ((takes_it ≡ true) × (new ≡ old ++ x ∷ []))
     → IfErr r (λ why. why ≡ (if takes_it then cause.NoMemory else cause.Form))
-    → AnswersText (grammar_of d) (lines d) text (lines (draft d.stage (record d.transcript { view = put new }))) r
-group_text d k text begun group room other put old new x takes_it may is spelled r ok err =
-    answers_line d.transcript.version (lines d) (lines (draft d.stage (record d.transcript { view = put new }))) k text
-    spelled r (group_answers d k begun group room other put old new x takes_it may is spelled.0 r ok err)
+    → AnswersText (grammar_of d) (lines d) text (lines (so_far stage h (put new))) r
+group_text {stage = stage} {h = h} {d = d} same k text begun group room other put old new x takes_it may is spelled r
+    ok err =
+    answers_line d.transcript.version (lines d) (lines (so_far stage h (put new))) k text spelled r
+    (group_answers_at same k begun group room other put old new x takes_it may is spelled.0 r ok err)
 
 -- the cause for which a line may not follow is one for which its text is refused
 pub refused_line : (version : Version) (ls : List TranscriptLine) (k : TranscriptLine) (text : List ℕ)
@@ -202,7 +205,7 @@ refused_line version ls k text fits is why h =
     refuses (transcript_grammar version) (tells_apart version) ls k text fits is why h
 
 -- where a draft doesn't take the end, a text may not end behind its lines
-pub not_at_end : (d : TranscriptDraft) → takes d line.End ≡ false
+pub not_at_end : (d : TranscriptSoFar) → takes d line.End ≡ false
     → IsNoLine (grammar_of d) (lines d) (line_text (grammar_of d) line.End)
 not_at_end d h =
     refused_line d.transcript.version (lines d) line.End (line_text (grammar_of d) line.End) tt refl cause.Form

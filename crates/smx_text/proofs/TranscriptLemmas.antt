@@ -1,6 +1,6 @@
 -- What a reader does with a line behind those of a transcript that is being read.
 use Rattle.std.proofs.Common.{◌≡◌, ◌≢◌, Bool, true, false, List, [], ◌∷◌, ◌++◌, map, Option, Some, None}
-use Rattle.std.proofs.Common.{refl, sym, ap, subst, ◌∙◌, arith, rules}
+use Rattle.std.proofs.Common.{ℕ, length, refl, sym, ap, subst, ◌∙◌, arith, rules}
 use Rattle.std.specs.Prelude.{Result, Ok, Err, OnOk, IfErr, if◌then◌else◌}
 use Rattle.std.specs.List.{AllByRecursion}
 use Rattle.smx_types.specs.declared.transcript.Transcript.{Transcript}
@@ -10,9 +10,9 @@ use Rattle.smx_text.specs.declared.text_fault.Cause.{Cause}
 use Rattle.smx_text.specs.declared.text_fault.Cause.TheVariants as cause
 use Rattle.smx_text.specs.declared.transcript.draft.Stage.{Stage}
 use Rattle.smx_text.specs.declared.transcript.draft.Stage.TheVariants as stage
-use Rattle.smx_text.specs.declared.transcript.draft.TranscriptDraft.{TranscriptDraft}
-use Rattle.smx_text.specs.Drafts.{grammar_of, lines}
+use Rattle.smx_text.specs.Drafts.{IsCountedHistory, TranscriptSoFar, grammar_of, lines, so_far}
 use Rattle.smx_text.specs.Grammar.{IsBegun}
+use Rattle.smx_text.specs.TakenHistories.{TakenHistory}
 use Rattle.smx_text.specs.Reading.{AddsLine, RefusesLine, AnswersLine}
 use Rattle.smx_text.specs.TranscriptLines.{TranscriptLine}
 use Rattle.smx_text.specs.TranscriptLines as line
@@ -25,16 +25,38 @@ use Rattle.smx_text.proofs.TranscriptWholeLemmas.{completes, still, IsWithin, fi
 use Rattle.smx_text.proofs.TranscriptFollowLemmas.{run_grows, within_before, of_version, rest_leads, may_takes}
 use Rattle.smx_text.proofs.TranscriptFollowLemmas.{full_stops, next_of, takes_may, next_allowed}
 
+-- ---- a draft by its fields
+
+-- of this version, at this stage, with so many drivers and entries
+pub record IsAt (d : TranscriptSoFar) (stage : Stage) (version : Version) (drivers entries : ℕ) : Type 0 where
+  pub stage_is : stage ≡ d.stage
+  pub of_version : version ≡ d.transcript.version
+  pub has_drivers : drivers ≡ length d.transcript.drivers
+  pub has_entries : entries ≡ length d.transcript.entries
+
+-- what is counted of a history is counted of the draft that it was read for
+pub counted : {stage : Stage} {h : TakenHistory} {view : ConfigView} {d : TranscriptSoFar} {version : Version}
+    {drivers entries : ℕ} → IsCountedHistory h version drivers entries → so_far stage h view ≡ d
+    → IsAt d stage version drivers entries
+counted {stage = stage} {version = version} {drivers = drivers} {entries = entries} own same =
+    subst (λ (d : TranscriptSoFar). IsAt d stage version drivers entries) same
+    (record {
+      stage_is = refl;
+      of_version = own.of_version;
+      has_drivers = own.has_drivers;
+      has_entries = own.has_entries;
+    })
+
 -- ---- a draft, and what its lines lead to
 
 -- a draft with an empty view where no line of a view was read
-abbrev clean_by : Stage → Transcript → TranscriptDraft
+abbrev clean_by : Stage → Transcript → TranscriptSoFar
 clean_by stage.History t = draft stage.History (record t { view = new_view 0 0 })
 clean_by stage.Config t = draft stage.Config (record t { view = new_view 0 0 })
 clean_by stage.View t = draft stage.View t
 
 -- this draft with an empty view where no line of its view was read
-abbrev clean : TranscriptDraft → TranscriptDraft
+abbrev clean : TranscriptSoFar → TranscriptSoFar
 clean d = clean_by d.stage d.transcript
 
 -- the lines of a transcript read up to a stage lead to its draft, with an empty view where none was read
@@ -46,7 +68,7 @@ led_by stage.Config t = run_drivers t.version [] t.drivers (map line.Entry t.ent
 led_by stage.View t = run_body t
 
 -- the lines of a draft, taken from the first on, lead to it with an empty view where none was read
-led : (d : TranscriptDraft) → run (new_draft d.transcript.version) (lines d) ≡ Some (clean d)
+led : (d : TranscriptSoFar) → run (new_draft d.transcript.version) (lines d) ≡ Some (clean d)
 led d = led_by d.stage d.transcript
 
 -- a draft takes the same lines once a view that was not read is emptied
@@ -76,7 +98,7 @@ fits_of version lines (t, more, allowed, e) =
     all_left (FitsLine version) lines more (subst (AllByRecursion (FitsLine version)) e (fits_body version t allowed))
 
 -- a draft to which lines lead that some allowed transcript begins with is within the limits
-within_of : (version : Version) (ls : List TranscriptLine) (d : TranscriptDraft) → run (new_draft version) ls ≡ Some d
+within_of : (version : Version) (ls : List TranscriptLine) (d : TranscriptSoFar) → run (new_draft version) ls ≡ Some d
     → IsBegun (transcript_grammar version) ls → IsWithin d
 within_of version ls d to (t, more, allowed, e) =
     let u = of_version version t in
@@ -85,19 +107,19 @@ within_of version ls d to (t, more, allowed, e) =
     (record { drivers = allowed.drivers; entries = allowed.entries })
 
 -- a draft with whose lines some allowed transcript begins is within the limits
-pub draft_within : (d : TranscriptDraft) → IsBegun (grammar_of d) (lines d) → IsWithin d
+pub draft_within : (d : TranscriptSoFar) → IsBegun (grammar_of d) (lines d) → IsWithin d
 draft_within d begun =
     within_clean_by d.stage d.transcript (within_of d.transcript.version (lines d) (clean d) (led d) begun)
 
 -- where lines are taken after what may be missing, it is there and they are taken after it
-pub some_of : (o : Option TranscriptDraft) (ks : List TranscriptLine) (e : TranscriptDraft)
-    → o >>= (λ d. run d ks) ≡ Some e → (d : TranscriptDraft) × (o ≡ Some d) × (run d ks ≡ Some e)
+pub some_of : (o : Option TranscriptSoFar) (ks : List TranscriptLine) (e : TranscriptSoFar)
+    → o >>= (λ d. run d ks) ≡ Some e → (d : TranscriptSoFar) × (o ≡ Some d) × (run d ks ≡ Some e)
 some_of (Some d) ks e h = (d, refl, h)
 some_of None ks e h = absurd cc
 
 -- lines that some allowed transcript begins with are those of some draft of that version
 pub begun_is_draft : (version : Version) (ls : List TranscriptLine) → IsBegun (transcript_grammar version) ls
-    → (d : TranscriptDraft) × (lines d ≡ ls) × (d.transcript.version ≡ version)
+    → (d : TranscriptSoFar) × (lines d ≡ ls) × (d.transcript.version ≡ version)
 begun_is_draft version ls (t, more, allowed, e) =
     let u = of_version version t in
     let all = sym (ap (run (new_draft version)) e) ∙ run_body u in
@@ -109,7 +131,7 @@ begun_is_draft version ls (t, more, allowed, e) =
 -- ---- lines that are taken, and those that are not
 
 -- a line that the draft doesn't take is refused for its form
-pub misplaced : (d : TranscriptDraft) (k : TranscriptLine) → takes d k ≡ false
+pub misplaced : (d : TranscriptSoFar) (k : TranscriptLine) → takes d k ≡ false
     → RefusesLine (grammar_of d) (lines d) k cause.Form
 misplaced d k h (t, goes) =
     let may = may_takes d.transcript.version (lines d) (clean d) k t (led d) goes in
@@ -117,7 +139,7 @@ misplaced d k h (t, goes) =
     absurd (cc (h, may, same))
 
 -- a line that the draft takes, but of which there are as many as may be, is refused as one too many
-pub too_many : (d : TranscriptDraft) (k : TranscriptLine) → takes d k ≡ true → is_full d k ≡ true
+pub too_many : (d : TranscriptSoFar) (k : TranscriptLine) → takes d k ≡ true → is_full d k ≡ true
     → RefusesLine (grammar_of d) (lines d) k cause.Many
 too_many d k may full = (
   (next_of d k, takes_may d.transcript.version d k may),
@@ -127,7 +149,7 @@ too_many d k may full = (
 )
 
 -- a line that a draft takes, that is not too many and not the end, is its last, and some allowed transcript begins so
-pub adds : (d e : TranscriptDraft) (k : TranscriptLine) → IsBegun (grammar_of d) (lines d)
+pub adds : (d e : TranscriptSoFar) (k : TranscriptLine) → IsBegun (grammar_of d) (lines d)
     → takes d k ≡ true → is_full d k ≡ false → FitsLine d.transcript.version k → k ≢ line.End
     → lines e ≡ lines (with_line d k) → AddsLine (grammar_of d) (lines d) k (lines e)
 adds d e k begun may room fits other same =
@@ -137,8 +159,17 @@ adds d e k begun may room fits other same =
     let all = completes (with_line d k) ∙ ap (λ (ls : List TranscriptLine). ls ++ rest) (sym same) in
     (same ∙ more, (next_of d k, rest, next, all))
 
+-- the same of a draft by its fields
+pub adds_line : {stage : Stage} {h : TakenHistory} {view : ConfigView} {d : TranscriptSoFar} → so_far stage h view ≡ d
+    → (k : TranscriptLine) → IsBegun (grammar_of d) (lines d) → takes d k ≡ true → is_full d k ≡ false
+    → FitsLine d.transcript.version k → k ≢ line.End
+    → AddsLine (grammar_of d) (lines d) k (lines (with_line (so_far stage h view) k))
+adds_line {stage = stage} {h = h} {view = view} {d = d} same k begun may room fits other =
+    adds d (with_line (so_far stage h view) k) k begun may room fits other
+    (ap (λ (d : TranscriptSoFar). lines (with_line d k)) same)
+
 -- some allowed transcript begins with a draft's lines and one that it takes, which is not too many and not the end
-pub longer_begun : (d : TranscriptDraft) (k : TranscriptLine) → IsBegun (grammar_of d) (lines d)
+pub longer_begun : (d : TranscriptSoFar) (k : TranscriptLine) → IsBegun (grammar_of d) (lines d)
     → takes d k ≡ true → is_full d k ≡ false → FitsLine d.transcript.version k → k ≢ line.End
     → IsBegun (grammar_of d) (lines d ++ k ∷ [])
 longer_begun d k begun may room fits other =
@@ -146,7 +177,7 @@ longer_begun d k begun may room fits other =
     (adds d (with_line d k) k begun may room fits other refl).1
 
 -- the transcript of a draft that has come to its view is allowed, and its lines are those that were read
-pub whole : (d : TranscriptDraft) → IsBegun (grammar_of d) (lines d) → d.stage ≡ stage.View
+pub whole : (d : TranscriptSoFar) → IsBegun (grammar_of d) (lines d) → d.stage ≡ stage.View
     → IsAllowed d.transcript.version d.transcript × (body d.transcript ≡ lines d)
 whole d begun view =
     let same : d ≡ draft stage.View d.transcript = ap (λ (s : Stage). draft s d.transcript) view in
@@ -177,7 +208,7 @@ in_view_by stage.Config t line.End group may = absurd cc
 in_view_by s t k group may = absurd cc
 
 -- what is answered to a line of a group of the view, which is not too many
-module _ (d : TranscriptDraft) (k : TranscriptLine) (begun : IsBegun (grammar_of d) (lines d))
+module _ (d : TranscriptSoFar) (k : TranscriptLine) (begun : IsBegun (grammar_of d) (lines d))
     (group : is_group k ≡ true) (room : is_full d k ≡ false) (other : k ≢ line.End) where
   -- a line of a group that can be told and is taken is the last of that group
   added : (v : ConfigView) → FitsLine d.transcript.version k → takes d k ≡ true → with_line d k ≡ with_view d v
@@ -202,6 +233,24 @@ module _ (d : TranscriptDraft) (k : TranscriptLine) (begun : IsBegun (grammar_of
   group_answers put old new x takes_it may is fits (Ok u) ok err =
       rw ok.1 (added (put (old ++ x ∷ [])) fits (sym may ∙ ok.0) is)
   group_answers put old new x takes_it may is fits (Err why) ok err = group_refused takes_it may fits why err
+
+-- the same of a draft by its fields
+pub group_answers_at : {A X : Type 0} {stage : Stage} {h : TakenHistory} {view : ConfigView} {d : TranscriptSoFar}
+    → so_far stage h view ≡ d → (k : TranscriptLine) → IsBegun (grammar_of d) (lines d) → is_group k ≡ true
+    → is_full (so_far stage h view) k ≡ false → k ≢ line.End
+    → (put : List X → ConfigView) (old new : List X) (x : X) (takes_it : Bool) → takes_it ≡ takes d k
+    → with_line (so_far stage h view) k ≡ with_view (so_far stage h view) (put (old ++ x ∷ []))
+    → FitsLine d.transcript.version k
+    → (r : Result A Cause) → OnOk r ((takes_it ≡ true) × (new ≡ old ++ x ∷ []))
+    → IfErr r (λ why. why ≡ (if takes_it then cause.NoMemory else cause.Form))
+    → AnswersLine (grammar_of d) (lines d) k (lines (so_far stage h (put new))) r
+group_answers_at {stage = stage} {h = h} {view = view} same k begun group room other put old new x takes_it may is
+    fits r ok err =
+    subst (λ (d : TranscriptSoFar). IsBegun (grammar_of d) (lines d) → takes_it ≡ takes d k
+    → FitsLine d.transcript.version k → AnswersLine (grammar_of d) (lines d) k (lines (so_far stage h (put new))) r)
+    same (λ begun may fits.
+        group_answers (so_far stage h view) k begun group room other put old new x takes_it may is fits r ok err)
+    begun may fits
 
 -- before its first line, a text is the beginning of some allowed transcript
 pub nothing_begun : (version : Version) → IsBegun (transcript_grammar version) []

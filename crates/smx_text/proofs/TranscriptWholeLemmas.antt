@@ -11,7 +11,7 @@ use Rattle.smx_types.specs.declared.view.ConfigView.{ConfigView}
 use Rattle.smx_words.specs.Spellable.{CanTell, FitsEntry, FitsHung}
 use Rattle.smx_text.specs.declared.transcript.draft.Stage.{Stage}
 use Rattle.smx_text.specs.declared.transcript.draft.Stage.TheVariants as stage
-use Rattle.smx_text.specs.declared.transcript.draft.TranscriptDraft.{TranscriptDraft}
+use Rattle.smx_text.specs.Drafts.{TranscriptSoFar}
 use Rattle.smx_text.specs.TranscriptLines.{TranscriptLine}
 use Rattle.smx_text.specs.TranscriptLines as line
 use Rattle.smx_text.specs.TranscriptText.{IsSpellableView, FitsLine, view_body, body, IsAllowed}
@@ -35,7 +35,7 @@ still stage.Config = line.Next 0 0 ∷ []
 still stage.View = []
 
 -- the transcript of a draft's lines and the least that they lack
-abbrev pub completed : TranscriptDraft → Transcript
+abbrev pub completed : TranscriptSoFar → Transcript
 completed d = ended d.stage d.transcript
 
 -- lines behind two lists that stand behind another stand behind all three joined
@@ -51,11 +51,11 @@ completes_by stage.Config t =
 completes_by stage.View t = sym (append-nil (body t))
 
 -- a transcript that was completed has the lines that were read, and the least that were wanting
-pub completes : (d : TranscriptDraft) → body (completed d) ≡ lines d ++ still d.stage
+pub completes : (d : TranscriptSoFar) → body (completed d) ≡ lines d ++ still d.stage
 completes d = completes_by d.stage d.transcript
 
 -- a draft has as many drivers and entries as there may be, or fewer
-pub record IsWithin (d : TranscriptDraft) : Type 0 where
+pub record IsWithin (d : TranscriptSoFar) : Type 0 where
   pub drivers : length d.transcript.drivers ≤ most_drivers d.transcript.version
   pub entries : length d.transcript.entries ≤ MAX_COMMANDS
 
@@ -163,7 +163,7 @@ same_history stage.Config t = (refl, refl, refl)
 same_history stage.View t = (refl, refl, refl)
 
 -- a draft within the limits whose lines can be told is completed to an allowed transcript
-pub allowed : (version : Version) (d : TranscriptDraft) → d.transcript.version ≡ version → IsWithin d
+pub allowed : (version : Version) (d : TranscriptSoFar) → d.transcript.version ≡ version → IsWithin d
     → AllByRecursion (FitsLine version) (lines d) → IsAllowed version (completed d)
 allowed version d is within h =
     let same = same_history d.stage d.transcript in

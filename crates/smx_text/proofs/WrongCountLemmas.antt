@@ -16,7 +16,7 @@ use Rattle.smx_words.specs.Spellable.{FitsDriver}
 use Rattle.smx_words.specs.Words.{LINE_FEED}
 use Rattle.smx_text.specs.declared.text_fault.Cause.TheVariants as cause
 use Rattle.smx_text.specs.declared.transcript.draft.Stage.TheVariants as stage
-use Rattle.smx_text.specs.declared.transcript.draft.TranscriptDraft.{TranscriptDraft}
+use Rattle.smx_text.specs.Drafts.{TranscriptSoFar}
 use Rattle.smx_text.specs.Drafts.{lines}
 use Rattle.smx_text.specs.Grammar.{Grammar, IsBegun, IsFault, IsOneTooMany, beginning, header, line_text}
 use Rattle.smx_text.specs.ProgramLines as row
@@ -164,7 +164,7 @@ abbrev transcript : Version → ℕ → Transcript
 transcript version n = record { version = version; drivers = repeated ip n; entries = []; view = new_view 1 1 }
 
 -- a transcript of which so many lines of the driver `ip` were read
-abbrev behind_drivers : Version → ℕ → TranscriptDraft
+abbrev behind_drivers : Version → ℕ → TranscriptSoFar
 behind_drivers version n = draft stage.History (transcript version n)
 
 -- the lines of a transcript of which the driver `ip` was read n times are its line n times

@@ -30,7 +30,7 @@ use Rattle.smx_words.proofs.SameReplyLemmas.{reply_verb_of, verb_again, verb_at}
 use Rattle.smx_words.proofs.SameWordLemmas.{fault_at, found_fault}
 use Rattle.smx_text.specs.declared.text_fault.Cause.TheVariants as cause
 use Rattle.smx_text.specs.declared.transcript.draft.Stage.TheVariants as stage
-use Rattle.smx_text.specs.declared.transcript.draft.TranscriptDraft.{TranscriptDraft}
+use Rattle.smx_text.specs.Drafts.{TranscriptSoFar}
 use Rattle.smx_text.specs.Drafts.{lines}
 use Rattle.smx_text.specs.Grammar.{HasNext, IsBegun, IsNoLine, IsOneLine, beginning, header, line_text}
 use Rattle.smx_text.specs.TranscriptLines.{TranscriptLine}
@@ -89,7 +89,7 @@ wrong_line version ls text begun next at none =
     wrong_transcript version refl (ls, text, record { begun = begun; next = next; numbered = at }, none)
 
 -- a transcript of which `config` was read, and no line before it
-abbrev below_config : TranscriptDraft
+abbrev below_config : TranscriptSoFar
 below_config = draft stage.Config nothing
 
 -- a text that spells no line which may stand behind `config` makes line 3 go wrong for its form
@@ -100,7 +100,7 @@ wrong_below_config text rest one none =
     (rest, one, refl) refl none
 
 -- a transcript of which the line of one driver was read
-abbrev behind_driver : TranscriptDraft
+abbrev behind_driver : TranscriptSoFar
 behind_driver = draft stage.History one_driver
 
 -- a text that spells no line which may stand behind one driver makes line 3 go wrong for its form
@@ -113,7 +113,7 @@ wrong_at_3 text one none =
     (codes "config\nnext 1 1\nend\n", one, refl) refl none
 
 -- a transcript of which the line of one link was read, and no group behind it
-abbrev behind_link : TranscriptDraft
+abbrev behind_link : TranscriptSoFar
 behind_link = draft stage.View one_link
 
 -- a text that spells no line which may stand behind one link makes line 5 go wrong for its form
@@ -215,7 +215,7 @@ one_hung = record {
 }
 
 -- a transcript of which the line of one hung-up stream was read
-abbrev behind_hung : TranscriptDraft
+abbrev behind_hung : TranscriptSoFar
 behind_hung = draft stage.View one_hung
 
 -- the line of a full place, on the read side of minor 0 of `eth`

@@ -27,6 +27,6 @@ pub use smx_types::{
     RouteLines, Same, Serials, Side, Sides, SpecFault, StreamId, Transcript, Version, Which,
 };
 pub use text_fault::{Cause, TextFault};
-pub use transcript::read_transcript;
+pub use transcript::{TakenTranscript, TranscriptTaker, read_transcript, take_transcript};
 pub use transcript_writer::{TranscriptWriter, transcript_opening, write_view};
 pub use write::{write_programs, write_transcript};

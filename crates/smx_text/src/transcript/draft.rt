@@ -13,9 +13,11 @@ ghost use Rattle.smx_text.specs.TranscriptLines.{Driver as DriverLine, Config as
 
 use crate::reading::Draft;
 use crate::text_fault::Cause;
-use smx_types::{ConfigView, DriverSpec, Items, NoMemory, Transcript, Version};
-use smx_words::{driver_of, entry_of, message_of, next_of};
+use crate::transcript::taker::TranscriptTaker;
+use smx_types::{ConfigView, DriverSpec, Items, NoMemory, Version};
+use smx_words::{driver_of, message_of, next_of};
 use std::alloc::Global;
+use std::marker::Model;
 
 // How far a transcript is read.
 #[derive(Clone, Copy, Debug, PartialEq, Eq)]
@@ -28,19 +30,33 @@ pub enum Stage {
     View,
 }
 
-// What the lines so far say.
-#[derive(Debug, Drop)]
-pub struct TranscriptDraft {
+// Who takes what the lines so far say, how many drivers and entries there were, and the view as far as it was read.
+#[derive(Drop)]
+pub struct TranscriptDraft<T: TranscriptTaker> {
+    pub version: Version,
     pub stage: Stage,
-    pub transcript: Transcript,
+    pub taker: T,
+    pub drivers: usize,
+    pub entries: usize,
+    pub view: ConfigView,
 }
 
-impl Draft for TranscriptDraft {
-    type With = ();
+impl<T: TranscriptTaker> Model for TranscriptDraft<T> {
+    ghost use Rattle.smx_text.specs.Drafts.{IsCountedHistory, TranscriptSoFar, so_far};
 
-    type Whole = Transcript;
+    ghost Value = { TranscriptSoFar };
 
-    ghost use Rattle.std.specs.Prelude.{◌≡◌, refl};
+    ghost view = { λ d. so_far d.stage (T.taken d.taker) d.view };
+
+    ghost invariant = { λ d. IsCountedHistory (T.taken d.taker) d.version d.drivers d.entries };
+}
+
+impl<T: TranscriptTaker> Draft for TranscriptDraft<T> {
+    type With = T::With;
+
+    type Whole = T::Whole;
+
+    ghost use Rattle.std.specs.Prelude.{refl};
     ghost use Rattle.smx_types.specs.declared.transcript.Transcript.{Transcript as AnyTranscript};
     ghost use Rattle.smx_text.specs.Drafts.{lines};
     ghost use Rattle.smx_text.specs.TranscriptLines.{TranscriptLine};
@@ -52,7 +68,7 @@ impl Draft for TranscriptDraft {
 
     ghost grammar = { transcript_grammar };
 
-    ghost makes = { λ said transcript. transcript ≡ said };
+    ghost makes = { T.makes };
 
     ghost version_of = { λ d. d.transcript.version };
 
@@ -65,31 +81,29 @@ impl Draft for TranscriptDraft {
         }
     }
 
-    fn begin(alloc: Global, _with: (), version: Version) -> TranscriptDraft {
+    fn begin(alloc: Global, with: T::With, version: Version) -> TranscriptDraft<T> {
         TranscriptDraft {
+            version,
             stage: Stage::History,
-            transcript: Transcript {
-                version,
-                drivers: Items::new(alloc),
-                entries: Items::new(alloc),
-                view: new_view(alloc, 0, 0),
-            },
+            taker: T::begin(alloc, with, version),
+            drivers: 0,
+            entries: 0,
+            view: new_view(alloc, 0, 0),
         }
     }
 
     fn add(&mut self, alloc: Global, text: &[u8]) -> Result<(), Cause> {
-        match entry_of(alloc, self.transcript.version, text) {
-            Ok(Some(entry)) => self.add_entry(entry),
-            Ok(None) => self.add_other(alloc, text),
-            Err(NoMemory) => Err(self.entry_unread()),
+        match self.room_for_entry() {
+            Ok(()) => self.add_where_room(alloc, text),
+            Err(cause) => self.add_where_none(alloc, text, cause),
         }
     }
 
-    fn finish(self) -> Option<Transcript> {
+    fn finish(self) -> Option<T::Whole> {
         if self.stage != Stage::View {
             return None;
         }
-        Some(self.transcript)
+        Some(self.taker.finish(self.view))
     }
 
     ghost end_is = { λ v. refl };
@@ -121,9 +135,9 @@ fn new_view(alloc: Global, next_id: u32, next_serial: u32) -> ConfigView
     }
 }
 
-impl TranscriptDraft {
+impl<T: TranscriptTaker> TranscriptDraft<T> {
     // A line that is no entry.
-    fn add_other(&mut self, alloc: Global, text: &[u8]) -> Result<(), Cause>
+    pub fn add_other(&mut self, alloc: Global, text: &[u8]) -> Result<(), Cause>
         requires begun { IsBegun (grammar_of self.old) (lines self.old) }
         requires no_entry { (e : AnyEntry) → FitsEntryIn self.old.transcript.version e
             → text.now ≢ line_of (entry_words e) }
@@ -170,13 +184,14 @@ impl TranscriptDraft {
             (lines self.new) result }
         ensures version { OnOk result (self.new.transcript.version ≡ self.old.transcript.version) }
     {
-        if self.stage != Stage::History || !self.transcript.entries.as_slice().is_empty() {
+        if self.stage != Stage::History || self.entries > 0 {
             return Err(Cause::Form);
         }
-        if self.transcript.drivers.as_slice().len() >= self.transcript.version.max_drivers() {
+        if self.drivers >= self.version.max_drivers() {
             return Err(Cause::Many);
         }
-        self.transcript.drivers.push(driver)?;
+        self.taker.add_driver(driver)?;
+        self.drivers += 1;
         Ok(())
     }
 
@@ -205,7 +220,7 @@ impl TranscriptDraft {
             return Err(Cause::Form);
         }
         self.stage = Stage::View;
-        self.transcript.view = new_view(alloc, next_id, next_serial);
+        self.view = new_view(alloc, next_id, next_serial);
         Ok(())
     }
 }

@@ -18,15 +18,16 @@ ghost use Rattle.smx_text.specs.declared.text_fault.Cause.TheVariants.{Form, NoM
 
 use super::draft::{Stage, TranscriptDraft};
 use crate::text_fault::Cause;
+use crate::transcript::taker::TranscriptTaker;
 use smx_types::{HungLine, Items, MessageLine, Version};
 use smx_words::{bind_of, descriptor_of, full_of, hung_of, link_of, route_of};
 
-impl TranscriptDraft {
+impl<T: TranscriptTaker> TranscriptDraft<T> {
     // The hung-up stream that a line spells, if this version can tell it.
     fn read_hung(&self, text: &[u8]) -> Option<HungLine>
         ensures { IsReadAs (FitsHungIn self.now.transcript.version) hung_words text.now result }
     {
-        match self.transcript.version {
+        match self.version {
             Version::V1 => None,
             Version::V2 => hung_of(text),
         }
@@ -47,22 +48,22 @@ impl TranscriptDraft {
         ensures version { OnOk result (self.new.transcript.version ≡ self.old.transcript.version) }
     {
         if let Some(fd) = descriptor_of(text) {
-            return push_if(self.takes_fds(), &mut self.transcript.view.fds, fd);
+            return push_if(self.takes_fds(), &mut self.view.fds, fd);
         }
         if let Some(link) = link_of(text) {
-            return push_if(self.takes_links(), &mut self.transcript.view.links, link);
+            return push_if(self.takes_links(), &mut self.view.links, link);
         }
         if let Some(bind) = bind_of(text) {
-            return push_if(self.takes_binds(), &mut self.transcript.view.binds, bind);
+            return push_if(self.takes_binds(), &mut self.view.binds, bind);
         }
         if let Some(route) = route_of(text) {
-            return push_if(self.takes_routes(), &mut self.transcript.view.routes, route);
+            return push_if(self.takes_routes(), &mut self.view.routes, route);
         }
         if let Some(full) = full_of(text) {
-            return push_if(self.takes_fulls(), &mut self.transcript.view.fulls, full);
+            return push_if(self.takes_fulls(), &mut self.view.fulls, full);
         }
         match self.read_hung(text) {
-            Some(hung) => push_if(self.takes_hungs(), &mut self.transcript.view.hungs, hung),
+            Some(hung) => push_if(self.takes_hungs(), &mut self.view.hungs, hung),
             None => Err(Cause::Form),
         }
     }
@@ -74,7 +75,7 @@ impl TranscriptDraft {
             (lines self.new) result }
         ensures version { OnOk result (self.new.transcript.version ≡ self.old.transcript.version) }
     {
-        push_if(self.takes_msgs(), &mut self.transcript.view.msgs, message)
+        push_if(self.takes_msgs(), &mut self.view.msgs, message)
     }
 
     // Why a message is refused for which there is no memory.
@@ -101,42 +102,42 @@ impl TranscriptDraft {
     fn takes_fulls(&self) -> bool
         ensures { result ≡ takes_fulls self.now }
     {
-        self.takes_hungs() && self.transcript.view.hungs.as_slice().is_empty()
+        self.takes_hungs() && self.view.hungs.as_slice().is_empty()
     }
 
     // Whether one of the messages may come: nothing of a later group has.
     fn takes_msgs(&self) -> bool
         ensures { result ≡ takes_msgs self.now }
     {
-        self.takes_fulls() && self.transcript.view.fulls.as_slice().is_empty()
+        self.takes_fulls() && self.view.fulls.as_slice().is_empty()
     }
 
     // Whether one of the routes may come: nothing of a later group has.
     fn takes_routes(&self) -> bool
         ensures { result ≡ takes_routes self.now }
     {
-        self.takes_msgs() && self.transcript.view.msgs.as_slice().is_empty()
+        self.takes_msgs() && self.view.msgs.as_slice().is_empty()
     }
 
     // Whether one of the bindings may come: nothing of a later group has.
     fn takes_binds(&self) -> bool
         ensures { result ≡ takes_binds self.now }
     {
-        self.takes_routes() && self.transcript.view.routes.as_slice().is_empty()
+        self.takes_routes() && self.view.routes.as_slice().is_empty()
     }
 
     // Whether one of the links may come: nothing of a later group has.
     fn takes_links(&self) -> bool
         ensures { result ≡ takes_links self.now }
     {
-        self.takes_binds() && self.transcript.view.binds.as_slice().is_empty()
+        self.takes_binds() && self.view.binds.as_slice().is_empty()
     }
 
     // Whether one of the descriptors may come: nothing of a later group has.
     fn takes_fds(&self) -> bool
         ensures { result ≡ takes_fds self.now }
     {
-        self.takes_links() && self.transcript.view.links.as_slice().is_empty()
+        self.takes_links() && self.view.links.as_slice().is_empty()
     }
 }
 
