@@ -3,7 +3,8 @@
 ghost use Rattle.std.specs.Prelude.{◌≡◌, IfOk, option_copied};
 ghost use Rattle.std.specs.Option.{option_map_or};
 ghost use Rattle.smx_draw.specs.DotLines.{queue_line};
-ghost use Rattle.smx_draw.specs.DotQueues.{driver_named, is_in, queue_of, queues_from, queues_of, same_side, with_message};
+ghost use Rattle.smx_draw.specs.DotQueues.{driver_named, is_in, queue_of, queues_from, queues_of, same_side};
+ghost use Rattle.smx_draw.specs.DotQueues.{with_message};
 
 use super::DotLine;
 use crate::pieces::{Piece, put, shown_length};
