@@ -15,5 +15,5 @@ pub use reading::{
     hung_of, link_of, message_of, next_of, process_of, push_command, route_of,
 };
 pub use writing::{
-    Spell, write_entry, write_entry_of_line, write_lines, write_next, write_process,
+    Spell, write_entry, write_entry_of_line, write_lines, write_next, write_process, write_reply,
 };
