@@ -1,5 +1,4 @@
 pub mod EachLemmas
-pub mod PlaceLemmas
 pub mod BodyLemmas
 pub mod LineWordLemmas
 pub mod ReadingLemmas

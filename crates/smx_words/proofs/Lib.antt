@@ -1,4 +1,5 @@
 pub mod WritingLemmas
+pub mod PlaceLemmas
 pub mod CutLemmas
 pub mod LineLemmas
 pub mod NumberLemmas

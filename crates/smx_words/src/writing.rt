@@ -15,6 +15,7 @@ mod word;
 
 pub use entry::{write_entry, write_entry_of_line};
 pub use number::{write_next, write_process};
+pub use reply::write_reply;
 use smx_types::NoMemory;
 
 /// A value that one line of a text spells.

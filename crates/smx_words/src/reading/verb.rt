@@ -7,7 +7,7 @@ ghost use Rattle.smx_words.specs.Verbs.{verb_word, reply_verb_word};
 ghost use Rattle.smx_words.specs.Words.{SPACE};
 ghost use Rattle.smx_words.specs.declared.reading.verb.Verb.{Verb as AnyVerb};
 
-use crate::reading::cutting::{after, cut};
+use crate::reading::cutting::{after, cut_soon};
 
 /// What a command does, by its first word.
 #[derive(Clone, Copy)]
@@ -129,7 +129,7 @@ fn reply_verb_of(word: &[u8]) -> Option<ReplyVerb>
 pub fn first_reply_verb(text: &[u8]) -> Option<(ReplyVerb, &[u8])>
     ensures { BeginsWith FitsAlways reply_verb_word text.now result }
 {
-    let Some((word, rest)) = cut(text, b' ') else {
+    let Some((word, rest)) = cut_soon(text, b' ') else {
         return None;
     };
     match reply_verb_of(word) {

@@ -9,7 +9,7 @@ ghost use Rattle.smx_words.specs.Words.{LINE_FEED, line_of};
 use super::Spell;
 use super::command::put_command;
 use super::number::put_first;
-use super::reply::put_reply;
+use super::reply::write_reply;
 use super::word::put_text;
 use smx_types::{Command, Entry, NoMemory, Process, Reply};
 
@@ -39,7 +39,7 @@ pub fn write_entry(
 {
     put_first(out, process.get())?;
     put_command(out, command)?;
-    put_reply(out, reply)?;
+    write_reply(out, reply)?;
     Ok(())
 }
 
@@ -60,6 +60,6 @@ pub fn write_entry_of_line(
 {
     put_first(out, process.get())?;
     put_text(out, line)?;
-    put_reply(out, reply)?;
+    write_reply(out, reply)?;
     Ok(())
 }

@@ -6,7 +6,7 @@ pub returns-clause-written : goal.returns-clause-written
 returns-clause-written c =
     rw (
       entry_line (record { process = c.args.process; command = c.args.command.now; reply = c.args.reply.now }),
-      c.in_ok-put_reply.ensures.written,
+      c.in_ok-write_reply.ensures.written,
       c.in_ok-put_command.ensures.written,
       c.in_ok-put_first.ensures,
       c.get.ensures.value,

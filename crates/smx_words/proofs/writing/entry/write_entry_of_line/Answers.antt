@@ -7,7 +7,7 @@ returns-clause-written c = λ command same.
     rw (
       entry_line (record { process = c.args.process; command = command; reply = c.args.reply.now }),
       ← same,
-      c.in_ok-put_reply.ensures.written,
+      c.in_ok-write_reply.ensures.written,
       c.in_ok-put_text.ensures,
       c.in_ok-put_first.ensures,
       c.get.ensures.value,
