@@ -9,5 +9,6 @@ mod program_texts;
 mod spelling;
 mod split_texts;
 mod sweeps;
+mod taken_entries;
 mod taken_lines;
 mod transcript_texts;
