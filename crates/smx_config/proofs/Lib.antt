@@ -1,6 +1,7 @@
 pub mod AlikeLemmas
 pub mod DriverFaultLemmas
 pub mod VerdictLemmas
+pub mod GrowingCheckLemmas
 pub mod RunMarkLemmas
 pub mod NeededLemmas
 pub mod WakeLemmas

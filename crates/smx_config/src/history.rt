@@ -1,6 +1,8 @@
 //! Whether a history is legal, and its end as claimed.
 
-ghost use Rattle.std.specs.Prelude.{◌≡◌, ◌↔◌, IfOk, IfErr, IfNone, IfSome, IsTrue};
+ghost use Rattle.std.specs.Prelude.{◌≡◌, ◌↔◌, List, IfOk, IfErr, IfNone, IfSome, IsTrue};
+ghost use Rattle.smx_types.specs.declared.command.Entry.{Entry};
+ghost use Rattle.smx_types.specs.declared.driver.DriverSpec.{DriverSpec};
 ghost use Rattle.smx_model.specs.Commands.{step};
 ghost use Rattle.smx_model.specs.Configuration.{empty};
 ghost use Rattle.smx_model.specs.DriverList.{IsDriverList};
@@ -13,20 +15,39 @@ use crate::config::Config;
 use crate::config_fault::ConfigFault;
 use crate::verdict::Verdict;
 use smx_model::laws::one_entry_more;
-use smx_types::{ConfigView, DriverSpec, Entry, NoMemory, Same};
+use smx_types::{Command, ConfigView, DriverSpec, Entry, NoMemory, Process, Reply, Same};
 use std::alloc::Global;
 
-// Gives the command of an entry again; whether it gets the reply of the entry.
-fn gets_its_reply(config: &mut Config, entry: &Entry) -> Result<bool, NoMemory>
+/// Gives the command of an entry again; whether it gets the reply of the entry.
+pub fn gets_its_reply(
+    config: &mut Config,
+    process: Process,
+    command: &Command,
+    reply: &Reply,
+) -> Result<bool, NoMemory>
     ensures drivers { config.new.drivers ≡ config.old.drivers }
     ensures next { IfOk result (λ _. config.new.configuration
-        ≡ (step config.old.drivers config.old.configuration entry.now.process entry.now.command).0) }
+        ≡ (step config.old.drivers config.old.configuration process command.now).0) }
     ensures same { IfOk result (λ same. IsTrue same
-        ↔ ((step config.old.drivers config.old.configuration entry.now.process entry.now.command).1
-        ≡ entry.now.reply)) }
+        ↔ ((step config.old.drivers config.old.configuration process command.now).1 ≡ reply.now)) }
 {
-    let reply = config.step(entry.process, &entry.command)?;
-    Ok(reply.is_same(&entry.reply))
+    let answer = config.step(process, command)?;
+    let same = answer.is_same(reply);
+    config.take_back(answer);
+    Ok(same)
+}
+
+/// What is said of a history that is legal, and behind which this is the configuration.
+pub fn verdict_of(config: &Config, shown: &ConfigView) -> Verdict
+    ensures { (drivers : List DriverSpec) (entries : List Entry) → config.now.drivers ≡ drivers
+        → IsLegal drivers entries → config.now.configuration ≡ after drivers entries
+        → IsVerdict drivers entries shown.now result }
+{
+    if config.shows(shown) {
+        Verdict::Legal
+    } else {
+        Verdict::ConfigDiffers
+    }
 }
 
 // Gives the commands of the entries again, from the empty configuration on: the number of the first entry whose reply
@@ -40,7 +61,7 @@ fn first_illegal(config: &mut Config, entries: &[Entry]) -> Result<Option<usize>
 {
     one_entry_more();
     for (i, entry) in entries.iter().enumerate() {
-        if !gets_its_reply(config, entry)? {
+        if !gets_its_reply(config, entry.process, &entry.command, &entry.reply)? {
             return Ok(Some(i + 1));
         }
     }
@@ -64,9 +85,5 @@ pub fn check_history(
     if let Some(entry) = first_illegal(&mut config, entries)? {
         return Ok(Verdict::Illegal { entry });
     }
-    if config.shows(shown) {
-        Ok(Verdict::Legal)
-    } else {
-        Ok(Verdict::ConfigDiffers)
-    }
+    Ok(verdict_of(&config, shown))
 }

@@ -4,6 +4,7 @@
 mod config;
 mod config_fault;
 mod driver_list;
+mod growing_check;
 mod history;
 pub mod laws_of_drivers;
 pub mod laws_of_verdicts;
@@ -11,6 +12,7 @@ mod laws_of_waking;
 mod lone_messages;
 mod marks;
 mod next_places;
+mod past;
 mod rows;
 mod run_marks;
 mod settling;
@@ -21,5 +23,7 @@ mod ways;
 
 pub use config::Config;
 pub use config_fault::ConfigFault;
+pub use growing_check::GrowingCheck;
 pub use history::check_history;
+pub use past::Past;
 pub use verdict::Verdict;

@@ -11,10 +11,10 @@ ghost use Rattle.smx_run.specs.declared.growing_run.RunStage.TheVariants as stag
 ghost use Rattle.smx_run.specs.declared.run_fault.RunFault.TheVariants as run;
 
 use crate::gate::Gate;
-use crate::past::Past;
 use crate::recorder::NewRecorder;
 use crate::recording::Recording;
 use crate::run_fault::RunFault;
+use smx_config::Past;
 use smx_types::{Command, ConfigView, DriverSpec, Drivers, NoMemory, Process, Programs, Version};
 use std::alloc::Global;
 use std::marker::Model;

@@ -3,8 +3,8 @@
 ghost use Rattle.std.specs.Prelude.{◌≡◌, ◌<◌, ◌++◌, [], ◌∷◌, length, IfOk, IfSome};
 ghost use Rattle.smx_types.specs.declared.limits.TheConstants.{MAX_COMMANDS};
 
-use crate::past::Past;
 use crate::recorder::Recorder;
+use smx_config::Past;
 use smx_shared::Keeper;
 use smx_types::{Command, Entries, Entry, NoMemory, Process, Reply};
 use std::marker::{Brand, Model, PhantomData};

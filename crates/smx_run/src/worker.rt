@@ -10,7 +10,7 @@ ghost use Rattle.smx_run.specs.Hands.{SomeKnowsItFull};
 
 use crate::command_source::CommandSource;
 use crate::gate::Gate;
-use crate::past::Past;
+use smx_config::Past;
 use smx_shared::{ApplyFault, Door, Front};
 use std::alloc::Global;
 use std::sync::Wait;

@@ -30,10 +30,10 @@ use denote.Triple.Entry.{alive}
 use denote.Triple.Spec.{Meets, triple_of}
 use denote.Triple.Table.{entered}
 use denote.Triple.Walked.{says, Stays, stay_dropped, walk_of, ends_at, walk_Meets, Goes-dropped}
-use Rattle.smx_run.specs.contracts.past.Past.new as F
-use Rattle.smx_run.specs.contracts.past.Past.new.Key.{name as #self}
-use Rattle.smx_run.proofs.past.Past.new.Statement as stated
-use Rattle.smx_run.proofs.past.Past.new.Code as code
+use Rattle.smx_config.specs.contracts.past.Past.new as F
+use Rattle.smx_config.specs.contracts.past.Past.new.Key.{name as #self}
+use Rattle.smx_config.proofs.past.Past.new.Statement as stated
+use Rattle.smx_config.proofs.past.Past.new.Code as code
 
 module _ (T A : RattleType) where
   abbrev args : Args
