@@ -8,7 +8,9 @@ use Rattle.smx_words.specs.Words.{LINE_FEED, line_of}
 use Rattle.smx_text.specs.TranscriptLines.{TranscriptLine}
 use Rattle.smx_text.specs.TranscriptText.{transcript_grammar}
 use Rattle.smx_model.specs.DriverList.{IsDriverList}
+use Rattle.smx_config.specs.DriverFaults.{RefusesDrivers}
 use Rattle.smx_config.specs.Verdicts.{IsVerdict}
+use Rattle.smx_config.specs.declared.config_fault.ConfigFault.{ConfigFault}
 use Rattle.smx_config.specs.declared.verdict.Verdict.{Verdict}
 use Rattle.smx_config.specs.declared.verdict.Verdict.TheVariants.{Legal, Illegal, ConfigDiffers}
 use Rattle.smx_run.specs.RunFaults.{RefusesAlone}
@@ -33,6 +35,11 @@ pub record IsJudged (t : Transcript) (verdict : Verdict) (output : List ℕ) : T
   pub judged : IsVerdict t.drivers t.entries t.view verdict
   -- The output is the line of that verdict, with the number of the entries, and nothing else.
   pub written : output ≡ verdict_line (length t.entries) verdict
+
+-- the verdict on a transcript, and how many entries it has; or why its drivers are refused, or memory was wanting
+abbrev pub IsJudgedAs : Transcript → Result (Verdict × ℕ) ConfigFault → Type 0
+IsJudgedAs t (Ok v) = IsDriverList t.drivers × IsVerdict t.drivers t.entries t.view v.0 × (v.1 ≡ length t.entries)
+IsJudgedAs t (Err fault) = RefusesDrivers t.drivers fault
 
 -- a check reads a transcript, writes the line of the verdict on it, and answers that verdict; or it refuses the
 -- drivers, or memory was wanting

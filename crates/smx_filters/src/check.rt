@@ -1,20 +1,18 @@
 //! A check from bytes to bytes.
 
 ghost use Rattle.std.specs.Fmt.{decimal};
-ghost use Rattle.std.specs.Prelude.{◌≡◌, ℕ, List, ◌∷◌, ◌++◌, [], false, string_bytes, IfOk, Ok};
-ghost use Rattle.smx_text.specs.Grammar.{ReadsAny};
-ghost use Rattle.smx_text.specs.TranscriptText.{transcript_grammar};
+ghost use Rattle.std.specs.Prelude.{◌≡◌, ◌∷◌, ◌++◌, [], false, string_bytes, IfOk};
 ghost use Rattle.smx_words.specs.Words.{LINE_FEED, SPACE};
 ghost use Rattle.smx_filters.specs.CheckText.{ChecksText, checking, judged_of, verdict_line};
 ghost use Rattle.smx_filters.specs.Filters.{Answers};
 
 use crate::device::{Feed, Sink};
 use crate::input::read_all;
+use crate::judged_transcript::JudgedTranscript;
 use crate::main_fault::MainFault;
 use crate::output::write_all;
-use smx_config::{Verdict, check_history};
-use smx_text::read_transcript;
-use smx_types::Transcript;
+use smx_config::Verdict;
+use smx_text::take_transcript;
 use std::alloc::{AllocError, Global};
 
 /// Reads the transcript that `feed` has, judges it, and writes the line of the verdict to `sink`:
@@ -40,23 +38,12 @@ pub fn check_text<F: Feed, S: Sink>(
     Ok(verdict)
 }
 
-// The verdict on the transcript that the input spells, and its line.
+// The verdict on the transcript that the input spells, and its line. Each entry is judged as its line is read.
 fn judge(alloc: Global, input: &[u8]) -> Result<(Verdict, String), MainFault>
     ensures { Answers checking input.now (judged_of result) }
 {
-    let transcript = read_transcript(alloc, input)?;
-    judged(alloc, &transcript)
-}
-
-// The same of the transcript that was read.
-fn judged(alloc: Global, transcript: &Transcript) -> Result<(Verdict, String), MainFault>
-    ensures { (input : List ℕ) → ReadsAny transcript_grammar input (Ok transcript.now)
-        → Answers checking input (judged_of result) }
-{
-    let drivers = transcript.drivers.as_slice();
-    let entries = transcript.entries.as_slice();
-    let verdict = check_history(alloc, drivers, entries, &transcript.view)?;
-    let line = verdict_line(alloc, entries.len(), verdict)?;
+    let (verdict, entries) = take_transcript::<JudgedTranscript>(alloc, (), input)??;
+    let line = verdict_line(alloc, entries, verdict)?;
     Ok((verdict, line))
 }
 

@@ -8,6 +8,7 @@ mod draw;
 mod explain;
 mod fronts_text;
 mod input;
+mod judged_transcript;
 pub mod laws_of_answers;
 pub mod laws_of_explained;
 pub mod laws_of_filters;

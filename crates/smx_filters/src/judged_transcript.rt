@@ -1,0 +1,58 @@
+//! A transcript that is judged while it is read.
+
+use smx_config::{ConfigFault, GrowingCheck, Verdict};
+use smx_text::TranscriptTaker;
+use smx_types::{ConfigView, DriverSpec, Entry, NoMemory, Version};
+use smx_words::entry_of;
+use std::alloc::Global;
+
+/// Judges each entry as its line is read, and keeps none. What it makes of all of them is the verdict, and how many they
+/// are, or why the transcript is refused.
+#[derive(Drop)]
+pub struct JudgedTranscript {
+    version: Version,
+    check: GrowingCheck,
+}
+
+impl TranscriptTaker for JudgedTranscript {
+    type With = ();
+
+    type Whole = Result<(Verdict, usize), ConfigFault>;
+
+    ghost use Rattle.smx_filters.specs.CheckText.{IsJudgedAs};
+
+    ghost taken = { λ j. record { version = j.version; drivers = j.check.drivers; entries = j.check.entries } };
+
+    ghost makes = { IsJudgedAs };
+
+    fn begin(alloc: Global, _with: (), version: Version) -> JudgedTranscript {
+        JudgedTranscript {
+            version,
+            check: GrowingCheck::new(alloc),
+        }
+    }
+
+    fn add_driver(&mut self, driver: DriverSpec) -> Result<(), NoMemory> {
+        self.check.add_driver(driver)
+    }
+
+    fn add_entry(&mut self, alloc: Global, line: &[u8]) -> Result<bool, NoMemory> {
+        match entry_of(alloc, self.version, line)? {
+            Some(Entry {
+                process,
+                command,
+                reply,
+            }) => {
+                self.check.add_entry(process, &command, &reply);
+                Ok(true)
+            }
+            None => Ok(false),
+        }
+    }
+
+    fn finish(self, view: ConfigView) -> Result<(Verdict, usize), ConfigFault> {
+        let entries = self.check.len();
+        let verdict = self.check.finish(&view)?;
+        Ok((verdict, entries))
+    }
+}
