@@ -166,7 +166,8 @@ can_tell_rest V2 = tt
 -- what stands alone in a line and can be told, and what can't
 abbrev pub TellsAlone : Version → List ℕ → Bool → Type 0
 TellsAlone v line r =
-    MatchBool r (IsLineOf (FitsReplyIn v) reply_words line) ((line ≢ codes "done") × (CanTell v true → line ≢ codes "eof")
+    MatchBool r (IsLineOf (FitsReplyIn v) reply_words line)
+    ((line ≢ codes "done") × (CanTell v true → line ≢ codes "eof")
     × ((f : Fault) → CanTell v (is_hung_up f) → line ≢ line_of (fault_words f)))
 
 -- a line that no verb and space begin is a reply that can be told where one that stands alone is

@@ -16,7 +16,7 @@ pub mod word;
 
 pub use call::call_of_line;
 pub use command::{command_in, command_of};
-pub use entry::entry_of;
+pub use entry::{call_and_reply_in, entry_of};
 pub use line::{driver_of, next_of, process_of};
 pub use pushing::push_command;
 pub use reply::is_reply_line;
