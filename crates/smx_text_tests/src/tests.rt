@@ -5,6 +5,7 @@ mod copies;
 mod driver_counts;
 mod entries;
 mod faults;
+mod line_parts;
 mod program_texts;
 mod spelling;
 mod split_texts;

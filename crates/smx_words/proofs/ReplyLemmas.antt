@@ -1,23 +1,27 @@
 -- The serials of a reply, and replies of one word or of a fault's.
-use Rattle.std.proofs.Common.{◌≡◌, ◌≢◌, Bool, ℕ, List, [], ◌∷◌, ◌++◌, map, Option, Some, None, Result, Ok}
+use Rattle.std.proofs.Common.{◌≡◌, ◌≢◌, Bool, true, false, ℕ, List, [], ◌∷◌, ◌++◌, map, Option, Some, None, Result, Ok}
 use Rattle.std.proofs.Common.{Err, refl, sym, ap, ◌∙◌, append_assoc, arith}
 use Rattle.std.specs.List.{AllByRecursion}
 use Rattle.std.specs.Fmt.{decimal}
 use Rattle.std.specs.Prelude.{codes, is_some, IfErr, IfOk, MatchBool, MatchOption, MatchResult}
+use Rattle.smx_types.specs.Versions.{is_hung_up}
 use Rattle.smx_types.specs.declared.reply.Fault.{Fault}
 use Rattle.smx_types.specs.declared.reply.Reply.{Reply}
 use Rattle.smx_types.specs.declared.reply.Reply.TheVariants as reply
 use Rattle.smx_words.specs.declared.reading.verb.ReplyVerb.{ReplyVerb}
 use Rattle.smx_words.specs.declared.reading.verb.ReplyVerb.TheVariants as reply_verb
 use Rattle.smx_words.specs.LineReading.{IsFoundIn, IsLineOf, IsReadAs}
-use Rattle.smx_words.specs.Spellable.{FitsAlways, FitsNumber, FitsReply, FitsSerials, FitsReplyIn}
+use Rattle.smx_words.specs.Spellable.{CanTell, FitsAlways, FitsNumber, FitsReply, FitsReplyIn, FitsSerials}
 use Rattle.smx_words.specs.Spelling.{fault_words, reply_words}
 use Rattle.smx_words.specs.Verbs.{reply_verb_word}
 use Rattle.smx_words.specs.Words.{SPACE, line_of}
 use Rattle.smx_words.proofs.CutLemmas.{apart, no_space_in}
+use Rattle.smx_words.proofs.DecidedLemmas.{one_line}
 use Rattle.smx_words.proofs.LineLemmas.{all_append}
 use Rattle.smx_words.proofs.NumberLemmas.{number_free, same_number}
-use Rattle.smx_types.specs.declared.version.Version.TheVariants.{V1}
+use Rattle.smx_words.proofs.SameWordLemmas.{every_fault}
+use Rattle.smx_types.specs.declared.version.Version.{Version}
+use Rattle.smx_types.specs.declared.version.Version.TheVariants.{V1, V2}
 
 -- the words of these serials, one or more
 abbrev pub Spell : List ℕ → List ℕ → Type 0
@@ -128,6 +132,22 @@ done_line rest h = by_serials h.0 h.1 h.2 where
 
 -- ---- a reply that stands alone
 
+-- a line that no verb and space begin is the line of no reply of some, where it is neither `done`, nor `eof` or a fault
+-- that are among these
+no_lone_reply : (Is : Reply → Type 0) (line : List ℕ)
+    → ((v : ReplyVerb) (after : List ℕ) → FitsAlways v → line ≢ reply_verb_word v ++ SPACE ∷ after)
+    → line ≢ codes "done" → (Is reply.Eof → line ≢ codes "eof")
+    → ((f : Fault) → Is (reply.Fault f) → line ≢ line_of (fault_words f))
+    → (x : Reply) → Is x → line ≢ line_of (reply_words x)
+no_lone_reply Is line none done end fault (reply.Fd fd minor) is e = none reply_verb.Fd _ tt e
+no_lone_reply Is line none done end fault (reply.Id id) is e = none reply_verb.Id _ tt e
+no_lone_reply Is line none done end fault (reply.Took serial) is e = none reply_verb.Took _ tt e
+no_lone_reply Is line none done end fault (reply.Got serial addr bytes) is e = none reply_verb.Got _ tt e
+no_lone_reply Is line none done end fault (reply.Done []) is e = done e
+no_lone_reply Is line none done end fault (reply.Done (n ∷ ns)) is e = none reply_verb.Done _ tt e
+no_lone_reply Is line none done end fault reply.Eof is e = end is e
+no_lone_reply Is line none done end fault (reply.Fault f) is e = fault f is e
+
 -- a line that no verb and space begin is `done`, `eof`, a fault, or no reply
 pub standing_alone : (line : List ℕ) (r : Option Reply)
     → ((v : ReplyVerb) (after : List ℕ) → FitsAlways v → line ≢ reply_verb_word v ++ SPACE ∷ after)
@@ -135,16 +155,37 @@ pub standing_alone : (line : List ℕ) (r : Option Reply)
     (λ x. FitsReply x × (line ≡ line_of (reply_words x)))
     → IsReadAs FitsReply reply_words line r
 standing_alone line (Some x) none found = found
-standing_alone line None none found = nothing where
-  nothing : (x : Reply) → FitsReply x → line ≢ line_of (reply_words x)
-  nothing (reply.Fd fd minor) fits e = none reply_verb.Fd _ tt e
-  nothing (reply.Id id) fits e = none reply_verb.Id _ tt e
-  nothing (reply.Took serial) fits e = none reply_verb.Took _ tt e
-  nothing (reply.Got serial addr bytes) fits e = none reply_verb.Got _ tt e
-  nothing (reply.Done []) fits e = found.0 e
-  nothing (reply.Done (n ∷ ns)) fits e = none reply_verb.Done _ tt e
-  nothing reply.Eof fits e = found.1 e
-  nothing (reply.Fault f) fits e = found.2 f e
+standing_alone line None none found =
+    no_lone_reply FitsReply line none found.0 (λ h. found.1) (λ f h. found.2 f)
+
+-- each version can tell what is not of a hangup
+pub can_tell_rest : (v : Version) → CanTell v false
+can_tell_rest V1 = refl
+can_tell_rest V2 = tt
+
+-- what stands alone in a line and can be told, and what can't
+abbrev pub TellsAlone : Version → List ℕ → Bool → Type 0
+TellsAlone v line r =
+    MatchBool r (IsLineOf (FitsReplyIn v) reply_words line)
+    ((line ≢ codes "done") × (CanTell v true → line ≢ codes "eof")
+    × ((f : Fault) → CanTell v (is_hung_up f) → line ≢ line_of (fault_words f)))
+
+-- a line that no verb and space begin is a reply that can be told where one that stands alone is
+pub told_alone : (v : Version) (line : List ℕ) (r : Bool)
+    → ((w : ReplyVerb) (after : List ℕ) → FitsAlways w → line ≢ reply_verb_word w ++ SPACE ∷ after)
+    → TellsAlone v line r
+    → MatchBool r (IsLineOf (FitsReplyIn v) reply_words line)
+    ((x : Reply) → FitsReplyIn v x → line ≢ line_of (reply_words x))
+told_alone v line true none found = found
+told_alone v line false none found =
+    no_lone_reply (FitsReplyIn v) line none found.0 (λ h. found.1 h.1) (λ f h. found.2 f h.1)
+
+-- a line of a fault that can't be told is the line of no fault that can
+pub no_told_fault : (v : Version) (line : List ℕ) (f : Fault) → line ≡ line_of (fault_words f)
+    → (CanTell v (is_hung_up f) → ⊥) → (g : Fault) → CanTell v (is_hung_up g) → line ≢ line_of (fault_words g)
+no_told_fault v line f is cannot g can e =
+    let same : f ≡ g = one_line every_fault f g tt tt (sym is ∙ e) in
+    cannot (rw same can)
 
 -- where memory was wanting for the last serial alone, the line is the words of serials
 pub last_wanted : {A E : Type 0} (line before rest : List ℕ) (r : Result A E) → AreThen line before rest

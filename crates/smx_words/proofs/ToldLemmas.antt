@@ -1,6 +1,6 @@
 -- What a version can tell.
 use Rattle.std.proofs.Common.{◌≡◌, ◌≢◌, Bool, true, false, ◌||◌, ℕ, List, Option, Some, None, ◌++◌, ◌∷◌, codes, refl}
-use Rattle.std.proofs.Common.{ap, subst, sym, ◌∙◌}
+use Rattle.std.proofs.Common.{ap, append_assoc, arith, subst, sym, ◌∙◌}
 use Rattle.std.specs.Fmt.{decimal}
 use Rattle.smx_types.specs.Versions.{is_hangup, is_of_hangup, tells_of_hangup}
 use Rattle.smx_types.specs.declared.command.Command.{Command}
@@ -8,13 +8,16 @@ use Rattle.smx_types.specs.declared.command.Entry.{Entry}
 use Rattle.smx_types.specs.declared.reply.Reply.{Reply}
 use Rattle.smx_types.specs.declared.version.Version.{Version}
 use Rattle.smx_types.specs.declared.version.Version.TheVariants.{V1, V2}
-use Rattle.smx_words.specs.LineReading.{IsLineOf, IsReadAs}
+use Rattle.smx_words.specs.LineReading.{AreParts, IsLineOf, IsNoEntryLine, IsReadAs}
 use Rattle.smx_words.specs.Spellable.{CanTell, FitsCall, FitsCallIn, FitsCommand, FitsCommandIn, FitsEntry}
-use Rattle.smx_words.specs.Spellable.{FitsEntryIn, FitsProcess, FitsReplyIn}
+use Rattle.smx_words.specs.Spellable.{FitsEntryIn, FitsNumber, FitsProcess, FitsReplyIn}
 use Rattle.smx_words.specs.Spelling.{call_words, command_words, entry_words, reply_words}
 use Rattle.smx_words.specs.Words.{SPACE, line_of}
-use Rattle.smx_words.proofs.EntryLemmas.{call_line, entry_is}
+use Rattle.smx_words.proofs.CutLemmas.{apart}
+use Rattle.smx_words.proofs.EntryLemmas.{call_line, each_side, entry_is, entry_line, free_command}
+use Rattle.smx_words.proofs.EntryLemmas.{sides_text}
 use Rattle.smx_words.proofs.LawLemmas.{one_call, one_command, one_entry}
+use Rattle.smx_words.proofs.NumberLemmas.{number_free}
 
 -- a line whose command can't be told is no told command's
 pub no_told_command : (v : Version) (line : List ℕ) (c : Command) → FitsCommand c → line ≡ line_of (command_words c)
@@ -90,6 +93,52 @@ told_entry_spelled v line rest command reply p process is sides c r =
     let all =
     told_entry_is v line rest command reply p c.0 r.0 process is sides (c.1, c.2) (r.1, r.2) entry refl in
     (entry, all.0, all.1)
+
+-- ---- the parts of an entry's line
+
+-- the line of a call and a text behind ` = ` is the process, a space, and the command's line and the text around ` = `
+call_text : (p : ℕ) (c : Command) (reply : List ℕ) → line_of (call_words (p, c)) ++ codes " = " ++ reply
+    ≡ decimal p ++ SPACE ∷ (line_of (command_words c) ++ codes " = " ++ reply)
+call_text p c reply = rw (call_line (p, c)) (simp append_assoc)
+
+-- a call that can be told and a text are the parts of the line that has them around ` = `
+pub parts_of : (v : Version) (line : List ℕ) (p : ℕ) (c : Command) (reply : List ℕ) → FitsCallIn v (p, c)
+    → line ≡ line_of (call_words (p, c)) ++ codes " = " ++ reply → AreParts v line p c reply
+parts_of v line p c reply fits is = record { call = fits; is = is; only = only } where
+  only : (e : Entry) → FitsEntryIn v e → line ≡ line_of (entry_words e) → reply ≡ line_of (reply_words e.reply)
+  only e told found =
+      let asked = line_of (command_words c) in
+      let small : FitsNumber p = omega (arith, fits.0.0) in
+      let own : FitsNumber e.process = omega (arith, told.0.process) in
+      let behind =
+      apart SPACE (decimal p) (decimal e.process) (asked ++ codes " = " ++ reply) (sides_text e) (number_free p small)
+      (number_free e.process own) (sym (is ∙ call_text p c reply) ∙ found ∙ entry_line e) in
+      (each_side (asked ++ codes " = " ++ reply) asked reply e told.0 (free_command c fits.0.1) refl behind.1).1
+
+-- a process, the line of a command that can be told, and what stands behind ` = `, are the parts of their line
+pub are_parts : (v : Version) (line rest command reply : List ℕ) (n p : ℕ) (c : Command) → p ≡ n → FitsProcess n
+    → line ≡ decimal n ++ SPACE ∷ rest → rest ≡ command ++ codes " = " ++ reply
+    → FitsCommandIn v c × (command ≡ line_of (command_words c)) → AreParts v line p c reply
+are_parts v line rest command reply n p c same process is sides asked =
+    let process_is = ap (λ (m : ℕ). decimal m ++ SPACE ∷ rest) (sym same) in
+    let whole : rest ≡ line_of (command_words c) ++ codes " = " ++ reply = rw (← asked.1) sides in
+    parts_of v line p c reply ((subst FitsProcess (sym same) process, asked.0.0), asked.0.1)
+    (is ∙ process_is ∙ ap (λ (x : List ℕ). decimal p ++ SPACE ∷ x) whole ∙ sym (call_text p c reply))
+
+-- the parts of a line of which the text is a reply's make the line of the entry of these
+pub entry_of_parts : (v : Version) (line : List ℕ) (p : ℕ) (c : Command) (reply : List ℕ) → AreParts v line p c reply
+    → (r : Reply) → FitsReplyIn v r → reply ≡ line_of (reply_words r)
+    → FitsEntryIn v (record { process = p; command = c; reply = r })
+    × (line ≡ line_of (entry_words (record { process = p; command = c; reply = r })))
+entry_of_parts v line p c reply parts r fits is =
+    let asked = line_of (command_words c) in
+    told_entry_is v line (asked ++ codes " = " ++ reply) asked reply p c r parts.call.0.0
+    (parts.is ∙ call_text p c reply) refl ((parts.call.0.1, parts.call.1), refl) (fits, is) _ refl
+
+-- a line with parts of which the text is no reply's is no entry's
+pub no_entry_of_parts : (v : Version) (line : List ℕ) (p : ℕ) (c : Command) (reply : List ℕ) → AreParts v line p c reply
+    → ((r : Reply) → FitsReplyIn v r → reply ≢ line_of (reply_words r)) → IsNoEntryLine v line
+no_entry_of_parts v line p c reply parts none = λ e fits is. none e.reply (reply_fits v e fits) (parts.only e fits is)
 
 -- ---- whether a line is a told command's, call's or entry's is decided
 

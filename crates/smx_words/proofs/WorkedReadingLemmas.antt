@@ -1,14 +1,14 @@
 -- Bytes that spell a number, a command or a call, and bytes that spell none.
 use Rattle.std.proofs.Common.{◌≡◌, ◌≢◌, true, ℕ, List, [], ◌∷◌, ◌++◌, refl, sym, ap, ◌∙◌, arith, rules}
 use Rattle.std.specs.Fmt.{decimal, digits}
-use Rattle.std.specs.Prelude.{codes}
+use Rattle.std.specs.Prelude.{codes, slice_index}
 use Rattle.std.specs.Str.Parse.{digits_value}
 use Rattle.std.proofs.lemmas.Fmt.{decimal_digit, digits_value-decimal}
 use Rattle.smx_types.specs.Versions.{is_hangup}
 use Rattle.smx_types.specs.declared.command.Command.{Command}
 use Rattle.smx_types.specs.declared.command.Command.TheVariants as command
 use Rattle.smx_types.specs.declared.version.Version.TheVariants.{V1, V2}
-use Rattle.smx_words.specs.LineReading.{IsCallLine, IsCommandLine}
+use Rattle.smx_words.specs.LineReading.{AreParts, IsCallLine, IsCommandLine}
 use Rattle.smx_words.specs.Spellable.{FitsCall, FitsCommand, FitsNumber}
 use Rattle.smx_words.specs.Spelling.{call_words, command_words, process_words}
 use Rattle.smx_words.specs.Words.{AreWords, SPACE, line_of}
@@ -18,6 +18,7 @@ use Rattle.smx_words.proofs.LawLemmas.{call_spelled, command_spelled}
 use Rattle.smx_words.proofs.LineLemmas.{same_words}
 use Rattle.smx_words.proofs.NumberLemmas.{number_free, own}
 use Rattle.smx_words.proofs.SameCommandLemmas.{verb_is, verb_of}
+use Rattle.smx_words.proofs.ToldLemmas.{parts_of}
 
 -- ---- numbers
 
@@ -176,3 +177,30 @@ no_call_with_reply (c, fits, e) =
     let same = told_call (codes "0" ∷ codes "dup" ∷ ws) c (search (rules, arith)) fits.0 e in
     let words : codes "dup" ∷ ws ≡ command_words c.1 = cc same in
     long_dup c.1 (verb_is c.1 verb.Dup ws words) words
+
+-- ---- the parts of a line
+
+-- `2 close 3 = EBADF fd` has the parts of an entry that version 1 can tell
+pub close_parts : AreParts V1 (codes "2 close 3 = EBADF fd") 2 (command.Close 3) (codes "EBADF fd")
+unfolding digits
+close_parts =
+    parts_of V1 (codes "2 close 3 = EBADF fd") 2 (command.Close 3) (codes "EBADF fd") (search (rules, arith)) refl
+
+-- `2 close 3 = ` has such parts, too, though its text is no reply's
+pub empty_parts : AreParts V1 (codes "2 close 3 = ") 2 (command.Close 3) []
+unfolding digits
+empty_parts = parts_of V1 (codes "2 close 3 = ") 2 (command.Close 3) [] (search (rules, arith)) refl
+
+-- `0 hangup ip 0 = done` has no parts that version 1 can tell
+pub no_early_parts : AreParts V1 (codes "0 hangup ip 0 = done") 0 (command.Hangup (codes "ip") 0) (codes "done") → ⊥
+no_early_parts parts = cc parts.call.1
+
+-- `eof` is not the text of `2 close 3 = done`
+pub no_other_text : AreParts V2 (codes "2 close 3 = done") 2 (command.Close 3) (codes "eof") → ⊥
+unfolding digits
+no_other_text parts = absurd (cc parts.is)
+
+-- 3 is not the process of `2 close 3 = done`
+pub no_other_process : AreParts V2 (codes "2 close 3 = done") 3 (command.Close 3) (codes "done") → ⊥
+unfolding digits
+no_other_process parts = let first : 50 ≡ 51 = ap (λ (xs : List ℕ). slice_index xs 0) parts.is in omega (arith, first)

@@ -1,9 +1,12 @@
 -- What a reader may answer. No reader is named.
-use Rattle.std.specs.Prelude.{◌≡◌, ◌≢◌, ℕ, List, [], ◌++◌, ◌∷◌, Bool, true, false, Option, Some, None, MatchOption}
+use Rattle.std.specs.Prelude.{◌≡◌, ◌≢◌, ℕ, List, [], ◌++◌, ◌∷◌, codes, Bool, true, false, Option, Some, None}
+use Rattle.std.specs.Prelude.{MatchOption}
 use denote.Ref.{Bor}
+use Rattle.smx_types.specs.declared.command.Command.{Command}
+use Rattle.smx_types.specs.declared.command.Entry.{Entry}
 use Rattle.smx_types.specs.declared.version.Version.{Version}
-use Rattle.smx_words.specs.Spellable.{FitsCallIn, FitsCommandIn}
-use Rattle.smx_words.specs.Spelling.{call_words, command_words}
+use Rattle.smx_words.specs.Spellable.{FitsCallIn, FitsCommandIn, FitsEntryIn}
+use Rattle.smx_words.specs.Spelling.{call_words, command_words, entry_words, reply_words}
 use Rattle.smx_words.specs.Words.{SPACE, line_of}
 
 -- a value that fits and that the bytes spell, or nothing where they spell none
@@ -46,6 +49,21 @@ IsCallLine version line = IsLineOf (FitsCallIn version) call_words line
 -- the line is the words of no call that this version can tell
 abbrev pub IsNoCallLine : Version → List ℕ → Type 0
 IsNoCallLine version line = IsReadAs (FitsCallIn version) call_words line None
+
+-- the line is the words of an entry that this version can tell
+abbrev pub IsEntryLine : Version → List ℕ → Type 0
+IsEntryLine version line = IsLineOf (FitsEntryIn version) entry_words line
+
+-- the line is the words of no entry that this version can tell
+abbrev pub IsNoEntryLine : Version → List ℕ → Type 0
+IsNoEntryLine version line = IsReadAs (FitsEntryIn version) entry_words line None
+
+-- the line is a call that this version can tell, and some text behind ` = `, which is the reply's where the line is
+-- an entry's
+pub record AreParts (version : Version) (line : List ℕ) (process : ℕ) (c : Command) (text : List ℕ) : Type 0 where
+  pub call : FitsCallIn version (process, c)
+  pub is : line ≡ line_of (call_words (process, c)) ++ codes " = " ++ text
+  pub only : (e : Entry) → FitsEntryIn version e → line ≡ line_of (entry_words e) → text ≡ line_of (reply_words e.reply)
 
 -- whether the line is the words of some value that fits, which then stands behind the others
 abbrev pub IsPushed : {X : Type 0} → (X → Type 0) → (X → List (List ℕ)) → List ℕ → List X → List X → Bool → Type 0

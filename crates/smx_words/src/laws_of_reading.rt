@@ -2,10 +2,12 @@
 
 ghost use denote.Ref.{Bor};
 ghost use Rattle.std.specs.Fmt.{decimal};
-ghost use Rattle.std.specs.Prelude.{◌≡◌, ℕ, List, [], ◌∷◌, Option, Some, None, true, false, codes};
+ghost use Rattle.std.specs.Prelude.{◌≡◌, ◌≢◌, ℕ, List, [], ◌∷◌, Option, Some, None, true, false, codes};
 ghost use Rattle.smx_types.specs.declared.command.Command.{Command};
+ghost use Rattle.smx_types.specs.declared.command.Command.TheVariants.{Close, Hangup};
 ghost use Rattle.smx_types.specs.declared.command.Entry.{Entry};
 ghost use Rattle.smx_types.specs.declared.driver.DriverSpec.{DriverSpec};
+ghost use Rattle.smx_types.specs.declared.reply.Reply.{Reply};
 ghost use Rattle.smx_types.specs.declared.version.Version.{Version};
 ghost use Rattle.smx_types.specs.declared.version.Version.TheVariants.{V1, V2};
 ghost use Rattle.smx_types.specs.declared.view.BindingLine.{BindingLine};
@@ -16,14 +18,15 @@ ghost use Rattle.smx_types.specs.declared.view.LinkLine.{LinkLine};
 ghost use Rattle.smx_types.specs.declared.view.MessageLine.{MessageLine};
 ghost use Rattle.smx_types.specs.declared.view.RouteLine.{RouteLine};
 ghost use Rattle.smx_words.specs.HexWords.{AreSet, IsValueOf};
-ghost use Rattle.smx_words.specs.LineReading.{BeginsWith, IsCallLine, IsCommandLine, IsFoundIn, IsPushed, IsReadAs};
-ghost use Rattle.smx_words.specs.LineReading.{IsSpelled};
+ghost use Rattle.smx_words.specs.LineReading.{AreParts, BeginsWith, IsCallLine, IsCommandLine, IsFoundIn};
+ghost use Rattle.smx_words.specs.LineReading.{IsNoEntryLine, IsPushed, IsReadAs, IsSpelled};
 ghost use Rattle.smx_words.specs.Spellable.{FitsDriver, FitsNumber, FitsCommand, FitsEntry, FitsNext};
 ghost use Rattle.smx_words.specs.Spellable.{FitsDescriptor, FitsLink, FitsBinding, FitsRoute, FitsMessage, FitsFull};
-ghost use Rattle.smx_words.specs.Spellable.{FitsAlways, FitsHung, FitsCommandIn, FitsEntryIn, FitsCallIn};
+ghost use Rattle.smx_words.specs.Spellable.{FitsAlways, FitsHung, FitsCommandIn, FitsEntryIn, FitsCallIn, FitsReplyIn};
 ghost use Rattle.smx_words.specs.Spelling.{driver_words, process_words, command_words, call_words, entry_words};
 ghost use Rattle.smx_words.specs.Spelling.{next_words, descriptor_words, link_words, bind_words, route_words};
-ghost use Rattle.smx_words.specs.Spelling.{message_words, full_words, hung_words};
+ghost use Rattle.smx_words.specs.Spelling.{message_words, full_words, hung_words, reply_words};
+ghost use Rattle.smx_words.specs.Words.{line_of};
 ghost use Rattle.smx_words.specs.WorkedWords.{a_or_a_b};
 
 /// Whatever bytes a line is, there is a right answer to whose words they are: a value that can be
@@ -106,6 +109,23 @@ pub fn which_lines_are_calls()
     ensures not_of_a_large_process { IsCallLine V2 (codes "64 dup 0") → ⊥ }
     ensures not_without_its_process { IsCallLine V2 (codes "dup 0") → ⊥ }
     ensures not_of_an_entry { IsCallLine V2 (codes "0 dup 0 = done") → ⊥ }
+{}
+
+/// The parts of a line are a call that its version can tell and a text behind an equals sign. The line is an entry's
+/// where that text is a reply's, and no entry's where it is none's.
+pub fn what_the_parts_of_a_line_are()
+    ensures parts { AreParts V1 (codes "2 close 3 = EBADF fd") 2 (Close 3) (codes "EBADF fd") }
+    ensures parts_of_none { AreParts V1 (codes "2 close 3 = ") 2 (Close 3) [] }
+    ensures not_of_a_hangup { AreParts V1 (codes "0 hangup ip 0 = done") 0 (Hangup (codes "ip") 0) (codes "done") → ⊥ }
+    ensures not_another_text { AreParts V2 (codes "2 close 3 = done") 2 (Close 3) (codes "eof") → ⊥ }
+    ensures not_another_process { AreParts V2 (codes "2 close 3 = done") 3 (Close 3) (codes "done") → ⊥ }
+    ensures entry { (v : Version) (line : List ℕ) (process : ℕ) (c : Command) (text : List ℕ) (r : Reply)
+        → AreParts v line process c text → FitsReplyIn v r → text ≡ line_of (reply_words r)
+        → FitsEntryIn v (record { process = process; command = c; reply = r })
+        × (line ≡ line_of (entry_words (record { process = process; command = c; reply = r }))) }
+    ensures no_entry { (v : Version) (line : List ℕ) (process : ℕ) (c : Command) (text : List ℕ)
+        → AreParts v line process c text → ((r : Reply) → FitsReplyIn v r → text ≢ line_of (reply_words r))
+        → IsNoEntryLine v line }
 {}
 
 /// A value that is pushed fits, is the one whose words the line is, and stands behind the others; where the line is the

@@ -1,15 +1,17 @@
 //! The words of an entry.
 
-ghost use Rattle.std.specs.Prelude.{◌≡◌, ◌≢◌, ◌++◌, List, ℕ, codes, None, MatchOption, IfOk, IfErr};
-ghost use Rattle.smx_words.specs.LineReading.{IsReadAs, IsCommandLine, IsLineOf};
+ghost use Rattle.std.specs.Prelude.{◌≡◌, ◌≢◌, ◌++◌, List, ℕ, codes, Some, None};
+ghost use Rattle.std.specs.Prelude.{MatchOption, IfOk, IfErr, OnErr};
+ghost use Rattle.smx_types.specs.declared.command.Command.{Command as AnyCommand};
+ghost use Rattle.smx_words.specs.LineReading.{AreParts, IsReadAs, IsCommandLine, IsEntryLine, IsLineOf, IsNoEntryLine};
 ghost use Rattle.smx_words.specs.Spellable.{FitsCommandIn, FitsEntryIn, FitsReplyIn};
 ghost use Rattle.smx_words.specs.Spelling.{command_words, entry_words, reply_words};
 ghost use Rattle.smx_words.specs.Words.{EQUALS, IsFree, line_of};
 
-use crate::reading::command::command_of;
+use crate::reading::command::{command_in, command_of};
 use crate::reading::cutting::{after, before, cut};
 use crate::reading::number::first_number;
-use crate::reading::reply::reply_of;
+use crate::reading::reply::{is_reply_line, reply_of};
 use smx_types::{Command, Entry, NoMemory, Process, Reply, Version};
 use std::alloc::Global;
 
@@ -17,7 +19,7 @@ use std::alloc::Global;
 /// line is such an entry's.
 pub fn entry_of(alloc: Global, version: Version, line: &[u8]) -> Result<Option<Entry>, NoMemory>
     ensures reading { IfOk result (IsReadAs (FitsEntryIn version) entry_words line.now) }
-    ensures wanted { IfErr result (λ _. IsLineOf (FitsEntryIn version) entry_words line.now) }
+    ensures wanted { IfErr result (λ _. IsEntryLine version line.now) }
 {
     let Some((number, rest)) = first_number(line) else {
         return Ok(None);
@@ -39,6 +41,45 @@ pub fn entry_of(alloc: Global, version: Version, line: &[u8]) -> Result<Option<E
     }
 }
 
+/// The process of an entry's line and the text of its reply; its command is written into a place where no command is
+/// yet, so that it is not moved. A message takes the room that is given, and leaves none there. Nothing only where the
+/// line is no entry's; where there is something, the line is an entry's exactly where that text is a reply's. Fails
+/// only for want of memory, and then the line is an entry's, and there is still no command in the place.
+#[inline(always)]
+pub fn call_and_reply_in<'a>(
+    read: &mut Option<Command>,
+    room: &mut Vec<u8>,
+    alloc: Global,
+    version: Version,
+    line: &'a [u8],
+) -> Result<Option<(Process, &'a [u8])>, NoMemory>
+    requires { read.old ≡ None }
+    ensures reading { IfOk result (λ o. MatchOption o (IsNoEntryLine version line.now)
+        (λ p. (c : AnyCommand) × (read.new ≡ Some c) × AreParts version line.now p.0 c p.1.now)) }
+    ensures wanted { IfErr result (λ _. IsEntryLine version line.now) }
+    ensures kept { OnErr result (read.new ≡ None) }
+{
+    let Some((number, rest)) = first_number(line) else {
+        return Ok(None);
+    };
+    let Some(process) = Process::new(number) else {
+        return Ok(None);
+    };
+    let Some((command, reply)) = sides(rest) else {
+        return Ok(None);
+    };
+    if let Err(error) = command_in(read, room, alloc, version, command) {
+        if is_reply_line(version, reply) {
+            return Err(error);
+        }
+        return Ok(None);
+    }
+    match read {
+        Some(_) => Ok(Some((process, reply))),
+        None => Ok(None),
+    }
+}
+
 // A command and a reply. Where memory is wanting for the command, the reply is still read, and has to be one.
 fn both(
     alloc: Global,
@@ -57,7 +98,8 @@ fn both(
     match command_of(alloc, version, command) {
         Ok(Some(command)) => with_reply(alloc, version, command, reply),
         Ok(None) => Ok(None),
-        Err(error) => unless_no_reply(error, alloc, version, reply),
+        Err(error) if is_reply_line(version, reply) => Err(error),
+        Err(_) => Ok(None),
     }
 }
 
@@ -76,24 +118,6 @@ fn with_reply(
     match reply_of(alloc, version, reply) {
         Ok(Some(reply)) => Ok(Some((command, reply))),
         Ok(None) => Ok(None),
-        Err(error) => Err(error),
-    }
-}
-
-// Want of memory for a command, where there is a reply.
-fn unless_no_reply(
-    error: NoMemory,
-    alloc: Global,
-    version: Version,
-    reply: &[u8],
-) -> Result<Option<(Command, Reply)>, NoMemory>
-    ensures reading { IfOk result (λ o. (o ≡ None) × ((r : _) → FitsReplyIn version r
-        → reply.now ≢ line_of (reply_words r))) }
-    ensures wanted { IfErr result (λ _. IsLineOf (FitsReplyIn version) reply_words reply.now) }
-{
-    match reply_of(alloc, version, reply) {
-        Ok(None) => Ok(None),
-        Ok(Some(_)) => Err(error),
         Err(error) => Err(error),
     }
 }

@@ -1,9 +1,11 @@
 //! The words of a reply.
 
-ghost use Rattle.std.specs.Prelude.{◌≡◌, ◌≢◌, ◌∷◌, ◌++◌, [], ℕ, List, codes, None, map, MatchBool, MatchOption};
+ghost use Rattle.std.specs.Prelude.{◌≡◌, ◌≢◌, ◌∷◌, ◌++◌, [], ℕ, List, codes, None, map, true, MatchBool, MatchOption};
 ghost use Rattle.std.specs.Prelude.{MatchResult, IfOk, IfErr};
 ghost use Rattle.std.specs.Fmt.{decimal};
 ghost use Rattle.smx_types.specs.Versions.{tells_of_hangup};
+ghost use Rattle.smx_types.specs.declared.reply.Reply.{Reply as AnyReply};
+ghost use Rattle.smx_types.specs.declared.reply.Reply.TheVariants.{Fault as FaultReply};
 ghost use Rattle.smx_types.specs.declared.version.Version.TheVariants.{V1};
 ghost use Rattle.smx_words.specs.LineReading.{IsReadAs, IsLineOf};
 ghost use Rattle.smx_words.specs.Spellable.{CanTell, FitsAlways, FitsNumber, FitsReply, FitsReplyIn, FitsSerials};
@@ -12,7 +14,7 @@ ghost use Rattle.smx_words.specs.Verbs.{reply_verb_word};
 ghost use Rattle.smx_words.specs.Words.{line_of};
 
 use crate::reading::cutting::{after, is};
-use crate::reading::hex_word::number_and_bytes;
+use crate::reading::hex_word::{number_and_bytes, spells_bytes};
 use crate::reading::number::{first_number, number, pair};
 use crate::reading::verb::{ReplyVerb, first_reply_verb};
 use smx_types::{Fault, NoMemory, Reply, Serials, Version};
@@ -29,6 +31,124 @@ pub fn reply_of(alloc: Global, version: Version, line: &[u8]) -> Result<Option<R
             Some(reply) => Ok(told(version, reply)),
             None => Ok(None),
         },
+    }
+}
+
+/// Whether a line is the words of a reply that a version can tell. Takes no memory.
+pub fn is_reply_line(version: Version, line: &[u8]) -> bool
+    ensures { MatchBool result (IsLineOf (FitsReplyIn version) reply_words line.now)
+        ((r : AnyReply) → FitsReplyIn version r → line.now ≢ line_of (reply_words r)) }
+{
+    match first_reply_verb(line) {
+        Some((verb, rest)) => is_reply_after(verb, rest),
+        None => is_lone_reply(version, line),
+    }
+}
+
+// Whether a verb and what stands behind it are a reply.
+fn is_reply_after(verb: ReplyVerb, rest: &[u8]) -> bool
+    ensures { MatchBool result
+        (IsLineOf (FitsReplyIn V1) reply_words (line_of (reply_verb_word verb ∷ rest.now ∷ [])))
+        ((r : AnyReply) → FitsReply r → line_of (reply_verb_word verb ∷ rest.now ∷ []) ≢ line_of (reply_words r)) }
+{
+    match verb {
+        ReplyVerb::Fd => is_fd(rest),
+        ReplyVerb::Id => is_id(rest),
+        ReplyVerb::Took => is_took(rest),
+        ReplyVerb::Got => is_got(rest),
+        ReplyVerb::Done => is_done(rest),
+    }
+}
+
+#[inline(always)]
+fn is_fd(rest: &[u8]) -> bool
+    ensures { MatchBool result (IsLineOf (FitsReplyIn V1) reply_words (line_of (codes "fd" ∷ rest.now ∷ [])))
+        ((r : AnyReply) → FitsReply r → line_of (codes "fd" ∷ rest.now ∷ []) ≢ line_of (reply_words r)) }
+{
+    match pair(rest) {
+        Some(_) => true,
+        None => false,
+    }
+}
+
+#[inline(always)]
+fn is_id(rest: &[u8]) -> bool
+    ensures { MatchBool result (IsLineOf (FitsReplyIn V1) reply_words (line_of (codes "id" ∷ rest.now ∷ [])))
+        ((r : AnyReply) → FitsReply r → line_of (codes "id" ∷ rest.now ∷ []) ≢ line_of (reply_words r)) }
+{
+    match number(rest) {
+        Some(_) => true,
+        None => false,
+    }
+}
+
+#[inline(always)]
+fn is_took(rest: &[u8]) -> bool
+    ensures { MatchBool result (IsLineOf (FitsReplyIn V1) reply_words (line_of (codes "took" ∷ rest.now ∷ [])))
+        ((r : AnyReply) → FitsReply r → line_of (codes "took" ∷ rest.now ∷ []) ≢ line_of (reply_words r)) }
+{
+    match number(rest) {
+        Some(_) => true,
+        None => false,
+    }
+}
+
+#[inline(always)]
+fn is_got(rest: &[u8]) -> bool
+    ensures { MatchBool result (IsLineOf (FitsReplyIn V1) reply_words (line_of (codes "got" ∷ rest.now ∷ [])))
+        ((r : AnyReply) → FitsReply r → line_of (codes "got" ∷ rest.now ∷ []) ≢ line_of (reply_words r)) }
+{
+    let Some((_, rest)) = first_number(rest) else {
+        return false;
+    };
+    let Some((_, rest)) = first_number(rest) else {
+        return false;
+    };
+    if spells_bytes(rest) {
+        return true;
+    }
+    false
+}
+
+fn is_done(rest: &[u8]) -> bool
+    ensures { MatchBool result (IsLineOf (FitsReplyIn V1) reply_words (line_of (codes "done" ∷ rest.now ∷ [])))
+        ((r : AnyReply) → FitsReply r → line_of (codes "done" ∷ rest.now ∷ []) ≢ line_of (reply_words r)) }
+{
+    if are_serials(rest) {
+        return true;
+    }
+    false
+}
+
+// Whether a line is a reply that stands alone and that a version can tell: nothing dropped, end of file, or a fault.
+fn is_lone_reply(version: Version, line: &[u8]) -> bool
+    ensures { MatchBool result (IsLineOf (FitsReplyIn version) reply_words line.now)
+        ((line.now ≢ codes "done") × (CanTell version true → line.now ≢ codes "eof")
+        × ((f : _) → CanTell version (tells_of_hangup (FaultReply f)) → line.now ≢ line_of (fault_words f))) }
+{
+    if is(line, b"done") {
+        return true;
+    }
+    if is(line, b"eof") {
+        return matches!(version, Version::V2);
+    }
+    let Some(fault) = fault_of(line) else {
+        return false;
+    };
+    if can_tell(version, fault) {
+        return true;
+    }
+    false
+}
+
+// Whether a version can tell a fault.
+fn can_tell(version: Version, fault: Fault) -> bool
+    ensures { MatchBool result (CanTell version (tells_of_hangup (FaultReply fault)))
+        (CanTell version (tells_of_hangup (FaultReply fault)) → ⊥) }
+{
+    match (version, fault) {
+        (Version::V1, Fault::HungUp) => false,
+        (Version::V1 | Version::V2, _) => true,
     }
 }
 

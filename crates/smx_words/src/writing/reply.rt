@@ -13,8 +13,8 @@ use super::number::{digit, last_two_digits, put_last, put_spaced};
 use super::word::{has_room, put_array, put_byte, put_text};
 use smx_types::{Fault, NoMemory, Reply};
 
-/// An equals sign between spaces, the words of a reply, and a line feed, behind `out`: the end of an entry's line. Where
-/// memory runs out, `out` may have a part of it.
+/// An equals sign between spaces, the words of a reply, and a line feed, behind `out`: the end of an entry's line.
+/// Where memory runs out, `out` may have a part of it.
 pub fn write_reply(out: &mut Vec<u8>, reply: &Reply) -> Result<(), NoMemory>
     ensures written { OnOk result (out.new.items
         ≡ out.old.items ++ codes " = " ++ line_of (reply_words reply.now) ++ LINE_FEED ∷ []) }
