@@ -14,11 +14,10 @@ use crate::config::Config;
 use crate::config_fault::ConfigFault;
 use crate::history::{gets_its_reply, verdict_of};
 use crate::past::Past;
-use crate::told_reply::ToldReply;
 use crate::verdict::Verdict;
 use smx_model::laws::one_entry_more;
 use smx_types::{
-    Command, ConfigView, DriverSpec, Drivers, Entries, Entry, NoMemory, Process,
+    Command, ConfigView, DriverSpec, Drivers, Entries, Entry, NoMemory, Process, Reply,
 };
 use std::alloc::Global;
 use std::marker::Model;
@@ -90,20 +89,19 @@ impl GrowingCheck {
         Ok(())
     }
 
-    /// The next entry, of this process and command, and of the reply that it is told to have. Nothing of it is kept. It is
-    /// judged, unless one before it was illegal or something failed; its reply is asked for nothing else. Before the first
-    /// one the drivers are judged.
-    pub fn add_entry<T: ToldReply>(&mut self, process: Process, command: &Command, told: T)
+    /// The next entry, of this process, command and reply, of which nothing is kept. It is judged, unless one before it
+    /// was illegal or something failed. Before the first one the drivers are judged.
+    pub fn add_entry(&mut self, process: Process, command: &Command, reply: &Reply)
         requires few { length self.old.entries < MAX_COMMANDS }
         ensures { self.new ≡ with_entry self.old
-            (record { process = process; command = command.now; reply = T.told told }) }
+            (record { process = process; command = command.now; reply = reply.now }) }
     {
-        let entry = Past::<Entry>::new(&(process, command, &told));
         if self.count == 0 {
             self.stage.begin(self.alloc);
         }
         self.count += 1;
-        self.stage.judge(self.count, process, command, told);
+        self.stage.judge(self.count, process, command, reply);
+        let entry = Past::<Entry>::new(&(process, command, reply));
         self.entries = Past::new(&(&self.entries, &entry));
     }
 
@@ -152,15 +150,14 @@ impl CheckStage {
     }
 
     // Judges the next entry, which has this number, where nothing was wrong before.
-    #[inline(always)]
-    fn judge<T: ToldReply>(&mut self, number: usize, process: Process, command: &Command, told: T)
+    fn judge(&mut self, number: usize, process: Process, command: &Command, reply: &Reply)
         ensures { (h : GivenHistory) → number ≡ length h.entries + 1 → is_begun self.old ≡ true
             → IsJudged h self.old → IsJudged (with_entry h
-            (record { process = process; command = command.now; reply = T.told told })) self.new }
+            (record { process = process; command = command.now; reply = reply.now })) self.new }
     {
         one_entry_more();
         match self {
-            CheckStage::Legal(config) => match gets_its_reply(config, process, command, told) {
+            CheckStage::Legal(config) => match gets_its_reply(config, process, command, reply) {
                 Ok(true) => {}
                 Ok(false) => self.reject(number),
                 Err(NoMemory) => self.fail(),

@@ -13,30 +13,28 @@ ghost use Rattle.smx_config.specs.Verdicts.{IsVerdict};
 
 use crate::config::Config;
 use crate::config_fault::ConfigFault;
-use crate::told_reply::{GivenReply, ToldReply};
 use crate::verdict::Verdict;
 use smx_model::laws::one_entry_more;
-use smx_types::{Command, ConfigView, DriverSpec, Entry, NoMemory, Process};
+use smx_types::{Command, ConfigView, DriverSpec, Entry, NoMemory, Process, Reply, Same};
 use std::alloc::Global;
 
-/// Gives the command of an entry again; whether it gets the reply that the entry is told to have.
-#[inline(always)]
-pub fn gets_its_reply<T: ToldReply>(
+/// Gives the command of an entry again; whether it gets the reply of the entry.
+pub fn gets_its_reply(
     config: &mut Config,
     process: Process,
     command: &Command,
-    told: T,
+    reply: &Reply,
 ) -> Result<bool, NoMemory>
     ensures drivers { config.new.drivers ≡ config.old.drivers }
     ensures next { IfOk result (λ _. config.new.configuration
         ≡ (step config.old.drivers config.old.configuration process command.now).0) }
     ensures same { IfOk result (λ same. IsTrue same
-        ↔ ((step config.old.drivers config.old.configuration process command.now).1 ≡ T.told told)) }
+        ↔ ((step config.old.drivers config.old.configuration process command.now).1 ≡ reply.now)) }
 {
     let answer = config.step(process, command)?;
-    let same = told.is(&answer);
+    let same = answer.is_same(reply);
     config.take_back(answer);
-    same
+    Ok(same)
 }
 
 /// What is said of a history that is legal, and behind which this is the configuration.
@@ -63,8 +61,7 @@ fn first_illegal(config: &mut Config, entries: &[Entry]) -> Result<Option<usize>
 {
     one_entry_more();
     for (i, entry) in entries.iter().enumerate() {
-        let told = GivenReply { reply: &entry.reply };
-        if !gets_its_reply(config, entry.process, &entry.command, told)? {
+        if !gets_its_reply(config, entry.process, &entry.command, &entry.reply)? {
             return Ok(Some(i + 1));
         }
     }

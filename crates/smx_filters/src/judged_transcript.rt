@@ -2,8 +2,8 @@
 
 use smx_config::{ConfigFault, GrowingCheck, Verdict};
 use smx_text::TranscriptTaker;
-use smx_types::{ConfigView, DriverSpec, Entry, NoMemory, Version};
-use smx_words::entry_of;
+use smx_types::{Command, ConfigView, DriverSpec, NoMemory, Version};
+use smx_words::{call_and_reply_in, reply_of};
 use std::alloc::Global;
 
 /// Judges each entry as its line is read, and keeps none. What it makes of all of them is the verdict, and how many they
@@ -12,6 +12,8 @@ use std::alloc::Global;
 pub struct JudgedTranscript {
     version: Version,
     check: GrowingCheck,
+    // Where the bytes of each message are read to, in turn.
+    room: Vec<u8>,
 }
 
 impl TranscriptTaker for JudgedTranscript {
@@ -29,6 +31,7 @@ impl TranscriptTaker for JudgedTranscript {
         JudgedTranscript {
             version,
             check: GrowingCheck::new(alloc),
+            room: Vec::new(alloc),
         }
     }
 
@@ -37,17 +40,20 @@ impl TranscriptTaker for JudgedTranscript {
     }
 
     fn add_entry(&mut self, alloc: Global, line: &[u8]) -> Result<bool, NoMemory> {
-        match entry_of(alloc, self.version, line)? {
-            Some(Entry {
-                process,
-                command,
-                reply,
-            }) => {
-                self.check.add_entry(process, &command, &reply);
-                Ok(true)
-            }
-            None => Ok(false),
+        let version = self.version;
+        let mut read = None;
+        let parts = call_and_reply_in(&mut read, &mut self.room, alloc, version, line)?;
+        let (Some((process, told)), Some(command)) = (parts, &read) else {
+            return Ok(false);
+        };
+        let Some(reply) = reply_of(alloc, version, told)? else {
+            return Ok(false);
+        };
+        self.check.add_entry(process, command, &reply);
+        if let Some(Command::Write { bytes, .. } | Command::Inject { bytes, .. }) = read {
+            self.room = bytes.into_vec();
         }
+        Ok(true)
     }
 
     fn finish(self, view: ConfigView) -> Result<(Verdict, usize), ConfigFault> {

@@ -249,7 +249,7 @@ group_answers_at {stage = stage} {h = h} {view = view} same k begun group room o
     subst (λ (d : TranscriptSoFar). IsBegun (grammar_of d) (lines d) → takes_it ≡ takes d k
     → FitsLine d.transcript.version k → AnswersLine (grammar_of d) (lines d) k (lines (so_far stage h (put new))) r)
     same (λ begun may fits.
-        group_answers (so_far stage h view) k begun group room other put old new x takes_it may is fits r ok err)
+    group_answers (so_far stage h view) k begun group room other put old new x takes_it may is fits r ok err)
     begun may fits
 
 -- before its first line, a text is the beginning of some allowed transcript

@@ -13,7 +13,7 @@ pub use reading::word::{driver_kind, link_kind, name, side, sides, which};
 pub use reading::{
     bind_of, call_and_reply_in, call_of_line, command_in, command_of, descriptor_of, driver_of,
     entry_of, full_of, hung_of, is_reply_line, link_of, message_of, next_of, process_of,
-    push_command, route_of,
+    push_command, reply_of, route_of,
 };
 pub use writing::{
     Spell, write_entry, write_entry_of_line, write_lines, write_next, write_process, write_reply,

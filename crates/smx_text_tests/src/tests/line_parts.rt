@@ -1,8 +1,8 @@
 //! The parts of an entry's line, whether a text is a reply's, and the text of a reply.
 
-use smx_types::{Command, Fault, Process, Reply, Serials, Version};
+use smx_types::{Command, Fault, Reply, Serials, Version};
 use smx_words::{call_and_reply_in, first_place, is_reply_line, write_reply};
-use std::alloc::Global;
+use std::alloc::{AllocGlobal, Global};
 use std::mem::forget;
 use std::process::Abort;
 
@@ -65,42 +65,50 @@ fn other_texts_are_no_replies(rt: HostRuntime) {
     is_no_reply(&rt, b"EINVAL hangup");
 }
 
-#[test]
-fn a_line_has_parts(rt: HostRuntime) {
+// The process, the text and the command of a line of version 1 are these.
+fn has_parts(rt: &(impl AllocGlobal + Abort), line: &[u8], process: u32, fd: u32, text: &[u8]) {
     let mut read = None;
     let mut room = Vec::new(rt.alloc());
-    let parts = call_and_reply_in(
-        &mut read,
-        &mut room,
-        rt.alloc(),
-        Version::V1,
-        b"2 close 3 = any text",
+    let parts = call_and_reply_in(&mut read, &mut room, rt.alloc(), Version::V1, line);
+    let Ok(Some((found, reply))) = parts else {
+        rt.abort();
+    };
+    assert!(rt; found.get() == process);
+    assert!(rt; reply == text);
+    assert!(rt; read == Some(Command::Close { fd }));
+    forget(read);
+}
+
+#[test]
+fn a_line_has_parts(rt: HostRuntime) {
+    has_parts(&rt, b"2 close 3 = EBADF fd", 2, 3, b"EBADF fd");
+    has_parts(
+        &rt,
+        b"63 close 0 = any text = at all",
+        63,
+        0,
+        b"any text = at all",
     );
-    let (process, text) = parts.expect(&rt, "memory").expect(&rt, "parts");
-    assert!(rt; process == Process::new(2).expect(&rt, "a process"));
-    assert!(rt; text == b"any text".as_slice());
-    let command = read.expect(&rt, "a command");
-    assert!(rt; command == Command::Close { fd: 3 });
-    forget(command);
+    has_parts(&rt, b"0 close 15 = ", 0, 15, b"");
 }
 
 // There is memory, and the line is no entry's of version 1, whatever its reply is.
-fn has_no_parts(rt: &impl Abort, alloc: Global, line: &[u8]) {
+fn has_no_parts(rt: &(impl AllocGlobal + Abort), line: &[u8]) {
     let mut read = None;
-    let mut room = Vec::new(alloc);
-    let parts = call_and_reply_in(&mut read, &mut room, alloc, Version::V1, line);
-    assert!(rt; parts.expect(rt, "memory").is_none());
+    let mut room = Vec::new(rt.alloc());
+    let parts = call_and_reply_in(&mut read, &mut room, rt.alloc(), Version::V1, line);
+    assert!(rt; matches!(parts, Ok(None)));
     forget(read);
 }
 
 #[test]
 fn other_lines_have_none(rt: HostRuntime) {
-    has_no_parts(&rt, rt.alloc(), b"2 close 3");
-    has_no_parts(&rt, rt.alloc(), b"close 3 = done");
-    has_no_parts(&rt, rt.alloc(), b"64 close 3 = done");
-    has_no_parts(&rt, rt.alloc(), b"2 close = done");
-    has_no_parts(&rt, rt.alloc(), b"2 close 3 =done");
-    has_no_parts(&rt, rt.alloc(), b"2 hangup ip 0 = done");
+    has_no_parts(&rt, b"2 close 3");
+    has_no_parts(&rt, b"close 3 = done");
+    has_no_parts(&rt, b"64 close 3 = done");
+    has_no_parts(&rt, b"2 close = done");
+    has_no_parts(&rt, b"2 close 3 =done");
+    has_no_parts(&rt, b"2 hangup ip 0 = done");
 }
 
 // The reply adds this to the line of an entry.

@@ -1,7 +1,8 @@
 //! Entries that are taken while the text of their transcript is read.
 
 use smx_text::{
-    Cause, TakenTranscript, TextFault, Transcript, TranscriptTaker, take_transcript, write_transcript,
+    Cause, TakenTranscript, TextFault, Transcript, TranscriptTaker, take_transcript,
+    write_transcript,
 };
 use smx_types::{ConfigView, DriverSpec, NoMemory, Version};
 use std::alloc::Global;
@@ -96,7 +97,12 @@ const AT_FAULT: [(&[u8], usize, Cause, usize); 6] = [
         Cause::Form,
         1,
     ),
-    (b"transcript 1\n0 exit = done\n0 exit = eof\n", 3, Cause::Form, 1),
+    (
+        b"transcript 1\n0 exit = done\n0 exit = eof\n",
+        3,
+        Cause::Form,
+        1,
+    ),
     (
         b"transcript 1\n0 exit = done\nconfig\nnext 0 1\nend\nend\n",
         6,

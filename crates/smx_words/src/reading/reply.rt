@@ -20,7 +20,8 @@ use crate::reading::verb::{ReplyVerb, first_reply_verb};
 use smx_types::{Fault, NoMemory, Reply, Serials, Version};
 use std::alloc::Global;
 
-// The reply whose words a line is, if it is one's that a version can tell. Fails only for want of memory.
+/// The reply whose words a line is, if it is one's that a version can tell. Fails only for want of memory, and then the
+/// line is such a reply's.
 pub fn reply_of(alloc: Global, version: Version, line: &[u8]) -> Result<Option<Reply>, NoMemory>
     ensures reading { IfOk result (IsReadAs (FitsReplyIn version) reply_words line.now) }
     ensures wanted { IfErr result (λ _. IsLineOf (FitsReplyIn version) reply_words line.now) }

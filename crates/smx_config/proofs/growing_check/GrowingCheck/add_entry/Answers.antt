@@ -6,12 +6,12 @@ use Rattle.smx_config.proofs.growing_check.GrowingCheck.add_entry.Goals as goal
 use Rattle.smx_config.proofs.growing_check.GrowingCheck.add_entry.Goals.{then-self-eq0, else-self-eq0}
 
 pub invariant_of-self : goal.invariant_of-self
-invariant_of-self g c =
+invariant_of-self c =
     let now = c.if-self-eq0.self-inside in
     let before : GivenHistory =
     record { drivers = c.self.inside.drivers.value; entries = c.self.inside.entries.value } in
     let h : GivenHistory = record { drivers = now.drivers.value; entries = now.entries.value } in
-    let e : Entry = record { process = c.args.process; command = c.args.command.now; reply = g.T.ToldReply.told c.args.told } in
+    let e : Entry = record { process = c.args.process; command = c.args.command.now; reply = c.args.reply.now } in
     let ready : IsReady h now.stage now.count = elim c.if-self-eq0.branch [
       | then-self-eq0 w ↦
           let begun = w.begin.ensures before c.self.invariant.judged in

@@ -20,7 +20,10 @@ finish-requires g c =
 pub returns : goal.returns
 returns g c =
     let at = counted c.self.invariant c.self.view_is in
-    let ends = whole c.args.self c.requires.begun (search rules) in
-    (c.args.self.transcript, ends.0, ends.1,
-    subst (λ (d : TranscriptSoFar). g.T.TranscriptTaker.makes d.transcript c.finish.result) c.self.view_is
-    c.finish.ensures)
+    let ends = whole c.args.self c.requires.begun (search rules) in (
+      c.args.self.transcript,
+      ends.0,
+      ends.1,
+      subst (λ (d : TranscriptSoFar). g.T.TranscriptTaker.makes d.transcript c.finish.result) c.self.view_is
+          c.finish.ensures,
+    )
