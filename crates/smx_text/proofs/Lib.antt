@@ -1,4 +1,5 @@
 pub mod EachLemmas
+pub mod PlaceLemmas
 pub mod BodyLemmas
 pub mod LineWordLemmas
 pub mod ReadingLemmas

@@ -2,6 +2,7 @@
 
 ghost use Rattle.std.specs.Prelude.{◌≡◌, ◌≢◌, ◌<◌, ◌-◌, ◌^◌, ◌∷◌, ◌++◌, [], List, codes};
 ghost use Rattle.std.specs.Prelude.{IfOk, IfErr, MatchBool, MatchOption, OnOk};
+ghost use Rattle.memchr.specs.Find.{IsFirstByte, is_byte};
 ghost use Rattle.smx_types.specs.declared.version.Version.{Version as AnyVersion};
 ghost use Rattle.smx_text.specs.Grammar.{Grammar, IsBegun, IsOneLine, IsFault, MakesAny, header};
 ghost use Rattle.smx_text.specs.Grammar.{line_text};
@@ -9,8 +10,8 @@ ghost use Rattle.smx_words.specs.Words.{LINE_FEED};
 ghost use Rattle.smx_text.specs.Reading.{AnswersText, EndsAs, EndsText};
 
 use crate::text_fault::{Cause, TextFault};
+use memchr::memchr_iter;
 use smx_types::Version;
-use smx_words::first_place;
 use std::alloc::Global;
 
 // What the lines of a text say, as far as they were read.
@@ -68,8 +69,17 @@ pub fn next_line(bytes: &[u8]) -> Option<(&[u8], &[u8])>
     ensures next { MatchOption result (IsOneLine bytes.now)
         (λ x. IsOneLine x.0.now × (bytes.now ≡ x.0.now ++ LINE_FEED ∷ x.1.now)) }
 {
-    let at = first_place(b'\n', bytes)?;
+    let at = first_line_feed(bytes)?;
     Some((&bytes[..at], &bytes[at + 1..]))
+}
+
+// The place of the first line feed. The iterator over all of them looks at the next 32 bytes first, among which it
+// mostly is.
+#[inline(always)]
+fn first_line_feed(bytes: &[u8]) -> Option<usize>
+    ensures { IsFirstByte (is_byte LINE_FEED) bytes.now result }
+{
+    memchr_iter(b'\n', bytes).next()
 }
 
 // Whether a line is the last one of a text.

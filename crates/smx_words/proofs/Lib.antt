@@ -1,5 +1,4 @@
 pub mod WritingLemmas
-pub mod PlaceLemmas
 pub mod CutLemmas
 pub mod LineLemmas
 pub mod NumberLemmas

@@ -8,7 +8,6 @@ mod writing;
 
 pub use reading::hex_word::spells_bytes;
 pub use reading::number::number;
-pub use reading::place::first_place;
 pub use reading::word::{driver_kind, link_kind, name, side, sides, which};
 pub use reading::{
     bind_of, call_and_reply_in, call_of_line, command_in, command_of, descriptor_of, driver_of,

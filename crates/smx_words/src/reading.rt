@@ -7,7 +7,6 @@ mod entry;
 pub mod hex_word;
 mod line;
 pub mod number;
-pub mod place;
 mod pushing;
 mod reply;
 mod verb;

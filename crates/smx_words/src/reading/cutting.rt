@@ -3,14 +3,14 @@
 ghost use Rattle.std.specs.Prelude.{◌≡◌, ◌≢◌, ◌∷◌, ◌++◌, List, ℕ, IsTrue, ◌↔◌, MatchOption};
 ghost use Rattle.smx_words.specs.Words.{IsFree};
 
-use crate::reading::place::first_place;
+use memchr::memchr;
 
 // The bytes before the first separator, and those after it.
 pub fn cut(bytes: &[u8], separator: u8) -> Option<(&[u8], &[u8])>
     ensures { MatchOption result ((before after : List ℕ) → bytes.now ≢ before ++ separator ∷ after)
         (λ p. IsFree separator p.0.now × (bytes.now ≡ p.0.now ++ separator ∷ p.1.now)) }
 {
-    match first_place(separator, bytes) {
+    match memchr(separator, bytes) {
         None => None,
         Some(i) => Some((&bytes[..i], &bytes[i + 1..])),
     }
