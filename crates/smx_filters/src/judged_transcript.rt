@@ -42,8 +42,18 @@ impl TranscriptTaker for JudgedTranscript {
     fn add_entry(&mut self, alloc: Global, line: &[u8]) -> Result<bool, NoMemory> {
         let version = self.version;
         let mut read = None;
-        let parts = call_and_reply_in(&mut read, &mut self.room, alloc, version, line)?;
-        let (Some((process, told)), Some(command)) = (parts, &read) else {
+        let (process, told) = match call_and_reply_in(
+            &mut read,
+            &mut self.room,
+            alloc,
+            version,
+            line,
+        ) {
+            Ok(Some(parts)) => parts,
+            Ok(None) => return Ok(false),
+            Err(error) => return Err(error),
+        };
+        let Some(command) = &read else {
             return Ok(false);
         };
         let Some(reply) = reply_of(alloc, version, told)? else {

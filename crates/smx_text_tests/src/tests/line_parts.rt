@@ -1,17 +1,17 @@
 //! The parts of an entry's line, whether a text is a reply's, and the text of a reply.
 
 use smx_types::{Command, Fault, Reply, Serials, Version};
-use smx_words::{call_and_reply_in, first_place, is_reply_line, write_reply};
+use smx_words::{call_and_reply_in, is_reply_line, reply_of, write_reply};
 use std::alloc::{AllocGlobal, Global};
 use std::mem::forget;
 use std::process::Abort;
 
 #[test]
-fn a_byte_has_a_first_place(rt: HostRuntime) {
-    assert!(rt; first_place(b'=', b"2 close 3 = done = done") == Some(10));
-    assert!(rt; first_place(b'2', b"2 close 2") == Some(0));
-    assert!(rt; first_place(b'#', b"2 close 3 = done").is_none());
-    assert!(rt; first_place(b'=', b"").is_none());
+fn replies_are_read(rt: HostRuntime) {
+    let took = reply_of(rt.alloc(), Version::V1, b"took 7").expect(&rt, "memory");
+    assert!(rt; took == Some(Reply::Took { serial: 7 }));
+    let none = reply_of(rt.alloc(), Version::V1, b"eof").expect(&rt, "memory");
+    assert!(rt; none.is_none());
 }
 
 // Version 1 can tell it.
