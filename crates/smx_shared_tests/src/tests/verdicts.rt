@@ -1,9 +1,12 @@
 //! Verdicts on short transcripts, and on the most entries.
 
+use super::made::{clone_of, ip, numbered};
 use super::worked::is_judged;
-use smx_config::Verdict;
+use smx_config::{Config, ConfigFault, GrowingCheck, Verdict};
 use smx_samples::Part::{Each, Once};
 use smx_samples::{Part, text_of};
+use smx_types::{Command, Fault, Reply};
+use std::process::Abort;
 
 // What is said of a transcript. The 100,000th entry of the last two is the one that may be wrong.
 const JUDGED: [(&[Part], Verdict); 5] = [
@@ -43,4 +46,28 @@ fn on_short_transcripts_and_on_the_most_entries(rt: HostRuntime) {
         let text = text_of(rt.alloc(), *text).expect(&rt, "there is memory");
         is_judged(&rt, text.as_bytes(), *want);
     }
+}
+
+// What is said of four entries, one by one, of which the third has a wrong reply.
+fn verdict_on_four(rt: &(impl AllocGlobal + Abort)) -> Result<Verdict, ConfigFault> {
+    let mut check = GrowingCheck::new(rt.alloc());
+    check.add_driver(ip(rt, 4))?;
+    let process = numbered(rt, 2);
+    let refused = Reply::Fault(Fault::BadDescriptor);
+    check.add_entry(process, &clone_of(rt, "ip"), &Reply::Fd { fd: 0, minor: 0 });
+    check.add_entry(process, &Command::Close { fd: 1 }, &refused);
+    check.add_entry(process, &Command::Read { fd: 0 }, &refused);
+    check.add_entry(process, &Command::Close { fd: 1 }, &refused);
+    assert!(rt; check.len() == 4);
+    let shown = Config::new(rt.alloc(), &[])?.show()?;
+    check.finish(&shown)
+}
+
+#[test]
+fn on_entries_as_they_come(rt: HostRuntime) {
+    let verdict = match verdict_on_four(&rt) {
+        Ok(verdict) => verdict,
+        Err(_) => verdict_on_four(&rt).expect(&rt, "a verdict"),
+    };
+    assert!(rt; verdict == Verdict::Illegal { entry: 3 });
 }
