@@ -1,7 +1,7 @@
 -- What a filter says where nothing comes of the bytes that it read.
 use Rattle.std.proofs.Common.{◌≡◌, ◌≢◌, ℕ, zero, suc, false, List, Option, Some, None, Bool, Result, Ok, Err, String}
 use Rattle.std.proofs.Common.{Vec, sym, subst, rules, arith, inl}
-use Rattle.std.specs.Prelude.{IsErrAnd, IsErrOf}
+use Rattle.std.specs.Prelude.{IfErr, IsErrAnd, IsErrOf}
 use Rattle.std.specs.Global.{Global}
 use Rattle.std.specs.Io.KnownBytes.{Keeps}
 use Rattle.smx_types.specs.ProgramLists.{ProgramLists}
@@ -31,6 +31,11 @@ kept (Some bytes) = search rules
 -- an error is the one that it is
 fault_of : {T : Type 0} {e f : MainFault} → IsErrOf {T = T} (Err e) f → e ≡ f
 fault_of is = cc
+
+-- what holds anyway is so where an answer is an error
+pub if_err : {A E P : Type 0} (answer : Result A E) → P → IfErr answer (λ _. P)
+if_err (Ok x) p = tt
+if_err (Err e) p = p
 
 module _ {V K T : Type 0} (filter : Filter V K T) (had left : Option (List ℕ)) (ended : Bool) (failures : ℕ)
     (held : Option (List ℕ)) (flushed : Bool) (written : ℕ) (v : Vec ℕ Global) (read : List ℕ)

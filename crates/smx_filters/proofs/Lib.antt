@@ -1,6 +1,7 @@
 pub mod InputLemmas
 pub mod OutputLemmas
 pub mod FilterLemmas
+pub mod JudgedLemmas
 pub mod InMemoryLemmas
 pub mod FrontsTextLemmas
 pub mod ToldLemmas

@@ -60,9 +60,7 @@ impl TranscriptTaker for JudgedTranscript {
             return Ok(false);
         };
         self.check.add_entry(process, command, &reply);
-        if let Some(Command::Write { bytes, .. } | Command::Inject { bytes, .. }) = read {
-            self.room = bytes.into_vec();
-        }
+        keep_room(&mut self.room, read);
         Ok(true)
     }
 
@@ -70,5 +68,13 @@ impl TranscriptTaker for JudgedTranscript {
         let entries = self.check.len();
         let verdict = self.check.finish(&view)?;
         Ok((verdict, entries))
+    }
+}
+
+// Of a message that a command had its room is kept.
+#[inline(always)]
+fn keep_room(room: &mut Vec<u8>, read: Option<Command>) {
+    if let Some(Command::Write { bytes, .. } | Command::Inject { bytes, .. }) = read {
+        *room = bytes.into_vec();
     }
 }
