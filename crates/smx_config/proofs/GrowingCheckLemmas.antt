@@ -33,7 +33,8 @@ pub stays_first : (drivers : List DriverSpec) (es more : List Entry) (n : ℕ) �
     → IsFirstIllegal drivers (es ++ more) n
 stays_first drivers es more n h =
     let within = slice_get_within es h.before h.entry h.here in
-    let same : take h.before (es ++ more) ≡ take h.before es = take-append-le h.before es more (omega (arith, within)) in
+    let same : take h.before (es ++ more) ≡ take h.before es =
+    take-append-le h.before es more (omega (arith, within)) in
     record {
       before = h.before;
       counted = h.counted;

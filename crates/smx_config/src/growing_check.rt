@@ -106,7 +106,7 @@ impl GrowingCheck {
     }
 
     /// How many entries came. Takes no memory.
-    pub fn len(&self) -> usize
+    pub fn entry_count(&self) -> usize
         ensures { result ≡ length self.now.entries }
     {
         self.count

@@ -6,8 +6,8 @@ use smx_types::{Command, ConfigView, DriverSpec, NoMemory, Version};
 use smx_words::{call_and_reply_in, reply_of};
 use std::alloc::Global;
 
-/// Judges each entry as its line is read, and keeps none. What it makes of all of them is the verdict, and how many they
-/// are, or why the transcript is refused.
+/// Judges each entry as its line is read, and keeps none. What it makes of all of them is the verdict, and how many
+/// they are, or why the transcript is refused.
 #[derive(Drop)]
 pub struct JudgedTranscript {
     version: Version,
@@ -65,7 +65,7 @@ impl TranscriptTaker for JudgedTranscript {
     }
 
     fn finish(self, view: ConfigView) -> Result<(Verdict, usize), ConfigFault> {
-        let entries = self.check.len();
+        let entries = self.check.entry_count();
         let verdict = self.check.finish(&view)?;
         Ok((verdict, entries))
     }

@@ -58,7 +58,7 @@ fn verdict_on_four(rt: &(impl AllocGlobal + Abort)) -> Result<Verdict, ConfigFau
     check.add_entry(process, &Command::Close { fd: 1 }, &refused);
     check.add_entry(process, &Command::Read { fd: 0 }, &refused);
     check.add_entry(process, &Command::Close { fd: 1 }, &refused);
-    assert!(rt; check.len() == 4);
+    assert!(rt; check.entry_count() == 4);
     let shown = Config::new(rt.alloc(), &[])?.show()?;
     check.finish(&shown)
 }

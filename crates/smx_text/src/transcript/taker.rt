@@ -38,8 +38,8 @@ pub trait TranscriptTaker: Drop {
         ensures taken { OnOk result (taken self.new ≡ with_driver (taken self.old) driver) }
         ensures kept { OnErr result (taken self.new ≡ taken self.old) };
 
-    /// Takes the entry whose words a line is, as the last, if it is one's that the version can tell, and says whether it
-    /// is. Fails only for want of memory, and then the line is such an entry's, and nothing is taken.
+    /// Takes the entry whose words a line is, as the last, if it is one's that the version can tell, and says whether
+    /// it is. Fails only for want of memory, and then the line is such an entry's, and nothing is taken.
     fn add_entry(&mut self, alloc: Global, line: &[u8]) -> Result<bool, NoMemory>
         requires { length (taken self.old).entries < MAX_COMMANDS }
         ensures taken { IfOk result (IsEntryTaken line.now (taken self.old) (taken self.new)) }
