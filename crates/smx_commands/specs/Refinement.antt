@@ -20,6 +20,11 @@ abbrev pub Refines : Machine → Machine → ℕ → Command → Result Reply St
 Refines old new process command result =
     HasOutcome old new (outcome old.drivers old.configuration process command) result
 
+-- the answer of a command whose reply, if it is accepted, is written into a place
+abbrev pub answer_of : Result (Unit {0}) StepError → Reply → Result Reply StepError
+answer_of (Ok _) reply = Ok reply
+answer_of (Err e) _ = Err e
+
 -- the answer of a command that takes no memory, among those that may take some
 abbrev pub as_step_error : Result Reply Fault → Result Reply StepError
 as_step_error (Ok r) = Ok r

@@ -8,7 +8,7 @@ ghost use Rattle.smx_model.specs.DriverList.{max_of};
 ghost use Rattle.smx_model.specs.KeptConfigurations.{IsSound};
 ghost use Rattle.smx_model.specs.KnownStreams.{IsKnown};
 ghost use Rattle.smx_model.specs.Queues.{is_full};
-ghost use Rattle.smx_commands.specs.Refinement.{HasOutcome, Refines};
+ghost use Rattle.smx_commands.specs.Refinement.{HasOutcome, Refines, answer_of};
 ghost use Rattle.smx_commands.specs.declared.step_error.StepError.TheVariants as step_error;
 ghost use Rattle.smx_commands.specs.Sending.{is_at_end, may_send, read_from, received_from, sent_to};
 
@@ -48,10 +48,16 @@ impl Tables {
         refuse(Fault::Full, self.has_no_room(place))
     }
 
-    fn send_to(&mut self, place: Place, addr: u32, bytes: &Bytes) -> Result<Reply, StepError>
+    fn send_to(
+        &mut self,
+        place: Place,
+        addr: u32,
+        bytes: &Bytes,
+        reply: &mut Reply,
+    ) -> Result<(), StepError>
         requires { IsKnown self.old.drivers place.stream }
         ensures { HasOutcome self.old self.new
-            (send_outcome self.old.drivers self.old.configuration place addr bytes.now) result }
+            (send_outcome self.old.drivers self.old.configuration place addr bytes.now) (answer_of result reply.new) }
     {
         self.check_send(place, bytes)?;
         let bytes = self.lists.queues.copied_bytes(bytes.as_slice())?;
@@ -64,7 +70,8 @@ impl Tables {
         };
         arrive(&mut self.lists, place, message);
         self.lists.next_serial = serial + 1;
-        Ok(Reply::Took { serial })
+        *reply = Reply::Took { serial };
+        Ok(())
     }
 
     // A message that a command sends to a side of the stream that it names.
@@ -74,28 +81,30 @@ impl Tables {
         side: Side,
         addr: u32,
         bytes: &Bytes,
-    ) -> Result<Reply, StepError>
+        reply: &mut Reply,
+    ) -> Result<(), StepError>
         requires { IfOk named (IsKnown self.old.drivers) }
         ensures { HasOutcome self.old self.new
-            (sent_to self.old.drivers self.old.configuration named side addr bytes.now) result }
+            (sent_to self.old.drivers self.old.configuration named side addr bytes.now) (answer_of result reply.new) }
     {
         let stream = named?;
-        self.send_to(Place { stream, side }, addr, bytes)
+        self.send_to(Place { stream, side }, addr, bytes, reply)
     }
 
-    fn receive_from(&mut self, place: Place) -> Result<Reply, StepError>
+    fn receive_from(&mut self, place: Place, reply: &mut Reply) -> Result<(), StepError>
         ensures outcome { HasOutcome self.old self.new
-            (receive_outcome self.old.drivers self.old.configuration place) result }
+            (receive_outcome self.old.drivers self.old.configuration place) (answer_of result reply.new) }
         ensures in_place { result ≢ Err step_error.NoMemory }
     {
         let Some(message) = leave(&mut self.lists, place) else {
             return Err(StepError::Refused(Fault::Empty));
         };
-        Ok(Reply::Got {
+        *reply = Reply::Got {
             serial: message.serial,
             addr: message.addr,
             bytes: message.bytes,
-        })
+        };
+        Ok(())
     }
 
     /// Keeps the memory of a reply that nobody needs any more, for a message to come: that of the bytes that were got,
@@ -120,17 +129,22 @@ impl Tables {
 
     // The first message of the read side of the stream that a command names; the end of file, where that has hung up
     // and has none.
-    pub(crate) fn read(&mut self, named: Result<StreamId, Fault>) -> Result<Reply, StepError>
+    pub(crate) fn read(
+        &mut self,
+        named: Result<StreamId, Fault>,
+        reply: &mut Reply,
+    ) -> Result<(), StepError>
         ensures outcome { HasOutcome self.old self.new
-            (read_from self.old.drivers self.old.configuration named) result }
+            (read_from self.old.drivers self.old.configuration named) (answer_of result reply.new) }
         ensures in_place { result ≢ Err step_error.NoMemory }
     {
         let stream = named?;
         if self.is_at_end(stream) {
-            return Ok(Reply::Eof);
+            *reply = Reply::Eof;
+            return Ok(());
         }
         let side = Side::Read;
-        self.receive_from(Place { stream, side })
+        self.receive_from(Place { stream, side }, reply)
     }
 
     // The message that a command takes from a side of the stream that it names.
@@ -138,13 +152,14 @@ impl Tables {
         &mut self,
         named: Result<StreamId, Fault>,
         side: Side,
-    ) -> Result<Reply, StepError>
+        reply: &mut Reply,
+    ) -> Result<(), StepError>
         ensures outcome { HasOutcome self.old self.new
-            (received_from self.old.drivers self.old.configuration named side) result }
+            (received_from self.old.drivers self.old.configuration named side) (answer_of result reply.new) }
         ensures in_place { result ≢ Err step_error.NoMemory }
     {
         let stream = named?;
-        self.receive_from(Place { stream, side })
+        self.receive_from(Place { stream, side }, reply)
     }
 
     pub(crate) fn flush(

@@ -5,7 +5,7 @@ ghost use Rattle.smx_model.specs.KeptConfigurations.{IsSound};
 ghost use Rattle.smx_model.specs.KnownStreams.{IsKnown};
 ghost use Rattle.smx_commands.specs.declared.step_error.StepError.TheVariants as step_error;
 ghost use Rattle.smx_commands.specs.Machine.{takes_no_memory};
-ghost use Rattle.smx_commands.specs.Refinement.{Refines, as_step_error};
+ghost use Rattle.smx_commands.specs.Refinement.{Refines, answer_of, as_step_error};
 ghost use Rattle.smx_commands.specs.MessageStreams.{message_stream};
 
 use crate::step_error::StepError;
@@ -21,24 +21,62 @@ fn as_step_error(answer: Result<Reply, Fault>) -> Result<Reply, StepError>
     }
 }
 
+// Writes the reply of a command into its place, where there is one.
+#[inline(always)]
+fn put(reply: &mut Reply, answer: Result<Reply, StepError>) -> Result<(), StepError>
+    ensures { answer_of result reply.new ≡ answer }
+{
+    *reply = answer?;
+    Ok(())
+}
+
 impl Tables {
     /// Does a command of a process, before messages move on; it is told which stream the command sends to or takes
-    /// from. Where it is refused, or memory is wanting, nothing has changed; `dup`, `unbind`, `unroute`, `read`,
-    /// `transmit` and `hangup` take none.
+    /// from. Its reply is written in the place of another, so that it is not moved. Where it is refused, or memory is
+    /// wanting, nothing has changed; `dup`, `unbind`, `unroute`, `read`, `transmit` and `hangup` take none.
     #[inline(always)]
     pub fn perform(
         &mut self,
         process: Process,
         command: &Command,
         named: Result<StreamId, Fault>,
-    ) -> Result<Reply, StepError>
+        reply: &mut Reply,
+    ) -> Result<(), StepError>
         requires sound { IsSound self.old.drivers self.old.configuration }
         requires known { IfOk named (IsKnown self.old.drivers) }
         requires named { named ≡ message_stream self.old.drivers self.old.configuration process command.now }
-        ensures refines { Refines self.old self.new process command.now result }
+        ensures refines { Refines self.old self.new process command.now (answer_of result reply.new) }
         ensures in_place { IsTrue (takes_no_memory command.now) → result ≢ Err step_error.NoMemory }
     {
         match command {
+            Command::Write { addr, bytes, .. } => {
+                self.send(named, Side::Write, *addr, bytes, reply)
+            }
+            Command::Inject { addr, bytes, .. } => {
+                self.send(named, Side::Read, *addr, bytes, reply)
+            }
+            Command::Read { .. } => self.read(named, reply),
+            Command::Transmit { .. } => self.receive(named, Side::Write, reply),
+            _ => self.perform_any(process, command, named, reply),
+        }
+    }
+
+    // The same, of all commands. Apart: a function sets its locals to zero as it begins, and this one has many.
+    #[inline(never)]
+    fn perform_any(
+        &mut self,
+        process: Process,
+        command: &Command,
+        named: Result<StreamId, Fault>,
+        reply: &mut Reply,
+    ) -> Result<(), StepError>
+        requires sound { IsSound self.old.drivers self.old.configuration }
+        requires known { IfOk named (IsKnown self.old.drivers) }
+        requires named { named ≡ message_stream self.old.drivers self.old.configuration process command.now }
+        ensures refines { Refines self.old self.new process command.now (answer_of result reply.new) }
+        ensures in_place { IsTrue (takes_no_memory command.now) → result ≢ Err step_error.NoMemory }
+    {
+        let answer = match command {
             Command::OpenClone { driver } => self.open_clone(process, driver),
             Command::OpenMinor { driver, minor } => self.open_minor(process, driver, *minor),
             Command::Dup { fd } => self.dup(process, *fd),
@@ -56,12 +94,17 @@ impl Tables {
             Command::Unbind { fd } => as_step_error(self.unbind(process, *fd)),
             Command::Route { fd, addr, id } => self.route(process, *fd, *addr, *id),
             Command::Unroute { fd, addr } => as_step_error(self.unroute(process, *fd, *addr)),
-            Command::Write { addr, bytes, .. } => self.send(named, Side::Write, *addr, bytes),
-            Command::Read { .. } => self.read(named),
             Command::Flush { fd, sides } => self.flush(process, *fd, *sides),
-            Command::Inject { addr, bytes, .. } => self.send(named, Side::Read, *addr, bytes),
-            Command::Transmit { .. } => self.receive(named, Side::Write),
             Command::Hangup { driver, minor } => as_step_error(self.hangup(driver, *minor)),
-        }
+            Command::Write { addr, bytes, .. } => {
+                return self.send(named, Side::Write, *addr, bytes, reply);
+            }
+            Command::Inject { addr, bytes, .. } => {
+                return self.send(named, Side::Read, *addr, bytes, reply);
+            }
+            Command::Read { .. } => return self.read(named, reply),
+            Command::Transmit { .. } => return self.receive(named, Side::Write, reply),
+        };
+        put(reply, answer)
     }
 }

@@ -1,8 +1,8 @@
 //! The sequential configuration.
 
-ghost use Rattle.std.specs.Prelude.{◌≡◌, ◌↔◌, [], length, IfOk, IfErr, IsOk, IsErr, IsTrue};
+ghost use Rattle.std.specs.Prelude.{◌≡◌, ◌↔◌, [], length, IfOk, IfErr, IsOk, IsErr, IsTrue, OnOk, OnErr};
 ghost use Rattle.smx_types.specs.declared.reply.Fault.{Fault};
-ghost use Rattle.smx_types.specs.declared.reply.Reply.TheVariants as reply;
+ghost use Rattle.smx_types.specs.declared.reply.Reply.TheVariants as replies;
 ghost use Rattle.smx_model.specs.Commands.{outcome, step};
 ghost use Rattle.smx_model.specs.Configuration.{empty};
 ghost use Rattle.smx_model.specs.DriverList.{IsDriverList};
@@ -91,8 +91,32 @@ impl Config {
         ensures ok { IfOk result (λ r.
             step self.old.drivers self.old.configuration process command.now ≡ (self.new.configuration, r)) }
         // What changes nothing.
-        ensures fault { IfOk result (λ r. (f : Fault) → r ≡ reply.Fault f → self.new ≡ self.old) }
+        ensures fault { IfOk result (λ r. (f : Fault) → r ≡ replies.Fault f → self.new ≡ self.old) }
         ensures err { IfErr result (λ _. self.new ≡ self.old) }
+        // What is always answered.
+        ensures in_place { IsTrue (takes_no_memory command.now) → IsOk result }
+        ensures refused { IsErr (outcome self.old.drivers self.old.configuration process command.now) → IsOk result }
+    {
+        let mut reply = Reply::Eof;
+        self.step_in(process, command, &mut reply)?;
+        Ok(reply)
+    }
+
+    /// `step` with its reply written in the place of another, so that it is not moved. Where memory is wanting, any
+    /// reply may be there.
+    pub fn step_in(
+        &mut self,
+        process: Process,
+        command: &Command,
+        reply: &mut Reply,
+    ) -> Result<(), NoMemory>
+        // What it does.
+        ensures drivers { self.new.drivers ≡ self.old.drivers }
+        ensures ok { OnOk result (
+            step self.old.drivers self.old.configuration process command.now ≡ (self.new.configuration, reply.new)) }
+        // What changes nothing.
+        ensures fault { OnOk result ((f : Fault) → reply.new ≡ replies.Fault f → self.new ≡ self.old) }
+        ensures err { OnErr result (self.new ≡ self.old) }
         // What is always answered.
         ensures in_place { IsTrue (takes_no_memory command.now) → IsOk result }
         ensures refused { IsErr (outcome self.old.drivers self.old.configuration process command.now) → IsOk result }
@@ -103,15 +127,18 @@ impl Config {
         woken_marks_are_enough();
         let named = self.tables.message_stream(process, command);
         let wakes = wakes_of(&self.tables, process, command, named);
-        let answer = self.tables.perform(process, command, named);
+        let answer = self.tables.perform(process, command, named, reply);
         if answer.is_ok() {
             self.ways.forget_after(command);
             wake(&self.tables, &mut self.marks, wakes);
             settle(&mut self.tables, &mut self.marks, &mut self.ways);
         }
         match answer {
-            Ok(reply) => Ok(reply),
-            Err(StepError::Refused(fault)) => Ok(Reply::Fault(fault)),
+            Ok(()) => Ok(()),
+            Err(StepError::Refused(fault)) => {
+                *reply = Reply::Fault(fault);
+                Ok(())
+            }
             Err(StepError::NoMemory) => Err(NoMemory),
         }
     }
@@ -139,7 +166,7 @@ impl Config {
             step self.old.drivers self.old.configuration process command.now ≡ (self.new.configuration, r.0)) }
         ensures twice { IfOk result (λ r. r.1 ≡ r.0) }
         // What changes nothing.
-        ensures fault { IfOk result (λ r. (f : Fault) → r.0 ≡ reply.Fault f → self.new ≡ self.old) }
+        ensures fault { IfOk result (λ r. (f : Fault) → r.0 ≡ replies.Fault f → self.new ≡ self.old) }
         ensures err { IfErr result (λ _. self.new ≡ self.old) }
         // What is always answered.
         ensures in_place { IsTrue (takes_no_memory command.now)

@@ -31,7 +31,8 @@ pub fn gets_its_reply(
     ensures same { IfOk result (λ same. IsTrue same
         ↔ ((step config.old.drivers config.old.configuration process command.now).1 ≡ reply.now)) }
 {
-    let answer = config.step(process, command)?;
+    let mut answer = Reply::Eof;
+    config.step_in(process, command, &mut answer)?;
     let same = answer.is_same(reply);
     config.take_back(answer);
     Ok(same)

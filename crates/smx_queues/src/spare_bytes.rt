@@ -9,7 +9,7 @@ use std::alloc::Global;
 const SHORT_LEN: usize = 16;
 
 // How many vectors are kept at most.
-const MOST_KEPT: usize = 1024;
+const MOST_KEPT: usize = 4096;
 
 /// Vectors with room for a short message each. What they have is of messages that have gone: no clause speaks of it.
 #[derive(Debug, Drop)]

@@ -11,7 +11,7 @@ use crate::recorder::{NewRecorder, Recorder};
 use crate::run_fault::RunFault;
 use smx_config::Config;
 use smx_model::laws::one_entry_more;
-use smx_types::{Command, ConfigView, DriverSpec, NoMemory, Process, Version};
+use smx_types::{Command, ConfigView, DriverSpec, NoMemory, Process, Reply, Version};
 use std::alloc::Global;
 
 /// Where the commands of one process after the other are performed. The recorder is told of each, with its process and
@@ -86,18 +86,13 @@ impl<K: Recorder> Recording<K> {
     {
         one_entry_more();
         let process = self.process;
-        // Not by `?`, which moves the reply before its line is written.
-        let answer = self.config.step(process, command);
-        let outcome = match &answer {
-            Ok(reply) => match line {
-                Some(line) => self.recorder.add_line(process, command, line, reply),
-                None => self.recorder.add(process, command, reply),
-            },
-            Err(NoMemory) => Err(NoMemory),
+        let mut reply = Reply::Eof;
+        self.config.step_in(process, command, &mut reply)?;
+        let outcome = match line {
+            Some(line) => self.recorder.add_line(process, command, line, &reply),
+            None => self.recorder.add(process, command, &reply),
         };
-        if let Ok(reply) = answer {
-            self.config.take_back(reply);
-        }
+        self.config.take_back(reply);
         outcome
     }
 

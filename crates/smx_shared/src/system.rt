@@ -13,7 +13,7 @@ ghost use Rattle.smx_shared.specs.declared.shared_fault.ApplyFault.TheVariants.{
 use crate::keeper::Keeper;
 use crate::shared_fault::ApplyFault;
 use smx_config::{Config, ConfigFault};
-use smx_types::{Command, Copied, DriverSpec, Entries, Entry, NoMemory, Process};
+use smx_types::{Command, Copied, DriverSpec, Entries, Entry, NoMemory, Process, Reply};
 use std::alloc::Global;
 use std::marker::Model;
 
@@ -187,7 +187,8 @@ impl<K: Keeper> System<K> {
         ensures sound { IsSoundSystem self.new }
     {
         make_room(&mut self.kept, self.limit)?;
-        let mut reply = self.config.step(process, command)?;
+        let mut reply = Reply::Eof;
+        self.config.step_in(process, command, &mut reply)?;
         self.kept.add(process, command, line, &mut reply);
         self.config.take_back(reply);
         Ok(())
