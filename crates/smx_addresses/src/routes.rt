@@ -9,6 +9,7 @@ ghost use Rattle.smx_addresses.specs.Keys.{Key as AnyKey, is_key, left_of};
 ghost use Rattle.smx_addresses.specs.RouteLists.{is_route, IsRouteList};
 
 use crate::key::Key;
+use crate::spare_sets::SpareSets;
 use crate::targets::{Targets, drop_target, put_target};
 use indexmap::IndexMap;
 use smx_types::{NoMemory, Route};
@@ -22,6 +23,8 @@ pub struct Routes {
     ids: IndexMap<Key, u32>,
     // The routes to each link.
     targets: Targets,
+    // The sets of links that have gone.
+    spare_sets: SpareSets,
 }
 
 impl Model for Routes {
@@ -57,6 +60,7 @@ impl Routes {
         Routes {
             ids: IndexMap::new(alloc),
             targets: IndexMap::new(alloc),
+            spare_sets: SpareSets::new(alloc),
         }
     }
 
@@ -78,7 +82,7 @@ impl Routes {
     {
         let key = (driver, addr);
         self.ids.reserve(1)?;
-        put_target(&mut self.targets, id, key)?;
+        put_target(&mut self.targets, &mut self.spare_sets, id, key)?;
         if let Some(before) = self.ids.insert(key, id).unwrap() {
             if before != id {
                 drop_target(&mut self.targets, before, key);
@@ -104,6 +108,7 @@ impl Routes {
     {
         if let Some(keys) = self.targets.swap_remove(&id) {
             take_each(&mut self.ids, keys.as_slice());
+            self.spare_sets.keep(keys);
         }
     }
 
@@ -161,6 +166,7 @@ impl Routes {
         Ok(Routes {
             ids: self.ids.clone()?,
             targets: self.targets.clone()?,
+            spare_sets: SpareSets::new(*self.ids.allocator()),
         })
     }
 }

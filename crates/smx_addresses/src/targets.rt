@@ -5,14 +5,21 @@ ghost use Rattle.smx_addresses.specs.Keys.{Key as AnyKey};
 ghost use Rattle.smx_addresses.specs.Targets.{is_target, IsTargetSet};
 
 use crate::key::Key;
+use crate::spare_sets::SpareSets;
 use indexmap::{IndexMap, IndexSet};
 use smx_types::NoMemory;
 
 /// A set of keys under the id of each link that has had a route since it was made.
 pub type Targets = IndexMap<u32, IndexSet<Key>>;
 
-// One key more of a link, or the same where it has that.
-pub fn put_target(targets: &mut Targets, id: u32, key: Key) -> Result<(), NoMemory>
+// One key more of a link, or the same where it has that. A link that has none gets a set, in the memory of one that has
+// gone where any is kept.
+pub fn put_target(
+    targets: &mut Targets,
+    spare: &mut SpareSets,
+    id: u32,
+    key: Key,
+) -> Result<(), NoMemory>
     ensures ok { OnOk result (IsTargetSet targets.old.entries targets.new.entries id key true) }
     ensures err { OnErr result ((i : ℕ) (k : AnyKey) →
         is_target targets.new.entries i k ≡ is_target targets.old.entries i k) }
@@ -21,7 +28,7 @@ pub fn put_target(targets: &mut Targets, id: u32, key: Key) -> Result<(), NoMemo
         let _new = keys.insert(key)?;
         return Ok(());
     }
-    let mut keys = IndexSet::new(*targets.allocator());
+    let mut keys = spare.take(*targets.allocator())?;
     let _new = keys.insert(key)?;
     targets.insert(id, keys)?;
     Ok(())

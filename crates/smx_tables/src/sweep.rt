@@ -182,6 +182,31 @@ pub fn sweep_and_reply(drivers: &[DriverSpec], lists: &mut Lists, room: SweepRes
     }
 }
 
+/// Room for the serials of all messages, where no stream is touched. Fails only for want of memory.
+#[tactic(auto, using(crate::proofs::DropLemmas::none_dropped))]
+pub fn reserve_for_dropped(alloc: Global, lists: &Lists) -> Result<Vec<u32>, AllocError>
+    ensures room { IfOk result (λ r. HasRoom r lists.now.queues.flow) }
+    ensures none { IfOk result (λ r. AreDropped lists.now.queues.flow lists.now.queues.flow r.items) }
+{
+    Vec::with_capacity(alloc, lists.queues.len())
+}
+
+/// The same where the change touched no stream: nothing is to be swept.
+pub fn sweep_nothing_and_reply(drivers: &[DriverSpec], lists: &Lists, dropped: Vec<u32>) -> Reply
+    requires kept { KeepsHolds lists.now }
+    requires known { AreControllingKnown drivers.now lists.now.links.links }
+    requires touched { IsTouched lists.now.streams [] (configuration_of lists.now) }
+    ensures value { configuration_of lists.now ≡ after_sweep drivers.now (configuration_of lists.now) }
+    ensures reply { NamesDropped lists.now.queues.flow dropped.items lists.now.queues.flow result }
+{
+    lists.streams.is_sound();
+    sweeping_again_changes_nothing();
+    tells_existing(drivers, lists);
+    Reply::Done {
+        dropped: Serials::from_vec(rising(dropped)),
+    }
+}
+
 /// The same where the change touched this stream alone, whose driver is above no link: nothing goes but the stream,
 /// with what it holds. There is room for the serials of all messages.
 pub fn sweep_alone_and_reply(
