@@ -5,14 +5,14 @@ use Rattle.smx_shared.proofs.system.System.append.Goals as goal
 
 pub invariant_of-self-2 : goal.invariant_of-self-2
 invariant_of-self-2 g c =
-    let e : Entry = record { process = c.args.process; command = c.args.command.now; reply = c.in_ok-reply.reply } in
+    let e : Entry = record { process = c.args.process; command = c.args.command.now; reply = c.step_in.new.reply } in
     let old = c.self.inside in
     let told = g.K.Keeper.told in
     let added : told c.add.new.self ≡ told old.kept ++ e ∷ [] =
     rw (← c.in_ok-make_room.ensures.same) c.add.ensures in
-    let did = c.in_ok-reply.ensures in
+    let did = c.in_ok-step_in.ensures in
     rw c.take_back.ensures
-    (one_entry_more old.config c.step.new.self old.limit (told old.kept)
+    (one_entry_more old.config c.step_in.new.self old.limit (told old.kept)
     (told c.add.new.self) e c.self.invariant c.in_ok-make_room.ensures.below did.drivers did.ok added)
 
 pub returns-clause-sound : goal.returns-clause-sound
