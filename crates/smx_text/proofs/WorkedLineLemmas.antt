@@ -1,5 +1,5 @@
--- What is answered to a line behind those of idle programs.
-use Rattle.std.proofs.Common.{◌≡◌, List, [], ◌∷◌, ◌++◌, refl, sym, ap, subst, ◌∙◌, arith, rules}
+-- What is answered to a line behind those of idle programs, and which lines are those of worked entries.
+use Rattle.std.proofs.Common.{◌≡◌, ◌≢◌, ℕ, List, [], ◌∷◌, ◌++◌, refl, sym, ap, subst, ◌∙◌, arith, rules}
 use Rattle.std.proofs.Common.{append_assoc}
 use Rattle.std.specs.Prelude.{codes}
 use Rattle.std.specs.Fmt.{digits}
@@ -7,16 +7,24 @@ use Rattle.std.specs.List.{AllByRecursion}
 use Rattle.std.proofs.lemmas.List.{length-replicate}
 use Rattle.smx_types.specs.declared.command.Command.{Command}
 use Rattle.smx_types.specs.declared.command.Command.TheVariants as command
-use Rattle.smx_words.specs.Spellable.{FitsCommandIn}
-use Rattle.smx_words.specs.Spelling.{command_words}
+use Rattle.smx_types.specs.declared.command.Entry.{Entry}
+use Rattle.smx_types.specs.declared.reply.Reply.{Reply}
+use Rattle.smx_words.specs.Spellable.{FitsCommandIn, FitsEntryIn}
+use Rattle.smx_words.specs.Spelling.{command_words, entry_words, reply_words}
 use Rattle.smx_words.specs.Words.{line_of}
+use Rattle.smx_words.specs.declared.reading.verb.Verb.TheVariants as verb
+use Rattle.smx_words.proofs.LawLemmas.{entry_spelled, one_entry}
+use Rattle.smx_words.proofs.SameCommandLemmas.{verb_first, verb_of}
+use Rattle.smx_words.proofs.ToldLemmas.{no_told_entry}
 use Rattle.smx_text.specs.Grammar.{Grammar, GoesOn, IsBegun, IsFull, MayFollow, line_text}
 use Rattle.smx_text.specs.ProgramLines.{Line}
 use Rattle.smx_text.specs.ProgramsText.{FitsLine}
 use Rattle.smx_text.specs.Reading.{RefusesLine}
+use Rattle.smx_text.specs.WorkedHistories.{closed, hung_up}
 use Rattle.smx_text.specs.WorkedLines.{dup, grammar, idle, idle_lines, process}
 use Rattle.smx_text.specs.declared.text_fault.Cause.TheVariants as cause
 use Rattle.smx_types.specs.declared.version.Version.TheVariants.{V1, V2}
+use Rattle.smx_text.proofs.LineWordLemmas.{one_spelling}
 use Rattle.smx_text.proofs.ProgramsFollowLemmas.{stand_may}
 use Rattle.smx_text.proofs.ProgramsLemmas.{longer_begun, misplaced, too_many}
 
@@ -100,3 +108,48 @@ hangup_is = refl
 -- `hangup ip 0` can be spelled, and told in version 2
 pub hangup_fits : FitsCommandIn V2 hangup
 hangup_fits = search (rules, arith)
+
+-- ---- the lines of entries
+
+-- `0 close 0 = done` is the line of the words of this entry
+pub closed_is : codes "0 close 0 = done" ≡ line_of (entry_words closed)
+unfolding digits
+closed_is = refl
+
+-- this entry can be spelled, and told in version 1
+pub closed_fits : FitsEntryIn V1 closed
+closed_fits = search (rules, arith)
+
+-- `0 close 0 = done` is the line of no other entry
+pub only_closed : (e : Entry) → FitsEntryIn V1 e → codes "0 close 0 = done" ≡ line_of (entry_words e) → e ≡ closed
+only_closed e fits is = one_entry e closed fits.0 closed_fits.0 (sym is ∙ closed_is)
+
+-- no command and its reply have the words `close 0 =done`
+no_space : (c : Command) (r : Reply)
+    → codes "close" ∷ codes "0" ∷ codes "=done" ∷ [] ≢ command_words c ++ codes "=" ∷ reply_words r
+no_space c r e = by_verb c (verb_first c verb.Close _ _ e) e where
+  by_verb : (c : Command) → verb_of c ≡ verb.Close
+      → codes "close" ∷ codes "0" ∷ codes "=done" ∷ [] ≢ command_words c ++ codes "=" ∷ reply_words r
+  by_verb (command.Close n) v e = cc e
+  by_verb c v e = absurd (cc v)
+
+-- `0 close 0 =done` is the line of no entry
+pub misspelled : (e : Entry) → FitsEntryIn V1 e → codes "0 close 0 =done" ≢ line_of (entry_words e)
+misspelled e fits is =
+    let words : List (List ℕ) = codes "0" ∷ codes "close" ∷ codes "0" ∷ codes "=done" ∷ [] in
+    let same = one_spelling words (entry_words e) (search (rules, arith)) (entry_spelled e fits.0) is in
+    no_space e.command e.reply (cc same)
+
+-- `0 hangup ip 0 = done` is the line of the words of this entry
+pub hung_up_is : codes "0 hangup ip 0 = done" ≡ line_of (entry_words hung_up)
+unfolding digits
+hung_up_is = refl
+
+-- this entry can be spelled, and told in version 2
+pub hung_up_fits : FitsEntryIn V2 hung_up
+hung_up_fits = search (rules, arith)
+
+-- `0 hangup ip 0 = done` is the line of no entry that version 1 can tell
+pub no_early_hung_up : (e : Entry) → FitsEntryIn V1 e → codes "0 hangup ip 0 = done" ≢ line_of (entry_words e)
+no_early_hung_up =
+    no_told_entry V1 (codes "0 hangup ip 0 = done") hung_up hung_up_fits.0 hung_up_is (λ can. absurd (cc can))

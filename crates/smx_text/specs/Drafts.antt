@@ -31,16 +31,16 @@ pub record IsCountedHistory (h : TakenHistory) (version : Version) (drivers entr
   pub has_drivers : drivers ≡ length h.drivers
   pub has_entries : entries ≡ length h.entries
 
--- a transcript as far as it was read: which of its lines came last, and what all of them say
+-- a transcript that is being read: how far it was, and what the lines so far say
 pub record TranscriptSoFar : Type 0 where
   pub stage : Stage
   pub transcript : Transcript
 
--- a transcript of which this history was read, and of its view this, which doesn't count before the stage of the view
+-- a transcript of which this history was read, and this much of its view: the view doesn't count before its stage
 abbrev pub so_far : Stage → TakenHistory → ConfigView → TranscriptSoFar
 so_far stage history view = record { stage = stage; transcript = transcript_of history view }
 
--- the lines of a transcript behind its entries, as far as they were read
+-- the lines behind those of the entries, at this stage, where this much of the view was read
 abbrev pub shown : Stage → ConfigView → List TranscriptLine
 shown stage.History v = []
 shown stage.Config v = line.Config ∷ []

@@ -15,3 +15,4 @@ pub mod SplitPrograms
 pub mod WorkedTexts
 pub mod WorkedFaults
 pub mod WorkedLines
+pub mod WorkedHistories

@@ -9,7 +9,9 @@ ghost use Rattle.smx_types.specs.declared.version.Version.TheVariants.{V1, V2};
 ghost use Rattle.smx_text.specs.Growing.{IsPutLast};
 ghost use Rattle.smx_text.specs.ProgramLines.{Line};
 ghost use Rattle.smx_text.specs.Reading.{AnswersLine, AnswersText, EndsAs, EndsText, RefusesLine};
+ghost use Rattle.smx_text.specs.TakenHistories.{TakenHistory, IsEntryTaken, no_history, transcript_of, with_driver};
 ghost use Rattle.smx_text.specs.TranscriptText.{transcript_grammar};
+ghost use Rattle.smx_text.specs.WorkedHistories.{closed, eth, history, hung_up, idle_view, ip, opened};
 ghost use Rattle.smx_text.specs.WorkedLines.{dup, grammar, idle, idle_lines, process, refused, taken};
 ghost use Rattle.smx_text.specs.declared.text_fault.Cause.TheVariants as cause;
 
@@ -120,4 +122,37 @@ pub fn what_is_pushed_to_programs()
     ensures none { IsPutLast V1 (codes "hangup ip 0") ([] ∷ []) ([] ∷ []) false }
     ensures none_of_version_2 { IsPutLast V2 (codes "hangup ip 0") ([] ∷ []) ([] ∷ []) false → ⊥ }
     ensures not_yet_pushed { IsPutLast V1 (codes "hangup ip 0") ([] ∷ []) ((command.Dup 0 ∷ []) ∷ []) false → ⊥ }
+{}
+
+/// An entry whose words a line is comes behind all that was taken before, and nothing else changes, where the version
+/// can tell it; and of a line that is no such entry's nothing is taken.
+pub fn what_is_taken_of_a_transcript()
+    ensures taken { IsEntryTaken (codes "0 close 0 = done") (history V1 (opened ∷ []))
+        (history V1 (opened ∷ closed ∷ [])) true }
+    ensures nothing_else { (new : TakenHistory)
+        → IsEntryTaken (codes "0 close 0 = done") (history V1 (opened ∷ [])) new true
+        → new ≡ history V1 (opened ∷ closed ∷ []) }
+    ensures not_refused { (new : TakenHistory)
+        → IsEntryTaken (codes "0 close 0 = done") (history V1 (opened ∷ [])) new false → ⊥ }
+    ensures none { IsEntryTaken (codes "0 close 0 =done") (history V1 (opened ∷ [])) (history V1 (opened ∷ [])) false }
+    ensures not_misspelled { (new : TakenHistory)
+        → IsEntryTaken (codes "0 close 0 =done") (history V1 (opened ∷ [])) new true → ⊥ }
+    ensures unchanged { (line : List ℕ) (old new : TakenHistory) → IsEntryTaken line old new false → new ≡ old }
+    ensures none_of_version_1 { IsEntryTaken (codes "0 hangup ip 0 = done") (history V1 []) (history V1 []) false }
+    ensures not_in_version_1 { (new : TakenHistory)
+        → IsEntryTaken (codes "0 hangup ip 0 = done") (history V1 []) new true → ⊥ }
+    ensures of_version_2 { IsEntryTaken (codes "0 hangup ip 0 = done") (history V2 [])
+        (history V2 (hung_up ∷ [])) true }
+    ensures not_refused_in_version_2 { (new : TakenHistory)
+        → IsEntryTaken (codes "0 hangup ip 0 = done") (history V2 []) new false → ⊥ }
+{}
+
+/// A history begins with nothing, a driver comes behind the others, and a transcript is all of a history and the
+/// configuration that is shown behind it.
+pub fn what_a_taken_history_says()
+    ensures nothing { no_history V2 ≡ record { version = V2; drivers = []; entries = [] } }
+    ensures driver { with_driver (history V2 (opened ∷ [])) eth
+        ≡ record { version = V2; drivers = ip ∷ eth ∷ []; entries = opened ∷ [] } }
+    ensures whole { transcript_of (history V2 (opened ∷ closed ∷ [])) idle_view
+        ≡ record { version = V2; drivers = ip ∷ []; entries = opened ∷ closed ∷ []; view = idle_view } }
 {}

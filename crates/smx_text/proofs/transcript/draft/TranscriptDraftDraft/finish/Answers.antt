@@ -1,5 +1,4 @@
-use Rattle.std.proofs.Common.{refl, rules, subst, sym, ap, ◌∙◌}
-use Rattle.smx_types.specs.declared.transcript.Transcript.{Transcript}
+use Rattle.std.proofs.Common.{rules, subst, sym}
 use Rattle.smx_text.specs.Drafts.{TranscriptSoFar}
 use Rattle.smx_text.specs.TranscriptText.{IsAllowed}
 use Rattle.smx_text.proofs.TranscriptGrammarLemmas.{not_at_end}
