@@ -1,6 +1,7 @@
 //! How a worked history is tried. It is typed in as a transcript: its entries are legal, its commands get their replies
-//! from `step`, twice from `step_twin`, and from a system, and in the end just its view is shown, of a copy too. What
-//! wanted memory is asked again. What is large is given to `forget`, since a proof grows where such a value is dropped.
+//! from `step`, twice from `step_twin`, each in the place of the one before from `step_in`, and from a system, and in the
+//! end just its view is shown, of a copy too. What wanted memory is asked again. What is large is given to `forget`,
+//! since a proof grows where such a value is dropped.
 
 use super::made::{read, system_over, tells_of_want};
 use super::systems::plays;
@@ -59,6 +60,20 @@ fn steps_twice(rt: &(impl Abort + Print), config: &mut Config, entries: &[Entry]
     }
 }
 
+fn steps_in_place(rt: &(impl Abort + Print), config: &mut Config, entries: &[Entry]) {
+    let mut reply = Reply::Eof;
+    for number in 0..entries.len() {
+        let entry = &entries[number];
+        if let Err(_) = config.step_in(entry.process, &entry.command, &mut reply) {
+            tells_of_want(rt, "a step");
+            let again = config.step_in(entry.process, &entry.command, &mut reply);
+            again.expect(rt, "a reply");
+        }
+        assert!(rt; reply == entry.reply, "behind {number} entries");
+    }
+    forget(reply);
+}
+
 fn shown(rt: &impl Abort, config: &Config) -> ConfigView {
     match config.show() {
         Ok(view) => view,
@@ -85,12 +100,21 @@ fn copy_is_so(rt: &impl Abort, config: &Config, want: &Transcript) {
     forget(again);
 }
 
-fn by_steps(rt: &(impl AllocGlobal + Abort + Print), want: &Transcript, is_twin: bool) {
+// How the replies are asked for.
+#[derive(Clone, Copy)]
+enum Way {
+    OneByOne,
+    Twice,
+    InPlace,
+}
+
+fn by_steps(rt: &(impl AllocGlobal + Abort + Print), want: &Transcript, way: Way) {
     let mut config = config_over(rt, want.drivers.as_slice());
-    if is_twin {
-        steps_twice(rt, &mut config, want.entries.as_slice());
-    } else {
-        steps(rt, &mut config, want.entries.as_slice());
+    let entries = want.entries.as_slice();
+    match way {
+        Way::OneByOne => steps(rt, &mut config, entries),
+        Way::Twice => steps_twice(rt, &mut config, entries),
+        Way::InPlace => steps_in_place(rt, &mut config, entries),
     }
     is_so(rt, &config, want);
     copy_is_so(rt, &config, want);
@@ -121,8 +145,9 @@ pub fn is_judged(rt: &(impl AllocGlobal + Abort + Print), text: &[u8], want: Ver
     let all = read(rt, text);
     assert!(rt; verdict_on(rt, &all) == want, "of {} bytes", text.len());
     if want == Verdict::Legal {
-        by_steps(rt, &all, false);
-        by_steps(rt, &all, true);
+        by_steps(rt, &all, Way::OneByOne);
+        by_steps(rt, &all, Way::Twice);
+        by_steps(rt, &all, Way::InPlace);
         by_a_system(rt, &all);
     }
     forget(all);
