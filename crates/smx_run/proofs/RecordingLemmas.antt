@@ -1,24 +1,28 @@
 -- What a recorder was told is a report.
 use Rattle.std.proofs.Common.{◌≡◌, ℕ, ◌+◌, ◌≤◌, List, [], ◌∷◌, length, map, Result, Ok, Err, refl, sym, ap, subst}
 use Rattle.std.proofs.Common.{◌∙◌, arith}
-use Rattle.std.proofs.lemmas.List.{length-append, length-map}
+use Rattle.std.proofs.lemmas.List.{length-append, length-map, map-append}
 use Rattle.std.proofs.lemmas.List.Sums.{sum_by-cons}
 use Rattle.std.specs.List.{sum_by, AllZip}
-use Rattle.std.specs.Prelude.{IfErr, IsErrAnd}
+use Rattle.std.specs.Prelude.{◌++◌, IfErr, IsErrAnd, OnOk}
 use Rattle.smx_types.specs.ProgramLists.{ProgramLists, AreWithinLimits}
 use Rattle.smx_types.specs.declared.command.Command.{Command}
 use Rattle.smx_types.specs.declared.command.Entry.{Entry}
 use Rattle.smx_types.specs.declared.driver.DriverSpec.{DriverSpec}
 use Rattle.smx_types.specs.declared.limits.TheConstants.{MAX_COMMANDS}
+use Rattle.smx_types.specs.declared.reply.Reply.{Reply}
 use Rattle.smx_types.specs.declared.version.Version.{Version}
 use Rattle.smx_types.specs.declared.view.ConfigView.{ConfigView}
 use Rattle.smx_model.specs.DriverList.{IsDriverList}
 use Rattle.smx_model.specs.Headline.{IsReportOf}
+use Rattle.smx_model.specs.Commands.{step}
+use Rattle.smx_model.specs.Configuration.{Configuration}
 use Rattle.smx_model.specs.Histories.{after, call_of, HoldsPrograms, IsLegal}
 use Rattle.smx_model.specs.Views.{view}
 use Rattle.smx_config.specs.Machine.{Machine}
 use Rattle.smx_shared.specs.Recorded.{Recorded, IsSoundSystem}
-use Rattle.smx_run.specs.Recordings.{HasRecorded}
+use Rattle.smx_run.specs.Recordings.{HasRecorded, PerformedRecording}
+use Rattle.smx_run.specs.declared.recording.Recording.{Recording}
 use Rattle.smx_run.specs.ProgramOrder.{calls_of, calls_from}
 use Rattle.smx_run.specs.RecordedRuns.{IsRecordOf, IsRecordOfRun, IsRecordOfSources, KeepsAll, run_of}
 use Rattle.smx_run.specs.RunFaults.{RefusesAlone, RefusesRun}
@@ -27,6 +31,47 @@ use Rattle.smx_run.specs.declared.run_fault.RunFault.TheVariants as run
 use Rattle.smx_model.proofs.DropLemmas.{few_drop}
 use Rattle.smx_model.proofs.HistoryLemmas.{lawful_throughout}
 use Rattle.smx_run.proofs.ProgramOrderLemmas.{holds}
+
+-- ---- one command
+
+-- what follows where it is accepted, follows from what is known there
+pub on_ok : {A B : Type 0} {P Q : Type 0} (r : Result A B) → (P → Q) → OnOk r P → OnOk r Q
+on_ok (Ok x) f h = f h
+on_ok (Err e) f h = tt
+
+-- a command was performed, and the recorder was told of it and of its reply
+pub performed : {K : Type 0} (told : Version → List DriverSpec → List Entry → K → Type 0) (a : Recording K)
+    (command : Command) (m : Machine) (k : K) (r : Reply) → m.drivers ≡ a.config.drivers
+    → step a.config.drivers a.config.configuration a.process command ≡ (m.configuration, r)
+    → ((drivers : List DriverSpec) (history : List Entry) (e : Entry)
+    → after drivers (history ++ e ∷ []) ≡ (step drivers (after drivers history) e.process e.command).0)
+    → ((drivers : List DriverSpec) (history : List Entry) (e : Entry) → IsLegal drivers history
+    → (step drivers (after drivers history) e.process e.command).1 ≡ e.reply → IsLegal drivers (history ++ e ∷ []))
+    → ((version : Version) (drivers : List DriverSpec) (entries : List Entry)
+    → told version drivers entries a.recorder → told version drivers
+    (entries ++ record { process = a.process; command = command; reply = r } ∷ []) k)
+    → PerformedRecording told a (command ∷ []) (record { process = a.process; config = m; recorder = k })
+performed told a command m k r same did next legal tells = record {
+  process = refl;
+  drivers = same;
+  more = λ version asked h.
+      let e : Entry = record { process = a.process; command = command; reply = r } in
+      let ds = a.config.drivers in
+      let all = h.entries ++ e ∷ [] in
+      let here : step ds (after ds h.entries) a.process command ≡ (m.configuration, r) =
+      subst (λ (c : Configuration). step ds c a.process command ≡ (m.configuration, r)) h.now did in
+      record {
+        entries = all;
+        was_told = subst (λ (x : List DriverSpec). told version x all k) (sym same)
+            (tells version ds h.entries h.was_told);
+        legal = subst (λ (x : List DriverSpec). IsLegal x all) (sym same)
+            (legal ds h.entries e h.legal (ap (λ (x : Configuration × Reply). x.1) here));
+        now = subst (λ (x : List DriverSpec). m.configuration ≡ after x all) (sym same)
+            (sym (next ds h.entries e ∙ ap (λ (x : Configuration × Reply). x.0) here));
+        calls = map-append {B = ℕ × Command} call_of h.entries (e ∷ [])
+            ∙ ap (λ (cs : List (ℕ × Command)). cs ++ (a.process, command) ∷ []) h.calls;
+      };
+}
 
 -- ---- the whole
 
