@@ -173,8 +173,9 @@ impl Tables {
     {
         let stream = self.live_stream(process, fd)?;
         tells_existing(&self.drivers, &self.lists);
-        let mut dropped = reserve_for_dropped(self.alloc, &self.lists)?;
-        drop_sides(&mut self.lists.queues, stream, sides, &mut dropped);
+        let dropped = &mut self.room.dropped;
+        reserve_for_dropped(dropped, &self.lists)?;
+        drop_sides(&mut self.lists.queues, stream, sides, dropped);
         Ok(sweep_nothing_and_reply(&self.drivers, &self.lists, dropped))
     }
 }

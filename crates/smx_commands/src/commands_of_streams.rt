@@ -19,7 +19,9 @@ use crate::step_error::StepError;
 use crate::tables::{Tables, tells_existing};
 use smx_streams::Streams;
 use smx_tables::standing;
-use smx_tables::sweep::{reserve_for_sweep, sweep_alone_and_reply, sweep_and_reply};
+use smx_tables::sweep::{
+    reserve_for_dropped, reserve_for_sweep, sweep_alone_and_reply, sweep_and_reply,
+};
 use smx_types::{Fault, MAX_DESCRIPTORS, Name, Process, Reply, StreamId};
 
 // A descriptor and its stream, as a reply.
@@ -100,14 +102,15 @@ impl Tables {
     {
         tells_existing(&self.drivers, &self.lists);
         if !self.lists.links.is_upper(stream.driver) {
-            let room = Vec::with_capacity(self.alloc, self.lists.queues.len())?;
+            reserve_for_dropped(&mut self.room.dropped, &self.lists)?;
             let _gone = self.lists.streams.close_fd(process, fd);
-            return Ok(sweep_alone_and_reply(&self.drivers, &mut self.lists, stream, room));
+            let dropped = &mut self.room.dropped;
+            return Ok(sweep_alone_and_reply(&self.drivers, &mut self.lists, stream, dropped));
         }
-        let mut room = reserve_for_sweep(self.alloc, &self.lists, 1)?;
+        reserve_for_sweep(&mut self.room, &self.lists, 1)?;
         let _closed = self.lists.streams.close_fd(process, fd);
-        room.touched.push_reserved(stream);
-        Ok(sweep_and_reply(&self.drivers, &mut self.lists, room))
+        self.room.touched.push_reserved(stream);
+        Ok(sweep_and_reply(&self.drivers, &mut self.lists, &mut self.room))
     }
 
     // Where a stream stays, nothing goes with its descriptor, so that no memory is taken.
@@ -131,10 +134,10 @@ impl Tables {
         ensures { Refines self.old self.new process CloseAll result }
     {
         tells_existing(&self.drivers, &self.lists);
-        let mut room = reserve_for_sweep(self.alloc, &self.lists, MAX_DESCRIPTORS as usize)?;
-        touch_each(&self.lists.streams, process, &mut room.touched);
+        reserve_for_sweep(&mut self.room, &self.lists, MAX_DESCRIPTORS as usize)?;
+        touch_each(&self.lists.streams, process, &mut self.room.touched);
         self.lists.streams.close_process(process);
-        Ok(sweep_and_reply(&self.drivers, &mut self.lists, room))
+        Ok(sweep_and_reply(&self.drivers, &mut self.lists, &mut self.room))
     }
 
     // What is left to sweep stays as it is: the stream exists.

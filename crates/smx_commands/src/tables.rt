@@ -14,6 +14,7 @@ use smx_tables::copies::{copy_lists, empty_lists};
 use smx_tables::driver_hints::DriverHints;
 use smx_tables::lists::Lists;
 use smx_tables::standing;
+use smx_tables::sweep::SweepReserve;
 use smx_types::{DriverSpec, NoMemory};
 use std::alloc::Global;
 use std::marker::Model;
@@ -26,6 +27,8 @@ pub struct Tables {
     pub(crate) drivers: Vec<DriverSpec>,
     pub(crate) hints: DriverHints,
     pub(crate) lists: Lists,
+    // Kept from one sweep to the next, for its memory. No clause speaks of it.
+    pub(crate) room: SweepReserve,
 }
 
 impl Model for Tables {
@@ -64,6 +67,7 @@ impl Tables {
             drivers,
             hints,
             lists,
+            room: SweepReserve::new(alloc),
         })
     }
 
@@ -107,6 +111,7 @@ impl Tables {
             drivers,
             hints: self.hints,
             lists,
+            room: SweepReserve::new(alloc),
         })
     }
 }

@@ -250,3 +250,11 @@ pub left_in_order : (old new : List QueuedMessage) (dropped out : List ℕ)
 left_in_order old new dropped out apart h sorted up =
     sorted_is (serials (filter (λ x. not (h.keep x)) old)) dropped out h.gone sorted up
     ∙ (sym (gone_is old h.keep apart) ∙ ap (serials_that_left old) (sym h.left))
+
+-- where no serial was dropped, none left the flow
+pub none_left : (old new : List QueuedMessage) (dropped : List ℕ)
+    → AllPairs (λ m n. m ≢ n) (serials old) → AreDropped old new dropped → length dropped ≡ 0
+    → [] ≡ serials_that_left old new
+none_left old new [] apart h none =
+    left_in_order old new [] [] apart h (IsPermutation-refl []) (λ i j d le lt. absurd (omega (arith, lt)))
+none_left old new (n ∷ ns) apart h none = absurd (omega (arith, none))

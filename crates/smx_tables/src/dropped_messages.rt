@@ -5,11 +5,12 @@ ghost use Rattle.std.specs.List.{AllPairs};
 ghost use Rattle.smx_model.specs.Commands.{is_side};
 ghost use Rattle.smx_model.specs.Configuration.{QueuedMessage, same_place, same_stream};
 ghost use Rattle.smx_model.specs.Removal.{serials, serials_that_left};
-ghost use Rattle.smx_tables.specs.DroppedMessages.{is_flushed_at, AreDropped, EmptiesPlaces, HasRoom};
+ghost use Rattle.smx_tables.specs.DroppedMessages.{is_flushed_at, AreDropped, EmptiesPlaces, HasRoom, NamesDropped};
 
 use crate::comparisons::same_side;
 use smx_queues::FlowTable;
-use smx_types::{Place, Side, Sides, StreamId};
+use smx_types::{Place, Reply, Serials, Side, Sides, StreamId};
+use std::mem::replace;
 
 // What `drop_at` does where there is something to drop. Apart, so that the test before it is inlined.
 #[inline(never)]
@@ -68,8 +69,8 @@ pub fn drop_sides(queues: &mut FlowTable, stream: StreamId, sides: Sides, droppe
     drop_side(queues, stream, sides, Side::Read, dropped);
 }
 
-/// The serials of dropped messages, rising.
-pub fn rising(dropped: Vec<u32>) -> Vec<u32>
+// The serials of dropped messages, rising.
+fn rising(dropped: Vec<u32>) -> Vec<u32>
     ensures { (old new : List QueuedMessage) → AllPairs (λ m n. m ≢ n) (serials old)
         → AreDropped old new dropped.items → result.items ≡ serials_that_left old new }
 {
@@ -77,4 +78,20 @@ pub fn rising(dropped: Vec<u32>) -> Vec<u32>
     sorted.sort_unstable();
     sorted.shrink_to_fit();
     sorted
+}
+
+/// Done, with the serials of dropped messages, rising. The reply takes the list away; where there are none, it has one
+/// that takes no memory, and the list stays.
+pub fn name_dropped(dropped: &mut Vec<u32>) -> Reply
+    ensures { (left : List QueuedMessage) → NamesDropped left dropped.old.items left result }
+{
+    let none = Vec::new(*dropped.allocator());
+    let named = if dropped.is_empty() {
+        none
+    } else {
+        rising(replace(dropped, none))
+    };
+    Reply::Done {
+        dropped: Serials::from_vec(named),
+    }
 }

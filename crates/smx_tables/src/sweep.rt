@@ -1,6 +1,6 @@
 //! The sweep: what goes with streams that don't exist any longer, and the reply that names it.
 
-ghost use Rattle.std.specs.Prelude.{◌≡◌, ◌≤◌, true, false, not, filter, length, IfOk, List, [], ◌∷◌};
+ghost use Rattle.std.specs.Prelude.{◌≡◌, ◌≤◌, true, false, not, filter, length, OnOk, List, [], ◌∷◌};
 ghost use Rattle.std.specs.List.{list_all};
 ghost use Rattle.smx_types.specs.declared.driver.DriverSpec.{DriverSpec as DriverValue};
 ghost use Rattle.smx_types.specs.declared.stream.StreamId.{StreamId};
@@ -17,7 +17,7 @@ ghost use Rattle.smx_tables.specs.KeptHolds.{KeepsHolds};
 ghost use Rattle.smx_tables.specs.SweepReserves.{IsReserveFor};
 ghost use Rattle.smx_tables.specs.TouchedStreams.{is_dead, is_there_or_touched, without_streams, IsTouched};
 
-use crate::dropped_messages::{drop_sides, rising};
+use crate::dropped_messages::{drop_sides, name_dropped};
 use crate::lists::Lists;
 use crate::orphans::release_orphans;
 use crate::removal::drop_links;
@@ -25,7 +25,7 @@ use crate::standing::tells_existing;
 use smx_addresses::Bindings;
 use smx_model::laws_of_streams::sweeping_again_changes_nothing;
 use smx_streams::Streams;
-use smx_types::{DriverSpec, Reply, Serials, Sides, StreamId};
+use smx_types::{DriverSpec, Reply, Sides, StreamId};
 use std::alloc::{AllocError, Global};
 
 // Takes away the binding of the stream, if it has one. Where nothing is bound, none is looked for.
@@ -77,15 +77,27 @@ fn are_there(streams: &Streams, touched: &[StreamId]) -> bool
     touched.iter().all(|s| streams.exists(*s))
 }
 
-/// The streams that a change touches, in a list with room for all that may go with them; a list with room for all of
-/// them again; one with room for the ids of all ordinary links; and the serials of dropped messages, with room for
-/// those of all.
+/// Lists for a sweep: of the streams that a change touches, and of those that may go with them; of the same streams
+/// again, as they are looked at; of the ids of ordinary links that go; and of the serials of dropped messages. What is
+/// left in them by one sweep counts for nothing in the next: they are kept for their memory.
 #[derive(Debug, Drop)]
 pub struct SweepReserve {
     pub touched: Vec<StreamId>,
     pub seen: Vec<StreamId>,
     pub orphaned: Vec<u32>,
     pub dropped: Vec<u32>,
+}
+
+impl SweepReserve {
+    /// Empty lists. Takes no memory.
+    pub fn new(alloc: Global) -> SweepReserve {
+        SweepReserve {
+            touched: Vec::new(alloc),
+            seen: Vec::new(alloc),
+            orphaned: Vec::new(alloc),
+            dropped: Vec::new(alloc),
+        }
+    }
 }
 
 // Removes the ordinary links whose controlling stream doesn't exist, which is one of those that were touched. Each
@@ -121,90 +133,73 @@ fn drop_orphans(drivers: &[DriverSpec], lists: &mut Lists, room: &mut SweepReser
 }
 
 // Removes the ordinary links whose controlling stream doesn't exist, and then what dead streams hold. Only streams that
-// were touched may have gone. The serials of what was dropped since room was made.
-fn sweep(drivers: &[DriverSpec], lists: &mut Lists, room: SweepReserve) -> Vec<u32>
+// were touched may have gone. The serials of what was dropped since room was made are in its list then.
+fn sweep(drivers: &[DriverSpec], lists: &mut Lists, room: &mut SweepReserve)
     requires kept { KeepsHolds lists.old }
     requires known { AreControllingKnown drivers.now lists.old.links.links }
-    requires touched { IsTouched lists.old.streams room.touched.items (configuration_of lists.old) }
-    requires room { IsReserveFor 0 lists.old.links.links lists.old.queues.flow room }
+    requires touched { IsTouched lists.old.streams room.old.touched.items (configuration_of lists.old) }
+    requires room { IsReserveFor 0 lists.old.links.links lists.old.queues.flow room.old }
     ensures value { configuration_of lists.new ≡ after_sweep drivers.now (configuration_of lists.old) }
-    ensures dropped { DropsMore lists.old.queues.flow room.dropped.items lists.new.queues.flow result.items }
+    ensures dropped { DropsMore lists.old.queues.flow room.old.dropped.items
+        lists.new.queues.flow room.new.dropped.items }
     ensures kept { KeepsHolds lists.new }
     ensures drivers { sizes_of lists.new ≡ sizes_of lists.old }
 {
     lists.streams.is_sound();
-    let mut room = room;
     if are_there(&lists.streams, &room.touched) {
         sweeping_again_changes_nothing();
         tells_existing(drivers, lists);
-        return room.dropped;
+        return;
     }
-    drop_orphans(drivers, lists, &mut room);
+    drop_orphans(drivers, lists, room);
     drop_dead(lists, &room.seen, &mut room.dropped);
-    room.dropped
 }
 
-/// Room for the sweep after a change that touches so many streams. Fails only for want of memory.
+/// Makes room for the serials of all messages, in a list that is cleared first. Fails only for want of memory.
 #[tactic(auto, using(crate::proofs::DropLemmas::none_dropped))]
+pub fn reserve_for_dropped(dropped: &mut Vec<u32>, lists: &Lists) -> Result<(), AllocError>
+    ensures room { OnOk result (HasRoom dropped.new lists.now.queues.flow) }
+    ensures none { OnOk result (AreDropped lists.now.queues.flow lists.now.queues.flow dropped.new.items) }
+{
+    dropped.clear();
+    dropped.reserve(lists.queues.len())
+}
+
+/// Makes room for the sweep after a change that touches so many streams, in lists that are cleared first. Fails only
+/// for want of memory.
 pub fn reserve_for_sweep(
-    alloc: Global,
+    room: &mut SweepReserve,
     lists: &Lists,
     streams: usize,
-) -> Result<SweepReserve, AllocError>
+) -> Result<(), AllocError>
     requires { streams ≤ 1024 }
-    ensures room { IfOk result (λ r. IsReserveFor streams lists.now.links.links lists.now.queues.flow r) }
-    ensures none { IfOk result (λ r. AreDropped lists.now.queues.flow lists.now.queues.flow r.dropped.items) }
+    ensures room { OnOk result (IsReserveFor streams lists.now.links.links lists.now.queues.flow room.new) }
+    ensures none { OnOk result (AreDropped lists.now.queues.flow lists.now.queues.flow room.new.dropped.items) }
 {
     lists.links.is_sound();
     let ordinary = lists.links.ordinary().len();
-    Ok(SweepReserve {
-        touched: Vec::with_capacity(alloc, streams + ordinary)?,
-        seen: Vec::with_capacity(alloc, streams + ordinary)?,
-        orphaned: Vec::with_capacity(alloc, ordinary)?,
-        dropped: Vec::with_capacity(alloc, lists.queues.len())?,
-    })
+    room.touched.clear();
+    room.touched.reserve(streams + ordinary)?;
+    room.seen.clear();
+    room.seen.reserve(streams + ordinary)?;
+    room.orphaned.clear();
+    room.orphaned.reserve(ordinary)?;
+    reserve_for_dropped(&mut room.dropped, lists)
 }
 
 /// Sweeps after a change, and names the messages that were dropped since room was made.
-pub fn sweep_and_reply(drivers: &[DriverSpec], lists: &mut Lists, room: SweepReserve) -> Reply
+pub fn sweep_and_reply(drivers: &[DriverSpec], lists: &mut Lists, room: &mut SweepReserve) -> Reply
     requires kept { KeepsHolds lists.old }
     requires known { AreControllingKnown drivers.now lists.old.links.links }
-    requires touched { IsTouched lists.old.streams room.touched.items (configuration_of lists.old) }
-    requires room { IsReserveFor 0 lists.old.links.links lists.old.queues.flow room }
+    requires touched { IsTouched lists.old.streams room.old.touched.items (configuration_of lists.old) }
+    requires room { IsReserveFor 0 lists.old.links.links lists.old.queues.flow room.old }
     ensures value { configuration_of lists.new ≡ after_sweep drivers.now (configuration_of lists.old) }
-    ensures reply { NamesDropped lists.old.queues.flow room.dropped.items lists.new.queues.flow result }
+    ensures reply { NamesDropped lists.old.queues.flow room.old.dropped.items lists.new.queues.flow result }
     ensures kept { KeepsHolds lists.new }
     ensures drivers { sizes_of lists.new ≡ sizes_of lists.old }
 {
-    let dropped = sweep(drivers, lists, room);
-    Reply::Done {
-        dropped: Serials::from_vec(rising(dropped)),
-    }
-}
-
-/// Room for the serials of all messages, where no stream is touched. Fails only for want of memory.
-#[tactic(auto, using(crate::proofs::DropLemmas::none_dropped))]
-pub fn reserve_for_dropped(alloc: Global, lists: &Lists) -> Result<Vec<u32>, AllocError>
-    ensures room { IfOk result (λ r. HasRoom r lists.now.queues.flow) }
-    ensures none { IfOk result (λ r. AreDropped lists.now.queues.flow lists.now.queues.flow r.items) }
-{
-    Vec::with_capacity(alloc, lists.queues.len())
-}
-
-/// The same where the change touched no stream: nothing is to be swept.
-pub fn sweep_nothing_and_reply(drivers: &[DriverSpec], lists: &Lists, dropped: Vec<u32>) -> Reply
-    requires kept { KeepsHolds lists.now }
-    requires known { AreControllingKnown drivers.now lists.now.links.links }
-    requires touched { IsTouched lists.now.streams [] (configuration_of lists.now) }
-    ensures value { configuration_of lists.now ≡ after_sweep drivers.now (configuration_of lists.now) }
-    ensures reply { NamesDropped lists.now.queues.flow dropped.items lists.now.queues.flow result }
-{
-    lists.streams.is_sound();
-    sweeping_again_changes_nothing();
-    tells_existing(drivers, lists);
-    Reply::Done {
-        dropped: Serials::from_vec(rising(dropped)),
-    }
+    sweep(drivers, lists, room);
+    name_dropped(&mut room.dropped)
 }
 
 /// The same where the change touched this stream alone, whose driver is above no link: nothing goes but the stream,
@@ -213,22 +208,37 @@ pub fn sweep_alone_and_reply(
     drivers: &[DriverSpec],
     lists: &mut Lists,
     stream: StreamId,
-    room: Vec<u32>,
+    dropped: &mut Vec<u32>,
 ) -> Reply
     requires kept { KeepsHolds lists.old }
     requires known { AreControllingKnown drivers.now lists.old.links.links }
     requires touched { IsTouched lists.old.streams (stream ∷ []) (configuration_of lists.old) }
     requires lower { is_upper lists.old.links.links stream.driver ≡ false }
-    requires room { HasRoom room lists.old.queues.flow }
+    requires room { HasRoom dropped.old lists.old.queues.flow }
     ensures value { configuration_of lists.new ≡ after_sweep drivers.now (configuration_of lists.old) }
-    ensures reply { NamesDropped lists.old.queues.flow room.items lists.new.queues.flow result }
+    ensures reply { NamesDropped lists.old.queues.flow dropped.old.items lists.new.queues.flow result }
     ensures kept { KeepsHolds lists.new }
     ensures drivers { sizes_of lists.new ≡ sizes_of lists.old }
 {
     tells_existing(drivers, lists);
-    let mut dropped = room;
-    drop_dead(lists, &[stream], &mut dropped);
-    Reply::Done {
-        dropped: Serials::from_vec(rising(dropped)),
-    }
+    drop_dead(lists, &[stream], dropped);
+    name_dropped(dropped)
+}
+
+/// The same where the change touched no stream: nothing is to be swept.
+pub fn sweep_nothing_and_reply(
+    drivers: &[DriverSpec],
+    lists: &Lists,
+    dropped: &mut Vec<u32>,
+) -> Reply
+    requires kept { KeepsHolds lists.now }
+    requires known { AreControllingKnown drivers.now lists.now.links.links }
+    requires touched { IsTouched lists.now.streams [] (configuration_of lists.now) }
+    ensures value { configuration_of lists.now ≡ after_sweep drivers.now (configuration_of lists.now) }
+    ensures reply { NamesDropped lists.now.queues.flow dropped.old.items lists.now.queues.flow result }
+{
+    lists.streams.is_sound();
+    sweeping_again_changes_nothing();
+    tells_existing(drivers, lists);
+    name_dropped(dropped)
 }

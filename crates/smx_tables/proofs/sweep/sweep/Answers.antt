@@ -15,7 +15,7 @@ use Rattle.smx_tables.proofs.sweep.sweep.Goals as goal
 
 pub tells_existing-requires-clause-linked : goal.tells_existing-requires-clause-linked
 tells_existing-requires-clause-linked c =
-    linked_still c.args.lists.now.streams c.args.room.touched.items (configuration_of c.args.lists.now)
+    linked_still c.args.lists.now.streams c.args.room.now.touched.items (configuration_of c.args.lists.now)
     (ap (list_all (is_there c.args.lists.now.streams)) (sym c.deref.ensures.value) ∙ sym c.are_there.ensures
     ∙ c.if-are_there.true) c.requires.touched
 
@@ -23,7 +23,7 @@ pub returns-then-are_there-clause-value : goal.returns-then-are_there-clause-val
 returns-then-are_there-clause-value c =
     sym (c.sweeping_again_changes_nothing.ensures c.args.drivers.now (configuration_of c.args.lists.now)
     (swept_still c.args.drivers.now (configuration_of c.args.lists.now) c.args.lists.now.streams
-    c.args.room.touched.items c.tells_existing.ensures
+    c.args.room.now.touched.items c.tells_existing.ensures
     (ap (list_all (is_there c.args.lists.now.streams)) (sym c.deref.ensures.value) ∙ sym c.are_there.ensures
     ∙ c.if-are_there.true) c.requires.touched c.is_sound.ensures.exist))
 
@@ -36,8 +36,8 @@ drop_dead-requires-clause-seen c =
     let seen = c.drop_orphans.new.room.seen.items in
     rw c.deref-2.ensures.value (subst (λ (x : Configuration). IsTouched u seen x) (sym c.drop_orphans.ensures.value)
     (touched_hungs u seen (without_links old goes) u.hungs
-    (touched_on t u c.args.room.touched.items seen (without_links old goes)
-    (touched_without t c.args.room.touched.items old goes c.requires.touched) c.drop_orphans.ensures.seen)))
+    (touched_on t u c.args.room.now.touched.items seen (without_links old goes)
+    (touched_without t c.args.room.now.touched.items old goes c.requires.touched) c.drop_orphans.ensures.seen)))
 
 pub returns-clause-value : goal.returns-clause-value
 returns-clause-value c =

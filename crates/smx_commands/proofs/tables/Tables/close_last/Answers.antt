@@ -3,7 +3,6 @@ use Rattle.std.specs.List.{list_any}
 use Rattle.smx_types.specs.declared.stream.StreamId.{StreamId}
 use Rattle.smx_model.specs.Configuration.{same_stream}
 use Rattle.smx_tables.specs.ModelOfLists.{configuration_of}
-use Rattle.smx_tables.proofs.DropLemmas.{none_dropped}
 use Rattle.smx_tables.proofs.WatchLemmas.{listed_last}
 use Rattle.smx_commands.proofs.ClosingLemmas.{close_touches, closes_last}
 use Rattle.smx_commands.proofs.TablesLemmas.{sound_inside}
@@ -25,12 +24,12 @@ returns-then-not-is_upper c =
     c.deref-then-not-is_upper.result.now _ c.sweep_alone_and_reply.result c.self.view_is c.self.invariant
     c.close_fd-gone.ensures.rest c.deref-then-not-is_upper.ensures.value c.sweep_alone_and_reply.ensures.value
     (c.sweep_alone_and_reply.ensures.reply old.flow sound.serials.apart
-    (none_dropped old.flow c.in_ok-room.room.items c.in_ok-room.ensures.items))
+    c.in_ok-reserve_for_dropped.ensures.none)
 
 pub sweep_and_reply-requires-clause-touched : goal.sweep_and_reply-requires-clause-touched
 sweep_and_reply-requires-clause-touched c =
     let last = ap (λ (xs : List StreamId). list_any (same_stream c.args.stream) xs) c.push_reserved.ensures.items
-    ∙ listed_last c.in_ok-room-2.room.touched.items c.args.stream in
+    ∙ listed_last c.reserve_for_sweep.new.room.touched.items c.args.stream in
     let sound = sound_inside c.self.inside c.args.self.now c.self.view_is c.requires.sound in
     close_touches c.self.inside.drivers.items (configuration_of c.self.inside.lists) c.self.inside.lists.streams
     c.close_fd-closed.new.self c.args.process c.args.fd c.args.stream c.push_reserved.new.self.items
@@ -44,4 +43,4 @@ returns c =
     closes_last c.self.inside c.args.self.now c.args.process c.args.fd c.close_fd-closed.new.self
     c.deref-2.result.now _ c.sweep_and_reply.result c.self.view_is c.self.invariant c.close_fd-closed.ensures.rest
     c.deref-2.ensures.value c.sweep_and_reply.ensures.value
-    (c.sweep_and_reply.ensures.reply old.flow sound.serials.apart c.in_ok-room-2.ensures.none)
+    (c.sweep_and_reply.ensures.reply old.flow sound.serials.apart c.in_ok-reserve_for_sweep.ensures.none)

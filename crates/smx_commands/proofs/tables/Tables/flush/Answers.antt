@@ -38,4 +38,4 @@ returns c =
     c.deref-2.ensures.value c.sweep_nothing_and_reply.ensures.value
     (ap (after_sweep c.self.inside.drivers.items) emptied)
     (c.sweep_nothing_and_reply.ensures.reply old.flow sound.serials.apart
-    (c.drop_sides.ensures.dropped old.flow c.in_ok-dropped.ensures.none))))
+    (c.drop_sides.ensures.dropped old.flow c.in_ok-reserve_for_dropped.ensures.none))))

@@ -1,9 +1,10 @@
 use Rattle.std.proofs.Common.{rules}
 use Rattle.smx_commands.proofs.DoneLemmas.{punlink_is, unlink_is}
 use Rattle.smx_commands.proofs.tables.Tables.perform_any.Goals as goal
-use Rattle.smx_commands.proofs.tables.Tables.perform_any.Goals.{in-OpenClone, in-OpenMinor, in-Dup, in-Close, in-CloseAll}
-use Rattle.smx_commands.proofs.tables.Tables.perform_any.Goals.{in-Link, in-Plink, in-Unlink, in-Punlink, in-Bind}
-use Rattle.smx_commands.proofs.tables.Tables.perform_any.Goals.{in-Unbind, in-Route, in-Unroute, in-Flush, in-Hangup}
+use Rattle.smx_commands.proofs.tables.Tables.perform_any.Goals.{in-OpenClone, in-OpenMinor, in-Dup, in-Close}
+use Rattle.smx_commands.proofs.tables.Tables.perform_any.Goals.{in-CloseAll, in-Link, in-Plink, in-Unlink, in-Punlink}
+use Rattle.smx_commands.proofs.tables.Tables.perform_any.Goals.{in-Bind, in-Unbind, in-Route, in-Unroute, in-Flush}
+use Rattle.smx_commands.proofs.tables.Tables.perform_any.Goals.{in-Hangup}
 
 pub returns-clause-refines : goal.returns-clause-refines
 returns-clause-refines c = rw c.put.ensures (elim c.match-command.branch [
@@ -21,5 +22,7 @@ returns-clause-refines c = rw c.put.ensures (elim c.match-command.branch [
   | in-Route w ↦ search rules
   | in-Unroute w ↦ search rules
   | in-Flush w ↦ search rules
-  | in-Hangup w ↦ rw (w.self-is, w.answer-is, w.in-Hangup.is, w.as_step_error-answer-in-Hangup.ensures) (w.hangup.ensures c.args.process)
+  | in-Hangup w ↦
+      rw (w.self-is, w.answer-is, w.in-Hangup.is, w.as_step_error-answer-in-Hangup.ensures)
+      (w.hangup.ensures c.args.process)
 ])
