@@ -1,5 +1,5 @@
 -- A history that comes piece by piece, and what is known of its entries so far.
-use Rattle.std.specs.Prelude.{◌≡◌, ℕ, ◌<◌, Bool, true, false, List, [], ◌∷◌, ◌++◌, length}
+use Rattle.std.specs.Prelude.{◌≡◌, ℕ, ◌+◌, ◌<◌, Bool, true, false, List, [], ◌∷◌, ◌++◌, length}
 use Rattle.smx_types.specs.declared.command.Entry.{Entry}
 use Rattle.smx_types.specs.declared.driver.DriverSpec.{DriverSpec}
 use Rattle.smx_model.specs.DriverList.{IsDriverList}
@@ -42,12 +42,21 @@ IsJudged h (stage.Legal config) = IsAfter h config
 IsJudged h (stage.Illegal number) = IsDriverList h.drivers × IsFirstIllegal h.drivers h.entries number
 IsJudged h (stage.Failed fault) = RefusesDrivers h.drivers fault
 
+-- each history that was judged still is
+abbrev pub StaysJudged : CheckStage → CheckStage → Type 0
+StaysJudged old new = (h : GivenHistory) → IsJudged h old → IsJudged h new
+
 -- no driver comes any more
 abbrev pub is_begun : CheckStage → Bool
 is_begun (stage.Gathering drivers) = false
 is_begun (stage.Legal config) = true
 is_begun (stage.Illegal number) = true
 is_begun (stage.Failed fault) = true
+
+-- each history that was judged still is, with one entry more, which has this number
+abbrev pub IsJudgedNext : ℕ → Entry → CheckStage → CheckStage → Type 0
+IsJudgedNext number entry old new = (h : GivenHistory) → number ≡ length h.entries + 1 → is_begun old ≡ true
+    → IsJudged h old → IsJudged (with_entry h entry) new
 
 -- so many entries came, and they are judged; before the first of them drivers may come
 pub record IsCheckOf (h : GivenHistory) (at : CheckStage) (count : ℕ) : Type 0 where

@@ -7,4 +7,5 @@ pub mod Marking
 pub mod Wakes
 pub mod ModelOfConfig
 pub mod Verdicts
+pub mod ToldReplies
 pub mod GrowingChecks

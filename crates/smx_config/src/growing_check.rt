@@ -1,11 +1,13 @@
 //! A history that comes entry by entry: each entry is judged as it comes.
 
-ghost use Rattle.std.specs.Prelude.{◌≡◌, ◌+◌, ◌<◌, [], true, length, IfErr, IfOk, OnErr, OnOk};
+ghost use Rattle.std.specs.Prelude.{◌≡◌, ◌≢◌, ◌+◌, ◌<◌, ◌⊎◌, [], true, length, IfErr, IfOk, MatchBool, OnErr, OnOk};
 ghost use Rattle.smx_types.specs.declared.limits.TheConstants.{MAX_COMMANDS};
+ghost use Rattle.smx_types.specs.declared.reply.Reply.{Reply as AnyReply};
 ghost use Rattle.smx_model.specs.DriverList.{IsDriverList};
 ghost use Rattle.smx_config.specs.DriverFaults.{RefusesDrivers};
 ghost use Rattle.smx_config.specs.GrowingChecks.{GivenHistory, no_history, with_driver, with_entry};
-ghost use Rattle.smx_config.specs.GrowingChecks.{IsJudged, is_begun};
+ghost use Rattle.smx_config.specs.GrowingChecks.{IsJudged, IsJudgedNext, StaysJudged, is_begun};
+ghost use Rattle.smx_config.specs.ToldReplies.{IsToldSo};
 ghost use Rattle.smx_config.specs.Verdicts.{IsVerdict};
 ghost use Rattle.smx_config.specs.declared.config_fault.ConfigFault.TheVariants as config;
 ghost use Rattle.smx_config.specs.declared.growing_check.CheckStage.TheVariants as stage;
@@ -14,10 +16,11 @@ use crate::config::Config;
 use crate::config_fault::ConfigFault;
 use crate::history::{gets_its_reply, verdict_of};
 use crate::past::Past;
+use crate::told_reply::ToldReply;
 use crate::verdict::Verdict;
 use smx_model::laws::one_entry_more;
 use smx_types::{
-    Command, ConfigView, DriverSpec, Drivers, Entries, Entry, NoMemory, Process, Reply,
+    Command, ConfigView, DriverSpec, Drivers, Entries, Entry, NoMemory, Process, Reply, Same,
 };
 use std::alloc::Global;
 use std::marker::Model;
@@ -105,6 +108,46 @@ impl GrowingCheck {
         self.entries = Past::new(&(&self.entries, &entry));
     }
 
+    /// The same for an entry whose reply is told, and says whether one is. Where none is told, no entry comes. The
+    /// reply is read only where it is not seen at once to be the one that the command gets. Fails only for want of
+    /// memory, and then a reply is told, but no entry comes. Where none comes, its command may have been performed: so
+    /// what comes later is judged no more, and the end tells want of memory.
+    pub fn add_told_entry<T: ToldReply>(
+        &mut self,
+        process: Process,
+        command: &Command,
+        told: T,
+    ) -> Result<bool, NoMemory>
+        requires few { length self.old.entries < MAX_COMMANDS }
+        ensures came { IfOk result (λ any. MatchBool any ((r : AnyReply) × T.Tells told r × (self.new
+            ≡ with_entry self.old (record { process = process; command = command.now; reply = r })))
+            ((self.new ≡ self.old) × ((r : AnyReply) → T.Tells told r → ⊥))) }
+        ensures wanted { IfErr result (λ _. (r : AnyReply) × T.Tells told r) }
+        ensures kept { OnErr result (self.new ≡ self.old) }
+    {
+        let mut reply = Reply::Eof;
+        if self.count == 0 {
+            let any = told.read_in(&mut reply)?;
+            if any {
+                self.add_entry(process, command, &reply);
+            }
+            return Ok(any);
+        }
+        let number = self.count + 1;
+        let any = self
+            .stage
+            .judge_told(number, process, command, told, &mut reply)?;
+        if !any {
+            self.stage.take_back(reply);
+            return Ok(false);
+        }
+        self.count = number;
+        let entry = Past::<Entry>::new(&(process, command, &reply));
+        self.entries = Past::new(&(&self.entries, &entry));
+        self.stage.take_back(reply);
+        Ok(true)
+    }
+
     /// How many entries came. Takes no memory.
     pub fn entry_count(&self) -> usize
         ensures { result ≡ length self.now.entries }
@@ -164,6 +207,81 @@ impl CheckStage {
             },
             CheckStage::Illegal(_) => {}
             CheckStage::Gathering(_) | CheckStage::Failed(_) => {}
+        }
+    }
+
+    // Judges the next entry, which has this number, by the reply that is told, where nothing was wrong before. That
+    // reply comes into the place. Where none is told, or memory is wanting for it, nothing more is judged.
+    #[inline(always)]
+    fn judge_told<T: ToldReply>(
+        &mut self,
+        number: usize,
+        process: Process,
+        command: &Command,
+        told: T,
+        reply: &mut Reply,
+    ) -> Result<bool, NoMemory>
+        ensures judged { IfOk result (λ any. MatchBool any (IsJudgedNext number
+            (record { process = process; command = command.now; reply = reply.new }) self.old self.new)
+            (StaysJudged self.old self.new)) }
+        ensures stays { OnErr result (StaysJudged self.old self.new) }
+        ensures told { IfOk result (IsToldSo (T.Tells told) reply.new) }
+        ensures wanted { IfErr result (λ _. (r : AnyReply) × T.Tells told r) }
+    {
+        one_entry_more();
+        let mut told = told;
+        match self {
+            CheckStage::Legal(config) => match config.step_in(process, command, reply) {
+                Ok(()) if told.is(reply) => Ok(true),
+                Ok(()) => self.judge_other(number, told, reply),
+                Err(_) => {
+                    self.fail();
+                    told.read_in(reply)
+                }
+            },
+            CheckStage::Illegal(_) => told.read_in(reply),
+            CheckStage::Gathering(_) | CheckStage::Failed(_) => told.read_in(reply),
+        }
+    }
+
+    // In the place is the reply that the command of this entry gets, and it isn't seen that just this is told. So what
+    // is told is read, and comes into the place. Apart, since it is seldom needed.
+    #[inline(never)]
+    fn judge_other<T: ToldReply>(
+        &mut self,
+        number: usize,
+        told: T,
+        reply: &mut Reply,
+    ) -> Result<bool, NoMemory>
+        ensures judged { IfOk result (λ any. MatchBool any
+            (((reply.new ≡ reply.old) × (self.new ≡ self.old))
+            ⊎ ((reply.new ≢ reply.old) × (self.new ≡ stage.Illegal number)))
+            (self.new ≡ stage.Failed config.NoMemory)) }
+        ensures failed { OnErr result (self.new ≡ stage.Failed config.NoMemory) }
+        ensures told { IfOk result (IsToldSo (T.Tells told) reply.new) }
+        ensures wanted { IfErr result (λ _. (r : AnyReply) × T.Tells told r) }
+    {
+        let mut read = Reply::Eof;
+        let outcome = told.read_in(&mut read);
+        match outcome {
+            Ok(true) => {
+                if !reply.is_same(&read) {
+                    self.reject(number);
+                }
+                *reply = read;
+            }
+            Ok(false) | Err(_) => self.fail(),
+        }
+        outcome
+    }
+
+    // Keeps the memory of a reply for a message to come.
+    #[inline(always)]
+    fn take_back(&mut self, reply: Reply)
+        ensures { self.new ≡ self.old }
+    {
+        if let CheckStage::Legal(config) = self {
+            config.take_back(reply);
         }
     }
 

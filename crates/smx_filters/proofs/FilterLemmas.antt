@@ -1,26 +1,21 @@
 -- What a filter says where nothing comes of the bytes that it read.
-use Rattle.std.proofs.Common.{◌≡◌, ◌≢◌, ℕ, zero, suc, false, List, Option, Some, None, Bool, Result, Ok, Err, String}
+use Rattle.std.proofs.Common.{◌≡◌, ◌≢◌, ℕ, zero, suc, false, List, Option, Some, None, Bool, Result, Ok, Err}
 use Rattle.std.proofs.Common.{Vec, sym, subst, rules, arith, inl}
-use Rattle.std.specs.Prelude.{IfErr, IsErrAnd, IsErrOf}
+use Rattle.std.specs.Prelude.{IsErrAnd, IsErrOf}
 use Rattle.std.specs.Global.{Global}
 use Rattle.std.specs.Io.KnownBytes.{Keeps}
 use Rattle.smx_types.specs.ProgramLists.{ProgramLists}
 use Rattle.smx_types.specs.declared.driver.DriverSpec.{DriverSpec}
-use Rattle.smx_types.specs.declared.transcript.Transcript.{Transcript}
-use Rattle.smx_text.specs.Grammar.{ReadsAny}
-use Rattle.smx_text.specs.TranscriptText.{transcript_grammar}
 use Rattle.smx_text.specs.declared.text_fault.TextFault.{TextFault}
 use Rattle.smx_config.specs.DriverFaults.{RefusesDrivers}
 use Rattle.smx_config.specs.declared.config_fault.ConfigFault.{ConfigFault}
 use Rattle.smx_config.specs.declared.config_fault.ConfigFault.TheVariants as config
-use Rattle.smx_config.specs.declared.verdict.Verdict.{Verdict}
 use Rattle.smx_run.specs.RunFaults.{RefusesAlone, run_fault_of}
 use Rattle.smx_run.specs.declared.run_fault.RunFault.{RunFault}
 use Rattle.smx_filters.specs.declared.main_fault.MainFault.{MainFault}
 use Rattle.smx_filters.specs.declared.main_fault.MainFault.TheVariants.{Refused, Text, TooLong, ReadFailed, WriteFailed}
 use Rattle.smx_filters.specs.Filters.{Filter, Answers, FiltersText, IsFaultOf, RefusesFor}
 use Rattle.smx_filters.specs.Input.{IsInput, IsWhole}
-use Rattle.smx_filters.specs.CheckText.{checking, judged_of}
 use Rattle.smx_filters.specs.RunText.{IsTranscriptInTurn, IsWrittenFor, items_of, running}
 
 -- known bytes that stay are kept
@@ -31,11 +26,6 @@ kept (Some bytes) = search rules
 -- an error is the one that it is
 fault_of : {T : Type 0} {e f : MainFault} → IsErrOf {T = T} (Err e) f → e ≡ f
 fault_of is = cc
-
--- what holds anyway is so where an answer is an error
-pub if_err : {A E P : Type 0} (answer : Result A E) → P → IfErr answer (λ _. P)
-if_err (Ok x) p = tt
-if_err (Err e) p = p
 
 module _ {V K T : Type 0} (filter : Filter V K T) (had left : Option (List ℕ)) (ended : Bool) (failures : ℕ)
     (held : Option (List ℕ)) (flushed : Bool) (written : ℕ) (v : Vec ℕ Global) (read : List ℕ)
@@ -123,12 +113,3 @@ alone_of drivers config.NoMemory refused = refused
 alone_of drivers config.TooMany refused = (refused, λ is. cc)
 alone_of drivers (config.BadSpec i why) refused = (refused, λ is. cc)
 alone_of drivers (config.SameName i) refused = (refused, λ is. cc)
-
--- where what was read is not judged, that is the answer of a check
-pub judged_refused : (input : List ℕ) (t : Transcript) → ReadsAny transcript_grammar input (Ok t) → (f : ConfigFault)
-    (answer : Result (Verdict × String Global) MainFault) → IsErrAnd answer (λ e. e ≡ Refused (run_fault_of f))
-    → RefusesDrivers t.drivers f
-    → Answers checking input (judged_of answer)
-judged_refused input t read f (Ok x) is refused = absurd is
-judged_refused input t read f (Err e) is refused =
-    subst (λ (x : MainFault). Answers checking input (Err x)) (sym is) (read.0, t, read.1, alone_of t.drivers f refused)

@@ -1,9 +1,10 @@
 //! A transcript that is judged while it is read.
 
+use crate::reply_text::ReplyText;
 use smx_config::{ConfigFault, GrowingCheck, Verdict};
 use smx_text::TranscriptTaker;
 use smx_types::{Command, ConfigView, DriverSpec, NoMemory, Version};
-use smx_words::{call_and_reply_in, reply_of};
+use smx_words::call_and_reply_in;
 use std::alloc::Global;
 
 /// Judges each entry as its line is read, and keeps none. What it makes of all of them is the verdict, and how many
@@ -14,6 +15,8 @@ pub struct JudgedTranscript {
     check: GrowingCheck,
     // Where the bytes of each message are read to, in turn.
     room: Vec<u8>,
+    // Where the words of each reply are written that a command gets, in turn.
+    words: Vec<u8>,
 }
 
 impl TranscriptTaker for JudgedTranscript {
@@ -32,6 +35,7 @@ impl TranscriptTaker for JudgedTranscript {
             version,
             check: GrowingCheck::new(alloc),
             room: Vec::new(alloc),
+            words: Vec::new(alloc),
         }
     }
 
@@ -56,12 +60,15 @@ impl TranscriptTaker for JudgedTranscript {
         let Some(command) = &read else {
             return Ok(false);
         };
-        let Some(reply) = reply_of(alloc, version, told)? else {
-            return Ok(false);
+        let told = ReplyText {
+            alloc,
+            version,
+            text: told,
+            words: &mut self.words,
         };
-        self.check.add_entry(process, command, &reply);
+        let outcome = self.check.add_told_entry(process, command, told);
         keep_room(&mut self.room, read);
-        Ok(true)
+        outcome
     }
 
     fn finish(self, view: ConfigView) -> Result<(Verdict, usize), ConfigFault> {

@@ -17,6 +17,7 @@ mod main_fault;
 mod output;
 mod refusal;
 mod replay;
+mod reply_text;
 mod running_programs;
 mod text;
 mod text_recorder;

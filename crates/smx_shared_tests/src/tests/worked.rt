@@ -1,7 +1,7 @@
 //! How a worked history is tried. It is typed in as a transcript: its entries are legal, its commands get their replies
-//! from `step`, twice from `step_twin`, each in the place of the one before from `step_in`, and from a system, and in the
-//! end just its view is shown, of a copy too. What wanted memory is asked again. What is large is given to `forget`,
-//! since a proof grows where such a value is dropped.
+//! from `step`, twice from `step_twin`, each in the place of the one before from `step_in`, and from a system, and in
+//! the end just its view is shown, of a copy too. What wanted memory is asked again. What is large is given to
+//! `forget`, since a proof grows where such a value is dropped.
 
 use super::made::{read, system_over, tells_of_want};
 use super::systems::plays;
@@ -64,7 +64,8 @@ fn steps_in_place(rt: &(impl Abort + Print), config: &mut Config, entries: &[Ent
     let mut reply = Reply::Eof;
     for number in 0..entries.len() {
         let entry = &entries[number];
-        if let Err(_) = config.step_in(entry.process, &entry.command, &mut reply) {
+        let outcome = config.step_in(entry.process, &entry.command, &mut reply);
+        if outcome.is_err() {
             tells_of_want(rt, "a step");
             let again = config.step_in(entry.process, &entry.command, &mut reply);
             again.expect(rt, "a reply");
