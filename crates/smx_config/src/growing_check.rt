@@ -41,7 +41,7 @@ pub enum CheckStage {
 /// A history that is judged while it comes, of which a contract sees what came: first the drivers, and then each entry.
 /// The command of an entry is given as it comes, and no entry is kept. Where the drivers are refused or memory is
 /// wanting, or behind the first entry whose reply is another, nothing more is judged, of what comes still, and that is
-/// told at the end.
+/// told at the end; and so it is with want of memory where an entry was to come whose reply nobody told.
 #[derive(Drop)]
 pub struct GrowingCheck {
     alloc: Global,
@@ -108,10 +108,10 @@ impl GrowingCheck {
         self.entries = Past::new(&(&self.entries, &entry));
     }
 
-    /// The same for an entry whose reply is told, and says whether one is. Where none is told, no entry comes. The
-    /// reply is read only where it is not seen at once to be the one that the command gets. Fails only for want of
-    /// memory, and then a reply is told, but no entry comes. Where none comes, its command may have been performed: so
-    /// what comes later is judged no more, and the end tells want of memory.
+    /// The same for an entry whose reply is told, and says whether one is: where none is told, no entry comes. A reply
+    /// that is seen at once to be the one that the command gets is not read. Fails only for want of memory, and then a
+    /// reply is told, but no entry comes. Where none comes behind others, its command may have been performed: if no
+    /// entry was illegal, those that come later are judged no more, and the end tells want of memory.
     pub fn add_told_entry<T: ToldReply>(
         &mut self,
         process: Process,

@@ -8,14 +8,14 @@ use smx_types::{NoMemory, Reply, Version};
 use smx_words::{reply_of, write_reply};
 use std::alloc::Global;
 
-/// A text that may be the words of a reply that a version can tell. Whether it is those of another reply is seen by its
-/// bytes.
+/// A text that may be the words of a reply that a version can tell. Whether it is the words of a reply that is at hand
+/// is seen by its bytes.
 #[derive(Drop)]
 pub struct ReplyText<'a> {
     pub alloc: Global,
     pub version: Version,
     pub text: &'a [u8],
-    // Where the words of the other reply are written, to be compared. What is there is given up.
+    // Where the end of a line with the reply at hand is written, to be compared. What is there is given up.
     pub words: &'a mut Vec<u8>,
 }
 
@@ -50,7 +50,7 @@ impl<'a> ToldReply for ReplyText<'a> {
     }
 }
 
-// Whether a text is what stands between an equals sign, with its spaces, and a line feed.
+// Says yes only where a text is what stands between an equals sign, with its spaces, and a line feed.
 fn stands_between(text: &[u8], bytes: &[u8]) -> bool
     ensures { (words : List ℕ) → bytes.now ≡ codes " = " ++ words ++ LINE_FEED ∷ [] → IsTrue result
         → text.now ≡ words }
