@@ -1,5 +1,5 @@
 -- What a command turns and frees is among what it may wake.
-use Rattle.std.proofs.Common.{◌≡◌, ℕ, Bool, true, false, ◌&&◌, ◌||◌, not, eqb, List, filter, Option, Some}
+use Rattle.std.proofs.Common.{◌≡◌, ℕ, Bool, true, false, ◌&&◌, ◌||◌, not, eqb, List, [], ◌∷◌, filter, Option, Some}
 use Rattle.std.proofs.Common.{None, Result, Ok, Err, refl, sym, ap, ◌∙◌, subst, inl, inr}
 use Rattle.std.specs.Prelude.{◌⊎◌, IfOk, if◌then◌else◌}
 use Rattle.std.specs.List.{list_any}
@@ -22,13 +22,14 @@ use Rattle.smx_types.specs.declared.stream.StreamId.{StreamId}
 use Rattle.smx_model.specs.Commands.{done_outcome, outcome, step}
 use Rattle.smx_model.specs.Configuration.{Configuration, QueuedMessage, bind_before, route_before, same_place}
 use Rattle.smx_model.specs.Configuration.{same_side, same_stream, read_side, write_side}
-use Rattle.smx_model.specs.FreedPlaces.{freed_by}
+use Rattle.smx_model.specs.FreedPlaces.{FreesOnly, freed_by}
 use Rattle.smx_model.specs.Lookups.{free_stream, live_leaf, live_stream, mux_stream, stream_of}
 use Rattle.smx_model.specs.Ordered.{with_inserted}
 use Rattle.smx_model.specs.Outcomes.{refuse}
 use Rattle.smx_model.specs.Queues.{after_leaving, first_message}
 use Rattle.smx_model.specs.Removal.{after_sweep}
 use Rattle.smx_model.specs.RunMarks.{TurnsOnly, asks_down, asks_up, either, has_addr, is_first_at, next_of_first}
+use Rattle.smx_model.specs.RunMarks.{nowhere}
 use Rattle.smx_model.specs.Settling.{after_settling, next_open_place}
 use Rattle.smx_model.specs.SettlingByMarks.{is_first_there, turned_by_move}
 use Rattle.smx_model.specs.Swept.{IsSwept}
@@ -39,7 +40,7 @@ use Rattle.smx_commands.specs.declared.step_error.StepError.TheVariants as step_
 use Rattle.smx_config.specs.Marking.{AreMarks, IsWoken}
 use Rattle.smx_commands.specs.Machine.{Machine}
 use Rattle.smx_commands.specs.Refinement.{Refines, answer_of}
-use Rattle.smx_config.specs.Wakes.{IsEnough, arrives, freed_under, is_either_side, on_stream, turned_under}
+use Rattle.smx_config.specs.Wakes.{IsEnough, arrives, drops_none, freed_under, is_either_side, on_stream, turned_under}
 use Rattle.smx_config.specs.Wakes.{wakes_of}
 use Rattle.smx_config.specs.declared.wakes.Wakes.{Wakes}
 use Rattle.smx_config.specs.declared.wakes.Wakes.TheVariants as wakes
@@ -164,11 +165,11 @@ turns_few drivers c process k x h e only p f = elim (cases_Bool (turned_by drive
 -- ---- the freed places
 
 -- where what is freed at each stream is told by what to wake there, it is told at the stream of a look-up
-freed_on : (r : Result StreamId Fault) (f : StreamId → Place → Bool) (g : StreamId → Wakes) (p : Place)
-    → ((s : StreamId) → f s p ≡ true → freed_under (g s) p ≡ true) → of_stream r f p ≡ true
-    → freed_under (on_stream r g) p ≡ true
-freed_on (Ok s) f g p h t = h s t
-freed_on (Err e) f g p h t = absurd (false≢true t)
+freed_on : (x : Reply) (r : Result StreamId Fault) (f : StreamId → Place → Bool) (g : StreamId → Wakes) (p : Place)
+    → ((s : StreamId) → f s p ≡ true → freed_under x (g s) p ≡ true) → of_stream r f p ≡ true
+    → freed_under x (on_stream r g) p ≡ true
+freed_on x (Ok s) f g p h t = h s t
+freed_on x (Err e) f g p h t = absurd (false≢true t)
 
 -- each place of a stream is on one of its sides
 is_on_a_side : (s : StreamId) (p : Place) → same_stream p.stream s ≡ true → is_either_side s p ≡ true
@@ -180,16 +181,56 @@ is_on_a_side s p h = by p.side refl where
   by side.Read e = rw (is, e, stream_self s) refl
   by side.Write e = rw (is, e, stream_self s) refl
 
--- each place that a command may free is one that `wakes_of` says may be freed
-pub frees : (drivers : List DriverSpec) (c new : Configuration) (process : ℕ) (k : Command) (p : Place)
-    → freed_by drivers c process k new p ≡ true → freed_under (wakes_of drivers c process k) p ≡ true
-frees drivers c new process command.CloseAll p t = refl
-frees drivers c new process (command.Read fd) p t = freed_on (free_stream c process fd) _ _ p (λ s u. u) t
-frees drivers c new process (command.Transmit name minor) p t =
-    freed_on (live_leaf drivers c name minor) _ _ p (λ s u. u) t
-frees drivers c new process (command.Flush fd w) p t = freed_on (live_stream c process fd) _ _ p
-    (λ s u. is_on_a_side s p (and_parts (same_stream p.stream s) _ u).0) t
-frees drivers c new process k p t = cc
+-- each place that a command may free is one that `wakes_of` says may be freed, if the reply may name dropped messages
+frees : (drivers : List DriverSpec) (c new : Configuration) (process : ℕ) (k : Command) (x : Reply) (p : Place)
+    → drops_none x ≡ false → freed_by drivers c process k new p ≡ true
+    → freed_under x (wakes_of drivers c process k) p ≡ true
+frees drivers c new process (command.Close fd) x p some t = rw some refl
+frees drivers c new process command.CloseAll x p some t = rw some refl
+frees drivers c new process (command.Unlink fd w) x p some t = rw some refl
+frees drivers c new process (command.Punlink fd w) x p some t = rw some refl
+frees drivers c new process (command.Read fd) x p some t =
+    freed_on x (free_stream c process fd) _ _ p (λ s u. u) t
+frees drivers c new process (command.Transmit name minor) x p some t =
+    freed_on x (live_leaf drivers c name minor) _ _ p (λ s u. u) t
+frees drivers c new process (command.Flush fd w) x p some t = freed_on x (live_stream c process fd) _ _ p
+    (λ s u. rw some (is_on_a_side s p (and_parts (same_stream p.stream s) _ u).0)) t
+frees drivers c new process k x p some t = absurd (false≢true t)
+
+-- the reply that it is done, and no message was dropped
+undropped : (r : Reply) → drops_none r ≡ true → r ≡ reply.Done []
+undropped (reply.Done []) t = refl
+undropped (reply.Done (n ∷ ns)) t = absurd (false≢true t)
+undropped (reply.Fd fd minor) t = absurd (false≢true t)
+undropped (reply.Id id) t = absurd (false≢true t)
+undropped (reply.Took serial) t = absurd (false≢true t)
+undropped (reply.Got serial addr bytes) t = absurd (false≢true t)
+undropped reply.Eof t = absurd (false≢true t)
+undropped (reply.Fault f) t = absurd (false≢true t)
+
+-- some places, among these, are the only ones that a change freed
+pub record FreesAmong (old new : Configuration) (freed_too : Place → Bool) : Type 0 where
+  pub freed : Place → Bool
+  pub among : (p : Place) → freed p ≡ true → freed_too p ≡ true
+  pub only : FreesOnly old new freed
+
+-- what an accepted command freed is among what `wakes_of` says may be freed, by its reply
+pub frees_among : (drivers : List DriverSpec) (c : Configuration) (process : ℕ) (k : Command)
+    (x : Configuration × Reply) → FreesOnly c x.0 (freed_by drivers c process k x.0)
+    → (x.1 ≡ reply.Done [] → FreesOnly c x.0 nowhere)
+    → FreesAmong c x.0 (freed_under x.1 (wakes_of drivers c process k))
+frees_among drivers c process k x few none = elim (cases_Bool (drops_none x.1)) [
+  | inl t ↦ record {
+      freed = nowhere;
+      among = λ p f. absurd (false≢true f);
+      only = none (undropped x.1 t);
+    }
+  | inr some ↦ record {
+      freed = freed_by drivers c process k x.0;
+      among = λ p f. frees drivers c x.0 process k x.1 p some f;
+      only = few;
+    }
+]
 
 -- ---- both ends of a move
 
@@ -218,11 +259,11 @@ turned_is drivers c new from to e h = subst
 
 -- ---- what holds of an accepted outcome
 
--- what follows from three properties of an accepted result holds of it, where all three do
-pub of_three : {X : Type 0} {P Q S R : X → Type 0} (r : Result X Fault) → IfOk r P → IfOk r Q → IfOk r S
-    → ((x : X) → r ≡ Ok x → P x → Q x → S x → R x) → IfOk r R
-of_three (Ok x) p q s f = f x refl p q s
-of_three (Err e) p q s f = tt
+-- what follows from four properties of an accepted result holds of it, where all four do
+pub of_four : {X : Type 0} {P Q S T R : X → Type 0} (r : Result X Fault) → IfOk r P → IfOk r Q → IfOk r S → IfOk r T
+    → ((x : X) → r ≡ Ok x → P x → Q x → S x → T x → R x) → IfOk r R
+of_four (Ok x) p q s t f = f x refl p q s t
+of_four (Err e) p q s t f = tt
 
 -- what holds of a result if it is accepted holds of an accepted one
 pub of_accepted : {X : Type 0} (P : X → Type 0) (r : Result X Fault) (x : X) → r ≡ Ok x → IfOk r P → P x
@@ -234,34 +275,33 @@ of_accepted P (Err g) x e h = absurd cc
 -- where it is enough to wake what a command may turn and free, the marks are right after it is accepted
 enough_at : (drivers : List DriverSpec) (c : Configuration) (process : ℕ) (k : Command) (m n : Marks)
     (x : Configuration × Reply) → IsEnough drivers c process k m n → outcome drivers c process k ≡ Ok x
-    → IsWoken x.0 (turned_under x.0 (wakes_of drivers c process k)) (freed_under (wakes_of drivers c process k)) m n
+    → IsWoken x.0 (turned_under x.0 (wakes_of drivers c process k)) (freed_under x.1 (wakes_of drivers c process k)) m n
     → AreMarks drivers x.0 n
 enough_at drivers c process k m n x enough e =
     of_accepted (λ (y : Configuration × Reply). IsWoken y.0 (turned_under y.0 (wakes_of drivers c process k))
-    (freed_under (wakes_of drivers c process k)) m n → AreMarks drivers y.0 n) (outcome drivers c process k) x e enough
+    (freed_under y.1 (wakes_of drivers c process k)) m n → AreMarks drivers y.0 n) (outcome drivers c process k) x e enough
 
 -- where it is enough to wake what a command may turn and free, and that is done after it, the marks are right
-pub woken_after : (old new : Machine) (process : ℕ) (k : Command) (result : Result Reply StepError) (r : Reply)
-    (w : Wakes) (m n : Marks) → result ≡ Ok r → Refines old new process k result
+woken_after : (old new : Machine) (process : ℕ) (k : Command) (r : Reply) (w : Wakes) (m n : Marks)
+    → Refines old new process k (Ok r)
     → w ≡ wakes_of old.drivers old.configuration process k → IsEnough old.drivers old.configuration process k m n
-    → IsWoken new.configuration (turned_under new.configuration w) (freed_under w) m n
+    → IsWoken new.configuration (turned_under new.configuration w) (freed_under r w) m n
     → AreMarks new.drivers new.configuration n
-woken_after old new process k result r w m n is refines tells enough woken =
-    let here = subst (λ (x : Result Reply StepError). Refines old new process k x) is refines in
+woken_after old new process k r w m n here tells enough woken =
     subst (λ (ds : List DriverSpec). AreMarks ds new.configuration n) (sym here.0)
     (enough_at old.drivers old.configuration process k m n (new.configuration, r) enough here.1
-    (subst (λ (x : Wakes). IsWoken new.configuration (turned_under new.configuration x) (freed_under x) m n) tells
+    (subst (λ (x : Wakes). IsWoken new.configuration (turned_under new.configuration x) (freed_under r x) m n) tells
     woken))
 
--- the same, by the test that it was accepted
-pub woken_if : (old new : Machine) (process : ℕ) (k : Command) (result : Result Reply StepError)
-    (w : Wakes) (m n : Marks) → is_ok result ≡ true → Refines old new process k result
+-- the same, by the test that it was accepted, wherever its reply is written
+pub woken_if : (old new : Machine) (process : ℕ) (k : Command) (answer : Result (Unit {0}) StepError) (r : Reply)
+    (w : Wakes) (m n : Marks) → is_ok answer ≡ true → Refines old new process k (answer_of answer r)
     → w ≡ wakes_of old.drivers old.configuration process k → IsEnough old.drivers old.configuration process k m n
-    → IsWoken new.configuration (turned_under new.configuration w) (freed_under w) m n
+    → IsWoken new.configuration (turned_under new.configuration w) (freed_under r w) m n
     → AreMarks new.drivers new.configuration n
-woken_if old new process k (Ok r) w m n is refines tells enough woken =
-    woken_after old new process k (Ok r) r w m n refl refines tells enough woken
-woken_if old new process k (Err e) w m n is refines tells enough woken = absurd (false≢true is)
+woken_if old new process k (Ok u) r w m n is refines tells enough woken =
+    woken_after old new process k r w m n refines tells enough woken
+woken_if old new process k (Err e) r w m n is refines tells enough woken = absurd (false≢true is)
 
 -- where it was not accepted, nothing has changed
 pub unchanged : (old new : Machine) (process : ℕ) (k : Command) (result : Result Reply StepError)

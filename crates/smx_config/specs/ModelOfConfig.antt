@@ -1,5 +1,6 @@
 -- The fields of the configuration. No public clause needs this.
 use Rattle.smx_config.specs.declared.config.Config.TheInside.{Inside}
+use Rattle.smx_model.specs.FreedPlaces.{HaveFullPlacesMessages}
 use Rattle.smx_model.specs.KeptConfigurations.{IsKept}
 use Rattle.smx_model.specs.SettlingByMarks.{HasNoRunMark}
 use Rattle.smx_queues.specs.PlaceMarks.{has_mark}
@@ -15,6 +16,8 @@ machine_of c = c.tables
 pub record ConfigInvariant (c : Inside) : Type 0 where
   -- the configuration is what commands leave
   pub kept : IsKept c.tables.drivers c.tables.configuration
+  -- each full place has messages, so that none stops being full where no message is dropped
+  pub filled : HaveFullPlacesMessages c.tables.configuration
   -- each place without a run mark waits, a wanted mark stands at full places alone, and what is held up is listed
   -- with the place that holds it up
   pub marks : AreMarks c.tables.drivers c.tables.configuration c.marks

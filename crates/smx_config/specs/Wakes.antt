@@ -1,10 +1,12 @@
 -- What a command may wake, as it is told before the command is done. No public clause needs this.
-use Rattle.std.specs.Prelude.{ℕ, Bool, true, if◌then◌else◌, IfOk, List, Result, Ok, Err}
+use Rattle.std.specs.Prelude.{ℕ, Bool, true, false, if◌then◌else◌, IfOk, List, [], ◌∷◌, Result, Ok, Err}
 use Rattle.std.specs.Option.{is_some}
 use Rattle.smx_types.specs.declared.command.Command.{Command}
 use Rattle.smx_types.specs.declared.command.Command.TheVariants as command
 use Rattle.smx_types.specs.declared.driver.DriverSpec.{DriverSpec}
 use Rattle.smx_types.specs.declared.reply.Fault.{Fault}
+use Rattle.smx_types.specs.declared.reply.Reply.{Reply}
+use Rattle.smx_types.specs.declared.reply.Reply.TheVariants as reply
 use Rattle.smx_types.specs.declared.stream.Place.{Place}
 use Rattle.smx_types.specs.declared.stream.StreamId.{StreamId}
 use Rattle.smx_model.specs.Commands.{outcome}
@@ -35,15 +37,26 @@ turned_under c (wakes.TurnsReads driver addr) = asks_up c driver addr
 turned_under c (wakes.Empties s) = nowhere
 turned_under c wakes.Frees = nowhere
 
--- which places may stop being full
-abbrev pub freed_under : Wakes → Place → Bool
-freed_under wakes.Nothing = nowhere
-freed_under (wakes.Turns p) = nowhere
-freed_under (wakes.Leaves p) = same_place p
-freed_under (wakes.TurnsWrites driver addr) = nowhere
-freed_under (wakes.TurnsReads driver addr) = nowhere
-freed_under (wakes.Empties s) = is_either_side s
-freed_under wakes.Frees = everywhere
+-- it is done, and no message was dropped
+abbrev pub drops_none : Reply → Bool
+drops_none (reply.Done []) = true
+drops_none (reply.Done (n ∷ ns)) = false
+drops_none (reply.Fd fd minor) = false
+drops_none (reply.Id id) = false
+drops_none (reply.Took serial) = false
+drops_none (reply.Got serial addr bytes) = false
+drops_none reply.Eof = false
+drops_none (reply.Fault f) = false
+
+-- which places may stop being full, by the reply: none of those that are emptied where no message was dropped
+abbrev pub freed_under : Reply → Wakes → Place → Bool
+freed_under r wakes.Nothing = nowhere
+freed_under r (wakes.Turns p) = nowhere
+freed_under r (wakes.Leaves p) = same_place p
+freed_under r (wakes.TurnsWrites driver addr) = nowhere
+freed_under r (wakes.TurnsReads driver addr) = nowhere
+freed_under r (wakes.Empties s) = if drops_none r then nowhere else is_either_side s
+freed_under r wakes.Frees = if drops_none r then nowhere else everywhere
 
 -- by the stream that is named, or nothing where none is
 abbrev pub on_stream : Result StreamId Fault → (StreamId → Wakes) → Wakes
@@ -88,5 +101,5 @@ wakes_of drivers c process (command.Hangup name minor) = wakes.Nothing
 -- if a command is accepted, and all that it may turn and free was woken, the marks are right after it
 abbrev pub IsEnough : List DriverSpec → Configuration → ℕ → Command → Marks → Marks → Type 0
 IsEnough drivers c process k m n = IfOk (outcome drivers c process k)
-    (λ x. IsWoken x.0 (turned_under x.0 (wakes_of drivers c process k)) (freed_under (wakes_of drivers c process k)) m n
-    → AreMarks drivers x.0 n)
+    (λ x. IsWoken x.0 (turned_under x.0 (wakes_of drivers c process k))
+    (freed_under x.1 (wakes_of drivers c process k)) m n → AreMarks drivers x.0 n)

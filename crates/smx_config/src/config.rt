@@ -22,6 +22,7 @@ use crate::waking::wake;
 use crate::ways::Ways;
 use smx_commands::{StepError, Tables};
 use smx_model::laws_of_marked_commands::empty_needs_no_mark;
+use smx_model::laws_of_marks::full_places_have_messages;
 use smx_model::laws_of_steps::{
     commands_keep, empty_is_kept, outcomes_are_sound, refusals_change_nothing,
 };
@@ -71,6 +72,7 @@ impl Config {
     {
         empty_is_kept();
         empty_needs_no_mark();
+        full_places_have_messages();
         check_drivers(drivers)?;
         let tables = Tables::new(alloc, drivers)?;
         let marks = no_marks(alloc, drivers)?;
@@ -122,6 +124,7 @@ impl Config {
         ensures refused { IsErr (outcome self.old.drivers self.old.configuration process command.now) → IsOk result }
     {
         commands_keep();
+        full_places_have_messages();
         outcomes_are_sound();
         refusals_change_nothing();
         woken_marks_are_enough();
@@ -130,7 +133,7 @@ impl Config {
         let answer = self.tables.perform(process, command, named, reply);
         if answer.is_ok() {
             self.ways.forget_after(command);
-            wake(&self.tables, &mut self.marks, wakes);
+            wake(&self.tables, &mut self.marks, wakes, reply);
             settle(&mut self.tables, &mut self.marks, &mut self.ways);
         }
         match answer {

@@ -6,7 +6,8 @@ ghost use Rattle.smx_model.specs.Configuration.{Configuration, same_place};
 ghost use Rattle.smx_model.specs.Queues.{is_full};
 ghost use Rattle.smx_queues.specs.PlaceMarks.{has_mark, MarkList};
 ghost use Rattle.smx_config.specs.Marking.{AreWaitersMarked, HasNeeded, IsMarkedWhere, IsReleased, IsWoken};
-ghost use Rattle.smx_config.specs.Wakes.{everywhere, freed_under, is_either_side, turned_under};
+ghost use Rattle.smx_config.specs.Wakes.{drops_none, everywhere, freed_under, is_either_side, turned_under};
+ghost use Rattle.smx_config.specs.declared.wakes.Wakes.TheVariants as wakes;
 
 use crate::marks::Marks;
 use crate::run_marks::{mark_reads, mark_waiting, mark_writes};
@@ -14,7 +15,7 @@ use crate::wakes::Wakes;
 use smx_commands::Tables;
 use smx_queues::{PlaceMarks, Waiters};
 use smx_tables::comparisons::same_place;
-use smx_types::{Place, Side, StreamId};
+use smx_types::{Place, Reply, Side, StreamId};
 
 // Marks those of the waiting places that wait for this one.
 fn mark_waiters(waits: &Waiters, run: &mut PlaceMarks, place: Place)
@@ -83,13 +84,42 @@ fn release_all(tables: &Tables, marks: &mut Marks)
     }
 }
 
-fn release_freed(tables: &Tables, marks: &mut Marks, wakes: Wakes)
-    ensures { IsReleased tables.now.configuration (freed_under wakes) marks.old marks.new }
+// Whether it is done, and no message was dropped.
+fn drops_none(reply: &Reply) -> bool
+    ensures { result ≡ drops_none reply.now }
+{
+    match reply {
+        Reply::Done { dropped } => dropped.as_slice().is_empty(),
+        _ => false,
+    }
+}
+
+// So it is with either side of the stream whose messages may have been dropped. A full place has messages, so where none
+// was dropped it is full still, and is not looked at.
+fn release_emptied(tables: &Tables, marks: &mut Marks, stream: StreamId, reply: &Reply)
+    ensures { IsReleased tables.now.configuration (freed_under reply.now (wakes.Empties stream)) marks.old marks.new }
+{
+    if !drops_none(reply) {
+        release_sides(tables, marks, stream);
+    }
+}
+
+// And so with each place.
+fn release_dropped(tables: &Tables, marks: &mut Marks, reply: &Reply)
+    ensures { IsReleased tables.now.configuration (freed_under reply.now wakes.Frees) marks.old marks.new }
+{
+    if !drops_none(reply) {
+        release_all(tables, marks);
+    }
+}
+
+fn release_freed(tables: &Tables, marks: &mut Marks, wakes: Wakes, reply: &Reply)
+    ensures { IsReleased tables.now.configuration (freed_under reply.now wakes) marks.old marks.new }
 {
     match wakes {
         Wakes::Leaves(place) => release_if_open(tables, marks, place),
-        Wakes::Empties(stream) => release_sides(tables, marks, stream),
-        Wakes::Frees => release_all(tables, marks),
+        Wakes::Empties(stream) => release_emptied(tables, marks, stream, reply),
+        Wakes::Frees => release_dropped(tables, marks, reply),
         Wakes::Nothing | Wakes::Turns(_) | Wakes::TurnsWrites { .. } | Wakes::TurnsReads { .. } =>
             {}
     }
@@ -108,12 +138,12 @@ fn mark_turned(tables: &Tables, run: &mut PlaceMarks, wakes: Wakes)
     }
 }
 
-// Marks what a command woke, and takes the wanted marks of the places that it freed.
-pub fn wake(tables: &Tables, marks: &mut Marks, wakes: Wakes)
+// Marks what a command woke that had this reply, and takes the wanted marks of the places that it freed.
+pub fn wake(tables: &Tables, marks: &mut Marks, wakes: Wakes, reply: &Reply)
     ensures { (all : MarkList) × IsWoken tables.now.configuration (turned_under tables.now.configuration wakes)
-        (freed_under wakes) marks.old (record marks.new { run = all })
+        (freed_under reply.now wakes) marks.old (record marks.new { run = all })
         × HasNeeded tables.now.drivers tables.now.configuration all marks.new.run }
 {
-    release_freed(tables, marks, wakes);
+    release_freed(tables, marks, wakes, reply);
     mark_turned(tables, &mut marks.run, wakes);
 }

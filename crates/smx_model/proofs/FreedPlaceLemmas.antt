@@ -37,7 +37,7 @@ use Rattle.smx_model.proofs.SweptLemmas.{leaf_exists}
 -- ---- what frees which places
 
 -- nothing is so and is not so
-never_freed : (b : Bool) → (b && not b) ≡ true → ⊥
+pub never_freed : (b : Bool) → (b && not b) ≡ true → ⊥
 never_freed true h = false≢true h
 never_freed false h = false≢true h
 
@@ -74,12 +74,12 @@ frees_emptied c goes = frees_by c (without_queues_at c goes) goes (λ q n h. emp
 -- ---- what frees only places that it empties
 
 -- each place is as full as it was, with the same first message, or it is empty
-abbrev KeepsOrEmpties : Configuration → Configuration → Type 0
+abbrev pub KeepsOrEmpties : Configuration → Configuration → Type 0
 KeepsOrEmpties c d = (q : Place) → ((is_full d q ≡ is_full c q) × (first_message d.flow q ≡ first_message c.flow q))
     ⊎ (first_message d.flow q ≡ None)
 
 -- two changes that each keep or empty each place do so one after the other
-keeps_then : (c d e : Configuration) → KeepsOrEmpties c d → KeepsOrEmpties d e → KeepsOrEmpties c e
+pub keeps_then : (c d e : Configuration) → KeepsOrEmpties c d → KeepsOrEmpties d e → KeepsOrEmpties c e
 keeps_then c d e f g q = by (f q) (g q) where
   by : ((is_full d q ≡ is_full c q) × (first_message d.flow q ≡ first_message c.flow q))
       ⊎ (first_message d.flow q ≡ None)
@@ -92,7 +92,7 @@ keeps_then c d e f g q = by (f q) (g q) where
   by (inr z) (inl b) = inr (b.1 ∙ z)
 
 -- to empty some places keeps or empties each place
-emptied_keeps : (c d : Configuration) (goes : Place → Bool) → d.flow ≡ filter (λ h. not (goes h.place)) c.flow
+pub emptied_keeps : (c d : Configuration) (goes : Place → Bool) → d.flow ≡ filter (λ h. not (goes h.place)) c.flow
     → d.fulls ≡ filter (λ p. not (goes p)) c.fulls → KeepsOrEmpties c d
 emptied_keeps c d goes e f q = by (goes q) refl where
   queues : (b : Bool) → goes q ≡ b → queue d.flow q ≡ cond b [] (queue c.flow q)
@@ -113,11 +113,11 @@ emptied_keeps c d goes e f q = by (goes q) refl where
   )
 
 -- to remove links keeps or empties each place
-removed_keeps : (c : Configuration) (goes : Link → Bool) → KeepsOrEmpties c (without_links c goes)
+pub removed_keeps : (c : Configuration) (goes : Link → Bool) → KeepsOrEmpties c (without_links c goes)
 removed_keeps c goes = emptied_keeps c (without_links c goes) (is_read_below (filter goes c.links)) refl refl
 
 -- a sweep keeps or empties each place
-swept_keeps : (drivers : List DriverSpec) (c : Configuration) → KeepsOrEmpties c (after_sweep drivers c)
+pub swept_keeps : (drivers : List DriverSpec) (c : Configuration) → KeepsOrEmpties c (after_sweep drivers c)
 swept_keeps drivers c = keeps_then c (without_links c loose) (after_sweep drivers c) (removed_keeps c loose)
     (emptied_keeps (without_links c loose) (after_sweep drivers c)
     (λ p. not (exists drivers (without_links c loose) p.stream)) refl refl) where

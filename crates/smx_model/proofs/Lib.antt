@@ -28,6 +28,7 @@ pub mod SettledLemmas
 pub mod RemovalLemmas
 pub mod DeliveryLemmas
 pub mod WaterMarkLemmas
+pub mod FullPlaceLemmas
 pub mod DescriptorLemmas
 pub mod BindingLemmas
 pub mod RoutingLemmas
@@ -47,6 +48,7 @@ pub mod LoneWaitingLemmas
 pub mod LoneMessageLemmas
 pub mod MarkedPlaceLemmas
 pub mod FreedPlaceLemmas
+pub mod UndroppedLemmas
 pub mod NearMarkLemmas
 pub mod MarkedCommandLemmas
 pub mod HungStreamLemmas

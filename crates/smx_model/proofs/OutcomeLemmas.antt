@@ -48,3 +48,8 @@ pub if_ok : (P Q : Configuration → Type 0) (o : Outcome) → ((d : Configurati
     → IfAccepted (λ d r. P d) o → IfOk o (λ x. Q x.0)
 if_ok P Q (Ok x) f h = f x.0 h.holds
 if_ok P Q (Err e) f h = tt
+
+-- and so it does of its reply
+pub if_accepted : (P : Configuration → Reply → Type 0) (o : Outcome) → IfAccepted P o → IfOk o (λ x. P x.0 x.1)
+if_accepted P (Ok x) h = h.holds
+if_accepted P (Err e) h = tt

@@ -1,5 +1,5 @@
 -- Which places a command frees. Only the laws of marked commands need this.
-use Rattle.std.specs.Prelude.{◌≡◌, ℕ, Bool, true, ◌&&◌, not, List}
+use Rattle.std.specs.Prelude.{◌≡◌, ◌≢◌, ℕ, Bool, true, ◌&&◌, not, List, None}
 use Rattle.std.specs.Option.{is_some}
 use Rattle.smx_types.specs.declared.command.Command.{Command}
 use Rattle.smx_types.specs.declared.command.Command.TheVariants as command
@@ -10,13 +10,17 @@ use Rattle.smx_types.specs.declared.stream.StreamId.{StreamId}
 use Rattle.smx_model.specs.Commands.{is_side}
 use Rattle.smx_model.specs.Configuration.{Configuration, same_place, same_stream, read_side, write_side}
 use Rattle.smx_model.specs.Lookups.{free_stream, live_stream, live_leaf}
-use Rattle.smx_model.specs.Queues.{first_message}
+use Rattle.smx_model.specs.Queues.{first_message, is_full}
 use Rattle.smx_model.specs.RunMarks.{is_freed, nowhere}
 use Rattle.smx_model.specs.TurnedPlaces.{of_stream}
 
 -- but for these places, no full one stops being full
 abbrev pub FreesOnly : Configuration → Configuration → (Place → Bool) → Type 0
 FreesOnly old new freed = (p : Place) → is_freed old new p ≡ true → freed p ≡ true
+
+-- each full place has messages
+abbrev pub HaveFullPlacesMessages : Configuration → Type 0
+HaveFullPlacesMessages c = (p : Place) → is_full c p ≡ true → first_message c.flow p ≢ None
 
 -- no message is there
 abbrev pub is_empty_at : Configuration → Place → Bool

@@ -1,13 +1,14 @@
 //! Laws of what commands do to marks, each the contract of a function that does nothing.
 
-ghost use Rattle.std.specs.Prelude.{◌≡◌, ℕ, true, List, IfOk};
+ghost use Rattle.std.specs.Prelude.{◌≡◌, ℕ, true, List, [], IfOk};
 ghost use Rattle.smx_types.specs.declared.command.Command.{Command};
 ghost use Rattle.smx_types.specs.declared.driver.DriverSpec.{DriverSpec};
+ghost use Rattle.smx_types.specs.declared.reply.Reply.TheVariants as reply;
 ghost use Rattle.smx_types.specs.declared.stream.Place.{Place};
 ghost use Rattle.smx_model.specs.Commands.{outcome, step};
 ghost use Rattle.smx_model.specs.Configuration.{Configuration, empty};
-ghost use Rattle.smx_model.specs.FreedPlaces.{FreesOnly, freed_by};
-ghost use Rattle.smx_model.specs.KeptConfigurations.{IsKept, IsSound};
+ghost use Rattle.smx_model.specs.FreedPlaces.{FreesOnly, HaveFullPlacesMessages, freed_by};
+ghost use Rattle.smx_model.specs.KeptConfigurations.{AreSerialsSound, IsKept, IsSound};
 ghost use Rattle.smx_model.specs.RunMarks.{either, feeds, is_freed, nowhere};
 ghost use Rattle.smx_model.specs.Settling.{is_movable};
 ghost use Rattle.smx_model.specs.SettlingByMarks.{HasItsMarks, IsAtRest, IsMarkedAfter, MarkedConfiguration};
@@ -33,6 +34,13 @@ pub fn commands_free_few()
     ensures { (drivers : List DriverSpec) (c : Configuration) (process : ℕ) (command : Command)
         → IsSound drivers c → IfOk (outcome drivers c process command) (λ x.
         FreesOnly c x.0 (freed_by drivers c process command x.0)) }
+{}
+
+/// Where each full place has messages, a command that is done with no message dropped frees none.
+pub fn without_drops_none_is_freed()
+    ensures { (drivers : List DriverSpec) (c : Configuration) (process : ℕ) (command : Command) → AreSerialsSound c
+        → HaveFullPlacesMessages c → IfOk (outcome drivers c process command) (λ x.
+        x.1 ≡ reply.Done [] → FreesOnly c x.0 nowhere) }
 {}
 
 /// An accepted command keeps the marks, where what it woke is marked.

@@ -1,10 +1,14 @@
-//! The law of the water marks, the contract of a function that does nothing.
+//! Laws of the water marks, each the contract of a function that does nothing.
 
-ghost use Rattle.std.specs.Prelude.{◌≡◌, ◌<◌, false, List, length, IsTrue};
+ghost use Rattle.std.specs.Prelude.{◌≡◌, ◌<◌, ℕ, false, List, length, IsTrue};
+ghost use Rattle.smx_types.specs.declared.command.Command.{Command};
 ghost use Rattle.smx_types.specs.declared.command.Entry.{Entry};
 ghost use Rattle.smx_types.specs.declared.driver.DriverSpec.{DriverSpec};
 ghost use Rattle.smx_types.specs.declared.stream.Place.{Place};
+ghost use Rattle.smx_model.specs.Commands.{step};
+ghost use Rattle.smx_model.specs.Configuration.{Configuration, empty};
 ghost use Rattle.smx_model.specs.DriverList.{high_of, IsDriverList, low_of};
+ghost use Rattle.smx_model.specs.FreedPlaces.{HaveFullPlacesMessages};
 ghost use Rattle.smx_model.specs.Histories.{after};
 ghost use Rattle.smx_model.specs.Queues.{bytes_at, is_full};
 
@@ -17,4 +21,11 @@ pub fn marks_bound_the_bytes()
     ensures others { (drivers : List DriverSpec) (history : List Entry) (p : Place) → IsDriverList drivers
         → p.stream.driver < length drivers → is_full (after drivers history) p ≡ false
         → bytes_at (after drivers history).flow p < high_of drivers p.stream.driver }
+{}
+
+/// A full place has messages: it is so of the empty configuration, and each command keeps it so.
+pub fn full_places_have_messages()
+    ensures empty { HaveFullPlacesMessages empty }
+    ensures commands { (drivers : List DriverSpec) (c : Configuration) (process : ℕ) (command : Command)
+        → HaveFullPlacesMessages c → HaveFullPlacesMessages (step drivers c process command).0 }
 {}

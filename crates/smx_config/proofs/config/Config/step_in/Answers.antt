@@ -15,12 +15,12 @@ settle-requires-clause-marks c =
     let there = c.perform-answer.new.reply in
     let all : Marks = record c.wake.new.marks { run = c.wake.ensures.0 } in
     needed_do new.drivers new.configuration all c.wake.new.marks
-    (woken_if old new c.args.process c.args.command.now (answer_of c.perform-answer.result there)
-    c.wakes_of-wakes.result c.self.inside.marks all
-    (is_ok_of c.perform-answer.result there ∙ sym c.is_ok.ensures.value ∙ c.if-is_ok.true)
+    (woken_if old new c.args.process c.args.command.now c.perform-answer.result there
+    c.wakes_of-wakes.result c.self.inside.marks all (sym c.is_ok.ensures.value ∙ c.if-is_ok.true)
     c.perform-answer.ensures.refines c.wakes_of-wakes.ensures
     (c.woken_marks_are_enough.ensures old.drivers old.configuration c.args.process c.args.command.now
-    c.self.inside.marks all c.self.invariant.kept.sound c.self.invariant.marks) c.wake.ensures.1)
+    c.self.inside.marks all c.self.invariant.kept.sound c.self.invariant.filled c.self.invariant.marks)
+    c.wake.ensures.1)
     c.wake.ensures.2 refl refl
 
 pub settle-requires-clause-ways : goal.settle-requires-clause-ways
@@ -40,6 +40,7 @@ invariant_of-self-else-is_ok c =
     c.perform-answer.ensures.refines in
     record {
       kept = rw same c.self.invariant.kept;
+      filled = rw same c.self.invariant.filled;
       marks = rw same c.self.invariant.marks;
       ways = rw same c.self.invariant.ways;
       none = c.self.invariant.none;

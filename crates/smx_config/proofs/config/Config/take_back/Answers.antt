@@ -5,6 +5,7 @@ invariant_of-self c =
     let same = c.take_back.ensures in
     record {
       kept = rw same c.self.invariant.kept;
+      filled = rw same c.self.invariant.filled;
       marks = rw same c.self.invariant.marks;
       ways = rw same c.self.invariant.ways;
       none = c.self.invariant.none;
