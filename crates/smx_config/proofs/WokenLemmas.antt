@@ -221,15 +221,15 @@ pub frees_among : (drivers : List DriverSpec) (c : Configuration) (process : ℕ
     → FreesAmong c x.0 (freed_under x.1 (wakes_of drivers c process k))
 frees_among drivers c process k x few none = elim (cases_Bool (drops_none x.1)) [
   | inl t ↦ record {
-      freed = nowhere;
-      among = λ p f. absurd (false≢true f);
-      only = none (undropped x.1 t);
-    }
+    freed = nowhere;
+    among = λ p f. absurd (false≢true f);
+    only = none (undropped x.1 t);
+  }
   | inr some ↦ record {
-      freed = freed_by drivers c process k x.0;
-      among = λ p f. frees drivers c x.0 process k x.1 p some f;
-      only = few;
-    }
+    freed = freed_by drivers c process k x.0;
+    among = λ p f. frees drivers c x.0 process k x.1 p some f;
+    only = few;
+  }
 ]
 
 -- ---- both ends of a move
