@@ -22,7 +22,6 @@ use Rattle.smx_queues.specs.PlaceMarks.{MarkList, has_mark}
 use Rattle.smx_config.specs.Marking.{IsMarkedUnless, IsMarkedWhere, asks_between, is_read_below_driver}
 use Rattle.smx_config.specs.Marking.{is_write_of}
 use Rattle.smx_tables.proofs.AboveLemmas.{any_once, once_below}
-use Rattle.smx_queues.proofs.LeftLemmas.{AreFirst}
 use Rattle.smx_queues.proofs.PlaceLemmas.{place_is}
 
 -- nothing is marked where no place with a message passes the test
@@ -169,22 +168,18 @@ none_between c driver addr lower m none = none_marked c.flow (asks_between c dri
     absurd (false≢true (sym none ∙ below_joins c.links p.stream driver lower
     (eqb-true p.stream.driver lower both.1) (asked_below c driver addr p both.0))))
 
--- nothing is passed yet: each place asked for that has a message is of the driver whose first messages are to come
-pub all_to_come : (flow rest : List QueuedMessage) (test : Place → Bool) (driver : ℕ) (m : MarkList)
+-- nothing is passed yet: each place asked for is one whose first message is to come, of the driver and with the address
+pub all_to_come : (flow rest : List QueuedMessage) (test : Place → Bool) (driver addr : ℕ) (m : MarkList)
     → ((p : Place) → test p ≡ true → p.stream.driver ≡ driver)
-    → ((p : Place) → first_message flow p ≢ None → p.stream.driver ≡ driver
+    → ((p : Place) → test p ≡ true → has_addr addr (first_message flow p) ≡ true)
+    → ((p : Place) → has_addr addr (first_message flow p) ≡ true → p.stream.driver ≡ driver
     → list_any (λ h. same_place h.place p) rest ≡ true)
     → ArePassed flow rest test m m
-all_to_come flow rest test driver m its all = record {
+all_to_come flow rest test driver addr m its has all = record {
   kept = λ p h. h;
-  marked = λ p known ask. inr (all p ask.0 (its p ask.1));
+  marked = λ p known ask. inr (all p (has p ask.1) (its p ask.1));
   drivers = refl;
 }
-
--- the one that comes is the first at its place, and so are those that are left
-pub first_of : (flow now rest : List QueuedMessage) (h : QueuedMessage) → now ≡ h ∷ rest → AreFirst flow now
-    → (first_message flow h.place ≡ Some h.message) × AreFirst flow rest
-first_of flow now rest h is first = subst (AreFirst flow) is first
 
 -- a write side that is asked for is a place of the driver
 pub write_driver : (c : Configuration) (driver addr : ℕ) (p : Place) → asks_down c driver addr p ≡ true
@@ -199,22 +194,27 @@ pub read_driver : (c : Configuration) (driver addr lower : ℕ) (p : Place) → 
 read_driver c driver addr lower p t =
     eqb-true p.stream.driver lower (and_parts (asks_up c driver addr p) (eqb p.stream.driver lower) t).1
 
--- whether a place is asked for, by its first message
-pub asked_down : (c : Configuration) (driver addr : ℕ) (h : QueuedMessage)
-    → first_message c.flow h.place ≡ Some h.message
-    → asks_down c driver addr h.place ≡ (is_write_of driver h.place && eqb h.message.addr addr)
-asked_down c driver addr h first = ap (λ o. is_write_of driver h.place && has_addr addr o) first
+-- the first message of a write side that is asked for has the address
+pub write_addr : (c : Configuration) (driver addr : ℕ) (p : Place) → asks_down c driver addr p ≡ true
+    → has_addr addr (first_message c.flow p) ≡ true
+write_addr c driver addr p t = (and_parts (is_write_of driver p) (has_addr addr (first_message c.flow p)) t).1
 
--- the same of a read side
-pub asked_up : (c : Configuration) (driver addr : ℕ) (h : QueuedMessage)
-    → first_message c.flow h.place ≡ Some h.message
-    → asks_up c driver addr h.place ≡ (is_read_below_driver c driver h.place && eqb h.message.addr addr)
-asked_up c driver addr h first = ap (λ o. is_read_below_driver c driver h.place && has_addr addr o) first
+-- and so has that of a read side that is asked for between two drivers
+pub read_addr : (c : Configuration) (driver addr lower : ℕ) (p : Place) → asks_between c driver addr lower p ≡ true
+    → has_addr addr (first_message c.flow p) ≡ true
+read_addr c driver addr lower p t =
+    let up = and_parts (asks_up c driver addr p) (eqb p.stream.driver lower) t in
+    (and_parts (is_read_below_driver c driver p) (has_addr addr (first_message c.flow p)) up.0).1
 
--- what is not asked for is none of this lower driver
-pub not_between : (c : Configuration) (driver addr lower : ℕ) (p : Place) → asks_up c driver addr p ≡ false
+-- what is no write side of the driver is not asked for
+pub not_write : (c : Configuration) (driver addr : ℕ) (p : Place) → is_write_of driver p ≡ false
+    → asks_down c driver addr p ≡ false
+not_write c driver addr p f = rw f refl
+
+-- what is no read side below the driver is not asked for between two drivers
+pub not_below : (c : Configuration) (driver addr lower : ℕ) (p : Place) → is_read_below_driver c driver p ≡ false
     → asks_between c driver addr lower p ≡ false
-not_between c driver addr lower p f = rw f refl
+not_below c driver addr lower p f = rw f refl
 
 -- the read sides below the driver that are asked for, at streams of the lower drivers below a number
 abbrev pub asks_before : Configuration → ℕ → ℕ → ℕ → Place → Bool

@@ -1,6 +1,6 @@
 //! Run marks at places that have a message.
 
-ghost use Rattle.std.specs.Prelude.{◌≡◌, ◌==◌, ◌&&◌, None};
+ghost use Rattle.std.specs.Prelude.{◌≡◌};
 ghost use Rattle.smx_model.specs.Configuration.{same_place};
 ghost use Rattle.smx_model.specs.RunMarks.{asks_down, asks_up};
 ghost use Rattle.smx_queues.specs.PlaceMarks.{MarkList};
@@ -9,7 +9,7 @@ ghost use Rattle.smx_config.specs.Marking.{HasNeeded, IsMarkedUnless, IsMarkedWh
 
 use crate::next_places::leads_on;
 use smx_commands::Tables;
-use smx_queues::{PlaceMarks, Queued};
+use smx_queues::PlaceMarks;
 use smx_types::{Place, Side};
 
 // Whether the place is a write side of the driver's streams.
@@ -52,15 +52,8 @@ pub fn mark_waiting(tables: &Tables, run: &mut PlaceMarks, place: Place)
     }
 }
 
-// Whether this first message has the address, at a write side of the driver.
-fn asks_down(first: Queued<'_>, driver: u8, addr: u32) -> bool
-    ensures { result ≡ (is_write_of driver first.entry.place && (first.entry.message.now.addr == addr)) }
-{
-    is_write_of(driver, first.place) && first.message.addr == addr
-}
-
-// Marks the write sides of the driver's streams whose first message has this address. It looks at those places of the
-// driver alone that have messages.
+// Marks the write sides of the driver's streams whose first message has this address. It looks at few places of the
+// driver whose first message has another address.
 pub fn mark_writes(tables: &Tables, run: &mut PlaceMarks, driver: u8, addr: u32)
     ensures { IsMarkedWhere tables.now.configuration.flow
         (asks_down tables.now.configuration driver addr) run.old run.new }
@@ -68,9 +61,9 @@ pub fn mark_writes(tables: &Tables, run: &mut PlaceMarks, driver: u8, addr: u32)
     if tables.queues().len() == 0 {
         return;
     }
-    let mut rest = tables.queues().fronts_of_driver(driver);
+    let mut rest = tables.queues().fronts_for(driver, addr);
     while let Some(first) = rest.next() {
-        if asks_down(first, driver, addr) {
+        if is_write_of(driver, first.place) {
             run.mark(first.place);
         }
     }
@@ -91,14 +84,6 @@ fn is_read_below(tables: &Tables, place: Place, driver: u8) -> bool
     }
 }
 
-// Whether this first message has the address, at the read side of a stream below the driver.
-fn asks_up(tables: &Tables, first: Queued<'_>, driver: u8, addr: u32) -> bool
-    ensures { result ≡ (is_read_below_driver tables.now.configuration driver first.entry.place
-        && (first.entry.message.now.addr == addr)) }
-{
-    first.message.addr == addr && is_read_below(tables, first.place, driver)
-}
-
 // Marks the read sides of the lower driver's streams below the upper one whose first message has this address. Where no
 // link leads from the one driver to the other it looks at none.
 fn mark_reads_of(tables: &Tables, run: &mut PlaceMarks, driver: u8, addr: u32, lower: u8)
@@ -108,9 +93,9 @@ fn mark_reads_of(tables: &Tables, run: &mut PlaceMarks, driver: u8, addr: u32, l
     if !tables.links().joins(driver, lower) {
         return;
     }
-    let mut rest = tables.queues().fronts_of_driver(lower);
+    let mut rest = tables.queues().fronts_for(lower, addr);
     while let Some(first) = rest.next() {
-        if asks_up(tables, first, driver, addr) {
+        if is_read_below(tables, first.place, driver) {
             run.mark(first.place);
         }
     }

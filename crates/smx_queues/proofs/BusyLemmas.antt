@@ -1,14 +1,16 @@
--- The bytes that tell which places have messages.
-use Rattle.std.proofs.Common.{◌≡◌, ◌≢◌, ℕ, ◌+◌, ◌-◌, ◌<◌, ◌≤◌, eqb, List, [], ◌∷◌, length, map, drop, take}
+-- The bytes by which places are found whose first message has an address.
+use Rattle.std.proofs.Common.{◌≡◌, ◌≢◌, ℕ, ◌+◌, ◌-◌, ◌<◌, ◌≤◌, false, eqb, List, [], ◌∷◌, length, map, drop, take}
 use Rattle.std.proofs.Common.{get_or, set, Option, Some, None, refl, sym, ap, ◌∙◌, subst, arith, inl, inr}
-use Rattle.std.specs.Prelude.{IsSome, slice_get}
-use Rattle.std.proofs.lemmas.Bool.{cases_Bool, cases_lt}
-use Rattle.std.proofs.lemmas.List.{get_or-drop, get_or-map, get_or-set_other, get_or-set_same, get_or_past, length-drop}
-use Rattle.std.proofs.lemmas.List.{drop-take, length-map, length-set, length-take, map-set, take-map, take_rest}
+use Rattle.std.specs.Prelude.{IsSome, nat_lt, slice_get}
+use Rattle.std.proofs.lemmas.Bool.{cases_Bool, cases_lt, eqb-true, false_from_ne_true}
+use Rattle.std.proofs.lemmas.List.{drop-take, get_or-drop, get_or-map, get_or-set_other, get_or-set_same}
+use Rattle.std.proofs.lemmas.List.{get_or_default, get_or_past, length-drop, length-map, length-set, length-take}
+use Rattle.std.proofs.lemmas.List.{map-set, take-map}
 use Rattle.memchr.specs.Find.{IsFirstByte, is_byte}
 use Rattle.smx_types.specs.declared.message.Message.{Message}
 use Rattle.smx_queues.specs.QueueTable.{IsPlace, Queue, QueueTable, queue_at, with_arrival, with_queue, without_front}
-use Rattle.smx_queues.specs.Slots.{IsLeastFrom, busy_byte, has_messages}
+use Rattle.smx_queues.specs.Slots.{IsLeastFrom, addr_byte, front_byte, has_messages, may_start_with}
+use Rattle.smx_queues.specs.Slots.{message_byte, messages_in, starts_with}
 -- a place that is there has a number below their count
 pub use Rattle.smx_queues.proofs.QueueTableLemmas.{place_below}
 
@@ -16,14 +18,14 @@ pub use Rattle.smx_queues.proofs.QueueTableLemmas.{place_below}
 pub place_inside : (inside seen : QueueTable) (p : ℕ) → inside ≡ seen → IsPlace seen.queues p → IsPlace inside.queues p
 place_inside inside seen p is there = subst (λ (t : QueueTable). IsPlace t.queues p) (sym is) there
 
--- where a place has another slot and its byte is set anew, the bytes tell again which places have messages
-pub busy_again : (old new : List (Option Queue)) (busy more : List ℕ) (p : ℕ) (q : Option Queue)
-    → busy ≡ map busy_byte old → p < length old → new ≡ set old p q → more ≡ set busy p (busy_byte (get_or new p None))
-    → more ≡ map busy_byte new
-busy_again old new busy more p q is lt changed more_is =
+-- where a place has another slot and its byte is set anew, the bytes are again those of the slots
+pub bytes_again : (old new : List (Option Queue)) (bytes more : List ℕ) (p : ℕ) (q : Option Queue)
+    → bytes ≡ map front_byte old → p < length old → new ≡ set old p q
+    → more ≡ set bytes p (front_byte (get_or new p None)) → more ≡ map front_byte new
+bytes_again old new bytes more p q is lt changed more_is =
     let here : get_or new p None ≡ q = ap (λ (qs : List (Option Queue)). get_or qs p None) changed
     ∙ get_or-set_same old p q None lt in
-    rw (more_is, here, is, changed) (sym (map-set busy_byte old p q))
+    rw (more_is, here, is, changed) (sym (map-set front_byte old p q))
 
 -- ---- two places with other queues
 
@@ -73,88 +75,112 @@ first_there old new i j differ there h =
 pub second_there : (old new : List (Option Queue)) (i j : ℕ) → IsPlace old j → AreMoved old new i j → IsPlace new j
 second_there old new i j there h = subst (λ (o : Option Queue). IsSome o) (sym (at_second old new i j there h)) refl
 
--- where the bytes of both places are set anew, the bytes tell again which places have messages
-pub busy_moved : (old new : List (Option Queue)) (busy mid more : List ℕ) (i j : ℕ) → i ≢ j → IsPlace old i
-    → IsPlace old j → busy ≡ map busy_byte old → (h : AreMoved old new i j)
-    → mid ≡ set busy i (busy_byte (get_or new i None)) → more ≡ set mid j (busy_byte (get_or new j None))
-    → more ≡ map busy_byte new
-busy_moved old new busy mid more i j differ from to is h mid_is more_is =
+-- where the bytes of both places are set anew, the bytes are again those of the slots
+pub bytes_moved : (old new : List (Option Queue)) (bytes mid more : List ℕ) (i j : ℕ) → i ≢ j → IsPlace old i
+    → IsPlace old j → bytes ≡ map front_byte old → (h : AreMoved old new i j)
+    → mid ≡ set bytes i (front_byte (get_or new i None)) → more ≡ set mid j (front_byte (get_or new j None))
+    → more ≡ map front_byte new
+bytes_moved old new bytes mid more i j differ from to is h mid_is more_is =
     rw (more_is, mid_is, at_first old new i j differ from h, at_second old new i j to h, is, h.is)
-    (ap (λ (bs : List ℕ). set bs j (busy_byte (Some h.second))) (sym (map-set busy_byte old i (Some h.first)))
-    ∙ sym (map-set busy_byte (set old i (Some h.first)) j (Some h.second)))
-
--- ---- the least number that is busy
+    (ap (λ (bs : List ℕ). set bs j (front_byte (Some h.second))) (sym (map-set front_byte old i (Some h.first)))
+    ∙ sym (map-set front_byte (set old i (Some h.first)) j (Some h.second)))
 
 -- at each number, also past the end, the byte is that of the slot there
-byte_is : (queues : List (Option Queue)) (busy : List ℕ) (k : ℕ) → busy ≡ map busy_byte queues
-    → get_or busy k 0 ≡ busy_byte (get_or queues k None)
-byte_is queues busy k is = elim (cases_lt k (length queues)) [
-  | inl lt ↦ rw is (get_or-map busy_byte queues k None 0 lt)
+byte_is : (queues : List (Option Queue)) (bytes : List ℕ) (k : ℕ) → bytes ≡ map front_byte queues
+    → get_or bytes k 0 ≡ front_byte (get_or queues k None)
+byte_is queues bytes k is = elim (cases_lt k (length queues)) [
+  | inl lt ↦ rw is (get_or-map front_byte queues k None 0 lt)
   | inr past ↦ rw (get_or_past queues k None past)
-      (get_or_past busy k 0 (omega (arith, past, ap length is, length-map queues busy_byte)))
+      (get_or_past bytes k 0 (omega (arith, past, ap length is, length-map queues front_byte)))
 ]
 
--- the byte of a slot is 1 exactly where the slot has messages
-is_one : (q : Option Queue) → eqb (busy_byte q) 1 ≡ has_messages q
-is_one q = elim (cases_Bool (has_messages q)) [ inl t ↦ rw t refl | inr f ↦ rw f refl ]
+-- ---- the least number that has messages
 
--- a byte from the start on is 1 exactly where the slot as far behind the start has messages
-byte_at : (queues : List (Option Queue)) (busy : List ℕ) (start k : ℕ) → busy ≡ map busy_byte queues
-    → eqb (get_or (drop start busy) k 0) 1 ≡ has_messages (get_or queues (start + k) None)
-byte_at queues busy start k is = ap (λ (n : ℕ). eqb n 1)
-    (get_or-drop start busy k 0 ∙ byte_is queues busy (start + k) is) ∙ is_one (get_or queues (start + k) None)
+-- a slot whose byte is 0 has no messages
+no_byte : (q : Option Queue) → front_byte q ≡ 0 → has_messages q ≡ false
+no_byte q e = by (messages_in q) e where
+  by : (ms : List Message) → message_byte (slice_get ms 0) ≡ 0 → nat_lt 0 (length ms) ≡ false
+  by [] e = refl
+  by (m ∷ ms) e = absurd (omega (arith, e))
 
--- the byte at a number that is not before the start is 1 exactly where the slot of that number has messages
-byte_before : (queues : List (Option Queue)) (busy : List ℕ) (start k : ℕ) → busy ≡ map busy_byte queues → start ≤ k
-    → eqb (get_or (drop start busy) (k - start) 0) 1 ≡ has_messages (get_or queues k None)
-byte_before queues busy start k is le =
-    byte_at queues busy start (k - start) is ∙ ap (λ (n : ℕ). has_messages (get_or queues n None)) (omega arith)
+-- where the byte that was read at a number is 0, no messages are there
+pub none_there : (queues : List (Option Queue)) (bytes : List ℕ) (k b : ℕ) → bytes ≡ map front_byte queues
+    → k < length bytes → b ≡ get_or bytes k b → b ≡ 0 → has_messages (get_or queues k None) ≡ false
+none_there queues bytes k b is below read zero = no_byte (get_or queues k None)
+    (sym (byte_is queues bytes k is) ∙ sym (read ∙ get_or_default bytes k b 0 below) ∙ zero)
 
--- where no byte from a number on is 1, no place from there on has messages
-pub none_found : (queues : List (Option Queue)) (busy : List ℕ) (start : ℕ) → busy ≡ map busy_byte queues
-    → IsFirstByte (is_byte 1) (drop start busy) None → IsLeastFrom has_messages queues start None
-none_found queues busy start is none = λ k le. elim (cases_lt k (length busy)) [
-  | inl lt ↦ elim (cases_Bool (has_messages (get_or queues k None))) [
-    | inl t ↦ absurd (none (k - start) (omega arith) (omega (arith, le, lt, length-drop start busy))
-        (byte_before queues busy start k is le ∙ t))
+-- ---- the least number with the byte of an address
+
+-- what is no place has not the byte of an address
+no_place : (addr : ℕ) → may_start_with addr None ≡ false
+no_place addr = false_from_ne_true (may_start_with addr None)
+    (λ t. let e : 0 ≡ addr_byte addr = eqb-true 0 (addr_byte addr) t in omega (arith, e))
+
+-- a byte from the start on is that of the address exactly where it is that of the slot as far behind the start
+byte_at : (queues : List (Option Queue)) (bytes : List ℕ) (addr start k : ℕ) → bytes ≡ map front_byte queues
+    → eqb (get_or (drop start bytes) k 0) (addr_byte addr) ≡ may_start_with addr (get_or queues (start + k) None)
+byte_at queues bytes addr start k is = ap (λ (n : ℕ). eqb n (addr_byte addr))
+    (get_or-drop start bytes k 0 ∙ byte_is queues bytes (start + k) is)
+
+-- the byte at a number that is not before the start is that of the address exactly where it is that of the slot there
+byte_before : (queues : List (Option Queue)) (bytes : List ℕ) (addr start k : ℕ) → bytes ≡ map front_byte queues
+    → start ≤ k
+    → eqb (get_or (drop start bytes) (k - start) 0) (addr_byte addr) ≡ may_start_with addr (get_or queues k None)
+byte_before queues bytes addr start k is le =
+    byte_at queues bytes addr start (k - start) is
+    ∙ ap (λ (n : ℕ). may_start_with addr (get_or queues n None)) (omega arith)
+
+-- where no byte from a number on is that of the address, no place from there on has it
+pub none_found : (queues : List (Option Queue)) (bytes : List ℕ) (addr start : ℕ) → bytes ≡ map front_byte queues
+    → IsFirstByte (is_byte (addr_byte addr)) (drop start bytes) None
+    → IsLeastFrom (may_start_with addr) queues start None
+none_found queues bytes addr start is none = λ k le. elim (cases_lt k (length bytes)) [
+  | inl lt ↦ elim (cases_Bool (may_start_with addr (get_or queues k None))) [
+    | inl t ↦ absurd (none (k - start) (omega arith) (omega (arith, le, lt, length-drop start bytes))
+        (byte_before queues bytes addr start k is le ∙ t))
     | inr f ↦ f
   ]
-  | inr past ↦ rw (get_or_past queues k None (omega (arith, past, ap length is, length-map queues busy_byte))) refl
+  | inr past ↦ rw (get_or_past queues k None (omega (arith, past, ap length is, length-map queues front_byte)))
+      (no_place addr)
 ]
 
--- the first byte from a number on that is 1 is that of the least place from there on that has messages
-pub one_found : (queues : List (Option Queue)) (busy : List ℕ) (start i : ℕ) → busy ≡ map busy_byte queues
-    → IsFirstByte (is_byte 1) (drop start busy) (Some i) → IsLeastFrom has_messages queues start (Some (start + i))
-one_found queues busy start i is found = (
+-- the first byte from a number on that is that of the address is the byte of the least place from there on that has it
+pub one_found : (queues : List (Option Queue)) (bytes : List ℕ) (addr start i : ℕ) → bytes ≡ map front_byte queues
+    → IsFirstByte (is_byte (addr_byte addr)) (drop start bytes) (Some i)
+    → IsLeastFrom (may_start_with addr) queues start (Some (start + i))
+one_found queues bytes addr start i is found = (
   omega arith,
-  omega (arith, found.0.high, length-drop start busy, ap length is, length-map queues busy_byte),
-  sym (byte_at queues busy start i is) ∙ found.1,
-  λ k le lt. elim (cases_Bool (has_messages (get_or queues k None))) [
+  omega (arith, found.0.high, length-drop start bytes, ap length is, length-map queues front_byte),
+  sym (byte_at queues bytes addr start i is) ∙ found.1,
+  λ k le lt. elim (cases_Bool (may_start_with addr (get_or queues k None))) [
     | inl t ↦ absurd (found.0.before (k - start) (omega arith) (omega arith)
-        (byte_before queues busy start k is le ∙ t))
+        (byte_before queues bytes addr start k is le ∙ t))
     | inr f ↦ f
   ],
 )
 
--- the slice from the start on is the bytes from there on
-pub from_start : (busy given : List ℕ) (start : ℕ) → given ≡ busy
-    → take (length given - start) (drop start given) ≡ drop start busy
-from_start busy given start same = take_rest given start ∙ ap (drop start) same
-
 -- the bytes before an end are those of the slots before it
-pub busy_before : (queues : List (Option Queue)) (busy : List ℕ) (end : ℕ) → busy ≡ map busy_byte queues
-    → take end busy ≡ map busy_byte (take end queues)
-busy_before queues busy end is = ap (take end) is ∙ take-map busy_byte end queues
+pub bytes_before : (queues : List (Option Queue)) (bytes : List ℕ) (end : ℕ) → bytes ≡ map front_byte queues
+    → take end bytes ≡ map front_byte (take end queues)
+bytes_before queues bytes end is = ap (take end) is ∙ take-map front_byte end queues
 
 -- the slice from the start to the end is the bytes from the start on, before the end
-pub from_start_to : (busy given : List ℕ) (start end : ℕ) → given ≡ busy → start ≤ end
-    → take (end - start) (drop start given) ≡ drop start (take end busy)
-from_start_to busy given start end same le =
+pub from_start_to : (bytes given : List ℕ) (start end : ℕ) → given ≡ bytes → start ≤ end
+    → take (end - start) (drop start given) ≡ drop start (take end bytes)
+from_start_to bytes given start end same le =
     sym (drop-take start (end - start) given)
     ∙ ap (λ (n : ℕ). drop start (take n given)) (omega arith) ∙ ap (λ (bs : List ℕ). drop start (take end bs)) same
 
--- where the start is not before the end, no place from the start on and before the end has messages
-pub none_past : (queues : List (Option Queue)) (start end : ℕ) → end ≤ start
-    → IsLeastFrom has_messages (take end queues) start None
-none_past queues start end le = λ k from.
-    ap has_messages (get_or_past (take end queues) k None (omega (arith, length-take end queues)))
+-- where the start is not before the end, no place from the start on and before the end has the address's byte
+pub none_past : (queues : List (Option Queue)) (addr start end : ℕ) → end ≤ start
+    → IsLeastFrom (may_start_with addr) (take end queues) start None
+none_past queues addr start end le = λ k from.
+    ap (may_start_with addr) (get_or_past (take end queues) k None (omega (arith, length-take end queues)))
+    ∙ no_place addr
+
+-- ---- the least number whose first message has an address
+
+-- of the places from the start on, before a number, none has a first message with the address
+abbrev pub NoneUpTo : ℕ → List (Option Queue) → ℕ → ℕ → Type 0
+NoneUpTo addr queues start next =
+    (start ≤ next) × ((k : ℕ) → start ≤ k → k < next → starts_with addr (get_or queues k None) ≡ false)

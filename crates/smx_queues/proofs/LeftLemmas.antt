@@ -15,11 +15,12 @@ use Rattle.smx_types.specs.declared.stream.Place.{Place}
 use Rattle.smx_model.specs.Configuration.{QueuedMessage, place_before, same_place}
 use Rattle.smx_model.specs.Ordered.{ComesBefore, IsRising}
 use Rattle.smx_model.specs.Queues.{first_message}
+use Rattle.smx_model.specs.RunMarks.{has_addr}
 use Rattle.smx_queues.specs.FlowTables.{AreQueuesOf, first_at, flow_of, fronts, fronts_after, fronts_of}
-use Rattle.smx_queues.specs.FlowTables.{is_same, messages_at}
+use Rattle.smx_queues.specs.FlowTables.{is_same, messages_at, with_addr}
 use Rattle.smx_queues.specs.PlaceLists.{places_where}
 use Rattle.smx_queues.specs.QueueTable.{Queue}
-use Rattle.smx_queues.specs.Slots.{IsLeastIn, has_messages, message_total, messages_in}
+use Rattle.smx_queues.specs.Slots.{IsLeastIn, has_messages, message_total, messages_in, starts_with}
 use Rattle.smx_queues.proofs.PlaceLemmas.{apart, none_behind, place_is, place_self}
 
 -- a part that shows nothing of what fails the test
@@ -129,9 +130,17 @@ many_queues drivers (p ∷ places) (Some q ∷ queues) h = omega (arith, many_qu
 pub flow_skips : Skips flow_of has_messages
 flow_skips p places q queues h = rw (no_messages q h) refl
 
--- the first messages show nothing of a place without messages
-pub fronts_skip : Skips fronts_of has_messages
-fronts_skip p places q queues h = rw (no_messages q h) refl
+-- the first messages with an address
+abbrev pub shown_with : ℕ → List Place → List (Option Queue) → List QueuedMessage
+shown_with addr places queues = with_addr addr (fronts_of places queues)
+
+-- they show nothing of a place whose first message has another address, or that has none
+pub fronts_skip : (addr : ℕ) → Skips (shown_with addr) (starts_with addr)
+fronts_skip addr p places q queues h = by (messages_in q) h where
+  by : (ms : List Message) → has_addr addr (slice_get ms 0) ≡ false
+      → with_addr addr (first_at p ms ++ fronts_of places queues) ≡ with_addr addr (fronts_of places queues)
+  by [] h = refl
+  by (m ∷ ms) h = rw h refl
 
 -- ---- the first message of each place is that of the flow
 
@@ -258,11 +267,13 @@ flow_length (p ∷ places) (q ∷ queues) many =
 
 -- ---- what an iterator's step yields
 
--- with a first message in its queue, a place shows that message before the rest
-pub head_front : (p : Place) (q : Option Queue) (m : Message) (rest : List QueuedMessage)
-    → slice_get (messages_in q) 0 ≡ Some m → first_at p (messages_in q) ++ rest
-    ≡ record { place = p; message = m } ∷ rest
-head_front p q m rest e = by (messages_in q) e where
-  by : (ms : List Message) → slice_get ms 0 ≡ Some m → first_at p ms ++ rest ≡ record { place = p; message = m } ∷ rest
-  by [] f = absurd cc
-  by (x ∷ ms) f = let same : x ≡ m = cc in rw same refl
+-- where the first message in its queue has the address, a place shows that message before the rest
+pub head_front : (addr : ℕ) (p : Place) (q : Option Queue) (m : Message) (rest : List QueuedMessage)
+    → slice_get (messages_in q) 0 ≡ Some m → starts_with addr q ≡ true
+    → with_addr addr (first_at p (messages_in q) ++ rest)
+    ≡ record { place = p; message = m } ∷ with_addr addr rest
+head_front addr p q m rest e has = by (messages_in q) e has where
+  by : (ms : List Message) → slice_get ms 0 ≡ Some m → has_addr addr (slice_get ms 0) ≡ true
+      → with_addr addr (first_at p ms ++ rest) ≡ record { place = p; message = m } ∷ with_addr addr rest
+  by [] f has = absurd cc
+  by (x ∷ ms) f has = let same : x ≡ m = cc in rw has (rw same refl)

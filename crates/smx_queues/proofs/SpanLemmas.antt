@@ -4,8 +4,7 @@ use Rattle.std.proofs.Common.{length, drop, take, filter, Option, Some, None, re
 use Rattle.std.proofs.Common.{inl, inr}
 use Rattle.std.specs.Prelude.{slice_get}
 use Rattle.std.specs.List.{list_any}
-use Rattle.std.proofs.lemmas.Bool.{cases_lt, eq-eqb, eqb-true, false_from_ne_true, false≢true}
-use Rattle.std.proofs.Math.Seq.{take-length}
+use Rattle.std.proofs.lemmas.Bool.{cases_Bool, cases_lt, eq-eqb, eqb-true, false_from_ne_true, false≢true}
 use Rattle.std.proofs.lemmas.Map.Views.{any-filter_same}
 use Rattle.std.proofs.lemmas.Option.{get_or_from_slice_get, same_Some, slice_get_within}
 use Rattle.smx_types.specs.declared.driver.DriverSpec.{DriverSpec}
@@ -15,13 +14,15 @@ use Rattle.smx_types.specs.declared.stream.Side.{Side}
 use Rattle.smx_types.specs.declared.stream.Side.TheVariants as side
 use Rattle.smx_model.specs.Configuration.{QueuedMessage, place_before, same_place, side_number}
 use Rattle.smx_model.specs.Ordered.{IsRising}
-use Rattle.smx_queues.specs.FlowTables.{first_at, flow_of, fronts, fronts_of, fronts_of_driver}
+use Rattle.smx_model.specs.Queues.{first_message}
+use Rattle.smx_model.specs.RunMarks.{has_addr}
+use Rattle.smx_queues.specs.FlowTables.{first_at, flow_of, fronts, fronts_for, fronts_of, fronts_of_driver, with_addr}
 use Rattle.smx_queues.specs.PlaceLists.{ArePlaces, IsSpanOf, number_in}
 use Rattle.smx_queues.specs.QueueTable.{Queue}
 use Rattle.smx_queues.specs.Slots.{messages_in}
 use Rattle.smx_queues.specs.declared.places.DriverRow.{DriverRow}
 use Rattle.smx_queues.specs.declared.span.Span.{Span}
-use Rattle.smx_queues.proofs.LeftLemmas.{fronts_found}
+use Rattle.smx_queues.proofs.LeftLemmas.{AreFirst, fronts_found, fronts_of_all}
 use Rattle.smx_queues.proofs.PlaceLemmas.{one_number, place_at, place_is, stands}
 use Rattle.smx_queues.proofs.StepLemmas.{driver_at}
 
@@ -175,20 +176,41 @@ fronts_in_span driver places queues span rise h =
     (λ k p at t. h.all k p at (eqb-true p.stream.driver driver t))
     ∙ ap (filter (λ h. eqb h.place.stream.driver driver)) (fronts_found places queues rise)
 
--- before the end of all places the first messages are those of all
-pub fronts_of_whole : (places : List Place) (queues : List (Option Queue)) (n : ℕ) → IsRising place_before places
-    → n ≡ length places → length queues ≡ length places
-    → fronts_of (take n places) (take n queues) ≡ fronts (flow_of places queues)
-fronts_of_whole places queues n rise is many =
-    ap (λ (ps : List Place). fronts_of ps (take n queues)) (ap (λ (k : ℕ). take k places) is ∙ take-length places)
-    ∙ ap (fronts_of places) (ap (λ (k : ℕ). take k queues) (is ∙ sym many) ∙ take-length queues)
-    ∙ fronts_found places queues rise
-
 -- a place of the driver that is among the first messages is among those of the driver
-pub kept_of_driver : (driver : ℕ) (flow : List QueuedMessage) (p : Place) → p.stream.driver ≡ driver
+kept_of_driver : (driver : ℕ) (flow : List QueuedMessage) (p : Place) → p.stream.driver ≡ driver
     → list_any (λ h. same_place h.place p) (fronts flow) ≡ true
     → list_any (λ h. same_place h.place p) (fronts_of_driver driver flow) ≡ true
 kept_of_driver driver flow p is some =
     any-filter_same (λ h. same_place h.place p) (λ h. eqb h.place.stream.driver driver) true
     (λ h t. eq-eqb h.place.stream.driver driver (ap (λ (x : Place). x.stream.driver) (place_is h.place p t) ∙ is))
     (fronts flow) ∙ some
+
+-- a place whose first message has the address, and that is among some first messages, is among those with the address
+kept_with_addr : (addr : ℕ) (flow hs : List QueuedMessage) (p : Place) → AreFirst flow hs
+    → has_addr addr (first_message flow p) ≡ true → list_any (λ h. same_place h.place p) hs ≡ true
+    → list_any (λ h. same_place h.place p) (with_addr addr hs) ≡ true
+kept_with_addr addr flow [] p first has some = some
+kept_with_addr addr flow (h ∷ hs) p first has some = elim (cases_Bool (same_place h.place p)) [
+  | inl here ↦
+      let its : has_addr addr (Some h.message) ≡ true = ap (has_addr addr) (sym first.0)
+      ∙ (ap (λ (x : Place). has_addr addr (first_message flow x)) (place_is h.place p here) ∙ has) in
+      rw its (rw here refl)
+  | inr there ↦
+      let rest = kept_with_addr addr flow hs p first.1 has (rw there at some) in
+      elim (cases_Bool (eqb h.message.addr addr)) [
+        | inl kept ↦ rw kept (rw there rest)
+        | inr left ↦ rw left rest
+      ]
+]
+
+-- a place that has no message has none with an address
+some_message : (addr : ℕ) (o : Option Message) → has_addr addr o ≡ true → o ≡ None → ⊥
+some_message addr o has none = false≢true (sym (ap (has_addr addr) none) ∙ has)
+
+-- a place of the driver whose first message has the address is among those of the driver with the address
+pub kept_for : (driver addr : ℕ) (flow : List QueuedMessage) (p : Place) → AreFirst flow (fronts_of_driver driver flow)
+    → has_addr addr (first_message flow p) ≡ true → p.stream.driver ≡ driver
+    → list_any (λ h. same_place h.place p) (fronts_for driver addr flow) ≡ true
+kept_for driver addr flow p first has is = kept_with_addr addr flow (fronts_of_driver driver flow) p first has
+    (kept_of_driver driver flow p is
+    (fronts_of_all None flow p refl (some_message addr (first_message flow p) has)))

@@ -105,6 +105,14 @@ fronts flow = fronts_after None flow
 abbrev pub fronts_of_driver : ℕ → List QueuedMessage → List QueuedMessage
 fronts_of_driver driver flow = filter (λ h. h.place.stream.driver == driver) (fronts flow)
 
+-- those of some messages that have this address
+abbrev pub with_addr : ℕ → List QueuedMessage → List QueuedMessage
+with_addr addr hs = filter (λ h. h.message.addr == addr) hs
+
+-- the first messages with this address at places of the driver
+abbrev pub fronts_for : ℕ → ℕ → List QueuedMessage → List QueuedMessage
+fronts_for driver addr flow = with_addr addr (fronts_of_driver driver flow)
+
 -- the first of some messages at a place
 abbrev pub first_at : Place → List Message → List QueuedMessage
 first_at p [] = []

@@ -1,8 +1,9 @@
 -- What stands at a number: a queue, or nothing.
-use Rattle.std.specs.Prelude.{◌≡◌, ℕ, ◌<◌, ◌≤◌, nat_lt, Bool, true, false, List, [], length, Option, Some, None}
-use Rattle.std.specs.Prelude.{slice_index_or, if◌then◌else◌}
+use Rattle.std.specs.Prelude.{◌≡◌, ℕ, ◌+◌, ◌%◌, ◌<◌, ◌≤◌, nat_lt, Bool, true, false, ◌==◌, List, [], length}
+use Rattle.std.specs.Prelude.{Option, Some, None, slice_get, slice_index_or}
 use Rattle.std.specs.List.{sum_by}
 use Rattle.smx_types.specs.declared.message.Message.{Message}
+use Rattle.smx_model.specs.RunMarks.{has_addr}
 use Rattle.smx_queues.specs.QueueTable.{Queue}
 
 -- the messages of a queue, where there is one
@@ -35,6 +36,27 @@ IsLeastFrom passes queues start r = IsLeastIn None passes queues start r
 abbrev pub has_messages : Option Queue → Bool
 has_messages q = nat_lt 0 (length (messages_in q))
 
--- the byte that tells so
-abbrev pub busy_byte : Option Queue → ℕ
-busy_byte q = if has_messages q then 1 else 0
+-- its first message, if there is one
+abbrev pub front_in : Option Queue → Option Message
+front_in q = slice_get (messages_in q) 0
+
+-- it has a first message, and that has this address
+abbrev pub starts_with : ℕ → Option Queue → Bool
+starts_with addr q = has_addr addr (front_in q)
+
+-- the byte of an address, which others have too: from 1 to 128
+abbrev pub addr_byte : ℕ → ℕ
+addr_byte addr = addr % 128 + 1
+
+-- the byte of the first message's address, and 0 where there is no message
+abbrev pub message_byte : Option Message → ℕ
+message_byte None = 0
+message_byte (Some m) = addr_byte m.addr
+
+-- the byte by which a place is found
+abbrev pub front_byte : Option Queue → ℕ
+front_byte q = message_byte (front_in q)
+
+-- it has the byte of this address, so that its first message may have the address
+abbrev pub may_start_with : ℕ → Option Queue → Bool
+may_start_with addr q = front_byte q == addr_byte addr

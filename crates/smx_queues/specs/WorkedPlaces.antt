@@ -32,11 +32,11 @@ places =
     ∷ place 1 0 side.Read
     ∷ []
 
--- a message of that serial at a side of a driver's first stream
-abbrev pub queued : ℕ → Side → ℕ → QueuedMessage
-queued driver s serial =
-    record { place = place driver 0 s; message = record { serial = serial; addr = 5; bytes = 1 ∷ [] } }
+-- a message of that serial and address at a side of a driver's first stream
+abbrev pub queued : ℕ → Side → ℕ → ℕ → QueuedMessage
+queued driver s serial addr =
+    record { place = place driver 0 s; message = record { serial = serial; addr = addr; bytes = 1 ∷ [] } }
 
 -- one at the first driver, and three at the second, of which two are at one place
 abbrev pub flow : List QueuedMessage
-flow = queued 0 side.Read 1 ∷ queued 1 side.Write 2 ∷ queued 1 side.Write 3 ∷ queued 1 side.Read 4 ∷ []
+flow = queued 0 side.Read 1 5 ∷ queued 1 side.Write 2 5 ∷ queued 1 side.Write 3 133 ∷ queued 1 side.Read 4 133 ∷ []

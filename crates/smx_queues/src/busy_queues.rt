@@ -1,11 +1,11 @@
-//! The queues of places, and which of them have messages.
+//! The queues of places, and for which of them the first message may have an address.
 
 ghost use Rattle.std.specs.Prelude.{◌≡◌, ◌≢◌, ◌<◌, ◌≤◌, ◌==◌, ◌&&◌, [], ◌∷◌, ◌++◌, false, not, length, nat_lt};
 ghost use Rattle.std.specs.Prelude.{Some, None, IfOk, IfNone, OnOk, OnSome, slice_get, slice_index_or, slice_set, take};
 ghost use Rattle.smx_types.specs.declared.message.Message.{Message};
 ghost use Rattle.smx_queues.specs.QueueTable.{empty_queue, queue_at, with_arrival, with_queue, without_messages};
 ghost use Rattle.smx_queues.specs.QueueTable.{without_front, IsPlace};
-ghost use Rattle.smx_queues.specs.Slots.{busy_byte, has_messages, IsLeastFrom};
+ghost use Rattle.smx_queues.specs.Slots.{addr_byte, front_byte, has_messages, may_start_with, starts_with, IsLeastFrom};
 
 use crate::queues::{PlaceId, Queues};
 use memchr::memchr;
@@ -13,34 +13,53 @@ use smx_types::{Bytes, Message, NoMemory};
 use std::alloc::Global;
 use std::marker::Model;
 
-/// Queues with a byte for each place, by which a place that has messages is found fast. A contract sees the queues.
+/// Queues with a byte for each place, by which the places are found fast whose first message has an address. A contract
+/// sees the queues.
 #[derive(Debug, Drop)]
 pub struct BusyQueues {
     queues: Queues,
-    // 1 where there are messages, and 0 elsewhere.
-    busy: Vec<u8>,
+    // For each place 0 where it has no message, and else the byte of its first message's address.
+    front_bytes: Vec<u8>,
 }
 
 impl Model for BusyQueues {
     ghost use Rattle.std.specs.Prelude.{◌≡◌, map};
     ghost use Rattle.smx_queues.specs.QueueTable.{QueueTable};
-    ghost use Rattle.smx_queues.specs.Slots.{busy_byte};
+    ghost use Rattle.smx_queues.specs.Slots.{front_byte};
 
     ghost Value = { QueueTable };
 
     ghost view = { λ q. q.queues };
 
-    ghost invariant = { λ q. q.busy.items ≡ map busy_byte q.queues.queues };
+    ghost invariant = { λ q. q.front_bytes.items ≡ map front_byte q.queues.queues };
 }
 
-// The byte of a place tells again whether it has messages.
-fn set_busy(queues: &Queues, busy: &mut Vec<u8>, p: PlaceId)
-    requires place { IsPlace queues.now.queues p }
-    requires there { p < length busy.old.items }
-    ensures { busy.new.items
-        ≡ slice_set busy.old.items p (busy_byte (slice_index_or queues.now.queues p None)) }
+// The byte of an address, from 1 to 128. Addresses that are 128 apart have the same.
+fn addr_byte(addr: u32) -> u8
+    ensures { result ≡ addr_byte addr }
 {
-    busy[p] = if queues.message_count(p) > 0 { 1 } else { 0 };
+    (addr % 128) as u8 + 1
+}
+
+// The byte of a place, by its first message.
+fn front_byte(queues: &Queues, p: PlaceId) -> u8
+    requires { IsPlace queues.now.queues p }
+    ensures { result ≡ front_byte (slice_index_or queues.now.queues p None) }
+{
+    match queues.front(p) {
+        Some(message) => addr_byte(message.addr),
+        None => 0,
+    }
+}
+
+// The byte of a place is again that of its first message.
+fn set_front_byte(queues: &Queues, bytes: &mut Vec<u8>, p: PlaceId)
+    requires place { IsPlace queues.now.queues p }
+    requires there { p < length bytes.old.items }
+    ensures { bytes.new.items
+        ≡ slice_set bytes.old.items p (front_byte (slice_index_or queues.now.queues p None)) }
+{
+    bytes[p] = front_byte(queues, p);
 }
 
 impl BusyQueues {
@@ -50,7 +69,7 @@ impl BusyQueues {
     {
         BusyQueues {
             queues: Queues::new(alloc),
-            busy: Vec::new(alloc),
+            front_bytes: Vec::new(alloc),
         }
     }
 
@@ -60,9 +79,9 @@ impl BusyQueues {
         requires high { high ≤ 4096 }
         ensures { OnOk result (self.new.queues ≡ self.old.queues ++ Some (empty_queue high low) ∷ []) }
     {
-        self.busy.reserve(1)?;
+        self.front_bytes.reserve(1)?;
         self.queues.add_places(1, high, low)?;
-        self.busy.push_reserved(0);
+        self.front_bytes.push_reserved(0);
         Ok(())
     }
 
@@ -119,7 +138,7 @@ impl BusyQueues {
             ≡ with_queue self.old.queues p (with_arrival (queue_at self.old.queues p) message) }
     {
         self.queues.put(p, message);
-        set_busy(&self.queues, &mut self.busy, p);
+        set_front_byte(&self.queues, &mut self.front_bytes, p);
     }
 
     pub fn take(&mut self, p: PlaceId) -> Option<Message>
@@ -130,7 +149,7 @@ impl BusyQueues {
         ensures none { IfNone result (self.new ≡ self.old) }
     {
         let message = self.queues.take(p)?;
-        set_busy(&self.queues, &mut self.busy, p);
+        set_front_byte(&self.queues, &mut self.front_bytes, p);
         Some(message)
     }
 
@@ -147,8 +166,8 @@ impl BusyQueues {
         ensures spare { self.new.spare ≡ self.old.spare }
     {
         self.queues.move_front(from, to);
-        set_busy(&self.queues, &mut self.busy, from);
-        set_busy(&self.queues, &mut self.busy, to);
+        set_front_byte(&self.queues, &mut self.front_bytes, from);
+        set_front_byte(&self.queues, &mut self.front_bytes, to);
     }
 
     pub fn clear(&mut self, p: PlaceId)
@@ -157,37 +176,61 @@ impl BusyQueues {
             ≡ with_queue self.old.queues p (without_messages (queue_at self.old.queues p)) }
     {
         self.queues.clear(p);
-        set_busy(&self.queues, &mut self.busy, p);
+        set_front_byte(&self.queues, &mut self.front_bytes, p);
     }
 
     /// The least number from this one on of a place that has messages, if there is one.
     pub fn filled_from(&self, start: PlaceId) -> Option<PlaceId>
         ensures { IsLeastFrom has_messages self.now.queues start result }
     {
-        let busy: &[u8] = &self.busy;
-        if start >= busy.len() {
+        for p in start..self.front_bytes.len() {
+            if self.front_bytes[p] != 0 {
+                return Some(p);
+            }
+        }
+        None
+    }
+
+    // The least number from this one on, before the end, of a place with the byte of this address.
+    fn candidate_between(&self, start: PlaceId, end: PlaceId, addr: u32) -> Option<PlaceId>
+        requires { end ≤ length self.now.queues }
+        ensures { IsLeastFrom (may_start_with addr) (take end self.now.queues) start result }
+    {
+        let bytes: &[u8] = &self.front_bytes;
+        if start >= end {
             return None;
         }
-        match memchr(1, &busy[start..]) {
+        match memchr(addr_byte(addr), &bytes[start..end]) {
             Some(i) => Some(start + i),
             None => None,
         }
     }
 
-    /// The least number from this one on, before the end, of a place that has messages, if there is one. It looks at no
-    /// place from the end on.
-    pub fn filled_between(&self, start: PlaceId, end: PlaceId) -> Option<PlaceId>
-        requires { end ≤ length self.now.queues }
-        ensures { IsLeastFrom has_messages (take end self.now.queues) start result }
+    // Whether the first message of the place has this address.
+    fn starts_with(&self, p: PlaceId, addr: u32) -> bool
+        requires { IsPlace self.now.queues p }
+        ensures { result ≡ starts_with addr (slice_index_or self.now.queues p None) }
     {
-        let busy: &[u8] = &self.busy;
-        if start >= end {
-            return None;
+        match self.queues.front(p) {
+            Some(message) => message.addr == addr,
+            None => false,
         }
-        match memchr(1, &busy[start..end]) {
-            Some(i) => Some(start + i),
-            None => None,
+    }
+
+    /// The least number from this one on, before the end, of a place whose first message has this address, if there is
+    /// one. It looks at the messages of places with the address's byte alone, and at no place from the end on.
+    pub fn first_with(&self, start: PlaceId, end: PlaceId, addr: u32) -> Option<PlaceId>
+        requires { end ≤ length self.now.queues }
+        ensures { IsLeastFrom (starts_with addr) (take end self.now.queues) start result }
+    {
+        let mut next = start;
+        while let Some(p) = self.candidate_between(next, end, addr) {
+            if self.starts_with(p, addr) {
+                return Some(p);
+            }
+            next = p + 1;
         }
+        None
     }
 
     pub fn copy(&self, alloc: Global) -> Result<BusyQueues, NoMemory>
@@ -195,7 +238,7 @@ impl BusyQueues {
     {
         Ok(BusyQueues {
             queues: self.queues.copy(alloc)?,
-            busy: Vec::from_slice(alloc, &self.busy)?,
+            front_bytes: Vec::from_slice(alloc, &self.front_bytes)?,
         })
     }
 }

@@ -1,17 +1,17 @@
-//! The first message of each place that has any.
+//! The first messages with an address.
 
 ghost use Rattle.std.specs.Prelude.{◌≡◌};
 ghost use Rattle.std.specs.Iterator.{YieldsFirstBy};
 ghost use Rattle.smx_queues.specs.QueuedMessages.{queued_message};
-ghost use Rattle.smx_queues.specs.FlowTables.{flow_of, fronts, fronts_of_driver, IsFlow};
+ghost use Rattle.smx_queues.specs.FlowTables.{flow_of, fronts_for, IsFlow};
 
 use crate::busy_queues::BusyQueues;
 use crate::places::Places;
 use crate::queued::Queued;
 use std::marker::Model;
 
-/// The first message of each place that has any, in order of place, seen as the list of those that are left. Takes no
-/// memory.
+/// The first messages with one address at places of one driver, in order of place, seen as the list of those that are
+/// left. Takes no memory.
 #[derive(Drop)]
 pub struct FirstMessages<'a> {
     places: &'a Places,
@@ -19,41 +19,31 @@ pub struct FirstMessages<'a> {
     // The number of the next place to look at, and the one before which the walk ends.
     next: usize,
     end: usize,
+    addr: u32,
 }
 
 impl<'a> Model for FirstMessages<'a> {
     ghost use Rattle.std.specs.Prelude.{List, ◌≤◌, drop, length, take};
     ghost use Rattle.smx_model.specs.Configuration.{QueuedMessage};
-    ghost use Rattle.smx_queues.specs.FlowTables.{fronts_of, IsFlow};
+    ghost use Rattle.smx_queues.specs.FlowTables.{fronts_of, with_addr, IsFlow};
 
     ghost Value = { List QueuedMessage };
 
-    ghost view = { λ it. fronts_of (drop it.next (take it.end it.places.now.places))
-        (drop it.next (take it.end it.queues.now.queues)) };
+    ghost view = { λ it. with_addr it.addr (fronts_of (drop it.next (take it.end it.places.now.places))
+        (drop it.next (take it.end it.queues.now.queues))) };
 
     ghost invariant = { λ it. IsFlow it.places.now it.queues.now.queues × (it.end ≤ length it.places.now.places) };
 }
 
 impl<'a> FirstMessages<'a> {
-    pub(crate) fn new(places: &'a Places, queues: &'a BusyQueues) -> FirstMessages<'a>
-        requires { IsFlow places.now queues.now.queues }
-        ensures { result ≡ fronts (flow_of places.now.places queues.now.queues) }
-    {
-        FirstMessages {
-            places,
-            queues,
-            next: 0,
-            end: places.len(),
-        }
-    }
-
-    pub(crate) fn of_driver(
+    pub(crate) fn new(
         places: &'a Places,
         queues: &'a BusyQueues,
         driver: u8,
+        addr: u32,
     ) -> FirstMessages<'a>
         requires { IsFlow places.now queues.now.queues }
-        ensures { result ≡ fronts_of_driver driver (flow_of places.now.places queues.now.queues) }
+        ensures { result ≡ fronts_for driver addr (flow_of places.now.places queues.now.queues) }
     {
         let span = places.span_of(driver);
         FirstMessages {
@@ -61,6 +51,7 @@ impl<'a> FirstMessages<'a> {
             queues,
             next: span.first,
             end: span.end,
+            addr,
         }
     }
 }
@@ -70,7 +61,7 @@ impl<'a> FirstMessages<'a> {
     pub fn next(&mut self) -> Option<Queued<'a>>
         ensures { YieldsFirstBy queued_message (λ rest. rest) self.old result self.new }
     {
-        let p = self.queues.filled_between(self.next, self.end)?;
+        let p = self.queues.first_with(self.next, self.end, self.addr)?;
         let message = self.queues.queues().front(p)?;
         let place = self.places.at(p);
         self.next = p + 1;

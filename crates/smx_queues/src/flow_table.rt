@@ -1,6 +1,6 @@
 //! The queued messages and full marks of all places, by place.
 
-ghost use Rattle.std.specs.Prelude.{◌≡◌, ◌≢◌, ◌+◌, ◌<◌, ◌≤◌, ◌++◌, [], false, true, length, map, vec_capacity};
+ghost use Rattle.std.specs.Prelude.{◌≡◌, ◌+◌, ◌<◌, ◌≤◌, ◌++◌, [], false, true, length, map, vec_capacity};
 ghost use Rattle.std.specs.Prelude.{None, Some, ◌==◌, ◌&&◌, not, option_copied, IfOk, IfNone, IsSome, OnOk, OnSome};
 ghost use Rattle.std.specs.List.{All, list_any};
 ghost use Rattle.std.specs.Option.{is_some};
@@ -10,7 +10,8 @@ ghost use Rattle.smx_model.specs.Configuration.{same_place};
 ghost use Rattle.smx_model.specs.DriverList.{IsDriverList};
 ghost use Rattle.smx_model.specs.KnownStreams.{IsKnown};
 ghost use Rattle.smx_model.specs.Queues.{first_message, queue};
-ghost use Rattle.smx_queues.specs.FlowTables.{after_arrival, after_leaving, fronts, fronts_of_driver, without_place};
+ghost use Rattle.smx_model.specs.RunMarks.{has_addr};
+ghost use Rattle.smx_queues.specs.FlowTables.{after_arrival, after_leaving, fronts_for, without_place};
 
 use crate::busy_queues::BusyQueues;
 use crate::first_messages::FirstMessages;
@@ -192,26 +193,17 @@ impl FlowTable {
         }
     }
 
-    /// The first message of each place that has any, in order of place. Takes no memory.
-    pub fn fronts(&self) -> FirstMessages<'_>
-        ensures fronts { result ≡ fronts self.now.flow }
-        ensures first { All (λ h. first_message self.now.flow h.place ≡ Some h.message) (fronts self.now.flow) }
-        ensures all { (p : PlaceValue) → first_message self.now.flow p ≢ None
-            → list_any (λ h. same_place h.place p) (fronts self.now.flow) ≡ true }
-    {
-        FirstMessages::new(&self.places, &self.queues)
-    }
-
-    /// The first message of each place of the driver that has any, in order of place. It looks at no place of another
-    /// driver. Takes no memory.
-    pub fn fronts_of_driver(&self, driver: u8) -> FirstMessages<'_>
-        ensures fronts { result ≡ fronts_of_driver driver self.now.flow }
+    /// The first messages with this address at places of the driver, in order of place. It looks at no place of another
+    /// driver, and at the messages of few places whose first one has another address. Takes no memory.
+    pub fn fronts_for(&self, driver: u8, addr: u32) -> FirstMessages<'_>
+        ensures fronts { result ≡ fronts_for driver addr self.now.flow }
         ensures first { All (λ h. first_message self.now.flow h.place ≡ Some h.message)
-            (fronts_of_driver driver self.now.flow) }
-        ensures all { (p : PlaceValue) → first_message self.now.flow p ≢ None → p.stream.driver ≡ driver
-            → list_any (λ h. same_place h.place p) (fronts_of_driver driver self.now.flow) ≡ true }
+            (fronts_for driver addr self.now.flow) }
+        ensures all { (p : PlaceValue) → has_addr addr (first_message self.now.flow p) ≡ true
+            → p.stream.driver ≡ driver
+            → list_any (λ h. same_place h.place p) (fronts_for driver addr self.now.flow) ≡ true }
     {
-        FirstMessages::of_driver(&self.places, &self.queues, driver)
+        FirstMessages::new(&self.places, &self.queues, driver, addr)
     }
 
     /// All messages, in order of place. Takes no memory.

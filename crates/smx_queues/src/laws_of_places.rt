@@ -3,7 +3,7 @@
 ghost use Rattle.std.specs.Prelude.{◌≡◌, [], ◌∷◌, ◌++◌, take};
 ghost use Rattle.smx_types.specs.declared.stream.Side.TheVariants as side;
 ghost use Rattle.smx_model.specs.Worked.Common.{eth, few_and_small, leaf};
-ghost use Rattle.smx_queues.specs.FlowTables.{fronts_of_driver};
+ghost use Rattle.smx_queues.specs.FlowTables.{fronts_for, fronts_of_driver};
 ghost use Rattle.smx_queues.specs.PlaceLists.{number_in, sides_of, ArePlaces, HaveDriversBelow, IsSpanOf};
 ghost use Rattle.smx_queues.specs.WorkedPlaces.{driver_row, flow, place, places, queued, rows, span};
 
@@ -51,9 +51,14 @@ pub fn drivers_of_an_example()
 {}
 
 /// Of four messages at three places, the first messages at places of one driver are the first ones of its places, in
-/// order; a driver without places has none.
+/// order; a driver without places has none. Those with an address are those of them that have it: not one that stands
+/// behind another, not one of another driver, and none with an address that no first message of the driver has.
 pub fn first_messages_of_an_example()
-    ensures first { fronts_of_driver 0 flow ≡ queued 0 side.Read 1 ∷ [] }
-    ensures second { fronts_of_driver 1 flow ≡ queued 1 side.Write 2 ∷ queued 1 side.Read 4 ∷ [] }
+    ensures first { fronts_of_driver 0 flow ≡ queued 0 side.Read 1 5 ∷ [] }
+    ensures second { fronts_of_driver 1 flow ≡ queued 1 side.Write 2 5 ∷ queued 1 side.Read 4 133 ∷ [] }
     ensures third { fronts_of_driver 2 flow ≡ [] }
+    ensures with_one { fronts_for 1 5 flow ≡ queued 1 side.Write 2 5 ∷ [] }
+    ensures with_another { fronts_for 1 133 flow ≡ queued 1 side.Read 4 133 ∷ [] }
+    ensures not_of_another_driver { fronts_for 0 133 flow ≡ [] }
+    ensures with_none { fronts_for 1 6 flow ≡ [] }
 {}

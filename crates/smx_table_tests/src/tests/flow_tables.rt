@@ -1,5 +1,5 @@
-//! Queues by place: what arrives there, and in a copy of them; and which messages are the first ones of each of two
-//! drivers.
+//! Queues by place: what arrives there, and in a copy of them; and which messages with an address are the first ones of
+//! each of two drivers.
 
 ghost use Rattle.std.specs.Prelude.{◌≡◌, Ok};
 ghost use Rattle.smx_types.specs.Drivers.{spec_check};
@@ -47,12 +47,13 @@ fn bytes(rt: &(impl AllocGlobal + Abort), text: &[u8]) -> Bytes {
     Bytes::from_vec(Vec::from_slice(rt.alloc(), text).expect(rt, "memory"))
 }
 
-// A message of this serial arrives.
+// A message of this serial and address arrives.
 fn put(
     rt: &(impl AllocGlobal + Abort),
     table: &mut FlowTable,
     place: Place,
     serial: u32,
+    addr: u32,
     text: &[u8],
 )
     requires { IsKnown table.old.drivers place.stream }
@@ -61,7 +62,7 @@ fn put(
     assert!(rt; table.reserve_one().is_ok());
     let message = Message {
         serial,
-        addr: 5,
+        addr,
         bytes: bytes(rt, text),
     };
     assert!(rt; !table.is_full(place) && !message.bytes.as_slice().is_empty());
@@ -86,15 +87,15 @@ pub const UP: Place = Place {
     side: Side::Read,
 };
 
-/// Two messages at a write side, and one that fills a read side behind it.
+/// Two messages of two addresses at a write side, and one that fills a read side behind it.
 pub fn fill(rt: &(impl AllocGlobal + Abort), table: &mut FlowTable)
     requires first { IsKnown table.old.drivers (record { driver = 0; minor = 0 }) }
     requires second { IsKnown table.old.drivers (record { driver = 0; minor = 1 }) }
     ensures { table.new.drivers ≡ table.old.drivers }
 {
-    put(rt, table, UP, 1, b"eight by");
-    put(rt, table, DOWN, 2, b"two");
-    put(rt, table, DOWN, 3, b"by");
+    put(rt, table, UP, 1, 5, b"eight by");
+    put(rt, table, DOWN, 2, 5, b"two");
+    put(rt, table, DOWN, 3, 6, b"by");
 }
 
 // The three are there, and one place is full.
@@ -141,29 +142,43 @@ const fn of_second(minor: u8, side: Side) -> Place
     }
 }
 
-// Two messages at one place of the second driver, one at another, and one at a place of the first.
+// Two messages at one place of the second driver, one at each of two others, and one at a place of the first. The
+// addresses are 1 and 129, whose bytes are the same.
 fn fill_two(rt: &(impl AllocGlobal + Abort), table: &mut FlowTable)
     requires below { IsKnown table.old.drivers (record { driver = 0; minor = 1 }) }
     requires first { IsKnown table.old.drivers (record { driver = 1; minor = 0 }) }
     requires second { IsKnown table.old.drivers (record { driver = 1; minor = 1 }) }
 {
-    put(rt, table, of_second(1, Side::Write), 1, b"two");
-    put(rt, table, of_second(1, Side::Write), 2, b"by");
-    put(rt, table, of_second(0, Side::Read), 3, b"two");
-    put(rt, table, UP, 4, b"by");
+    put(rt, table, of_second(1, Side::Write), 1, 1, b"two");
+    put(rt, table, of_second(1, Side::Write), 2, 129, b"by");
+    put(rt, table, of_second(0, Side::Read), 3, 129, b"two");
+    put(rt, table, of_second(0, Side::Write), 4, 1, b"by");
+    put(rt, table, UP, 5, 1, b"by");
 }
 
-// Each driver has the first ones of its own places, in order.
+// The first ones with an address of the second driver, in order: none that stands behind another, and none with the
+// other address.
 fn stand_in_front(rt: &impl Abort, table: &FlowTable) {
-    let mut second = table.fronts_of_driver(1);
-    let front = second.next().expect(rt, "a message");
+    let mut with_one = table.fronts_for(1, 1);
+    let front = with_one.next().expect(rt, "a message");
+    assert!(rt; front.place == of_second(0, Side::Write) && front.message.serial == 4);
+    assert!(rt; with_one.next().expect(rt, "a message").message.serial == 1);
+    assert!(rt; with_one.next().is_none());
+    let mut with_another = table.fronts_for(1, 129);
+    let front = with_another.next().expect(rt, "a message");
     assert!(rt; front.place == of_second(0, Side::Read) && front.message.serial == 3);
-    assert!(rt; second.next().expect(rt, "a message").message.serial == 1);
-    assert!(rt; second.next().is_none());
-    let mut first = table.fronts_of_driver(0);
-    assert!(rt; first.next().expect(rt, "a message").message.serial == 4);
+    assert!(rt; with_another.next().is_none());
+}
+
+// The first driver has one of its own, and none with the other address. No driver has one with an address that no
+// message has, and a third driver has none.
+fn no_others_stand_in_front(rt: &impl Abort, table: &FlowTable) {
+    let mut first = table.fronts_for(0, 1);
+    assert!(rt; first.next().expect(rt, "a message").message.serial == 5);
     assert!(rt; first.next().is_none());
-    assert!(rt; table.fronts_of_driver(2).next().is_none());
+    assert!(rt; table.fronts_for(0, 129).next().is_none());
+    assert!(rt; table.fronts_for(1, 2).next().is_none());
+    assert!(rt; table.fronts_for(2, 1).next().is_none());
 }
 
 #[test]
@@ -171,5 +186,6 @@ fn fronts_of_each_driver(rt: HostRuntime) {
     let mut made = table_of_two(&rt);
     fill_two(&rt, &mut made);
     stand_in_front(&rt, &made);
+    no_others_stand_in_front(&rt, &made);
     forget(made);
 }

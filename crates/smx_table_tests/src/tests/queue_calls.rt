@@ -70,13 +70,15 @@ fn moves(rt: &impl Abort, table: &mut FlowTable)
     assert!(rt; table.len() == 3);
 }
 
-// Each is now the first of its place, and one place is full.
+// Each is now the first of its place, and found there by its address, and one place is full.
 fn stand_in_front(rt: &impl Abort, table: &FlowTable) {
-    let mut rest = table.fronts();
-    assert!(rt; rest.next().expect(rt, "a message").message.serial == 3);
-    assert!(rt; rest.next().expect(rt, "a message").message.serial == 2);
-    assert!(rt; rest.next().expect(rt, "a message").message.serial == 1);
-    assert!(rt; rest.next().is_none());
+    let mut moved = table.fronts_for(0, 5);
+    assert!(rt; moved.next().expect(rt, "a message").message.serial == 2);
+    assert!(rt; moved.next().expect(rt, "a message").message.serial == 1);
+    assert!(rt; moved.next().is_none());
+    let mut left = table.fronts_for(0, 6);
+    assert!(rt; left.next().expect(rt, "a message").message.serial == 3);
+    assert!(rt; left.next().is_none());
     let mut full = table.fulls();
     assert!(rt; full.next() == Some(UP));
     assert!(rt; full.next().is_none());
@@ -88,12 +90,16 @@ fn drops_one(rt: &(impl AllocGlobal + Abort), table: &mut FlowTable) {
     assert!(rt; table.has_lone_message(DOWN));
     table.drop_at(DOWN, &mut dropped);
     assert!(rt; dropped.as_slice() == [3].as_slice());
+    assert!(rt; table.fronts_for(0, 6).next().is_none());
     forget(dropped);
 }
 
 // Another one leaves, and the one that moved on is left.
 fn takes_one(rt: &impl Abort, table: &mut FlowTable) {
     assert!(rt; table.take(UP).expect(rt, "a message").serial == 1);
+    let mut front = table.fronts_for(0, 5);
+    assert!(rt; front.next().expect(rt, "a message").message.serial == 2);
+    assert!(rt; front.next().is_none());
     let mut rest = table.messages();
     assert!(rt; rest.next().expect(rt, "a message").message.serial == 2);
     assert!(rt; rest.next().is_none());

@@ -1,8 +1,9 @@
-use Rattle.smx_queues.proofs.LeftLemmas.{many_queues}
-use Rattle.smx_queues.proofs.SpanLemmas.{fronts_of_whole}
+use Rattle.std.proofs.Common.{ap}
+use Rattle.smx_queues.specs.FlowTables.{with_addr}
+use Rattle.smx_queues.proofs.SpanLemmas.{fronts_in_span}
 use Rattle.smx_queues.proofs.first_messages.FirstMessages.new.Goals as goal
 
 pub returns : goal.returns
 returns c =
-    fronts_of_whole c.args.places.now.places c.args.queues.now.queues c.len.result c.requires.rising c.len.ensures
-    (many_queues c.args.places.now.drivers c.args.places.now.places c.args.queues.now.queues c.requires.queues)
+    ap (with_addr c.args.addr) (fronts_in_span c.args.driver c.args.places.now.places c.args.queues.now.queues
+    c.span_of-span.result c.requires.rising c.span_of-span.ensures)
