@@ -2,6 +2,7 @@ pub mod AlikeLemmas
 pub mod DriverFaultLemmas
 pub mod VerdictLemmas
 pub mod GrowingCheckLemmas
+pub mod WorkedCheckLemmas
 pub mod RunMarkLemmas
 pub mod NeededLemmas
 pub mod WakeLemmas

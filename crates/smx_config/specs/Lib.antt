@@ -9,3 +9,4 @@ pub mod ModelOfConfig
 pub mod Verdicts
 pub mod ToldReplies
 pub mod GrowingChecks
+pub mod WorkedToldReplies

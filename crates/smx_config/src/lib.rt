@@ -7,6 +7,7 @@ mod driver_list;
 mod growing_check;
 mod history;
 pub mod laws_of_drivers;
+mod laws_of_told_replies;
 pub mod laws_of_verdicts;
 mod laws_of_waking;
 mod lone_messages;
