@@ -275,11 +275,13 @@ of_accepted P (Err g) x e h = absurd cc
 -- where it is enough to wake what a command may turn and free, the marks are right after it is accepted
 enough_at : (drivers : List DriverSpec) (c : Configuration) (process : ℕ) (k : Command) (m n : Marks)
     (x : Configuration × Reply) → IsEnough drivers c process k m n → outcome drivers c process k ≡ Ok x
-    → IsWoken x.0 (turned_under x.0 (wakes_of drivers c process k)) (freed_under x.1 (wakes_of drivers c process k)) m n
+    → IsWoken x.0 (turned_under x.0 (wakes_of drivers c process k))
+    (freed_under x.1 (wakes_of drivers c process k)) m n
     → AreMarks drivers x.0 n
 enough_at drivers c process k m n x enough e =
     of_accepted (λ (y : Configuration × Reply). IsWoken y.0 (turned_under y.0 (wakes_of drivers c process k))
-    (freed_under y.1 (wakes_of drivers c process k)) m n → AreMarks drivers y.0 n) (outcome drivers c process k) x e enough
+    (freed_under y.1 (wakes_of drivers c process k)) m n → AreMarks drivers y.0 n) (outcome drivers c process k) x e
+    enough
 
 -- where it is enough to wake what a command may turn and free, and that is done after it, the marks are right
 woken_after : (old new : Machine) (process : ℕ) (k : Command) (r : Reply) (w : Wakes) (m n : Marks)

@@ -94,8 +94,8 @@ fn drops_none(reply: &Reply) -> bool
     }
 }
 
-// So it is with either side of the stream whose messages may have been dropped. A full place has messages, so where none
-// was dropped it is full still, and is not looked at.
+// So it is with either side of the stream whose messages may have been dropped. A full place has messages, so where
+// none was dropped it is full still, and is not looked at.
 fn release_emptied(tables: &Tables, marks: &mut Marks, stream: StreamId, reply: &Reply)
     ensures { IsReleased tables.now.configuration (freed_under reply.now (wakes.Empties stream)) marks.old marks.new }
 {
