@@ -13,8 +13,8 @@ ghost use Rattle.smx_config.specs.declared.growing_check.CheckStage.TheVariants 
 
 use smx_model::laws_of_illegal_entries::{legal_or_first_illegal, the_second_is_the_first_illegal};
 
-/// Where end of file is told, just that reply is; and it isn't so that none is told, whatever reply is at hand. Where
-/// none is told, that is so, and none at hand is told.
+/// Where end of file is told, that reply is told and no other, and it isn't so that none is, whatever reply is at hand.
+/// Where none is told, just that is so.
 pub fn told_replies_of_an_example()
     ensures told { IsToldSo (tells_only reply.Eof) reply.Eof true }
     ensures not_another { IsToldSo (tells_only reply.Eof) (reply.Done []) true → ⊥ }

@@ -16,6 +16,7 @@ mod sweeps;
 mod systems;
 mod three_seats;
 mod told;
+mod told_replies;
 mod tried_again;
 mod verdicts;
 mod worked;
