@@ -16,7 +16,7 @@ machine_of c = c.tables
 pub record ConfigInvariant (c : Inside) : Type 0 where
   -- the configuration is what commands leave
   pub kept : IsKept c.tables.drivers c.tables.configuration
-  -- each full place has messages, so that none stops being full where no message is dropped
+  -- each full place has messages, so that what is done with none dropped frees no place
   pub filled : HaveFullPlacesMessages c.tables.configuration
   -- each place without a run mark waits, a wanted mark stands at full places alone, and what is held up is listed
   -- with the place that holds it up

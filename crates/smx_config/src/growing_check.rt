@@ -40,8 +40,8 @@ pub enum CheckStage {
 
 /// A history that is judged while it comes, of which a contract sees what came: first the drivers, and then each entry.
 /// The command of an entry is given as it comes, and no entry is kept. Where the drivers are refused or memory is
-/// wanting, or behind the first entry whose reply is another, nothing more is judged, of what comes still, and that is
-/// told at the end; and so it is with want of memory where an entry was to come whose reply nobody told.
+/// wanting, or behind the first entry whose reply is another, nothing more is judged, and that is told at the end. So
+/// is want of memory where, behind entries that were all right, one was to come whose reply nobody told.
 #[derive(Drop)]
 pub struct GrowingCheck {
     alloc: Global,
@@ -156,8 +156,8 @@ impl GrowingCheck {
     }
 
     /// The verdict on all that came, and on the view that is claimed of its end. Refused for drivers that a
-    /// configuration can't have, whatever the entries are, or for want of memory. The view is compared where it stands,
-    /// with no copy.
+    /// configuration can't have, whatever the entries are, or for want of memory, or as if for that where it gave up at
+    /// an entry whose reply nobody told (`add_told_entry`). The view is compared where it stands, with no copy.
     pub fn finish(self, shown: &ConfigView) -> Result<Verdict, ConfigFault>
         ensures drivers { IfOk result (λ _. IsDriverList self.drivers) }
         ensures verdict { IfOk result (IsVerdict self.drivers self.entries shown.now) }

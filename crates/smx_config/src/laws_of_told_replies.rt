@@ -13,8 +13,8 @@ ghost use Rattle.smx_config.specs.declared.growing_check.CheckStage.TheVariants 
 
 use smx_model::laws_of_illegal_entries::{legal_or_first_illegal, the_second_is_the_first_illegal};
 
-/// Where end of file is told, that reply is told and no other, and it isn't so that none is, whatever reply is at hand.
-/// Where none is told, just that is so.
+/// Where end of file is told, that reply is told, and not that it is done; nor is it so that none is. Where none is
+/// told, just that is so.
 pub fn told_replies_of_an_example()
     ensures told { IsToldSo (tells_only reply.Eof) reply.Eof true }
     ensures not_another { IsToldSo (tells_only reply.Eof) (reply.Done []) true → ⊥ }
@@ -23,8 +23,8 @@ pub fn told_replies_of_an_example()
     ensures not_any { IsToldSo tells_none reply.Eof true → ⊥ }
 {}
 
-/// A check that found the second entry illegal may keep that, or give up for want of memory. It may go on to no other
-/// number, and from want of memory to none.
+/// A check that found the second entry illegal may keep that, or give up for want of memory. It may not go on to the
+/// first one, nor come back from want of memory.
 pub fn stages_that_stay_of_an_example()
     ensures same { StaysJudged (stage.Illegal 2) (stage.Illegal 2) }
     ensures given_up { StaysJudged (stage.Illegal 2) wanting }

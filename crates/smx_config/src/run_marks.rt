@@ -52,8 +52,8 @@ pub fn mark_waiting(tables: &Tables, run: &mut PlaceMarks, place: Place)
     }
 }
 
-// Marks the write sides of the driver's streams whose first message has this address. It looks at few places of the
-// driver whose first message has another address.
+// Marks the write sides of the driver's streams whose first message has this address. It looks at few first messages
+// with another address: those alone whose address has the same byte.
 pub fn mark_writes(tables: &Tables, run: &mut PlaceMarks, driver: u8, addr: u32)
     ensures { IsMarkedWhere tables.now.configuration.flow
         (asks_down tables.now.configuration driver addr) run.old run.new }

@@ -1,4 +1,4 @@
--- Which places a command frees. Only the laws of marked commands need this.
+-- Which places a command frees. Only laws of marks, and what `smx_config` keeps of its own, need this.
 use Rattle.std.specs.Prelude.{◌≡◌, ◌≢◌, ℕ, Bool, true, ◌&&◌, not, List, None}
 use Rattle.std.specs.Option.{is_some}
 use Rattle.smx_types.specs.declared.command.Command.{Command}

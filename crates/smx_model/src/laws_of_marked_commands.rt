@@ -36,7 +36,7 @@ pub fn commands_free_few()
         FreesOnly c x.0 (freed_by drivers c process command x.0)) }
 {}
 
-/// Where each full place has messages, a command that is done with no message dropped frees none.
+/// Where serials differ and each full place has messages, a command that is done with none dropped frees no place.
 pub fn without_drops_none_is_freed()
     ensures { (drivers : List DriverSpec) (c : Configuration) (process : ℕ) (command : Command) → AreSerialsSound c
         → HaveFullPlacesMessages c → IfOk (outcome drivers c process command) (λ x.

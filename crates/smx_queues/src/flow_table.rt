@@ -194,7 +194,7 @@ impl FlowTable {
     }
 
     /// The first messages with this address at places of the driver, in order of place. It looks at no place of another
-    /// driver, and at the messages of few places whose first one has another address. Takes no memory.
+    /// driver, and only at first messages whose address differs by a multiple of 128, or not at all. Takes no memory.
     pub fn fronts_for(&self, driver: u8, addr: u32) -> FirstMessages<'_>
         ensures fronts { result ≡ fronts_for driver addr self.now.flow }
         ensures first { All (λ h. first_message self.now.flow h.place ≡ Some h.message)

@@ -170,7 +170,7 @@ fn of_each_entry(rt: HostRuntime) {
     is_so(&rt, LAST_WRONG, 9, Ok(Verdict::Illegal { entry: 4 }));
 }
 
-// Behind one that doesn't come nothing more is judged, unless it was to be the first, or a wrong one was before it.
+// One that doesn't come changes nothing if it is to be the first, or is behind a wrong one; else the check gives up.
 #[test]
 fn of_each_entry_but_one(rt: HostRuntime) {
     is_so(&rt, RIGHT, 0, Ok(Verdict::Legal));
