@@ -1,12 +1,13 @@
 //! The configuration as it is shown.
 
-ghost use Rattle.std.specs.Prelude.{◌≡◌, ◌↔◌, IfOk, IsTrue};
+ghost use Rattle.std.specs.Prelude.{◌≡◌, ◌↔◌, [], IfOk, IsTrue};
 ghost use Rattle.smx_model.specs.KeptConfigurations.{IsSound};
 ghost use Rattle.smx_model.specs.Views.{view};
 
 use crate::tables::Tables;
 use smx_tables::show::{
-    binding_lines, descriptor_lines, full_lines, hung_lines, link_lines, message_lines, route_lines,
+    binding_lines, descriptor_lines, full_lines, hung_lines, leaving_message_lines, link_lines,
+    message_lines, route_lines,
 };
 use smx_tables::shown_addresses::{are_bindings_shown, are_routes_shown};
 use smx_tables::shown_lines::{
@@ -18,10 +19,10 @@ use smx_types::{
 };
 
 impl Tables {
-    /// The configuration as it is shown. Fails only for want of memory.
-    pub fn show(&self) -> Result<ConfigView, NoMemory>
+    // The configuration as it is shown, but with no messages. Fails only for want of memory.
+    fn show_without_messages(&self) -> Result<ConfigView, NoMemory>
         requires { IsSound self.now.drivers self.now.configuration }
-        ensures { IfOk result (λ v. v ≡ view self.now.drivers self.now.configuration) }
+        ensures { IfOk result (λ v. v ≡ record (view self.now.drivers self.now.configuration) { msgs = [] }) }
     {
         let alloc = self.alloc;
         let drivers: &[DriverSpec] = &self.drivers;
@@ -29,7 +30,6 @@ impl Tables {
         let links = link_lines(alloc, drivers, &self.lists.links)?;
         let binds = binding_lines(alloc, drivers, &self.lists.binds)?;
         let routes = route_lines(alloc, drivers, &self.lists.routes)?;
-        let msgs = message_lines(alloc, drivers, &self.lists.queues)?;
         let fulls = full_lines(alloc, drivers, &self.lists.queues)?;
         let hungs = hung_lines(alloc, drivers, &self.lists.streams)?;
         Ok(ConfigView {
@@ -39,10 +39,39 @@ impl Tables {
             links: LinkLines::from_vec(links),
             binds: BindingLines::from_vec(binds),
             routes: RouteLines::from_vec(routes),
-            msgs: MessageLines::from_vec(msgs),
+            msgs: MessageLines::new(alloc),
             fulls: FullLines::from_vec(fulls),
             hungs: HungLines::from_vec(hungs),
         })
+    }
+
+    /// The configuration as it is shown. Fails only for want of memory.
+    pub fn show(&self) -> Result<ConfigView, NoMemory>
+        requires { IsSound self.now.drivers self.now.configuration }
+        ensures { IfOk result (λ v. v ≡ view self.now.drivers self.now.configuration) }
+    {
+        let mut view = self.show_without_messages()?;
+        let msgs = message_lines(self.alloc, &self.drivers, &self.lists.queues)?;
+        view.msgs = MessageLines::from_vec(msgs);
+        Ok(view)
+    }
+
+    /// The same of tables that nobody needs any more: no message is copied. Fails only for want of memory.
+    pub fn into_view(self) -> Result<ConfigView, NoMemory>
+        requires { IsSound self.drivers self.configuration }
+        ensures { IfOk result (λ v. v ≡ view self.drivers self.configuration) }
+    {
+        let mut view = self.show_without_messages()?;
+        let Tables {
+            alloc,
+            drivers,
+            hints: _hints,
+            lists,
+            room: _room,
+        } = self;
+        let msgs = leaving_message_lines(alloc, &drivers, lists.into_queues())?;
+        view.msgs = MessageLines::from_vec(msgs);
+        Ok(view)
     }
 
     /// Whether `show` would answer just this view. It is compared line by line where it stands: that takes no memory.

@@ -194,6 +194,19 @@ impl Config {
         self.tables.show()
     }
 
+    /// What `show` answers, of a configuration that nobody needs any more: no message is copied. Fails only for want of
+    /// memory.
+    pub fn into_view(self) -> Result<ConfigView, NoMemory>
+        ensures { IfOk result (λ v. v ≡ view self.drivers self.configuration) }
+    {
+        let Config {
+            tables,
+            marks: _marks,
+            ways: _ways,
+        } = self;
+        tables.into_view()
+    }
+
     /// Whether `show` would answer just this view. It is compared line by line where it stands: that takes no memory.
     pub fn shows(&self, shown: &ConfigView) -> bool
         ensures { IsTrue result ↔ (shown.now ≡ view self.now.drivers self.now.configuration) }

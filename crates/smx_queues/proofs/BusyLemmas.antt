@@ -1,6 +1,6 @@
 -- The bytes by which places are found whose first message has an address.
-use Rattle.std.proofs.Common.{◌≡◌, ◌≢◌, ℕ, ◌+◌, ◌-◌, ◌<◌, ◌≤◌, false, eqb, List, [], ◌∷◌, length, map, drop, take}
-use Rattle.std.proofs.Common.{get_or, set, Option, Some, None, refl, sym, ap, ◌∙◌, subst, arith, inl, inr}
+use Rattle.std.proofs.Common.{◌≡◌, ◌≢◌, ℕ, ◌+◌, ◌-◌, ◌<◌, ◌≤◌, false, eqb, List, [], ◌∷◌, ◌++◌, length, map, drop}
+use Rattle.std.proofs.Common.{take, get_or, set, Option, Some, None, refl, sym, ap, ◌∙◌, subst, arith, inl, inr}
 use Rattle.std.specs.Prelude.{IsSome, nat_lt, slice_get}
 use Rattle.std.proofs.lemmas.Bool.{cases_Bool, cases_lt, eqb-true, false_from_ne_true}
 use Rattle.std.proofs.lemmas.List.{drop-take, get_or-drop, get_or-map, get_or-set_other, get_or-set_same}
@@ -27,13 +27,51 @@ bytes_again old new bytes more p q is lt changed more_is =
     ∙ get_or-set_same old p q None lt in
     rw (more_is, here, is, changed) (sym (map-set front_byte old p q))
 
+-- at each number, also past the end, the byte is that of the slot there
+byte_is : (queues : List (Option Queue)) (bytes : List ℕ) (k : ℕ) → bytes ≡ map front_byte queues
+    → get_or bytes k 0 ≡ front_byte (get_or queues k None)
+byte_is queues bytes k is = elim (cases_lt k (length queues)) [
+  | inl lt ↦ rw is (get_or-map front_byte queues k None 0 lt)
+  | inr past ↦ rw (get_or_past queues k None past)
+      (get_or_past bytes k 0 (omega (arith, past, ap length is, length-map queues front_byte)))
+]
+
+-- ---- a message that arrives
+
+-- behind others a message is not the first
+arrived_byte : (q : Queue) (m : Message) → front_byte (Some q) ≢ 0
+    → front_byte (Some q) ≡ front_byte (Some (with_arrival q m))
+arrived_byte q m some = by q.messages some where
+  by : (ms : List Message) → message_byte (slice_get ms 0) ≢ 0
+      → message_byte (slice_get ms 0) ≡ message_byte (slice_get (ms ++ m ∷ []) 0)
+  by [] some = absurd (some refl)
+  by (n ∷ ms) some = refl
+
+-- where a place that is there has a byte, a message that arrives there leaves it
+pub byte_stays : (old : List (Option Queue)) (bytes : List ℕ) (p : ℕ) (m : Message) → bytes ≡ map front_byte old
+    → IsPlace old p → get_or bytes p 0 ≢ 0
+    → get_or bytes p 0 ≡ front_byte (Some (with_arrival (queue_at old p) m))
+byte_stays old bytes p m is there some = by (get_or old p None) refl where
+  by : (o : Option Queue) → get_or old p None ≡ o
+      → get_or bytes p 0 ≡ front_byte (Some (with_arrival (queue_at old p) m))
+  by None e = let gone : IsSome {T = Queue} None = subst (λ (o : Option Queue). IsSome o) e there in absurd (cc gone)
+  by (Some q) e =
+      let here : get_or bytes p 0 ≡ front_byte (Some q) = byte_is old bytes p is ∙ ap front_byte e in
+      rw (e, here) (arrived_byte q m (λ zero. some (here ∙ zero)))
+
+-- a place that has another queue has just this one then
+pub slot_now : (old new : List (Option Queue)) (p : ℕ) (q : Queue) → IsPlace old p → new ≡ with_queue old p q
+    → get_or new p None ≡ Some q
+slot_now old new p q there is = ap (λ (qs : List (Option Queue)). get_or qs p None) is
+    ∙ get_or-set_same old p (Some q) None (place_below old p there)
+
 -- ---- two places with other queues
 
--- two places have other queues, and nothing else has changed
+-- two places have other queues, the second one with a message more at its end, and nothing else has changed
 pub record AreMoved (old new : List (Option Queue)) (i j : ℕ) : Type 0 where
   pub first : Queue
-  pub second : Queue
-  pub is : new ≡ set (set old i (Some first)) j (Some second)
+  pub message : Message
+  pub is : new ≡ set (set old i (Some first)) j (Some (with_arrival (queue_at old j) message))
 
 -- where the message at the front of one place goes to another, both have other queues, and nothing else has changed
 pub moved_of : (old new : List (Option Queue)) (i j : ℕ) → 0 < length (queue_at old i).messages
@@ -43,7 +81,7 @@ pub moved_of : (old new : List (Option Queue)) (i j : ℕ) → 0 < length (queue
 moved_of old new i j some moved = let m = first_in (queue_at old i).messages some in
     record {
       first = without_front (queue_at old i);
-      second = with_arrival (queue_at old j) m.0;
+      message = m.0;
       is = moved m.0 m.1;
     } where
       first_in : (ms : List Message) → 0 < length ms → (m : Message) × (slice_get ms 0 ≡ Some m)
@@ -55,15 +93,16 @@ at_first : (old new : List (Option Queue)) (i j : ℕ) → i ≢ j → IsPlace o
     → get_or new i None ≡ Some h.first
 at_first old new i j differ there h =
     ap (λ (qs : List (Option Queue)). get_or qs i None) h.is
-    ∙ (get_or-set_other (set old i (Some h.first)) j i (Some h.second) None differ
+    ∙ (get_or-set_other (set old i (Some h.first)) j i (Some (with_arrival (queue_at old j) h.message)) None differ
     ∙ get_or-set_same old i (Some h.first) None (place_below old i there))
 
 -- after a move the second place has the second of the two queues
 at_second : (old new : List (Option Queue)) (i j : ℕ) → IsPlace old j → (h : AreMoved old new i j)
-    → get_or new j None ≡ Some h.second
+    → get_or new j None ≡ Some (with_arrival (queue_at old j) h.message)
 at_second old new i j there h =
     ap (λ (qs : List (Option Queue)). get_or qs j None) h.is ∙ get_or-set_same (set old i (Some h.first)) j
-    (Some h.second) None (omega (arith, place_below old j there, length-set old i (Some h.first)))
+    (Some (with_arrival (queue_at old j) h.message)) None
+    (omega (arith, place_below old j there, length-set old i (Some h.first)))
 
 -- the first of two places that have other queues is still there
 pub first_there : (old new : List (Option Queue)) (i j : ℕ) → i ≢ j → IsPlace old i → AreMoved old new i j
@@ -75,6 +114,16 @@ first_there old new i j differ there h =
 pub second_there : (old new : List (Option Queue)) (i j : ℕ) → IsPlace old j → AreMoved old new i j → IsPlace new j
 second_there old new i j there h = subst (λ (o : Option Queue). IsSome o) (sym (at_second old new i j there h)) refl
 
+-- where the second of two places had a byte, and that of the first alone is set anew, it is the second's still
+pub second_stays : (old new : List (Option Queue)) (bytes mid : List ℕ) (i j b : ℕ) → i ≢ j → IsPlace old j
+    → bytes ≡ map front_byte old → (h : AreMoved old new i j) → mid ≡ set bytes i b → get_or mid j 0 ≢ 0
+    → get_or mid j 0 ≡ front_byte (get_or new j None)
+second_stays old new bytes mid i j b differ to is h mid_is some =
+    let other : get_or mid j 0 ≡ get_or bytes j 0 = ap (λ (bs : List ℕ). get_or bs j 0) mid_is
+    ∙ get_or-set_other bytes i j b 0 (λ e. differ (sym e)) in
+    other ∙ byte_stays old bytes j h.message is to (λ zero. some (other ∙ zero))
+    ∙ ap front_byte (sym (at_second old new i j to h))
+
 -- where the bytes of both places are set anew, the bytes are again those of the slots
 pub bytes_moved : (old new : List (Option Queue)) (bytes mid more : List ℕ) (i j : ℕ) → i ≢ j → IsPlace old i
     → IsPlace old j → bytes ≡ map front_byte old → (h : AreMoved old new i j)
@@ -82,17 +131,9 @@ pub bytes_moved : (old new : List (Option Queue)) (bytes mid more : List ℕ) (i
     → more ≡ map front_byte new
 bytes_moved old new bytes mid more i j differ from to is h mid_is more_is =
     rw (more_is, mid_is, at_first old new i j differ from h, at_second old new i j to h, is, h.is)
-    (ap (λ (bs : List ℕ). set bs j (front_byte (Some h.second))) (sym (map-set front_byte old i (Some h.first)))
-    ∙ sym (map-set front_byte (set old i (Some h.first)) j (Some h.second)))
-
--- at each number, also past the end, the byte is that of the slot there
-byte_is : (queues : List (Option Queue)) (bytes : List ℕ) (k : ℕ) → bytes ≡ map front_byte queues
-    → get_or bytes k 0 ≡ front_byte (get_or queues k None)
-byte_is queues bytes k is = elim (cases_lt k (length queues)) [
-  | inl lt ↦ rw is (get_or-map front_byte queues k None 0 lt)
-  | inr past ↦ rw (get_or_past queues k None past)
-      (get_or_past bytes k 0 (omega (arith, past, ap length is, length-map queues front_byte)))
-]
+    (ap (λ (bs : List ℕ). set bs j (front_byte (Some (with_arrival (queue_at old j) h.message))))
+    (sym (map-set front_byte old i (Some h.first)))
+    ∙ sym (map-set front_byte (set old i (Some h.first)) j (Some (with_arrival (queue_at old j) h.message))))
 
 -- ---- the least number that has messages
 

@@ -89,7 +89,7 @@ pub seen_now : (p : PlaceList) (all : List (Option Queue)) (t : FlowLists) (n : 
 seen_now p all t n h = rw (h.drivers, h.flow, h.fulls) refl
 
 -- messages of which this is the first are this one and the rest
-first_is : (ms : List Message) (m : Message) → slice_get ms 0 ≡ Some m → ms ≡ m ∷ drop 1 ms
+pub first_is : (ms : List Message) (m : Message) → slice_get ms 0 ≡ Some m → ms ≡ m ∷ drop 1 ms
 first_is [] m e = absurd cc
 first_is (x ∷ ms) m e = ap (λ (y : Message). y ∷ ms) (same_Some x m e)
 

@@ -19,6 +19,7 @@ pub mod LeftLemmas
 pub mod FlowCallLemmas
 pub mod SpecLemmas
 pub mod StepLemmas
+pub mod LeavingLemmas
 pub mod SpanLemmas
 pub mod MarkLemmas
 pub mod WaiterLemmas

@@ -1,7 +1,13 @@
 -- A message where it stands in a queue.
+use Rattle.smx_types.specs.declared.message.Message.{Message}
+use Rattle.smx_types.specs.declared.stream.Place.{Place}
 use Rattle.smx_model.specs.Configuration.{QueuedMessage}
 use Rattle.smx_queues.specs.declared.queued.Queued.{Queued}
 
 -- as the model has it
 abbrev pub queued_message : Queued → QueuedMessage
 queued_message q = record { place = q.place; message = q.message.now }
+
+-- a message that leaves its place, as the model has it
+abbrev pub leaving_message : Place × Message → QueuedMessage
+leaving_message m = record { place = m.0; message = m.1 }

@@ -1,7 +1,8 @@
 //! The queues of places, and for which of them the first message may have an address.
 
 ghost use Rattle.std.specs.Prelude.{◌≡◌, ◌≢◌, ◌<◌, ◌≤◌, ◌==◌, ◌&&◌, [], ◌∷◌, ◌++◌, false, not, length, nat_lt};
-ghost use Rattle.std.specs.Prelude.{Some, None, IfOk, IfNone, OnOk, OnSome, slice_get, slice_index_or, slice_set, take};
+ghost use Rattle.std.specs.Prelude.{Some, None, IfOk, IfNone, OnOk, OnSome, slice_get, slice_index, slice_index_or};
+ghost use Rattle.std.specs.Prelude.{slice_set, take};
 ghost use Rattle.smx_types.specs.declared.message.Message.{Message};
 ghost use Rattle.smx_queues.specs.QueueTable.{empty_queue, queue_at, with_arrival, with_queue, without_messages};
 ghost use Rattle.smx_queues.specs.QueueTable.{without_front, IsPlace};
@@ -60,6 +61,20 @@ fn set_front_byte(queues: &Queues, bytes: &mut Vec<u8>, p: PlaceId)
         ≡ slice_set bytes.old.items p (front_byte (slice_index_or queues.now.queues p None)) }
 {
     bytes[p] = front_byte(queues, p);
+}
+
+// The same where a message has arrived: behind others it is not the first, and the byte stays.
+fn note_arrival(queues: &Queues, bytes: &mut Vec<u8>, p: PlaceId)
+    requires place { IsPlace queues.now.queues p }
+    requires there { p < length bytes.old.items }
+    requires kept { slice_index bytes.old.items p ≢ 0
+        → slice_index bytes.old.items p ≡ front_byte (slice_index_or queues.now.queues p None) }
+    ensures { bytes.new.items
+        ≡ slice_set bytes.old.items p (front_byte (slice_index_or queues.now.queues p None)) }
+{
+    if bytes[p] == 0 {
+        set_front_byte(queues, bytes, p);
+    }
 }
 
 impl BusyQueues {
@@ -138,7 +153,7 @@ impl BusyQueues {
             ≡ with_queue self.old.queues p (with_arrival (queue_at self.old.queues p) message) }
     {
         self.queues.put(p, message);
-        set_front_byte(&self.queues, &mut self.front_bytes, p);
+        note_arrival(&self.queues, &mut self.front_bytes, p);
     }
 
     pub fn take(&mut self, p: PlaceId) -> Option<Message>
@@ -167,7 +182,7 @@ impl BusyQueues {
     {
         self.queues.move_front(from, to);
         set_front_byte(&self.queues, &mut self.front_bytes, from);
-        set_front_byte(&self.queues, &mut self.front_bytes, to);
+        note_arrival(&self.queues, &mut self.front_bytes, to);
     }
 
     pub fn clear(&mut self, p: PlaceId)

@@ -16,6 +16,7 @@ ghost use Rattle.smx_queues.specs.FlowTables.{after_arrival, after_leaving, fron
 use crate::busy_queues::BusyQueues;
 use crate::first_messages::FirstMessages;
 use crate::full_places::FullPlaces;
+use crate::leaving_messages::LeavingMessages;
 use crate::places::Places;
 use crate::queued_messages::QueuedMessages;
 use smx_types::{Bytes, DriverSpec, Message, NoMemory, Place};
@@ -211,6 +212,14 @@ impl FlowTable {
         ensures { result ≡ self.now.flow }
     {
         QueuedMessages::new(&self.places, &self.queues)
+    }
+
+    /// All messages, in order of place, each moved out. Takes no memory.
+    pub fn into_messages(self) -> LeavingMessages
+        ensures { result ≡ self.flow }
+    {
+        let FlowTable { places, queues } = self;
+        LeavingMessages::new(places, queues)
     }
 
     /// The full places, in order. Takes no memory.

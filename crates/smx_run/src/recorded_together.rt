@@ -129,6 +129,6 @@ fn run_about<
     let hands = workers.min(programs.len());
     let (system, _fronts) = run_together(rt, alloc, system, programs, hands, gate)?;
     let (scribe, config) = system.into_parts();
-    let view = config.show()?;
+    let view = config.into_view()?;
     Ok((scribe.into_recorder()?, view))
 }

@@ -101,7 +101,12 @@ impl<K: Recorder> Recording<K> {
         ensures recorder { IfOk result (λ r. r.0 ≡ self.recorder) }
         ensures view { IfOk result (λ r. r.1 ≡ view self.config.drivers self.config.configuration) }
     {
-        let view = self.config.show()?;
-        Ok((self.recorder, view))
+        let Recording {
+            process: _,
+            config,
+            recorder,
+        } = self;
+        let view = config.into_view()?;
+        Ok((recorder, view))
     }
 }

@@ -1,5 +1,7 @@
 //! The parts of a configuration.
 
+ghost use Rattle.std.specs.Prelude.{◌≡◌};
+
 use smx_addresses::{Bindings, Routes};
 use smx_links::LinkTable;
 use smx_queues::FlowTable;
@@ -28,5 +30,22 @@ impl Drop for Lists {
             queues: _queues,
             next_serial: _next_serial,
         } = self;
+    }
+}
+
+impl Lists {
+    /// The table of queues; the others are not needed any more.
+    pub fn into_queues(self) -> FlowTable
+        ensures { result ≡ self.queues }
+    {
+        let Lists {
+            streams: _streams,
+            links: _links,
+            binds: _binds,
+            routes: _routes,
+            queues,
+            next_serial: _next_serial,
+        } = self;
+        queues
     }
 }

@@ -8,11 +8,11 @@ ghost use Rattle.smx_model.specs.Views.{view_of_message, view_of_full, view_of_h
 
 use smx_addresses::{Bindings, Routes};
 use smx_links::LinkTable;
-use smx_queues::{FlowTable, Queued};
+use smx_queues::FlowTable;
 use smx_streams::Streams;
 use smx_types::{
     Binding, BindingLine, Descriptor, DescriptorLine, DriverSpec, FullLine, HungLine, Link,
-    LinkLine, MessageLine, Name, NoMemory, Place, Route, RouteLine, StreamId,
+    LinkLine, Message, MessageLine, Name, NoMemory, Place, Route, RouteLine, StreamId,
 };
 use std::alloc::Global;
 
@@ -77,23 +77,17 @@ pub fn route_line(drivers: &[DriverSpec], r: &Route) -> RouteLine
     }
 }
 
-fn message_line(
-    alloc: Global,
-    drivers: &[DriverSpec],
-    queued: Queued<'_>,
-) -> Result<MessageLine, NoMemory>
-    requires { queued.place.stream.driver < length drivers.now }
-    ensures { IfOk result (λ l. l ≡ view_of_message drivers.now
-        (record { place = queued.entry.place; message = queued.entry.message.now })) }
+// The line of a message at a place.
+fn message_line(drivers: &[DriverSpec], place: Place, message: Message) -> MessageLine
+    requires { place.stream.driver < length drivers.now }
+    ensures { result ≡ view_of_message drivers.now (record { place = place; message = message }) }
 {
-    let place = queued.place;
-    let message = queued.message.copy(alloc)?;
-    Ok(MessageLine {
+    MessageLine {
         driver: name_of(drivers, place.stream.driver),
         minor: u32::from(place.stream.minor),
         side: place.side,
         message,
-    })
+    }
 }
 
 /// The line of a full place.
@@ -202,7 +196,26 @@ pub fn message_lines(
     let mut lines = Vec::with_capacity(alloc, queues.len())?;
     let mut rest = queues.messages();
     while let Some(queued) = rest.next() {
-        lines.push(message_line(alloc, drivers, queued)?)?;
+        let message = queued.message.copy(alloc)?;
+        lines.push(message_line(drivers, queued.place, message))?;
+    }
+    Ok(lines)
+}
+
+/// The same lines, with the messages of tables that nobody needs any more: none is copied. Fails only for want of
+/// memory.
+pub fn leaving_message_lines(
+    alloc: Global,
+    drivers: &[DriverSpec],
+    queues: FlowTable,
+) -> Result<Vec<MessageLine>, NoMemory>
+    requires { All (λ h. h.place.stream.driver < length drivers.now) queues.flow }
+    ensures { IfOk result (λ v. v.items ≡ map (view_of_message drivers.now) queues.flow) }
+{
+    let mut lines = Vec::with_capacity(alloc, queues.len())?;
+    let mut rest = queues.into_messages();
+    while let Some((place, message)) = rest.next() {
+        lines.push(message_line(drivers, place, message))?;
     }
     Ok(lines)
 }

@@ -1,6 +1,6 @@
 //! The words of a command.
 
-ghost use Rattle.std.specs.Prelude.{◌≡◌, ◌≢◌, ◌∷◌, ◌++◌, [], ℕ, List, None, codes};
+ghost use Rattle.std.specs.Prelude.{◌≡◌, ◌≢◌, ◌∷◌, ◌++◌, [], ℕ, List, None, Some, codes};
 ghost use Rattle.std.specs.Prelude.{IsTrue, ◌↔◌, IfOk, IfErr, OnErr, OnOk};
 ghost use Rattle.smx_types.specs.declared.version.Version.{Version as AnyVersion};
 ghost use Rattle.smx_types.specs.declared.version.Version.TheVariants.{V1};
@@ -14,12 +14,13 @@ ghost use Rattle.smx_words.specs.declared.reading.verb.Verb.TheVariants.{Hangup 
 ghost use Rattle.smx_words.specs.declared.reading.verb.Verb.TheVariants.{Write as WriteVerb};
 
 use crate::reading::cutting::is;
-use crate::reading::hex_word::bytes_of;
+use crate::reading::hex_word::read_bytes;
 use crate::reading::number::{first_number, number, pair};
 use crate::reading::verb::{Verb, first_verb};
 use crate::reading::word::{first_name, name, name_and_number, sides, which};
-use smx_types::{Command, NoMemory, Version};
+use smx_types::{Bytes, Command, NoMemory, Version};
 use std::alloc::Global;
+use std::mem::{forget, replace};
 
 /// The command whose words a line is, if it is one's that a version can tell. Fails only for want of memory, and then
 /// the line is such a command's.
@@ -58,6 +59,15 @@ pub fn command_in(
     command_after(read, room, alloc, verb, rest)
 }
 
+// Puts a command where none is yet. What was there is not dropped: there was nothing.
+#[inline(always)]
+fn set(read: &mut Option<Command>, command: Command)
+    requires { read.old ≡ None }
+    ensures { read.new ≡ Some command }
+{
+    forget(replace(read, Some(command)));
+}
+
 // Whether a version has no command of a verb.
 pub(super) fn lacks(version: Version, verb: Verb) -> bool
     ensures { IsTrue result ↔ ((version ≡ V1) × (verb ≡ HangupVerb)) }
@@ -75,7 +85,7 @@ pub(super) fn lone_command(read: &mut Option<Command>, line: &[u8])
     ensures { (v : AnyVersion) → IsReadAs (FitsCommandIn v) command_words line.now read.new }
 {
     if is(line, b"exit") {
-        *read = Some(Command::CloseAll);
+        set(read, Command::CloseAll);
     }
 }
 
@@ -139,7 +149,7 @@ fn clone(read: &mut Option<Command>, rest: &[u8])
     ensures { IsReadAs FitsCommand command_words (line_of (codes "clone" ∷ rest.now ∷ [])) read.new }
 {
     if let Some(driver) = name(rest) {
-        *read = Some(Command::OpenClone { driver });
+        set(read, Command::OpenClone { driver });
     }
 }
 
@@ -149,7 +159,7 @@ fn open(read: &mut Option<Command>, rest: &[u8])
     ensures { IsReadAs FitsCommand command_words (line_of (codes "open" ∷ rest.now ∷ [])) read.new }
 {
     if let Some((driver, minor)) = name_and_number(rest) {
-        *read = Some(Command::OpenMinor { driver, minor });
+        set(read, Command::OpenMinor { driver, minor });
     }
 }
 
@@ -159,7 +169,7 @@ fn dup(read: &mut Option<Command>, rest: &[u8])
     ensures { IsReadAs FitsCommand command_words (line_of (codes "dup" ∷ rest.now ∷ [])) read.new }
 {
     if let Some(fd) = number(rest) {
-        *read = Some(Command::Dup { fd });
+        set(read, Command::Dup { fd });
     }
 }
 
@@ -169,7 +179,7 @@ fn close(read: &mut Option<Command>, rest: &[u8])
     ensures { IsReadAs FitsCommand command_words (line_of (codes "close" ∷ rest.now ∷ [])) read.new }
 {
     if let Some(fd) = number(rest) {
-        *read = Some(Command::Close { fd });
+        set(read, Command::Close { fd });
     }
 }
 
@@ -179,7 +189,7 @@ fn link(read: &mut Option<Command>, rest: &[u8])
     ensures { IsReadAs FitsCommand command_words (line_of (codes "link" ∷ rest.now ∷ [])) read.new }
 {
     if let Some((fd, arg)) = pair(rest) {
-        *read = Some(Command::Link { fd, arg });
+        set(read, Command::Link { fd, arg });
     }
 }
 
@@ -189,7 +199,7 @@ fn plink(read: &mut Option<Command>, rest: &[u8])
     ensures { IsReadAs FitsCommand command_words (line_of (codes "plink" ∷ rest.now ∷ [])) read.new }
 {
     if let Some((fd, arg)) = pair(rest) {
-        *read = Some(Command::Plink { fd, arg });
+        set(read, Command::Plink { fd, arg });
     }
 }
 
@@ -202,7 +212,7 @@ fn unlink(read: &mut Option<Command>, rest: &[u8])
         return;
     };
     if let Some(which) = which(rest) {
-        *read = Some(Command::Unlink { fd, which });
+        set(read, Command::Unlink { fd, which });
     }
 }
 
@@ -215,7 +225,7 @@ fn punlink(read: &mut Option<Command>, rest: &[u8])
         return;
     };
     if let Some(which) = which(rest) {
-        *read = Some(Command::Punlink { fd, which });
+        set(read, Command::Punlink { fd, which });
     }
 }
 
@@ -225,7 +235,7 @@ fn bind(read: &mut Option<Command>, rest: &[u8])
     ensures { IsReadAs FitsCommand command_words (line_of (codes "bind" ∷ rest.now ∷ [])) read.new }
 {
     if let Some((fd, addr)) = pair(rest) {
-        *read = Some(Command::Bind { fd, addr });
+        set(read, Command::Bind { fd, addr });
     }
 }
 
@@ -235,7 +245,7 @@ fn unbind(read: &mut Option<Command>, rest: &[u8])
     ensures { IsReadAs FitsCommand command_words (line_of (codes "unbind" ∷ rest.now ∷ [])) read.new }
 {
     if let Some(fd) = number(rest) {
-        *read = Some(Command::Unbind { fd });
+        set(read, Command::Unbind { fd });
     }
 }
 
@@ -248,7 +258,7 @@ fn route(read: &mut Option<Command>, rest: &[u8])
         return;
     };
     if let Some((addr, id)) = pair(rest) {
-        *read = Some(Command::Route { fd, addr, id });
+        set(read, Command::Route { fd, addr, id });
     }
 }
 
@@ -258,7 +268,7 @@ fn unroute(read: &mut Option<Command>, rest: &[u8])
     ensures { IsReadAs FitsCommand command_words (line_of (codes "unroute" ∷ rest.now ∷ [])) read.new }
 {
     if let Some((fd, addr)) = pair(rest) {
-        *read = Some(Command::Unroute { fd, addr });
+        set(read, Command::Unroute { fd, addr });
     }
 }
 
@@ -268,7 +278,7 @@ fn read_next(read: &mut Option<Command>, rest: &[u8])
     ensures { IsReadAs FitsCommand command_words (line_of (codes "read" ∷ rest.now ∷ [])) read.new }
 {
     if let Some(fd) = number(rest) {
-        *read = Some(Command::Read { fd });
+        set(read, Command::Read { fd });
     }
 }
 
@@ -281,7 +291,7 @@ fn flush(read: &mut Option<Command>, rest: &[u8])
         return;
     };
     if let Some(sides) = sides(rest) {
-        *read = Some(Command::Flush { fd, sides });
+        set(read, Command::Flush { fd, sides });
     }
 }
 
@@ -291,7 +301,7 @@ fn transmit(read: &mut Option<Command>, rest: &[u8])
     ensures { IsReadAs FitsCommand command_words (line_of (codes "transmit" ∷ rest.now ∷ [])) read.new }
 {
     if let Some((driver, minor)) = name_and_number(rest) {
-        *read = Some(Command::Transmit { driver, minor });
+        set(read, Command::Transmit { driver, minor });
     }
 }
 
@@ -301,7 +311,7 @@ fn hangup(read: &mut Option<Command>, rest: &[u8])
     ensures { IsReadAs FitsCommand command_words (line_of (codes "hangup" ∷ rest.now ∷ [])) read.new }
 {
     if let Some((driver, minor)) = name_and_number(rest) {
-        *read = Some(Command::Hangup { driver, minor });
+        set(read, Command::Hangup { driver, minor });
     }
 }
 
@@ -324,12 +334,13 @@ fn write(
     let Some((addr, rest)) = first_number(rest) else {
         return Ok(());
     };
-    let bytes = match bytes_of(room, alloc, rest) {
-        Ok(Some(bytes)) => bytes,
-        Ok(None) => return Ok(()),
+    match read_bytes(room, rest) {
+        Ok(true) => {}
+        Ok(false) => return Ok(()),
         Err(error) => return Err(error),
-    };
-    *read = Some(Command::Write { fd, addr, bytes });
+    }
+    let bytes = Bytes::from_vec(replace(room, Vec::new(alloc)));
+    set(read, Command::Write { fd, addr, bytes });
     Ok(())
 }
 
@@ -355,16 +366,20 @@ fn inject(
     let Some((addr, rest)) = first_number(rest) else {
         return Ok(());
     };
-    let bytes = match bytes_of(room, alloc, rest) {
-        Ok(Some(bytes)) => bytes,
-        Ok(None) => return Ok(()),
+    match read_bytes(room, rest) {
+        Ok(true) => {}
+        Ok(false) => return Ok(()),
         Err(error) => return Err(error),
-    };
-    *read = Some(Command::Inject {
-        driver,
-        minor,
-        addr,
-        bytes,
-    });
+    }
+    let bytes = Bytes::from_vec(replace(room, Vec::new(alloc)));
+    set(
+        read,
+        Command::Inject {
+            driver,
+            minor,
+            addr,
+            bytes,
+        },
+    );
     Ok(())
 }

@@ -1,11 +1,10 @@
 //! Bytes in a word.
 
-ghost use Rattle.std.specs.Prelude.{◌≡◌, ◌≢◌, ◌<◌, ◌*◌, ◌%◌, ◌∷◌, ◌++◌, true, List, ℕ};
-ghost use Rattle.std.specs.Prelude.{length, IfOk, IfErr};
+ghost use Rattle.std.specs.Prelude.{◌≡◌, ◌≢◌, ◌<◌, ◌*◌, ◌%◌, ◌∷◌, ◌++◌, true, false, List, ℕ, Some, None};
+ghost use Rattle.std.specs.Prelude.{length, IfOk, IfErr, if◌then◌else◌};
 ghost use Rattle.std.specs.Prelude.{MatchBool, MatchOption};
 ghost use Rattle.std.specs.Fmt.{decimal};
 ghost use Rattle.std.specs.List.{list_all};
-ghost use Rattle.std.specs.Vec.{vec_len};
 ghost use Rattle.smx_words.specs.HexWords.{hex_word, is_digit, AreSet, IsValueOf};
 ghost use Rattle.smx_words.specs.LineReading.{IsFoundIn, IsSpelled};
 ghost use Rattle.smx_words.specs.Spellable.{FitsBytes, FitsNumber};
@@ -14,25 +13,25 @@ ghost use Rattle.smx_words.specs.Words.{SPACE};
 use crate::reading::cutting::is;
 use crate::reading::number::first_number;
 use smx_types::{Bytes, NoMemory};
-use std::alloc::{AllocError, Global};
-use std::mem::replace;
+use std::alloc::Global;
 
-// The bytes that a word spells, in the room that is given: two lower-case digits for each, or a dash for none. Fails
-// only for want of memory, and then the word spells some.
-pub fn bytes_of(room: &mut Vec<u8>, alloc: Global, word: &[u8]) -> Result<Option<Bytes>, NoMemory>
-    ensures reading { IfOk result (IsFoundIn FitsBytes hex_word word.now) }
+// Whether a word spells bytes: two lower-case digits for each, or a dash for none. The room then has them, in place of
+// what was in it. Fails only for want of memory, and then the word spells some.
+pub fn read_bytes(room: &mut Vec<u8>, word: &[u8]) -> Result<bool, NoMemory>
+    ensures reading { IfOk result (λ spells. IsFoundIn FitsBytes hex_word word.now
+        (if spells then Some room.new.items else None)) }
     ensures wanted { IfErr result (λ _. IsSpelled FitsBytes hex_word word.now) }
 {
     if word.is_empty() || word.len() % 2 == 1 {
-        return Ok(dash(alloc, word));
+        return Ok(read_dash(room, word));
     }
-    let Ok(mut bytes) = sized(room, alloc, word.len() / 2) else {
+    if room.resize(word.len() / 2, 0).is_err() {
         return unless_bad(word);
-    };
-    if set_bytes(bytes.as_mut_slice(), word) < 16 {
-        Ok(Some(Bytes::from_vec(bytes)))
+    }
+    if set_bytes(room.as_mut_slice(), word) < 16 {
+        Ok(true)
     } else {
-        Ok(None)
+        Ok(false)
     }
 }
 
@@ -48,9 +47,10 @@ pub fn number_and_bytes(alloc: Global, text: &[u8]) -> Result<Option<(u32, Bytes
     let Some((number, rest)) = first_number(text) else {
         return Ok(None);
     };
-    match bytes_of(&mut Vec::new(alloc), alloc, rest) {
-        Ok(Some(bytes)) => Ok(Some((number, bytes))),
-        Ok(None) => Ok(None),
+    let mut room = Vec::new(alloc);
+    match read_bytes(&mut room, rest) {
+        Ok(true) => Ok(Some((number, Bytes::from_vec(room)))),
+        Ok(false) => Ok(None),
         Err(error) => Err(error),
     }
 }
@@ -72,37 +72,30 @@ pub fn spells_bytes(word: &[u8]) -> bool
     false
 }
 
-// So many bytes, in the room that is given.
-fn sized(room: &mut Vec<u8>, alloc: Global, count: usize) -> Result<Vec<u8>, AllocError>
-    ensures { IfOk result (λ v. vec_len v ≡ count) }
-{
-    let mut bytes = replace(room, Vec::new(alloc));
-    bytes.resize(count, 0)?;
-    Ok(bytes)
-}
-
-// No bytes, of a dash.
-fn dash(alloc: Global, word: &[u8]) -> Option<Bytes>
+// Whether a word of no length, or of an odd one, is a dash. The room is empty then.
+fn read_dash(room: &mut Vec<u8>, word: &[u8]) -> bool
     requires { 0 < length word.now → length word.now % 2 ≡ 1 }
-    ensures { IsFoundIn FitsBytes hex_word word.now result }
+    ensures { IsFoundIn FitsBytes hex_word word.now (if result then Some room.new.items else None) }
 {
     if is(word, b"-") {
-        return Some(Bytes::new(alloc));
+        room.clear();
+        return true;
     }
-    None
+    false
 }
 
 // Want of memory where there are digits alone.
-fn unless_bad(word: &[u8]) -> Result<Option<Bytes>, NoMemory>
+fn unless_bad(word: &[u8]) -> Result<bool, NoMemory>
     requires some { 0 < length word.now }
     requires even { length word.now % 2 ≢ 1 }
-    ensures reading { IfOk result (IsFoundIn FitsBytes hex_word word.now) }
+    ensures reading { IfOk result (λ spells. (spells ≡ false)
+        × ((bytes : List ℕ) → FitsBytes bytes → word.now ≢ hex_word bytes)) }
     ensures wanted { IfErr result (λ _. IsSpelled FitsBytes hex_word word.now) }
 {
     if are_digits(word) {
         return Err(NoMemory);
     }
-    Ok(None)
+    Ok(false)
 }
 
 // From this length on it is quicker to take many bytes at once.

@@ -8,7 +8,7 @@ pub loop-queued-preserved : goal.loop-queued-preserved
 loop-queued-preserved c =
     let f = view_of_message c.args.drivers.now in
     record {
-      lines = rw (c.in_ok-push.ensures.items, c.in_ok-message_line.ensures)
+      lines = rw (c.in_ok-push.ensures.items, c.message_line.ensures, c.in_ok-message.ensures)
           (line_more f c.loop-queued.lines.items _ c.loop-queued.rest c.next.new.self _ c.in-Some.ensures
           c.loop-queued.invariant.lines);
       known = (left_has (λ (h : QueuedMessage). h.place.stream.driver < length c.args.drivers.now) c.loop-queued.rest

@@ -1,7 +1,7 @@
 use Rattle.std.specs.Prelude.{codes}
 use Rattle.smx_words.proofs.CutLemmas.{differs}
 use Rattle.smx_words.proofs.HexLemmas.{odd_is_none}
-use Rattle.smx_words.proofs.reading.hex_word.dash.Goals as goal
+use Rattle.smx_words.proofs.reading.hex_word.read_dash.Goals as goal
 
 pub returns : goal.returns
 returns c =

@@ -1,0 +1,57 @@
+//! All queued messages, taken out of their queues.
+
+ghost use Rattle.std.specs.Prelude.{◌≡◌};
+ghost use Rattle.std.specs.Iterator.{YieldsFirstBy};
+ghost use Rattle.smx_queues.specs.QueuedMessages.{leaving_message};
+ghost use Rattle.smx_queues.specs.FlowTables.{flow_of, IsFlow};
+
+use crate::busy_queues::BusyQueues;
+use crate::places::Places;
+use smx_types::{Message, Place};
+use std::marker::Model;
+
+/// All messages of tables that nobody needs any more, in order of place, seen as the list of those that are left. None
+/// is copied. Takes no memory.
+#[derive(Drop)]
+pub struct LeavingMessages {
+    places: Places,
+    queues: BusyQueues,
+    // The number of a place before which none has messages.
+    next: usize,
+}
+
+impl Model for LeavingMessages {
+    ghost use Rattle.std.specs.Prelude.{List, drop};
+    ghost use Rattle.smx_model.specs.Configuration.{QueuedMessage};
+    ghost use Rattle.smx_queues.specs.FlowTables.{flow_of, IsFlow};
+
+    ghost Value = { List QueuedMessage };
+
+    ghost view = { λ it. flow_of (drop it.next it.places.places) (drop it.next it.queues.queues) };
+
+    ghost invariant = { λ it. IsFlow it.places it.queues.queues };
+}
+
+impl LeavingMessages {
+    pub(crate) fn new(places: Places, queues: BusyQueues) -> LeavingMessages
+        requires { IsFlow places queues.queues }
+        ensures { result ≡ flow_of places.places queues.queues }
+    {
+        LeavingMessages {
+            places,
+            queues,
+            next: 0,
+        }
+    }
+
+    /// The next one and its place, if any is left. Takes no memory.
+    pub fn next(&mut self) -> Option<(Place, Message)>
+        ensures { YieldsFirstBy leaving_message (λ rest. rest) self.old result self.new }
+    {
+        let p = self.queues.filled_from(self.next)?;
+        let place = self.places.at(p);
+        let message = self.queues.take(p)?;
+        self.next = p;
+        Some((place, message))
+    }
+}
