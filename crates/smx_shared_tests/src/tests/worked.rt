@@ -1,7 +1,7 @@
 //! How a worked history is tried. It is typed in as a transcript: its entries are legal, its commands get their replies
 //! from `step`, twice from `step_twin`, each in the place of the one before from `step_in`, and from a system, and in
-//! the end just its view is shown, of a copy too. What wanted memory is asked again. What is large is given to
-//! `forget`, since a proof grows where such a value is dropped.
+//! the end just its view is shown, of a copy too, and of one that is given away. What wanted memory is asked again.
+//! What is large is given to `forget`, since a proof grows where such a value is dropped.
 
 use super::made::{read, system_over, tells_of_want};
 use super::systems::plays;
@@ -92,13 +92,28 @@ fn is_so(rt: &impl Abort, config: &Config, want: &Transcript) {
     forget(view);
 }
 
-fn copy_is_so(rt: &impl Abort, config: &Config, want: &Transcript) {
-    let again = match config.copy() {
+fn copied(rt: &impl Abort, config: &Config) -> Config {
+    match config.copy() {
         Ok(again) => again,
         Err(_) => config.copy().expect(rt, "a copy"),
-    };
+    }
+}
+
+// What is shown of a configuration that is given away. Where that wants memory, another copy is given away.
+fn shown_of_copies(rt: &impl Abort, config: &Config) -> ConfigView {
+    match copied(rt, config).into_view() {
+        Ok(view) => view,
+        Err(_) => copied(rt, config).into_view().expect(rt, "a view"),
+    }
+}
+
+fn copy_is_so(rt: &impl Abort, config: &Config, want: &Transcript) {
+    let again = copied(rt, config);
     is_so(rt, &again, want);
     forget(again);
+    let view = shown_of_copies(rt, config);
+    assert!(rt; view == want.view);
+    forget(view);
 }
 
 // How the replies are asked for.

@@ -5,7 +5,7 @@ ghost use Rattle.smx_model.specs.KnownStreams.{IsKnown};
 use super::flow_tables::{DOWN, UP, ethernet, fill, table};
 use super::queues::{adds, put};
 use super::waiters::place;
-use smx_queues::{FlowTable, PlaceMarks, Queues};
+use smx_queues::{FlowTable, LeavingMessages, PlaceMarks, Queues};
 use smx_types::{Place, Side, StreamId};
 use std::mem::forget;
 use std::process::Abort;
@@ -114,6 +114,26 @@ fn of_queues_by_place(rt: HostRuntime) {
     drops_one(&rt, &mut made);
     takes_one(&rt, &mut made);
     forget(made);
+}
+
+// The next message that leaves has this serial, and comes from this place.
+fn leaves(rt: &impl Abort, rest: &mut LeavingMessages, place: Place, serial: u32) {
+    let (from, message) = rest.next().expect(rt, "a message");
+    assert!(rt; from == place);
+    assert!(rt; message.serial == serial);
+    forget(message);
+}
+
+#[test]
+fn of_queues_that_are_given_away(rt: HostRuntime) {
+    let mut made = table(&rt);
+    fill(&rt, &mut made);
+    let mut rest = made.into_messages();
+    leaves(&rt, &mut rest, DOWN, 2);
+    leaves(&rt, &mut rest, DOWN, 3);
+    leaves(&rt, &mut rest, UP, 1);
+    assert!(&rt; rest.next().is_none());
+    forget(rest);
 }
 
 // One place is marked, and no other.
