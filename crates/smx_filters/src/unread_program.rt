@@ -41,6 +41,7 @@ impl<'a> CommandSource for UnreadProgram<'a> {
 
     ghost has_read = { λ program command. IsLineOfCommand program.line.now command };
 
+    #[inline(always)]
     fn next_command(
         &mut self,
         alloc: Global,

@@ -3,15 +3,14 @@
 ghost use Rattle.std.specs.Prelude.{◌≡◌, All, map, IfOk, OnOk, OnErr, IsErrOf};
 ghost use Rattle.smx_shared.specs.declared.shared_fault.ApplyFault.TheVariants as apply;
 ghost use Rattle.smx_run.specs.Alone.{StopsWithin};
-ghost use Rattle.smx_run.specs.CommandSources.{AreLinesFor};
+ghost use Rattle.smx_shared.specs.CommandSources.{AreLinesFor};
 ghost use Rattle.smx_run.specs.Hands.{program_given, program_run, HasCalled, HasCalledAll, IsToRunWith, HasEndedWith};
 ghost use Rattle.smx_run.specs.Hands.{KnowsItFull};
 ghost use Rattle.smx_run.specs.Hands.{SomeKnowsItFull};
 
-use crate::command_source::CommandSource;
 use crate::gate::Gate;
 use smx_config::Past;
-use smx_shared::{ApplyFault, Door, Front};
+use smx_shared::{ApplyFault, CommandReader, CommandSource, Door, Front};
 use std::alloc::Global;
 use std::sync::Wait;
 
@@ -89,7 +88,7 @@ fn run_program<D: Door, P: CommandSource, G: Gate, R: Wait>(
     alloc: Global,
     door: &D,
     seat: &mut D::Seat,
-    mut program: P,
+    program: P,
     gate: &G,
 ) -> Result<(), ApplyFault>
 where
@@ -102,18 +101,14 @@ where
     ensures full { IsErrOf result apply.HistoryFull → KnowsItFull (D.known seat.new) }
 {
     let process = D::process(seat);
-    let mut place = None;
-    let mut room = Vec::new(alloc);
+    let most = gate.most_in_a_turn();
+    let mut reader = CommandReader::begin(alloc, program)?;
     let mut number = 0usize;
-    'commands: loop {
-        program.next_command(alloc, &mut place, &mut room)?;
-        let Some(command) = &mut place else {
-            return Ok(());
-        };
+    'turns: while !reader.is_at_end() {
         gate.before(process, number);
-        let outcome = door.perform(rt, alloc, seat, command, program.line());
+        let outcome = door.perform_from(rt, alloc, seat, &mut reader, most);
         gate.after(process, number);
-        outcome?;
-        number = number.wrapping_add(1);
+        number = number.wrapping_add(outcome?);
     }
+    Ok(())
 }

@@ -1,9 +1,6 @@
 //! Where the commands of a process come from.
 
-ghost use Rattle.std.specs.Prelude.{◌≡◌, map, IfOk};
-ghost use Rattle.std.specs.Vec.Iter.{into_iter_items};
-
-use smx_types::{Command, NoMemory, ProgramList};
+use smx_types::{Command, NoMemory};
 use std::alloc::Global;
 use std::vec::IntoIter;
 
@@ -11,7 +8,7 @@ use std::vec::IntoIter;
 pub trait CommandSource: Drop {
     ghost use Rattle.std.specs.Prelude.{ℕ, List, IfSome, OnOk};
     ghost use Rattle.smx_types.specs.declared.command.Command.{Command as AnyCommand};
-    ghost use Rattle.smx_run.specs.CommandSources.{IsNextOf};
+    ghost use Rattle.smx_shared.specs.CommandSources.{IsNextOf};
 
     // These may be the commands that are left of it.
     ghost left: { Self → List AnyCommand → Type 0 };
@@ -68,15 +65,4 @@ impl CommandSource for IntoIter<Command> {
     fn line(&self) -> Option<&[u8]> {
         None
     }
-}
-
-/// These programs, each as a source of its commands. Fails only for want of memory.
-pub fn sources_of(alloc: Global, programs: ProgramList) -> Result<Vec<IntoIter<Command>>, NoMemory>
-    ensures { IfOk result (λ v. map (λ program. into_iter_items program) v.items ≡ programs) }
-{
-    let mut sources = Vec::with_capacity(alloc, programs.as_slice().len())?;
-    for commands in programs.into_vec() {
-        sources.push_reserved(commands.into_vec().into_iter());
-    }
-    Ok(sources)
 }
