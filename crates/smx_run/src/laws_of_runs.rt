@@ -83,7 +83,8 @@ pub fn stops_of_an_example()
     ensures not_behind_another { StopsAmong KeepsBehind [] (OpenClone ip ∷ Dup 0 ∷ []) (Dup 0 ∷ []) → ⊥ }
 {}
 
-/// Who performs a program that is a list of commands has stopped behind some of them, the first ones, and not behind another.
+/// Who performs a program that is a list of commands has stopped behind some of them, the first ones, and not behind
+/// another.
 pub fn stops_within_an_example()
     ensures before_the_last { StopsWithinList (Dup 1 ∷ []) (OpenClone ip ∷ Dup 0 ∷ []) (Dup 1 ∷ OpenClone ip ∷ []) }
     ensures not_behind_another { StopsWithinList [] (OpenClone ip ∷ Dup 0 ∷ []) (Dup 0 ∷ []) → ⊥ }

@@ -1,6 +1,7 @@
 -- What is performed of a program, one command after the other, and what seats know of it.
-use Rattle.std.proofs.Common.{◌≡◌, ◌≢◌, ℕ, zero, suc, ◌+◌, ◌<◌, ◌≤◌, List, [], ◌∷◌, ◌++◌, Bool, true, Result, Ok, Err, Some, length}
-use Rattle.std.proofs.Common.{map, refl, sym, ap, ap₂, subst, ◌∙◌, arith, append_assoc, append-nil, cond, eq-eqb}
+use Rattle.std.proofs.Common.{◌≡◌, ◌≢◌, ℕ, zero, suc, ◌+◌, ◌<◌, ◌≤◌, List, [], ◌∷◌, ◌++◌, Bool, true, Result, Ok, Err}
+use Rattle.std.proofs.Common.{Some, length, map, refl, sym, ap, ap₂, subst, ◌∙◌, arith, append_assoc, append-nil}
+use Rattle.std.proofs.Common.{cond, eq-eqb}
 use Rattle.std.specs.Prelude.{IfOk, IfErr}
 use Rattle.std.proofs.lemmas.Bool.{ne_eqb}
 use Rattle.smx_types.specs.declared.command.Command.{Command}
@@ -40,6 +41,7 @@ new_behind s p (c ∷ commands) =
     ∙ ap (system_with s.drivers s.limit)
     (append_assoc s.history (next_entry s p c ∷ []) (new_entries (with_entry s p c) p commands))
 
+-- whatever system that is
 kept : (s s' : Recorded) (p : ℕ) (commands : List Command) → s' ≡ with_entries s p commands
     → (s'.drivers ≡ s.drivers) × (s'.limit ≡ s.limit)
 kept s s' p commands did = (
@@ -182,7 +184,8 @@ module _ {P : Type 0} (left : P → List Command → Type 0) (size : P → ℕ) 
   -- who comes to the end of a turn in one way does so in another way
   pub performs_as : {S T : Type 0} (r : Result ℕ ApplyFault) (f : S → List Command → S → Type 0)
       (g : T → List Command → T → Type 0) (a b : S) (c d : T)
-      → ((commands : List Command) → f a commands b → g c commands d) → IfOk r (PerformsFrom left size f a program most b rest)
+      → ((commands : List Command) → f a commands b → g c commands d)
+      → IfOk r (PerformsFrom left size f a program most b rest)
       → IfOk r (PerformsFrom left size g c program most d rest)
   unfolding performed_as
   performs_as (Ok k) f g a b c d then ok = record {

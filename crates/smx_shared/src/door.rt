@@ -55,10 +55,10 @@ pub trait Door {
         ensures answer { IfOk result (AnswersEntry (known seat.old) (known seat.new) command.now) }
         ensures refused { IfErr result (Refuses (known seat.old) (known seat.new)) };
 
-    /// Performs the command that waits at the reader, and those that come next, up to so many in all, which may be done
-    /// in one turn. Nobody asks for their entries, and they are given up. Answers how many it performed, one at least.
-    /// It stops at the first that is refused, as by `call`, or that the source can't tell; the reader is of no more use
-    /// then.
+    /// Performs the command that waits at the reader, and then those that come next, up to `most` in all, 1 or more;
+    /// a door may do so in one turn. Nobody asks for their entries, and the commands are given up. Answers how many it
+    /// performed, one at least. It stops at the first that is refused, as by `call`, or that the source can't tell; the
+    /// reader is of no more use then.
     fn perform_from<P: CommandSource, R: Wait>(
         &self,
         rt: &R,
@@ -74,8 +74,8 @@ pub trait Door {
         ensures seat { is_seat self.now seat.new }
         ensures seen { HasSeenMore (known seat.old) (known seat.new) }
         ensures reads { OnOk result (IsReading P.left P.size P.has_read reader.new) }
-        ensures performed { IfOk result (PerformsFrom P.left P.size AddsEntries (known seat.old) reader.old.unread.value most
-            (known seat.new) reader.new.unread.value) }
+        ensures performed { IfOk result (PerformsFrom P.left P.size AddsEntries (known seat.old)
+            reader.old.unread.value most (known seat.new) reader.new.unread.value) }
         ensures refused { IfErr result (StopsFrom P.left AddsEntries (length (known seat.new).seen)
             (known seat.new).limit (known seat.old) reader.old.unread.value (known seat.new)) }
     {

@@ -74,8 +74,8 @@ impl<K: Keeper> Parked<K> {
         requires lines { AreLinesFor P.spells K.spells }
         requires waits { (reader.old.next ≢ None) × (1 ≤ most) }
         ensures reads { OnOk result (IsReading P.left P.size P.has_read reader.new) }
-        ensures performed { IfOk result (PerformsFrom P.left P.size (Appends process) self.old reader.old.unread.value most
-            self.new reader.new.unread.value) }
+        ensures performed { IfOk result (PerformsFrom P.left P.size (Appends process) self.old
+            reader.old.unread.value most self.new reader.new.unread.value) }
         ensures refused { IfErr result (StopsFrom P.left (Appends process) (length self.new.history) self.new.limit
             self.old reader.old.unread.value self.new) }
         ensures sound { IsSoundSystem self.new }

@@ -209,8 +209,8 @@ impl<K: Keeper> Door for Shared<K> {
         ensures met { seat.new.met ≡ seat.old.met }
         ensures seen { HasSeenMore seat.old.known seat.new.known }
         ensures reads { OnOk result (IsReading P.left P.size P.has_read reader.new) }
-        ensures performed { IfOk result (PerformsFrom P.left P.size AddsEntries seat.old.known reader.old.unread.value most
-            seat.new.known reader.new.unread.value) }
+        ensures performed { IfOk result (PerformsFrom P.left P.size AddsEntries seat.old.known
+            reader.old.unread.value most seat.new.known reader.new.unread.value) }
         ensures refused { IfErr result (StopsFrom P.left AddsEntries (length seat.new.known.seen)
             seat.new.known.limit seat.old.known reader.old.unread.value seat.new.known) }
     {

@@ -198,9 +198,9 @@ impl<K: Keeper> System<K> {
         Ok(())
     }
 
-    /// Appends the command that waits at the reader, and then those that come next, up to so many in all, each with the
-    /// line that it was read from. Answers how many it appended, one at least. It stops at the first that is refused, as
-    /// by `append`, or that the source can't tell; the reader is of no more use then.
+    /// Appends the command that waits at the reader, and then those that come next, up to `most` in all, 1 or more,
+    /// each with the line that it was read from. Answers how many it appended, one at least. It stops at the first that
+    /// is refused, as by `append`, or that the source can't tell; the reader is of no more use then.
     pub fn append_from<P: CommandSource>(
         &mut self,
         process: Process,
@@ -212,8 +212,8 @@ impl<K: Keeper> System<K> {
         requires waits { (reader.old.next ≢ None) × (1 ≤ most) }
         // What it does.
         ensures reads { OnOk result (IsReading P.left P.size P.has_read reader.new) }
-        ensures performed { IfOk result (PerformsFrom P.left P.size (Appends process) self.old reader.old.unread.value most
-            self.new reader.new.unread.value) }
+        ensures performed { IfOk result (PerformsFrom P.left P.size (Appends process) self.old
+            reader.old.unread.value most self.new reader.new.unread.value) }
         // What is refused.
         ensures refused { IfErr result (StopsFrom P.left (Appends process) (length self.new.history) self.new.limit
             self.old reader.old.unread.value self.new) }

@@ -248,7 +248,8 @@ impl<K: Keeper> TurnTable<K> {
         ensures table { token.new.table_id ≡ token.old.table_id }
         ensures rest { RestsAfter token.old.me.0 token.new.me }
         ensures reads { OnOk result (IsReading P.left P.size P.has_read reader.new) }
-        ensures performed { IfOk result (PerformsFrom P.left P.size AddsEntries (known_of token.old.me.0) reader.old.unread.value most (known_of token.new.me.0) reader.new.unread.value) }
+        ensures performed { IfOk result (PerformsFrom P.left P.size AddsEntries (known_of token.old.me.0)
+            reader.old.unread.value most (known_of token.new.me.0) reader.new.unread.value) }
         ensures refused { IfErr result (StopsFrom P.left AddsEntries (length token.new.me.0.seen)
             token.new.me.0.limit (known_of token.old.me.0) reader.old.unread.value (known_of token.new.me.0)) }
     {

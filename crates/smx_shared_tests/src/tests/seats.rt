@@ -1,5 +1,6 @@
-//! Two seats of a shared system, on one thread: they call, try, look and meet, until the history is full. What is called
-//! while a call has the turn is called once, also where the command or the call is refused.
+//! Two seats of a shared system, on one thread: they call, try, look and meet, until the history is full, and have
+//! turns of several commands. What is called while a call has the turn is called once, also where the command or the
+//! call is refused.
 
 ghost use Rattle.std.specs.Prelude.{◌≡◌, All};
 ghost use Rattle.smx_shared.specs.CommandSources.{IsReading};

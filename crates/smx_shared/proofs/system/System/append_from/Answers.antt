@@ -28,7 +28,8 @@ commands-preserved g c =
     record {
       sound = c.append.ensures.sound;
       reads = c.in_ok-read_next.ensures.reads;
-      first = performed_more _ g.P.CommandSource.size _ _ _ _ _ _ _ _ _ before.first next c.in_ok-append.ensures.ok behind;
+      first = performed_more _ g.P.CommandSource.size _ _ _ _ _ _ _ _ _ before.first next
+          c.in_ok-append.ensures.ok behind;
       counted = omega (arith, before.counted, length-append before.first.done (c.in-Some.command ∷ []));
       few = search rules;
       begun = λ none. absurd (omega arith);
@@ -43,7 +44,8 @@ returns-in_err-read_next-clause-refused g c =
     let stops : StopsFrom g.P.CommandSource.left (Appends c.args.process) _ _ c.args.self.now
     c.args.reader.now.unread.value c.append.new.self apply.NoMemory = record {
       rest = c.commands.reader.source;
-      first = performed_more _ g.P.CommandSource.size _ _ _ _ _ _ _ _ _ before.first next c.in_ok-append.ensures.ok refl;
+      first = performed_more _ g.P.CommandSource.size _ _ _ _ _ _ _ _ _ before.first next
+          c.in_ok-append.ensures.ok refl;
       cause = λ none. absurd (none_no_more before.first.done c.in-Some.command none);
     } in
     let back = c.from_residual-in_err-read_next in
