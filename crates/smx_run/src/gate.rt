@@ -24,8 +24,8 @@ pub trait Gate {
     }
 }
 
-// What it takes to get the turn is then little beside what is done in it, and that takes some 50 microseconds.
-const MOST_IN_A_TURN: usize = 256;
+// What it takes to get the turn is then little beside what is done in it.
+const MOST_IN_A_TURN: usize = 16;
 
 /// Does nothing.
 #[derive(Clone, Copy, Debug)]

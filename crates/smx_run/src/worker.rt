@@ -1,6 +1,6 @@
 //! A worker: the processes that one thread runs.
 
-ghost use Rattle.std.specs.Prelude.{◌≡◌, All, map, IfOk, OnOk, OnErr, IsErrOf};
+ghost use Rattle.std.specs.Prelude.{◌≡◌, ◌≤◌, All, map, IfOk, OnOk, OnErr, IsErrOf};
 ghost use Rattle.smx_shared.specs.declared.shared_fault.ApplyFault.TheVariants as apply;
 ghost use Rattle.smx_run.specs.Alone.{StopsWithin};
 ghost use Rattle.smx_shared.specs.CommandSources.{AreLinesFor};
@@ -81,8 +81,20 @@ where
     })
 }
 
+// After so many commands of a program a turn may be of one more.
+const COMMANDS_FOR_ONE_MORE: usize = 16;
+
+// How many commands may be performed in a turn behind so many of the same program: at first one, so that short programs
+// may take turns at each command, and later more, as the gate allows.
+fn most_behind(number: usize, allowed: usize) -> usize
+    requires { 1 ≤ allowed }
+    ensures { (1 ≤ result) × (result ≤ allowed) }
+{
+    allowed.min(1 + number / COMMANDS_FOR_ONE_MORE)
+}
+
 // Has the commands of a program performed with its seat, in order, to the end of it or to the first fault. The gate is
-// told of each under the process that the seat is of.
+// told of those with which turns begin, under the process that the seat is of.
 fn run_program<D: Door, P: CommandSource, G: Gate, R: Wait>(
     rt: &R,
     alloc: Global,
@@ -101,11 +113,12 @@ where
     ensures full { IsErrOf result apply.HistoryFull → KnowsItFull (D.known seat.new) }
 {
     let process = D::process(seat);
-    let most = gate.most_in_a_turn();
+    let allowed = gate.most_in_a_turn();
     let mut reader = CommandReader::begin(alloc, program)?;
     let mut number = 0usize;
     'turns: while !reader.is_at_end() {
         gate.before(process, number);
+        let most = most_behind(number, allowed);
         let outcome = door.perform_from(rt, alloc, seat, &mut reader, most);
         gate.after(process, number);
         number = number.wrapping_add(outcome?);
