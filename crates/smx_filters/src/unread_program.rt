@@ -41,6 +41,9 @@ impl<'a> CommandSource for UnreadProgram<'a> {
 
     ghost has_read = { λ program command. IsLineOfCommand program.line.now command };
 
+    ghost is_lost = { λ _. Unit {0} };
+
+    #[inline(always)]
     fn next_command(
         &mut self,
         alloc: Global,

@@ -1,6 +1,6 @@
 -- What the workers have made, and how far each of them saw the history.
 use Rattle.std.proofs.Common.{◌≡◌, ◌≢◌, ℕ, zero, suc, ◌+◌, ◌<◌, ◌≤◌, List, [], ◌∷◌, ◌++◌, All, length, map}
-use Rattle.std.proofs.Common.{get_or, refl, ap, sym, subst, ◌∙◌, arith, inl, inr, append_assoc}
+use Rattle.std.proofs.Common.{get_or, refl, ap, ap₂, sym, subst, ◌∙◌, arith, inl, inr, append_assoc}
 use Rattle.std.proofs.lemmas.Bool.{cases_lt}
 use Rattle.std.proofs.lemmas.List.{append-nil, map-append, get_or_past}
 use Rattle.std.specs.List.{AllZip}
@@ -8,8 +8,9 @@ use Rattle.smx_types.specs.declared.command.Command.{Command}
 use Rattle.smx_types.specs.declared.command.Entry.{Entry}
 use Rattle.smx_types.specs.declared.driver.DriverSpec.{DriverSpec}
 use Rattle.smx_model.specs.Histories.{call_of, commands_of, HoldsPrograms}
-use Rattle.smx_shared.specs.Calls.{AddsEntry, HasSeenMore, EndsAs}
+use Rattle.smx_shared.specs.Calls.{AddsEntries, HasSeenMore, EndsAs}
 use Rattle.smx_shared.specs.Fronts.{IsFrontOf}
+use Rattle.smx_shared.specs.Performed.{HasPerformed}
 use Rattle.smx_shared.specs.Recorded.{Recorded}
 use Rattle.smx_shared.specs.Seats.{Known, Seated, SharedId, GoesOnNamed, IsBeginningOf, IsMetBy}
 use Rattle.smx_shared.specs.Seats.{AreMetBy, entries_of, first_seat, met_seat}
@@ -175,17 +176,35 @@ map_behind f base xs more ys y before added =
     added ∙ ap (λ l. l ++ f y ∷ []) before ∙ append_assoc base (map f ys) (f y ∷ [])
     ∙ ap (λ l. base ++ l) (sym (map-append f ys (y ∷ [])))
 
--- what was called with a seat, and one command more
-pub called_more : (a b c : Known) (commands : List Command) (command : Command) → HasCalled a commands b
-    → HasSeenMore b c → AddsEntry b c command → HasCalled a (commands ++ command ∷ []) c
-called_more a b c commands command was more added =
-    let own : calls_in c.own ≡ calls_in b.own ++ call_of added.0 ∷ [] =
-    ap calls_in added.1.own ∙ map-append call_of b.own (added.0 ∷ []) in
-    let one : call_of added.0 ≡ (a.process, command) = added.1.call ∙ ap (λ (p : ℕ). (p, command)) was.process in
+-- nothing of a program was called with a seat yet
+pub called_none : {P : Type 0} (left : P → List Command → Type 0) (k : Known) (program rest : P) → rest ≡ program
+    → HasPerformed left HasCalled k program k rest
+called_none {P = P} left k program rest same =
+    subst (λ (q : P). HasPerformed left HasCalled k program k q) (sym same) record {
+      done = [];
+      behind = λ commands l. l;
+      came = record { process = refl; calls = sym (append-nil (calls_in k.own)) };
+    }
+
+-- what was called with a seat, and what was added then in a turn
+pub called_from : {P : Type 0} (left : P → List Command → Type 0) (a b c : Known) (program rest now : P)
+    → HasPerformed left HasCalled a program b rest → HasSeenMore b c → HasPerformed left AddsEntries b rest c now
+    → HasPerformed left HasCalled a program c now
+called_from left a b c program rest now was more adds =
+    let process = was.came.process in
     record {
-      process = more.process ∙ was.process;
-      calls = map_behind (λ (each : Command). (a.process, each)) (calls_in a.own) (calls_in b.own) (calls_in c.own)
-          commands command was.calls (own ∙ ap (λ (call : ℕ × Command). calls_in b.own ++ call ∷ []) one);
+      done = was.done ++ adds.done;
+      behind = λ commands l. rw (append_assoc was.done adds.done commands)
+          (was.behind (adds.done ++ commands) (adds.behind commands l));
+      came = record {
+        process = more.process ∙ process;
+        calls = ap calls_in adds.came.own ∙ map-append call_of b.own adds.came.entries
+            ∙ ap₂ (λ (xs ys : List (ℕ × Command)). xs ++ ys) was.came.calls
+            (adds.came.calls ∙ ap (λ (p : ℕ). calls_of p adds.done) process)
+            ∙ append_assoc (calls_in a.own) (calls_of a.process was.done) (calls_of a.process adds.done)
+            ∙ ap (λ (l : List (ℕ × Command)). calls_in a.own ++ l)
+            (sym (map-append (λ (command : Command). (a.process, command)) was.done adds.done));
+      };
     }
 
 -- ---- the whole history

@@ -11,5 +11,4 @@ pub mod Recordings
 pub mod Reports
 pub mod RunFaults
 pub mod Scribes
-pub mod CommandSources
 pub mod WorkedRuns

@@ -1,30 +1,18 @@
 -- Runs of an example, at a door whose seats are those of one process.
-use Rattle.std.specs.Prelude.{◌≡◌, ℕ, List, [], ◌∷◌, length, Option}
+use Rattle.std.specs.Prelude.{◌≡◌, ℕ, List, [], ◌∷◌}
 use Rattle.smx_types.specs.declared.command.Command.{Command}
 use Rattle.smx_shared.specs.Seats.{Known}
 use Rattle.smx_shared.specs.WorkedCalls.{exited, knows, opened}
+use Rattle.smx_shared.specs.WorkedSources.{IsListOf, KeepsBehind}
 use Rattle.smx_shared.specs.declared.front.Front.{Front}
-use Rattle.smx_run.specs.Alone.{KeepsBehind, StopsWithin}
-use Rattle.smx_run.specs.CommandSources.{IsNextOf}
+use Rattle.smx_run.specs.Alone.{StopsWithin}
 use Rattle.smx_run.specs.Hands.{HasEndedWith, IsToRunWith}
 use Rattle.smx_run.specs.declared.worker.EndedProgram.{EndedProgram}
 use Rattle.smx_run.specs.declared.worker.SeatedProgram.{SeatedProgram}
 
--- the commands of a program that is a list of them, and nothing else
-abbrev pub IsListOf : List Command → List Command → Type 0
-IsListOf program commands = commands ≡ program
-
--- the next command of one, and what is left behind it
-abbrev pub IsNextOfList : List Command → Option Command → List Command → Type 0
-IsNextOfList old next new = IsNextOf IsListOf length old next new
-
--- the commands of one are kept, and there it stops
+-- the commands of a list are kept, and there it stops
 abbrev pub StopsWithinList : List Command → List Command → List Command → Type 0
 StopsWithinList before program after = StopsWithin IsListOf KeepsBehind before program after
-
--- the next command of a program of which any may be left
-abbrev pub IsNextOfAny : List Command → Option Command → List Command → Type 0
-IsNextOfAny old next new = IsNextOf (λ program commands. Unit {0}) length old next new
 
 -- process 1 has seen two entries, and made the second
 abbrev pub second : Known

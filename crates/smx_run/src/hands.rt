@@ -8,9 +8,8 @@ ghost use Rattle.smx_run.specs.Hands.{AreFresh, EndsAt, HaveEnded, IsFresh};
 ghost use Rattle.smx_shared.specs.Seats.{SharedId};
 ghost use Rattle.smx_run.specs.ProgramOrder.{with_numbers};
 
-use crate::command_source::CommandSource;
 use crate::worker::{EndedProgram, SeatedProgram};
-use smx_shared::{Door, Keeper, Seat, Shared};
+use smx_shared::{CommandSource, Door, Keeper, Seat, Shared};
 use smx_types::NoMemory;
 use std::alloc::Global;
 use std::snapshot::Snapshot;

@@ -14,13 +14,12 @@ ghost use Rattle.smx_model.specs.Worked.Common.{mux, ip, OpenClone, Dup, CloseAl
 ghost use Rattle.smx_model.specs.Worked.Reports.{copied, drivers, exited, opened, programs};
 ghost use Rattle.smx_config.specs.declared.config_fault.ConfigFault.TheVariants as config;
 ghost use Rattle.smx_shared.specs.WorkedCalls.{front, idle, knows, passed};
-ghost use Rattle.smx_run.specs.Alone.{KeepsBehind, StopsAmong};
-ghost use Rattle.smx_run.specs.CommandSources.{AreLinesFor};
+ghost use Rattle.smx_shared.specs.WorkedSources.{IsListOf, KeepsBehind};
+ghost use Rattle.smx_run.specs.Alone.{StopsAmong};
 ghost use Rattle.smx_run.specs.Fronts.{AreFrontsFrom};
 ghost use Rattle.smx_run.specs.Gathering.{IsLeastStrange};
 ghost use Rattle.smx_run.specs.Hands.{program_given, program_run, HasCalled, KnowsItFull};
-ghost use Rattle.smx_run.specs.WorkedRuns.{ended_at, second, to_run, HasEndedOf, IsFirstToRun, IsListOf};
-ghost use Rattle.smx_run.specs.WorkedRuns.{IsNextOfAny, IsNextOfList, StopsWithinList};
+ghost use Rattle.smx_run.specs.WorkedRuns.{ended_at, second, to_run, HasEndedOf, IsFirstToRun, StopsWithinList};
 ghost use Rattle.smx_run.specs.ProgramOrder.{calls_from, with_numbers, BeginsCalls};
 ghost use Rattle.smx_run.specs.RecordedRuns.{IsRecordOf, IsRecordOfRun, IsRecordOfSources, KeepsAll};
 ghost use Rattle.smx_run.specs.RunFaults.{RefusesAlone, RefusesRun};
@@ -84,32 +83,8 @@ pub fn stops_of_an_example()
     ensures not_behind_another { StopsAmong KeepsBehind [] (OpenClone ip ∷ Dup 0 ∷ []) (Dup 0 ∷ []) → ⊥ }
 {}
 
-/// A program that is a list of commands, and nothing else, has its first command next, behind which just the others are
-/// left, and none at its end alone.
-pub fn what_comes_next_of_an_example()
-    ensures first { IsNextOfList (OpenClone ip ∷ Dup 0 ∷ []) (Some (OpenClone ip)) (Dup 0 ∷ []) }
-    ensures none_left { IsNextOfList [] None [] }
-    ensures not_another { IsNextOfList (OpenClone ip ∷ Dup 0 ∷ []) (Some (Dup 0)) (Dup 0 ∷ []) → ⊥ }
-    ensures not_none { IsNextOfList (OpenClone ip ∷ Dup 0 ∷ []) None [] → ⊥ }
-    ensures not_less_of_it { IsNextOfList (OpenClone ip ∷ Dup 0 ∷ []) (Some (OpenClone ip)) [] → ⊥ }
-    ensures not_as_much { (program : List AnyCommand) (command : AnyCommand)
-        → IsNextOfAny program (Some command) program → ⊥ }
-{}
-
-/// Who counts any line as a command's counts empty ones as well, and not the other way round; nor does who counts the
-/// lines of one command count those of another, nor who counts one line another one.
-pub fn whose_lines_they_are()
-    ensures any { AreLinesFor (λ line _. line ≡ []) (λ _ _. Unit {0}) }
-    ensures same { AreLinesFor (λ _ command. command ≡ Dup 0) (λ _ command. command ≡ Dup 0) }
-    ensures same_line { AreLinesFor (λ line _. line ≡ 1 ∷ []) (λ line _. line ≡ 1 ∷ []) }
-    ensures not_any { AreLinesFor (λ _ _. Unit {0}) (λ line _. line ≡ []) → ⊥ }
-    ensures not_anothers { AreLinesFor (λ _ command. command ≡ Dup 0) (λ _ command. command ≡ CloseAll) → ⊥ }
-    ensures not_the_first_ones { AreLinesFor (λ _ command. command ≡ CloseAll) (λ _ command. command ≡ Dup 0) → ⊥ }
-    ensures not_another_line { AreLinesFor (λ line _. line ≡ 1 ∷ []) (λ line _. line ≡ []) → ⊥ }
-    ensures not_the_empty_line { AreLinesFor (λ line _. line ≡ []) (λ line _. line ≡ 1 ∷ []) → ⊥ }
-{}
-
-/// Who performs such a program has stopped behind some of its commands, the first ones, and not behind another.
+/// Who performs a program that is a list of commands has stopped behind some of them, the first ones, and not behind
+/// another.
 pub fn stops_within_an_example()
     ensures before_the_last { StopsWithinList (Dup 1 ∷ []) (OpenClone ip ∷ Dup 0 ∷ []) (Dup 1 ∷ OpenClone ip ∷ []) }
     ensures not_behind_another { StopsWithinList [] (OpenClone ip ∷ Dup 0 ∷ []) (Dup 0 ∷ []) → ⊥ }

@@ -1,7 +1,6 @@
 //! A run of programs by many threads, and what comes of all of them: the report of one history.
 #![tactic(auto)]
 
-mod command_source;
 mod gate;
 mod gathering;
 mod growing_run;
@@ -15,10 +14,10 @@ mod report;
 mod run;
 mod run_fault;
 mod scribe;
+mod sources;
 mod threads;
 mod worker;
 
-pub use command_source::CommandSource;
 pub use gate::{Gate, NoGate};
 pub use gathering::gather;
 pub use growing_run::GrowingRun;
@@ -27,4 +26,5 @@ pub use recorder::{NewRecorder, Recorder};
 pub use report::Report;
 pub use run::{MAX_WORKERS, run_programs};
 pub use run_fault::{GatherFault, RunFault};
+pub use smx_shared::CommandSource;
 pub use worker::{EndedProgram, SeatedProgram, work};

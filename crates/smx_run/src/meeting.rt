@@ -6,9 +6,8 @@ ghost use Rattle.smx_shared.specs.Recorded.{Recorded};
 ghost use Rattle.smx_run.specs.Hands.{HaveEnded};
 ghost use Rattle.smx_run.specs.Meeting.{IsBorneOutBy};
 
-use crate::command_source::CommandSource;
 use crate::worker::EndedProgram;
-use smx_shared::{Fronts, Keeper, Seat, Shared};
+use smx_shared::{CommandSource, Fronts, Keeper, Seat, Shared};
 use smx_types::NoMemory;
 use std::alloc::Global;
 

@@ -4,18 +4,18 @@ ghost use Rattle.std.specs.Prelude.{◌≡◌, ◌≤◌, [], length, IfOk, IfEr
 ghost use Rattle.smx_types.specs.declared.limits.TheConstants.{MAX_PROCESSES};
 ghost use Rattle.smx_model.specs.Configuration.{empty};
 ghost use Rattle.smx_model.specs.DriverList.{IsDriverList};
-ghost use Rattle.smx_run.specs.CommandSources.{AreLinesFor};
+ghost use Rattle.smx_shared.specs.CommandSources.{AreLinesFor};
 ghost use Rattle.smx_run.specs.RecordedRuns.{IsRecordOfRun, IsRecordOfSources};
 ghost use Rattle.smx_run.specs.RunFaults.{RefusesRun};
 
-use crate::command_source::{CommandSource, sources_of};
 use crate::gate::Gate;
 use crate::recorder::{NewRecorder, Recorder};
 use crate::run_fault::RunFault;
 use crate::scribe::{About, Scribe};
+use crate::sources::sources_of;
 use crate::threads::run_together;
 use smx_config::Config;
-use smx_shared::System;
+use smx_shared::{CommandSource, System};
 use smx_types::{Command, ConfigView, DriverSpec, MAX_COMMANDS, Programs, Version};
 use std::alloc::Global;
 use std::marker::Brand;

@@ -15,11 +15,11 @@ ghost use Rattle.smx_run.specs.Reports.{transcript_of};
 ghost use Rattle.smx_run.specs.RunFaults.{RefusesAlone, RefusesRun};
 ghost use Rattle.smx_run.specs.declared.run.TheConstants.{MAX_WORKERS};
 
-use crate::command_source::sources_of;
 use crate::gate::Gate;
 use crate::gathering::report;
 use crate::report::Report;
 use crate::run_fault::RunFault;
+use crate::sources::sources_of;
 use crate::threads::run_together;
 use smx_shared::{ApplyFault, Front, Fronts, System};
 use smx_types::{Commands, DriverSpec, MAX_COMMANDS, Process, ProgramList, Programs};

@@ -1,17 +1,16 @@
 //! A worker: the processes that one thread runs.
 
-ghost use Rattle.std.specs.Prelude.{◌≡◌, All, map, IfOk, OnOk, OnErr, IsErrOf};
+ghost use Rattle.std.specs.Prelude.{◌≡◌, ◌≤◌, All, map, IfOk, OnOk, OnErr, IsErrOf};
 ghost use Rattle.smx_shared.specs.declared.shared_fault.ApplyFault.TheVariants as apply;
 ghost use Rattle.smx_run.specs.Alone.{StopsWithin};
-ghost use Rattle.smx_run.specs.CommandSources.{AreLinesFor};
+ghost use Rattle.smx_shared.specs.CommandSources.{AreLinesFor};
 ghost use Rattle.smx_run.specs.Hands.{program_given, program_run, HasCalled, HasCalledAll, IsToRunWith, HasEndedWith};
 ghost use Rattle.smx_run.specs.Hands.{KnowsItFull};
 ghost use Rattle.smx_run.specs.Hands.{SomeKnowsItFull};
 
-use crate::command_source::CommandSource;
 use crate::gate::Gate;
 use smx_config::Past;
-use smx_shared::{ApplyFault, Door, Front};
+use smx_shared::{ApplyFault, CommandReader, CommandSource, Door, Front};
 use std::alloc::Global;
 use std::sync::Wait;
 
@@ -82,14 +81,26 @@ where
     })
 }
 
+// After so many commands of a program a turn may be of one more.
+const COMMANDS_FOR_ONE_MORE: usize = 16;
+
+// How many commands may be performed in a turn behind so many of the same program: at first one, so that short programs
+// may take turns at each command, and later more, as the gate allows.
+fn most_behind(number: usize, allowed: usize) -> usize
+    requires { 1 ≤ allowed }
+    ensures { (1 ≤ result) × (result ≤ allowed) }
+{
+    allowed.min(1 + number / COMMANDS_FOR_ONE_MORE)
+}
+
 // Has the commands of a program performed with its seat, in order, to the end of it or to the first fault. The gate is
-// told of each under the process that the seat is of.
+// told of those with which turns begin, under the process that the seat is of.
 fn run_program<D: Door, P: CommandSource, G: Gate, R: Wait>(
     rt: &R,
     alloc: Global,
     door: &D,
     seat: &mut D::Seat,
-    mut program: P,
+    program: P,
     gate: &G,
 ) -> Result<(), ApplyFault>
 where
@@ -102,18 +113,15 @@ where
     ensures full { IsErrOf result apply.HistoryFull → KnowsItFull (D.known seat.new) }
 {
     let process = D::process(seat);
-    let mut place = None;
-    let mut room = Vec::new(alloc);
+    let allowed = gate.most_in_a_turn();
+    let mut reader = CommandReader::begin(alloc, program)?;
     let mut number = 0usize;
-    'commands: loop {
-        program.next_command(alloc, &mut place, &mut room)?;
-        let Some(command) = &mut place else {
-            return Ok(());
-        };
+    'turns: while !reader.is_at_end() {
         gate.before(process, number);
-        let outcome = door.perform(rt, alloc, seat, command, program.line());
+        let most = most_behind(number, allowed);
+        let outcome = door.perform_from(rt, alloc, seat, &mut reader, most);
         gate.after(process, number);
-        outcome?;
-        number = number.wrapping_add(1);
+        number = number.wrapping_add(outcome?);
     }
+    Ok(())
 }

@@ -9,7 +9,7 @@ use Rattle.atomic_table.specs.Table.{Final, Seen, step, rest}
 use Rattle.smx_types.specs.declared.command.Command.{Command}
 use Rattle.smx_types.specs.declared.command.Entry.{Entry}
 use Rattle.smx_types.specs.declared.driver.DriverSpec.{DriverSpec}
-use Rattle.smx_shared.specs.Calls.{AnswersEntry, AddsEntry}
+use Rattle.smx_shared.specs.Calls.{AnswersEntry}
 use Rattle.smx_shared.specs.Fronts.{front_of}
 use Rattle.smx_shared.specs.Recorded.{Recorded, IsSoundSystem, next_entry, with_entry}
 use Rattle.smx_shared.specs.Seats.{entries_of, AreMetBy, GoesOnNamed, IsBeginningOf}
@@ -202,15 +202,6 @@ answers_if (Ok e) v w s s' p command is known named process grown informed seen 
     subst (AnswersEntry (known_of v) (known_of w) command) (sym answer)
     (answers v w s s' p command is known named process grown informed seen did)
 answers_if (Err f) v w s s' p command is known named process grown informed seen answer did = tt
-
--- where a call is accepted, and added an entry that it doesn't answer, the seat has seen that last, and has made it
-pub adds_if : {A : Type 0} (r : Result A ApplyFault) (v w : SeatView) (s s' : Recorded) (p : ℕ) (command : Command)
-    → s ≡ system_of v → IsInformed v → v.named ≡ true → v.process ≡ p → HasGrown v w → IsInformed w
-    → w.seen ≡ s'.history
-    → OnOk r (s' ≡ with_entry s p command) → OnOk r (AddsEntry (known_of v) (known_of w) command)
-adds_if (Ok x) v w s s' p command is known named process grown informed seen did =
-    (next_entry s p command, answers v w s s' p command is known named process grown informed seen did)
-adds_if (Err f) v w s s' p command is known named process grown informed seen did = tt
 
 -- ---- a meeting
 

@@ -1,5 +1,5 @@
 -- What a call tells whoever made it: what was known before it, and what is known after it.
-use Rattle.std.specs.Prelude.{◌≡◌, ◌+◌, ◌<◌, true, false, List, [], ◌∷◌, ◌++◌, length}
+use Rattle.std.specs.Prelude.{◌≡◌, ◌+◌, ◌<◌, true, false, List, [], ◌∷◌, ◌++◌, length, map}
 use Rattle.smx_types.specs.declared.command.Command.{Command}
 use Rattle.smx_types.specs.declared.command.Entry.{Entry}
 use Rattle.smx_model.specs.Histories.{call_of}
@@ -35,9 +35,13 @@ pub record AnswersEntry (old new : Known) (command : Command) (e : Entry) : Type
   -- It is the one that was made here more.
   pub own : new.own ≡ old.own ++ e ∷ []
 
--- the call added one such entry, which nobody was told
-abbrev pub AddsEntry : Known → Known → Command → Type 0
-AddsEntry old new command = (e : Entry) × AnswersEntry old new command e
+-- one such entry was added for each of these commands, in their order, which nobody was told
+pub record AddsEntries (old : Known) (commands : List Command) (new : Known) : Type 0 where
+  pub entries : List Entry
+  pub calls : map call_of entries ≡ map (λ command. (old.process, command)) commands
+  -- They are the last that have been seen, and those that were made here more.
+  pub seen : (before : List Entry) × (new.seen ≡ before ++ entries)
+  pub own : new.own ≡ old.own ++ entries
 
 -- the call added no entry: the history was full, or it was not, and memory was wanting
 abbrev pub Refuses : Known → Known → ApplyFault → Type 0

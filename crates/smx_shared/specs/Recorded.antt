@@ -52,3 +52,8 @@ with_entry s process command = record {
   limit = s.limit;
   history = s.history ++ next_entry s process command ∷ [];
 }
+
+-- an entry more for each of these commands, in their order
+abbrev pub with_entries : Recorded → ℕ → List Command → Recorded
+with_entries s process [] = s
+with_entries s process (command ∷ commands) = with_entries (with_entry s process command) process commands

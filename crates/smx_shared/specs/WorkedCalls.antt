@@ -2,7 +2,7 @@
 -- thing.
 use Rattle.std.specs.Prelude.{ℕ, Bool, true, false, [], ◌∷◌}
 use Rattle.smx_types.specs.declared.command.Entry.{Entry}
-use Rattle.smx_model.specs.Worked.Common.{OpenClone, CloseAll, Fd, Done, ◌does◌gets◌, ip}
+use Rattle.smx_model.specs.Worked.Common.{OpenClone, CloseAll, Dup, Fd, Done, ◌does◌gets◌, ip}
 use Rattle.smx_shared.specs.Recorded.{Recorded}
 use Rattle.smx_shared.specs.Seats.{Known, Seated, SharedId, entries_of, met_seat}
 use Rattle.smx_shared.specs.WorkedSystems.{with_first}
@@ -28,6 +28,12 @@ blind = record (knows 0 1 9) { seen = [] }
 
 abbrev pub idle : Known
 idle = record (knows 0 1 9) { own = [] }
+
+-- after two entries that were made here
+abbrev pub twice : Known
+twice =
+    let both = opened ∷ (0 does Dup 0 gets Fd 1 0) ∷ [] in
+    record (knows 0 1 9) { seen = both; own = both }
 
 -- an entry of process 1, which doesn't stand in that history
 abbrev pub exited : Entry

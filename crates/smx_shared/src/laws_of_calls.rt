@@ -1,15 +1,15 @@
 //! Laws of what calls tell, each the contract of a function that does nothing: an example of each, and what is none.
 
 ghost use Rattle.std.specs.Prelude.{◌≡◌, [], ◌∷◌, true, false, take};
-ghost use Rattle.smx_model.specs.Worked.Common.{OpenClone, CloseAll, ip, a_b_and_eth};
+ghost use Rattle.smx_model.specs.Worked.Common.{OpenClone, CloseAll, Dup, ip, a_b_and_eth};
 ghost use Rattle.smx_model.specs.Worked.CycleOfTwoDrivers.{history as linked};
-ghost use Rattle.smx_shared.specs.Calls.{AnswersEntry, EndsAs, GoesOnFrom, HasSeenMore, LooksOnce, Meets, Refuses};
-ghost use Rattle.smx_shared.specs.Calls.{RefusesTry, Rests};
+ghost use Rattle.smx_shared.specs.Calls.{AddsEntries, AnswersEntry, EndsAs, GoesOnFrom, HasSeenMore, LooksOnce};
+ghost use Rattle.smx_shared.specs.Calls.{Meets, Refuses, RefusesTry, Rests};
 ghost use Rattle.smx_shared.specs.CloseFaults.{IsHeld};
 ghost use Rattle.smx_shared.specs.Fronts.{front_of, word_of, IsFrontOf};
 ghost use Rattle.smx_shared.specs.Seats.{SharedId, met_seat, shared_as};
 ghost use Rattle.smx_shared.specs.WorkedCalls.{astray, blind, front, idle, keeps, knows, meets, opened, passed, sits};
-ghost use Rattle.smx_shared.specs.WorkedCalls.{strayed};
+ghost use Rattle.smx_shared.specs.WorkedCalls.{strayed, twice};
 ghost use Rattle.smx_shared.specs.WorkedSystems.{with_first};
 ghost use Rattle.smx_shared.specs.declared.close_fault.CloseFault.TheVariants.{Held};
 ghost use Rattle.smx_shared.specs.declared.shared_fault.ApplyFault.TheVariants as apply;
@@ -25,6 +25,21 @@ pub fn what_an_answer_tells()
     ensures not_before_another { AnswersEntry (knows 0 0 9) passed (OpenClone ip) opened → ⊥ }
     ensures not_unseen { AnswersEntry (knows 0 0 9) blind (OpenClone ip) opened → ⊥ }
     ensures not_unmade { AnswersEntry (knows 0 0 9) idle (OpenClone ip) opened → ⊥ }
+{}
+
+/// Entries that were added in a turn are of the process and the commands, in their order, were seen last, and were made
+/// here.
+pub fn what_a_turn_adds()
+    ensures one { AddsEntries (knows 0 0 9) (OpenClone ip ∷ []) (knows 0 1 9) }
+    ensures none { AddsEntries (knows 1 0 9) [] (knows 1 1 9) }
+    ensures in_order { AddsEntries (knows 0 0 9) (OpenClone ip ∷ Dup 0 ∷ []) twice }
+    ensures not_in_another_order { AddsEntries (knows 0 0 9) (Dup 0 ∷ OpenClone ip ∷ []) twice → ⊥ }
+    ensures not_one_less { AddsEntries (knows 0 0 9) (OpenClone ip ∷ []) twice → ⊥ }
+    ensures not_another { AddsEntries (knows 0 0 9) (CloseAll ∷ []) (knows 0 1 9) → ⊥ }
+    ensures not_of_another_process { AddsEntries (knows 1 0 9) (OpenClone ip ∷ []) (knows 0 1 9) → ⊥ }
+    ensures not_before_another { AddsEntries (knows 0 0 9) (OpenClone ip ∷ []) passed → ⊥ }
+    ensures not_unseen { AddsEntries (knows 0 0 9) (OpenClone ip ∷ []) blind → ⊥ }
+    ensures not_unmade { AddsEntries (knows 0 0 9) (OpenClone ip ∷ []) idle → ⊥ }
 {}
 
 /// What is known stays known, and it is sound: no less is seen, and nothing of another limit or process, past the

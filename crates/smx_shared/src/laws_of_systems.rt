@@ -1,10 +1,11 @@
 //! Laws of systems, each the contract of a function that does nothing.
 
-ghost use Rattle.std.specs.Prelude.{◌≤◌, length};
+ghost use Rattle.std.specs.Prelude.{◌≡◌, ℕ, ◌≤◌, [], ◌∷◌, length};
+ghost use Rattle.smx_types.specs.declared.command.Command.{Command};
 ghost use Rattle.smx_types.specs.declared.limits.TheConstants.{MAX_COMMANDS};
 ghost use Rattle.smx_model.specs.DriverList.{IsDriverList};
 ghost use Rattle.smx_model.specs.Histories.{IsLegal};
-ghost use Rattle.smx_shared.specs.Recorded.{Recorded, IsSoundSystem};
+ghost use Rattle.smx_shared.specs.Recorded.{Recorded, IsSoundSystem, with_entries, with_entry};
 ghost use Rattle.smx_shared.specs.WorkedSystems.{with_first, of_one_name};
 
 use smx_model::laws::lawful_after_each_entry;
@@ -33,3 +34,10 @@ pub fn an_example_is_sound()
     legal_or_first_illegal();
     the_second_is_the_first_illegal();
 }
+
+/// Commands get their entries one after the other, each behind those before it.
+pub fn each_command_gets_its_entry()
+    ensures none { (s : Recorded) (p : ℕ) → with_entries s p [] ≡ s }
+    ensures in_order { (s : Recorded) (p : ℕ) (first second : Command)
+        → with_entries s p (first ∷ second ∷ []) ≡ with_entry (with_entry s p first) p second }
+{}

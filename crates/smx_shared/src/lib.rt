@@ -2,11 +2,14 @@
 #![tactic(auto)]
 
 mod close_fault;
+mod command_reader;
+mod command_source;
 mod door;
 mod front;
 mod hold;
 mod keeper;
 pub mod laws_of_calls;
+pub mod laws_of_sources;
 pub mod laws_of_systems;
 pub mod laws_of_the_turn;
 mod parked;
@@ -19,6 +22,8 @@ mod try_fault;
 mod turn_table;
 
 pub use close_fault::CloseFault;
+pub use command_reader::CommandReader;
+pub use command_source::CommandSource;
 pub use door::Door;
 pub use front::{Front, Fronts};
 pub use hold::Hold;

@@ -1,9 +1,13 @@
 //! A system behind one pointer, so that it goes from hand to hand without being moved.
 
-ghost use Rattle.std.specs.Prelude.{◌≡◌, ◌↔◌, length, IfOk, IfSome, OnOk, OnErr, IsErrOf};
+ghost use Rattle.std.specs.Prelude.{◌≡◌, ◌≢◌, ◌↔◌, ◌≤◌, length, IfOk, IfErr, None, OnOk, OnErr, IsErrOf};
+ghost use Rattle.smx_shared.specs.CommandSources.{AreLinesFor, IsReading};
+ghost use Rattle.smx_shared.specs.Performed.{Appends, PerformsFrom, StopsFrom};
 ghost use Rattle.smx_shared.specs.Recorded.{IsSoundSystem, next_entry, with_entry};
 ghost use Rattle.smx_shared.specs.declared.shared_fault.ApplyFault.TheVariants.{HistoryFull};
 
+use crate::command_reader::CommandReader;
+use crate::command_source::CommandSource;
 use crate::keeper::Keeper;
 use crate::shared_fault::ApplyFault;
 use crate::system::System;
@@ -59,20 +63,23 @@ impl<K: Keeper> Parked<K> {
         self.system.apply(process, command)
     }
 
-    /// `System::append`.
-    pub fn append(
+    /// `System::append_from`.
+    pub fn append_from<P: CommandSource>(
         &mut self,
         process: Process,
-        command: &mut Command,
-        line: Option<&[u8]>,
-    ) -> Result<(), ApplyFault>
-        requires line { IfSome line (λ l. K.spells l.now command.old) }
-        ensures ok { OnOk result (self.new ≡ with_entry self.old process command.old) }
-        ensures full { IsErrOf result HistoryFull ↔ (length self.old.history ≡ self.old.limit) }
-        ensures err { OnErr result (self.new ≡ self.old) }
-        ensures kept { OnErr result (command.new ≡ command.old) }
+        reader: &mut CommandReader<P>,
+        most: usize,
+    ) -> Result<usize, ApplyFault>
+        requires reads { IsReading P.left P.size P.has_read reader.old }
+        requires lines { AreLinesFor P.spells K.spells }
+        requires waits { (reader.old.next ≢ None) × (1 ≤ most) }
+        ensures reads { OnOk result (IsReading P.left P.size P.has_read reader.new) }
+        ensures performed { IfOk result (PerformsFrom P.left P.size (Appends process) self.old
+            reader.old.unread.value most self.new reader.new.unread.value) }
+        ensures refused { IfErr result (StopsFrom P.left P.size P.is_lost (Appends process)
+            (length self.new.history) self.new.limit self.old reader.old.unread.value self.new) }
         ensures sound { IsSoundSystem self.new }
     {
-        self.system.append(process, command, line)
+        self.system.append_from(process, reader, most)
     }
 }

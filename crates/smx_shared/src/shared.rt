@@ -1,17 +1,22 @@
 //! A system that many threads share: they take turns, and look on without waiting.
 
-ghost use Rattle.std.specs.Prelude.{◌≡◌, ◌≤◌, ◌+◌, [], map, vec_capacity};
-ghost use Rattle.std.specs.Prelude.{IfOk, IfErr, IfSome, OnErr, OnOk};
+ghost use Rattle.std.specs.Prelude.{◌≡◌, ◌≢◌, ◌≤◌, ◌+◌, [], length, map, vec_capacity, None};
+ghost use Rattle.std.specs.Prelude.{IfOk, IfErr, OnOk};
 ghost use Rattle.std.specs.List.{range_with_len};
 ghost use Rattle.smx_types.specs.declared.limits.TheConstants.{MAX_PROCESSES};
-ghost use Rattle.smx_shared.specs.Calls.{AddsEntry, AnswersEntry, EndsAs, GoesOnFrom, HasSeenMore, LooksOnce, Meets};
+ghost use Rattle.smx_shared.specs.Calls.{AddsEntries, AnswersEntry, EndsAs, GoesOnFrom, HasSeenMore, LooksOnce};
+ghost use Rattle.smx_shared.specs.Calls.{Meets};
 ghost use Rattle.smx_shared.specs.Calls.{Refuses, RefusesTry, Rests};
 ghost use Rattle.smx_shared.specs.CloseFaults.{IsHeld};
+ghost use Rattle.smx_shared.specs.CommandSources.{AreLinesFor, IsReading};
+ghost use Rattle.smx_shared.specs.Performed.{PerformsFrom, StopsFrom};
 ghost use Rattle.smx_shared.specs.Recorded.{IsSoundSystem};
 ghost use Rattle.smx_shared.specs.SeatViews.{first_view};
 ghost use Rattle.smx_shared.specs.Seats.{first_seat};
 
 use crate::close_fault::CloseFault;
+use crate::command_reader::CommandReader;
+use crate::command_source::CommandSource;
 use crate::door::Door;
 use crate::front::Front;
 use crate::hold::Hold;
@@ -26,7 +31,7 @@ use std::alloc::Global;
 use std::marker::Model;
 use std::sync::Wait;
 
-/// A system that many threads share: they take turns, and each turn adds at most one entry. Contracts see which one it
+/// A system that many threads share: they take turns, in which commands add their entries. Contracts see which one it
 /// is; what of it is known, each seat knows.
 #[derive(Drop)]
 pub struct Shared<K: Keeper = Vec<Entry>> {
@@ -188,26 +193,30 @@ impl<K: Keeper> Door for Shared<K> {
         self.turns.serve(&mut seat.token, seat.process, command)
     }
 
-    fn perform<R: Wait>(
+    fn perform_from<P: CommandSource, R: Wait>(
         &self,
         rt: &R,
         _alloc: Global,
         seat: &mut Seat<K>,
-        command: &mut Command,
-        line: Option<&[u8]>,
-    ) -> Result<(), ApplyFault>
+        reader: &mut CommandReader<P>,
+        most: usize,
+    ) -> Result<usize, ApplyFault>
         requires seat { seat.old.shared ≡ self.now.name }
-        requires line { IfSome line (λ l. K.spells l.now command.old) }
+        requires reads { IsReading P.left P.size P.has_read reader.old }
+        requires lines { AreLinesFor P.spells K.spells }
+        requires waits { (reader.old.next ≢ None) × (1 ≤ most) }
         ensures rests { Rests seat.old seat.new }
         ensures met { seat.new.met ≡ seat.old.met }
         ensures seen { HasSeenMore seat.old.known seat.new.known }
-        ensures added { OnOk result (AddsEntry seat.old.known seat.new.known command.old) }
-        ensures kept { OnErr result (command.new ≡ command.old) }
-        ensures refused { IfErr result (Refuses seat.old.known seat.new.known) }
+        ensures reads { OnOk result (IsReading P.left P.size P.has_read reader.new) }
+        ensures performed { IfOk result (PerformsFrom P.left P.size AddsEntries seat.old.known
+            reader.old.unread.value most seat.new.known reader.new.unread.value) }
+        ensures refused { IfErr result (StopsFrom P.left P.size P.is_lost AddsEntries (length seat.new.known.seen)
+            seat.new.known.limit seat.old.known reader.old.unread.value seat.new.known) }
     {
         self.turns.take(rt, &mut seat.token);
         self.turns
-            .serve_given(&mut seat.token, seat.process, command, line)
+            .serve_from(&mut seat.token, seat.process, reader, most)
     }
 
     fn glance(&self, seat: &mut Seat<K>) -> Front

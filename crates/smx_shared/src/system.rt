@@ -1,15 +1,19 @@
 //! A configuration together with the history that led to it.
 
-ghost use Rattle.std.specs.Prelude.{◌≡◌, ◌<◌, ◌≤◌, ◌↔◌, [], length};
+ghost use Rattle.std.specs.Prelude.{◌≡◌, ◌≢◌, ◌<◌, ◌≤◌, ◌↔◌, [], length, None};
 ghost use Rattle.std.specs.Prelude.{IfOk, IfErr, IfSome, OnOk, OnErr, IsErrOf};
 ghost use Rattle.smx_types.specs.declared.limits.TheConstants.{MAX_COMMANDS};
 ghost use Rattle.smx_model.specs.Configuration.{empty};
 ghost use Rattle.smx_model.specs.DriverList.{IsDriverList};
 ghost use Rattle.smx_model.specs.Histories.{after};
 ghost use Rattle.smx_config.specs.DriverFaults.{RefusesDrivers};
+ghost use Rattle.smx_shared.specs.CommandSources.{AreLinesFor, IsReading};
+ghost use Rattle.smx_shared.specs.Performed.{Appends, PerformsFrom, StopsFrom};
 ghost use Rattle.smx_shared.specs.Recorded.{IsSoundSystem, next_entry, with_entry};
 ghost use Rattle.smx_shared.specs.declared.shared_fault.ApplyFault.TheVariants.{HistoryFull};
 
+use crate::command_reader::CommandReader;
+use crate::command_source::CommandSource;
 use crate::keeper::Keeper;
 use crate::shared_fault::ApplyFault;
 use smx_config::{Config, ConfigFault};
@@ -192,6 +196,42 @@ impl<K: Keeper> System<K> {
         self.kept.add(process, command, line, &mut reply);
         self.config.take_back(reply);
         Ok(())
+    }
+
+    /// Appends the command that waits at the reader, and then those that come next, up to `most` in all, 1 or more,
+    /// each with the line that it was read from. Answers how many it appended, one at least. It stops at the first that
+    /// is refused, as by `append`, or that the source can't tell; the entries before it stay, and the reader is of no
+    /// more use then.
+    pub fn append_from<P: CommandSource>(
+        &mut self,
+        process: Process,
+        reader: &mut CommandReader<P>,
+        most: usize,
+    ) -> Result<usize, ApplyFault>
+        requires reads { IsReading P.left P.size P.has_read reader.old }
+        requires lines { AreLinesFor P.spells K.spells }
+        requires waits { (reader.old.next ≢ None) × (1 ≤ most) }
+        // What it does.
+        ensures reads { OnOk result (IsReading P.left P.size P.has_read reader.new) }
+        ensures performed { IfOk result (PerformsFrom P.left P.size (Appends process) self.old
+            reader.old.unread.value most self.new reader.new.unread.value) }
+        // What is refused.
+        ensures refused { IfErr result (StopsFrom P.left P.size P.is_lost (Appends process)
+            (length self.new.history) self.new.limit self.old reader.old.unread.value self.new) }
+        // What it is afterwards, either way.
+        ensures sound { IsSoundSystem self.new }
+    {
+        let alloc = self.alloc;
+        let mut count = 0;
+        'commands: while count < most {
+            let Some(command) = &mut reader.next else {
+                break;
+            };
+            self.append(process, command, reader.source.line())?;
+            reader.read_next(alloc)?;
+            count += 1;
+        }
+        Ok(count)
     }
 
     /// The configuration after the history. Takes no memory.

@@ -1,9 +1,11 @@
 //! The words and the slot of a shared system, and the steps on them.
 
-ghost use Rattle.std.specs.Prelude.{◌≡◌, ◌<◌, ◌≤◌, ◌+◌, ◌*◌, ◌%◌, [], true, false, Some, None};
-ghost use Rattle.std.specs.Prelude.{IfOk, IfErr, IfSome, OnErr, OnOk};
-ghost use Rattle.smx_shared.specs.Calls.{AnswersEntry, AddsEntry, Refuses, EndsAs, GoesOnFrom};
+ghost use Rattle.std.specs.Prelude.{◌≡◌, ◌≢◌, ◌<◌, ◌≤◌, ◌+◌, ◌*◌, ◌%◌, [], true, false, Some, None};
+ghost use Rattle.std.specs.Prelude.{length, IfOk, IfErr, OnOk};
+ghost use Rattle.smx_shared.specs.Calls.{AddsEntries, AnswersEntry, Refuses, EndsAs, GoesOnFrom};
+ghost use Rattle.smx_shared.specs.CommandSources.{AreLinesFor, IsReading};
 ghost use Rattle.smx_shared.specs.Fronts.{front_of};
+ghost use Rattle.smx_shared.specs.Performed.{PerformsFrom, StopsFrom};
 ghost use Rattle.smx_shared.specs.Recorded.{IsSoundSystem};
 ghost use Rattle.smx_shared.specs.declared.turn_table.TheConstants.{MOST_TRIES};
 ghost use Rattle.smx_shared.specs.Seats.{shared_as};
@@ -11,6 +13,8 @@ ghost use Rattle.smx_shared.specs.SeatViews.{first_view, view_beside, without_ri
 ghost use Rattle.smx_shared.specs.SeatViews.{system_of, IsAtRest, IsInformed};
 ghost use Rattle.smx_shared.specs.SeatViews.{RestsAfter, HasTurn, HasGrown, HasMet, FoundWord, IsWordFrom, AddsFor};
 
+use crate::command_reader::CommandReader;
+use crate::command_source::CommandSource;
 use crate::keeper::Keeper;
 use crate::parked::Parked;
 use crate::seat_view::{Call, Deal, Look, Meet, OneTurn, Publish, SeatView, Start, Take};
@@ -226,26 +230,31 @@ impl<K: Keeper> TurnTable<K> {
         outcome
     }
 
-    /// The same for a command that is given up: nothing is copied, and no entry is answered.
-    pub fn serve_given(
+    /// The same for the command that waits at a reader, and for those that come next, up to so many in all: no entry is
+    /// answered, and so nothing is copied.
+    pub fn serve_from<P: CommandSource>(
         &self,
         token: &mut Token<K>,
         process: Process,
-        command: &mut Command,
-        line: Option<&[u8]>,
-    ) -> Result<(), ApplyFault>
+        reader: &mut CommandReader<P>,
+        most: usize,
+    ) -> Result<usize, ApplyFault>
         requires table { token.old.table_id ≡ self.now.table.shared.table_id }
         requires turn { HasTurn token.old.me (Some (system_of token.old.me.0)) }
         requires named { (token.old.me.0.named ≡ true) × (token.old.me.0.process ≡ process) }
-        requires line { IfSome line (λ l. K.spells l.now command.old) }
+        requires reads { IsReading P.left P.size P.has_read reader.old }
+        requires lines { AreLinesFor P.spells K.spells }
+        requires waits { (reader.old.next ≢ None) × (1 ≤ most) }
         ensures table { token.new.table_id ≡ token.old.table_id }
         ensures rest { RestsAfter token.old.me.0 token.new.me }
-        ensures added { OnOk result (AddsEntry (known_of token.old.me.0) (known_of token.new.me.0) command.old) }
-        ensures kept { OnErr result (command.new ≡ command.old) }
-        ensures refused { IfErr result (Refuses (known_of token.old.me.0) (known_of token.new.me.0)) }
+        ensures reads { OnOk result (IsReading P.left P.size P.has_read reader.new) }
+        ensures performed { IfOk result (PerformsFrom P.left P.size AddsEntries (known_of token.old.me.0)
+            reader.old.unread.value most (known_of token.new.me.0) reader.new.unread.value) }
+        ensures refused { IfErr result (StopsFrom P.left P.size P.is_lost AddsEntries (length token.new.me.0.seen)
+            token.new.me.0.limit (known_of token.old.me.0) reader.old.unread.value (known_of token.new.me.0)) }
     {
         let mut system = self.take_out(token);
-        let outcome = system.append(process, command, line);
+        let outcome = system.append_from(process, reader, most);
         self.give_back(token, system);
         outcome
     }

@@ -54,6 +54,8 @@ impl CommandSource for Torn {
 
     ghost has_read = { λ _ _. Unit {0} };
 
+    ghost is_lost = { λ _. Unit {0} };
+
     fn next_command(
         &mut self,
         _alloc: Global,

@@ -1,19 +1,39 @@
-use Rattle.std.proofs.Common.{◌∷◌, ◌++◌, [], Option, subst, append_assoc}
-use Rattle.smx_types.specs.declared.command.Command.{Command}
-use Rattle.smx_run.specs.CommandSources.{IsNextOf}
-use Rattle.smx_run.proofs.RunLemmas.{called_more}
+use Rattle.std.proofs.Common.{refl}
+use Rattle.std.proofs.lemmas.Result.{err_from_is_err_and}
+use Rattle.smx_run.specs.Alone.{StopsWithin}
+use Rattle.smx_run.specs.Hands.{HasCalled}
+use Rattle.smx_run.proofs.RunLemmas.{called_from, called_none}
 use Rattle.smx_run.proofs.worker.run_program.Goals as goal
 
-pub commands-preserved : goal.commands-preserved
-commands-preserved g c =
-    let before = c.commands.invariant in
-    let command = c.in-Some.command in
-    let next = subst (λ (o : Option Command). IsNextOf g.P.CommandSource.left g.P.CommandSource.size
-    c.commands.program o c.next_command.new.self) c.in-Some.is c.in_ok-next_command.ensures.next in
-    record {
-      seat = c.perform-outcome.ensures.seat;
-      done = before.done ++ command ∷ [];
-      called = called_more _ _ _ _ _ before.called c.perform-outcome.ensures.seen c.in_ok-outcome.ensures.added;
-      behind = λ commands left. rw (append_assoc before.done (command ∷ []) commands)
-          (before.behind (command ∷ commands) (next.0 commands left));
-    }
+pub turns-init : goal.turns-init
+turns-init g c = record {
+  seat = c.requires.seat;
+  reads = c.in_ok-reader.ensures.reads;
+  called = called_none _ _ _ _ c.in_ok-reader.ensures.all;
+}
+
+pub turns-preserved : goal.turns-preserved
+turns-preserved g c = record {
+  seat = c.perform_from-outcome.ensures.seat;
+  reads = c.in_ok-number.ensures.reads;
+  called = called_from _ _ _ _ _ _ _ c.turns.invariant.called c.perform_from-outcome.ensures.seen
+      c.in_ok-number.ensures.performed.first;
+}
+
+pub returns-in_err-reader-clause-stops : goal.returns-in_err-reader-clause-stops
+returns-in_err-reader-clause-stops g c =
+    let known = g.D.Door.known c.args.seat.now in
+    let stops : StopsWithin g.P.CommandSource.left HasCalled known c.args.program known =
+    (c.args.program, called_none _ _ _ _ refl) in
+    rw (err_from_is_err_and c.from_residual.result c.from_residual.ensures.1).1 stops
+
+pub returns-in_err-number-clause-stops : goal.returns-in_err-number-clause-stops
+returns-in_err-number-clause-stops g c =
+    let refused = c.in_err-number.ensures.refused in
+    let stops : StopsWithin g.P.CommandSource.left HasCalled (g.D.Door.known c.args.seat.now) c.args.program
+    (g.D.Door.known c.perform_from-outcome.new.seat) = (
+      refused.rest,
+      called_from _ _ _ _ _ _ _ c.turns.invariant.called c.perform_from-outcome.ensures.seen refused.first,
+    ) in
+    let back = c.from_residual-in_err-number in
+    rw (err_from_is_err_and back.result back.ensures.1).1 stops

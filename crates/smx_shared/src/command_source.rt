@@ -1,17 +1,14 @@
 //! Where the commands of a process come from.
 
-ghost use Rattle.std.specs.Prelude.{◌≡◌, map, IfOk};
-ghost use Rattle.std.specs.Vec.Iter.{into_iter_items};
-
-use smx_types::{Command, NoMemory, ProgramList};
+use smx_types::{Command, NoMemory};
 use std::alloc::Global;
 use std::vec::IntoIter;
 
 /// The program of a process, whose commands come one after the other, each when it is asked for.
 pub trait CommandSource: Drop {
-    ghost use Rattle.std.specs.Prelude.{ℕ, List, IfSome, OnOk};
+    ghost use Rattle.std.specs.Prelude.{ℕ, List, IfSome, OnErr, OnOk};
     ghost use Rattle.smx_types.specs.declared.command.Command.{Command as AnyCommand};
-    ghost use Rattle.smx_run.specs.CommandSources.{IsNextOf};
+    ghost use Rattle.smx_shared.specs.CommandSources.{IsNextOf};
 
     // These may be the commands that are left of it.
     ghost left: { Self → List AnyCommand → Type 0 };
@@ -25,9 +22,12 @@ pub trait CommandSource: Drop {
     // This command was read from the line that the source has, if it has one.
     ghost has_read: { Self → AnyCommand → Type 0 };
 
+    // It could not tell what comes next.
+    ghost is_lost: { Self → Type 0 };
+
     /// The next command, or nothing behind the last one, comes into this place. What was there before is given up: the
     /// vector of its bytes may be left in `room`, where the bytes of a later one are read into it. Where it can't tell,
-    /// it is of no more use; that counts as want of memory.
+    /// for want of memory or since no command stands there, it is of no more use; either counts as want of memory.
     fn next_command(
         &mut self,
         alloc: Global,
@@ -35,7 +35,8 @@ pub trait CommandSource: Drop {
         room: &mut Vec<u8>,
     ) -> Result<(), NoMemory>
         ensures next { OnOk result (IsNextOf left size self.old place.new self.new) }
-        ensures line { OnOk result (IfSome place.new (has_read self.new)) };
+        ensures line { OnOk result (IfSome place.new (has_read self.new)) }
+        ensures lost { OnErr result (is_lost self.new) };
 
     /// The line from which the command was read that came last; none where it was read from none, or its line isn't
     /// kept. Takes no memory.
@@ -55,6 +56,8 @@ impl CommandSource for IntoIter<Command> {
 
     ghost has_read = { λ _ _. Unit {0} };
 
+    ghost is_lost = { λ _. ⊥ };
+
     fn next_command(
         &mut self,
         _alloc: Global,
@@ -68,15 +71,4 @@ impl CommandSource for IntoIter<Command> {
     fn line(&self) -> Option<&[u8]> {
         None
     }
-}
-
-/// These programs, each as a source of its commands. Fails only for want of memory.
-pub fn sources_of(alloc: Global, programs: ProgramList) -> Result<Vec<IntoIter<Command>>, NoMemory>
-    ensures { IfOk result (λ v. map (λ program. into_iter_items program) v.items ≡ programs) }
-{
-    let mut sources = Vec::with_capacity(alloc, programs.as_slice().len())?;
-    for commands in programs.into_vec() {
-        sources.push_reserved(commands.into_vec().into_iter());
-    }
-    Ok(sources)
 }

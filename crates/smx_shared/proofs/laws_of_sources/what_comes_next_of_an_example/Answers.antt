@@ -1,5 +1,5 @@
 use Rattle.std.proofs.Common.{arith, refl}
-use Rattle.smx_run.proofs.laws_of_runs.what_comes_next_of_an_example.Goals as goal
+use Rattle.smx_shared.proofs.laws_of_sources.what_comes_next_of_an_example.Goals as goal
 
 pub returns-clause-not_another : goal.returns-clause-not_another
 returns-clause-not_another c is = let whole = is.0 _ refl in absurd cc
