@@ -68,6 +68,7 @@ impl Tables {
 
     /// The stream of a descriptor; refused as `stream_of` has it, or where it is below a link, or else where its device
     /// has hung up. Takes no memory.
+    #[inline(always)]
     pub fn live_stream(&self, process: Process, fd: u32) -> Result<StreamId, Fault>
         ensures { result ≡ live_stream self.now.configuration process fd }
     {
@@ -98,6 +99,7 @@ impl Tables {
         self.lists.streams.exists(stream)
     }
 
+    #[inline(always)]
     pub(crate) fn leaf_stream(&self, name: &Name, minor: u32) -> Result<StreamId, Fault>
         requires { IsSound self.now.drivers self.now.configuration }
         ensures { result ≡ leaf_stream self.now.drivers self.now.configuration name.now minor }
@@ -116,6 +118,7 @@ impl Tables {
     }
 
     // The same, where its device has not hung up.
+    #[inline(always)]
     pub(crate) fn live_leaf(&self, name: &Name, minor: u32) -> Result<StreamId, Fault>
         requires { IsSound self.now.drivers self.now.configuration }
         ensures { result ≡ live_leaf self.now.drivers self.now.configuration name.now minor }

@@ -12,6 +12,7 @@ use smx_types::Place;
 impl Tables {
     /// The first message of a place goes to the end of another's queue, each with its full mark after that. Takes no
     /// memory.
+    #[inline(always)]
     pub fn carry(&mut self, from: Place, to: Place)
         requires some { IsSome (first_message self.old.configuration.flow from) }
         requires known { IsKnown self.old.drivers to.stream }

@@ -45,6 +45,7 @@ impl Tables {
     }
 
     /// The next place of a message of this address, whether it is full or not. Takes no memory.
+    #[inline(always)]
     pub fn next_place(&self, place: Place, addr: u32) -> Option<Place>
         ensures { result ≡ next_place self.now.drivers self.now.configuration place addr }
     {

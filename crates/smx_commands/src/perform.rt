@@ -61,8 +61,9 @@ impl Tables {
         }
     }
 
-    // The same, of all commands. Apart: a function sets its locals to zero as it begins, and this one has many.
-    #[inline(never)]
+    // The same, of all commands. Apart: its locals are set to zero where it begins, and those that send or take a message
+    // need none of them.
+    #[inline(always)]
     fn perform_any(
         &mut self,
         process: Process,

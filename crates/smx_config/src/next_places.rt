@@ -22,8 +22,8 @@ pub fn leads_on(tables: &Tables, place: Place) -> bool
     }
 }
 
-// The next place, which is noted. Apart, so that what comes before it is inlined.
-#[inline(never)]
+// The next place, which is noted.
+#[inline(always)]
 fn note_next(tables: &Tables, ways: &mut Ways, place: Place, addr: u32) -> Option<Place>
     requires { AreWays tables.now.drivers tables.now.configuration ways.old }
     ensures value { result ≡ next_place tables.now.drivers tables.now.configuration place addr }

@@ -25,6 +25,7 @@ use smx_types::Place;
 
 // The first message of a place moves on to its next place, and what that wakes is marked. It is told whether there
 // was a message where it goes.
+#[inline(always)]
 fn move_marked(tables: &mut Tables, marks: &mut Marks, next: Move, filled: bool)
     requires sound { IsSound tables.old.drivers tables.old.configuration }
     requires marks { AreMarks tables.old.drivers tables.old.configuration marks.old }

@@ -94,9 +94,9 @@ fn clear_mark(tables: &Tables, marks: &mut Marks, from: Place, next: Option<Plac
 }
 
 // The least movable place, with where its first message goes. Only places with a run mark are looked at, and the
-// marks of those that come before it are cleared. Apart, so that the look before it is inlined.
-#[inline(never)]
-fn marked_move(tables: &Tables, marks: &mut Marks, ways: &mut Ways) -> Option<Move>
+// marks of those that come before it are cleared.
+#[inline(always)]
+fn next_move(tables: &Tables, marks: &mut Marks, ways: &mut Ways) -> Option<Move>
     requires sound { IsSound tables.now.drivers tables.now.configuration }
     requires marks { AreMarks tables.now.drivers tables.now.configuration marks.old }
     requires ways { AreWays tables.now.drivers tables.now.configuration ways.old }
@@ -115,23 +115,6 @@ fn marked_move(tables: &Tables, marks: &mut Marks, ways: &mut Ways) -> Option<Mo
         clear_mark(tables, marks, from, next);
     }
     None
-}
-
-// The same, for where often no place has a run mark any more.
-fn next_move(tables: &Tables, marks: &mut Marks, ways: &mut Ways) -> Option<Move>
-    requires sound { IsSound tables.now.drivers tables.now.configuration }
-    requires marks { AreMarks tables.now.drivers tables.now.configuration marks.old }
-    requires ways { AreWays tables.now.drivers tables.now.configuration ways.old }
-    ensures least { IsLeastMove tables.now.drivers tables.now.configuration result }
-    ensures marks { AreMarks tables.now.drivers tables.now.configuration marks.new }
-    ensures ways { AreWays tables.now.drivers tables.now.configuration ways.new }
-    ensures none { IfNone result (HasNoRunMark (has_mark marks.new.run)) }
-{
-    without_marks_it_is_settled();
-    match marks.run.first() {
-        Some(_place) => marked_move(tables, marks, ways),
-        None => None,
-    }
 }
 
 // Moves messages on until none can, where some place may have a run mark. A message that moves alone is moved once.

@@ -29,6 +29,7 @@ fn mark_waiters(waits: &Waiters, run: &mut PlaceMarks, place: Place)
 }
 
 // A place that is not full is wanted no more, and what waits for it has a run mark.
+#[inline(always)]
 fn release(marks: &mut Marks, place: Place)
     ensures released { (c : Configuration) → is_full c place ≡ false
         → IsReleased c (same_place place) marks.old marks.new }

@@ -103,6 +103,7 @@ pub fn put(
 }
 
 // Takes the link with the id out of these.
+#[inline(always)]
 fn take_one(links: &mut Vec<Link>, id: u32) -> Option<Link>
     requires { IsRising (λ l k. nat_lt l.id k.id) links.old.items }
     ensures link { result ≡ find (λ l. l.id == id) links.old.items }

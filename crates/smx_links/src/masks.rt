@@ -86,7 +86,9 @@ fn meets(word: Word, lone: Word) -> bool
     word & lone != 0
 }
 
-// What the lower driver reaches, and itself, joins what the upper one reaches and what all reach that reach it.
+// What the lower driver reaches, and itself, joins what the upper one reaches and what all reach that reach it. Apart,
+// so that the loops which seldom come here keep in registers what they count.
+#[inline(never)]
 fn join(words: &mut [Word], upper: u8, lower: u8)
     requires upper { upper < length words.old }
     requires lower { lower < length words.old }
@@ -118,7 +120,8 @@ pub fn join_link(words: &mut [Word], link: Link)
 }
 
 // Joins what links lead to from one upper driver, by its row, where the rows of some drivers are joined already. Two
-// drivers that are joined change nothing.
+// drivers that are joined change nothing. Apart too.
+#[inline(never)]
 fn join_row(words: &mut [Word], upper: u8, row: &[Count])
     requires upper { upper < length words.old }
     requires few { length words.old ≤ WORD_BITS }

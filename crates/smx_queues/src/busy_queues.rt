@@ -168,6 +168,7 @@ impl BusyQueues {
         Some(message)
     }
 
+    #[inline(always)]
     pub fn move_front(&mut self, from: PlaceId, to: PlaceId)
         requires from { IsPlace self.old.queues from }
         requires to { IsPlace self.old.queues to }

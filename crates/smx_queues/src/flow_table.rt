@@ -167,6 +167,7 @@ impl FlowTable {
     }
 
     /// The first message of one place leaves it and arrives at another, which is not full. Takes no memory.
+    #[inline(always)]
     pub fn move_front(&mut self, from: Place, to: Place)
         requires known { IsKnown self.old.drivers to.stream }
         requires differ { same_place from to ≡ false }

@@ -13,7 +13,7 @@ pub trait Gate {
     /// Command `number` of this process, from 0, is performed next.
     fn before(&self, process: Process, number: usize);
 
-    /// Command `number` of this process was performed, or refused, and so were those behind it in the same turn.
+    /// Command `number` of this process was performed, or refused, and the turn that began with it is over.
     fn after(&self, process: Process, number: usize);
 
     /// How many commands of a process a worker may perform in one turn, 1 or more. All but the first are read while the

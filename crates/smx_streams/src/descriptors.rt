@@ -109,6 +109,7 @@ impl Descriptors {
     }
 
     /// The least number that is free.
+    #[inline(always)]
     pub fn least_free(&self, process: Process) -> Option<u32>
         ensures { result ≡ least_fd self.now.fds process }
     {

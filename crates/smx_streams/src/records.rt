@@ -204,6 +204,7 @@ impl Records {
     }
 
     /// One more descriptor of a stream.
+    #[inline(always)]
     pub fn open(&mut self, stream: StreamId) -> Result<(), NoMemory>
         requires range { is_in_range self.old.minors stream.driver stream.minor ≡ true }
         requires few { number_at self.old.opens stream ≤ 1024 }

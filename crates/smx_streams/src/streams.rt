@@ -139,6 +139,7 @@ impl Streams {
     }
 
     // One more descriptor, whose number is free.
+    #[inline(always)]
     fn open(&mut self, process: Process, fd: u32, stream: StreamId) -> Result<(), NoMemory>
         requires range { is_in_range self.old.minors stream.driver stream.minor ≡ true }
         requires free { least_fd self.old.fds process ≡ Some fd }
@@ -155,6 +156,7 @@ impl Streams {
     }
 
     // The least number that is free for a stream, given to it.
+    #[inline(always)]
     fn give(&mut self, process: Process, stream: StreamId) -> Result<(u32, StreamId), StreamFault>
         requires range { is_in_range self.old.minors stream.driver stream.minor ≡ true }
         ensures ok { IfOk result (λ x.
@@ -245,6 +247,7 @@ impl Streams {
 
     /// Closes the process's descriptor, and no other; None where there is none. No other stream goes than the one that
     /// it names. Takes no memory.
+    #[inline(always)]
     pub fn close_fd(&mut self, process: Process, fd: u32) -> Option<Closed>
         ensures stream { option_map (λ c. c.stream) result ≡ stream_at self.old.fds process fd }
         ensures rest { HasOneLess self.old process fd self.new }
@@ -313,6 +316,7 @@ impl Streams {
 
     /// One hold less of a stream that is held. Answers whether neither a descriptor nor a hold is left. Takes no
     /// memory.
+    #[inline(always)]
     pub fn release(&mut self, stream: StreamId) -> bool
         requires { 0 < number_at self.old.holds stream }
         ensures answer { result ≡ not (exists self.new stream) }

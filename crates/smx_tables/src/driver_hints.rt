@@ -2,8 +2,8 @@
 
 use smx_types::{DriverSpec, Name};
 
-/// By a short hash of its name, the number of the last driver that has this hash, or 0. A hint, which has to be compared:
-/// no clause says that it is right.
+/// By a short hash of its name, the number of the last driver that has this hash, or 0. A hint, which has to be
+/// compared: no clause says that it is right.
 #[derive(Clone, Copy, Debug)]
 pub struct DriverHints {
     numbers: [u8; 256],

@@ -13,7 +13,7 @@ use smx_types::{Place, Reply, Serials, Side, Sides, StreamId};
 use std::mem::replace;
 
 // What `drop_at` does where there is something to drop. Apart, so that the test before it is inlined.
-#[inline(never)]
+#[inline(always)]
 fn drop_all_at(queues: &mut FlowTable, place: Place, dropped: &mut Vec<u32>)
     requires { HasRoom dropped.old queues.old.flow }
     ensures { EmptiesPlaces (λ p. same_place p place) queues.old dropped.old queues.new dropped.new }
@@ -60,6 +60,7 @@ fn drop_side(
 }
 
 /// Drops the messages on the sides of a stream that are named.
+#[inline(always)]
 pub fn drop_sides(queues: &mut FlowTable, stream: StreamId, sides: Sides, dropped: &mut Vec<u32>)
     requires { HasRoom dropped.old queues.old.flow }
     ensures { EmptiesPlaces (λ p. same_stream p.stream stream && is_side sides p.side)
@@ -82,6 +83,7 @@ fn rising(dropped: Vec<u32>) -> Vec<u32>
 
 /// Done, with the serials of dropped messages, rising. The reply takes the list away; where there are none, it has one
 /// that takes no memory, and the list stays.
+#[inline(always)]
 pub fn name_dropped(dropped: &mut Vec<u32>) -> Reply
     ensures { (left : List QueuedMessage) → NamesDropped left dropped.old.items left result }
 {

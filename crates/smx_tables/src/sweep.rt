@@ -38,6 +38,7 @@ fn unbind(binds: &mut Bindings, stream: StreamId)
 }
 
 // Takes away the binding, the messages and the full marks of the stream, unless it exists.
+#[inline(always)]
 fn drop_if_dead(lists: &mut Lists, stream: StreamId, dropped: &mut Vec<u32>)
     requires { HasRoom dropped.old lists.old.queues.flow }
     ensures value { configuration_of lists.new
@@ -54,6 +55,7 @@ fn drop_if_dead(lists: &mut Lists, stream: StreamId, dropped: &mut Vec<u32>)
 }
 
 // Takes away the bindings, messages and full marks of streams that don't exist, all of which are among these.
+#[inline(always)]
 fn drop_dead(lists: &mut Lists, seen: &[StreamId], dropped: &mut Vec<u32>)
     requires kept { KeepsHolds lists.old }
     requires seen { IsTouched lists.old.streams seen.now (configuration_of lists.old) }
@@ -167,6 +169,7 @@ pub fn reserve_for_dropped(dropped: &mut Vec<u32>, lists: &Lists) -> Result<(), 
 
 /// Makes room for the sweep after a change that touches so many streams, in lists that are cleared first. Fails only
 /// for want of memory.
+#[inline(always)]
 pub fn reserve_for_sweep(
     room: &mut SweepReserve,
     lists: &Lists,
@@ -188,6 +191,7 @@ pub fn reserve_for_sweep(
 }
 
 /// Sweeps after a change, and names the messages that were dropped since room was made.
+#[inline(always)]
 pub fn sweep_and_reply(drivers: &[DriverSpec], lists: &mut Lists, room: &mut SweepReserve) -> Reply
     requires kept { KeepsHolds lists.old }
     requires known { AreControllingKnown drivers.now lists.old.links.links }

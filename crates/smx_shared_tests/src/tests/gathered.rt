@@ -1,5 +1,5 @@
-//! A report of a system and of what its callers were answered, and its copy; and transcripts that it doesn't bear out. The
-//! first test passes with any one growth refused too, and tests/refused_growths runs it so.
+//! A report of a system and of what its callers were answered, and its copy; and transcripts that it doesn't bear out.
+//! The first test passes with any one growth refused too, and tests/refused_growths runs it so.
 
 use super::made::{numbered, read, system_over, tells_of_want};
 use super::systems::{copied, plays};

@@ -123,8 +123,8 @@ fn end_of(rt: &(impl AllocGlobal + Abort), ran: Ran, wanted: &[u8]) -> Option<Ru
     }
 }
 
-// The end of a run of the programs of this text, of which a log is told, and a recorder, which counts and may be told so
-// often.
+// The end of a run of the programs of this text, of which a log is told, and a recorder, which counts and may be told
+// so often.
 fn ran<R: AllocGlobal + Abort + Threads + Wait + Sync>(
     rt: &R,
     way: Way,

@@ -27,7 +27,8 @@ fn plays_on<R: AllocGlobal + Abort + Threads + Wait + Sync>(
     is_played(rt, stage, shared, seats, end);
 }
 
-// What the first so many of these seats do, what the others do, how many have to see the turn held, and what comes of it.
+// What the first so many of these seats do, what the others do, how many have to see the turn held, and what comes of
+// it.
 fn comes_to<R: AllocGlobal + Abort + Threads + Wait + Sync>(
     rt: &R,
     first: (u32, Part),

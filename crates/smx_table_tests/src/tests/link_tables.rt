@@ -1,5 +1,5 @@
-//! Tables of links: two links, looked up and taken away; and 1,024 links over 128 drivers, in a chain, a fan and a ladder,
-//! and none more; and copies of these.
+//! Tables of links: two links, looked up and taken away; and 1,024 links over 128 drivers, in a chain, a fan and a
+//! ladder, and none more; and copies of these.
 
 ghost use Rattle.std.specs.Prelude.{◌≡◌, ◌<◌};
 

@@ -1,5 +1,5 @@
-//! Queues of places: what arrives, leaves and moves, and the marks, of 4,096 messages too. Each call that wants memory is
-//! made once more.
+//! Queues of places: what arrives, leaves and moves, and the marks, of 4,096 messages too. Each call that wants memory
+//! is made once more.
 
 use smx_queues::Queues;
 use smx_types::{Bytes, Message};

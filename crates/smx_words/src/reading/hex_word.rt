@@ -17,6 +17,7 @@ use std::alloc::Global;
 
 // Whether a word spells bytes: two lower-case digits for each, or a dash for none. The room then has them, in place of
 // what was in it. Fails only for want of memory, and then the word spells some.
+#[inline(always)]
 pub fn read_bytes(room: &mut Vec<u8>, word: &[u8]) -> Result<bool, NoMemory>
     ensures reading { IfOk result (λ spells. IsFoundIn FitsBytes hex_word word.now
         (if spells then Some room.new.items else None)) }
@@ -102,6 +103,7 @@ fn unless_bad(word: &[u8]) -> Result<bool, NoMemory>
 const MANY: usize = 16;
 
 // Sets the bytes that digits spell; 16 or more where one of them is no digit.
+#[inline(always)]
 fn set_bytes(bytes: &mut [u8], digits: &[u8]) -> u8
     requires { length digits.now ≡ 2 * length bytes.old }
     ensures { AreSet digits.now bytes.new result }

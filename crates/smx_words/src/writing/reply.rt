@@ -15,6 +15,7 @@ use smx_types::{Fault, NoMemory, Reply};
 
 /// An equals sign between spaces, the words of a reply, and a line feed, behind `out`: the end of an entry's line.
 /// Where memory runs out, `out` may have a part of it.
+#[inline(always)]
 pub fn write_reply(out: &mut Vec<u8>, reply: &Reply) -> Result<(), NoMemory>
     ensures written { OnOk result (out.new.items
         ≡ out.old.items ++ codes " = " ++ line_of (reply_words reply.now) ++ LINE_FEED ∷ []) }
@@ -35,7 +36,7 @@ pub fn write_reply(out: &mut Vec<u8>, reply: &Reply) -> Result<(), NoMemory>
     }
 }
 
-// Each on its own, so that `write_reply` itself saves no registers.
+// Each on its own, so that who writes replies has none of the locals of these, and saves no registers for them.
 #[inline(never)]
 fn put_descriptor(out: &mut Vec<u8>, fd: u32, minor: u32) -> Result<(), NoMemory>
     ensures written { OnOk result (out.new.items

@@ -1,7 +1,7 @@
 use Rattle.std.proofs.Common.{length}
 use Rattle.smx_config.specs.Marking.{AreMarks}
 use Rattle.smx_config.specs.Ways.{AreWays}
-use Rattle.smx_config.proofs.settling.marked_move.Given as goal
+use Rattle.smx_config.proofs.settling.next_move.Given as goal
 
 abbrev pub decreases-loop-from : goal.decreases-loop-from
 decreases-loop-from l = length l.marks.run.marked
