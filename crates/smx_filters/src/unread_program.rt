@@ -13,7 +13,7 @@ ghost use Rattle.smx_filters.specs.RunText.{IsTranscriptFor};
 use crate::text_recorder::TextRecorder;
 use smx_run::{CommandSource, Gate, run_sources_together};
 use smx_text::{SplitPrograms, next_command};
-use smx_types::{Bytes, Command, NoMemory, Version};
+use smx_types::{Command, NoMemory, Version};
 use std::alloc::Global;
 use std::mem::replace;
 use std::sync::Wait;
@@ -50,7 +50,7 @@ impl<'a> CommandSource for UnreadProgram<'a> {
         place: &mut Option<Command>,
         room: &mut Vec<u8>,
     ) -> Result<(), NoMemory> {
-        give_up(alloc, place, room);
+        give_up(place, room);
         match next_command(place, room, alloc, self.version, self.text) {
             Ok((line, behind)) => {
                 self.line = line;
@@ -68,13 +68,15 @@ impl<'a> CommandSource for UnreadProgram<'a> {
 
 // Nothing is in the place any more. Of a message its room stays.
 #[inline(always)]
-fn give_up(alloc: Global, place: &mut Option<Command>, room: &mut Vec<u8>)
+fn give_up(place: &mut Option<Command>, room: &mut Vec<u8>)
     ensures { place.new ≡ None }
 {
-    if let Some(Command::Write { bytes, .. } | Command::Inject { bytes, .. }) = place {
-        *room = replace(bytes, Bytes::new(alloc)).into_vec();
+    match replace(place, None) {
+        Some(Command::Write { bytes, .. } | Command::Inject { bytes, .. }) => {
+            *room = bytes.into_vec();
+        }
+        Some(_) | None => {}
     }
-    *place = None;
 }
 
 // The transcript of a run, by so many workers, of the programs that the input spells, of which each is read by the

@@ -73,6 +73,7 @@ impl<A: About, K: Recorder> Scribe<A, K> {
     }
 
     // Tells the recorder of an entry, and of its command's line, if it is still there.
+    #[inline(always)]
     fn tell(&mut self, process: Process, command: &Command, line: Option<&[u8]>, reply: &Reply)
         requires few { length self.old.entries < MAX_COMMANDS }
         requires line { IfSome line (λ l. K.spells l.now command.now) }
@@ -114,6 +115,7 @@ impl<A: About, K: Recorder> Keeper for Scribe<A, K> {
         }
     }
 
+    #[inline(always)]
     fn add(
         &mut self,
         process: Process,

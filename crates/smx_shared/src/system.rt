@@ -174,6 +174,7 @@ impl<K: Keeper> System<K> {
 
     /// The same for a command that is given up, and the line that it was read from, if the keeper can use that: no
     /// entry is answered, and so nothing is copied. Any command may be in its place afterwards; a refused one stays.
+    #[inline(always)]
     pub fn append(
         &mut self,
         process: Process,

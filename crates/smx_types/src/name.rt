@@ -1,9 +1,10 @@
 //! The name of a driver.
 
-ghost use Rattle.std.specs.Prelude.{◌≡◌, ◌↔◌, nat_eq, IsSome, IfSome, IsTrue};
+ghost use Rattle.std.specs.Prelude.{◌≡◌, ◌≤◌, ◌↔◌, length, nat_eq, IsSome, IfSome, IsTrue};
+ghost use Rattle.std.specs.Int.{to_le_bytes, w64};
 ghost use Rattle.std.specs.Cmp.Lexicographic.{pointwise};
 ghost use Rattle.std.specs.List.{list_all};
-ghost use Rattle.smx_types.specs.Names.{is_letter, is_name_byte, is_name};
+ghost use Rattle.smx_types.specs.Names.{is_letter, is_name_byte, is_name, padded};
 
 use std::marker::Model;
 
@@ -74,15 +75,13 @@ impl Name {
         ensures valid { IsSome result ↔ IsTrue (is_name bytes.now) }
         ensures value { IfSome result (λ n. n ≡ bytes.now) }
     {
-        if !is_name(bytes) {
+        if bytes.is_empty() || !is_letter(bytes[0]) || bytes.len() > 8 {
             return None;
         }
-        let len = bytes.len();
-        let mut padded = [0u8; 8];
-        padded[..len].copy_from_slice(bytes);
+        let word = word_of(bytes)?;
         Some(Name {
-            len: len as u8,
-            bytes: padded,
+            len: bytes.len() as u8,
+            bytes: word.to_le_bytes(),
         })
     }
 
@@ -116,14 +115,23 @@ fn is_name_byte(byte: u8) -> bool
     is_letter(byte) || byte.is_ascii_digit()
 }
 
-fn are_name_bytes(bytes: &[u8]) -> bool
-    ensures { result ≡ list_all is_name_byte bytes.now }
+// The number whose lowest bytes these are, the first of them the lowest, if they may stand in a name. So a name is made
+// without a call that copies bytes, of which there are few, and its eight bytes are written at once.
+#[inline(always)]
+fn word_of(bytes: &[u8]) -> Option<u64>
+    requires { length bytes.now ≤ 8 }
+    ensures valid { IsSome result ↔ IsTrue (list_all is_name_byte bytes.now) }
+    ensures value { IfSome result (λ word. to_le_bytes w64 word ≡ padded bytes.now) }
 {
-    bytes.iter().all(|b| is_name_byte(*b))
-}
-
-fn is_name(bytes: &[u8]) -> bool
-    ensures { result ≡ is_name bytes.now }
-{
-    !bytes.is_empty() && is_letter(bytes[0]) && bytes.len() <= 8 && are_name_bytes(bytes)
+    let mut word = 0u64;
+    let mut left = bytes.len();
+    'bytes: while left > 0 {
+        left -= 1;
+        let byte = bytes[left];
+        if !is_name_byte(byte) {
+            return None;
+        }
+        word = 256 * word + byte as u64;
+    }
+    Some(word)
 }
