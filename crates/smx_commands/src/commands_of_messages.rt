@@ -108,14 +108,23 @@ impl Tables {
         Ok(())
     }
 
-    /// Keeps the memory of a reply that nobody needs any more, for a message to come: that of the bytes that were got,
-    /// where they are few. The tables stay as they are to every clause. Takes no memory.
+    /// Keeps the memory of a reply that nobody needs any more: that of the bytes that were got, where they are few, for a
+    /// message to come; and that of the serials of what was dropped, if there are any, for those that will be. The tables
+    /// stay as they are to every clause. Takes no memory.
     #[inline(always)]
     pub fn take_back(&mut self, reply: Reply)
         ensures { self.new ≡ self.old }
     {
-        if let Reply::Got { bytes, .. } = reply {
-            self.lists.queues.keep_bytes(bytes);
+        match reply {
+            Reply::Got { bytes, .. } => self.lists.queues.keep_bytes(bytes),
+            Reply::Done { dropped } => {
+                let serials = dropped.into_vec();
+                if serials.capacity() > 0 {
+                    self.room.dropped = serials;
+                }
+            }
+            Reply::Fd { .. } | Reply::Id(_) | Reply::Took { .. } => {}
+            Reply::Eof | Reply::Fault(_) => {}
         }
     }
 

@@ -101,11 +101,12 @@ impl Config {
     {
         let mut reply = Reply::Eof;
         self.step_in(process, command, &mut reply)?;
+        reply.shrink();
         Ok(reply)
     }
 
     /// `step` with its reply written in the place of another, so that it is not moved. Where memory is wanting, any
-    /// reply may be there.
+    /// reply may be there. The serials of what was dropped have room for more; who keeps the reply shrinks it.
     pub fn step_in(
         &mut self,
         process: Process,
@@ -146,8 +147,9 @@ impl Config {
         }
     }
 
-    /// Keeps the memory of a reply that nobody needs any more, for a message to come: that of the bytes that were got,
-    /// where they are few. It may be any reply, and the configuration stays as it is. Takes no memory.
+    /// Keeps the memory of a reply that nobody needs any more: that of the bytes that were got, where they are few, for a
+    /// message to come, and that of the serials of what was dropped. It may be any reply, and the configuration stays as
+    /// it is. Takes no memory.
     #[inline(always)]
     pub fn take_back(&mut self, reply: Reply)
         ensures { self.new ≡ self.old }

@@ -70,6 +70,7 @@ impl Keeper for Vec<Entry> {
         _line: Option<&[u8]>,
         reply: &mut Reply,
     ) {
+        reply.shrink();
         self.push_reserved(Entry {
             process,
             command: replace(command, Command::CloseAll),

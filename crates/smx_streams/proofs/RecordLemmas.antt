@@ -305,6 +305,17 @@ slots_same (Some r ∷ xs) (Some q ∷ ys) h = ap (λ z. Some z ∷ ys) h.0 ∙ 
 pub uses_same : (grid : Grid) (a b : Slab Record) → b.slots ≡ a.slots → uses_of grid b ≡ uses_of grid a
 uses_same grid a b e = rw e refl
 
+-- and the records are those of the same streams
+pub records_same : (grid : Grid) (a b : Slab Record) → b.slots ≡ a.slots → AreRecords grid a → AreRecords grid b
+records_same grid a b e whole = record {
+  few = whole.few;
+  listed = λ s key is. let found = whole.listed s key is in (found.0, same key ∙ found.1, found.2);
+  recorded = λ key r is. whole.recorded key r (sym (same key) ∙ is);
+}
+  where
+    same : (key : ℕ) → get b key ≡ get a key
+    same key = rw e refl
+
 -- a record that counts nothing
 
 -- where descriptors and holds are together not more than 0, there are none of either

@@ -56,6 +56,10 @@ uses_of grid records = record {
   hungs = map (map (λ key. hung_of (record_of_key records key))) grid;
 }
 
+-- where no stream is said to have hung up, none has
+abbrev pub CountsForHung : Bool → Uses → Type 0
+CountsForHung some_hung u = some_hung ≡ false → (s : StreamId) → flag_at u.hungs s ≡ false
+
 -- the numbers and the flag of one stream are these, and no others changed
 pub record AreSet (old : Uses) (s : StreamId) (opens holds : ℕ) (hung : Bool) (new : Uses) : Type 0 where
   pub minors : new.minors ≡ old.minors

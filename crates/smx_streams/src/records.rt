@@ -31,16 +31,19 @@ pub struct Record {
 pub struct Records {
     drivers: Vec<Keys>,
     records: Slab<Record>,
+    // False only where no stream has hung up: then none is looked at to tell whether it has.
+    some_hung: bool,
 }
 
 impl Model for Records {
-    ghost use Rattle.smx_streams.specs.RecordGrids.{Uses, uses_of, AreRecords};
+    ghost use Rattle.smx_streams.specs.RecordGrids.{Uses, uses_of, AreRecords, CountsForHung};
 
     ghost Value = { Uses };
 
     ghost view = { λ r. uses_of r.drivers.items r.records };
 
-    ghost invariant = { λ r. AreRecords r.drivers.items r.records };
+    ghost invariant = { λ r. AreRecords r.drivers.items r.records
+        × CountsForHung r.some_hung (uses_of r.drivers.items r.records) };
 }
 
 // The key of the stream's record.
@@ -145,6 +148,7 @@ impl Records {
         Ok(Records {
             drivers: new_keys(alloc, minors)?,
             records: Slab::new(alloc),
+            some_hung: false,
         })
     }
 
@@ -190,6 +194,9 @@ impl Records {
     pub fn is_hung(&self, stream: StreamId) -> bool
         ensures { result ≡ flag_at self.now.hungs stream }
     {
+        if !self.some_hung {
+            return false;
+        }
         match self.record_of(stream) {
             Some(record) => record.hung,
             None => false,
@@ -306,19 +313,25 @@ impl Records {
         ensures { AreSet self.old stream (number_at self.old.opens stream) (number_at self.old.holds stream) true
             self.new }
     {
-        if let Some(record) = self.record_of(stream) {
-            self.change(Record {
-                stream,
-                opens: record.opens,
-                holds: record.holds,
-                hung: true,
-            });
+        let Some(record) = self.record_of(stream) else {
+            return;
+        };
+        self.some_hung = true;
+        let changed = Record {
+            stream,
+            opens: record.opens,
+            holds: record.holds,
+            hung: true,
+        };
+        if let Some(key) = key_of(&self.drivers, stream) {
+            put_back(&mut self.drivers, &mut self.records, key, changed);
         }
     }
 
-    // Another record for a stream that has one; where it counts nothing it goes.
+    // Another record for a stream that has one, and has hung up if that says so; where it counts nothing it goes.
     fn change(&mut self, changed: Record)
-        requires { 0 < number_at self.old.opens changed.stream + number_at self.old.holds changed.stream }
+        requires there { 0 < number_at self.old.opens changed.stream + number_at self.old.holds changed.stream }
+        requires hung { changed.hung ≡ true → flag_at self.old.hungs changed.stream ≡ true }
         ensures { AreSet self.old changed.stream changed.opens changed.holds (is_used_and_hung changed) self.new }
     {
         if let Some(key) = key_of(&self.drivers, changed.stream) {
@@ -347,6 +360,7 @@ impl Records {
         Ok(Records {
             drivers: copy_keys(alloc, &self.drivers)?,
             records: self.records.clone()?,
+            some_hung: self.some_hung,
         })
     }
 }

@@ -77,7 +77,6 @@ fn rising(dropped: Vec<u32>) -> Vec<u32>
 {
     let mut sorted = dropped;
     sorted.sort_unstable();
-    sorted.shrink_to_fit();
     sorted
 }
 

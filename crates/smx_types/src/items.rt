@@ -86,6 +86,13 @@ impl<T> Items<T> {
         self.items
     }
 
+    /// Gives back the memory that they have and don't need. They stay as they are.
+    pub fn shrink(&mut self)
+        ensures { self.new ≡ self.old }
+    {
+        self.items.shrink_to_fit();
+    }
+
     /// All of them, in order. Takes no memory.
     pub fn as_slice(&self) -> &[T]
         ensures { result.now ≡ self.now }

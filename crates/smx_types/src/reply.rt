@@ -85,6 +85,15 @@ impl Reply {
         matches!(self, Reply::Eof | Reply::Fault(Fault::HungUp))
     }
 
+    /// Gives back the memory that its serials have and don't need. It stays as it is.
+    pub fn shrink(&mut self)
+        ensures { self.new ≡ self.old }
+    {
+        if let Reply::Done { dropped } = self {
+            dropped.shrink();
+        }
+    }
+
     /// The same reply again. Fails only for want of memory.
     pub fn copy(&self, alloc: Global) -> Result<Reply, NoMemory>
         ensures { IfOk result (λ c. c ≡ self.now) }

@@ -334,12 +334,13 @@ fn write(
     let Some((addr, rest)) = first_number(rest) else {
         return Ok(());
     };
-    match read_bytes(room, rest) {
+    let mut bytes = replace(room, Vec::new(alloc));
+    match read_bytes(&mut bytes, rest) {
         Ok(true) => {}
         Ok(false) => return Ok(()),
         Err(error) => return Err(error),
     }
-    let bytes = Bytes::from_vec(replace(room, Vec::new(alloc)));
+    let bytes = Bytes::from_vec(bytes);
     set(read, Command::Write { fd, addr, bytes });
     Ok(())
 }
@@ -366,12 +367,13 @@ fn inject(
     let Some((addr, rest)) = first_number(rest) else {
         return Ok(());
     };
-    match read_bytes(room, rest) {
+    let mut bytes = replace(room, Vec::new(alloc));
+    match read_bytes(&mut bytes, rest) {
         Ok(true) => {}
         Ok(false) => return Ok(()),
         Err(error) => return Err(error),
     }
-    let bytes = Bytes::from_vec(replace(room, Vec::new(alloc)));
+    let bytes = Bytes::from_vec(bytes);
     set(
         read,
         Command::Inject {
