@@ -74,8 +74,8 @@ pub fn next_line(bytes: &[u8]) -> Option<(&[u8], &[u8])>
 }
 
 // The place of the first line feed. The iterator over all of them looks at the next 32 bytes first, among which it
-// mostly is.
-#[inline(always)]
+// mostly is. Apart, so that the little around it is inlined.
+#[inline(never)]
 fn first_line_feed(bytes: &[u8]) -> Option<usize>
     ensures { IsFirstByte (is_byte LINE_FEED) bytes.now result }
 {
