@@ -1,4 +1,4 @@
--- What each change of the table of bindings makes of its list.
+-- The list of bindings after each change of the table.
 use Rattle.std.proofs.Common.{◌≡◌, ℕ, true, false, ◌&&◌, ◌||◌, ◌==◌, not, List, [], ◌∷◌, filter, find, is_some}
 use Rattle.std.proofs.Common.{Option, Some, None, refl, sym, ap, ◌∙◌, arith, inl, inr}
 use Rattle.std.specs.List.{list_any, IsDistinct}
@@ -21,23 +21,23 @@ use Rattle.smx_addresses.proofs.ListedTableLemmas.{Stands, in_order_stands, comp
 
 -- the list of a table
 
--- the table of addresses holds these bindings, in order
+-- the table of addresses contains exactly these bindings, in order
 abbrev pub HasList : Entries → List Binding → Type 0
 HasList = Stands address_of (λ b. b.minor)
 
--- a binding is its address and its minor
+-- a binding is determined by its address and its minor
 pub binding_exact : (x y : Binding) → address_of x ≡ address_of y → x.minor ≡ y.minor → x ≡ y
 binding_exact x y e f i = record { driver = (e i).0; addr = (e i).1; minor = f i }
 
--- where no address comes twice, a table of addresses holds its own bindings
+-- if no address occurs twice, a table of addresses contains its own bindings
 pub has_list : (es : Entries) → IsDistinct is_key (keys_of es) → HasList es (bindings_of es)
 has_list es u = in_order_stands address_of (λ b. b.minor) binding_exact binding_of (λ e. refl) (λ e. refl) es u
 
--- bindings that the table of addresses holds are its own, in order
+-- the bindings that a table of addresses contains, in order, are its own
 pub list_is : (es : Entries) (bs : List Binding) → IsDistinct is_key (keys_of es) → HasList es bs → bindings_of es ≡ bs
 list_is es bs u h = computed_is address_of (λ b. b.minor) binding_exact binding_of (λ e. refl) (λ e. refl) es bs u h
 
--- the bindings of the two tables are a list in which no address and no stream comes twice
+-- the bindings of both tables form a list without duplicate addresses or streams
 pub bindings_sound : (xs ys : Entries) → AreBindings xs ys → IsBindingList (bindings_of xs)
 bindings_sound xs ys h = record { rise = (has_list xs h.unique).rises; streams = h.streams }
 
@@ -66,15 +66,15 @@ find_stream xs ys bs d m r e h at =
     (bindings_of xs) (d, m)
     ∙ ap (option_map (λ (a : ℕ). record { driver = d; addr = a; minor = m })) (sym (h.addresses (d, m)) ∙ sym at)
 
--- some binding of a driver has an address or a minor just where one has the address or one has the minor
-either_any : (d a m : ℕ) (bs : List Binding)
+-- some binding of a driver has an address or a minor exactly if one has the address or one has the minor
+pub either_any : (d a m : ℕ) (bs : List Binding)
     → list_any (λ b. (b.driver == d) && ((b.addr == a) || (b.minor == m))) bs
     ≡ (list_any (λ b. is_key (address_of b) (d, a)) bs || list_any (λ b. is_key (stream_of b) (d, m)) bs)
 either_any d a m [] = refl
 either_any d a m (b ∷ bs) = rw (either_any d a m bs)
     (grind (arith, nat_tests))
 
--- the test of both, by the two tables
+-- the test for both, by the two tables
 pub taken_either : (xs ys : Entries) (bs : List Binding) (d a m : ℕ) → bindings_of xs ≡ bs → AreBindings xs ys
     → list_any (λ b. (b.driver == d) && ((b.addr == a) || (b.minor == m))) bs
     ≡ (is_some (lookup (is_key (d, a)) xs) || is_some (lookup (is_key (d, m)) ys))
@@ -86,7 +86,7 @@ taken_either xs ys bs d a m e h =
     ap (list_any (λ b. (b.driver == d) && ((b.addr == a) || (b.minor == m)))) (sym e)
     ∙ either_any d a m (bindings_of xs) ∙ (λ i. sym x i || sym y i)
 
--- one more
+-- one more binding
 
 -- a binding of a driver's address passes the test for that address or any minor
 taken_address : (d a m : ℕ) (b : Binding) → is_key (address_of b) (d, a) ≡ true
@@ -110,7 +110,7 @@ module _ (xs ys us vs : Entries) (d a m : ℕ) (h : AreBindings xs ys)
   free_stream : list_any (λ b. is_key (stream_of b) (d, m)) (bindings_of xs) ≡ false
   free_stream = none_of _ _ (taken_stream d a m) (bindings_of xs) free
 
-  -- with an address of a stream bound where both were free, the list has the binding inserted in its order
+  -- after a free address is bound to a free stream, the list has the binding inserted in order
   pub bound : bindings_of us ≡ with_inserted bind_before (bindings_of xs) (record { driver = d; addr = a; minor = m })
   unfolding added
   bound =
@@ -121,7 +121,7 @@ module _ (xs ys us vs : Entries) (d a m : ℕ) (h : AreBindings xs ys)
             (bindings_of xs) bind_before xs us added k.finds free_address s;
       })
 
-  -- where the other table finds the stream's address too, both tables are those of the bindings
+  -- if the other table also finds the stream's address, the two tables agree
   pub bound_whole : Sets ys vs (d, m) (Some a) → AreBindings us vs
   unfolding added
   bound_whole t = record {
@@ -131,9 +131,9 @@ module _ (xs ys us vs : Entries) (d a m : ℕ) (h : AreBindings xs ys)
         (finds_inserted stream_of (λ b. b.addr) (bindings_of xs) bind_before ys vs added h.addresses free_stream t);
   }
 
--- one less
+-- one binding removed
 
--- who has the stream has its address, and no other has
+-- only the binding of the stream has its address
 has_address : (bs : List Binding) (d a m : ℕ) → found stream_of (λ b. b.addr) bs (d, m) ≡ Some a
     → list_any (λ b. is_key (address_of b) (d, a)) bs ≡ true
 has_address [] d a m h = cc
@@ -147,7 +147,7 @@ has_address (b ∷ bs) d a m h = elim (cases_Bool (is_key (d, m) (stream_of b)))
       elim (cases_Bool (is_key (address_of b) (d, a))) [ inl t ↦ rw t refl | inr g ↦ rw g rest ]
 ]
 
--- to take out the binding of a stream is to take out that of its address
+-- removing the binding of a stream removes that of its address
 same_taken : (bs : List Binding) (d a m : ℕ) → AreApart address_of bs → AreApart stream_of bs
     → found stream_of (λ b. b.addr) bs (d, m) ≡ Some a
     → filter (λ b. not (is_key (stream_of b) (d, m))) bs ≡ filter (λ b. not (is_key (address_of b) (d, a))) bs
@@ -175,7 +175,7 @@ same_taken (b ∷ bs) d a m u v h = elim (cases_Bool (is_key (d, m) (stream_of b
 
 module _ (xs ys us vs : Entries) (d a m : ℕ) (h : AreBindings xs ys) (at : lookup (is_key (d, m)) ys ≡ Some a)
     (unique : IsDistinct is_key (keys_of us)) (s : Sets xs us (d, a) None) where
-  -- the stream had this address
+  -- the stream was bound to this address
   pub unbound : bindings_of us ≡ filter (λ b. not ((b.driver == d) && (b.minor == m))) (bindings_of xs)
   unbound =
       let k = has_list xs h.unique in
@@ -187,7 +187,7 @@ module _ (xs ys us vs : Entries) (d a m : ℕ) (h : AreBindings xs ys) (at : loo
       ∙ sym (same_taken (bindings_of xs) d a m (apart_rising address_of (bindings_of xs) k.rises) h.streams
       (sym (h.addresses (d, m)) ∙ at))
 
-  -- where the other table finds no address for the stream either, both tables are those of the bindings
+  -- if the other table no longer finds an address for the stream, the two tables agree
   pub unbound_whole : Sets ys vs (d, m) None → AreBindings us vs
   unbound_whole t = record {
     unique = unique;
@@ -195,7 +195,7 @@ module _ (xs ys us vs : Entries) (d a m : ℕ) (h : AreBindings xs ys) (at : loo
     addresses = rw unbound (finds_filter stream_of (λ b. b.addr) (bindings_of xs) ys vs (d, m) h.addresses t);
   }
 
--- the stream had none
+-- the stream was not bound
 pub not_bound : (xs ys : Entries) (d m : ℕ) → AreBindings xs ys → lookup (is_key (d, m)) ys ≡ None
     → filter (λ b. not ((b.driver == d) && (b.minor == m))) (bindings_of xs) ≡ bindings_of xs
 not_bound xs ys d m h none =

@@ -1,4 +1,4 @@
--- What a table finds once an entry is set or taken out, and the list in which the same is found.
+-- Look-ups in a table after an entry is set or removed, and the list with the same look-ups.
 use Rattle.std.proofs.Common.{◌≡◌, ℕ, Bool, false, cond, not, List, [], ◌∷◌, filter, Option, Some, None, refl, sym, ap}
 use Rattle.std.proofs.Common.{◌∙◌, inl, inr}
 use Rattle.std.specs.List.{list_any}
@@ -11,16 +11,16 @@ use Rattle.smx_addresses.specs.TableFields.{Entries, Finds}
 use Rattle.smx_addresses.proofs.KeyLemmas.{is_key_sym, is_key_congr, found_none, found_inserted, found_filter, any_same}
 use Rattle.smx_addresses.proofs.OrderLemmas.{rising_filter, rising_inserted}
 
--- a table whose entry at a key is set to w, or taken out where that is `None`
+-- a table in which the entry at a key is now w, or is removed if w is `None`
 abbrev pub Sets : Entries → Entries → Key → Option ℕ → Type 0
 Sets old new k w = (q : Key) → lookup (is_key q) new ≡ cond (is_key k q) w (lookup (is_key q) old)
 
--- from the table as it was before room was made
+-- the same change, from the table as it was before room was made
 pub sets_from : (before old new : Entries) (k : Key) (w : Option ℕ) → old ≡ before → Sets old new k w
     → Sets before new k w
 sets_from before old new k w e s q = s q ∙ ap (λ (es : Entries). cond (is_key k q) w (lookup (is_key q) es)) e
 
--- no key is left that was taken out
+-- a removed key is not left
 any_gone : {X : Type 0} (key : X → Key) (k : Key) (xs : List X)
     → list_any (λ x. is_key (key x) k) (filter (λ x. not (is_key (key x) k)) xs) ≡ false
 any_gone key k [] = refl
@@ -28,19 +28,19 @@ any_gone key k (x ∷ xs) =
     elim (cases_Bool (is_key (key x) k)) [ inl t ↦ rw t (any_gone key k xs) | inr f ↦ rw (f, f) (any_gone key k xs) ]
 
 module _ {X : Type 0} (key : X → Key) (value : X → ℕ) (xs : List X) where
-  -- one more under a new key
+  -- a new element with a new key
   pub finds_inserted : (before : X → X → Bool) (es fs : Entries) (x : X) → Finds key value xs es
       → list_any (λ y. is_key (key y) (key x)) xs ≡ false → Sets es fs (key x) (Some (value x))
       → Finds key value (with_inserted before xs x) fs
   finds_inserted before es fs x h new set q =
       set q ∙ ap (cond (is_key (key x) q) (Some (value x))) (h q) ∙ sym (found_inserted key value before xs x q new)
 
-  -- a key taken out
+  -- a key removed
   pub finds_filter : (es fs : Entries) (k : Key) → Finds key value xs es → Sets es fs k None
       → Finds key value (filter (λ x. not (is_key (key x) k)) xs) fs
   finds_filter es fs k h set q = set q ∙ ap (cond (is_key k q) None) (h q) ∙ sym (found_filter key value xs k q)
 
-  -- one in place of what was under its key
+  -- an element that replaces the one with its key
   pub finds_replaced : (es fs : Entries) (x : X) → Finds key value xs es → Sets es fs (key x) (Some (value x))
       → Finds key value (with_inserted (by_key key) (filter (λ y. not (is_key (key y) (key x))) xs) x) fs
   finds_replaced es fs x h set q =
@@ -49,12 +49,12 @@ module _ {X : Type 0} (key : X → Key) (value : X → ℕ) (xs : List X) where
       ∙ ap (cond (is_key (key x) q) (Some (value x))) (sym (found_filter key value xs (key x) q))
       ∙ sym (found_inserted key value (by_key key) _ x q (any_gone key (key x) xs))
 
-  -- a list that rises still does with an element in place of the one that had its key
+  -- a rising list still rises after an element replaces the one with its key
   pub rises_replaced : (x : X) → IsRising (by_key key) xs
       → IsRising (by_key key) (with_inserted (by_key key) (filter (λ y. not (is_key (key y) (key x))) xs) x)
   rises_replaced x h = rising_inserted key x _ (any_gone key (key x) xs) (rising_filter (by_key key) _ xs h)
 
--- what is found without the elements whose value fails a test
+-- look-ups without the elements whose value fails a test
 pub found_kept : {X : Type 0} (key : X → Key) (value : X → ℕ) (keep : ℕ → Bool) (xs : List X) → AreApart key xs
     → (q : Key)
     → found key value (filter (λ x. keep (value x)) xs) q ≡ option_filter keep (found key value xs q)

@@ -1,4 +1,4 @@
--- What is found in a list after one more goes to its place, and after some are taken out.
+-- Look-ups in a list after one more element is inserted, and after some are removed.
 use Rattle.std.proofs.Common.{◌≡◌, ℕ, Bool, true, false, cond, not, List, [], ◌∷◌, filter, find, is_some, Some}
 use Rattle.std.proofs.Common.{None, refl, sym, ap, ◌∙◌, arith, inl, inr}
 use Rattle.std.specs.Cmp.{IsEquivalence}
@@ -12,7 +12,7 @@ use Rattle.smx_addresses.specs.Keys.{Key, is_key, found, AreApart}
 
 -- equal keys
 
--- whether two keys are equal is told in either order
+-- equality of keys is symmetric
 pub is_key_sym : (p q : Key) → is_key p q ≡ is_key q p
 is_key_sym p q = grind (arith, nat_tests)
 
@@ -28,31 +28,31 @@ is_key_trans p q r h k = grind (arith, nat_tests)
 pub is_key_congr : (p q r : Key) → is_key p q ≡ true → is_key p r ≡ is_key q r
 is_key_congr p q r h = grind (arith, nat_tests)
 
--- keys that pass as equal are equal
+-- keys that pass the test for equality are equal
 pub key_same : (p q : Key) → is_key p q ≡ true → p ≡ q
 key_same p q h =
     let a : p.0 ≡ q.0 = grind (arith, nat_tests) in let b : p.1 ≡ q.1 = grind (arith, nat_tests) in (λ i. (a i, b i))
 
--- equality of keys is an equivalence, as the look-ups in maps need it
+-- equality of keys is an equivalence, as look-ups in maps require
 pub keys_equal : IsEquivalence is_key
 keys_equal = record { refl = is_key_refl; symm = is_key_sym; congr = λ p q r h. is_key_congr p q r h }
 
--- what is found
+-- look-ups
 
 module _ {X : Type 0} (key : X → Key) (value : X → ℕ) where
-  -- the test of the model, and the look-up
+  -- some element has a key exactly if the look-up finds a value
   pub found_any : (xs : List X) (k : Key) → is_some (found key value xs k) ≡ list_any (λ x. is_key (key x) k) xs
   found_any [] k = refl
   found_any (x ∷ xs) k = rw (is_key_sym k (key x))
       (elim (cases_Bool (is_key (key x) k)) [ inl t ↦ rw t refl | inr f ↦ rw f (found_any xs k) ])
 
-  -- the look-up, by the search of the model
+  -- the look-up is the value of the element that a search finds
   pub found_value : (xs : List X) (k : Key) → found key value xs k ≡ option_map value (find (λ x. is_key (key x) k) xs)
   found_value [] k = refl
   found_value (x ∷ xs) k = rw (is_key_sym k (key x))
       (elim (cases_Bool (is_key (key x) k)) [ inl t ↦ rw t refl | inr f ↦ rw f (found_value xs k) ])
 
-  -- where an element is made of its key and its value, the search of the model and the look-up
+  -- the search and the look-up, for an element that is made of its key and its value
   pub found_find : (make : Key → ℕ → X) → ((x : X) → make (key x) (value x) ≡ x) → (xs : List X) (k : Key)
       → find (λ x. is_key (key x) k) xs ≡ option_map (make k) (found key value xs k)
   found_find make whole [] k = refl
@@ -61,14 +61,14 @@ module _ {X : Type 0} (key : X → Key) (value : X → ℕ) where
     | inr f ↦ rw f (found_find make whole xs k)
   ])
 
-  -- where no element has the key nothing is found
+  -- if no element has the key, nothing is found
   pub found_none : (xs : List X) (k : Key) → list_any (λ x. is_key (key x) k) xs ≡ false → found key value xs k ≡ None
   found_none [] k h = refl
   found_none (x ∷ xs) k h =
       let p = or_parts (is_key (key x) k) (list_any (λ x. is_key (key x) k) xs) h in
       rw (is_key_sym k (key x), p.0) (found_none xs k p.1)
 
-  -- one more, whose key is new
+  -- a new element with a new key
   pub found_inserted : (before : X → X → Bool) (xs : List X) (x : X) (q : Key)
       → list_any (λ y. is_key (key y) (key x)) xs ≡ false
       → found key value (with_inserted before xs x) q ≡ cond (is_key (key x) q) (Some (value x)) (found key value xs q)
@@ -86,7 +86,7 @@ module _ {X : Type 0} (key : X → Key) (value : X → ℕ) where
         ])
   ]
 
-  -- without those that have the key
+  -- without the elements that have the key
   pub found_filter : (xs : List X) (k q : Key)
       → found key value (filter (λ x. not (is_key (key x) k)) xs) q ≡ cond (is_key k q) None (found key value xs q)
   found_filter [] k q = elim (cases_Bool (is_key k q)) [ inl t ↦ rw t refl | inr f ↦ rw f refl ]
@@ -104,7 +104,7 @@ module _ {X : Type 0} (key : X → Key) (value : X → ℕ) where
 -- tests of all elements
 
 module _ {X : Type 0} where
-  -- fewer elements pass no more
+  -- if no element passes a test, none of fewer elements does
   pub any_filter : (test keep : X → Bool) (xs : List X) → list_any test xs ≡ false
       → list_any test (filter keep xs) ≡ false
   any_filter test keep [] h = refl
@@ -113,19 +113,19 @@ module _ {X : Type 0} where
       let rest = any_filter test keep xs p.1 in
       elim (cases_Bool (keep x)) [ inl k ↦ rw (k, p.0) rest | inr k ↦ rw k rest ]
 
-  -- where none passes none is taken out
+  -- if no element passes a test, none is removed
   pub filter_all : (test : X → Bool) (xs : List X) → list_any test xs ≡ false → filter (λ x. not (test x)) xs ≡ xs
   filter_all test [] h = refl
   filter_all test (x ∷ xs) h =
       let p = or_parts (test x) (list_any test xs) h in
       rw p.0 (ap (λ (ys : List X). x ∷ ys) (filter_all test xs p.1))
 
-  -- tests that answer the same
+  -- two tests with the same results
   pub any_same : (p q : X → Bool) → ((x : X) → p x ≡ q x) → (xs : List X) → list_any p xs ≡ list_any q xs
   any_same p q e [] = refl
   any_same p q e (x ∷ xs) = rw (e x, any_same p q e xs) refl
 
-  -- a test that answers true only where another does
+  -- a test that is true only if another is
   pub none_of : (p q : X → Bool) → ((x : X) → p x ≡ true → q x ≡ true) → (xs : List X) → list_any q xs ≡ false
       → list_any p xs ≡ false
   none_of p q h [] e = refl
@@ -133,7 +133,7 @@ module _ {X : Type 0} where
       let s = or_parts (q x) (list_any q xs) e in
       or_from _ _ (false_from_ne_true (p x) (λ t. false≢true (sym s.0 ∙ h x t))) (none_of p q h xs s.1)
 
--- lists where no key comes twice
+-- lists without duplicate keys
 
 module _ {X : Type 0} (key : X → Key) where
   -- fewer elements
@@ -148,7 +148,7 @@ module _ {X : Type 0} (key : X → Key) where
       → list_any test xs ≡ false → list_any test (with_inserted before xs x) ≡ false
   any_inserted before test xs x f h = any_of_placed test before xs x ∙ or_from _ _ f h
 
-  -- one more, whose key is new
+  -- a new element with a new key
   pub apart_inserted : (before : X → X → Bool) (xs : List X) (x : X) → list_any (λ y. is_key (key y) (key x)) xs ≡ false
       → AreApart key xs → AreApart key (with_inserted before xs x)
   apart_inserted before [] x new h = (refl, tt)

@@ -6,3 +6,4 @@ pub mod BindingLemmas
 pub mod RouteLemmas
 pub mod TargetLemmas
 pub mod LineLemmas
+pub mod CopyLemmas

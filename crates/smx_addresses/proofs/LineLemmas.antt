@@ -21,7 +21,7 @@ use Rattle.smx_addresses.proofs.KeyLemmas.{is_key_sym, is_key_congr, keys_equal}
 use Rattle.smx_addresses.proofs.OrderLemmas.{rising_same}
 use Rattle.smx_addresses.proofs.ListedTableLemmas.{Stands}
 
--- the order of a pair of unsigned numbers
+-- the order of pairs of unsigned numbers
 abbrev pub key_cmp : Key → Key → Ordering
 key_cmp p q = ordering_then (nat_cmp p.0 q.0) (nat_cmp p.1 q.1)
 
@@ -29,7 +29,7 @@ key_cmp p q = ordering_then (nat_cmp p.0 q.0) (nat_cmp p.1 q.1)
 key_total : IsTotalOrder key_cmp
 key_total = then_total (on_total (λ (p : Key). p.0) nat_cmp_total) (on_total (λ (p : Key). p.1) nat_cmp_total)
 
--- where a key is not less than another, and they differ, the other is less than it
+-- if a key is not less than another, and they differ, the other is less than it
 key_less : (p q : Key) → is_lt (key_cmp q p) ≡ false → is_key p q ≡ false → key_cmp p q ≡ Less
 key_less p q h k = grind (arith, nat_tests)
 
@@ -84,7 +84,7 @@ module _ {X : Type 0} (key : X → Key) (value : X → ℕ) where
     made [] = refl
     made (e ∷ es) = (λ i. whole e i ∷ made es i)
 
-    -- whatever list stands for the table
+    -- for any list with the elements of the table
     pub sorted_lines : (es : Entries) (xs ys : List X) → IsPermutation (map make es) ys → IsSortedByKey key key_cmp ys
         → IsDistinct is_key (keys_of es) → Stands key value es xs → ys ≡ xs
     sorted_lines es xs ys moves sorted unique stands =

@@ -1,4 +1,4 @@
--- The list that stands for a table.
+-- The list that corresponds to a table.
 use Rattle.std.proofs.Common.{◌≡◌, ℕ, ◌+◌, Bool, false, cond, List, [], ◌∷◌, length, is_some, Some, None, refl, sym, ap}
 use Rattle.std.proofs.Common.{◌∙◌, arith, inl, inr}
 use Rattle.std.specs.List.{list_any, IsDistinct, AllByRecursion}
@@ -12,12 +12,12 @@ use Rattle.smx_addresses.proofs.KeyLemmas.{is_key_sym, found_any}
 use Rattle.smx_addresses.proofs.ChangeLemmas.{finds_inserted}
 use Rattle.smx_addresses.proofs.OrderLemmas.{rising_same, rising_inserted}
 
--- where no entry has a key, a look-up by it finds nothing
+-- if no entry has a key, a look-up by it finds nothing
 absent : (k : Key) (es : Entries) → AllByRecursion (λ y. is_key k y ≡ false) (keys_of es) → lookup (is_key k) es ≡ None
 absent k [] h = refl
 absent k (e ∷ es) h = rw h.0 (absent k es h.1)
 
--- a list with one inserted is longer by one
+-- a list with one element inserted is longer by one
 pub length_inserted : {X : Type 0} (before : X → X → Bool) (xs : List X) (x : X)
     → length (with_inserted before xs x) ≡ length xs + 1
 length_inserted before [] x = refl
@@ -32,14 +32,14 @@ length_in_order before make (e ∷ es) =
     omega (arith, length_inserted before (in_order before make es) (make e), length_in_order before make es)
 
 module _ {X : Type 0} (key : X → Key) (value : X → ℕ) where
-  -- a rising list in which the table finds what it has
+  -- the list rises, and a look-up in the table finds what a look-up in the list finds
   pub record Stands (es : Entries) (xs : List X) : Type 0 where
     pub rises : IsRising (by_key key) xs
     pub finds : Finds key value xs es
 
   module _ (exact : (x y : X) → key x ≡ key y → value x ≡ value y → x ≡ y) (make : Key × ℕ → X)
       (keyed : (e : Key × ℕ) → key (make e) ≡ e.0) (valued : (e : Key × ℕ) → value (make e) ≡ e.1) where
-    -- where no key comes twice, the elements of a table in order rise, and the table finds what they have
+    -- if no key occurs twice, the sorted elements of a table correspond to it
     pub in_order_stands : (es : Entries) → IsDistinct is_key (keys_of es) → Stands es (in_order (by_key key) make es)
     in_order_stands [] h = record { rises = tt; finds = λ k. refl }
     in_order_stands (e ∷ es) h =
@@ -55,7 +55,7 @@ module _ {X : Type 0} (key : X → Key) (value : X → ℕ) where
               (ap (λ (b : Bool). cond b (Some e.1) (lookup (is_key q) es)) (is_key_sym q e.0)));
         }
 
-    -- only one list stands for a table
+    -- only one list corresponds to a table
     pub computed_is : (es : Entries) (xs : List X) → IsDistinct is_key (keys_of es) → Stands es xs
         → in_order (by_key key) make es ≡ xs
     computed_is es xs u h =

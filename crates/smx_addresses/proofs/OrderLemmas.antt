@@ -1,4 +1,4 @@
--- Rising lists: one more and fewer elements, and that what is found in them tells them apart.
+-- Rising lists: with one more element, with fewer, and determined by their look-ups.
 use Rattle.std.proofs.Common.{◌≡◌, ℕ, ◌≤◌, Bool, true, false, List, [], ◌∷◌, length, filter, find, Some, None, ◌⊎◌}
 use Rattle.std.proofs.Common.{refl, sym, ap, subst, ◌∙◌, arith, inl, inr}
 use Rattle.std.specs.List.{All, list_any}
@@ -14,21 +14,21 @@ use Rattle.smx_addresses.proofs.KeyLemmas.{is_key_refl, is_key_sym, key_same, fo
 
 -- keys in their order
 
--- a key that comes before another comes before what that comes before
+-- the order of keys is transitive
 before_trans : (p q r : Key) → pair_before p.0 p.1 q.0 q.1 ≡ true → pair_before q.0 q.1 r.0 r.1 ≡ true
     → pair_before p.0 p.1 r.0 r.1 ≡ true
 before_trans p q r h k = grind (arith, nat_tests)
 
--- a key that comes before another differs from it
+-- a key before another differs from it
 before_apart : (p q : Key) → pair_before p.0 p.1 q.0 q.1 ≡ true → is_key p q ≡ false
 before_apart p q h = grind (arith, nat_tests)
 
--- either comes before the other, or they are equal
+-- one key comes before the other, or they are equal
 before_else : (p q : Key) → pair_before p.0 p.1 q.0 q.1 ≡ false → pair_before q.0 q.1 p.0 p.1 ≡ false
     → is_key p q ≡ true
 before_else p q h k = grind (arith, nat_tests)
 
--- one that does not have the key comes after or before
+-- an element with another key comes after or before
 before_other : (p q : Key) → is_key q p ≡ false → pair_before p.0 p.1 q.0 q.1 ≡ false
     → pair_before q.0 q.1 p.0 p.1 ≡ true
 before_other p q h k = grind (arith, nat_tests)
@@ -41,7 +41,7 @@ module _ {X : Type 0} (before : X → X → Bool) (keep : X → Bool) where
   before_filter x (y ∷ ys) h =
       elim (cases_Bool (keep y)) [ inl t ↦ rw t (h.0, before_filter x ys h.1) | inr f ↦ rw f (before_filter x ys h.1) ]
 
-  -- a list that rises still does where only those that pass a test are kept
+  -- a rising list still rises after a filter
   pub rising_filter : (xs : List X) → IsRising before xs → IsRising before (filter keep xs)
   rising_filter [] h = tt
   rising_filter (x ∷ xs) h = elim (cases_Bool (keep x))
@@ -61,7 +61,7 @@ module _ {X : Type 0} (key : X → Key) where
   before_inserted y x (z ∷ zs) h k =
       elim (cases_Bool (by_key key x z)) [ inl t ↦ rw t (h, k) | inr f ↦ rw f (k.0, before_inserted y x zs h k.1) ]
 
-  -- one whose key is new
+  -- a new element with a new key
   pub rising_inserted : (x : X) (xs : List X) → list_any (λ y. is_key (key y) (key x)) xs ≡ false
       → IsRising (by_key key) xs → IsRising (by_key key) (with_inserted (by_key key) xs x)
   rising_inserted x [] new h = (tt, tt)
@@ -86,10 +86,10 @@ module _ {X : Type 0} (key : X → Key) where
   apart_rising [] h = tt
   apart_rising (x ∷ xs) h = (later_apart x xs h.0, apart_rising xs h.1)
 
--- two rising lists in which the same is found are equal
+-- two rising lists with the same look-ups are equal
 
 module _ {X : Type 0} (key : X → Key) (value : X → ℕ) where
-  -- what comes before all is not among them
+  -- an element that comes before all others is not among them
   found_before : (x : X) (ys : List X) → ComesBefore (by_key key) x ys → found key value ys (key x) ≡ None
   found_before x [] h = refl
   found_before x (y ∷ ys) h = rw (before_apart (key x) (key y) h.0) (found_before x ys h.1)
@@ -100,7 +100,7 @@ module _ {X : Type 0} (key : X → Key) (value : X → ℕ) where
   found_past x y (z ∷ zs) t h =
       rw (before_apart (key x) (key z) (before_trans (key x) (key y) (key z) t h.0)) (found_past x y zs t h.1)
 
-  -- the first of a list that begins another list
+  -- the first element of one list is missing in the other
   missing : (x y : X) (xs ys : List X) → by_key key x y ≡ true → ComesBefore (by_key key) y ys
       → found key value (x ∷ xs) (key x) ≡ found key value (y ∷ ys) (key x) → ⊥
   missing x y xs ys t h e =
@@ -109,7 +109,7 @@ module _ {X : Type 0} (key : X → Key) (value : X → ℕ) where
       let none : Some (value x) ≡ None = sym a ∙ e ∙ b in cc
 
   module _ (exact : (x y : X) → key x ≡ key y → value x ≡ value y → x ≡ y) where
-    -- two lists that rise, in which the same is found under each key, are the same
+    -- two rising lists with the same look-up at each key are equal
     pub rising_same : (xs ys : List X) → IsRising (by_key key) xs → IsRising (by_key key) ys
         → ((k : Key) → found key value xs k ≡ found key value ys k) → xs ≡ ys
     rising_same [] [] r s h = refl
@@ -144,9 +144,9 @@ module _ {X : Type 0} (key : X → Key) (value : X → ℕ) where
       ]
     ]
 
-    -- as many elements in order, each of which is found in a rising list, are that list
+    -- elements in order, as many as a rising list has, each of which is found there, are that list
 
-    -- each is found there
+    -- each element is found there
     abbrev pub AreFound : List X → List X → Type 0
     AreFound ys [] = Unit {0}
     AreFound ys (x ∷ xs) = (found key value ys (key x) ≡ Some (value x)) × AreFound ys xs
@@ -187,7 +187,7 @@ module _ {X : Type 0} (key : X → Key) (value : X → ℕ) where
       | inr past ↦ omega (arith, found_few (x ∷ xs) ys r s.1 (past_first y ys (x ∷ xs) past h))
     ]
 
-    -- two lists that rise are the same where all of the first is found in the second, and that is no longer
+    -- two rising lists are equal if each element of the first is found in the second, which is not longer
     pub found_all : (xs ys : List X) → IsRising (by_key key) xs → IsRising (by_key key) ys → length ys ≤ length xs
         → AreFound ys xs → xs ≡ ys
     found_all [] [] r s e h = refl
@@ -210,7 +210,7 @@ module _ {X : Type 0} (key : X → Key) (value : X → ℕ) where
           are_found ys xs (All-tail (λ z. find (λ y. is_key (key y) (key z)) ys ≡ Some z) x xs h),
         )
 
-    -- by the search of the model
+    -- the same by a search
     pub look_ups_tell : (xs ys : List X) → IsRising (by_key key) xs → IsRising (by_key key) ys → length xs ≡ length ys
         → All (λ x. find (λ y. is_key (key y) (key x)) ys ≡ Some x) xs → xs ≡ ys
     look_ups_tell xs ys r s e h = found_all xs ys r s (omega (arith, e)) (are_found ys xs h)

@@ -1,4 +1,4 @@
--- What each change of the table of routes makes of its list.
+-- The list of routes after each change of the table.
 use Rattle.std.proofs.Common.{◌≡◌, ℕ, ◌<◌, ◌+◌, ◌&&◌, ◌||◌, ◌==◌, not, List, [], ◌∷◌, ◌++◌, length, get_or, take}
 use Rattle.std.proofs.Common.{filter, find, Option, Some, None, refl, sym, ap, ◌∙◌, inl, inr}
 use Rattle.std.specs.List.{list_any, IsDistinct}
@@ -20,25 +20,25 @@ use Rattle.smx_addresses.proofs.ListedTableLemmas.{Stands, in_order_stands, comp
 
 -- the list of a table
 
--- the table of routes holds these routes, in order
+-- the table of routes contains exactly these routes, in order
 abbrev pub HasList : Entries → List Route → Type 0
 HasList = Stands target_of (λ r. r.id)
 
--- a route is its address and its link
+-- a route is determined by its address and its link
 pub route_exact : (x y : Route) → target_of x ≡ target_of y → x.id ≡ y.id → x ≡ y
 route_exact x y e f i = record { driver = (e i).0; addr = (e i).1; id = f i }
 
--- where no address comes twice, a table of routes holds its own routes
+-- if no address occurs twice, a table of routes contains its own routes
 pub has_list : (es : Entries) → IsDistinct is_key (keys_of es) → HasList es (routes_of es)
 has_list es u = in_order_stands target_of (λ r. r.id) route_exact route_of (λ e. refl) (λ e. refl) es u
 
--- routes that the table holds are its own, in order
+-- the routes that a table contains, in order, are its own
 pub list_is : (es : Entries) (rs : List Route) → IsDistinct is_key (keys_of es) → HasList es rs → routes_of es ≡ rs
 list_is es rs u h = computed_is target_of (λ r. r.id) route_exact route_of (λ e. refl) (λ e. refl) es rs u h
 
 -- look-ups
 
--- the search for a driver's address in the list finds the route that the table has there
+-- a search for a driver's address in the list finds the route that the table has there
 pub find_route : (es : Entries) (rs : List Route) (d a : ℕ) (r : Option ℕ) → routes_of es ≡ rs
     → IsDistinct is_key (keys_of es) → r ≡ lookup (is_key (d, a)) es
     → find (λ r. (r.driver == d) && (r.addr == a)) rs
@@ -50,9 +50,9 @@ find_route es rs d a r e u at =
     ∙ ap (option_map (λ (id : ℕ). record { driver = d; addr = a; id = id }))
     (sym ((has_list es u).finds (d, a)) ∙ sym at)
 
--- one more, in place of what was there, and one less
+-- a route set in place of the old one, and a route removed
 
--- with another route for an address, the list is without the old one and has the new one in order
+-- after a new route for an address, the list lacks the old one and has the new one in order
 pub routed : (xs us : Entries) (d a id : ℕ) → IsDistinct is_key (keys_of xs) → IsDistinct is_key (keys_of us)
     → Sets xs us (d, a) (Some id)
     → routes_of us ≡ with_inserted route_before (filter (λ r. not ((r.driver == d) && (r.addr == a))) (routes_of xs))
@@ -66,7 +66,7 @@ routed xs us d a id u v s =
       finds = finds_replaced target_of (λ r. r.id) (routes_of xs) xs us x k.finds s;
     })
 
--- without the route for an address, the list is without just that one
+-- after the route for an address is removed, the list lacks only that one
 pub unrouted : (xs us : Entries) (d a : ℕ) → IsDistinct is_key (keys_of xs) → IsDistinct is_key (keys_of us)
     → Sets xs us (d, a) None
     → routes_of us ≡ filter (λ r. not ((r.driver == d) && (r.addr == a))) (routes_of xs)
@@ -78,13 +78,13 @@ unrouted xs us d a u v s =
       finds = finds_filter target_of (λ r. r.id) (routes_of xs) xs us (d, a) k.finds s;
     })
 
--- without the routes to a link
+-- the routes to a link removed
 
--- an address is left where its route leads to another link
+-- an address is left if its route leads to another link
 abbrev pub Unlinks : Entries → Entries → ℕ → Type 0
 Unlinks xs us id = (q : Key) → lookup (is_key q) us ≡ option_filter (λ n. not (n == id)) (lookup (is_key q) xs)
 
--- without the routes to a link, the list is without those of its id
+-- after the routes to a link are removed, the list lacks those with its id
 pub unlinked : (xs us : Entries) (id : ℕ) → IsDistinct is_key (keys_of xs) → IsDistinct is_key (keys_of us)
     → Unlinks xs us id → routes_of us ≡ filter (λ r. not (r.id == id)) (routes_of xs)
 unlinked xs us id u v s =
@@ -96,15 +96,15 @@ unlinked xs us id u v s =
           (apart_rising target_of (routes_of xs) k.rises) q);
     })
 
--- one link more whose routes are gone
+-- the routes to one more link removed
 
--- a route leads to one of some links and one more just where it leads to one of them or to that one
+-- a route leads to one of some links and one more exactly if it leads to one of them or to that one
 ids_more : (ids : List ℕ) (id : ℕ) (r : Route)
     → list_any (λ i. r.id == i) (ids ++ id ∷ []) ≡ (list_any (λ i. r.id == i) ids || (r.id == id))
 ids_more [] id r = elim (cases_Bool (r.id == id)) [ inl t ↦ rw t refl | inr f ↦ rw f refl ]
 ids_more (x ∷ ids) id r = elim (cases_Bool (r.id == x)) [ inl t ↦ rw t refl | inr f ↦ rw f (ids_more ids id r) ]
 
--- without the routes to some links, and then those to one more, is without those to all of them
+-- removing the routes to some links, then those to one more, removes those to all of them
 unlinked_more : (rs : List Route) (ids : List ℕ) (id : ℕ)
     → filter (λ r. not (r.id == id)) (filter (λ r. not (list_any (λ i. r.id == i) ids)) rs)
     ≡ filter (λ r. not (list_any (λ i. r.id == i) (ids ++ id ∷ []))) rs
@@ -117,13 +117,13 @@ unlinked_more (r ∷ rs) ids id = elim (cases_Bool (list_any (λ i. r.id == i) i
   ]
 ]
 
--- without the routes to some links, and then those to the next one, is without those to one link more
+-- removing the routes to the first i links, then those to the next one, removes those to the first i + 1
 pub unlinked_next : (rs : List Route) (ids : List ℕ) (i : ℕ) → i < length ids
     → filter (λ r. not (r.id == get_or ids i 0)) (filter (λ r. not (list_any (λ i. r.id == i) (take i ids))) rs)
     ≡ filter (λ r. not (list_any (λ i. r.id == i) (take (i + 1) ids))) rs
 unlinked_next rs ids i lt = rw (take_more ids i 0 lt) (unlinked_more rs (take i ids) (get_or ids i 0))
 
--- without the routes to no links, the list is as it was
+-- removing the routes to no links removes nothing
 pub unlinked_none : (rs : List Route) → filter (λ r. not (list_any (λ i. r.id == i) [])) rs ≡ rs
 unlinked_none [] = refl
 unlinked_none (r ∷ rs) = ap (λ x. r ∷ x) (unlinked_none rs)

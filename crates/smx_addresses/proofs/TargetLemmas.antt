@@ -1,4 +1,4 @@
--- The sets of keys under the links, after each change of the table of routes.
+-- The sets of keys at the links, after each change of the table of routes.
 use Rattle.std.proofs.Common.{◌≡◌, ℕ, Bool, true, false, cond, ◌==◌, not, List, [], ◌∷◌}
 use Rattle.std.proofs.Common.{Option, Some, None, Result, Ok, Err, OnErr, refl, sym, ap, ◌∙◌, arith}
 use Rattle.std.proofs.Common.{if◌then◌else◌, inl, inr}
@@ -16,23 +16,23 @@ use Rattle.smx_addresses.proofs.ChangeLemmas.{Sets}
 use Rattle.smx_addresses.proofs.KeyLemmas.{key_same}
 use Rattle.smx_addresses.proofs.RouteLemmas.{Unlinks}
 
--- what is under an address leads to the link
+-- the value at an address is the link
 abbrev pub leads_to : ℕ → Option ℕ → Bool
 leads_to id o = option_map_or (λ n. n == id) o false
 
--- a number that equals the first of two that differ isn't the second
+-- a number that equals the first of two different numbers differs from the second
 other_number : (a b i : ℕ) → (a == b) ≡ false → (a == i) ≡ true → (b == i) ≡ false
 other_number a b i h k = grind (arith, nat_tests)
 
--- keys that are taken out one by one
+-- keys removed one by one
 
--- what is left without the keys of a link
+-- the look-up after a link's keys are removed
 left_filtered : (id : ℕ) (b : Bool) (r : Option ℕ) → b ≡ leads_to id r
     → (if b then None else r) ≡ option_filter (λ n. not (n == id)) r
 left_filtered id b None e = elim (cases_Bool b) [ inl t ↦ rw t refl | inr f ↦ rw f refl ]
 left_filtered id b (Some n) e = rw e (elim (cases_Bool (n == id)) [ inl t ↦ rw t refl | inr f ↦ rw f refl ])
 
--- without what leads to one link, what leads to another still does
+-- without the addresses that lead to one link, those that lead to another still do
 leads_filtered : (id i : ℕ) (r : Option ℕ) → leads_to i (option_filter (λ n. not (n == id)) r)
     ≡ cond (id == i) false (leads_to i r)
 leads_filtered id i None = elim (cases_Bool (id == i)) [ inl t ↦ rw t refl | inr f ↦ rw f refl ]
@@ -49,14 +49,14 @@ leads_filtered id i (Some n) = elim (cases_Bool (n == id)) [
   ]
 ]
 
--- keys that are cloned
+-- cloned keys are the same keys
 keys_again : (xs ys : List Key) → AllZip (λ x y. (y.0 ≡ x.0) × (y.1 ≡ x.1)) xs ys → ys ≡ xs
 keys_again [] [] h = refl
 keys_again [] (y ∷ ys) h = absurd h
 keys_again (x ∷ xs) [] h = absurd h
 keys_again (x ∷ xs) (y ∷ ys) h = (λ i. (h.0.0 i, h.0.1 i) ∷ keys_again xs ys h.1 i)
 
--- where an outcome is an error, what holds anyhow
+-- a fact that holds anyway holds if the result is an error
 pub on_err : {X E : Type 0} (r : Result X E) (P : Type 0) → P → OnErr r P
 on_err (Ok x) P p = tt
 on_err (Err e) P p = p
@@ -85,7 +85,7 @@ module _ {S : Type 0} where
     was_at : (i : ℕ) (q : Key) → is_key k q ≡ true → is_target ts i q ≡ leads_to i (lookup (is_key k) xs)
     was_at i q a = h.targets i q ∙ ap (λ (p : Key). leads_to i (lookup (is_key p) xs)) (sym (key_same k q a))
 
-    -- a key that had no route to another link
+    -- the key had no route to another link
     pub routed_there : ((i : ℕ) → (id == i) ≡ false → leads_to i (lookup (is_key k) xs) ≡ false) → AreRoutes us vs
     routed_there only = record {
       unique = unique;
@@ -98,7 +98,7 @@ module _ {S : Type 0} where
       ];
     }
 
-    -- a key that had one
+    -- the key had a route to another link
     pub routed_away : (ws : List (ℕ × HashSet Key S)) (old : ℕ) → lookup (is_key k) xs ≡ Some old → (old == id) ≡ false
         → IsTargetSet vs ws old k false → AreRoutes us ws
     routed_away ws old at other w = record {
@@ -115,7 +115,7 @@ module _ {S : Type 0} where
       ];
     }
 
-  -- without the keys of a link its routes are gone
+  -- removing the keys of a link removes its routes
   pub link_unlinks : (xs us : Entries) (ts : List (ℕ × HashSet Key S)) (id : ℕ) (keys : HashSet Key S) → AreRoutes xs ts
       → lookup (λ i. id == i) ts ≡ Some keys
       → ((q : Key) → lookup (is_key q) us ≡ left_of keys.keys q (lookup (is_key q) xs)) → Unlinks xs us id
@@ -123,14 +123,14 @@ module _ {S : Type 0} where
       let there : is_target ts id q ≡ list_any (is_key q) keys.keys = rw at refl in
       s q ∙ left_filtered id (list_any (is_key q) keys.keys) (lookup (is_key q) xs) (sym there ∙ h.targets id q)
 
-  -- where a link has no keys it has no routes
+  -- a link without keys has no routes
   pub none_unlinks : (xs : Entries) (ts : List (ℕ × HashSet Key S)) (id : ℕ) → AreRoutes xs ts
       → lookup (λ i. id == i) ts ≡ None → Unlinks xs xs id
   none_unlinks xs ts id h at q =
       let there : is_target ts id q ≡ false = rw at refl in
       left_filtered id false (lookup (is_key q) xs) (sym there ∙ h.targets id q)
 
-  -- without a link and its routes
+  -- without the link and its routes
   pub unlinked_whole : (xs us : Entries) (ts vs : List (ℕ × HashSet Key S)) (id : ℕ) → AreRoutes xs ts
       → IsDistinct is_key (keys_of us) → Unlinks xs us id
       → ((i : ℕ) → lookup (λ j. i == j) vs ≡ cond (id == i) None (lookup (λ j. i == j) ts)) → AreRoutes us vs
@@ -147,7 +147,7 @@ module _ {S : Type 0} where
 
   -- the sets after a change of the table that holds them
 
-  -- a set written back with the same keys
+  -- a set that is written back with the same keys
   pub same_set : (ts vs : List (ℕ × HashSet Key S)) (id : ℕ) (s w : HashSet Key S) → lookup (λ j. id == j) ts ≡ Some s
       → w.keys ≡ s.keys
       → ((i : ℕ) → lookup (λ j. i == j) vs ≡ cond (id == i) (Some w) (lookup (λ j. i == j) ts)) → (i : ℕ) (q : Key)
@@ -162,7 +162,7 @@ module _ {S : Type 0} where
         | inr a ↦ rw a refl
       ]
 
-  -- a first key, under an id that had no set
+  -- a first key, at an id that had no set
   pub new_set : (ts vs : List (ℕ × HashSet Key S)) (id : ℕ) (k : Key) (w : HashSet Key S)
       → lookup (λ j. id == j) ts ≡ None → ((q : Key) → list_any (is_key q) w.keys ≡ is_key k q)
       → ((i : ℕ) → lookup (λ j. i == j) vs ≡ cond (id == i) (Some w) (lookup (λ j. i == j) ts))
@@ -177,7 +177,7 @@ module _ {S : Type 0} where
         | inr a ↦ rw a refl
       ]
 
-  -- no key goes from a set that isn't there
+  -- no key is removed from a set that does not exist
   pub no_set : (ts : List (ℕ × HashSet Key S)) (id : ℕ) (k : Key) → lookup (λ j. id == j) ts ≡ None
       → IsTargetSet ts ts id k false
   no_set ts id k at i q = elim (cases_Bool (id == i)) [
@@ -204,7 +204,7 @@ module _ {S : Type 0} where
         rw (a, b) (targets_again ts vs h.1 i q)
   ]
 
-  -- of both tables
+  -- a copy of both tables
   pub copied_whole : (xs us : Entries) (ts vs : List (ℕ × HashSet Key S)) → AreRoutes xs ts → us ≡ xs
       → AllZip (λ p q. (q.0 ≡ p.0) × AllZip (λ x y. (y.0 ≡ x.0) × (y.1 ≡ x.1)) p.1.keys q.1.keys) ts vs
       → AreRoutes us vs

@@ -1,4 +1,4 @@
--- What a contract sees of a table of bindings.
+-- The value of a table of bindings, as contracts see it.
 use Rattle.std.specs.Prelude.{ℕ, Bool, ◌==◌, ◌&&◌, ◌||◌, List}
 use Rattle.std.specs.List.{list_any}
 use Rattle.smx_types.specs.declared.link.Binding.{Binding}
@@ -15,15 +15,15 @@ address_of b = (b.driver, b.addr)
 abbrev pub stream_of : Binding → Key
 stream_of b = (b.driver, b.minor)
 
--- by driver and address, so that no address comes twice, and no stream twice either
+-- by driver and address, so without duplicate addresses, and without duplicate streams
 pub record IsBindingList (binds : List Binding) : Type 0 where
   pub rise : IsRising bind_before binds
   pub streams : AreApart stream_of binds
 
--- it is the stream's binding
+-- the binding is the stream's
 abbrev pub is_binding_of : StreamId → Binding → Bool
 is_binding_of s b = (b.driver == s.driver) && (b.minor == s.minor)
 
--- its driver has bound the address, or the stream has one
+-- the driver has bound the address, or the stream has an address
 abbrev pub is_taken : List Binding → StreamId → ℕ → Bool
 is_taken binds s addr = list_any (λ b. (b.driver == s.driver) && ((b.addr == addr) || (b.minor == s.minor))) binds

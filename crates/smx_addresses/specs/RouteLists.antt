@@ -1,4 +1,4 @@
--- What a contract sees of a table of routes.
+-- The value of a table of routes, as contracts see it.
 use Rattle.std.specs.Prelude.{ℕ, Bool, ◌&&◌, ◌==◌, List}
 use Rattle.smx_types.specs.declared.link.Route.{Route}
 use Rattle.smx_model.specs.Configuration.{route_before}
@@ -9,10 +9,10 @@ use Rattle.smx_addresses.specs.Keys.{Key}
 abbrev pub target_of : Route → Key
 target_of r = (r.driver, r.addr)
 
--- it is the driver's route for the address
+-- the route is the driver's for this address
 abbrev pub is_route : ℕ → ℕ → Route → Bool
 is_route driver addr r = (r.driver == driver) && (r.addr == addr)
 
--- by driver and address, so that no address comes twice
+-- by driver and address, so without duplicate addresses
 abbrev pub IsRouteList : List Route → Type 0
 IsRouteList routes = IsRising route_before routes

@@ -11,12 +11,12 @@ use smx_types::{Binding, NoMemory, StreamId};
 use std::alloc::Global;
 use std::marker::Model;
 
-/// Which stream each address of a driver is bound to. A contract sees the list of bindings, by driver and address.
+/// The stream that each address of a driver is bound to. Contracts see the list of bindings, by driver and address.
 #[derive(Debug, Drop)]
 pub struct Bindings {
-    // The minor at a driver and an address.
+    // The minor for each driver and address.
     minors: IndexMap<Key, u8>,
-    // The address at a driver and a minor.
+    // The address for each driver and minor.
     addrs: IndexMap<Key, u32>,
 }
 
@@ -34,7 +34,7 @@ impl Model for Bindings {
 }
 
 impl Bindings {
-    /// Nothing is bound. The table keeps the allocator.
+    /// Makes an empty table, which keeps the allocator.
     pub fn new(alloc: Global) -> Bindings
         ensures { result ≡ [] }
     {
@@ -44,7 +44,7 @@ impl Bindings {
         }
     }
 
-    /// The binding of a driver's address. One look-up.
+    /// Returns the binding of a driver's address. Does one look-up.
     pub fn at(&self, driver: u8, addr: u32) -> Option<Binding>
         ensures { result ≡ find (λ b. (b.driver == driver) && (b.addr == addr)) self.now }
     {
@@ -56,7 +56,7 @@ impl Bindings {
         })
     }
 
-    /// The binding of a stream. One look-up.
+    /// Returns the binding of a stream. Does one look-up.
     pub fn of(&self, stream: StreamId) -> Option<Binding>
         ensures { result ≡ find (is_binding_of stream) self.now }
     {
@@ -68,15 +68,15 @@ impl Bindings {
         })
     }
 
-    /// Whether the stream's driver has bound the address, or the stream has one. Two look-ups.
+    /// Returns whether the stream's driver has bound the address, or the stream has an address. Does two look-ups.
     pub fn is_taken(&self, stream: StreamId, addr: u32) -> bool
         ensures { result ≡ is_taken self.now stream addr }
     {
         self.minors.contains_key(&(stream.driver, addr)) || self.addrs.contains_key(&key_of(stream))
     }
 
-    /// Binds a stream that has no address to one that its driver has not bound. Fails only for want of memory, and
-    /// nothing has then changed.
+    /// Binds a stream that has no address to an address that its driver has not bound. Fails only if out of memory,
+    /// and then changes nothing.
     pub fn bind(&mut self, stream: StreamId, addr: u32) -> Result<(), NoMemory>
         requires { is_taken self.old stream addr ≡ false }
         ensures ok { OnOk result (self.new ≡ with_inserted bind_before self.old
@@ -92,7 +92,7 @@ impl Bindings {
         Ok(())
     }
 
-    /// Takes the stream's binding away, and no other; None where it has none. Takes no memory.
+    /// Removes only the stream's binding. Returns `None` if it has none. Does not allocate.
     pub fn unbind(&mut self, stream: StreamId) -> Option<Binding>
         ensures binding { result ≡ find (is_binding_of stream) self.old }
         ensures rest { self.new ≡ filter (λ b. not (is_binding_of stream b)) self.old }
@@ -106,23 +106,24 @@ impl Bindings {
         })
     }
 
-    /// The number of bindings.
+    /// Returns the number of bindings.
     pub fn len(&self) -> usize
         ensures { result ≡ length self.now }
     {
         self.minors.len()
     }
 
-    /// Whether nothing is bound.
+    /// Returns whether there are no bindings.
     pub fn is_empty(&self) -> bool
         ensures { result ≡ (length self.now == 0) }
     {
         self.len() == 0
     }
 
-    /// The bindings, by driver and address. Fails only for want of memory.
+    /// Returns the bindings, by driver and address. No stream has two.
     pub fn list(&self, alloc: Global) -> Result<Vec<Binding>, NoMemory>
-        ensures { IfOk result (λ v. v.items ≡ self.now) }
+        ensures value { IfOk result (λ v. v.items ≡ self.now) }
+        ensures order { IfOk result (λ v. IsBindingList v.items) }
     {
         let mut list = Vec::with_capacity(alloc, self.minors.len())?;
         for (key, minor) in self.minors.iter() {
@@ -136,8 +137,8 @@ impl Bindings {
         Ok(list)
     }
 
-    /// What every table is: its bindings rise, and no stream has two. It does nothing: a caller who needs these facts
-    /// calls it.
+    /// Ensures the properties of every table: its bindings rise, and no stream has two. Does nothing: a caller calls
+    /// it to use these facts.
     pub fn is_sound(&self)
         ensures { IsBindingList self.now }
     {
@@ -145,13 +146,19 @@ impl Bindings {
         let _minors = &self.minors;
     }
 
-    /// The same table again, by the allocator that this one has. Fails only for want of memory.
-    pub fn copy(&self) -> Result<Bindings, NoMemory>
+    /// Copies the table into memory from this allocator, which the copy keeps.
+    pub fn copy(&self, alloc: Global) -> Result<Bindings, NoMemory>
         ensures { IfOk result (λ t. t ≡ self.now) }
     {
-        Ok(Bindings {
-            minors: self.minors.clone()?,
-            addrs: self.addrs.clone()?,
-        })
+        let list = self.list(alloc)?;
+        let mut copy = Bindings::new(alloc);
+        for binding in &list {
+            let stream = StreamId {
+                driver: binding.driver,
+                minor: binding.minor,
+            };
+            copy.bind(stream, binding.addr)?;
+        }
+        Ok(copy)
     }
 }

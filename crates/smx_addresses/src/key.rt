@@ -4,10 +4,10 @@ ghost use Rattle.std.specs.Prelude.{◌≡◌};
 
 use smx_types::StreamId;
 
-/// A driver, and an address or a minor of it.
+/// A driver, and an address or a minor.
 pub type Key = (u8, u32);
 
-// The stream as a key.
+// Returns the stream as a key.
 pub fn key_of(stream: StreamId) -> Key
     ensures { result ≡ (stream.driver, stream.minor) }
 {

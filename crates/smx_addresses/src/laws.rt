@@ -1,4 +1,4 @@
-//! By which calls a list is told from another.
+//! Look-ups that determine a list.
 
 ghost use Rattle.std.specs.Prelude.{◌≡◌, ◌==◌, ◌&&◌, List, Some, find, length};
 ghost use Rattle.std.specs.List.{All};
@@ -7,13 +7,13 @@ ghost use Rattle.smx_types.specs.declared.link.Route.{Route};
 ghost use Rattle.smx_model.specs.Configuration.{bind_before, route_before};
 ghost use Rattle.smx_model.specs.Ordered.{IsRising};
 
-/// As many bindings as a list has, in order, each of which is found there under its address, are that list.
+/// If bindings are in order, as many as a list has, and each is found in the list at its address, they are that list.
 pub fn look_ups_tell_bindings()
     ensures { (xs ys : List Binding) → IsRising bind_before xs → IsRising bind_before ys → length xs ≡ length ys
         → All (λ x. find (λ b. (b.driver == x.driver) && (b.addr == x.addr)) ys ≡ Some x) xs → xs ≡ ys }
 {}
 
-/// The same of routes.
+/// The same law for routes.
 pub fn look_ups_tell_routes()
     ensures { (xs ys : List Route) → IsRising route_before xs → IsRising route_before ys → length xs ≡ length ys
         → All (λ x. find (λ r. (r.driver == x.driver) && (r.addr == x.addr)) ys ≡ Some x) xs → xs ≡ ys }

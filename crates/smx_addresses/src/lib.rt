@@ -1,4 +1,4 @@
-//! Which stream an address of a driver is bound to, and which link it is routed to.
+//! The stream that each address of a driver is bound to, and the link that it is routed to.
 #![tactic(auto)]
 
 mod bindings;

@@ -16,14 +16,14 @@ use smx_types::{NoMemory, Route};
 use std::alloc::Global;
 use std::marker::Model;
 
-/// Which link each address of a driver is routed to. A contract sees the list of routes, by driver and address.
+/// The link that each address of a driver is routed to. Contracts see the list of routes, by driver and address.
 #[derive(Debug, Drop)]
 pub struct Routes {
-    // The link's id at a driver and an address.
+    // The link id for each driver and address.
     ids: IndexMap<Key, u32>,
     // The routes to each link.
     targets: Targets,
-    // The sets of links that have gone.
+    // Empty sets of removed links, for reuse.
     spare_sets: SpareSets,
 }
 
@@ -40,7 +40,7 @@ impl Model for Routes {
     ghost invariant = { λ t. AreRoutes t.ids.entries t.targets.entries };
 }
 
-// Takes out what is under each of these keys.
+// Removes the entries at these keys.
 fn take_each(ids: &mut IndexMap<Key, u32>, keys: &[Key])
     requires { IsDistinct is_key (keys_of ids.old.entries) }
     ensures rest { (q : AnyKey) → lookup (is_key q) ids.new.entries
@@ -53,7 +53,7 @@ fn take_each(ids: &mut IndexMap<Key, u32>, keys: &[Key])
 }
 
 impl Routes {
-    /// Nothing is routed. The table keeps the allocator.
+    /// Makes an empty table, which keeps the allocator.
     pub fn new(alloc: Global) -> Routes
         ensures { result ≡ [] }
     {
@@ -64,7 +64,7 @@ impl Routes {
         }
     }
 
-    /// The route of a driver's address. One look-up.
+    /// Returns the route of a driver's address. Does one look-up.
     pub fn at(&self, driver: u8, addr: u32) -> Option<Route>
         ensures { result ≡ find (is_route driver addr) self.now }
     {
@@ -72,8 +72,8 @@ impl Routes {
         Some(Route { driver, addr, id })
     }
 
-    /// Routes a driver's address to a link, in place of the route that it has. Fails only for want of memory, and
-    /// nothing has then changed.
+    /// Routes a driver's address to a link, in place of the route that it has. Fails only if out of memory, and
+    /// then changes nothing.
     pub fn route(&mut self, driver: u8, addr: u32, id: u32) -> Result<(), NoMemory>
         ensures ok { OnOk result (self.new ≡ with_inserted route_before
             (filter (λ r. not (is_route driver addr r)) self.old)
@@ -91,7 +91,7 @@ impl Routes {
         Ok(())
     }
 
-    /// Takes the address's route away, and no other; None where it has none. Takes no memory.
+    /// Removes only the address's route. Returns `None` if it has none. Does not allocate.
     pub fn unroute(&mut self, driver: u8, addr: u32) -> Option<Route>
         ensures route { result ≡ find (is_route driver addr) self.old }
         ensures rest { self.new ≡ filter (λ r. not (is_route driver addr r)) self.old }
@@ -102,7 +102,7 @@ impl Routes {
         Some(Route { driver, addr, id })
     }
 
-    /// Takes away all routes to a link, and no others. It costs what these are. Takes no memory.
+    /// Removes all routes to a link, and no others, in time proportional to their number. Does not allocate.
     pub fn unroute_link(&mut self, id: u32)
         ensures { self.new ≡ filter (λ r. not (r.id == id)) self.old }
     {
@@ -112,7 +112,7 @@ impl Routes {
         }
     }
 
-    /// The same, for each of these links.
+    /// Removes all routes to each of these links, and no others.
     pub fn unroute_links(&mut self, ids: &[u32])
         ensures { self.new ≡ filter (λ r. not (list_any (λ id. r.id == id) ids.now)) self.old }
     {
@@ -121,23 +121,24 @@ impl Routes {
         }
     }
 
-    /// The number of routes.
+    /// Returns the number of routes.
     pub fn len(&self) -> usize
         ensures { result ≡ length self.now }
     {
         self.ids.len()
     }
 
-    /// Whether nothing is routed.
+    /// Returns whether there are no routes.
     pub fn is_empty(&self) -> bool
         ensures { result ≡ (length self.now == 0) }
     {
         self.len() == 0
     }
 
-    /// The routes, by driver and address. Fails only for want of memory.
+    /// Returns the routes, by driver and address.
     pub fn list(&self, alloc: Global) -> Result<Vec<Route>, NoMemory>
-        ensures { IfOk result (λ v. v.items ≡ self.now) }
+        ensures value { IfOk result (λ v. v.items ≡ self.now) }
+        ensures order { IfOk result (λ v. IsRouteList v.items) }
     {
         let mut list = Vec::with_capacity(alloc, self.ids.len())?;
         for (key, id) in self.ids.iter() {
@@ -151,7 +152,7 @@ impl Routes {
         Ok(list)
     }
 
-    /// What every table is: its routes rise. It does nothing: a caller who needs this fact calls it.
+    /// Ensures the property of every table: its routes rise. Does nothing: a caller calls it to use this fact.
     pub fn is_sound(&self)
         ensures { IsRouteList self.now }
     {
@@ -159,14 +160,15 @@ impl Routes {
         let _ids = &self.ids;
     }
 
-    /// The same table again, by the allocator that this one has. Fails only for want of memory.
-    pub fn copy(&self) -> Result<Routes, NoMemory>
+    /// Copies the table into memory from this allocator, which the copy keeps.
+    pub fn copy(&self, alloc: Global) -> Result<Routes, NoMemory>
         ensures { IfOk result (λ t. t ≡ self.now) }
     {
-        Ok(Routes {
-            ids: self.ids.clone()?,
-            targets: self.targets.clone()?,
-            spare_sets: SpareSets::new(*self.ids.allocator()),
-        })
+        let list = self.list(alloc)?;
+        let mut copy = Routes::new(alloc);
+        for route in &list {
+            copy.route(route.driver, route.addr, route.id)?;
+        }
+        Ok(copy)
     }
 }

@@ -1,4 +1,4 @@
-//! The memory of small sets that have gone, kept for later ones.
+//! Small sets of removed links, kept so that later links reuse their memory.
 
 ghost use Rattle.std.specs.Prelude.{◌≡◌, [], IfOk};
 
@@ -7,22 +7,22 @@ use indexmap::IndexSet;
 use smx_types::NoMemory;
 use std::alloc::Global;
 
-// How many keys a small set has room for at most.
+// The maximum capacity of a small set, in keys.
 const SMALL_ROOM: usize = 16;
 
-// How many sets are kept at most.
+// The maximum number of sets that are kept.
 const MOST_KEPT: usize = 1024;
 
-/// Sets with room for a few keys each. What they have is of sets that have gone: no clause speaks of it.
+/// Small sets whose links were removed. They may still contain old keys; no clause speaks of their contents.
 #[derive(Debug, Drop)]
 pub struct SpareSets {
     sets: Vec<IndexSet<Key>>,
-    // How many sets were made, as far as they are kept: the list has a place for each.
+    // The number of sets that were made, up to the maximum: the list has room for each.
     made: usize,
 }
 
 impl SpareSets {
-    /// None yet. Takes no memory.
+    /// Makes an empty list. Does not allocate.
     pub fn new(alloc: Global) -> SpareSets {
         SpareSets {
             sets: Vec::new(alloc),
@@ -30,8 +30,8 @@ impl SpareSets {
         }
     }
 
-    /// A set without keys: one of these, if there is any; else a new one, for which a place is made ready here, so that
-    /// `keep` takes no memory. Fails only for want of memory.
+    /// Returns a set without keys: a kept one, if there is one; otherwise a new one. For a new one it reserves a
+    /// place in the list, so that `keep` does not allocate. Fails only if out of memory.
     pub fn take(&mut self, alloc: Global) -> Result<IndexSet<Key>, NoMemory>
         ensures { IfOk result (λ s. s.keys ≡ []) }
     {
@@ -47,7 +47,7 @@ impl SpareSets {
         Ok(IndexSet::new(alloc))
     }
 
-    /// Keeps a set, where it is small and there is a place for it. Takes no memory.
+    /// Keeps a set, if it is small and there is a place for it. Does not allocate.
     pub fn keep(&mut self, set: IndexSet<Key>) {
         if set.capacity() <= SMALL_ROOM && self.sets.len() < self.sets.capacity() {
             self.sets.push_reserved(set);

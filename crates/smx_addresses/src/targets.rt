@@ -9,11 +9,11 @@ use crate::spare_sets::SpareSets;
 use indexmap::{IndexMap, IndexSet};
 use smx_types::NoMemory;
 
-/// A set of keys under the id of each link that has had a route since it was made.
+/// A set of keys at the id of each link that has had a route since it was made.
 pub type Targets = IndexMap<u32, IndexSet<Key>>;
 
-// One key more of a link, or the same where it has that. A link that has none gets a set, in the memory of one that has
-// gone where any is kept.
+// Adds a key to a link's set, if it isn't there. A link without a set gets one, which reuses a kept set if
+// there is one.
 pub fn put_target(
     targets: &mut Targets,
     spare: &mut SpareSets,
@@ -34,7 +34,7 @@ pub fn put_target(
     Ok(())
 }
 
-// One key less of a link.
+// Removes a key from a link's set.
 pub fn drop_target(targets: &mut Targets, id: u32, key: Key)
     ensures { IsTargetSet targets.old.entries targets.new.entries id key false }
 {

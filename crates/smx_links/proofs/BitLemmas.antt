@@ -1,14 +1,13 @@
--- Bits of words, and what one link more joins.
-use Rattle.std.proofs.Common.{◌≡◌, ℕ, zero, suc, ◌<◌, ◌≤◌, ◌^◌, Bool, true, false, ◌&&◌, ◌||◌, eqb, cond, List, length}
-use Rattle.std.proofs.Common.{◌+◌, ◌*◌, ◌/◌, ◌%◌, get_or, max, min, bit_and, bit_or, not, refl, sym, ap, ◌∙◌, arith}
+-- Bits of words, and the bits that one more link adds.
+use Rattle.std.proofs.Common.{◌≡◌, ℕ, ◌<◌, ◌≤◌, ◌^◌, Bool, true, false, ◌&&◌, ◌||◌, eqb, cond, List, length}
+use Rattle.std.proofs.Common.{get_or, max, bit_or, refl, sym, ap, ◌∙◌, arith}
 use Rattle.std.proofs.Common.{inl, inr}
 use Rattle.std.proofs.Math.Bool.{or-false, or_comm}
 use Rattle.std.specs.Int.{bit_at}
-use Rattle.std.proofs.lemmas.Bool.{eqb-true, eq-eqb, cases_eq, cases_lt, false_from_ne_true, ne_eqb}
+use Rattle.std.proofs.lemmas.Bool.{eqb-true, eq-eqb, cases_eq, cases_lt, false_from_ne_true}
 use Rattle.std.proofs.lemmas.List.{get_or_past}
-use Rattle.std.proofs.lemmas.Nat.Bits.{bit_at_and, bit_at_or, bit_at-lt, bit_at-pow_same, bit_at-pow_other, bit_at-zero}
-use Rattle.std.proofs.lemmas.Nat.Bits.{and_pow, bit_at_above}
-use Rattle.std.proofs.lemmas.Nat.{pow_pos, pow-add, shr-shr, one_shl}
+use Rattle.std.proofs.lemmas.Nat.Bits.{bit_at_or, bit_at-lt, bit_at-pow_same, bit_at-pow_other, bit_at-zero}
+use Rattle.std.proofs.lemmas.Nat.Bits.{bit_at_above}
 use Rattle.std.proofs.lemmas.Bool.Decides.{nat_tests}
 use Rattle.smx_links.specs.declared.masks.TheConstants.{WORD_BITS}
 use Rattle.smx_links.specs.Masks.{is_set, has_bit, AreJoined}
@@ -17,7 +16,7 @@ use Rattle.smx_links.specs.Masks.{is_set, has_bit, AreJoined}
 set_max : (x y : ℕ) → x < 2 → y < 2 → eqb (max x y) 1 ≡ (eqb x 1 || eqb y 1)
 set_max x y h k = grind (arith, nat_tests)
 
--- the bits of both words
+-- the bits of a union are the bits of both words
 pub is_set_or : (v w b : ℕ) → is_set (bit_or v w) b ≡ (is_set v b || is_set w b)
 is_set_or v w b = rw (bit_at_or v w b) (set_max (bit_at v b) (bit_at w b) (bit_at-lt v b) (bit_at-lt w b))
 
@@ -29,19 +28,19 @@ is_set_pow k b = elim (cases_eq b k) [
       ∙ sym (false_from_ne_true (eqb k b) (λ t. other (sym (eqb-true k b t))))
 ]
 
--- 0 has none
+-- 0 has no bits
 pub is_set_zero : (b : ℕ) → is_set 0 b ≡ false
 is_set_zero b = ap (λ x. eqb x 1) (bit_at-zero b)
 
--- a word has no bit past its last
+-- no bit of a word is set past its last one
 pub is_set_past : (w b : ℕ) → w < 2 ^ WORD_BITS → WORD_BITS ≤ b → false ≡ is_set w b
 is_set_past w b fits past = sym (ap (λ x. eqb x 1) (bit_at_above w WORD_BITS b fits past))
 
--- word a, with the bits of r where a is u or reaches it
+-- word a, with the bits of r added if a is u or reaches u
 abbrev pub joined_word : List ℕ → ℕ → ℕ → ℕ → ℕ
 joined_word ws u r a = cond (eqb a u || has_bit ws a u) (bit_or (get_or ws a 0) r) (get_or ws a 0)
 
--- which bits those are
+-- the bits of a joined word
 joined_bits : (c : Bool) (w x k b : ℕ) → is_set (cond c (bit_or w (bit_or x (2 ^ k))) w) b
     ≡ (is_set w b || (c && (eqb k b || is_set x b)))
 joined_bits true w x k b = is_set_or w (bit_or x (2 ^ k)) b
@@ -49,11 +48,11 @@ joined_bits true w x k b = is_set_or w (bit_or x (2 ^ k)) b
     ∙ or_comm (is_set x b) (eqb k b))
 joined_bits false w x k b = sym (or-false (is_set w b))
 
--- there are no bits past the last word
+-- no bit is set past the last word
 pub past_bits : (ws : List ℕ) (a b : ℕ) → length ws ≤ a → has_bit ws a b ≡ false
 past_bits ws a b h = rw (get_or_past ws a 0 h) (is_set_zero b)
 
--- words that are joined so, each of them, are joined
+-- if each word is joined in this way, the words are joined
 pub joined_words : (old new : List ℕ) (u k : ℕ) → u < length old → length new ≡ length old
     → ((a : ℕ) → a < length old → get_or new a 0 ≡ joined_word old u (bit_or (get_or old k 0) (2 ^ k)) a)
     → AreJoined old u k new
@@ -65,36 +64,3 @@ joined_words old new u k below long each a b = elim (cases_lt a (length old)) [
       let no : (b : ℕ) → has_bit old a b ≡ false = λ b. past_bits old a b past in
       past_bits new a b (omega arith) ∙ sym (rw (no b, no u, far) refl)
 ]
-
--- the bits that both words have
-pub is_set_and : (v w b : ℕ) → is_set (bit_and v w) b ≡ (is_set v b && is_set w b)
-is_set_and v w b = rw (bit_at_and v w b) (set_min (bit_at v b) (bit_at w b) (bit_at-lt v b) (bit_at-lt w b)) where
-  set_min : (x y : ℕ) → x < 2 → y < 2 → eqb (min x y) 1 ≡ (eqb x 1 && eqb y 1)
-  set_min x y h k = grind (arith, nat_tests)
-
--- a word has a bit exactly where it meets the word of that bit alone
-pub meets_bit : (w b : ℕ) → not (eqb (bit_and w (2 ^ b)) 0) ≡ is_set w b
-meets_bit w b = rw (and_pow w b) (some (bit_at w b) (2 ^ b) (bit_at-lt w b) (pow_pos b)) where
-  some : (x p : ℕ) → x < 2 → 0 < p → not (eqb (x * p) 0) ≡ eqb x 1
-  some zero p h k = ap not (eq-eqb (0 * p) 0 (omega arith))
-  some (suc zero) p h k = ap not (ne_eqb (1 * p) 0 (λ e. absurd (omega (arith, e, k))))
-  some (suc (suc x)) p h k = absurd (omega arith)
-
--- the bits above the lowest one are each a place lower in the half
-pub set_above : (w b : ℕ) → is_set (w / 2) b ≡ is_set w (b + 1)
-set_above w b = ap (λ n. eqb (n % 2) 1) (shr-shr w 1 b ∙ ap (λ k. w / 2 ^ k) (omega arith))
-
--- the next power of two, of a word that has room for it
-pub next_power : (b lone : ℕ) → b + 1 < WORD_BITS → lone ≡ 2 ^ b → lone * 2 % 2 ^ WORD_BITS ≡ 2 ^ (b + 1)
-next_power b lone fits is =
-    let twice : lone * 2 ≡ 1 * 2 ^ (b + 1) = ap (λ n. n * 2) is ∙ sym (pow-add 2 b 1) ∙ omega arith in
-    ap (λ n. n % 2 ^ WORD_BITS) twice ∙ one_shl (b + 1) WORD_BITS fits
-
--- one bit more
-pub is_set_with : (w k b : ℕ) → is_set (bit_or w (2 ^ k)) b ≡ (is_set w b || eqb k b)
-is_set_with w k b = is_set_or w (2 ^ k) b ∙ ap (λ (x : Bool). is_set w b || x) (is_set_pow k b)
-
--- a word without the bits that are cleared
-pub cleared_bit : (s : Bool) (w b : ℕ) → is_set (cond s 0 w) b ≡ (not s && is_set w b)
-cleared_bit true w b = is_set_zero b
-cleared_bit false w b = refl

@@ -1,12 +1,7 @@
 pub mod BitLemmas
-pub mod RowLemmas
 pub mod LowerLemmas
 pub mod MaskLemmas
-pub mod TwinLemmas
-pub mod CountLemmas
-pub mod PairLemmas
 pub mod IdLemmas
+pub mod KeyLemmas
 pub mod LinkTableLemmas
-pub mod PlaceLemmas
 pub mod UpperLemmas
-pub mod StaleLemmas

@@ -1,29 +1,53 @@
--- A table of links, made and changed.
-use Rattle.std.proofs.Common.{◌≡◌, ℕ, ◌<◌, ◌+◌, Bool, true, false, ◌||◌, ◌==◌, eqb, leb, not, List, [], ◌∷◌, ◌++◌}
-use Rattle.std.proofs.Common.{length, filter, take, drop, Option, Some, None, refl, sym, ap, ◌∙◌, arith}
-use Rattle.std.proofs.Common.{length-append, if◌then◌else◌, inl, inr}
-use Rattle.std.proofs.lemmas.Bool.{cases_Bool, leb-false, or_parts}
-use Rattle.std.proofs.lemmas.List.{take_at}
-use Rattle.std.specs.List.{All}
-use Rattle.std.proofs.lemmas.List.Elements.{All-push, All-filter}
-use Rattle.smx_types.specs.declared.limits.TheConstants.{MAX_LINKS, NUMBER_END}
+-- A table of links: how it is made and changed.
+use Rattle.std.proofs.Common.{◌≡◌, ℕ, zero, suc, ◌<◌, ◌≤◌, ◌+◌, Bool, true, false, ◌||◌, eqb, leb, List, [], ◌∷◌, ◌++◌}
+use Rattle.std.proofs.Common.{length, filter, get_or, replicate, take, drop, Option, Some, None, refl, arith}
+use Rattle.std.proofs.Common.{length-append, if◌then◌else◌}
+use Rattle.std.proofs.lemmas.Bool.{leb-false, or_parts}
+use Rattle.std.proofs.lemmas.List.{length-replicate, take_at}
+use Rattle.std.proofs.lemmas.List.Elements.{All-nil, All-push, All-filter}
+use Rattle.std.proofs.lemmas.List.Sums.{length-filter, count_by-le-length}
+use Rattle.smx_types.specs.declared.limits.TheConstants.{MAX_DRIVERS, MAX_LINKS, NUMBER_END}
 use Rattle.smx_types.specs.declared.link.Link.{Link}
 use Rattle.smx_types.specs.declared.link.LinkKind.{LinkKind}
 use Rattle.smx_types.specs.declared.stream.StreamId.{StreamId}
 use Rattle.smx_model.specs.Paths.{reaches}
-use Rattle.smx_model.specs.SoundLinks.{AreLinksSound, AreIdsRising}
 use Rattle.smx_model.specs.Standing.{is_below}
+use Rattle.smx_model.proofs.IdLemmas.{ids_filter, ids_none, ids_push}
+use Rattle.smx_model.proofs.SoundLemmas.{sound_empty, sound_filter, sound_push}
 use Rattle.smx_links.specs.declared.link_fault.LinkFault.{LinkFault}
-use Rattle.smx_links.specs.Ids.{Rows, HasIds}
-use Rattle.smx_links.specs.LinkLists.{LinkList, ordinary_of, others_of, refusal, without_id, without_ids}
-use Rattle.smx_links.specs.Masks.{AreMasks, IsWithin, LeadAlikeBut}
-use Rattle.smx_links.specs.Pairs.{AreCounts, with_one_more}
+use Rattle.smx_links.specs.LinkLists.{LinkList, refusal}
+use Rattle.smx_links.specs.Masks.{AreMasks, IsWithin}
 use Rattle.smx_links.specs.TableFields.{AreParts, list_of_parts}
-use Rattle.smx_links.proofs.CountLemmas.{counts_more, fewer}
+use Rattle.smx_links.proofs.BitLemmas.{is_set_zero}
 
--- no refusal applies
+-- no links
 
--- where the first of three refusals that applies is none, none of them applies
+-- n words that are 0
+abbrev pub no_bits : ℕ → List ℕ
+no_bits n = replicate n 0
+
+-- each of these words is 0
+zeros : (n a : ℕ) → get_or (no_bits n) a 0 ≡ 0
+zeros zero a = refl
+zeros (suc n) zero = refl
+zeros (suc n) (suc a) = zeros n a
+
+-- these words are the masks of no links
+pub no_masks : (n : ℕ) → AreMasks [] (no_bits n)
+no_masks n a b = rw (zeros n a) (is_set_zero b)
+
+-- the fields of a table without links
+pub parts_empty : (n : ℕ) → n ≤ MAX_DRIVERS → AreParts (no_bits n) [] 1
+parts_empty n h = record {
+  list = record { sound = sound_empty; ids = ids_none; few = omega arith; numbered = omega arith };
+  within = All-nil _;
+  few = rw (length-replicate {A = ℕ} n 0) h;
+  masks = no_masks n;
+}
+
+-- no refusal
+
+-- if none of three conditions is the first that applies, none of them applies
 not_refused : (x y z : LinkFault) (a b c : Bool)
     → ◌≡◌ {A = Option LinkFault} (if a then Some x else if b then Some y else if c then Some z else None) None
     → (a ≡ false) × (b ≡ false) × (c ≡ false)
@@ -32,14 +56,14 @@ not_refused x y z false true c h = absurd cc
 not_refused x y z false false true h = absurd cc
 not_refused x y z false false false h = (refl, refl, refl)
 
--- what is known of streams where no refusal applies to a link between them
+-- what holds of two streams if no refusal applies to a link between them
 pub record IsFree (t : LinkList) (ctl lower : StreamId) : Type 0 where
   pub below : is_below t.links lower ≡ false
   pub apart : (eqb lower.driver ctl.driver || reaches t.links lower.driver ctl.driver) ≡ false
   pub few : length t.links < MAX_LINKS
   pub numbered : t.next_id < NUMBER_END
 
--- where no refusal applies, this is known
+-- if no refusal applies, these facts hold
 pub is_free : (t : LinkList) (ctl lower : StreamId) → refusal t ctl lower ≡ None → IsFree t ctl lower
 is_free t ctl lower h =
     let each = not_refused _ _ _ _ _ _ h in
@@ -52,77 +76,48 @@ is_free t ctl lower h =
       numbered = leb-false NUMBER_END t.next_id room.1;
     }
 
--- one link more
+-- one more link
 
--- the fields of a table with one link more
-pub parts_push : (ws vs : List ℕ) (ls os ks : List Link) (es fs : Rows) (ps : List ℕ) (n : ℕ)
-    (ctl lower : StreamId) (kind : LinkKind) → AreParts ws ls os es ps n → IsFree (list_of_parts ws ls n) ctl lower
-    → ctl.driver < length ws → lower.driver < length ws
-    → AreLinksSound (ls ++ record { id = n; ctl = ctl; lower = lower; kind = kind } ∷ [])
-    → AreIdsRising (ls ++ record { id = n; ctl = ctl; lower = lower; kind = kind } ∷ []) (n + 1)
-    → HasIds fs (ls ++ record { id = n; ctl = ctl; lower = lower; kind = kind } ∷ []) → length fs ≡ length es
-    → ks ≡ ordinary_of (ls ++ record { id = n; ctl = ctl; lower = lower; kind = kind } ∷ [])
+-- the fields of a table with one more link
+pub parts_push : (ws vs : List ℕ) (ls : List Link) (n : ℕ) (ctl lower : StreamId) (kind : LinkKind) → AreParts ws ls n
+    → IsFree (list_of_parts ws ls n) ctl lower → ctl.driver < length ws → lower.driver < length ws
     → length vs ≡ length ws → AreMasks (ls ++ record { id = n; ctl = ctl; lower = lower; kind = kind } ∷ []) vs
-    → AreParts vs (ls ++ record { id = n; ctl = ctl; lower = lower; kind = kind } ∷ []) ks fs
-    (with_one_more (length ws) ps (record { id = n; ctl = ctl; lower = lower; kind = kind })) (n + 1)
-parts_push ws vs ls os ks es fs ps n ctl lower kind h free up low sound ids more rows same long masks = record {
-  list = record {
-    sound = sound;
-    ids = ids;
-    few = let one = length-append ls (record { id = n; ctl = ctl; lower = lower; kind = kind } ∷ []) in omega
-        (arith, one, free.few);
-    numbered = omega (arith, free.numbered);
-  };
-  within = rw long (All-push (IsWithin (length ws)) ls _ h.within (up, low));
-  few = rw long h.few;
-  masks = masks;
-  ordinary = same;
-  ids = more;
-  rows = rows ∙ h.rows ∙ sym long;
-  pairs = rw long (counts_more (length ws) ls ps _ h.pairs (up, low));
-}
+    → AreParts vs (ls ++ record { id = n; ctl = ctl; lower = lower; kind = kind } ∷ []) (n + 1)
+parts_push ws vs ls n ctl lower kind h free up low long masks =
+    let link : Link = record { id = n; ctl = ctl; lower = lower; kind = kind } in record {
+      list = record {
+        sound = sound_push ls link h.list.sound free.below free.apart;
+        ids = ids_push ls link h.list.ids;
+        few = let one = length-append ls (link ∷ []) in omega (arith, one, free.few);
+        numbered = omega (arith, free.numbered);
+      };
+      within = rw long (All-push (IsWithin (length ws)) ls link h.within (up, low));
+      few = rw long h.few;
+      masks = masks;
+    }
 
 -- fewer links
 
--- what renews the masks of links that are left, but for drivers that lost some
-abbrev Renews : List ℕ → List ℕ → List ℕ → ℕ → Type 0
-Renews ws vs qs lost = (old links : List Link) → AreMasks old ws → LeadAlikeBut lost old links
-    → All (IsWithin (length ws)) links → AreCounts (length ws) links qs → AreMasks links vs
+-- a filtered list is not longer
+fewer : {X : Type 0} (test : X → Bool) (xs : List X) → length (filter test xs) ≤ length xs
+fewer test xs = rw (length-filter test xs) (count_by-le-length test xs)
 
--- the fields of a table with some links less
-pub parts_less : (ws vs : List ℕ) (ls ks os js : List Link) (es fs : Rows) (ps qs : List ℕ) (n : ℕ)
-    (stays : Link → Bool) (lost : ℕ) → AreParts ws ls os es ps n → ks ≡ filter stays ls
-    → js ≡ ordinary_of ks → HasIds fs ks → length fs ≡ length es
-    → AreLinksSound (filter stays ls) → AreIdsRising (filter stays ls) n → length vs ≡ length ws
-    → AreCounts (length ws) ks qs → LeadAlikeBut lost ls ks → Renews ws vs qs lost → AreParts vs ks js fs qs n
-parts_less ws vs ls ks os js es fs ps qs n stays lost h is same kept rows sound ids long counts alike renews =
-    let within : All (IsWithin (length ws)) ks = rw is (All-filter stays (IsWithin (length ws)) ls h.within) in record {
-      list = record {
-        sound = rw is sound;
-        ids = rw is ids;
-        few = rw is (omega (arith, fewer stays ls, h.list.few));
-        numbered = h.list.numbered;
-      };
-      within = rw long within;
-      few = rw long h.few;
-      masks = renews ls ks h.masks alike within counts;
-      ordinary = same;
-      ids = kept;
-      rows = rows ∙ h.rows ∙ sym long;
-      pairs = rw long counts;
-    }
+-- the fields of a table without some links
+pub parts_less : (ws vs : List ℕ) (ls ks : List Link) (n : ℕ) (stays : Link → Bool) → AreParts ws ls n
+    → ks ≡ filter stays ls → length vs ≡ length ws → AreMasks ks vs → AreParts vs ks n
+parts_less ws vs ls ks n stays h is long masks = record {
+  list = rw is (record {
+    sound = sound_filter stays ls h.list.sound;
+    ids = ids_filter ls stays n h.list.ids;
+    few = omega (arith, fewer stays ls, h.list.few);
+    numbered = h.list.numbered;
+  });
+  within = rw (is, long) (All-filter stays (IsWithin (length ws)) ls h.within);
+  few = rw long h.few;
+  masks = masks;
+}
 
--- without the links of one id
-pub without_one : (t : LinkList) (id : ℕ) → without_ids t (id ∷ []) ≡ without_id t id
-without_one t id = ap (λ (ls : List Link). record t { links = ls }) (by t.links) where
-  by : (ls : List Link) → others_of (id ∷ []) ls ≡ filter (λ l. not (l.id == id)) ls
-  by [] = refl
-  by (l ∷ ls) = elim (cases_Bool (l.id == id)) [
-    | inl t ↦ rw t (by ls)
-    | inr f ↦ rw f (ap (λ (ks : List Link). l ∷ ks) (by ls))
-  ]
-
--- a vector, after a slice of all of it was lent
+-- a vector keeps its length while a slice of all of it is borrowed
 pub lent : (n : ℕ) (new old : List ℕ) → length new ≡ length old → n ≡ length old
     → take n (new ++ drop (length new) old) ≡ new
 lent n new old e k = take_at new (drop (length new) old) n (omega arith)

@@ -1,34 +1,21 @@
 -- Masks of links.
-use Rattle.std.proofs.Common.{◌≡◌, ℕ, true, ◌&&◌, ◌||◌, eqb, subst, inl, inr, List, [], ◌∷◌, ◌++◌}
+use Rattle.std.proofs.Common.{◌≡◌, ℕ, true, ◌||◌, eqb, subst, inl, inr, List, [], ◌∷◌, ◌++◌}
 use Rattle.std.proofs.Common.{sym, ◌∙◌}
 use Rattle.std.proofs.lemmas.Bool.{cases_Bool, or_cases, or_left, and_parts, eqb-true, false_from_ne_true, both_ways}
 use Rattle.smx_types.specs.declared.link.Link.{Link}
 use Rattle.smx_model.specs.Paths.{reaches}
-use Rattle.smx_links.specs.Masks.{has_bit, AreJoined, AreMasks, LeadAlike}
+use Rattle.smx_model.proofs.PathLemmas.{reaches_push, reaches_trans}
+use Rattle.smx_links.specs.Masks.{has_bit, AreJoined, AreMasks}
 
--- what the laws of paths say
-
--- one link more joins
-abbrev pub Joins : Type 0
-Joins = (links : List Link) (l : Link) (a b : ℕ)
-    → reaches (links ++ l ∷ []) a b ≡ (reaches links a b ||
-    (((eqb a l.ctl.driver) || reaches links a l.ctl.driver) &&
-    ((eqb l.lower.driver b) || reaches links l.lower.driver b)))
-
--- paths join
-abbrev pub PathsJoin : Type 0
-PathsJoin = (links : List Link) (a b c : ℕ) → reaches links a b ≡ true → reaches links b c ≡ true
-    → reaches links a c ≡ true
-
--- the masks with one link more
-pub masks_push : Joins → (ls : List Link) (l : Link) (old new : List ℕ) → AreMasks ls old
+-- the masks after one more link
+pub masks_push : (ls : List Link) (l : Link) (old new : List ℕ) → AreMasks ls old
     → AreJoined old l.ctl.driver l.lower.driver new → AreMasks (ls ++ l ∷ []) new
-masks_push joins ls l old new m j a b = j a b ∙ rw (m a b, m a l.ctl.driver, m l.lower.driver b) (sym (joins ls l a b))
+masks_push ls l old new m j a b = j a b ∙ rw (m a b, m a l.ctl.driver, m l.lower.driver b) (sym (reaches_push ls l a b))
 
--- a link along a path that is there leads nowhere new
-known : PathsJoin → (ls : List Link) (l : Link) (a b : ℕ) → reaches ls l.ctl.driver l.lower.driver ≡ true
+-- a link along an existing path adds no new path
+known : (ls : List Link) (l : Link) (a b : ℕ) → reaches ls l.ctl.driver l.lower.driver ≡ true
     → reaches (l ∷ ls) a b ≡ true → reaches ls a b ≡ true
-known trans ls l a b k h = elim (or_cases (reaches ls a b) _ h) [
+known ls l a b k h = elim (or_cases (reaches ls a b) _ h) [
   | inl there ↦ there
   | inr over ↦
       let both = and_parts (eqb a l.ctl.driver || reaches ls a l.ctl.driver)
@@ -36,24 +23,24 @@ known trans ls l a b k h = elim (or_cases (reaches ls a b) _ h) [
       let on : reaches ls l.ctl.driver b ≡ true = elim
       (or_cases (eqb l.lower.driver b) (reaches ls l.lower.driver b) both.1) [
         | inl same ↦ subst (λ (x : ℕ). reaches ls l.ctl.driver x ≡ true) (eqb-true l.lower.driver b same) k
-        | inr path ↦ trans ls l.ctl.driver l.lower.driver b k path
+        | inr path ↦ reaches_trans ls l.ctl.driver l.lower.driver b k path
       ] in
       elim (or_cases (eqb a l.ctl.driver) (reaches ls a l.ctl.driver) both.0) [
         | inl same ↦ subst (λ (x : ℕ). reaches ls x b ≡ true) (sym (eqb-true a l.ctl.driver same)) on
-        | inr path ↦ trans ls a l.ctl.driver b path on
+        | inr path ↦ reaches_trans ls a l.ctl.driver b path on
       ]
 ]
 
--- links lead alike without such a link
-pub known_same : PathsJoin → (ls : List Link) (l : Link) → reaches ls l.ctl.driver l.lower.driver ≡ true
-    → LeadAlike (l ∷ ls) ls
-known_same trans ls l k a b = elim (cases_Bool (reaches ls a b)) [
+-- paths lead to the same drivers without such a link
+pub known_same : (ls : List Link) (l : Link) → reaches ls l.ctl.driver l.lower.driver ≡ true
+    → (a b : ℕ) → reaches ls a b ≡ reaches (l ∷ ls) a b
+known_same ls l k a b = elim (cases_Bool (reaches ls a b)) [
   | inl t ↦ t ∙ sym (or_left _ _ t)
-  | inr f ↦ f ∙ sym (false_from_ne_true (reaches (l ∷ ls) a b) (λ t. both_ways _ f (known trans ls l a b k t)))
+  | inr f ↦ f ∙ sym (false_from_ne_true (reaches (l ∷ ls) a b) (λ t. both_ways _ f (known ls l a b k t)))
 ]
 
--- the masks with one link more along a path that is there
-pub masks_known : Joins → PathsJoin → (ls : List Link) (l : Link) (ws : List ℕ) → AreMasks ls ws
+-- the masks after one more link along an existing path
+pub masks_known : (ls : List Link) (l : Link) (ws : List ℕ) → AreMasks ls ws
     → has_bit ws l.ctl.driver l.lower.driver ≡ true → AreMasks (ls ++ l ∷ []) ws
-masks_known joins trans ls l ws m k a b =
-    m a b ∙ known_same trans ls l (sym (m l.ctl.driver l.lower.driver) ∙ k) a b ∙ sym (joins ls l a b)
+masks_known ls l ws m k a b =
+    m a b ∙ known_same ls l (sym (m l.ctl.driver l.lower.driver) ∙ k) a b ∙ sym (reaches_push ls l a b)

@@ -1,4 +1,4 @@
--- Drivers with links, by the bits of their words.
+-- Drivers with links, judged by the bits of their words.
 use Rattle.std.proofs.Common.{◌≡◌, ℕ, ◌<◌, ◌^◌, Bool, true, false, not, eqb, List, [], ◌∷◌, get_or, refl, sym, ap, ◌∙◌}
 use Rattle.std.proofs.Common.{arith, inl, inr}
 use Rattle.std.specs.Int.{trailing_zeros, w128}
@@ -13,7 +13,7 @@ use Rattle.smx_links.specs.declared.masks.TheConstants.{WORD_BITS}
 use Rattle.smx_links.specs.Masks.{AreMasks, HasAnyBit, is_set}
 use Rattle.smx_links.proofs.BitLemmas.{is_set_zero}
 
--- a driver without links reaches none
+-- a driver without links reaches no driver
 pub none_reached : (ls : List Link) (a b : ℕ) → is_upper ls a ≡ false → reaches ls a b ≡ false
 none_reached [] a b h = refl
 none_reached (l ∷ ls) a b h =
@@ -22,7 +22,7 @@ none_reached (l ∷ ls) a b h =
     (λ t. false≢true (sym p.0 ∙ eq-eqb l.ctl.driver a (sym (eqb-true a l.ctl.driver t)))) in
     rw (none_reached ls a b p.1, none_reached ls a l.ctl.driver p.1, other) refl
 
--- one with a link reaches some
+-- a driver with a link reaches some driver
 some_reached : (ls : List Link) (a : ℕ) → is_upper ls a ≡ true → (b : ℕ) × (reaches ls a b ≡ true)
 some_reached [] a h = absurd cc
 some_reached (l ∷ ls) a h = elim (cases_Bool (eqb l.ctl.driver a)) [
@@ -37,7 +37,7 @@ some_reached (l ∷ ls) a h = elim (cases_Bool (eqb l.ctl.driver a)) [
       (rest.0, or_left (reaches ls a rest.0) _ rest.1)
 ]
 
--- a word has a bit exactly where a link leads from its driver
+-- a word has a bit exactly if a link leads from its driver
 pub any_is_upper : (ls : List Link) (ws : List ℕ) (a : ℕ) (r : Bool) → AreMasks ls ws → HasAnyBit ws a r
     → r ≡ is_upper ls a
 any_is_upper ls ws a true m h = elim (cases_Bool (is_upper ls a)) [

@@ -1,5 +1,4 @@
 pub mod Masks
-pub mod Pairs
-pub mod Ids
+pub mod Keys
 pub mod LinkLists
 pub mod TableFields

@@ -1,13 +1,11 @@
-//! The table of links between drivers, and its cycle test: a bit for each two drivers.
+//! The table of links between drivers, with a cycle test that reads one bit for each pair of drivers.
 #![tactic(auto)]
 
-mod id_row;
-mod ids;
+mod key;
 pub mod laws;
 mod link_fault;
 mod links;
 mod masks;
-mod pairs;
 mod table;
 
 pub use link_fault::LinkFault;

@@ -1,17 +1,17 @@
-//! Why there is no link.
+//! The reasons for refusing a link.
 
 use smx_types::NoMemory;
 
-/// Why a stream was not linked below another.
+/// The reason why a stream was not linked below another.
 #[derive(Clone, Copy, Debug, PartialEq, Eq)]
 pub enum LinkFault {
-    /// It is below already.
+    /// The stream is already below a link.
     Already,
-    /// There would be a cycle of drivers.
+    /// The link would close a cycle of drivers.
     Cycle,
     /// There are 1,024 links, or no id is left.
     Full,
-    /// A growth was refused.
+    /// An allocation failed.
     NoMemory,
 }
 

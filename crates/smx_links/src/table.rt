@@ -7,49 +7,24 @@ ghost use Rattle.smx_types.specs.declared.limits.TheConstants.{MAX_DRIVERS, MAX_
 ghost use Rattle.smx_model.specs.Configuration.{same_stream};
 ghost use Rattle.smx_model.specs.Paths.{reaches};
 ghost use Rattle.smx_model.specs.Standing.{is_below};
-ghost use Rattle.smx_links.specs.LinkLists.{IsLinkList, IsLinked, is_upper, joins, ordinary_of, refusal};
+ghost use Rattle.smx_links.specs.LinkLists.{IsLinkList, IsLinked, is_upper, refusal};
 ghost use Rattle.smx_links.specs.LinkLists.{with_link, without_id, without_ids};
 ghost use Rattle.smx_links.specs.Masks.{IsWithin};
 
-use crate::ids::{Ids, copy_ids, no_ids};
 use crate::link_fault::LinkFault;
-use crate::links::{above, get, is_below, put, take_each};
-use crate::masks::{Word, has_any_bit, has_bit, join_link, renew};
-use crate::pairs::{Count, count, has_count};
-use smx_model::laws_of_links::{
-    fewer_links_stay_sound, linking_keeps_soundness, linking_takes_the_next_id, no_links_are_sound,
-};
+use crate::links::Links;
+use crate::masks::{Word, has_any_bit, has_bit, join_link, recompute};
 use smx_types::{Link, LinkKind, MAX_LINKS, NUMBER_END, NoMemory, StreamId};
 use std::alloc::Global;
 use std::marker::Model;
 
-/// Links in the order of their ids, without a cycle, and no stream below two of them. A contract sees the list, the
-/// next id and the number of drivers.
-#[derive(Debug)]
+/// Links by rising id, without a cycle, and with no stream below two of them. Contracts see the list, the next id and
+/// the number of drivers.
+#[derive(Debug, Drop)]
 pub struct LinkTable {
     masks: Vec<Word>,
-    // By rising id.
-    links: Vec<Link>,
-    // Those of them that are ordinary, in the same order.
-    ordinary: Vec<Link>,
-    ids: Ids,
-    // A row for each upper driver, with an entry for each lower one.
-    pairs: Vec<Count>,
+    links: Links,
     next_id: u32,
-}
-
-impl Drop for LinkTable {
-    // One call in each body that has one, however many ways it ends, in place of a drop for each part.
-    fn drop(self) {
-        let LinkTable {
-            masks: _masks,
-            links: _links,
-            ordinary: _ordinary,
-            ids: _ids,
-            pairs: _pairs,
-            next_id: _,
-        } = self;
-    }
 }
 
 impl Model for LinkTable {
@@ -65,26 +40,22 @@ impl Model for LinkTable {
 }
 
 impl LinkTable {
-    /// A table without links, over drivers numbered from 0. It keeps the allocator. Fails only for want of memory.
+    /// Makes a table without links, over drivers that are numbered from 0. The table keeps the allocator.
+    #[tactic(auto, using(crate::proofs::LinkTableLemmas::parts_empty))]
     pub fn new(alloc: Global, drivers: usize) -> Result<LinkTable, NoMemory>
         requires { drivers ≤ MAX_DRIVERS }
         ensures { IfOk result (λ t. t ≡ record { links = []; next_id = 1; drivers = drivers }) }
     {
-        no_links_are_sound();
         Ok(LinkTable {
             masks: vec![in alloc; 0; drivers]?,
-            links: Vec::new(alloc),
-            ordinary: Vec::new(alloc),
-            ids: no_ids(alloc, drivers)?,
-            pairs: vec![in alloc; 0; drivers * drivers]?,
+            links: Links::new(alloc),
             next_id: 1,
         })
     }
 
-    /// Links a stream below a driver, by a controlling stream of it. The link gets the next id. Refused where the
-    /// lower stream is below already; or else where both drivers are the same, or a path leads from the lower one to
-    /// the upper one; or else where 1,024 links stand or no id is left; or else for want of memory. Where it is
-    /// refused nothing has changed.
+    /// Links a stream below the driver of a controlling stream, and returns the id of the link. Fails with the first
+    /// of these: the lower stream is already below a link; both drivers are the same, or a path leads from the lower
+    /// one to the upper one; there are 1,024 links or no id is left; an allocation fails. A failure changes nothing.
     pub fn try_link(
         &mut self,
         ctl: StreamId,
@@ -98,8 +69,6 @@ impl LinkTable {
         ensures err { OnErr result (self.new ≡ self.old) }
         ensures drivers { self.new.drivers ≡ self.old.drivers }
     {
-        linking_keeps_soundness();
-        linking_takes_the_next_id();
         if let Some(fault) = self.refusal(ctl, lower) {
             return Err(fault);
         }
@@ -110,14 +79,13 @@ impl LinkTable {
             lower,
             kind,
         };
-        put(&mut self.links, &mut self.ordinary, &mut self.ids, link)?;
-        count(&mut self.pairs, self.masks.len(), link);
+        self.links.push(link)?;
         join_link(&mut self.masks, link);
         self.next_id = id + 1;
         Ok(id)
     }
 
-    // Why there may be no link between the streams.
+    // Returns the first refusal that applies to a link between the streams.
     fn refusal(&self, ctl: StreamId, lower: StreamId) -> Option<LinkFault>
         ensures { result ≡ refusal self.now ctl lower }
     {
@@ -132,94 +100,78 @@ impl LinkTable {
         }
     }
 
-    // Whether a link would close a cycle.
+    // Returns whether a link would close a cycle.
     fn leads_back(&self, ctl: StreamId, lower: StreamId) -> bool
         ensures { result ≡ ((lower.driver == ctl.driver) || reaches self.now.links lower.driver ctl.driver) }
     {
         lower.driver == ctl.driver || self.reaches(lower.driver, ctl.driver)
     }
 
-    // Whether there are as many links as there may be, or no next id.
+    // Returns whether the limit of links is reached, or no id is left.
     fn is_full(&self) -> bool
         ensures { result ≡ (nat_le MAX_LINKS (length self.now.links) || nat_le NUMBER_END self.now.next_id) }
     {
         self.len() >= MAX_LINKS || self.next_id >= NUMBER_END
     }
 
-    /// Takes out the link with the id, and no other; None where there is none. The next id stays. Takes no memory.
+    /// Removes only the link with this id. Returns `None` if there is no such link. The next id doesn't change.
+    /// Does not allocate.
     pub fn remove(&mut self, id: u32) -> Option<Link>
         ensures link { result ≡ find (λ l. l.id == id) self.old.links }
         ensures rest { self.new ≡ without_id self.old id }
         ensures drivers { self.new.drivers ≡ self.old.drivers }
     {
-        let removed = self.get(id).copied();
-        self.remove_each(&[id]);
-        removed
+        let link = self.links.remove(id)?;
+        recompute(&mut self.masks, self.links.as_slice());
+        Some(link)
     }
 
-    /// Takes out each link with one of these ids, and no other. The next id stays. What drivers reach is found anew
-    /// at most once, however many go. Takes no memory.
+    /// Removes only the links with these ids, and recomputes once what each driver reaches. The next id doesn't
+    /// change. Does not allocate.
     pub fn remove_each(&mut self, ids: &[u32])
         ensures rest { self.new ≡ without_ids self.old ids.now }
         ensures drivers { self.new.drivers ≡ self.old.drivers }
     {
-        fewer_links_stay_sound();
-        let drivers = self.masks.len();
-        let lost = take_each(
-            &mut self.links,
-            &mut self.ordinary,
-            &mut self.ids,
-            &mut self.pairs,
-            drivers,
-            ids,
-        );
-        renew(&mut self.masks, &self.pairs, lost);
+        self.links.remove_each(ids);
+        recompute(&mut self.masks, self.links.as_slice());
     }
 
-    /// The link with the id. A look as far behind the first and as far before the last as its id is, else a binary
-    /// search.
+    /// Returns the link with this id, if there is one. Does one look-up.
     pub fn get(&self, id: u32) -> Option<&Link>
         ensures { option_copied result ≡ find (λ l. l.id == id) self.now.links }
     {
-        get(&self.links, id)
+        self.links.get(id)
     }
 
-    /// The link that the stream is below. One look-up.
+    /// Returns the link that the stream is below, if there is one. Does two look-ups.
     pub fn above(&self, lower: StreamId) -> Option<&Link>
         ensures { option_copied result ≡ find (λ l. same_stream l.lower lower) self.now.links }
     {
-        above(&self.links, &self.ids, lower)
+        self.links.above(lower)
     }
 
-    /// Whether the stream is the lower of a link. One look-up.
+    /// Returns whether the stream is the lower one of a link. Does one look-up.
     pub fn is_below(&self, lower: StreamId) -> bool
         ensures { result ≡ is_below self.now.links lower }
     {
-        is_below(&self.ids, lower)
+        self.links.is_below(lower)
     }
 
-    /// All links, by rising id. Takes no memory.
+    /// Returns all links, by rising id. Does not allocate.
     pub fn links(&self) -> &[Link]
         ensures { result.now ≡ self.now.links }
     {
         self.links.as_slice()
     }
 
-    /// The ordinary links, by rising id. Takes no memory.
-    pub fn ordinary(&self) -> &[Link]
-        ensures { result.now ≡ ordinary_of self.now.links }
-    {
-        self.ordinary.as_slice()
-    }
-
-    /// The link at a place, from 0, by rising id.
+    /// Returns the link at an index of the list by rising id.
     pub fn at(&self, i: usize) -> Option<&Link>
         ensures { option_copied result ≡ slice_get self.now.links i }
     {
-        self.links.get(i)
+        self.links().get(i)
     }
 
-    /// The number of drivers, past which no link has one. Takes no memory.
+    /// Returns the number of drivers. Every driver of a link is below it. Does not allocate.
     pub fn driver_count(&self) -> u8
         ensures count { result ≡ self.now.drivers }
         ensures within { All (IsWithin result) self.now.links }
@@ -227,50 +179,36 @@ impl LinkTable {
         self.masks.len() as u8
     }
 
-    /// The number of links.
+    /// Returns the number of links.
     pub fn len(&self) -> usize
         ensures { result ≡ length self.now.links }
     {
-        self.links.len()
+        self.links().len()
     }
 
-    /// Whether there is no link.
-    pub fn is_empty(&self) -> bool
-        ensures { result ≡ (length self.now.links == 0) }
-    {
-        self.len() == 0
-    }
-
-    /// The id that the next link gets: 1 at first, and one more with each link.
+    /// Returns the id that the next link gets: 1 in a new table, and one more after each link.
     pub fn next_id(&self) -> u32
         ensures { result ≡ self.now.next_id }
     {
         self.next_id
     }
 
-    /// Whether a path of at least one link leads from driver a to driver b. It reads one bit.
+    /// Returns whether a path of at least one link leads from driver a to driver b. Reads one bit.
     pub fn reaches(&self, a: u8, b: u8) -> bool
         ensures { result ≡ reaches self.now.links a b }
     {
         has_bit(&self.masks, a, b)
     }
 
-    /// Whether a link leads from the upper driver to the lower one. It reads one number.
-    pub fn joins(&self, upper: u8, lower: u8) -> bool
-        ensures { result ≡ joins self.now.links upper lower }
-    {
-        has_count(&self.pairs, self.masks.len(), upper, lower)
-    }
-
-    /// Whether the driver is the upper one of a link. It reads one word.
+    /// Returns whether the driver is the upper one of a link. Reads one word.
     pub fn is_upper(&self, driver: u8) -> bool
         ensures { result ≡ is_upper self.now.links driver }
     {
         has_any_bit(&self.masks, driver)
     }
 
-    /// What every table is: its links form no cycle, no stream is below two of them, their ids rise and are below the
-    /// next one, and there are no more than there may be. It does nothing: a caller who needs these facts calls it.
+    /// Ensures the properties of every table: its links form no cycle, no stream is below two of them, their ids rise
+    /// and are below the next id, and there are at most 1,024. Does nothing: a caller calls it to use these facts.
     pub fn is_sound(&self)
         ensures { IsLinkList self.now }
     {
@@ -278,17 +216,13 @@ impl LinkTable {
         let _next_id = self.next_id;
     }
 
-    /// The same table again, by the allocator that this one has. Fails only for want of memory.
-    pub fn copy(&self) -> Result<LinkTable, NoMemory>
+    /// Copies the table into memory from this allocator, which the copy keeps.
+    pub fn copy(&self, alloc: Global) -> Result<LinkTable, NoMemory>
         ensures { IfOk result (λ t. t ≡ self.now) }
     {
-        let alloc = *self.masks.allocator();
         Ok(LinkTable {
-            masks: self.masks.clone()?,
-            links: self.links.clone()?,
-            ordinary: self.ordinary.clone()?,
-            ids: copy_ids(alloc, &self.ids)?,
-            pairs: self.pairs.clone()?,
+            masks: Vec::from_slice(alloc, &self.masks)?,
+            links: self.links.copy(alloc)?,
             next_id: self.next_id,
         })
     }

@@ -18,7 +18,7 @@ use Rattle.smx_place.proofs.ShapeLemmas.{given}
 use Rattle.smx_place.proofs.Spelling.{Takes}
 use Rattle.smx_place.proofs.WalkLemmas.{number, tells}
 
--- a word of the table, and words for the values behind it
+-- a word of the table, and words for the values after it
 pub record HasForm (version : Version) (c : AnyCommand) : Type 0 where
   pub word : List ℕ
   pub args : List (List ℕ)
@@ -42,7 +42,7 @@ module _ (version : Version) where
     takes = takes;
   }
 
-  -- each command that a version can tell has a form
+  -- each command of a version has a form
   pub form : (c : AnyCommand) → FitsCommandIn version c → HasForm version c
   form (command.OpenClone driver) (fits, told) =
       formed _ (codes "clone") (Name ∷ []) _ refl (search rules) (fits, tt)
@@ -106,7 +106,7 @@ abbrev pub IsCommand : Version → List (List ℕ) → Type 0
 IsCommand version words = (c : AnyCommand) × FitsCommandIn version c × (command_words c ≡ words)
 
 module _ (version : Version) where
-  -- a word of version 1's commands, and words for the values behind it, are the words of a command
+  -- a word of version 1's commands, and words for the values after it, are the words of a command
   of_row : (word : List ℕ) (values : List Value) (next : Choice) (args : List (List ℕ))
       → IsRow commands word values next → Takes values args → IsCommand version (word ∷ args)
   of_row word values next args (inl is) takes =
@@ -184,7 +184,7 @@ module _ (version : Version) where
       takes =
       absurd is
 
--- a fixed word of a command, and words for the values behind it, are the words of a command of that version
+-- a fixed word of a command, and words for the values after it, are the words of a command of that version
 pub of_form : (version : Version) (word : List ℕ) (values : List Value) (next : Choice) (args : List (List ℕ))
     → IsFixed version Command word values next → Takes values args → IsCommand version (word ∷ args)
 of_form V1 word values next args is takes = of_row V1 word values next args is takes

@@ -1,4 +1,4 @@
--- Wherever a line is, it can go on to an end.
+-- From every place, a line can go on to an end.
 use Rattle.std.proofs.Common.{ℕ, List, [], ◌∷◌, refl, inl, arith, rules}
 use Rattle.std.specs.Prelude.{codes}
 use Rattle.std.specs.Fmt.{decimal}
@@ -19,7 +19,7 @@ use Rattle.smx_place.specs.declared.kinds.Value.TheVariants.{LinkKind, Bytes}
 use Rattle.smx_place.proofs.RowLemmas.{in_second}
 use Rattle.smx_place.proofs.Spelling.{Spells}
 
--- a word that is fixed in both versions is so in each
+-- a word that is fixed in both versions is fixed in each
 pub fixed_in : (version : Version) (choice : Choice) (word : List ℕ) (values : List Value) (next : Choice)
     → IsRow (rows choice) word values next → IsFixed version choice word values next
 fixed_in V1 choice word values next is = is
@@ -38,29 +38,29 @@ value_word LinkKind = (codes "link", (link.Ordinary, tt, refl))
 value_word Bytes = (codes "-", ([], tt, refl))
 
 module _ (version : Version) where
-  -- some words end the line
+  -- some words complete the line
   abbrev pub CanEnd : List Value → Choice → Type 0
   CanEnd values choice = (words : List (List ℕ)) × Spells version values choice words
 
-  -- a line can go on to an end where a fixed word may stand behind which it can
+  -- a line can be completed if it can go on with a fixed word after which it can be completed
   behind : (choice : Choice) (word : List ℕ) (next : Choice) → IsRow (rows choice) word [] next → CanEnd [] next
       → CanEnd [] choice
   behind choice word next is more =
       (word ∷ more.0, ([], next, inl (fixed_in version choice word [] next is), more.1))
 
-  -- a line can go on to an end where the end is chosen
+  -- a line can be completed where it ends
   at_end : CanEnd [] End
   at_end = ([], tt)
 
-  -- a line can go on to an end where a reply is chosen
+  -- a line can be completed at the reply
   at_reply : CanEnd [] Reply
   at_reply = behind Reply (codes "EMFILE") End (search rules) at_end
 
-  -- a line can go on to an end where the equals sign is chosen
+  -- a line can be completed at the equals sign
   at_equals : CanEnd [] Equals
   at_equals = behind Equals (codes "=") Reply (search rules) at_reply
 
-  -- wherever something is chosen, a line can go on to an end
+  -- a line can be completed at every choice
   at_choice : (choice : Choice) → CanEnd [] choice
   at_choice ProgramsLine = behind ProgramsLine (codes "end") End (search rules) at_end
   at_choice TranscriptLine = behind TranscriptLine (codes "end") End (search rules) at_end
@@ -74,7 +74,7 @@ module _ (version : Version) where
   at_choice Serials = ([], tt)
   at_choice End = at_end
 
-  -- wherever values are wanted and then something is chosen, a line can go on to an end
+  -- a line can be completed from some values and then any choice
   pub can_end : (values : List Value) (choice : Choice) → CanEnd values choice
   can_end [] choice = at_choice choice
   can_end (value ∷ values) choice =

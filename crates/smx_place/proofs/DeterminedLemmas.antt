@@ -1,4 +1,4 @@
--- A word says in one way how a line goes on behind it.
+-- A word determines how a line goes on after it.
 use Rattle.std.proofs.Common.{◌≡◌, ℕ, ◌<◌, ◌^◌, Bool, true, false, ◌&&◌, not, List, [], ◌∷◌, ◌++◌, refl, sym}
 use Rattle.std.proofs.Common.{subst, ◌∙◌, inl, inr, arith}
 use Rattle.std.specs.Prelude.{bytes_eq}
@@ -23,12 +23,12 @@ abbrev pub is_new : List ℕ → List WordRow → Bool
 is_new word [] = true
 is_new word (row ∷ rows) = not (bytes_eq word row.0) && is_new word rows
 
--- no two rows have one word
+-- no two rows have the same word
 abbrev differ : List WordRow → Bool
 differ [] = true
 differ (row ∷ rows) = is_new row.0 rows && differ rows
 
--- where two tests hold together, each of them does
+-- if two tests hold together, each of them does
 both : (a b : Bool) → a && b ≡ true → (a ≡ true) × (b ≡ true)
 both true b h = (refl, h)
 both false b h = absurd (cc h)
@@ -48,11 +48,11 @@ not_new (k ∷ ks) word values next h (inl is) =
 not_new (k ∷ ks) word values next h (inr more) =
     not_new ks word values next (both (not (bytes_eq word k.0)) (is_new word ks) h).1 more
 
--- two ways to go on want the same values, and choose the same behind them
+-- two ways to go on have the same values and the same choice after them
 abbrev pub Same : List Value → Choice → List Value → Choice → Type 0
 Same values next others then = (values ≡ others) × (next ≡ then)
 
--- the word of a row is that of no other
+-- at most one row has a given word
 one_row : (ks : List WordRow) → differ ks ≡ true → (word : List ℕ) (values : List Value) (next : Choice)
     (others : List Value) (then : Choice) → IsRow ks word values next → IsRow ks word others then
     → Same values next others then
@@ -68,7 +68,7 @@ one_row (k ∷ ks) h word values next others then (inr more) (inl is_too) =
 one_row (k ∷ ks) h word values next others then (inr more) (inr more_too) =
     one_row ks (both (is_new k.0 ks) (differ ks) h).1 word values next others then more more_too
 
--- of two tables whose words differ a word is in one
+-- if the words of two tables differ, a word is in only one of them
 in_one : (ks ls : List WordRow) → differ (ks ++ ls) ≡ true → (word : List ℕ) (values : List Value) (next : Choice)
     (others : List Value) (then : Choice) → IsRow ks word values next → IsRow ls word others then → ⊥
 in_one [] ls h word values next others then is is_too = is
@@ -84,19 +84,19 @@ all_differ V1 ProgramsLine = refl
 all_differ V2 ProgramsLine = refl
 all_differ version choice = refl
 
--- the words of the lines of programs, and those of the commands, differ from one another
+-- the words of the lines of programs and those of the commands differ from one another
 lines_differ : (version : Version) → differ (told_rows version ProgramsLine ++ told_rows version Command) ≡ true
 lines_differ V1 = refl
 lines_differ V2 = refl
 
--- ---- words that are no numbers
+-- ---- words that are not numbers
 
--- no word of these rows is digits alone
+-- no word of these rows consists of digits
 abbrev no_digits : List WordRow → Bool
 no_digits [] = true
 no_digits (row ∷ rows) = not (all_ascii_digits row.0) && no_digits rows
 
--- where no word of some rows is digits alone, the word of a number is that of no row
+-- if no word of some rows consists of digits, no row has the word of a number
 no_number : (ks : List WordRow) → no_digits ks ≡ true → (n : ℕ) → n < 2 ^ 32 → (word : List ℕ) (values : List Value)
     (next : Choice) → word ≡ decimal n → IsRow ks word values next → ⊥
 no_number [] h n small word values next number is = is
@@ -107,7 +107,7 @@ no_number (k ∷ ks) h n small word values next number (inl is) =
 no_number (k ∷ ks) h n small word values next number (inr more) =
     no_number ks (both (not (all_ascii_digits k.0)) (no_digits ks) h).1 n small word values next number more
 
--- no word with which a line of a transcript begins is digits alone
+-- no fixed word at the start of a transcript's line consists of digits
 no_line_digits : (version : Version) → no_digits (told_rows version TranscriptLine) ≡ true
 no_line_digits V1 = refl
 no_line_digits V2 = refl
@@ -115,7 +115,7 @@ no_line_digits V2 = refl
 -- ---- one way
 
 module _ (version : Version) (word : List ℕ) where
-  -- a word that is fixed is of no other kind
+  -- a fixed word is not of another kind
   fixed_alone : (choice : Choice) (values : List Value) (next : Choice) (others : List Value) (then : Choice)
       → IsFixed version choice word values next → IsOther version choice word others then → ⊥
   fixed_alone ProgramsLine values next others then is other =
@@ -130,7 +130,7 @@ module _ (version : Version) (word : List ℕ) where
     no_serials V2 h = h
   fixed_alone choice values next others then is other = other
 
-  -- a word that is of another kind goes on in one way
+  -- a word of another kind goes on in only one way
   one_other : (choice : Choice) (values : List Value) (next : Choice) (others : List Value) (then : Choice)
       → IsOther version choice word values next → IsOther version choice word others then
       → Same values next others then
@@ -142,7 +142,7 @@ module _ (version : Version) (word : List ℕ) where
   one_other Serials values next others then is is_too = (is.1 ∙ sym is_too.1, is.2 ∙ sym is_too.2)
   one_other choice values next others then is is_too = absurd is
 
-  -- a word goes on in one way where something is chosen
+  -- a word goes on from a choice in only one way
   one_choice : (choice : Choice) (values : List Value) (next : Choice) (others : List Value) (then : Choice)
       → IsChosen version choice word values next → IsChosen version choice word others then
       → Same values next others then
@@ -155,7 +155,7 @@ module _ (version : Version) (word : List ℕ) where
   one_choice choice values next others then (inr is) (inr is_too) =
       one_other choice values next others then is is_too
 
-  -- a line goes on in one way behind a word
+  -- a line goes on after a word in only one way
   pub one_way : (wanted : List Value) (choice : Choice) (values : List Value) (next : Choice) (others : List Value)
       (then : Choice) → GoesOn version wanted choice word values next → GoesOn version wanted choice word others then
       → Same values next others then

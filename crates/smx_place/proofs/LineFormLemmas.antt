@@ -40,15 +40,15 @@ use Rattle.smx_place.proofs.WalkLemmas.{cut, ended, ended_as, from_row, number, 
 
 -- ---- drivers
 
--- the values that are wanted behind the word `driver`
+-- the values expected after the word `driver`
 abbrev driver_values : List Value
 driver_values = Name ∷ DriverKind ∷ Number ∷ Number ∷ Number ∷ Number ∷ []
 
--- the words of a driver behind its first
+-- the words of a driver line after the first
 abbrev driver_args : DriverSpec → List (List ℕ)
 driver_args d = d.name ∷ kind_word d.kind ∷ decimal d.minors ∷ decimal d.high ∷ decimal d.low ∷ decimal d.max ∷ []
 
--- the words of a driver that can be spelled are one for each value that is wanted
+-- the words of a driver that can be spelled are one for each expected value
 driver_takes : (d : DriverSpec) → FitsDriver d → Takes driver_values (driver_args d)
 driver_takes d f = (f.name, ((d.kind, tt, refl), numbers)) where
   numbers : Takes (Number ∷ Number ∷ Number ∷ Number ∷ [])
@@ -67,7 +67,7 @@ driver_of words (((a, is_a), ((b, is_b), ((c, is_c), ((d, is_d), ((e, is_e), ((f
 -- ---- lines of programs
 
 module _ (version : Version) where
-  -- the words of a command that a version can tell go on to the end of a line of programs
+  -- the words of a command of a version complete a line of programs
   command_spelled : (c : AnyCommand) → FitsCommandIn version c → Spells version [] ProgramsLine (command_words c)
   command_spelled c fits =
       let f = form version c fits in
@@ -79,7 +79,7 @@ module _ (version : Version) where
             (append-nil f.args) (with_args version f.values f.args End [] f.takes tt),
       )
 
-  -- the words of any line of programs that a version can tell go on to the end of one
+  -- the words of any line of programs of a version complete a line
   programs_line : (k : Line) → programs.FitsLine version k → Spells version [] ProgramsLine (programs.line_words k)
   programs_line (line.Driver d) f =
       from_row version ProgramsLine (codes "driver") driver_values End (driver_args d) []
@@ -94,7 +94,7 @@ module _ (version : Version) where
       (search rules) tt tt
   programs_line (line.Command c) f = command_spelled c f
 
-  -- a first word of a line of programs, and words that go on behind it to the end, are those of such a line
+  -- a first word of a line of programs, and words that complete the line after it, are those of such a line
   programs_row : (word : List ℕ) (values : List Value) (next : Choice) (words : List (List ℕ))
       → IsRow programs_lines word values next → Spells version values next words
       → IsLine Programs version (word ∷ words)
@@ -109,7 +109,7 @@ module _ (version : Version) where
       (line.End, tt, cc (is.0, are))
   programs_row word values next words (inr (inr (inr is))) h = absurd is
 
-  -- words that go on from the first one to the end of a line are those of a line of programs
+  -- words that complete a line from its start are those of a line of programs
   of_programs_line : (words : List (List ℕ)) → Spells version [] ProgramsLine words → IsLine Programs version words
   of_programs_line [] h = absurd h
   of_programs_line (word ∷ words) (values, next, inl is, h) =
@@ -121,7 +121,7 @@ module _ (version : Version) where
 -- ---- lines of a transcript
 
 module _ (version : Version) where
-  -- the words of an entry behind its process go on to the end of a line
+  -- the words of an entry after its process complete the line
   call_spelled : (c : AnyCommand) (r : AnyReply) → FitsCommandIn version c → FitsReplyIn version r
       → Spells version [] Command (command_words c ++ codes "=" ∷ reply_words r)
   call_spelled c r fits fits_too =
@@ -132,7 +132,7 @@ module _ (version : Version) where
       let rest = with_args version f.values f.args Equals (codes "=" ∷ reply_words r) f.takes reply in
       (f.values, Equals, inl f.fixed, rest)
 
-  -- the words of an entry that a version can tell go on to the end of a line of a transcript
+  -- the words of an entry of a version complete a line of a transcript
   entry_spelled : (e : Entry) → FitsEntryIn version e → Spells version [] TranscriptLine (entry_words e)
   entry_spelled e (fits, told) =
       let parts = can_tell_each version (is_hangup e.command) (tells_of_hangup e.reply) told in (
@@ -142,7 +142,7 @@ module _ (version : Version) where
         call_spelled e.command e.reply (fits.command, parts.0) (fits.reply, parts.1),
       )
 
-  -- the words of a hung-up stream that a version can tell go on to the end of a line of a transcript
+  -- the words of a hung-up stream complete a line of a transcript, in a version that has them
   hung_spelled : (h : HungLine) → FitsHung h → CanTell version true
       → Spells version [] TranscriptLine (hung_words h)
   hung_spelled h fits told = of_version_2 version told where
@@ -156,7 +156,7 @@ module _ (version : Version) where
           (fits.driver, (number h.minor fits.minor, tt)) tt,
     )
 
-  -- the words of any line of a transcript that a version can tell go on to the end of one
+  -- the words of any line of a transcript of a version complete a line
   transcript_line : (k : AnyTranscriptLine) → transcript.FitsLine version k
       → Spells version [] TranscriptLine (transcript.line_words k)
   transcript_line (told.Driver d) f =
@@ -233,7 +233,7 @@ module _ (version : Version) where
   transcript_line (told.Entry e) f = entry_spelled e f
   transcript_line (told.Hung h) f = hung_spelled h f.0 f.1
 
-  -- a first word of a line of a transcript, and words that go on behind it to the end, are those of such a line
+  -- a first word of a line of a transcript, and words that complete the line after it, are those of such a line
   transcript_row : (word : List ℕ) (values : List Value) (next : Choice) (words : List (List ℕ))
       → IsRow transcript_lines word values next → Spells version values next words
       → IsLine Transcript version (word ∷ words)
@@ -318,7 +318,7 @@ module _ (version : Version) where
       (told.End, tt, cc (is.0, are))
   transcript_row word values next words (inr (inr (inr (inr (inr (inr (inr (inr (inr (inr is)))))))))) h = absurd is
 
-  -- the words behind a process are those of a command and a reply
+  -- the words after a process are those of a command and a reply
   record IsCall (words : List (List ℕ)) : Type 0 where
     command : AnyCommand
     fits : FitsCommandIn version command
@@ -326,7 +326,7 @@ module _ (version : Version) where
     fits_too : FitsReplyIn version reply
     are : words ≡ command_words command ++ codes "=" ∷ reply_words reply
 
-  -- words that go on where the equals sign is chosen are that sign and a reply
+  -- words that complete the line from the equals sign are that sign and a reply
   equals : (words : List (List ℕ)) → Spells version [] Equals words
       → (rest : List (List ℕ)) × (words ≡ codes "=" ∷ rest) × IsReply version rest
   equals [] h = absurd h
@@ -337,7 +337,7 @@ module _ (version : Version) where
     from (inr is) = absurd is
   equals (word ∷ words) (values, next, inr is, h) = absurd is
 
-  -- words that go on where a command is chosen are a command, the equals sign and a reply
+  -- words that complete the line from a command are a command, the equals sign and a reply
   call : (words : List (List ℕ)) → Spells version [] Command words → IsCall words
   call [] h = absurd h
   call (word ∷ words) (values, next, inl is, h) =
@@ -356,7 +356,7 @@ module _ (version : Version) where
       }
   call (word ∷ words) (values, next, inr is, h) = absurd is
 
-  -- the word of a process, and words that go on behind it to the end, are those of an entry's line
+  -- the word of a process, and words that complete the line after it, are those of an entry's line
   entry : (word : List ℕ) (values : List Value) (next : Choice) (words : List (List ℕ)) (process : ℕ) → process < 64
       → word ≡ decimal process → values ≡ [] → next ≡ Command → Spells version values next words
       → IsLine Transcript version (word ∷ words)
@@ -370,7 +370,7 @@ module _ (version : Version) where
         cc (is, t.are),
       )
 
--- words that go on from the first one to the end of a line are those of a line of a transcript
+-- words that complete a line from its start are those of a line of a transcript
 of_transcript_line : (version : Version) (words : List (List ℕ)) → Spells version [] TranscriptLine words
     → IsLine Transcript version words
 of_transcript_line version [] h = absurd h
@@ -387,7 +387,7 @@ of_transcript_line version (word ∷ words) (values, next, inr ((process, small,
 
 -- ---- both texts
 
--- a line of a text is what goes on from its first word
+-- the lines of a text are exactly the words that complete a line from its start
 pub line_is : (kind : TextKind) (version : Version) (words : List (List ℕ))
     → IsLine kind version words ↔ Spells version [] (first_choice kind) words
 line_is Programs version words = (

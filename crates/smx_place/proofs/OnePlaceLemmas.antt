@@ -1,4 +1,4 @@
--- A line has one place at the most.
+-- A line has at most one place.
 use Rattle.std.proofs.Common.{◌≡◌, ℕ, ◌+◌, List, [], ◌∷◌, ◌++◌, length, refl, sym, ap, subst, ◌∙◌, append_assoc}
 use Rattle.std.proofs.Common.{inl, inr}
 use Rattle.std.proofs.lemmas.List.{append-nil}
@@ -11,16 +11,16 @@ use Rattle.smx_place.specs.Places.{AreParts, Begins, EndsThere, IsLine, IsPlace,
 use Rattle.smx_place.specs.declared.kinds.TextKind.{TextKind}
 use Rattle.smx_place.specs.declared.place.LinePlace.{LinePlace}
 
--- parts, each with a space behind it, are the first with its space and then the others with theirs
+-- parts, each followed by a space, are the first with its space, then the others with theirs
 first_part : (part : List ℕ) (parts : List (List ℕ)) → spaced (part ∷ parts) ≡ part ++ SPACE ∷ spaced parts
 first_part part parts = append_assoc part (SPACE ∷ []) (spaced parts)
 
--- a part has its space at the least
+-- a part with its space is not empty
 some_bytes : (part rest : List ℕ) → part ++ SPACE ∷ rest ≡ [] → ⊥
 some_bytes [] rest e = absurd (cc e)
 some_bytes (b ∷ part) rest e = absurd (cc e)
 
--- bytes are cut at their spaces in one way
+-- bytes can be split at their spaces in only one way
 one_cut : (xs ys : List (List ℕ)) → AllByRecursion (IsFree SPACE) xs → AllByRecursion (IsFree SPACE) ys
     → spaced xs ≡ spaced ys → xs ≡ ys
 one_cut [] [] all all_too e = refl
@@ -30,11 +30,11 @@ one_cut (x ∷ xs) (y ∷ ys) all all_too e =
     let t = apart SPACE x y (spaced xs) (spaced ys) all.0 all_too.0 (sym (first_part x xs) ∙ e ∙ first_part y ys) in
     ap (λ (z : List ℕ). z ∷ xs) t.0 ∙ ap (λ (zs : List (List ℕ)). y ∷ zs) (one_cut xs ys all.1 all_too.1 t.1)
 
--- a line is of one list of parts
+-- a line has only one list of parts
 one_line : (line : List ℕ) (xs ys : List (List ℕ)) → AreParts line xs → AreParts line ys → xs ≡ ys
 one_line line xs ys parts others = one_cut xs ys parts.0 others.0 (sym parts.1 ∙ others.1)
 
--- of two fronts of the same parts one goes on to the other, by a part that stands behind it
+-- of two fronts of the same parts, the first goes on to the second with the part after it
 record GoesTo (front behind other : List (List ℕ)) : Type 0 where
   word : List ℕ
   rest : List (List ℕ)
@@ -75,14 +75,14 @@ module _ (kind : TextKind) (version : Version) where
   begins_with front more (rest, is) =
       (more ++ rest, subst (IsLine kind version) (append_assoc front more rest) is)
 
-  -- where no line goes on, none goes on any further
+  -- if no line goes on, none goes on any further
   stops_all : (front behind other : List (List ℕ)) → Stops kind version front behind → Begins kind version other
       → GoesTo front behind other → ⊥
   stops_all front behind other stops begun h =
       subst (Stops kind version front) h.is stops
       (begins_with (front ++ h.word ∷ []) h.more (subst (Begins kind version) h.to begun))
 
-  -- where no line goes on behind a front, the line is not whole
+  -- if no line goes on after a front, the line is not valid
   stops_whole : (front behind : List (List ℕ)) → Stops kind version front behind
       → IsLine kind version (front ++ behind) → ⊥
   stops_whole front [] stops is = stops (subst (IsLine kind version) (append-nil front) is)
@@ -90,7 +90,7 @@ module _ (kind : TextKind) (version : Version) where
       stops (behind, subst (IsLine kind version) (sym (append_assoc front (word ∷ []) behind)) is)
 
   module _ (line : List ℕ) where
-    -- a line that stops somewhere is not whole
+    -- a line with a place is not valid
     pub not_both : (place : LinePlace) → IsPlace kind version line place → IsWhole kind version line → ⊥
     not_both place h (parts, are, is) =
         stops_whole h.front h.behind h.stops
@@ -107,11 +107,11 @@ module _ (kind : TextKind) (version : Version) where
             | inr (inr goes) ↦ absurd (stops_all k.front k.behind h.front k.stops h.begun goes)
           ]
 
-      -- they are in one column
+      -- both places have the same column
       pub same_column : one.column ≡ other.column
       same_column = h.column ∙ ap (λ (front : List (List ℕ)). length (spaced front) + 1) same_front ∙ sym k.column
 
-      -- the same words are wanted there
+      -- the same words are expected at both
       pub same_words : (word : List ℕ) → IsWanted version one.wanted word ↔ IsWanted version other.wanted word
       same_words word = (
         λ is. (k.wanted word).0
@@ -122,7 +122,7 @@ module _ (kind : TextKind) (version : Version) where
             ((k.wanted word).1 is)),
       )
 
-      -- and a line may end at both or at neither
+      -- a line may end at both or at neither
       pub same_ends : EndsThere one.wanted ↔ EndsThere other.wanted
       same_ends = (
         λ is. k.ends.0 (subst (IsLine kind version) same_front (h.ends.1 is)),

@@ -1,4 +1,4 @@
--- A line that is read word by word, as long as some line of the text goes on so.
+-- Reading a line word by word, as long as some line of the text goes on in the same way.
 use Rattle.std.proofs.Common.{◌≡◌, ℕ, ◌+◌, List, [], ◌∷◌, ◌++◌, length, Option, Some, None, refl, sym, ap, subst}
 use Rattle.std.proofs.Common.{◌∙◌, append-nil, append_assoc, arith, inl, inr, Bor}
 use Rattle.std.specs.Prelude.{◌↔◌, MatchOption}
@@ -21,26 +21,26 @@ use Rattle.smx_place.proofs.Spelling.{Spells}
 
 -- ---- parts
 
--- parts with one more, each with a space behind it, are the others with theirs and then that one with its space
+-- with one more part, each followed by a space, the bytes are the earlier ones, then that part with its space
 spaced_more : (front : List (List ℕ)) (word : List ℕ)
     → spaced (front ++ word ∷ []) ≡ spaced front ++ (word ++ SPACE ∷ [])
 spaced_more [] word = append-nil (word ++ SPACE ∷ [])
 spaced_more (w ∷ front) word = ap (λ (xs : List ℕ). (w ++ SPACE ∷ []) ++ xs) (spaced_more front word)
     ∙ sym (append_assoc (w ++ SPACE ∷ []) (spaced front) (word ++ SPACE ∷ []))
 
--- where no space stands in the parts in front, nor in those behind, none stands in any of all
+-- if no part of two lists has a space in it, no part of the joined list has
 all_more : (front : List (List ℕ)) (behind : List (List ℕ)) → AllByRecursion (IsFree SPACE) front
     → AllByRecursion (IsFree SPACE) behind → AllByRecursion (IsFree SPACE) (front ++ behind)
 all_more [] behind all more = more
 all_more (w ∷ front) behind all more = (all.0, all_more front behind all.1 more)
 
--- joined parts, each with a space behind it, are the parts in front with theirs and then those behind with theirs
+-- joined parts, each followed by a space, are the first ones with theirs, then the later ones with theirs
 spaced_both : (front behind : List (List ℕ)) → spaced (front ++ behind) ≡ spaced front ++ spaced behind
 spaced_both [] behind = refl
 spaced_both (w ∷ front) behind = ap (λ (xs : List ℕ). (w ++ SPACE ∷ []) ++ xs) (spaced_both front behind)
     ∙ sym (append_assoc (w ++ SPACE ∷ []) (spaced front) (spaced behind))
 
--- these bytes are parts, one or more
+-- these bytes consist of one or more parts
 record HasParts (bytes : List ℕ) : Type 0 where
   first : List ℕ
   others : List (List ℕ)
@@ -48,7 +48,7 @@ record HasParts (bytes : List ℕ) : Type 0 where
   all_free : AllByRecursion (IsFree SPACE) others
   are : bytes ++ SPACE ∷ [] ≡ first ++ SPACE ∷ spaced others
 
--- any bytes are parts, one or more
+-- any bytes consist of one or more parts
 parts_of : (bytes : List ℕ) → HasParts bytes
 parts_of [] = record { first = []; others = []; free = tt; all_free = tt; are = refl }
 parts_of (b ∷ bytes) =
@@ -70,7 +70,7 @@ parts_of (b ∷ bytes) =
       }
     ]
 
--- what is left of a line is parts, one or more where there is a rest
+-- the rest of a line consists of parts, at least one if there is a rest
 left_parts : (rest : Option (Bor (List ℕ))) → (behind : List (List ℕ)) × AllByRecursion (IsFree SPACE) behind
     × (left_of rest ≡ spaced behind)
 left_parts None = ([], tt, refl)
@@ -95,14 +95,14 @@ pub at_begin : (kind : TextKind) (version : Version) (line : Bor (List ℕ))
 at_begin kind version line =
     record { front = []; free = tt; left = refl; column = refl; goes_on = line_is kind version }
 
--- what is wanted is the next word of a way to go on
+-- a word of the expected kind is the next word of a way to go on
 wanted_word : (version : Version) (values : List Value) (next : Choice) (word : List ℕ)
     → IsWanted version (wanted_of values next) word
     → (behind : List Value) × (then : Choice) × GoesOn version values next word behind then
 wanted_word version [] next word h = h
 wanted_word version (value ∷ values) next word h = (values, next, (h, refl, refl))
 
--- the next word of a way to go on is what is wanted
+-- the next word of a way to go on is of the expected kind
 word_wanted : (version : Version) (values : List Value) (next : Choice) (word : List ℕ) (behind : List Value)
     (then : Choice) → GoesOn version values next word behind then → IsWanted version (wanted_of values next) word
 word_wanted version [] next word behind then h = (behind, then, h)
@@ -110,7 +110,7 @@ word_wanted version (value ∷ values) next word behind then h = h.0
 
 module _ (kind : TextKind) (version : Version) (line : List ℕ) (column : ℕ) (rest : Option (Bor (List ℕ)))
     (values : List Value) (next : Choice) (h : HasCome kind version line column rest values next) where
-  -- where a line goes on with its next part, it has come as far as behind that part
+  -- if a line can go on with its next part, it goes on up to the column after that part
   pub one_more : (text : Bor (List ℕ)) → rest ≡ Some text → (word : List ℕ) (behind : Option (Bor (List ℕ)))
       → IsFree SPACE word → text.now ++ SPACE ∷ [] ≡ word ++ SPACE ∷ left_of behind
       → (wanted : List Value) (then : Choice) → GoesOn version values next word wanted then
@@ -147,7 +147,7 @@ module _ (kind : TextKind) (version : Version) (line : List ℕ) (column : ℕ) 
   begins : Begins kind version h.front
   begins = let t = can_end version values next in (t.0, (h.goes_on t.0).1 t.1)
 
-  -- with the words that are wanted, and with no others, lines of the text go on behind the parts that were passed
+  -- the words with which a line of the text can go on after the passed parts are exactly those of the expected kind
   goes_with : (word : List ℕ)
       → Begins kind version (h.front ++ word ∷ []) ↔ IsWanted version (wanted_of values next) word
   goes_with word = (there, back) where
@@ -166,14 +166,14 @@ module _ (kind : TextKind) (version : Version) (line : List ℕ) (column : ℕ) 
               ((h.goes_on (word ∷ t.0)).1 (behind, then, goes, t.1)),
         )
 
-  -- the parts that were passed are a whole line just where a line may end
+  -- the parts that were passed are a whole line exactly if a line may end here
   ends_there : IsLine kind version h.front ↔ EndsThere (wanted_of values next)
   ends_there = (
     λ is. (h.goes_on []).0 (subst (IsLine kind version) (sym (append-nil h.front)) is),
     λ ends. subst (IsLine kind version) (append-nil h.front) ((h.goes_on []).1 ends),
   )
 
-  -- the place is here, where these parts are left
+  -- the place is here, with these parts left
   place_here : (behind : List (List ℕ)) → AllByRecursion (IsFree SPACE) behind → left_of rest ≡ spaced behind
       → Stops kind version h.front behind
       → IsPlace kind version line (record { column = column; wanted = wanted_of values next })
@@ -191,7 +191,7 @@ module _ (kind : TextKind) (version : Version) (line : List ℕ) (column : ℕ) 
     ends = ends_there;
   }
 
-  -- the place is here, where the next word goes on in no way
+  -- the place is here, if no line goes on with the next word
   pub stops_here : (text : Bor (List ℕ)) → rest ≡ Some text → (word : List ℕ) (behind : Option (Bor (List ℕ)))
       → IsFree SPACE word → text.now ++ SPACE ∷ [] ≡ word ++ SPACE ∷ left_of behind
       → ((wanted : List Value) (then : Choice) → GoesOn version values next word wanted then → ⊥)
@@ -205,7 +205,7 @@ module _ (kind : TextKind) (version : Version) (line : List ℕ) (column : ℕ) 
       let (wanted, then, goes) = wanted_word version values next word ((goes_with word).0 begun) in
       stops wanted then goes)
 
-  -- the line is whole where it may end
+  -- the line is valid if nothing is left and it may end here
   pub whole_here : rest ≡ None → EndsThere (wanted_of values next) → IsWhole kind version line
   whole_here is ends = (
     h.front,
@@ -217,12 +217,12 @@ module _ (kind : TextKind) (version : Version) (line : List ℕ) (column : ℕ) 
     ends_there.1 ends,
   )
 
-  -- where nothing is left and a line may not end, the place is at the end of the line
+  -- if nothing is left and a line may not end here, the place is at the end of the line
   pub ends_here : rest ≡ None → (EndsThere (wanted_of values next) → ⊥)
       → IsPlace kind version line (record { column = column; wanted = wanted_of values next })
   ends_here is stops = place_here [] tt (ap left_of is) (λ whole. stops (ends_there.0 whole))
 
-  -- where nothing is left, the line is whole, or the place is at its end, as the code tells
+  -- if nothing is left, the line is valid or the place is at its end, as the code decides
   pub at_end : rest ≡ None → (o : Option LinePlace)
       → MatchOption o (EndsThere (wanted_of values next)) (λ place. (EndsThere (wanted_of values next) → ⊥)
       × (place ≡ record { column = column; wanted = wanted_of values next }))

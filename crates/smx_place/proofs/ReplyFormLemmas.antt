@@ -22,19 +22,19 @@ use Rattle.smx_place.specs.declared.kinds.Value.TheVariants.{Number, Bytes}
 use Rattle.smx_place.proofs.Spelling.{Spells}
 use Rattle.smx_place.proofs.WalkLemmas.{ended_as, from_row, no_more, number, plain, tells}
 
--- ---- each reply is spelled so
+-- ---- each reply is spelled by the table
 
 module _ (version : Version) where
-  -- a fixed word behind which the end is chosen goes on to the end of a line
+  -- a fixed word after which the line ends completes the line
   last : (choice : Choice) (word : List ℕ) → IsRow (rows choice) word [] End → Spells version [] choice (word ∷ [])
   last choice word is = from_row version choice word [] End [] [] is tt tt
 
-  -- the words of a fault, an error and what is wrong, go on to the end of a reply
+  -- the words of a fault, an error and a reason, complete a reply
   both : (error : List ℕ) (choice : Choice) (word : List ℕ) → IsRow replies error [] choice
       → IsRow (rows choice) word [] End → Spells version [] Reply (error ∷ word ∷ [])
   both error choice word is wrong = from_row version Reply error [] choice [] (word ∷ []) is tt (last choice word wrong)
 
-  -- the words of the fault of a stream that has hung up go on to the end of a reply, where a version can tell it
+  -- the words of the fault of a hung-up stream complete a reply, in a version that has them
   hung_up : CanTell version true → Spells version [] Reply (fault_words fault.HungUp)
   hung_up told = from_row version Reply (codes "ENXIO") [] NoDevice [] (codes "hangup" ∷ []) (search rules) tt
       (of_version_2 version told) where
@@ -42,7 +42,7 @@ module _ (version : Version) where
         of_version_2 V1 told = absurd (cc told)
         of_version_2 V2 told = ([], End, inl (inl (refl, refl, refl)), tt)
 
-  -- the words of a fault that a version can tell go on to the end of a reply
+  -- the words of a fault of a version complete a reply
   fault_spelled : (f : Fault) → CanTell version (is_hung_up f) → Spells version [] Reply (fault_words f)
   fault_spelled fault.BadDescriptor told = both (codes "EBADF") BadDescriptor (codes "fd") (search rules) (search rules)
   fault_spelled fault.Below told = both (codes "EINVAL") Invalid (codes "below") (search rules) (search rules)
@@ -62,13 +62,13 @@ module _ (version : Version) where
   fault_spelled fault.BadSize told = last Reply (codes "ERANGE") (search rules)
   fault_spelled fault.HungUp told = hung_up told
 
-  -- the words of serials go on to the end of a line where serials are chosen
+  -- the words of serials complete the line
   serials_spelled : (ns : List ℕ) → AllByRecursion FitsNumber ns → Spells version [] Serials (map decimal ns)
   serials_spelled [] all = tt
   serials_spelled (n ∷ ns) all =
       ([], Serials, inr (number n all.0, refl, refl), serials_spelled ns all.1)
 
-  -- the words of a reply that a version can tell go on to the end of a reply
+  -- the words of a reply of a version complete a reply
   pub reply_spelled : (r : AnyReply) → FitsReplyIn version r → Spells version [] Reply (reply_words r)
   reply_spelled (reply.Fd fd minor) (fits, told) =
       from_row version Reply (codes "fd") (Number ∷ Number ∷ []) End (decimal fd ∷ decimal minor ∷ []) [] (search rules)
@@ -91,23 +91,23 @@ module _ (version : Version) where
     of_version_2 V2 told = ([], End, inl (inl (refl, refl, refl)), tt)
   reply_spelled (reply.Fault f) (fits, told) = fault_spelled f told
 
--- ---- what is spelled so is a reply's
+-- ---- what the table spells is a reply
 
 -- a reply of a version has these words
 abbrev pub IsReply : Version → List (List ℕ) → Type 0
 IsReply version words = (r : AnyReply) × FitsReplyIn version r × (reply_words r ≡ words)
 
--- a fault that a version can tell has these words
+-- a fault of a version has these words
 abbrev IsFault : Version → List (List ℕ) → Type 0
 IsFault version words = (f : Fault) × CanTell version (is_hung_up f) × (fault_words f ≡ words)
 
 module _ (version : Version) where
-  -- where a word ends the line, nothing stands behind it
+  -- if the line ends after a word, nothing follows it
   nothing : (values : List Value) (next : Choice) (words : List (List ℕ)) → values ≡ [] → next ≡ End
       → Spells version values next words → words ≡ []
   nothing values next words none then h = no_more version words (rw (← none, ← then) h)
 
-  -- `EINVAL` and a word of what is wrong with an argument are those of a fault
+  -- `EINVAL` and a reason from its table are the words of a fault
   invalid_row : (word : List ℕ) (values : List Value) (next : Choice) (words : List (List ℕ))
       → IsRow invalid word values next → Spells version values next words
       → IsFault version (codes "EINVAL" ∷ word ∷ words)
@@ -127,7 +127,7 @@ module _ (version : Version) where
       (fault.Unrouted, tells version, cc (is.0, nothing values next words is.1 is.2 h))
   invalid_row word values next words (inr (inr (inr (inr (inr (inr (inr is))))))) h = absurd is
 
-  -- `EAGAIN` and a word of what is wrong are those of a fault
+  -- `EAGAIN` and a reason from its table are the words of a fault
   again_row : (word : List ℕ) (values : List Value) (next : Choice) (words : List (List ℕ))
       → IsRow (rows Again) word values next → Spells version values next words
       → IsFault version (codes "EAGAIN" ∷ word ∷ words)
@@ -139,7 +139,7 @@ module _ (version : Version) where
       (fault.Empty, tells version, cc (is.0, nothing values next words is.1 is.2 h))
   again_row word values next words (inr (inr (inr is))) h = absurd is
 
-  -- `EBADF` and the word for a descriptor are those of a fault
+  -- `EBADF` and the word for a descriptor are the words of a fault
   descriptor_row : (word : List ℕ) (values : List Value) (next : Choice) (words : List (List ℕ))
       → IsRow (rows BadDescriptor) word values next → Spells version values next words
       → IsFault version (codes "EBADF" ∷ word ∷ words)
@@ -147,7 +147,7 @@ module _ (version : Version) where
       (fault.BadDescriptor, tells version, cc (is.0, nothing values next words is.1 is.2 h))
   descriptor_row word values next words (inr is) h = absurd is
 
-  -- `ENXIO` and the word for a driver or a minor are those of a fault
+  -- `ENXIO` and the word for a driver or a minor are the words of a fault
   device_row : (word : List ℕ) (values : List Value) (next : Choice) (words : List (List ℕ))
       → IsRow (rows NoDevice) word values next → Spells version values next words
       → IsFault version (codes "ENXIO" ∷ word ∷ words)
@@ -157,21 +157,21 @@ module _ (version : Version) where
       (fault.NoMinor, tells version, cc (is.0, nothing values next words is.1 is.2 h))
   device_row word values next words (inr (inr is)) h = absurd is
 
-  -- `EINVAL` and the words that go on behind it are those of a fault
+  -- `EINVAL` and the words that complete the line after it are those of a fault
   of_invalid : (words : List (List ℕ)) → Spells version [] Invalid words → IsFault version (codes "EINVAL" ∷ words)
   of_invalid [] h = absurd h
   of_invalid (word ∷ words) (values, next, inl is, h) =
       invalid_row word values next words (plain version Invalid refl word values next is) h
   of_invalid (word ∷ words) (values, next, inr is, h) = absurd is
 
-  -- `EAGAIN` and the words that go on behind it are those of a fault
+  -- `EAGAIN` and the words that complete the line after it are those of a fault
   of_again : (words : List (List ℕ)) → Spells version [] Again words → IsFault version (codes "EAGAIN" ∷ words)
   of_again [] h = absurd h
   of_again (word ∷ words) (values, next, inl is, h) =
       again_row word values next words (plain version Again refl word values next is) h
   of_again (word ∷ words) (values, next, inr is, h) = absurd is
 
-  -- `EBADF` and the words that go on behind it are those of a fault
+  -- `EBADF` and the words that complete the line after it are those of a fault
   of_descriptor : (words : List (List ℕ)) → Spells version [] BadDescriptor words
       → IsFault version (codes "EBADF" ∷ words)
   of_descriptor [] h = absurd h
@@ -179,7 +179,7 @@ module _ (version : Version) where
       descriptor_row word values next words (plain version BadDescriptor refl word values next is) h
   of_descriptor (word ∷ words) (values, next, inr is, h) = absurd is
 
-  -- words that go on where serials are chosen are those of serials
+  -- words that complete the line from its serials are those of serials
   of_serials : (words : List (List ℕ)) → Spells version [] Serials words
       → (ns : List ℕ) × AllByRecursion FitsNumber ns × (map decimal ns ≡ words)
   of_serials [] h = ([], tt, refl)
@@ -188,7 +188,7 @@ module _ (version : Version) where
       let t = of_serials words (rw (← none, ← then) h) in
       (n ∷ t.0, (fits, t.1), cc (is, t.2))
 
--- `ENXIO` and the words that go on behind it are those of a fault of that version
+-- `ENXIO` and the words that complete the line after it are those of a fault of that version
 of_device : (version : Version) (words : List (List ℕ)) → Spells version [] NoDevice words
     → IsFault version (codes "ENXIO" ∷ words)
 of_device version [] h = absurd h
@@ -199,11 +199,11 @@ of_device V2 (word ∷ words) (values, next, inl (inr is), h) = device_row V2 wo
 of_device version (word ∷ words) (values, next, inr is, h) = absurd is
 
 module _ (version : Version) where
-  -- the words of a fault that a version can tell are those of a reply
+  -- the words of a fault of a version are those of a reply
   of_fault : (words : List (List ℕ)) → IsFault version words → IsReply version words
   of_fault words (f, told, are) = (reply.Fault f, (tt, told), are)
 
-  -- a first word of a reply, and words that go on behind it to the end, are those of a reply
+  -- a first word of a reply, and words that complete the line after it, are those of a reply
   reply_row : (word : List ℕ) (values : List Value) (next : Choice) (words : List (List ℕ))
       → IsRow replies word values next → Spells version values next words → IsReply version (word ∷ words)
   reply_row word values next words (inl is) h =
@@ -248,7 +248,7 @@ module _ (version : Version) where
   reply_row word values next words (inr (inr (inr (inr (inr (inr (inr (inr (inr (inr (inr (inr is)))))))))))) h =
       absurd is
 
--- words that go on from the first one to the end of a reply are those of a reply of that version
+-- words that complete a reply from its start are those of a reply of that version
 pub of_reply : (version : Version) (words : List (List ℕ)) → Spells version [] Reply words → IsReply version words
 of_reply version [] h = absurd h
 of_reply V1 (word ∷ words) (values, next, inl is, h) = reply_row V1 word values next words is h

@@ -19,27 +19,27 @@ use Rattle.smx_place.specs.declared.kinds.Choice.TheVariants.{Command, Equals}
 use Rattle.smx_place.specs.declared.kinds.Value.{Value}
 use Rattle.smx_place.specs.declared.rows.FoundRow.{FoundRow}
 
--- a row as the code has it
+-- a row as the code stores it
 abbrev StoredRow : Type 0
 StoredRow = Bor (List ℕ) × Bor (List Value) × Choice
 
--- what is said of a word in some rows
+-- what the search for a word in some rows finds
 abbrev Tells : List StoredRow → List ℕ → Option FoundRow → Type 0
 Tells rows word o =
     MatchOption o (IsNoRow (rows_of rows) word) (λ row. IsRow (rows_of rows) word row.values.now row.next)
 
--- bytes that a comparison tells apart are not the same
+-- bytes that a comparison finds different are not the same
 differ : (xs ys : List ℕ) → bytes_eq xs ys ≡ false → ys ≢ xs
 differ xs ys other e =
     let same : bytes_eq xs ys ≡ true = (bytes_eq-Decides xs ys).1 (sym e) in absurd (cc (other, same))
 
--- what is said of a word in some rows is said of it with a row more in front, which has another word
+-- one more row in front, with another word, changes nothing of what the search finds
 one_more : (row : StoredRow) (rows : List StoredRow) (word : List ℕ) (o : Option FoundRow) → word ≢ row.0.now
     → Tells rows word o → Tells (row ∷ rows) word o
 one_more row rows word None other h = (other, h)
 one_more row rows word (Some found) other h = inr h
 
--- where the first row has another word, what is said of the others is said of all
+-- if the first row has another word, the search finds what it finds in the other rows
 pub passed : (rows : List StoredRow) (word first : List ℕ) (d : StoredRow) (o : Option FoundRow) (test : Bool)
     → 1 ≤ length rows → first ≡ (get_or rows 0 d).0.now → test ≡ bytes_eq first word → test ≡ false
     → Tells (take (length rows - 1) (drop 1 rows)) word o → Tells rows word o
@@ -58,7 +58,7 @@ in_second (k ∷ ks) ls word values next is = inr (in_second ks ls word values n
 
 -- ---- values
 
--- a number that is none of a process is not spelled as one
+-- a number that is not one of a process is not spelled as one
 pub no_process : (word : List ℕ) (n : ℕ) → FitsNumber n → word ≡ decimal n → MAX_PROCESSES ≤ n
     → IsSpelled FitsProcess decimal word → ⊥
 no_process word n fits is large (p, small, same) =
@@ -67,23 +67,23 @@ no_process word n fits is large (p, small, same) =
 
 -- ---- commands
 
--- each of these rows chooses this
+-- each of these rows has this choice
 abbrev AllChoose : Choice → List WordRow → Type 0
 AllChoose next rows = AllByRecursion (λ row. row.2 ≡ next) rows
 
--- where the same is chosen behind each row, it is chosen behind the row of any word
+-- if all rows have the same choice, the row of any word has it
 chosen_by_all : (ks : List WordRow) (next : Choice) → AllChoose next ks → (word : List ℕ) (values : List Value)
     (found : Choice) → IsRow ks word values found → found ≡ next
 chosen_by_all [] next all word values found is = absurd is
 chosen_by_all (k ∷ ks) next all word values found (inl is) = is.2 ∙ all.0
 chosen_by_all (k ∷ ks) next all word values found (inr more) = chosen_by_all ks next all.1 word values found more
 
--- behind each command of a version the equals sign is chosen
+-- after each command of a version the equals sign is expected
 all_equals : (version : Version) → AllChoose Equals (told_rows version Command)
 all_equals V1 = search rules
 all_equals V2 = search rules
 
--- behind each command an equals sign stands
+-- after each command comes an equals sign
 pub equals_behind : (version : Version) (word : List ℕ) (values : List Value) (next : Choice)
     → IsFixed version Command word values next → next ≡ Equals
 equals_behind version = chosen_by_all (told_rows version Command) Equals (all_equals version)

@@ -1,4 +1,4 @@
--- The words with which a line goes on where some values are wanted and then something is chosen.
+-- The words that complete a line from some values and then a choice.
 use Rattle.std.proofs.Common.{ℕ, List, [], ◌∷◌}
 use Rattle.smx_types.specs.declared.version.Version.{Version}
 use Rattle.smx_place.specs.Places.{EndsThere, wanted_of}
@@ -6,7 +6,7 @@ use Rattle.smx_place.specs.Rows.{GoesOn, IsValue}
 use Rattle.smx_place.specs.declared.kinds.Choice.{Choice}
 use Rattle.smx_place.specs.declared.kinds.Value.{Value}
 
--- the words go on so to the end of a line
+-- the words complete the line
 abbrev pub Spells : Version → List Value → Choice → List (List ℕ) → Type 0
 Spells version values choice [] = EndsThere (wanted_of values choice)
 Spells version values choice (word ∷ words) = (behind : List Value) × (next : Choice)

@@ -1,4 +1,4 @@
--- A line goes on by the values that are wanted, and then by what is chosen.
+-- How a line goes on through the expected values and then a choice.
 use Rattle.std.proofs.Common.{◌≡◌, ℕ, false, List, [], ◌∷◌, ◌++◌, refl, ap, subst, ◌∙◌, append-nil, inl, inr}
 use Rattle.smx_types.specs.declared.version.Version.{Version}
 use Rattle.smx_types.specs.declared.version.Version.TheVariants.{V1, V2}
@@ -13,17 +13,17 @@ use Rattle.smx_place.proofs.CompleteLemmas.{fixed_in}
 use Rattle.smx_place.proofs.ShapeLemmas.{Words, given, words_of}
 use Rattle.smx_place.proofs.Spelling.{Spells, Takes}
 
--- what tells of no hangup each version can tell
+-- each version can spell what has no hangup in it
 pub tells : (version : Version) → CanTell version false
 tells V1 = refl
 tells V2 = tt
 
--- the word of a number of 32 bits is a word for the value of a number
+-- the word of a 32-bit number is a word for a number
 pub number : (n : ℕ) → FitsNumber n → IsValue Number (decimal n)
 number n fits = (n, fits, refl)
 
 module _ (version : Version) where
-  -- words for the values that are wanted, and then words that go on from what is chosen, go on from both
+  -- words for the expected values, and then words that complete the line from the choice, complete the line from both
   pub with_args : (values : List Value) (args : List (List ℕ)) (next : Choice) (rest : List (List ℕ))
       → Takes values args → Spells version [] next rest → Spells version values next (args ++ rest)
   with_args [] [] next rest takes more = more
@@ -32,7 +32,8 @@ module _ (version : Version) where
   with_args (value ∷ values) (arg ∷ args) next rest takes more =
       (values, next, (takes.0, refl, refl), with_args values args next rest takes.1 more)
 
-  -- a fixed word, words for its values, and words that go on behind them, go on from where that word is chosen
+  -- a fixed word, words for its values, and words that complete the line after them, complete the line from the
+  -- choice
   pub from_row : (choice : Choice) (word : List ℕ) (values : List Value) (next : Choice) (args rest : List (List ℕ))
       → IsRow (rows choice) word values next → Takes values args → Spells version [] next rest
       → Spells version [] choice (word ∷ (args ++ rest))
@@ -47,7 +48,7 @@ module _ (version : Version) where
     pub takes : Takes values args
     pub more : Spells version [] next rest
 
-  -- words that go on where values are wanted begin with a word for each of the values
+  -- words that complete the line from some values begin with a word for each of the values
   pub cut : (values : List Value) (next : Choice) (words : List (List ℕ)) → Spells version values next words
       → Cut values next words
   cut [] next words h = record { args = []; rest = words; are = refl; takes = tt; more = h }
@@ -65,7 +66,7 @@ module _ (version : Version) where
             → then ≡ next → Spells version behind then words → Spells version values next words
         subst_both behind values then next words same same_too h = rw (← same, ← same_too) h
 
-  -- where the line ends, there is no word more
+  -- if the line ends here, there is no further word
   pub no_more : (words : List (List ℕ)) → Spells version [] End words → words ≡ []
   no_more [] h = refl
   no_more (word ∷ words) (values, next, inl is, h) = absurd (none version is) where
@@ -74,7 +75,7 @@ module _ (version : Version) where
     none V2 is = is
   no_more (word ∷ words) (values, next, inr is, h) = absurd is
 
-  -- where the line ends behind some values, it is words for them
+  -- if the line ends after some values, its words are those of the values
   pub ended : (values : List Value) (next : Choice) (words : List (List ℕ)) (wanted : List Value) → values ≡ wanted
       → next ≡ End → Spells version values next words → Takes wanted words
   ended values next words wanted same then h =
@@ -83,7 +84,7 @@ module _ (version : Version) where
       ∙ append-nil t.args in
       rw whole t.takes
 
-  -- where the line ends behind some values, it is a word for each of them
+  -- if the line ends after some values, it has one word for each of them
   pub ended_as : (values : List Value) (next : Choice) (words : List (List ℕ)) (wanted : List Value)
       → values ≡ wanted → next ≡ End → Spells version values next words
       → (ws : Words wanted) × (words ≡ words_of wanted ws)

@@ -15,11 +15,11 @@ use Rattle.smx_place.specs.declared.kinds.Value.TheVariants as value
 use Rattle.smx_place.proofs.DeterminedLemmas.{not_new}
 use Rattle.smx_place.proofs.PlaceLemmas.{HasCome, at_begin, ends_here, one_more, stops_here, whole_here}
 
--- bytes that are looked at
+-- bytes as the code sees them
 abbrev seen : List ℕ → Bor (List ℕ)
 seen bytes = record { ref_ptr = (0, 0); now = bytes }
 
--- a word that is of neither kind goes on in no way
+-- a word of neither kind goes on in no way
 neither : (version : Version) (next : Choice) (word : List ℕ)
     → ((values : List Value) (then : Choice) → IsFixed version next word values then → ⊥)
     → ((values : List Value) (then : Choice) → IsOther version next word values then → ⊥)
@@ -37,7 +37,7 @@ no_line word fixed command =
 
 -- ---- programs
 
--- an empty line wants its first word
+-- an empty line lacks its first word
 pub empty : IsPlace Programs V1 (codes "") (choice_at 1 choice.ProgramsLine)
 empty =
     stops_here Programs V1 (codes "") 1 (Some (seen (codes ""))) [] choice.ProgramsLine
@@ -55,7 +55,7 @@ of_version_2 =
     (λ values then. not_new (told_rows V1 choice.ProgramsLine) (codes "hangup") values then refl)
     (λ values then. not_new (told_rows V1 choice.Command) (codes "hangup") values then refl))
 
--- `dup` wants a number
+-- `dup` lacks a number
 pub word_wanting : IsPlace Programs V1 (codes "dup") (value_at 5 value.Number)
 word_wanting =
     ends_here Programs V1 (codes "dup") 5 None (value.Number ∷ []) choice.End
@@ -64,7 +64,7 @@ word_wanting =
     refl
     (value.Number ∷ []) choice.End (inr (search rules, refl)) 5 refl) refl (λ ends. ends)
 
--- nothing stands behind `exit`
+-- nothing may follow `exit`
 pub word_too_many : IsPlace Programs V1 (codes "exit 0") (choice_at 6 choice.End)
 word_too_many =
     stops_here Programs V1 (codes "exit 0") 6 (Some (seen (codes "0"))) [] choice.End
@@ -74,7 +74,7 @@ word_too_many =
     (seen (codes "0")) refl (codes "0") None (search (rules, arith)) refl
     (neither V1 choice.End (codes "0") (λ values then is. is) (λ values then is. is))
 
--- between two spaces an empty word stands
+-- between two spaces is an empty word
 pub two_spaces : IsPlace Programs V1 (codes "clone  ip") (value_at 7 value.Name)
 two_spaces =
     stops_here Programs V1 (codes "clone  ip") 7 (Some (seen (codes " ip"))) (value.Name ∷ []) choice.End
@@ -85,7 +85,7 @@ two_spaces =
     (seen (codes " ip")) refl (codes "") (Some (seen (codes "ip"))) tt refl
     (λ values then goes. absurd (cc goes.0))
 
--- version 2 has a hangup, which wants a minor
+-- version 2 has a hangup, which lacks a minor here
 pub in_version_2 : IsPlace Programs V2 (codes "hangup eth") (value_at 12 value.Number)
 in_version_2 =
     ends_here Programs V2 (codes "hangup eth") 12 None (value.Number ∷ []) choice.End
@@ -99,7 +99,7 @@ in_version_2 =
 
 -- ---- transcripts
 
--- behind `0 exit ` the line of an entry goes on in column 8, with the equals sign
+-- after `0 exit ` the line of an entry goes on in column 8, with the equals sign
 behind_exit : (version : Version) (line rest : List ℕ) → line ≡ codes "0 exit " ++ rest
     → IsFixed version choice.Command (codes "exit") [] choice.Equals
     → HasCome Transcript version line 8 (Some (seen rest)) [] choice.Equals
@@ -115,7 +115,7 @@ behind_exit version line rest is fixed =
     (seen (codes "exit " ++ rest)) refl (codes "exit") (Some (seen rest)) (search (rules, arith)) refl [] choice.Equals
     (inl fixed) 8 refl)
 
--- behind an entry's command the sign is wanted
+-- after an entry's command the sign is expected
 pub no_equals : IsPlace Transcript V2 (codes "0 exit done") (choice_at 8 choice.Equals)
 no_equals =
     stops_here Transcript V2 (codes "0 exit done") 8 (Some (seen (codes "done"))) [] choice.Equals
@@ -126,7 +126,7 @@ no_equals =
     values then refl)
     (λ values then is. is))
 
--- behind `0 exit = ` the line of an entry goes on in column 10, with a reply
+-- after `0 exit = ` the line of an entry goes on in column 10, with a reply
 behind_equals : (line rest : List ℕ) → line ≡ codes "0 exit = " ++ rest
     → HasCome Transcript V1 line 10 (Some (seen rest)) [] choice.Reply
 behind_equals line rest is =
@@ -135,7 +135,7 @@ behind_equals line rest is =
     (Some (seen rest))
     (search (rules, arith)) refl [] choice.Reply (inl (search rules)) 10 refl
 
--- behind `EBADF` its own cause is wanted
+-- after `EBADF` its own reason is expected
 pub other_cause : IsPlace Transcript V1 (codes "0 exit = EBADF full") (choice_at 16 choice.BadDescriptor)
 other_cause =
     stops_here Transcript V1 (codes "0 exit = EBADF full") 16 (Some (seen (codes "full"))) [] choice.BadDescriptor
@@ -148,12 +148,12 @@ other_cause =
     (codes "full") values then refl)
     (λ values then is. is))
 
--- the word `7` may stand among serials, and more may stand behind it
+-- the word `7` may be a serial, and more serials may follow
 seven : GoesOn V1 [] choice.Serials (codes "7") [] choice.Serials
 unfolding digits
 seven = inr ((7, omega arith, refl), refl, refl)
 
--- the word `5` may stand among serials, and more may stand behind it
+-- the word `5` may be a serial, and more serials may follow
 five : GoesOn V1 [] choice.Serials (codes "5") [] choice.Serials
 unfolding digits
 five = inr ((5, omega arith, refl), refl, refl)

@@ -1,4 +1,4 @@
--- The words in which it is told what may stand in some place.
+-- The words that describe what is expected at a place.
 use Rattle.std.specs.Prelude.{ℕ, List, ◌++◌, codes}
 use Rattle.smx_place.specs.declared.kinds.Choice.{Choice}
 use Rattle.smx_place.specs.declared.kinds.Choice.TheVariants.{ProgramsLine, TranscriptLine, Command, Equals, Reply}
@@ -21,7 +21,7 @@ value_words Side = codes "'w' or 'r'"
 value_words LinkKind = codes "'link' or 'plink'"
 value_words Bytes = codes "hex digits in pairs, or '-',"
 
--- the words for what is chosen
+-- the words for a choice
 abbrev pub choice_words : Choice → List ℕ
 choice_words ProgramsLine = codes "'driver', 'process', 'end', a command, or in version 2 'hangup'"
 choice_words TranscriptLine =
@@ -37,7 +37,7 @@ choice_words NoDevice = codes "'driver', 'minor', or in version 2 'hangup'"
 choice_words Serials = codes "a number from 0 to 4294967295, or the end of the line"
 choice_words End = codes "the end of the line"
 
--- the words for what is wanted
+-- the words for what is expected
 abbrev pub wanted_words : Wanted → List ℕ
 wanted_words (wanted.Value value) = value_words value
 wanted_words (wanted.Choice choice) = choice_words choice

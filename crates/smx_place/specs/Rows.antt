@@ -1,4 +1,4 @@
--- What may stand in each place of a line, and how the line goes on behind it.
+-- The words that may occur at each place of a line, and how the line goes on after each.
 use Rattle.std.specs.Prelude.{◌≡◌, ◌≢◌, ◌⊎◌, ℕ, List, [], ◌∷◌, ◌++◌, codes}
 use Rattle.std.specs.Borrow.{Bor}
 use Rattle.std.specs.Fmt.{decimal}
@@ -17,7 +17,7 @@ use Rattle.smx_place.specs.declared.kinds.Value.TheVariants.{LinkKind, Bytes}
 
 -- ---- words
 
--- a word that says a value of a kind
+-- a word that gives a value of this kind
 abbrev pub IsValue : Value → List ℕ → Type 0
 IsValue Name word = FitsName word
 IsValue DriverKind word = IsSpelled FitsAlways kind_word word
@@ -29,13 +29,13 @@ IsValue Side word = IsSpelled FitsAlways side_word word
 IsValue LinkKind word = IsSpelled FitsAlways link_kind_word word
 IsValue Bytes word = IsSpelled FitsBytes hex_word word
 
--- a fixed word, the values that are wanted behind it, and what is chosen behind those
+-- a fixed word, the values expected after it, and the choice after these values
 abbrev pub WordRow : Type 0
 WordRow = List ℕ × List Value × Choice
 
 -- ---- tables
 
--- the first words of the lines of programs that are no commands
+-- the first words of the lines of programs, except commands
 abbrev pub programs_lines : List WordRow
 programs_lines =
     (codes "driver", Name ∷ DriverKind ∷ Number ∷ Number ∷ Number ∷ Number ∷ [], End)
@@ -43,7 +43,7 @@ programs_lines =
     ∷ (codes "end", [], End)
     ∷ []
 
--- the first words of the lines of a transcript that are no entries
+-- the first words of the lines of a transcript, except entries
 abbrev pub transcript_lines : List WordRow
 transcript_lines =
     (codes "driver", Name ∷ DriverKind ∷ Number ∷ Number ∷ Number ∷ Number ∷ [], End)
@@ -98,7 +98,7 @@ replies =
     ∷ (codes "ERANGE", [], End)
     ∷ []
 
--- what is wrong with an argument
+-- the reasons after `EINVAL`
 abbrev pub invalid : List WordRow
 invalid =
     (codes "below", [], End)
@@ -110,7 +110,7 @@ invalid =
     ∷ (codes "unrouted", [], End)
     ∷ []
 
--- the fixed words among which is chosen
+-- the fixed words of a choice in both versions
 abbrev pub rows : Choice → List WordRow
 rows ProgramsLine = programs_lines
 rows TranscriptLine = transcript_lines
@@ -124,7 +124,7 @@ rows NoDevice = (codes "driver", [], End) ∷ (codes "minor", [], End) ∷ []
 rows Serials = []
 rows End = []
 
--- the fixed words among which is chosen in version 2 alone
+-- the fixed words of a choice that only version 2 adds
 abbrev pub later_rows : Choice → List WordRow
 later_rows ProgramsLine = []
 later_rows TranscriptLine = (codes "hung", Name ∷ Number ∷ [], End) ∷ []
@@ -138,7 +138,7 @@ later_rows NoDevice = (codes "hangup", [], End) ∷ []
 later_rows Serials = []
 later_rows End = []
 
--- the fixed words among which is chosen in a version
+-- the fixed words of a choice in this version
 abbrev pub told_rows : Version → Choice → List WordRow
 told_rows V1 choice = rows choice
 told_rows V2 choice = later_rows choice ++ rows choice
@@ -154,7 +154,7 @@ abbrev pub IsNoRow : List WordRow → List ℕ → Type 0
 IsNoRow [] word = Unit {0}
 IsNoRow (row ∷ rows) word = (word ≢ row.0) × IsNoRow rows word
 
--- rows as the code has them
+-- rows as the code stores them
 abbrev pub rows_of : List (Bor (List ℕ) × Bor (List Value) × Choice) → List WordRow
 rows_of [] = []
 rows_of (row ∷ rows) = (row.0.now, row.1.now, row.2) ∷ rows_of rows
@@ -165,8 +165,8 @@ rows_of (row ∷ rows) = (row.0.now, row.1.now, row.2) ∷ rows_of rows
 abbrev pub IsFixed : Version → Choice → List ℕ → List Value → Choice → Type 0
 IsFixed version choice word values next = IsRow (told_rows version choice) word values next
 
--- the word is of another kind: a line of programs may be a command, one of a transcript begins with the process of an
--- entry, and behind serials one more may stand
+-- The word is of another kind: a line of programs may be a command, a line of a transcript may begin with the process
+-- of an entry, and another serial may follow a serial.
 abbrev pub IsOther : Version → Choice → List ℕ → List Value → Choice → Type 0
 IsOther version ProgramsLine word values next = IsFixed version Command word values Equals × (next ≡ End)
 IsOther version TranscriptLine word values next = IsValue Process word × (values ≡ []) × (next ≡ Command)
@@ -180,17 +180,18 @@ IsOther version NoDevice word values next = ⊥
 IsOther version Serials word values next = IsValue Number word × (values ≡ []) × (next ≡ Serials)
 IsOther version End word values next = ⊥
 
--- the word may stand where this is chosen; then these values are wanted, and behind them this is chosen
+-- the word makes this choice; then these values are expected, and after them the choice `next`
 abbrev pub IsChosen : Version → Choice → List ℕ → List Value → Choice → Type 0
 IsChosen version choice word values next =
     IsFixed version choice word values next ⊎ IsOther version choice word values next
 
--- the word may stand where these values are wanted and then this is chosen; behind it, those are, and then that is
+-- Before the word, some values and then a choice were expected. After it, `values` and then the choice `next` are
+-- expected.
 abbrev pub GoesOn : Version → List Value → Choice → List ℕ → List Value → Choice → Type 0
 GoesOn version [] choice word values next = IsChosen version choice word values next
 GoesOn version (value ∷ more) choice word values next = IsValue value word × (values ≡ more) × (next ≡ choice)
 
--- a line may end where this is chosen
+-- a line may end in place of this choice
 abbrev pub MayEnd : Choice → Type 0
 MayEnd ProgramsLine = ⊥
 MayEnd TranscriptLine = ⊥

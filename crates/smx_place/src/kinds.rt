@@ -1,25 +1,25 @@
-//! The kinds of words, and what is shown of them.
+//! The kinds of words that a line can have, and how each is described.
 
 ghost use Rattle.std.specs.Prelude.{◌≡◌};
 ghost use Rattle.smx_place.specs.PlaceWords.{choice_words, value_words};
 
 use std::fmt;
 
-/// Which text a line is of.
+/// The text that a line belongs to.
 #[derive(Clone, Copy, Debug, PartialEq, Eq)]
 pub enum TextKind {
     Programs,
     Transcript,
 }
 
-/// A word that says a value.
+/// The kinds of words that give a value.
 #[derive(Clone, Copy, Debug, PartialEq, Eq)]
 pub enum Value {
     Name,
     DriverKind,
     Number,
     Process,
-    /// An id, or all.
+    /// An id, or `all`.
     Which,
     Sides,
     Side,
@@ -27,7 +27,7 @@ pub enum Value {
     Bytes,
 }
 
-/// A word by which the line goes on in one way or another.
+/// The kinds of words that decide how the line goes on.
 #[derive(Clone, Copy, Debug, PartialEq, Eq)]
 pub enum Choice {
     /// The first word of a line of programs.
@@ -36,25 +36,25 @@ pub enum Choice {
     TranscriptLine,
     /// The first word of an entry's command.
     Command,
-    /// What stands between a command and its reply.
+    /// The sign between a command and its reply.
     Equals,
     /// The first word of a reply.
     Reply,
-    /// What is wrong, behind `EBADF`.
+    /// The reason after `EBADF`.
     BadDescriptor,
-    /// What is wrong, behind `EINVAL`.
+    /// The reason after `EINVAL`.
     Invalid,
-    /// What is wrong, behind `EAGAIN`.
+    /// The reason after `EAGAIN`.
     Again,
-    /// What is wrong, behind `ENXIO`.
+    /// The reason after `ENXIO`.
     NoDevice,
-    /// One more serial, or the end.
+    /// One more serial, or the end of the line.
     Serials,
-    /// None: the line ends.
+    /// The end of the line.
     End,
 }
 
-/// What may stand in some place of a line.
+/// The kind of word that is expected at some place of a line.
 #[derive(Clone, Copy, Debug, PartialEq, Eq)]
 pub enum Wanted {
     Value(Value),
@@ -62,7 +62,7 @@ pub enum Wanted {
 }
 
 impl Value {
-    // The words that tell it.
+    // Returns the words that describe it.
     fn words(self) -> &'static str
         ensures { result.now ≡ value_words self }
     {
@@ -81,7 +81,7 @@ impl Value {
 }
 
 impl Choice {
-    // The words that tell it.
+    // Returns the words that describe it.
     fn words(self) -> &'static str
         ensures { result.now ≡ choice_words self }
     {
@@ -89,7 +89,8 @@ impl Choice {
             Choice::ProgramsLine =>
                 "'driver', 'process', 'end', a command, or in version 2 'hangup'",
             Choice::TranscriptLine => {
-                "'driver', a process from 0 to 63, 'config', 'next', 'fd', 'link', 'bind', 'route', 'msg', 'full', 'end', or in version 2 'hung'"
+                "'driver', a process from 0 to 63, 'config', 'next', 'fd', 'link', 'bind', 'route', 'msg', \
+                    'full', 'end', or in version 2 'hung'"
             }
             Choice::Command => "a command, or in version 2 'hangup'",
             Choice::Equals => "'='",

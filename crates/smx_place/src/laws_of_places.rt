@@ -11,8 +11,8 @@ ghost use Rattle.smx_place.specs.declared.kinds.TextKind.TheVariants.{Programs, 
 ghost use Rattle.smx_place.specs.declared.kinds.Value.TheVariants as value;
 ghost use Rattle.smx_place.specs.declared.place.LinePlace.{LinePlace as AnyPlace};
 
-/// A line is one of a text, or it has a place, and never both. It has one place: one column, the same words that may
-/// stand there, and the end, if it may end there.
+/// Every line is either valid or has a place, never both. It has only one place: all places of a line have the same
+/// column and the same allowed words, and agree on whether the line may end there.
 pub fn a_line_has_one_place()
     ensures column { (kind : AnyKind) (version : AnyVersion) (line : List ℕ) (one other : AnyPlace)
         → IsPlace kind version line one → IsPlace kind version line other → one.column ≡ other.column }
@@ -26,7 +26,7 @@ pub fn a_line_has_one_place()
         → IsPlace kind version line place → IsWhole kind version line → ⊥ }
 {}
 
-/// Worked lines, and where each stops being one of a text, typed in; and one that is whole.
+/// Worked lines and their places, typed in by hand; and one line that is valid.
 pub fn worked_places()
     ensures empty { IsPlace Programs V1 (codes "") (choice_at 1 choice.ProgramsLine) }
     ensures word_wanting { IsPlace Programs V1 (codes "dup") (value_at 5 value.Number) }

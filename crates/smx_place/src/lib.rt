@@ -1,4 +1,4 @@
-//! Where a line stops being one of a text, and what may stand there.
+//! The place at which a line becomes invalid, and what was expected there.
 #![tactic(auto)]
 
 mod kinds;

@@ -1,4 +1,4 @@
-//! The place at which a line stops being one of a text.
+//! The place at which a line becomes invalid.
 
 ghost use Rattle.std.specs.Prelude.{◌≡◌, ◌∷◌, ◌++◌, [], MatchOption};
 ghost use Rattle.smx_words.specs.Words.{IsFree, SPACE};
@@ -9,16 +9,16 @@ use crate::rows::{FoundRow, go_on, may_end};
 use memchr::memchr;
 use smx_types::Version;
 
-/// Where a line stops being one of a text, and what may stand there.
+/// The place at which a line becomes invalid, and what was expected there.
 #[derive(Clone, Copy, Debug, PartialEq, Eq)]
 pub struct LinePlace {
-    /// Where the word at fault begins, or where one would that is wanting, in bytes from 1.
+    /// The column, in bytes from 1, of the unexpected word, or of the missing word.
     pub column: usize,
     pub wanted: Wanted,
 }
 
-/// The place at which no line that a text of this version may have goes on; `None` where the line is one. Takes no
-/// memory.
+/// Returns the first place at which no line of this text and version goes on in the same way. Returns `None` if the
+/// line is valid. Takes no memory.
 pub fn place_of(kind: TextKind, version: Version, line: &[u8]) -> Option<LinePlace>
     ensures { MatchOption result (IsWhole kind version line.now) (λ place. IsPlace kind version line.now place) }
 {
@@ -40,7 +40,7 @@ pub fn place_of(kind: TextKind, version: Version, line: &[u8]) -> Option<LinePla
     ended(column, row)
 }
 
-// What is chosen by the first word of a line.
+// Returns the choice that the first word of a line makes.
 fn first_choice(kind: TextKind) -> Choice
     ensures { result ≡ first_choice kind }
 {
@@ -50,7 +50,7 @@ fn first_choice(kind: TextKind) -> Choice
     }
 }
 
-// What stands before the first space, and what behind it, if there is one.
+// Splits a text at its first space, if it has one. Returns the word before it and the rest.
 fn first_word(text: &[u8]) -> (&[u8], Option<&[u8]>)
     ensures free { IsFree SPACE result.0.now }
     ensures cut { text.now ++ SPACE ∷ [] ≡ result.0.now ++ SPACE ∷ left_of result.1 }
@@ -61,7 +61,7 @@ fn first_word(text: &[u8]) -> (&[u8], Option<&[u8]>)
     }
 }
 
-// The place in this column, where the line goes on so.
+// Returns the place in this column, where `row` says what is expected.
 fn stopped(column: usize, row: FoundRow) -> LinePlace
     ensures { result ≡ record { column = column; wanted = wanted_of row.values.now row.next } }
 {
@@ -72,7 +72,7 @@ fn stopped(column: usize, row: FoundRow) -> LinePlace
     LinePlace { column, wanted }
 }
 
-// The place where the line ends, unless it may end there.
+// Returns the place at the end of the line, unless the line may end there.
 fn ended(column: usize, row: FoundRow) -> Option<LinePlace>
     ensures { MatchOption result (EndsThere (wanted_of row.values.now row.next))
         (λ place. (EndsThere (wanted_of row.values.now row.next) → ⊥)

@@ -1,4 +1,4 @@
-//! What may stand in each place of a line, and how the line goes on behind it.
+//! The words that may occur at each place of a line, and how the line goes on after each.
 
 ghost use Rattle.std.specs.Prelude.{◌≡◌, MatchBool, MatchOption, List, []};
 ghost use Rattle.smx_place.specs.Rows.{GoesOn, IsChosen, IsFixed, IsNoRow, IsOther, IsRow, IsValue, MayEnd};
@@ -10,14 +10,14 @@ use crate::kinds::{Choice, Value};
 use smx_types::{MAX_PROCESSES, Version};
 use smx_words::{driver_kind, link_kind, name, number, side, sides, spells_bytes, which};
 
-// How a line goes on: by these values, and then by what is chosen.
+// How a line goes on: with these values, then with a choice.
 #[derive(Clone, Copy)]
 pub struct FoundRow {
     pub values: &'static [Value],
     pub next: Choice,
 }
 
-// The first words of the lines of programs that are no commands.
+// The first words of the lines of programs, except commands.
 const PROGRAMS_LINES: [(&str, &[Value], Choice); 3] = [
     (
         "driver",
@@ -35,7 +35,7 @@ const PROGRAMS_LINES: [(&str, &[Value], Choice); 3] = [
     ("end", &[], Choice::End),
 ];
 
-// Those of the lines of a transcript that are no entries.
+// The first words of the lines of a transcript, except entries.
 const TRANSCRIPT_LINES: [(&str, &[Value], Choice); 10] = [
     (
         "driver",
@@ -152,7 +152,7 @@ const REPLIES: [(&str, &[Value], Choice); 12] = [
     ("ERANGE", &[], Choice::End),
 ];
 
-// What is wrong with an argument.
+// The reasons after `EINVAL`.
 const INVALID: [(&str, &[Value], Choice); 7] = [
     ("below", &[], Choice::End),
     ("notmux", &[], Choice::End),
@@ -163,42 +163,42 @@ const INVALID: [(&str, &[Value], Choice); 7] = [
     ("unrouted", &[], Choice::End),
 ];
 
-// What stands before a reply.
+// The sign before a reply.
 const EQUALS: [(&str, &[Value], Choice); 1] = [("=", &[], Choice::Reply)];
 
-// What is wrong with a descriptor.
+// The reason after `EBADF`.
 const BAD_DESCRIPTOR: [(&str, &[Value], Choice); 1] = [("fd", &[], Choice::End)];
 
-// What there is too much of, or nothing.
+// The reasons after `EAGAIN`.
 const AGAIN: [(&str, &[Value], Choice); 3] = [
     ("links", &[], Choice::End),
     ("full", &[], Choice::End),
     ("empty", &[], Choice::End),
 ];
 
-// What there is none of.
+// The reasons after `ENXIO`.
 const NO_DEVICE: [(&str, &[Value], Choice); 2] = [
     ("driver", &[], Choice::End),
     ("minor", &[], Choice::End),
 ];
 
-// The line of version 2.
+// The line that only version 2 has.
 const HUNG: [(&str, &[Value], Choice); 1] = [("hung", &[Value::Name, Value::Number], Choice::End)];
 
-// The command of version 2.
+// The command that only version 2 has.
 const HANGUP: [(&str, &[Value], Choice); 1] = [(
     "hangup",
     &[Value::Name, Value::Number],
     Choice::Equals,
 )];
 
-// The reply of version 2.
+// The reply that only version 2 has.
 const EOF: [(&str, &[Value], Choice); 1] = [("eof", &[], Choice::End)];
 
-// What is wrong with a device in version 2.
+// The reason after `ENXIO` that only version 2 has.
 const HUNG_UP: [(&str, &[Value], Choice); 1] = [("hangup", &[], Choice::End)];
 
-// The row of a word.
+// Finds the row of a word.
 fn find(rows: &'static [(&'static str, &'static [Value], Choice)], word: &[u8]) -> Option<FoundRow>
     ensures { MatchOption result (IsNoRow (rows_of rows.now) word.now)
         (λ row. IsRow (rows_of rows.now) word.now row.values.now row.next) }
@@ -215,7 +215,7 @@ fn find(rows: &'static [(&'static str, &'static [Value], Choice)], word: &[u8]) 
     None
 }
 
-// The fixed words among which is chosen.
+// Returns the rows of a choice in both versions.
 fn rows(choice: Choice) -> &'static [(&'static str, &'static [Value], Choice)]
     ensures { rows_of result.now ≡ rows choice }
 {
@@ -233,7 +233,7 @@ fn rows(choice: Choice) -> &'static [(&'static str, &'static [Value], Choice)]
     }
 }
 
-// Those of version 2 alone.
+// Returns the rows that only version 2 adds.
 fn later_rows(choice: Choice) -> &'static [(&'static str, &'static [Value], Choice)]
     ensures { rows_of result.now ≡ later_rows choice }
 {
@@ -252,7 +252,7 @@ fn later_rows(choice: Choice) -> &'static [(&'static str, &'static [Value], Choi
     }
 }
 
-// How a line goes on behind a fixed word.
+// Returns how a line goes on after a fixed word.
 fn fixed(version: Version, choice: Choice, word: &[u8]) -> Option<FoundRow>
     ensures { MatchOption result (IsNoRow (told_rows version choice) word.now)
         (λ row. IsFixed version choice word.now row.values.now row.next) }
@@ -266,7 +266,7 @@ fn fixed(version: Version, choice: Choice, word: &[u8]) -> Option<FoundRow>
     }
 }
 
-// Whether a word says a value of a kind.
+// Returns whether a word gives a value of this kind.
 fn is_value(value: Value, word: &[u8]) -> bool
     ensures { MatchBool result (IsValue value word.now) (IsValue value word.now → ⊥) }
 {
@@ -283,7 +283,7 @@ fn is_value(value: Value, word: &[u8]) -> bool
     }
 }
 
-// Whether a word is the number of a process.
+// Returns whether a word is the number of a process.
 fn is_process(word: &[u8]) -> bool
     ensures { MatchBool result (IsValue AnyValue.Process word.now) (IsValue AnyValue.Process word.now → ⊥) }
 {
@@ -293,7 +293,7 @@ fn is_process(word: &[u8]) -> bool
     }
 }
 
-// What is chosen behind a value, where the word says one.
+// Returns the choice after a value, if the word gives that value.
 fn then(value: Value, word: &[u8], next: Choice) -> Option<FoundRow>
     ensures { MatchOption result (IsValue value word.now → ⊥)
         (λ row. IsValue value word.now × (row.values.now ≡ []) × (row.next ≡ next)) }
@@ -304,7 +304,7 @@ fn then(value: Value, word: &[u8], next: Choice) -> Option<FoundRow>
     None
 }
 
-// How a line goes on behind a word that is none of the fixed ones.
+// Returns how a line goes on after a word that is not a fixed one.
 fn other(version: Version, choice: Choice, word: &[u8]) -> Option<FoundRow>
     ensures { MatchOption result
         ((values : List AnyValue) (next : AnyChoice) → IsOther version choice word.now values next → ⊥)
@@ -325,7 +325,7 @@ fn other(version: Version, choice: Choice, word: &[u8]) -> Option<FoundRow>
     }
 }
 
-// How a line of programs goes on behind the first word of a command.
+// Returns how a line of programs goes on after the first word of a command.
 fn command(version: Version, word: &[u8]) -> Option<FoundRow>
     ensures { MatchOption result
         ((values : List AnyValue) → IsFixed version AnyChoice.Command word.now values AnyChoice.Equals → ⊥)
@@ -341,7 +341,7 @@ fn command(version: Version, word: &[u8]) -> Option<FoundRow>
     }
 }
 
-// How a line goes on behind a word where something is chosen.
+// Returns how a line goes on after a word that makes this choice.
 fn chosen(version: Version, choice: Choice, word: &[u8]) -> Option<FoundRow>
     ensures { MatchOption result
         ((values : List AnyValue) (next : AnyChoice) → IsChosen version choice word.now values next → ⊥)
@@ -353,7 +353,7 @@ fn chosen(version: Version, choice: Choice, word: &[u8]) -> Option<FoundRow>
     }
 }
 
-/// How a line goes on behind a word, where these values are wanted and then something is chosen.
+/// Returns how a line goes on after a word. Before the word, `values` and then the choice `next` were expected.
 pub fn go_on(
     version: Version,
     values: &'static [Value],
@@ -375,7 +375,7 @@ pub fn go_on(
     }
 }
 
-/// Whether a line may end where something is chosen.
+/// Returns whether a line may end in place of this choice.
 pub fn may_end(choice: Choice) -> bool
     ensures { MatchBool result (MayEnd choice) (MayEnd choice → ⊥) }
 {

@@ -12,31 +12,31 @@ use Rattle.smx_streams.specs.declared.records.Record.{Record}
 use Rattle.smx_streams.specs.RecordGrids.{Grid, key_at, with_key, record_of_key, opens_of, holds_of, hung_of}
 use Rattle.smx_streams.specs.StreamTables.{number_at, is_in_range}
 use Rattle.smx_streams.specs.HungRows.{flag_at}
--- streams that the test says are the same are equal, and each is the same as itself
+-- the test for equal streams decides equality, and each stream equals itself
 pub use Rattle.smx_model.proofs.SweptLemmas.{stream_self as same_self}
 pub use Rattle.smx_model.proofs.TurningLemmas.{same_stream_is as same_is}
 
--- what is read at a stream is what its key leads to
+-- the numbers at a stream are those that its key leads to
 
--- in a grid of what a function makes of each key, a stream has what it makes of the stream's own key
+-- in a grid made by mapping each key, a stream has the image of its key
 read_at : {X : Type 0} (f : Option ℕ → X) (grid : Grid) (s : StreamId)
     → get_or (get_or (map (map f) grid) s.driver []) s.minor (f None) ≡ f (key_at grid s)
 read_at {X} f grid s = ap (λ (row : List X). get_or row s.minor (f None)) (get_or-map (map f) grid s.driver [])
     ∙ get_or-map f (get_or grid s.driver []) s.minor None
 
--- a stream has as many descriptors as the record has to which its key leads, or none
+-- a stream has as many descriptors as the record at its key, or none
 pub opens_at : (grid : Grid) (records : Slab Record) (s : StreamId)
     → number_at (map (map (λ key. opens_of (record_of_key records key))) grid) s
     ≡ opens_of (record_of_key records (key_at grid s))
 opens_at grid records s = read_at (λ key. opens_of (record_of_key records key)) grid s
 
--- a stream has as many holds as the record has to which its key leads, or none
+-- a stream has as many holds as the record at its key, or none
 pub holds_at : (grid : Grid) (records : Slab Record) (s : StreamId)
     → number_at (map (map (λ key. holds_of (record_of_key records key))) grid) s
     ≡ holds_of (record_of_key records (key_at grid s))
 holds_at grid records s = read_at (λ key. holds_of (record_of_key records key)) grid s
 
--- a stream has hung up just where the record has to which its key leads
+-- a stream has hung up exactly if the record at its key says so
 pub hungs_at : (grid : Grid) (records : Slab Record) (s : StreamId)
     → flag_at (map (map (λ key. hung_of (record_of_key records key))) grid) s
     ≡ hung_of (record_of_key records (key_at grid s))
@@ -44,7 +44,7 @@ hungs_at grid records s = read_at (λ key. hung_of (record_of_key records key)) 
 
 -- a key that is set
 
--- a stream whose key is set has that key, and each other stream has the key that it had
+-- the stream has the new key, and each other stream keeps its key
 pub key_set : (grid : Grid) (s : StreamId) (key : Option ℕ) (x : StreamId) → s.driver < length grid
     → s.minor < length (get_or grid s.driver [])
     → key_at (with_key grid s key) x ≡ (if same_stream x s then key else key_at grid x)
@@ -69,7 +69,7 @@ key_set grid s key x driver minor = elim (cases_eq x.driver s.driver) [
       (get_or-set_other grid s.driver x.driver (set (get_or grid s.driver []) s.minor key) [] d))
 ]
 
--- the minors of each driver stay
+-- each driver keeps its number of minors
 pub lengths_set : (grid : Grid) (s : StreamId) (key : Option ℕ) → map length (with_key grid s key) ≡ map length grid
 lengths_set grid s key = by grid s.driver where
   by : (g : Grid) (d : ℕ) → map length (set g d (set (get_or g d []) s.minor key)) ≡ map length g
@@ -79,7 +79,7 @@ lengths_set grid s key = by grid s.driver where
 
 -- a stream with a key is in range
 
--- the driver of a stream that has a key is there
+-- the driver of a stream with a key exists
 pub has_driver : (grid : Grid) (s : StreamId) (key : ℕ) → key_at grid s ≡ Some key → s.driver < length grid
 has_driver grid s key h = elim (cases_lt s.driver (length grid)) [
   | inl lt ↦ lt
@@ -87,7 +87,7 @@ has_driver grid s key h = elim (cases_lt s.driver (length grid)) [
       (get_or_past grid s.driver [] past) in absurd cc
 ]
 
--- the minor of a stream that has a key is in the row of its driver
+-- the minor of a stream with a key is in the row of its driver
 pub has_minor : (grid : Grid) (s : StreamId) (key : ℕ) → key_at grid s ≡ Some key
     → s.minor < length (get_or grid s.driver [])
 has_minor grid s key h = elim (cases_lt s.minor (length (get_or grid s.driver []))) [
@@ -95,7 +95,7 @@ has_minor grid s key h = elim (cases_lt s.minor (length (get_or grid s.driver []
   | inr past ↦ let none : key_at grid s ≡ None = get_or_past (get_or grid s.driver []) s.minor None past in absurd cc
 ]
 
--- a stream that has a key is in range, as its driver's minors say
+-- a stream with a key is in range by its driver's number of minors
 pub in_range_of_key : (grid : Grid) (s : StreamId) (key : ℕ) → key_at grid s ≡ Some key
     → is_in_range (map length grid) s.driver s.minor ≡ true
 in_range_of_key grid s key h = ap (λ n. nat_lt s.minor n) (get_or-map length grid s.driver [])
@@ -103,13 +103,13 @@ in_range_of_key grid s key h = ap (λ n. nat_lt s.minor n) (get_or-map length gr
 
 -- no keys
 
--- a list of empty keys has no key at any place
+-- a list of empty keys has no key at any index
 none_in : (n m : ℕ) → get_or {A = Option ℕ} (replicate n None) m None ≡ None
 none_in zero m = refl
 none_in (suc n) zero = refl
 none_in (suc n) (suc m) = none_in n m
 
--- where there are no keys, no stream has one
+-- if there are no keys, no stream has one
 pub no_keys : (minors : List ℕ) (s : StreamId) → key_at (map (λ n. replicate n None) minors) s ≡ None
 no_keys minors s = by minors s.driver where
   by : (ns : List ℕ) (d : ℕ) → get_or {A = Option ℕ} (get_or (map (λ n. replicate n None) ns) d []) s.minor None ≡ None
@@ -117,7 +117,7 @@ no_keys minors s = by minors s.driver where
   by (n ∷ ns) zero = none_in n s.minor
   by (n ∷ ns) (suc d) = by ns d
 
--- where there are no keys, each driver has the minors that it was given
+-- if there are no keys, each driver has the given number of minors
 pub no_keys_lengths : (minors : List ℕ) → map length (map (λ n. replicate {A = Option ℕ} n None) minors) ≡ minors
 no_keys_lengths [] = refl
 no_keys_lengths (n ∷ ns) = ap (λ m. m ∷ map length (map (λ n. replicate {A = Option ℕ} n None) ns))

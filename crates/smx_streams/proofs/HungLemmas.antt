@@ -1,4 +1,4 @@
--- Which streams have hung up after a change of their records.
+-- The hung-up streams after a change of the records.
 use Rattle.std.proofs.Common.{◌≡◌, ℕ, ◌+◌, ◌<◌, Bool, true, false, ◌&&◌, ◌||◌, not, List, [], ◌∷◌, filter}
 use Rattle.std.proofs.Common.{if◌then◌else◌, refl, sym, ap, subst, ◌∙◌, arith, inl, inr}
 use Rattle.std.specs.Prelude.{nat_lt}
@@ -20,11 +20,11 @@ use Rattle.smx_streams.proofs.GridLemmas.{same_is, same_self}
 use Rattle.smx_streams.proofs.HungRowLemmas.{flag_tells, hungs_rise}
 use Rattle.smx_streams.proofs.NameLemmas.{used_exists}
 
--- a stream that has hung up counts some descriptor or hold
+-- each hung-up stream has at least one descriptor or hold
 abbrev AreUsed : Uses → Type 0
 AreUsed u = (s : StreamId) → flag_at u.hungs s ≡ true → 0 < number_at u.opens s + number_at u.holds s
 
--- the first number of each is how often it is named
+-- the first number of each stream is the number of descriptors that name it
 abbrev AreNames : Uses → StreamTable → Type 0
 AreNames u t = (s : StreamId) → number_at u.opens s ≡ names_of s t.fds
 
@@ -34,31 +34,31 @@ pub same_number : (grid : List (List ℕ)) (x s : StreamId) (n : ℕ) → n ≡ 
 same_number grid x s n e = elim (cases_Bool (same_stream x s))
     [ inl t ↦ rw t (e ∙ ap (number_at grid) (sym (same_is x s t))) | inr f ↦ rw f refl ]
 
--- a stream exists just where it counts some descriptor or hold
+-- a stream exists exactly if it has at least one descriptor or hold
 exists_by : (u : Uses) (t : StreamTable) (x : StreamId) → AreNames u t → t.holds ≡ u.holds
     → exists t x ≡ nat_lt 0 (number_at u.opens x + number_at u.holds x)
 exists_by u t x names holds = sym (used_exists t x (number_at u.opens x) (names x))
     ∙ ap (λ (h : List (List ℕ)). nat_lt 0 (number_at u.opens x + number_at h x)) holds
 
--- of what has hung up and counts some, nothing goes by that test
+-- a test that every hung-up stream passes removes none
 and_true : (a b : Bool) → (b ≡ true → a ≡ true) → b ≡ (a && b)
 and_true true b h = refl
 and_true false true h = sym (h refl)
 and_true false false h = refl
 
--- where each hung-up stream has a descriptor or a hold, to ask for one beside the flag tells no more
+-- if each hung-up stream has a descriptor or a hold, testing for one in addition to the flag changes nothing
 used_stays : (u : Uses) (x : StreamId) → AreUsed u
     → flag_at u.hungs x ≡ (nat_lt 0 (number_at u.opens x + number_at u.holds x) && flag_at u.hungs x)
 used_stays u x used =
     and_true _ (flag_at u.hungs x) (λ t. lt-ltb 0 (number_at u.opens x + number_at u.holds x) (used x t))
 
--- the list of those that are left
+-- the remaining hung-up streams as a list
 made : MakeTheList → (old new : StreamTable) → IsRising stream_before new.hungs → IsRising stream_before old.hungs
     → ((x : StreamId) → is_hung new.hungs x ≡ (exists new x && is_hung old.hungs x)) → LeavesHungs old new
 made law old new rise was each = law.same new.hungs (filter (exists new) old.hungs) rise
     (law.fewer (exists new) old.hungs was) (λ x. each x ∙ sym (law.each_of_fewer (exists new) x old.hungs))
 
--- where the numbers of one stream change, a stream is left that exists
+-- if the numbers of one stream change, the streams that remain hung up are those that exist
 each_left : (u v : Uses) (old new : StreamTable) (s : StreamId) (o h : ℕ)
     → AreSet u s o h (nat_lt 0 (o + h) && flag_at u.hungs s) v → AreUsed u → AreNames v new → new.holds ≡ v.holds
     → new.hungs ≡ hungs_from 0 v.hungs → old.hungs ≡ hungs_from 0 u.hungs → (x : StreamId)
@@ -83,14 +83,14 @@ each_left u v old new s o h set used names holds now was x =
       both : (a b c d : Bool) → a ≡ b → c ≡ d → (a && c) ≡ (b && d)
       both a b c d e f = cc
 
--- where the numbers of one stream change, the hung-up streams that are left are those that exist
+-- if the numbers of one stream change, the list of hung-up streams keeps those that exist
 pub left : MakeTheList → (u v : Uses) (old new : StreamTable) (s : StreamId) (o h : ℕ)
     → AreSet u s o h (nat_lt 0 (o + h) && flag_at u.hungs s) v → AreUsed u → AreNames v new → new.holds ≡ v.holds
     → new.hungs ≡ hungs_from 0 v.hungs → old.hungs ≡ hungs_from 0 u.hungs → LeavesHungs old new
 left law u v old new s o h set used names holds now was = made law old new (rw now (hungs_rise 0 v.hungs))
     (rw was (hungs_rise 0 u.hungs)) (each_left u v old new s o h set used names holds now was)
 
--- where the holds of one stream change, and no descriptors
+-- the same if only the holds of one stream change
 pub holds_changed : MakeTheList → (t : Inside) (v : Uses) (s : StreamId) (h : ℕ)
     → AreSet t.records s (number_at t.records.opens s) h
     (nat_lt 0 (number_at t.records.opens s + h) && flag_at t.records.hungs s) v
@@ -103,7 +103,7 @@ holds_changed law t v s h set used whole = record {
       (λ x. set.opens_now x ∙ same_number t.records.opens x s _ refl ∙ whole x) refl refl refl;
 }
 
--- where no numbers change, a stream has hung up just where it exists and had hung up
+-- if no numbers change, a stream has hung up exactly if it exists and had hung up
 each_kept : (u : Uses) (old new : StreamTable) → AreUsed u → AreNames u new → new.holds ≡ u.holds
     → new.hungs ≡ hungs_from 0 u.hungs → old.hungs ≡ new.hungs → (x : StreamId)
     → is_hung new.hungs x ≡ (exists new x && is_hung old.hungs x)
@@ -115,13 +115,13 @@ each_kept u old new used names holds now was x =
       both : (a b c d : Bool) → a ≡ b → c ≡ d → (a && c) ≡ (b && d)
       both a b c d e f = cc
 
--- where no number changes and the same streams have hung up, all of them exist and are left
+-- if no numbers change and the same streams have hung up, all of them exist and remain
 pub kept : MakeTheList → (u : Uses) (old new : StreamTable) → AreUsed u → AreNames u new → new.holds ≡ u.holds
     → new.hungs ≡ hungs_from 0 u.hungs → old.hungs ≡ new.hungs → LeavesHungs old new
 kept law u old new used names holds now was = made law old new (rw now (hungs_rise 0 u.hungs))
     (rw (was, now) (hungs_rise 0 u.hungs)) (each_kept u old new used names holds now was)
 
--- where the flag of one stream stays, all stay
+-- if the flag of one stream stays, all flags stay
 each_same : (u v : Uses) (s : StreamId) (o h : ℕ) → AreSet u s o h (flag_at u.hungs s) v → (x : StreamId)
     → is_hung (hungs_from 0 v.hungs) x ≡ is_hung (hungs_from 0 u.hungs) x
 each_same u v s o h set x = flag_tells v.hungs x ∙ set.hungs_now x
@@ -131,13 +131,13 @@ each_same u v s o h set x = flag_tells v.hungs x ∙ set.hungs_now x
           rw f refl
     ] ∙ sym (flag_tells u.hungs x)
 
--- where the numbers of one stream change, and its flag doesn't, the same streams have hung up
+-- if the numbers of one stream change but not its flag, the same streams have hung up
 pub hung_same : MakeTheList → (u v : Uses) (s : StreamId) (o h : ℕ) → AreSet u s o h (flag_at u.hungs s) v
     → hungs_from 0 v.hungs ≡ hungs_from 0 u.hungs
 hung_same law u v s o h set = law.same (hungs_from 0 v.hungs) (hungs_from 0 u.hungs) (hungs_rise 0 v.hungs)
     (hungs_rise 0 u.hungs) (each_same u v s o h set)
 
--- where a stream gets one more hold, the same streams have hung up
+-- if a stream gets one more hold, the same streams have hung up
 pub hung_still : MakeTheList → (u v : Uses) (s : StreamId) (o h : ℕ)
     → AreSet u s o (h + 1) (nat_lt 0 (o + (h + 1)) && flag_at u.hungs s) v → hungs_from 0 v.hungs ≡ hungs_from 0 u.hungs
 hung_still law u v s o h set = hung_same law u v s o (h + 1)
@@ -145,13 +145,13 @@ hung_still law u v s o h set = hung_same law u v s o (h + 1)
       counted : (f : Bool) → (nat_lt 0 (o + (h + 1)) && f) ≡ f
       counted f = rw (lt-ltb 0 (o + (h + 1)) (omega arith)) refl
 
--- where the flag of one stream is set, a stream has hung up just where it had, or is that one
+-- if the flag of one stream is set, a stream has hung up exactly if it had, or is that one
 each_now : (u v : Uses) (s : StreamId) (o h : ℕ) → AreSet u s o h true v → (x : StreamId)
     → is_hung (hungs_from 0 v.hungs) x ≡ (same_stream x s || is_hung (hungs_from 0 u.hungs) x)
 each_now u v s o h set x = flag_tells v.hungs x ∙ set.hungs_now x
     ∙ elim (cases_Bool (same_stream x s)) [ inl t ↦ rw t refl | inr f ↦ rw f (sym (flag_tells u.hungs x)) ]
 
--- where the flag of one stream is set, the same streams have hung up, and that one
+-- if the flag of one stream is set, the same streams have hung up, and that one
 pub hung_now : MakeTheList → (u v : Uses) (s : StreamId) (o h : ℕ) → AreSet u s o h true v
     → hungs_from 0 v.hungs ≡ with_hung s (hungs_from 0 u.hungs)
 hung_now law u v s o h set = law.same (hungs_from 0 v.hungs) (with_hung s (hungs_from 0 u.hungs)) (hungs_rise 0 v.hungs)
@@ -161,7 +161,7 @@ hung_now law u v s o h set = law.same (hungs_from 0 v.hungs) (with_hung s (hungs
       turned : (x y : StreamId) → same_stream x y ≡ same_stream y x
       turned x y = grind (arith, nat_tests)
 
--- the streams whose flags are set, each with some descriptor or hold, are in order and exist
+-- the streams whose flags are set, each with a descriptor or hold, are in order and exist
 pub are_sound : (u : Uses) (t : StreamTable) → AreUsed u → AreNames u t → t.holds ≡ u.holds
     → t.hungs ≡ hungs_from 0 u.hungs → AreHungsSound t
 are_sound u t used names holds hungs = record {
@@ -170,23 +170,23 @@ are_sound u t used names holds hungs = record {
       (used x (sym (ap (λ (hs : List StreamId). is_hung hs x) hungs ∙ flag_tells u.hungs x) ∙ h));
 }
 
--- where no flag is set, none has hung up
+-- if no flag is set, no stream has hung up
 pub none_hung : (rows : List (List Bool)) → ((s : StreamId) → flag_at rows s ≡ false) → hungs_from 0 rows ≡ []
 none_hung rows h = by (hungs_from 0 rows) (λ s. flag_tells rows s ∙ h s) where
   by : (xs : List StreamId) → ((s : StreamId) → is_hung xs s ≡ false) → xs ≡ []
   by [] k = refl
   by (x ∷ xs) k = absurd (false≢true (sym (k x) ∙ or_left _ _ (same_self x)))
 
--- closing one after the other
+-- closing descriptors one after the other
 
--- a test that each passes keeps all
+-- a test that all elements pass removes none
 pub all_pass : (p : StreamId → Bool) (xs : List StreamId) → ((x : StreamId) → is_hung xs x ≡ true → p x ≡ true)
     → xs ≡ filter p xs
 all_pass p [] h = refl
 all_pass p (x ∷ xs) h = rw (h x (or_left _ _ (same_self x)))
     (ap (λ (ys : List StreamId). x ∷ ys) (all_pass p xs (λ y t. h y (or_right (same_stream x y) _ t))))
 
--- a stream that is named by some descriptor that is kept was named before
+-- a stream that a remaining descriptor names was named before
 named_before : (keep : Descriptor → Bool) (ds : List Descriptor) (s : StreamId) → is_named (filter keep ds) s ≡ true
     → is_named ds s ≡ true
 named_before keep [] s h = h
@@ -207,7 +207,7 @@ exists_before old new p n x less h = elim (or_cases (is_named new.fds x) (nat_lt
   | inr b ↦ or_right _ _ (ap (nat_lt 0) (sym (less.holds x)) ∙ b)
 ]
 
--- a test that is stricter than the one before it keeps the same alone
+-- filtering by a test and then by a stricter one is filtering by the stricter one
 pub twice : {X : Type 0} (p q : X → Bool) (xs : List X) → ((x : X) → p x ≡ true → q x ≡ true)
     → filter p (filter q xs) ≡ filter p xs
 twice p q [] h = refl
@@ -216,7 +216,7 @@ twice p q (x ∷ xs) h = elim (cases_Bool (p x)) [
   | inr f ↦ elim (cases_Bool (q x)) [ inl u ↦ rw (u, f) (twice p q xs h) | inr u ↦ rw (u, f) (twice p q xs h) ]
 ]
 
--- where one descriptor more is closed, those of the first hung-up streams are left that exist then
+-- after one more descriptor is closed, the hung-up streams are those of the first list that still exist
 pub left_again : (old new : StreamTable) (p n : ℕ) (was first : List StreamId) → HasOneLess old p n new
     → was ≡ filter (exists old) first → filter (exists new) was ≡ filter (exists new) first
 left_again old new p n was first less e =

@@ -1,4 +1,4 @@
--- The streams from a minor of a driver on, in lists of streams in their order.
+-- The streams from a minor of a driver on, in ordered lists of streams.
 use Rattle.std.proofs.Common.{◌≡◌, ℕ, ◌+◌, ◌<◌, ◌≤◌, true, false, not, List, [], ◌∷◌, length, get_or, None, refl, ap}
 use Rattle.std.proofs.Common.{arith, inl, inr}
 use Rattle.std.specs.Prelude.{slice_get}
@@ -15,19 +15,19 @@ use Rattle.smx_streams.specs.StreamTables.{is_in_range}
 use Rattle.smx_streams.proofs.GridLemmas.{same_is, same_self}
 use Rattle.smx_streams.proofs.HungRowLemmas.{stream}
 
--- all of them come from the first minor of the first driver on
+-- all streams are from the first minor of the first driver on
 pub from_first : (xs : List StreamId) → streams_from 0 0 xs ≡ xs
 from_first [] = refl
 from_first (x ∷ xs) =
     let first : not (pair_before x.driver x.minor 0 0) ≡ true = grind (arith, nat_tests) in
     rw first (ap (λ (ys : List StreamId). x ∷ ys) (from_first xs))
 
--- any other stream stands from a minor on just where it stands from the next minor on
+-- any stream other than that of a minor is from that minor on exactly if it is from the next one on
 from_more : (d n : ℕ) (x : StreamId) → same_stream x (stream d n) ≡ false
     → not (pair_before x.driver x.minor d n) ≡ not (pair_before x.driver x.minor d (n + 1))
 from_more d n x other = grind (arith, nat_tests)
 
--- where a stream is not there, those from its minor on are those from the next minor on
+-- if the stream of a minor is not in the list, the streams from that minor on are those from the next one on
 pub passed : (d n : ℕ) (xs : List StreamId) → is_hung xs (stream d n) ≡ false
     → streams_from d n xs ≡ streams_from d (n + 1) xs
 passed d n [] h = refl
@@ -40,7 +40,7 @@ passed d n (x ∷ xs) h =
       | inr g ↦ rw (e, g) rest
     ]
 
--- of streams that all come after a minor, those from that minor on are those from the next one on
+-- if all streams come after a minor, those from that minor on are those from the next one on
 later_stays : (d n : ℕ) (xs : List StreamId) → ComesBefore stream_before (stream d n) xs
     → streams_from d n xs ≡ streams_from d (n + 1) xs
 later_stays d n [] h = refl
@@ -50,7 +50,7 @@ later_stays d n (x ∷ xs) h =
     let b : not (pair_before x.driver x.minor d (n + 1)) ≡ true = grind (arith, nat_tests) in
     rw (a, b) (ap (λ (ys : List StreamId). x ∷ ys) (later_stays d n xs h.1))
 
--- behind a stream that doesn't come before a minor, the stream of that minor doesn't stand
+-- the stream of a minor does not follow a stream that does not come before that minor
 none_behind : (d n : ℕ) (x : StreamId) (xs : List StreamId) → not (pair_before x.driver x.minor d n) ≡ true
     → ComesBefore stream_before x xs → is_hung xs (stream d n) ≡ false
 none_behind d n x [] t h = refl
@@ -59,7 +59,7 @@ none_behind d n x (y ∷ ys) t h =
     let f : same_stream y (stream d n) ≡ false = grind (arith, nat_tests) in
     rw f (none_behind d n x ys t h.1)
 
--- of streams in order, one that is there comes first of those from its minor on
+-- in an ordered list, a stream that is present is the first of those from its minor on
 pub found : (d n : ℕ) (xs : List StreamId) → IsRising stream_before xs → is_hung xs (stream d n) ≡ true
     → streams_from d n xs ≡ stream d n ∷ streams_from d (n + 1) xs
 found d n [] r h = absurd cc
@@ -82,21 +82,21 @@ found d n (x ∷ xs) r h = elim (cases_Bool (same_stream x (stream d n))) [
       ]
 ]
 
--- the minor of each is one of its driver's
+-- the minor of each stream is below its driver's number of minors
 abbrev pub AreInRange : List ℕ → List StreamId → Type 0
 AreInRange minors xs = (x : StreamId) → is_hung xs x ≡ true → is_in_range minors x.driver x.minor ≡ true
 
--- the first of some streams in range has one of its driver's minors
+-- the minor of the first of some streams in range is below its driver's number of minors
 first_in_range : (minors : List ℕ) (x : StreamId) (xs : List StreamId) → AreInRange minors (x ∷ xs)
     → x.minor < get_or minors x.driver 0
 first_in_range minors x xs h = ltb-true x.minor (get_or minors x.driver 0) (h x (or_left _ _ (same_self x)))
 
--- where all streams of a list are in range, those behind the first are
+-- if all streams of a list are in range, so are those after the first
 others_in_range : (minors : List ℕ) (x : StreamId) (xs : List StreamId) → AreInRange minors (x ∷ xs)
     → AreInRange minors xs
 others_in_range minors x xs h = λ y t. h y (or_right (same_stream x y) _ t)
 
--- behind the last minor of a driver stands the next driver
+-- after the last minor of a driver comes the next driver
 pub next_driver : (minors : List ℕ) (d n : ℕ) (xs : List StreamId) → get_or minors d 0 ≤ n → AreInRange minors xs
     → streams_from d n xs ≡ streams_from (d + 1) 0 xs
 next_driver minors d n [] past h = refl
@@ -115,12 +115,12 @@ next_driver minors d n (x ∷ xs) past h =
         | inr other ↦ grind (arith, nat_tests)
       ]
 
--- a driver for which a look-up gives no number of minors is past the last one
+-- a driver for which a look-up finds no number of minors is past the last driver
 past_last : (minors : List ℕ) (d : ℕ) → None ≡ slice_get minors d → length minors ≤ d
 past_last minors d h =
     elim (slice_get_cases minors d).1 [ inl there ↦ let e = there.2 in absurd cc | inr past ↦ past.0 ]
 
--- behind the last driver stands none
+-- nothing comes after the last driver
 none_left : (minors : List ℕ) (d n : ℕ) (xs : List StreamId) → length minors ≤ d → AreInRange minors xs
     → streams_from d n xs ≡ []
 none_left minors d n [] past h = refl
@@ -131,7 +131,7 @@ none_left minors d n (x ∷ xs) past h =
     let f : not (pair_before x.driver x.minor d n) ≡ false = grind (arith, nat_tests) in
     rw f (none_left minors d n xs past (others_in_range minors x xs h))
 
--- from a driver on that isn't there, there are no streams
+-- from a driver that does not exist on, there are no streams
 pub no_driver_left : (minors : List ℕ) (d n : ℕ) (xs : List StreamId) → None ≡ slice_get minors d → AreInRange minors xs
     → streams_from d n xs ≡ []
 no_driver_left minors d n xs none h = none_left minors d n xs (past_last minors d none) h

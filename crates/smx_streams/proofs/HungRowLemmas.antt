@@ -1,4 +1,4 @@
--- Rows of flags and the list of the streams that have hung up.
+-- Rows of flags, and the list of hung-up streams.
 use Rattle.std.proofs.Common.{◌≡◌, ℕ, zero, suc, ◌+◌, ◌<◌, Bool, true, false, ◌&&◌, ◌||◌, eqb, List, [], ◌∷◌, ◌++◌}
 use Rattle.std.proofs.Common.{get_or, refl, ap, ◌∙◌, arith}
 use Rattle.std.proofs.Math.Bool.{or-false}
@@ -16,7 +16,7 @@ use Rattle.smx_streams.proofs.ListLemmas.{comes_both}
 abbrev pub stream : ℕ → ℕ → StreamId
 stream d m = record { driver = d; minor = m }
 
--- a stream is in two lists together just where it is in one of them
+-- a stream is in two joined lists exactly if it is in one of them
 hung_both : (xs ys : List StreamId) (s : StreamId) → is_hung (xs ++ ys) s ≡ (is_hung xs s || is_hung ys s)
 hung_both xs ys s = list_any-append (λ t. same_stream t s) xs ys
 
@@ -35,11 +35,11 @@ earlier_minor d n e m (false ∷ flags) h = earlier_minor d (n + 1) e m flags (o
 earlier_minor d n e m (true ∷ flags) h =
     or_from _ _ (grind (arith, nat_tests)) (earlier_minor d (n + 1) e m flags (omega arith))
 
--- to add one more is to start one further on
+-- adding one more is starting one later
 one_further : (n k : ℕ) → n + suc k ≡ (n + 1) + k
 one_further n k = omega arith
 
--- in the row of a driver, the stream of a minor has hung up just where its flag is set
+-- in a driver's row, the stream of a minor has hung up exactly if its flag is set
 in_row : (d n k : ℕ) (flags : List Bool) → is_hung (hung_from d n flags) (stream d (n + k)) ≡ get_or flags k false
 in_row d n k [] = refl
 in_row d n zero (false ∷ flags) = earlier_minor d (n + 1) d (n + 0) flags (omega arith)
@@ -60,7 +60,7 @@ earlier_driver d e m [] h = refl
 earlier_driver d e m (row ∷ rows) h = hung_both (hung_from d 0 row) (hungs_from (d + 1) rows) (stream e m)
     ∙ or_from _ _ (other_driver d 0 e m row (grind (arith, nat_tests))) (earlier_driver (d + 1) e m rows (omega arith))
 
--- in the rows from a driver on, a stream of one of them has hung up just where its flag is set
+-- in the rows from a driver on, a stream of one of these drivers has hung up exactly if its flag is set
 in_rows : (d j m : ℕ) (rows : List (List Bool))
     → is_hung (hungs_from d rows) (stream (d + j) m) ≡ get_or (get_or rows j []) m false
 in_rows d j m [] = refl
@@ -79,7 +79,7 @@ in_rows d (suc j) m (row ∷ rows) = hung_both (hung_from d 0 row) (hungs_from (
     (other_driver d 0 (d + suc j) m row (grind (arith, nat_tests)))
     ∙ (ap (λ (e : ℕ). is_hung (hungs_from (d + 1) rows) (stream e m)) (one_further d j) ∙ in_rows (d + 1) j m rows))
 
--- those are hung up whose flag is set
+-- the streams whose flag is set are those that have hung up
 pub flag_tells : (rows : List (List Bool)) (s : StreamId) → is_hung (hungs_from 0 rows) s ≡ flag_at rows s
 flag_tells rows s = ap (λ (d : ℕ). is_hung (hungs_from 0 rows) (stream d s.minor)) (zero_plus s.driver)
     ∙ in_rows 0 s.driver s.minor rows where
@@ -88,20 +88,20 @@ flag_tells rows s = ap (λ (d : ℕ). is_hung (hungs_from 0 rows) (stream d s.mi
 
 -- in order
 
--- a stream that comes before the first one of a row comes before all of it
+-- a stream that comes before the first one of a row comes before the whole row
 later_row : (d m e n : ℕ) (flags : List Bool) → stream_before (stream d m) (stream e n) ≡ true
     → ComesBefore stream_before (stream d m) (hung_from e n flags)
 later_row d m e n [] h = tt
 later_row d m e n (false ∷ flags) h = later_row d m e (n + 1) flags (grind (arith, nat_tests))
 later_row d m e n (true ∷ flags) h = (h, later_row d m e (n + 1) flags (grind (arith, nat_tests)))
 
--- a stream of an earlier driver comes before all streams of the rows of later drivers
+-- a stream of an earlier driver comes before all streams in the rows of later drivers
 later_rows : (d m e : ℕ) (rows : List (List Bool)) → d < e → ComesBefore stream_before (stream d m) (hungs_from e rows)
 later_rows d m e [] h = tt
 later_rows d m e (row ∷ rows) h = comes_both stream_before (stream d m) (hung_from e 0 row) (hungs_from (e + 1) rows)
     (later_row d m e 0 row (grind (arith, nat_tests))) (later_rows d m (e + 1) rows (omega arith))
 
--- a row in front of streams in order, all of which come after its driver's, is in order with them
+-- a row before ordered streams, all of which come after its driver's, is in order with them
 rising_row : (d n : ℕ) (flags : List Bool) (rest : List StreamId) → IsRising stream_before rest
     → ((m : ℕ) → ComesBefore stream_before (stream d m) rest) → IsRising stream_before (hung_from d n flags ++ rest)
 rising_row d n [] rest h after = h

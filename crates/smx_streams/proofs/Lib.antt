@@ -9,3 +9,4 @@ pub mod NextLemmas
 pub mod WentLemmas
 pub mod HungLemmas
 pub mod HungNextLemmas
+pub mod CopyLemmas

@@ -6,9 +6,9 @@ use Rattle.std.specs.Option.{is_some}
 use Rattle.std.proofs.lemmas.Bool.{cases_Bool}
 use Rattle.smx_model.specs.Ordered.{ComesBefore, with_inserted}
 
--- a search that ends in the first part, or goes on in the second
+-- a search in two joined lists
 
--- what a search finds in the first of two lists it finds in both together
+-- an element that a search finds in the first of two lists is found in both joined
 pub find_front : {X : Type 0} (test : X → Bool) (xs ys : List X) (x : X) → find test xs ≡ Some x
     → find test (xs ++ ys) ≡ Some x
 find_front test [] ys x h = absurd cc
@@ -22,12 +22,12 @@ find_past test [] ys h = refl
 find_past test (y ∷ xs) ys h = elim (cases_Bool (test y))
     [ inl t ↦ let k : Some y ≡ None = rw t at h in absurd cc | inr f ↦ rw f (find_past test xs ys (rw f at h)) ]
 
--- a search and its test
+-- some element passes a test exactly if a search finds an element
 pub any_found : {X : Type 0} (test : X → Bool) (xs : List X) → list_any test xs ≡ is_some (find test xs)
 any_found test [] = refl
 any_found test (x ∷ xs) = elim (cases_Bool (test x)) [ inl t ↦ rw t refl | inr f ↦ rw f (any_found test xs) ]
 
--- where there is none, none goes
+-- if no element passes a test, removing those that pass it removes none
 pub none_goes : {X : Type 0} (test : X → Bool) (xs : List X) → find test xs ≡ None → filter (λ x. not (test x)) xs ≡ xs
 none_goes test [] h = refl
 none_goes test (x ∷ xs) h = elim (cases_Bool (test x)) [
@@ -35,7 +35,7 @@ none_goes test (x ∷ xs) h = elim (cases_Bool (test x)) [
   | inr f ↦ rw f (ap (λ ys. x ∷ ys) (none_goes test xs (rw f at h)))
 ]
 
--- two tests in turn are both at once
+-- two filters in turn are one filter by both tests
 pub filter_twice : {X : Type 0} (t u : X → Bool) (xs : List X)
     → filter u (filter t xs) ≡ filter (λ x. t x && u x) xs
 filter_twice t u [] = refl
@@ -47,13 +47,13 @@ filter_twice t u (x ∷ xs) = elim (cases_Bool (t x)) [
   | inr a ↦ rw a (filter_twice t u xs)
 ]
 
--- what comes before both parts
+-- an element that comes before two lists comes before both joined
 pub comes_both : {X : Type 0} (before : X → X → Bool) (x : X) (xs ys : List X) → ComesBefore before x xs
     → ComesBefore before x ys → ComesBefore before x (xs ++ ys)
 comes_both before x [] ys h k = k
 comes_both before x (y ∷ xs) ys h k = (h.0, comes_both before x xs ys h.1 k)
 
--- what comes before all goes first
+-- an element that comes before all others is inserted first
 pub inserted_first : {X : Type 0} (before : X → X → Bool) (x : X) (ys : List X) → ComesBefore before x ys
     → with_inserted before ys x ≡ x ∷ ys
 inserted_first before x [] h = refl

@@ -1,4 +1,4 @@
--- How many descriptors name a stream.
+-- The number of descriptors that name a stream.
 use Rattle.std.proofs.Common.{◌≡◌, ℕ, zero, suc, ◌+◌, ◌-◌, ◌<◌, ◌≤◌, Bool, true, false, not, eqb, List, [], ◌∷◌}
 use Rattle.std.proofs.Common.{length, find, filter, get_or, slice_get, Some, None, if◌then◌else◌, refl, sym, ap}
 use Rattle.std.proofs.Common.{arith, inl, inr}
@@ -17,11 +17,11 @@ use Rattle.smx_streams.proofs.GridLemmas.{same_is, same_self}
 use Rattle.smx_streams.specs.TableFields.{names_of}
 use Rattle.smx_streams.proofs.ListLemmas.{none_goes}
 
--- 1 for the stream itself
+-- 1 if the condition holds, otherwise 0
 abbrev pub one_if : Bool → ℕ
 one_if b = if b then 1 else 0
 
--- a descriptor that is inserted names its own stream once more, and no other
+-- inserting a descriptor adds one name to its stream, and none to other streams
 pub names_put : (s : StreamId) (d : Descriptor) (ds : List Descriptor)
     → names_of s (with_inserted fd_before ds d) ≡ one_if (same_stream d.stream s) + names_of s ds
 names_put s d [] = refl
@@ -30,7 +30,7 @@ names_put s d (e ∷ ds) = elim (cases_Bool (fd_before d e)) [
   | inr f ↦ rw f (let rest = names_put s d ds in omega (arith, rest))
 ]
 
--- what comes later is another descriptor
+-- later descriptors differ from this one
 later_is_other : (p n : ℕ) (d : Descriptor) (ds : List Descriptor) → is_fd p n d ≡ true → ComesBefore fd_before d ds
     → find (is_fd p n) ds ≡ None
 later_is_other p n d [] t h = refl
@@ -47,7 +47,7 @@ later_is_other p n d (e ∷ ds) t h = elim (cases_Bool (is_fd p n e)) [
   | inr f ↦ rw f (later_is_other p n d ds t h.1)
 ]
 
--- a descriptor that is taken away names its own stream once less, and no other
+-- removing a descriptor removes one name from its stream, and none from other streams
 pub names_taken : (s t : StreamId) (p n : ℕ) (ds : List Descriptor) → IsRising fd_before ds → stream_at ds p n ≡ Some t
     → names_of s ds ≡ one_if (same_stream t s) + names_of s (filter (λ d. not (is_fd p n d)) ds)
 names_taken s t p n [] r h = absurd cc
@@ -58,7 +58,7 @@ names_taken s t p n (d ∷ ds) r h = elim (cases_Bool (is_fd p n d)) [
   | inr other ↦ rw other (let rest = names_taken s t p n ds r.1 (rw other at h) in omega (arith, rest))
 ]
 
--- a stream is named just where more than 0 descriptors name it
+-- a stream is named exactly if more than 0 descriptors name it
 pub named_is_some : (s : StreamId) (ds : List Descriptor) → is_named ds s ≡ nat_lt 0 (names_of s ds)
 named_is_some s [] = refl
 named_is_some s (d ∷ ds) = elim (cases_Bool (same_stream d.stream s)) [
@@ -66,13 +66,13 @@ named_is_some s (d ∷ ds) = elim (cases_Bool (same_stream d.stream s)) [
   | inr f ↦ let none : 0 + names_of s ds ≡ names_of s ds = omega arith in rw (f, none) (named_is_some s ds)
 ]
 
--- no more descriptors name a stream than there are
+-- at most as many descriptors name a stream as there are
 pub names_few : (s : StreamId) (ds : List Descriptor) → names_of s ds ≤ length ds
 names_few s [] = omega arith
 names_few s (d ∷ ds) = elim (cases_Bool (same_stream d.stream s))
     [ inl t ↦ rw t (omega (arith, names_few s ds)) | inr f ↦ rw f (omega (arith, names_few s ds)) ]
 
--- a descriptor that names the stream counts
+-- a stream that a descriptor names has more than 0 names
 pub names_some : (s : StreamId) (p n : ℕ) (ds : List Descriptor) → stream_at ds p n ≡ Some s → 0 < names_of s ds
 names_some s p n [] h = absurd cc
 names_some s p n (d ∷ ds) h = elim (cases_Bool (is_fd p n d)) [
@@ -89,7 +89,7 @@ used_exists t s opens e = rw (e, named_is_some s t.fds) (grind (arith, nat_tests
 
 -- minors
 
--- a number that a search finds in a range is below its end
+-- a number found by a search in a range is below the range's end
 pub find_below : (test : ℕ → Bool) (k n m : ℕ) → find test (range_with_len k n) ≡ Some m → m < k + n
 find_below test k zero m h = absurd cc
 find_below test k (suc n) m h = elim (cases_Bool (test k)) [
@@ -97,23 +97,23 @@ find_below test k (suc n) m h = elim (cases_Bool (test k)) [
   | inr f ↦ let rest = find_below test (k + 1) n m (rw f at h) in omega (arith, rest)
 ]
 
--- a minor of a driver that isn't there is not in range
+-- no minor of a driver that does not exist is in range
 pub no_driver : (minors : List ℕ) (d m : ℕ) → None ≡ slice_get minors d → false ≡ is_in_range minors d m
 no_driver [] d m h = grind (arith, nat_tests)
 no_driver (n ∷ ns) zero m h = absurd cc
 no_driver (n ∷ ns) (suc d) m h = no_driver ns d m h
 
--- a driver that is there has as many minors as a lookup says that gives 0 for any other
+-- the number of minors of an existing driver is what a look-up with default 0 returns
 pub minors_at : (minors : List ℕ) (d n : ℕ) → Some n ≡ slice_get minors d → n ≡ get_or minors d 0
 minors_at minors d n h = sym (get_or_from_slice_get minors d n 0 (sym h))
 
--- a descriptor more or less, and the number of the stream that it names
+-- descriptors added or removed, and the number of names of their streams
 
--- whether two streams differ is told in either order
+-- inequality of streams is symmetric
 pub same_sym : (s t : StreamId) → same_stream s t ≡ false → same_stream t s ≡ false
 same_sym s t f = grind (arith, nat_tests)
 
--- with one more for the stream of a new descriptor, the numbers are again how often streams are named
+-- counting one more for the stream of a new descriptor, the numbers are again the numbers of names
 pub names_after_put : (opens : List (List ℕ)) (s t : StreamId) (p n : ℕ) (fds : List Descriptor)
     → ((x : StreamId) → number_at opens x ≡ names_of x fds)
     → (if same_stream s t then number_at opens t + 1 else number_at opens s)
@@ -134,7 +134,7 @@ names_after_put opens s t p n fds h = elim (cases_Bool (same_stream s t)) [
       rw f (omega (arith, more, was))
 ]
 
--- with one less for the stream of a descriptor that goes, the numbers are again how often streams are named
+-- counting one less for the stream of a removed descriptor, the numbers are again the numbers of names
 pub names_after_take : (opens : List (List ℕ)) (s t : StreamId) (p n : ℕ) (fds : List Descriptor)
     → ((x : StreamId) → number_at opens x ≡ names_of x fds) → IsRising fd_before fds → stream_at fds p n ≡ Some t
     → (if same_stream s t then number_at opens t - 1 else number_at opens s)
@@ -154,7 +154,7 @@ names_after_take opens s t p n fds h rise there = elim (cases_Bool (same_stream 
       rw f (omega (arith, less, was))
 ]
 
--- a descriptor of the stream is one of the process
+-- a descriptor that names the stream is a descriptor of the process
 pub named_any : (s : StreamId) (p n : ℕ) (ds : List Descriptor) → stream_at ds p n ≡ Some s
     → list_any (is_fd p n) ds ≡ true
 named_any s p n [] h = absurd cc

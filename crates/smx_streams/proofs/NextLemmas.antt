@@ -16,7 +16,7 @@ use Rattle.smx_streams.specs.StreamTables.{fds_from, stream_at}
 use Rattle.smx_streams.proofs.RowLemmas.{fd_of}
 use Rattle.smx_streams.proofs.ListLemmas.{filter_twice}
 
--- two tests that agree on each element keep the same
+-- filters by two tests that agree on each element are equal
 pub kept_same : (f g : Descriptor → Bool) (ds : List Descriptor) → All (λ d. f d ≡ g d) ds → filter f ds ≡ filter g ds
 kept_same f g [] h = refl
 kept_same f g (d ∷ ds) h =
@@ -27,12 +27,12 @@ kept_same f g (d ∷ ds) h =
       | inr n ↦ rw (here, n) rest
     ]
 
--- any other descriptor stands from a number on just where it stands from the next number on
+-- any other descriptor is from a number on exactly if it is from the next number on
 from_more : (p n : ℕ) (d : Descriptor) → is_fd p n d ≡ false
     → not (pair_before d.process d.fd p n) ≡ not (pair_before d.process d.fd p (n + 1))
 from_more p n d other = grind (arith, nat_tests)
 
--- a number with no descriptor is passed
+-- a number without a descriptor is skipped
 pub passed : (p n : ℕ) (ds : List Descriptor) → stream_at ds p n ≡ None → fds_from p n ds ≡ fds_from p (n + 1) ds
 passed p n [] h = refl
 passed p n (d ∷ ds) h = elim (cases_Bool (is_fd p n d)) [
@@ -46,7 +46,7 @@ passed p n (d ∷ ds) h = elim (cases_Bool (is_fd p n d)) [
       ]
 ]
 
--- of descriptors that all come after a number, those from that number on are those from the next one on
+-- if all descriptors come after a number, those from that number on are those from the next one on
 later_stays : (p n : ℕ) (s : StreamId) (ds : List Descriptor) → ComesBefore fd_before (fd_of p n s) ds
     → fds_from p n ds ≡ fds_from p (n + 1) ds
 later_stays p n s [] h = refl
@@ -56,7 +56,7 @@ later_stays p n s (d ∷ ds) h =
     let y : not (pair_before d.process d.fd p (n + 1)) ≡ true = grind (arith, nat_tests) in
     rw (x, y) (ap (λ (es : List Descriptor). d ∷ es) (later_stays p n s ds h.1))
 
--- behind a descriptor that doesn't come before a number, the descriptor of that number doesn't stand
+-- the descriptor of a number does not follow a descriptor that does not come before that number
 none_behind : (p n : ℕ) (d : Descriptor) (ds : List Descriptor) → not (pair_before d.process d.fd p n) ≡ true
     → ComesBefore fd_before d ds → find (is_fd p n) ds ≡ None
 none_behind p n d [] t h = refl
@@ -65,7 +65,7 @@ none_behind p n d (e ∷ ds) t h =
     let f : is_fd p n e ≡ false = grind (arith, nat_tests) in
     rw f (none_behind p n d ds t h.1)
 
--- a number with a descriptor comes first
+-- a descriptor that exists is the first of those from its number on
 pub found : (p n : ℕ) (s : StreamId) (ds : List Descriptor) → IsRising fd_before ds → stream_at ds p n ≡ Some s
     → fds_from p n ds ≡ fd_of p n s ∷ fds_from p (n + 1) ds
 found p n s [] r h = absurd cc
@@ -91,12 +91,12 @@ found p n s (d ∷ ds) r h = elim (cases_Bool (is_fd p n d)) [
       ]
 ]
 
--- behind the last number of a process stands the next process
+-- after the last number of a process comes the next process
 pub next_process : (p n : ℕ) (ds : List Descriptor) → MAX_DESCRIPTORS ≤ n → All (λ d. d.fd < MAX_DESCRIPTORS) ds
     → fds_from p n ds ≡ fds_from (p + 1) 0 ds
 next_process p n ds past h = kept_same _ _ ds (λ i d lt. let few = h i d lt in grind (arith, nat_tests))
 
--- behind the last process stands none
+-- nothing comes after the last process
 pub no_process : (p n : ℕ) (ds : List Descriptor) → MAX_DESCRIPTORS ≤ n → MAX_PROCESSES ≤ p + 1
     → All (λ d. d.fd < MAX_DESCRIPTORS) ds → All (λ d. d.process < MAX_PROCESSES) ds → fds_from p n ds ≡ []
 no_process p n [] past last h k = refl
@@ -107,11 +107,11 @@ no_process p n (d ∷ ds) past last h k =
     rw f (no_process p n ds past last (λ i e lt. h (suc i) e (omega (arith, lt)))
     (λ i e lt. k (suc i) e (omega (arith, lt))))
 
--- the descriptors of a process that are closed so far
+-- the descriptors of a process that were closed so far
 abbrev pub is_closed : ℕ → ℕ → Descriptor → Bool
 is_closed p n d = eqb d.process p && nat_lt d.fd n
 
--- one number more
+-- one more number
 pub closed_more : (p n : ℕ) (ds : List Descriptor)
     → filter (λ d. not (is_fd p n d)) (filter (λ d. not (is_closed p n d)) ds)
     ≡ filter (λ d. not (is_closed p (n + 1) d)) ds
@@ -119,14 +119,14 @@ closed_more p n ds = filter_twice (λ d. not (is_closed p n d)) (λ d. not (is_f
     ∙ filter_agree (λ d. not (is_closed p n d) && not (is_fd p n d)) (λ d. not (is_closed p (n + 1) d))
     (λ d. grind (arith, nat_tests)) ds
 
--- none at first
+-- no descriptor is closed at first
 pub closed_none : (p : ℕ) (ds : List Descriptor) → ds ≡ filter (λ d. not (is_closed p 0 d)) ds
 closed_none p [] = refl
 closed_none p (d ∷ ds) =
     let f : not (is_closed p 0 d) ≡ true = grind (arith, nat_tests) in
     rw f (ap (λ (es : List Descriptor). d ∷ es) (closed_none p ds))
 
--- all in the end
+-- all descriptors of the process are closed at the end
 pub closed_all : (p n : ℕ) (ds : List Descriptor) → MAX_DESCRIPTORS ≤ n → All (λ d. d.fd < MAX_DESCRIPTORS) ds
     → filter (λ d. not (is_closed p n d)) ds ≡ filter (λ d. not (eqb d.process p)) ds
 closed_all p n ds past h = kept_same _ _ ds (λ i d lt. let few = h i d lt in grind (arith, nat_tests))

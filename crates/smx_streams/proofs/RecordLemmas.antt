@@ -1,14 +1,13 @@
--- Records by driver and minor, changed, made and gone.
-use Rattle.std.proofs.Common.{◌≡◌, ◌≢◌, ℕ, ◌+◌, ◌<◌, ◌≤◌, true, false, List, [], ◌∷◌, length, map, replicate, Option}
+-- Records by driver and minor: changed, added and removed.
+use Rattle.std.proofs.Common.{◌≡◌, ◌≢◌, ℕ, ◌+◌, ◌<◌, ◌≤◌, true, false, List, [], length, map, replicate, Option}
 use Rattle.std.proofs.Common.{Some, None, if◌then◌else◌, refl, sym, ap, ◌∙◌, arith, inl, inr}
 use Rattle.std.proofs.lemmas.Bool.{cases_Bool, cases_eq, both_ways, ltb-true, lt-ltb}
 use Rattle.std.specs.Prelude.{nat_lt}
-use Rattle.std.specs.List.{AllZip}
 use Rattle.std.specs.Option.{is_some}
 use Rattle.std.proofs.lemmas.Bool.Decides.{nat_tests}
 use Rattle.std.proofs.lemmas.List.{length-map}
 use Rattle.std.proofs.lemmas.Option.{same_Some}
-use Rattle.slab.specs.Slab.{Slab, get, IsSlotClone, Updates}
+use Rattle.slab.specs.Slab.{Slab, get, Updates}
 use Rattle.smx_types.specs.declared.limits.TheConstants.{MAX_DRIVERS}
 use Rattle.smx_types.specs.declared.stream.StreamId.{StreamId}
 use Rattle.smx_model.specs.Configuration.{same_stream}
@@ -19,29 +18,29 @@ use Rattle.smx_streams.specs.StreamTables.{number_at, is_in_range}
 use Rattle.smx_streams.proofs.GridLemmas.{same_is, same_self, opens_at, holds_at, in_range_of_key, no_keys, hungs_at}
 use Rattle.smx_streams.specs.HungRows.{flag_at}
 
--- what a change leaves: the slot of one key, and the key of one stream
+-- the result of a change: the slot of one key, and the key of one stream
 record IsChange (grid : Grid) (old : Slab Record) (s : StreamId) (key : ℕ) (new_key : Option ℕ) (slot : Option Record)
     (new_grid : Grid) (new : Slab Record) : Type 0 where
   keys : (x : StreamId) → key_at new_grid x ≡ (if same_stream x s then new_key else key_at grid x)
   slots : Updates old new key slot
   -- no other stream has the key
   apart : (x : StreamId) → key_at grid x ≡ Some key → same_stream x s ≡ true
-  -- no other key's record is the stream's
+  -- the record of any other key is not the stream's
   alone : (k : ℕ) (r : Record) → k ≢ key → get old k ≡ Some r → same_stream r.stream s ≡ false
 
--- where the key of one stream changes, each other stream has the key that it had
+-- if the key of one stream changes, each other stream keeps its key
 other_keys : (grid : Grid) (s x : StreamId) (new_key k : Option ℕ) (new_grid : Grid)
     → ((y : StreamId) → key_at new_grid y ≡ (if same_stream y s then new_key else key_at grid y))
     → same_stream x s ≡ false → key_at new_grid x ≡ key_at grid x
 other_keys grid s x new_key k new_grid h f = h x ∙ rw f refl
 
--- where the key of one stream changes, that stream has the new key
+-- if the key of one stream changes, that stream has the new key
 same_keys : (grid : Grid) (s x : StreamId) (new_key : Option ℕ) (new_grid : Grid)
     → ((y : StreamId) → key_at new_grid y ≡ (if same_stream y s then new_key else key_at grid y))
     → same_stream x s ≡ true → key_at new_grid x ≡ new_key
 same_keys grid s x new_key new_grid h t = h x ∙ rw t refl
 
--- the record of another stream stays
+-- the record of any other stream stays
 other_record : (grid : Grid) (old : Slab Record) (s x : StreamId) (key : ℕ) (new_key : Option ℕ) (slot : Option Record)
     (new_grid : Grid) (new : Slab Record) → IsChange grid old s key new_key slot new_grid new → same_stream x s ≡ false
     → record_of_key new (key_at new_grid x) ≡ record_of_key old (key_at grid x)
@@ -51,7 +50,7 @@ other_record grid old s x key new_key slot new_grid new h f =
       by None is = refl
       by (Some k) is = h.slots.others k (λ e. both_ways (same_stream x s) f (h.apart x (is ∙ ap Some e)))
 
--- as many drivers as before
+-- the number of drivers stays
 few_still : (grid new_grid : Grid) → length grid ≤ MAX_DRIVERS → map length new_grid ≡ map length grid
     → length new_grid ≤ MAX_DRIVERS
 few_still grid new_grid few same =
@@ -59,7 +58,7 @@ few_still grid new_grid few same =
     let many : length (lengths new_grid) ≡ length (lengths grid) = ap length same in
     omega (arith, few, many, length-map grid length, length-map new_grid length)
 
--- a record that stays, or is new
+-- the record stays, or is new
 is_set_some : (grid : Grid) (old : Slab Record) (key : ℕ) (r : Record) (new_grid : Grid) (new : Slab Record)
     → AreRecords grid old → length new_grid ≤ MAX_DRIVERS → 0 < r.opens + r.holds
     → IsChange grid old r.stream key (Some key) (Some r) new_grid new → AreRecords new_grid new
@@ -89,7 +88,7 @@ is_set_some grid old key r new_grid new whole few used h =
             ∙ whole.recorded k q was
       ]
 
--- a record that is gone
+-- the record is removed
 is_set_none : (grid : Grid) (old : Slab Record) (s : StreamId) (key : ℕ) (new_grid : Grid) (new : Slab Record)
     → AreRecords grid old → length new_grid ≤ MAX_DRIVERS
     → IsChange grid old s key None None new_grid new → AreRecords new_grid new
@@ -114,7 +113,7 @@ is_set_none grid old s key new_grid new whole few h = record { few = few; listed
         other_keys grid s q.stream None None new_grid h.keys (h.alone k q differs was) ∙ whole.recorded k q was
   ]
 
--- the numbers that are then read
+-- the numbers after the change
 numbers_set : (grid : Grid) (old : Slab Record) (r : Record) (key : ℕ) (new_key : Option ℕ) (slot : Option Record)
     (new_grid : Grid) (new : Slab Record) → IsChange grid old r.stream key new_key slot new_grid new
     → opens_of (record_of_key new new_key) ≡ r.opens → holds_of (record_of_key new new_key) ≡ r.holds
@@ -135,7 +134,7 @@ numbers_set grid old r key new_key slot new_grid new h opens holds hung minors =
     | inr n ↦ rw n (ap f (other_record grid old r.stream x key new_key slot new_grid new h n))
   ]
 
--- a record with some descriptor or hold is both used and hung up just where its flag is set
+-- a record with a descriptor or hold is both used and hung up exactly if its flag is set
 flag_of_used : (r : Record) → 0 < r.opens + r.holds → r.hung ≡ is_used_and_hung r
 flag_of_used r used = rw (lt-ltb 0 (r.opens + r.holds) used) refl
 
@@ -143,9 +142,9 @@ flag_of_used r used = rw (lt-ltb 0 (r.opens + r.holds) used) refl
 flag_of_none : (r : Record) → r.opens ≡ 0 → r.holds ≡ 0 → false ≡ is_used_and_hung r
 flag_of_none r opens holds = rw (opens, holds) refl
 
--- where the stream had the key
+-- the stream had the key
 
--- where a stream has a key, no other stream has that key
+-- if a stream has a key, no other stream has that key
 known_apart : (grid : Grid) (old : Slab Record) (s : StreamId) (key : ℕ) → AreRecords grid old
     → key_at grid s ≡ Some key → (x : StreamId) → key_at grid x ≡ Some key → same_stream x s ≡ true
 known_apart grid old s key whole there x is =
@@ -155,7 +154,7 @@ known_apart grid old s key whole there x is =
     let e : x ≡ s = sym other.2.stream ∙ ap (λ (q : Record). q.stream) (sym eq) ∙ one.2.stream in
     rw e (same_self s)
 
--- where a stream has a key, the record of any other key is that of another stream
+-- if a stream has a key, the record of any other key is that of another stream
 known_alone : (grid : Grid) (old : Slab Record) (s : StreamId) (key : ℕ) → AreRecords grid old
     → key_at grid s ≡ Some key → (k : ℕ) (q : Record) → k ≢ key → get old k ≡ Some q → same_stream q.stream s ≡ false
 known_alone grid old s key whole there k q differs is = elim (cases_Bool (same_stream q.stream s)) [
@@ -164,7 +163,7 @@ known_alone grid old s key whole there k q differs is = elim (cases_Bool (same_s
   | inr f ↦ f
 ]
 
--- a record that is put back, and counts some descriptor or hold, sets the numbers of its stream alone
+-- putting back a record that counts a descriptor or hold sets only the numbers of its stream
 pub put_back_some : (grid : Grid) (old : Slab Record) (key : ℕ) (r : Record) (new : Slab Record) → AreRecords grid old
     → key_at grid r.stream ≡ Some key → 0 < r.opens + r.holds → Updates old new key (Some r) → IsSet grid old r grid new
 put_back_some grid old key r new whole there used slots =
@@ -181,7 +180,7 @@ put_back_some grid old key r new whole there used slots =
           (ap holds_of slots.changed) (ap hung_of slots.changed ∙ flag_of_used r used) refl;
     }
 
--- where a record that counts nothing goes with its key, the numbers of its stream alone are set, to 0
+-- removing a record that counts nothing, with its key, sets only the numbers of its stream, to 0
 pub put_back_none : (grid : Grid) (old : Slab Record) (key : ℕ) (r : Record) (new_grid : Grid) (new : Slab Record)
     → AreRecords grid old → key_at grid r.stream ≡ Some key → r.opens ≡ 0 → r.holds ≡ 0 → Updates old new key None
     → ((x : StreamId) → key_at new_grid x ≡ (if same_stream x r.stream then None else key_at grid x))
@@ -200,9 +199,9 @@ put_back_none grid old key r new_grid new whole there opens holds slots keys min
           (flag_of_none r opens holds) minors;
     }
 
--- where it had none
+-- the stream had no key
 
--- a record that is new under a free key, and counts some descriptor or hold, sets the numbers of its stream alone
+-- a new record under a free key that counts a descriptor or hold sets only the numbers of its stream
 pub put_new : (grid : Grid) (old : Slab Record) (key : ℕ) (r : Record) (new_grid : Grid) (new : Slab Record)
     → AreRecords grid old → key_at grid r.stream ≡ None → get old key ≡ None → 0 < r.opens + r.holds
     → Updates old new key (Some r)
@@ -227,7 +226,7 @@ put_new grid old key r new_grid new whole none vacant used slots keys minors =
           (ap holds_of slots.changed) (ap hung_of slots.changed ∙ flag_of_used r used) minors;
     }
 
--- a stream that has some descriptor is in range
+-- a stream with a descriptor is in range
 pub used_is_in_range : (grid : Grid) (records : Slab Record) (s : StreamId)
     → 0 < number_at (uses_of grid records).opens s → is_in_range (uses_of grid records).minors s.driver s.minor ≡ true
 used_is_in_range grid records s h = by (key_at grid s) refl where
@@ -236,7 +235,7 @@ used_is_in_range grid records s h = by (key_at grid s) refl where
   by None is = let none : number_at (uses_of grid records).opens s ≡ 0 = opens_at grid records s
       ∙ ap (λ o. opens_of (record_of_key records o)) is in absurd (omega (arith, none))
 
--- a stream that has hung up is in range
+-- a hung-up stream is in range
 pub hung_is_in_range : (grid : Grid) (records : Slab Record) (s : StreamId)
     → flag_at (uses_of grid records).hungs s ≡ true → is_in_range (uses_of grid records).minors s.driver s.minor ≡ true
 hung_is_in_range grid records s h = by (key_at grid s) refl where
@@ -245,14 +244,14 @@ hung_is_in_range grid records s h = by (key_at grid s) refl where
   by None is = let none : flag_at (uses_of grid records).hungs s ≡ false = hungs_at grid records s
       ∙ ap (λ o. hung_of (record_of_key records o)) is in absurd cc
 
--- there are no more drivers than there may be
+-- there are at most as many drivers as allowed
 pub few_minors : (grid : Grid) (records : Slab Record) → AreRecords grid records
     → length (uses_of grid records).minors ≤ MAX_DRIVERS
 few_minors grid records whole = omega (arith, whole.few, length-map grid length)
 
 -- no records
 
--- where there are no keys and no records, each key leads to its record, and each record has its key
+-- if there are no keys and no records, each key leads to its record, and each record has its key
 pub none_recorded : (minors : List ℕ) (records : Slab Record) → length minors ≤ MAX_DRIVERS
     → ((k : ℕ) → get records k ≡ None) → AreRecords (map (λ n. replicate n None) minors) records
 none_recorded minors records few none = record {
@@ -261,25 +260,25 @@ none_recorded minors records few none = record {
   recorded = λ key r is. let no : ◌≡◌ {A = Option Record} None (Some r) = sym (none key) ∙ is in absurd cc;
 }
 
--- where there are no keys, no stream has a descriptor
+-- if there are no keys, no stream has a descriptor
 pub no_opens : (minors : List ℕ) (records : Slab Record) (s : StreamId)
     → number_at (uses_of (map (λ n. replicate n None) minors) records).opens s ≡ 0
 no_opens minors records s = opens_at (map (λ n. replicate n None) minors) records s
     ∙ ap (λ o. opens_of (record_of_key records o)) (no_keys minors s)
 
--- where there are no keys, no stream has a hold
+-- if there are no keys, no stream has a hold
 pub no_holds : (minors : List ℕ) (records : Slab Record) (s : StreamId)
     → number_at (uses_of (map (λ n. replicate n None) minors) records).holds s ≡ 0
 no_holds minors records s = holds_at (map (λ n. replicate n None) minors) records s
     ∙ ap (λ o. holds_of (record_of_key records o)) (no_keys minors s)
 
--- where there are no keys, no stream has hung up
+-- if there are no keys, no stream has hung up
 pub no_hungs : (minors : List ℕ) (records : Slab Record) (s : StreamId)
     → flag_at (uses_of (map (λ n. replicate n None) minors) records).hungs s ≡ false
 no_hungs minors records s = hungs_at (map (λ n. replicate n None) minors) records s
     ∙ ap (λ o. hung_of (record_of_key records o)) (no_keys minors s)
 
--- a stream that has hung up counts some descriptor or hold
+-- a hung-up stream has at least one descriptor or hold
 pub hung_is_used : (grid : Grid) (records : Slab Record) (s : StreamId) → AreRecords grid records
     → flag_at (uses_of grid records).hungs s ≡ true
     → 0 < number_at (uses_of grid records).opens s + number_at (uses_of grid records).holds s
@@ -290,43 +289,17 @@ hung_is_used grid records s whole h = rw (opens_at grid records s, holds_at grid
       by None e t = absurd cc
       by (Some key) e t = let there = whole.listed s key e in rw there.1 there.2.used
 
--- the same slots
-
--- slots of which each is a copy of another, with an equal record or none, are the same slots
-pub slots_same : (xs ys : List (Option Record)) → AllZip (IsSlotClone (λ (x y : Record). y ≡ x)) xs ys → ys ≡ xs
-slots_same [] [] h = refl
-slots_same [] (y ∷ ys) h = absurd h
-slots_same (x ∷ xs) [] h = absurd h
-slots_same (None ∷ xs) (y ∷ ys) h = ap (λ z. z ∷ ys) h.0 ∙ ap (λ zs. None ∷ zs) (slots_same xs ys h.1)
-slots_same (Some r ∷ xs) (None ∷ ys) h = absurd h.0
-slots_same (Some r ∷ xs) (Some q ∷ ys) h = ap (λ z. Some z ∷ ys) h.0 ∙ ap (λ zs. Some r ∷ zs) (slots_same xs ys h.1)
-
--- in the same slots the numbers and flags of all streams are the same
-pub uses_same : (grid : Grid) (a b : Slab Record) → b.slots ≡ a.slots → uses_of grid b ≡ uses_of grid a
-uses_same grid a b e = rw e refl
-
--- and the records are those of the same streams
-pub records_same : (grid : Grid) (a b : Slab Record) → b.slots ≡ a.slots → AreRecords grid a → AreRecords grid b
-records_same grid a b e whole = record {
-  few = whole.few;
-  listed = λ s key is. let found = whole.listed s key is in (found.0, same key ∙ found.1, found.2);
-  recorded = λ key r is. whole.recorded key r (sym (same key) ∙ is);
-}
-  where
-    same : (key : ℕ) → get b key ≡ get a key
-    same key = rw e refl
-
 -- a record that counts nothing
 
--- where descriptors and holds are together not more than 0, there are none of either
+-- if descriptors and holds together are not more than 0, there are none of either
 pub counts_none : (x y : ℕ) → nat_lt 0 (x + y) ≡ false → (x ≡ 0) × (y ≡ 0)
 counts_none x y h = (grind (arith, nat_tests), grind (arith, nat_tests))
 
--- a number that the test says is more than 0 is more than 0
+-- a number that passes the test for more than 0 is more than 0
 pub counts_some : (n : ℕ) → nat_lt 0 n ≡ true → 0 < n
 counts_some n h = ltb-true 0 n h
 
--- a stream with a key has a record, and one without has none
+-- a stream with a key has a record, and a stream without a key has none
 pub key_tells : (grid : Grid) (records : Slab Record) (s : StreamId) → AreRecords grid records
     → is_some (key_at grid s)
     ≡ nat_lt 0 (number_at (uses_of grid records).opens s + number_at (uses_of grid records).holds s)

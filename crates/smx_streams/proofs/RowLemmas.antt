@@ -1,4 +1,4 @@
--- Descriptors as rows of streams by number: looked up, put and taken.
+-- Descriptors as rows of streams by number: looked up, added and removed.
 use Rattle.std.proofs.Common.{◌≡◌, ℕ, zero, suc, ◌+◌, ◌<◌, true, false, not, eqb, List, [], ◌∷◌, ◌++◌, length, find}
 use Rattle.std.proofs.Common.{filter, get_or, set, Option, Some, None, refl, sym, ap, ◌∙◌, arith}
 use Rattle.std.specs.List.{list_any}
@@ -19,7 +19,7 @@ use Rattle.smx_streams.proofs.ListLemmas.{inserted_first}
 abbrev pub fd_of : ℕ → ℕ → StreamId → Descriptor
 fd_of p n s = record { process = p; fd = n; stream = s }
 
--- the descriptor of a process and a number passes the test for these
+-- the descriptor of a process and a number passes the test for both
 same_fd : (p n k : ℕ) (s : StreamId) → k ≡ n → is_fd p n (fd_of p k s) ≡ true
 same_fd p n k s e = rw (eq-eqb p p refl, eq-eqb k n e) refl
 
@@ -31,28 +31,28 @@ other_process p n q m s h = rw h refl
 other_fd : (p n m : ℕ) (s : StreamId) → eqb m n ≡ false → is_fd p n (fd_of p m s) ≡ false
 other_fd p n m s h = rw (eq-eqb p p refl, h) refl
 
--- looked up
+-- look-ups
 
--- in the row of one process no descriptor of another process is found
+-- a search in the row of one process finds no descriptor of another process
 find_other_row : (p n q k : ℕ) (cells : List (Option StreamId)) → eqb q p ≡ false
     → find (is_fd p n) (row_from q k cells) ≡ None
 find_other_row p n q k [] h = refl
 find_other_row p n q k (None ∷ cells) h = find_other_row p n q (k + 1) cells h
 find_other_row p n q k (Some s ∷ cells) h = rw (other_process p n q k s h) (find_other_row p n q (k + 1) cells h)
 
--- in a row no descriptor is found of a number before its first one
+-- a search in a row finds no descriptor with a number before its first one
 find_lower : (p n k : ℕ) (cells : List (Option StreamId)) → n < k → find (is_fd p n) (row_from p k cells) ≡ None
 find_lower p n k [] h = refl
 find_lower p n k (None ∷ cells) h = find_lower p n (k + 1) cells (omega arith)
 find_lower p n k (Some s ∷ cells) h =
     rw (other_fd p n k s (ne_eqb k n (λ e. absurd (omega arith)))) (find_lower p n (k + 1) cells (omega arith))
 
--- a descriptor where there is a stream
+-- the descriptor, if there is a stream
 abbrev pub found : ℕ → ℕ → Option StreamId → Option Descriptor
 found p n None = None
 found p n (Some s) = Some (fd_of p n s)
 
--- a search for a number in a row finds what its cell has
+-- a search for a number in a row finds the stream in its cell
 find_in_row : (p n k i : ℕ) (cells : List (Option StreamId)) → n ≡ k + i
     → find (is_fd p n) (row_from p k cells) ≡ found p n (get_or cells i None)
 find_in_row p n k i [] e = refl
@@ -64,14 +64,14 @@ find_in_row p n k (suc i) (Some s ∷ cells)
     e = rw (other_fd p n k s (ne_eqb k n (λ same. absurd (omega (arith, e, same)))))
     (find_in_row p n (k + 1) i cells (omega (arith, e)))
 
--- in the rows of later processes no descriptor of an earlier one is found
+-- a search in the rows of later processes finds no descriptor of an earlier one
 find_later_rows : (p n q : ℕ) (rows : Rows) → p < q → find (is_fd p n) (rows_from q rows) ≡ None
 find_later_rows p n q [] h = refl
 find_later_rows p n q (row ∷ rows) h = find_past (is_fd p n) (row_from q 0 row) (rows_from (q + 1) rows)
     (find_other_row p n q 0 row (ne_eqb q p (λ e. absurd (omega arith))))
     ∙ find_later_rows p n (q + 1) rows (omega arith)
 
--- a search for a number of a process in the rows from a process on finds what its cell has
+-- a search for a number of a process in the rows from a process on finds the stream in its cell
 find_rows : (p n q i : ℕ) (rows : Rows) → p ≡ q + i
     → find (is_fd p n) (rows_from q rows) ≡ found p n (get_or (get_or rows i []) n None)
 find_rows p n q i [] e = refl
@@ -88,18 +88,18 @@ find_rows p n q (suc i) (row ∷ rows) e = find_past (is_fd p n) (row_from q 0 r
     (find_other_row p n q 0 row (ne_eqb q p (λ same. absurd (omega (arith, e, same)))))
     ∙ find_rows p n (q + 1) i rows (omega (arith, e))
 
--- the descriptor that a search in the rows finds has the stream of its cell, or there is none
+-- a search in the rows finds a descriptor with the stream in its cell, or none if the cell is empty
 pub find_cell : (rows : Rows) (p n : ℕ) → find (is_fd p n) (rows_from 0 rows) ≡ found p n (cell_at rows p n)
 find_cell rows p n = find_rows p n 0 p rows (omega arith)
 
--- the stream of a descriptor is what the rows have in its cell
+-- the stream of a descriptor is the one in its cell
 pub stream_is_cell : (rows : Rows) (p n : ℕ) → cell_at rows p n ≡ stream_at (rows_from 0 rows) p n
 stream_is_cell rows p n = sym (ap (option_map (λ d. d.stream)) (find_cell rows p n) ∙ back (cell_at rows p n)) where
   back : (cell : Option StreamId) → option_map (λ d. d.stream) (found p n cell) ≡ cell
   back None = refl
   back (Some s) = refl
 
--- a process has a descriptor of a number just where the cell of that has a stream
+-- a process has a descriptor with a number exactly if its cell has a stream
 pub any_is_cell : (rows : Rows) (p n : ℕ) → list_any (is_fd p n) (rows_from 0 rows) ≡ is_some (cell_at rows p n)
 any_is_cell rows p n =
     any_found (is_fd p n) (rows_from 0 rows) ∙ ap is_some (find_cell rows p n) ∙ back (cell_at rows p n) where
@@ -107,9 +107,9 @@ any_is_cell rows p n =
       back None = refl
       back (Some s) = refl
 
--- taken
+-- removal
 
--- to take the descriptor of a number out of a row is to empty its cell
+-- removing the descriptor of a number from a row empties its cell
 take_in_row : (p n k i : ℕ) (cells : List (Option StreamId)) → n ≡ k + i
     → filter (λ d. not (is_fd p n d)) (row_from p k cells) ≡ row_from p k (set cells i None)
 take_in_row p n k i [] e = refl
@@ -121,7 +121,7 @@ take_in_row p n k (suc i) (Some s ∷ cells)
     e = rw (other_fd p n k s (ne_eqb k n (λ same. absurd (omega (arith, e, same)))))
     (ap (λ ds. fd_of p k s ∷ ds) (take_in_row p n (k + 1) i cells (omega (arith, e))))
 
--- to take a descriptor out of the rows from a process on is to empty its cell
+-- removing a descriptor from the rows from a process on empties its cell
 take_in_rows : (p n q i : ℕ) (rows : Rows) → p ≡ q + i
     → filter (λ d. not (is_fd p n d)) (rows_from q rows) ≡ rows_from q (set rows i (set (get_or rows i []) n None))
 take_in_rows p n q i [] e = refl
@@ -140,45 +140,45 @@ take_in_rows p n q (suc i) (row ∷ rows) e =
       take_in_rows p n (q + 1) i rows (omega (arith, e)),
     ) refl
 
--- a cell that is emptied takes its descriptor away, and no other
+-- emptying a cell removes only its descriptor
 pub take_cell : (rows : Rows) (p n : ℕ) → filter (λ d. not (is_fd p n d)) (rows_from 0 rows)
     ≡ rows_from 0 (with_cell rows p n None)
 take_cell rows p n = take_in_rows p n 0 p rows (omega arith)
 
--- where a cell is empty, to take away its descriptor changes nothing
+-- removing the descriptor of an empty cell changes nothing
 pub take_none : (rows : Rows) (p n : ℕ) → cell_at rows p n ≡ None
     → filter (λ d. not (is_fd p n d)) (rows_from 0 rows) ≡ rows_from 0 rows
 take_none rows p n h = none_goes (is_fd p n) _ (find_cell rows p n ∙ ap (found p n) h)
 
--- put
+-- insertion
 
--- what comes before a number of a process comes before the next number of it
+-- an element before a number of a process is before its next number
 next : (p n q k : ℕ) → pair_before p n q k ≡ true → pair_before p n q (k + 1) ≡ true
 next p n q k h = grind (arith, nat_tests)
 
--- a descriptor comes before all of a row that starts at a later process, or at a later number of its own
+-- a descriptor comes before a whole row that starts at a later process, or at a later number of its own process
 pub later_row : (p n q k : ℕ) (s : StreamId) (cells : List (Option StreamId)) → pair_before p n q k ≡ true
     → ComesBefore fd_before (fd_of p n s) (row_from q k cells)
 later_row p n q k s [] h = tt
 later_row p n q k s (None ∷ cells) h = later_row p n q (k + 1) s cells (next p n q k h)
 later_row p n q k s (Some t ∷ cells) h = (h, later_row p n q (k + 1) s cells (next p n q k h))
 
--- a descriptor comes before all those of later processes
+-- a descriptor comes before all descriptors of later processes
 pub later_rows : (p n q : ℕ) (s : StreamId) (rows : Rows) → p < q
     → ComesBefore fd_before (fd_of p n s) (rows_from q rows)
 later_rows p n q s [] h = tt
 later_rows p n q s (row ∷ rows) h = comes_both fd_before (fd_of p n s) (row_from q 0 row) (rows_from (q + 1) rows)
     (later_row p n q 0 s row (grind (arith, nat_tests))) (later_rows p n (q + 1) s rows (omega arith))
 
--- a number of a process doesn't come before a smaller one of that process
+-- a number of a process does not come before a smaller one
 not_before : (p n k : ℕ) → k < n → pair_before p n p k ≡ false
 not_before p n k h = grind (arith, nat_tests)
 
--- a number of a process doesn't come before any of an earlier process
+-- a number of a process does not come before any number of an earlier process
 not_before_process : (p n q k : ℕ) → q < p → pair_before p n q k ≡ false
 not_before_process p n q k h = grind (arith, nat_tests)
 
--- a descriptor is inserted in a row, with later ones behind, by its stream in its empty cell
+-- inserting a descriptor into a row, before later ones, puts its stream into its empty cell
 put_in_row : (p n k i : ℕ) (s : StreamId) (cells : List (Option StreamId)) (rest : List Descriptor) → n ≡ k + i
     → i < length cells → get_or cells i None ≡ None → ComesBefore fd_before (fd_of p n s) rest
     → with_inserted fd_before (row_from p k cells ++ rest) (fd_of p n s) ≡ row_from p k (set cells i (Some s)) ++ rest
@@ -195,7 +195,7 @@ put_in_row p n k (suc i) s (Some t ∷ cells) rest e lt none h =
     rw (not_before p n k (omega (arith, e)))
     (ap (λ ds. fd_of p k t ∷ ds) (put_in_row p n (k + 1) i s cells rest (omega (arith, e)) (omega arith) none h))
 
--- a descriptor of a later process is inserted behind the whole row of an earlier one
+-- a descriptor of a later process is inserted after the whole row of an earlier one
 skip_row : (p n q k : ℕ) (s : StreamId) (cells : List (Option StreamId)) (rest : List Descriptor) → q < p
     → with_inserted fd_before (row_from q k cells ++ rest) (fd_of p n s)
     ≡ row_from q k cells ++ with_inserted fd_before rest (fd_of p n s)
@@ -204,7 +204,7 @@ skip_row p n q k s (None ∷ cells) rest h = skip_row p n q (k + 1) s cells rest
 skip_row p n q k s (Some t ∷ cells) rest h =
     rw (not_before_process p n q k h) (ap (λ ds. fd_of q k t ∷ ds) (skip_row p n q (k + 1) s cells rest h))
 
--- a descriptor is inserted in the rows from a process on by its stream in its empty cell
+-- inserting a descriptor into the rows from a process on puts its stream into its empty cell
 put_in_rows : (p n q i : ℕ) (s : StreamId) (rows : Rows) → p ≡ q + i → n < length (get_or rows i [])
     → get_or (get_or rows i []) n None ≡ None
     → with_inserted fd_before (rows_from q rows) (fd_of p n s)
@@ -218,7 +218,7 @@ put_in_rows p n q (suc i) s (row ∷ rows) e lt none =
     skip_row p n q 0 s row (rows_from (q + 1) rows) (omega (arith, e))
     ∙ ap (λ ds. row_from q 0 row ++ ds) (put_in_rows p n (q + 1) i s rows (omega (arith, e)) lt none)
 
--- a stream that is put in an empty cell inserts its descriptor in order
+-- putting a stream into an empty cell inserts its descriptor in order
 pub put_cell : (rows : Rows) (p n : ℕ) (s : StreamId) → n < length (get_or rows p [])
     → list_any (is_fd p n) (rows_from 0 rows) ≡ false
     → rows_from 0 (with_cell rows p n (Some s)) ≡ with_inserted fd_before (rows_from 0 rows) (fd_of p n s)

@@ -1,4 +1,4 @@
--- Descriptors as rows of streams by number: their order, how many there are, and the room for them.
+-- Descriptors as rows of streams by number: their order, their number, and the cells for them.
 use Rattle.std.proofs.Common.{◌≡◌, ℕ, zero, suc, ◌+◌, ◌*◌, ◌<◌, ◌≤◌, true, List, [], ◌∷◌, ◌++◌, length, map, get_or}
 use Rattle.std.proofs.Common.{set, replicate, Option, Some, None, refl, sym, ap, ◌∙◌, arith, length-append}
 use Rattle.std.specs.List.{All, list_any}
@@ -19,7 +19,7 @@ use Rattle.smx_streams.proofs.RowLemmas.{fd_of, later_row, later_rows, any_is_ce
 
 -- in order
 
--- a row in front of descriptors in order, all of which come after its process's, is in order with them
+-- a row before ordered descriptors, all of which come after its process', is in order with them
 rising_row : (q k : ℕ) (cells : List (Option StreamId)) (rest : List Descriptor) → IsRising fd_before rest
     → ((n : ℕ) (s : StreamId) → ComesBefore fd_before (record { process = q; fd = n; stream = s }) rest)
     → IsRising fd_before (row_from q k cells ++ rest)
@@ -38,20 +38,20 @@ rising_rows q [] = tt
 rising_rows q (row ∷ rows) = rising_row q 0 row (rows_from (q + 1) rows) (rising_rows (q + 1) rows)
     (λ n s. later_rows q n (q + 1) s rows (omega arith))
 
--- no more than there is room for
+-- at most as many descriptors as cells
 
--- a row has no more descriptors than cells
+-- a row has at most as many descriptors as cells
 few_in_row : (q k : ℕ) (cells : List (Option StreamId)) → length (row_from q k cells) ≤ length cells
 few_in_row q k [] = omega arith
 few_in_row q k (None ∷ cells) = omega (arith, few_in_row q (k + 1) cells)
 few_in_row q k (Some s ∷ cells) = omega (arith, few_in_row q (k + 1) cells)
 
--- a row with room for all numbers, or for none, is no longer than there are numbers
+-- a row with cells for all numbers or for none has at most 16 cells
 pub short : (row : List (Option StreamId)) → AreAllOrNone row → length row ≤ MAX_DESCRIPTORS
 short [] h = omega arith
 short (c ∷ cells) h = omega (arith, h (omega arith))
 
--- rows that each have room for all numbers or for none have no more descriptors than there is room for
+-- rows with cells for all numbers or for none have at most 16 descriptors each
 few_in_rows : (q : ℕ) (rows : Rows) → All AreAllOrNone rows → length (rows_from q rows) ≤ 16 * length rows
 few_in_rows q [] h = omega arith
 few_in_rows q (row ∷ rows) h =
@@ -63,7 +63,7 @@ few_in_rows q (row ∷ rows) h =
       few_in_rows (q + 1) rows (λ k d lt. h (suc k) d (omega (arith, lt))),
     )
 
--- where the cells of a row end within the numbers of a process, each descriptor has one of these numbers
+-- if the cells of a row end within the numbers of a process, each descriptor has one of these numbers
 numbered_row : (q k : ℕ) (cells : List (Option StreamId)) → k + length cells ≤ MAX_DESCRIPTORS
     → All (λ d. d.fd < MAX_DESCRIPTORS) (row_from q k cells)
 numbered_row q k [] h = All-nil _
@@ -71,28 +71,28 @@ numbered_row q k (None ∷ cells) h = numbered_row q (k + 1) cells (omega arith)
 numbered_row q k (Some s ∷ cells) h =
     All-cons (λ d. d.fd < MAX_DESCRIPTORS) _ _ (omega arith) (numbered_row q (k + 1) cells (omega arith))
 
--- where each row has room for all numbers or for none, each descriptor has one of a process's numbers
+-- if each row has cells for all numbers or for none, each descriptor has one of a process' numbers
 numbered_rows : (q : ℕ) (rows : Rows) → All AreAllOrNone rows → All (λ d. d.fd < MAX_DESCRIPTORS) (rows_from q rows)
 numbered_rows q [] h = All-nil _
 numbered_rows q (row ∷ rows) h = All-append (λ d. d.fd < MAX_DESCRIPTORS) _ _
     (numbered_row q 0 row (omega (arith, short row (h 0 row (omega arith)))))
     (numbered_rows (q + 1) rows (λ k d lt. h (suc k) d (omega (arith, lt))))
 
--- the descriptors of the row of a process that there is are of such a process
+-- the descriptors of the row of an existing process are of an existing process
 process_row : (q k : ℕ) (cells : List (Option StreamId)) → q < MAX_PROCESSES
     → All (λ d. d.process < MAX_PROCESSES) (row_from q k cells)
 process_row q k [] h = All-nil _
 process_row q k (None ∷ cells) h = process_row q (k + 1) cells h
 process_row q k (Some s ∷ cells) h = All-cons (λ d. d.process < MAX_PROCESSES) _ _ h (process_row q (k + 1) cells h)
 
--- where the rows end within the processes, each descriptor is of one that there is
+-- if the rows end within the processes, each descriptor is of an existing process
 process_rows : (q : ℕ) (rows : Rows) → q + length rows ≤ MAX_PROCESSES
     → All (λ d. d.process < MAX_PROCESSES) (rows_from q rows)
 process_rows q [] h = All-nil _
 process_rows q (row ∷ rows) h = All-append (λ d. d.process < MAX_PROCESSES) _ _ (process_row q 0 row (omega arith))
     (process_rows (q + 1) rows (omega arith))
 
--- the descriptors of rows are in order, none twice, and no more than there may be
+-- the descriptors of rows are in order and without duplicates, and within the limit
 pub are_listed : (rows : Rows) → AreRows rows → IsListed (rows_from 0 rows)
 are_listed rows h = record {
   rise = rising_rows 0 rows;
@@ -101,61 +101,61 @@ are_listed rows h = record {
   numbered = numbered_rows 0 rows h.rooms;
 }
 
--- room
+-- cells
 
 -- a row of empty cells has no descriptors
 no_cells : (q k n : ℕ) → row_from q k (replicate n None) ≡ []
 no_cells q k zero = refl
 no_cells q k (suc n) = no_cells q (k + 1) n
 
--- a row has the same descriptors once there is room for all numbers
+-- a row has the same descriptors after cells for all numbers are made
 room_in_row : (q k : ℕ) (row : List (Option StreamId)) → row_from q k (with_room row) ≡ row_from q k row
 room_in_row q k [] = no_cells q k MAX_DESCRIPTORS
 room_in_row q k (c ∷ cells) = refl
 
--- the rows from a process on have the same descriptors once one of them has room for all numbers
+-- rows have the same descriptors after one of them gets cells for all numbers
 room_in_rows : (q i : ℕ) (rows : Rows) → rows_from q (set rows i (with_room (get_or rows i []))) ≡ rows_from q rows
 room_in_rows q i [] = refl
 room_in_rows q zero (row ∷ rows) = ap (λ ds. ds ++ rows_from (q + 1) rows) (room_in_row q 0 row)
 room_in_rows q (suc i) (row ∷ rows) = ap (λ ds. row_from q 0 row ++ ds) (room_in_rows (q + 1) i rows)
 
--- room that is made in a row leaves the descriptors as they are
+-- making cells in a row leaves the descriptors unchanged
 pub room_shows_the_same : (rows : Rows) (p : ℕ)
     → rows_from 0 (set rows p (with_room (get_or rows p []))) ≡ rows_from 0 rows
 room_shows_the_same rows p = room_in_rows 0 p rows
 
--- a row with room has a cell for each number
+-- a row with cells has one for each number
 room_of : (row : List (Option StreamId)) → AreAllOrNone row → length (with_room row) ≡ MAX_DESCRIPTORS
 room_of [] h = length-replicate {A = Option StreamId} MAX_DESCRIPTORS None
 room_of (c ∷ cells) h = h (omega arith)
 
--- where each row has room for all numbers or for none, so has the row of any process
+-- if each row has cells for all numbers or for none, so has the row of any process
 row_at : (rows : Rows) (p : ℕ) → All AreAllOrNone rows → AreAllOrNone (get_or rows p [])
 row_at [] p h = λ some. absurd (omega arith)
 row_at (row ∷ rows) zero h = h 0 row (omega arith)
 row_at (row ∷ rows) (suc p) h = row_at rows p (λ k d lt. h (suc k) d (omega (arith, lt)))
 
--- a process for which room is made has it for all numbers
+-- a process for which cells are made has one for each number
 pub there_is_room : (rows : Rows) (p : ℕ) → All AreAllOrNone rows → p < length rows
     → get_or (map length (set rows p (with_room (get_or rows p [])))) p 0 ≡ MAX_DESCRIPTORS
 there_is_room rows p h lt = get_or-map length (set rows p (with_room (get_or rows p []))) p []
     ∙ ap length (get_or-set_same rows p (with_room (get_or rows p [])) [] lt)
     ∙ room_of (get_or rows p []) (row_at rows p h)
 
--- a process has room for as many numbers as its row is long
+-- a process has as many cells as its row is long
 pub row_length : (rows : Rows) (p : ℕ) → get_or (map length rows) p 0 ≡ length (get_or rows p [])
 row_length rows p = get_or-map length rows p []
 
--- a process that has a descriptor has some room
+-- a process that has a descriptor has cells
 pub has_cells : (rows : Rows) (p n : ℕ) → list_any (is_fd p n) (rows_from 0 rows) ≡ true → 0 < length (get_or rows p [])
 has_cells rows p n h = by (get_or rows p []) (sym (any_is_cell rows p n) ∙ h) where
   by : (row : List (Option StreamId)) → is_some (get_or row n None) ≡ true → 0 < length row
   by [] k = absurd cc
   by (c ∷ cells) k = omega arith
 
--- what every table keeps
+-- invariants of every table
 
--- after room is made there is still a row for each process, with room for all numbers or for none
+-- after cells are made, there is still one row for each process, with cells for all numbers or for none
 pub rows_with_room : (rows : Rows) (p : ℕ) → AreRows rows → AreRows (set rows p (with_room (get_or rows p [])))
 rows_with_room rows p h = record {
   processes = length-set rows p (with_room (get_or rows p [])) ∙ h.processes;
@@ -163,7 +163,7 @@ rows_with_room rows p h = record {
       (λ some. room_of (get_or rows p []) (row_at rows p h.rooms)) h.rooms;
 }
 
--- after a cell is set there is still a row for each process, with room for all numbers or for none
+-- after a cell is set, there is still one row for each process, with cells for all numbers or for none
 pub rows_with_cell : (rows : Rows) (p n : ℕ) (cell : Option StreamId) → AreRows rows → AreRows (with_cell rows p n cell)
 rows_with_cell rows p n cell h =
     let long = length-set (get_or rows p []) n cell in
@@ -173,7 +173,7 @@ rows_with_cell rows p n cell h =
           (λ some. long ∙ row_at rows p h.rooms (omega (arith, long))) h.rooms;
     }
 
--- an empty row for each process is how rows are at first, without room
+-- one empty row for each process is the initial state, without cells
 pub rows_empty : AreRows (replicate MAX_PROCESSES [])
 rows_empty = record {
   processes = length-replicate {A = List (Option StreamId)} MAX_PROCESSES [];

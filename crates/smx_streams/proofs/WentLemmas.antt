@@ -1,4 +1,4 @@
--- What goes when descriptors are closed.
+-- The streams that cease to exist when descriptors are closed.
 use Rattle.std.proofs.Common.{◌≡◌, ℕ, ◌+◌, true, false, ◌&&◌, not, eqb, List, [], ◌∷◌, find, filter, Option}
 use Rattle.std.proofs.Common.{Some, None, refl, sym, ap, ◌∙◌, arith, inl, inr}
 use Rattle.std.specs.Option.{option_map}
@@ -15,17 +15,17 @@ use Rattle.smx_streams.proofs.ListLemmas.{none_goes}
 use Rattle.smx_streams.proofs.NameLemmas.{named_is_some, names_taken}
 use Rattle.smx_streams.proofs.NextLemmas.{is_closed}
 
--- where there is no stream of a descriptor, there is no descriptor
+-- if a descriptor has no stream, there is no descriptor
 none_mapped : (o : Option Descriptor) → option_map (λ d. d.stream) o ≡ None → o ≡ None
 none_mapped None h = refl
 none_mapped (Some d) h = absurd cc
 
--- as many names and as many holds as before
+-- a stream with as many names and holds as before exists exactly if it did
 exists_same : (old new : StreamTable) (s : StreamId) → names_of s old.fds ≡ names_of s new.fds
     → number_at new.holds s ≡ number_at old.holds s → exists old s ≡ exists new s
 exists_same old new s names holds = rw (named_is_some s old.fds, named_is_some s new.fds, names, holds) refl
 
--- where one descriptor is closed, no stream goes but its own
+-- closing one descriptor ends no stream except its own
 pub went_is_named : (old new : StreamTable) (s : StreamId) (p n : ℕ) → IsRising fd_before old.fds
     → HasOneLess old p n new → exists old s ≡ true → exists new s ≡ false → stream_at old.fds p n ≡ Some s
 went_is_named old new s p n rise less was gone = by (stream_at old.fds p n) refl where
@@ -44,7 +44,7 @@ went_is_named old new s p n rise less was gone = by (stream_at old.fds p n) refl
         absurd (false≢true (sym gone ∙ sym (exists_same old new s same (less.holds s)) ∙ was))
   ]
 
--- the numbers of another descriptor are those of before
+-- the numbers of any other descriptor don't change
 pub at_next : (p n : ℕ) (ds : List Descriptor)
     → stream_at (filter (λ d. not (is_closed p n d)) ds) p n ≡ stream_at ds p n
 at_next p n [] = refl
@@ -58,7 +58,7 @@ at_next p n (d ∷ ds) = elim (cases_Bool (is_fd p n d)) [
   ]
 ]
 
--- a stream with one name and no hold is the one that goes
+-- a stream with one name and no hold is the one that ceases to exist
 pub last_is : (t : StreamTable) (s : StreamId) (p n opens : ℕ) → IsRising fd_before t.fds → stream_at t.fds p n ≡ Some s
     → opens ≡ names_of s t.fds → (eqb opens 1 && eqb (number_at t.holds s) 0) ≡ is_last t p n
 last_is t s p n opens rise e same =

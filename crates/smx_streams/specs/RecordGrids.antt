@@ -4,12 +4,12 @@ use Rattle.std.specs.Prelude.{slice_set, Option, Some, None, if◌then◌else◌
 use Rattle.slab.specs.Slab.{Slab, get}
 use Rattle.smx_types.specs.declared.limits.TheConstants.{MAX_DRIVERS}
 use Rattle.smx_types.specs.declared.stream.StreamId.{StreamId}
-use Rattle.smx_model.specs.Configuration.{same_stream}
+use Rattle.smx_model.specs.Configuration.{pair_before, same_stream}
 use Rattle.smx_streams.specs.declared.records.Record.{Record}
 use Rattle.smx_streams.specs.HungRows.{flag_at}
 use Rattle.smx_streams.specs.StreamTables.{number_at}
 
--- for each driver a key or none for each minor
+-- for each driver, a key or `None` at each minor
 abbrev pub Grid : Type 0
 Grid = List (List (Option ℕ))
 
@@ -17,31 +17,31 @@ Grid = List (List (Option ℕ))
 abbrev pub key_at : Grid → StreamId → Option ℕ
 key_at grid s = slice_index_or (slice_index_or grid s.driver []) s.minor None
 
--- with this key at a stream
+-- the grid with this key at a stream
 abbrev pub with_key : Grid → StreamId → Option ℕ → Grid
 with_key grid s key = slice_set grid s.driver (slice_set (slice_index_or grid s.driver []) s.minor key)
 
--- the record of a key
+-- the record with this key
 abbrev pub record_of_key : Slab Record → Option ℕ → Option Record
 record_of_key records None = None
 record_of_key records (Some key) = get records key
 
--- its number of descriptors, or 0 where there is no record
+-- the number of descriptors in a record, or 0 without a record
 abbrev pub opens_of : Option Record → ℕ
 opens_of None = 0
 opens_of (Some r) = r.opens
 
--- its number of holds, or 0 where there is no record
+-- the number of holds in a record, or 0 without a record
 abbrev pub holds_of : Option Record → ℕ
 holds_of None = 0
 holds_of (Some r) = r.holds
 
--- whether it has hung up, which no stream without a record has
+-- whether the record says that its stream has hung up; a stream without a record has not
 abbrev pub hung_of : Option Record → Bool
 hung_of None = false
 hung_of (Some r) = r.hung
 
--- the minors of each driver, and descriptors, holds and a flag for each of them
+-- the number of minors of each driver, and for each minor the descriptors, the holds and the flag
 pub record Uses : Type 0 where
   pub minors : List ℕ
   pub opens : List (List ℕ)
@@ -56,42 +56,59 @@ uses_of grid records = record {
   hungs = map (map (λ key. hung_of (record_of_key records key))) grid;
 }
 
--- where no stream is said to have hung up, none has
+-- if no stream is said to have hung up, none has
 abbrev pub CountsForHung : Bool → Uses → Type 0
 CountsForHung some_hung u = some_hung ≡ false → (s : StreamId) → flag_at u.hungs s ≡ false
 
--- the numbers and the flag of one stream are these, and no others changed
+-- one stream has these numbers and this flag, and no other stream has changed
 pub record AreSet (old : Uses) (s : StreamId) (opens holds : ℕ) (hung : Bool) (new : Uses) : Type 0 where
   pub minors : new.minors ≡ old.minors
   pub opens_now : (x : StreamId) → number_at new.opens x ≡ (if same_stream x s then opens else number_at old.opens x)
   pub holds_now : (x : StreamId) → number_at new.holds x ≡ (if same_stream x s then holds else number_at old.holds x)
   pub hungs_now : (x : StreamId) → flag_at new.hungs x ≡ (if same_stream x s then hung else flag_at old.hungs x)
 
--- the numbers are those of the stream's record
+-- the numbers and the flag of the stream are those of its record
 pub record IsRecordOf (u : Uses) (s : StreamId) (r : Option Record) : Type 0 where
   pub opens : opens_of r ≡ number_at u.opens s
   pub holds : holds_of r ≡ number_at u.holds s
   pub hung : hung_of r ≡ flag_at u.hungs s
   pub used : IfSome r (λ x. 0 < x.opens + x.holds)
 
--- the stream's record, which counts some descriptor or hold
+-- the record is the stream's, and it counts at least one descriptor or hold
 pub record IsRecord (s : StreamId) (r : Record) : Type 0 where
   pub stream : r.stream ≡ s
   pub used : 0 < r.opens + r.holds
 
--- there are no more drivers than there may be, each key leads to the record of its stream, and each record has its key
--- there
+-- there are at most as many drivers as allowed, each key leads to the record of its stream, and each record has its
+-- key at its stream
 pub record AreRecords (grid : Grid) (records : Slab Record) : Type 0 where
   pub few : length grid ≤ MAX_DRIVERS
   pub listed : (s : StreamId) (key : ℕ) → key_at grid s ≡ Some key
       → (r : Record) × (get records key ≡ Some r) × IsRecord s r
   pub recorded : (key : ℕ) (r : Record) → get records key ≡ Some r → key_at grid r.stream ≡ Some key
 
--- it counts some descriptor or hold, and has hung up
+-- the record counts at least one descriptor or hold, and its stream has hung up
 abbrev pub is_used_and_hung : Record → Bool
 is_used_and_hung r = nat_lt 0 (r.opens + r.holds) && r.hung
 
--- a record's numbers and flag are those of its stream, and no others changed
+-- each driver has as many numbers and flags as minors
+pub record HasRows (u : Uses) : Type 0 where
+  pub opens : map length u.opens ≡ u.minors
+  pub holds : map length u.holds ≡ u.minors
+  pub hungs : map length u.hungs ≡ u.minors
+
+-- `v` has the numbers and flags of `u` for all streams before minor m of driver d, and nothing for the others
+pub record IsCopyBefore (u : Uses) (d m : ℕ) (v : Uses) : Type 0 where
+  pub rows : HasRows u × HasRows v
+  pub minors : v.minors ≡ u.minors
+  pub opens : (x : StreamId)
+      → number_at v.opens x ≡ (if pair_before x.driver x.minor d m then number_at u.opens x else 0)
+  pub holds : (x : StreamId)
+      → number_at v.holds x ≡ (if pair_before x.driver x.minor d m then number_at u.holds x else 0)
+  pub hungs : (x : StreamId)
+      → flag_at v.hungs x ≡ (if pair_before x.driver x.minor d m then flag_at u.hungs x else false)
+
+-- the stream has the numbers and the flag of record `r`, and no other stream has changed
 pub record IsSet (grid : Grid) (records : Slab Record) (r : Record) (new_grid : Grid) (new : Slab Record) : Type 0 where
   pub whole : AreRecords new_grid new
   pub set : AreSet (uses_of grid records) r.stream r.opens r.holds (is_used_and_hung r) (uses_of new_grid new)

@@ -7,12 +7,12 @@ use Rattle.smx_streams.specs.declared.streams.Streams.TheInside.{Inside}
 use Rattle.smx_streams.specs.HungRows.{hungs_from}
 use Rattle.smx_streams.specs.StreamTables.{StreamTable, number_at}
 
--- how many descriptors name the stream
+-- the number of descriptors that name the stream
 abbrev pub names_of : StreamId → List Descriptor → ℕ
 names_of s [] = 0
 names_of s (d ∷ ds) = (if same_stream d.stream s then 1 else 0) + names_of s ds
 
--- the fields as the value that a contract sees
+-- the value that contracts see for these fields
 abbrev pub table_of : Inside → StreamTable
 table_of t = record {
   minors = t.records.minors;
@@ -21,6 +21,6 @@ table_of t = record {
   hungs = hungs_from 0 t.records.hungs;
 }
 
--- a stream's record has the number of its descriptors
+-- the record of each stream counts the descriptors that name the stream
 abbrev pub IsWhole : Inside → Type 0
 IsWhole t = (s : StreamId) → number_at t.records.opens s ≡ names_of s t.descriptors.fds

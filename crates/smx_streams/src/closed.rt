@@ -1,12 +1,12 @@
-//! What a descriptor that was closed leaves.
+//! The result of closing a descriptor.
 
 use smx_types::StreamId;
 
-/// What a descriptor that was closed leaves.
+/// The result of closing a descriptor.
 #[derive(Clone, Copy, Debug, PartialEq, Eq)]
 pub struct Closed {
     /// The stream that it named.
     pub stream: StreamId,
-    /// Neither a descriptor nor a hold is left of it.
+    /// The stream has no descriptor and no hold left.
     pub last: bool,
 }

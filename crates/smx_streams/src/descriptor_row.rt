@@ -1,4 +1,4 @@
-//! The descriptors of one process, by their numbers.
+//! The descriptors of one process by number.
 
 ghost use Rattle.std.specs.Prelude.{◌≡◌, ◌<◌, [], None, length, slice_set, slice_index_or, IfOk, OnOk, OnErr, IsOk};
 ghost use Rattle.smx_streams.specs.RowRoom.{with_room};
@@ -7,7 +7,7 @@ use smx_types::{MAX_DESCRIPTORS, NoMemory, StreamId};
 use std::alloc::Global;
 use std::marker::Model;
 
-/// A stream or none at each number. There is no room before the first open, and room for all numbers from then on.
+/// A stream or `None` at each number. The row is empty until the first open; from then on it has cells for all numbers.
 #[derive(Debug, Drop)]
 pub struct DescriptorRow {
     cells: Vec<Option<StreamId>>,
@@ -43,7 +43,7 @@ impl DescriptorRow {
         }
     }
 
-    // Makes room for all numbers, where there is none.
+    // Makes cells for all numbers, if the row is empty.
     pub fn make_room(&mut self, alloc: Global) -> Result<(), NoMemory>
         ensures ok { OnOk result (self.new ≡ with_room self.old) }
         ensures err { OnErr result (self.new ≡ self.old) }

@@ -14,7 +14,7 @@ use smx_types::{Descriptor, MAX_DESCRIPTORS, MAX_PROCESSES, NoMemory, Process, S
 use std::alloc::Global;
 use std::marker::Model;
 
-/// Descriptors by process and number. A contract sees the list, and for how many numbers each process has room.
+/// Descriptors by process and number. Contracts see the list, and the number of cells of each process.
 #[derive(Debug, Drop)]
 pub struct Descriptors {
     processes: Vec<DescriptorRow>,
@@ -30,7 +30,7 @@ impl Model for Descriptors {
     ghost invariant = { λ d. AreRows d.processes.items };
 }
 
-// The stream at a number of a process.
+// Returns the stream at a number of a process.
 fn cell_at(processes: &[DescriptorRow], process: Process, fd: u32) -> Option<StreamId>
     ensures { result ≡ cell_at processes.now process fd }
 {
@@ -41,7 +41,7 @@ fn cell_at(processes: &[DescriptorRow], process: Process, fd: u32) -> Option<Str
     }
 }
 
-// The rows, with this at a number of a process that has room for it.
+// Sets the cell at a number of a process, which has a cell there.
 fn set_cell(processes: &mut Vec<DescriptorRow>, process: u32, fd: u32, cell: Option<StreamId>)
     requires process { process < length processes.old.items }
     requires room { fd < length (slice_index_or processes.old.items process []) }
@@ -50,7 +50,7 @@ fn set_cell(processes: &mut Vec<DescriptorRow>, process: u32, fd: u32, cell: Opt
     processes[process as usize].set(fd, cell);
 }
 
-// The rows, with room for all numbers of a process.
+// Makes cells for all numbers of a process.
 fn make_room(
     processes: &mut Vec<DescriptorRow>,
     alloc: Global,
@@ -64,7 +64,7 @@ fn make_room(
     processes[process as usize].make_room(alloc)
 }
 
-// No descriptors of any process.
+// Makes an empty row for each process.
 fn new_rows(alloc: Global) -> Result<Vec<DescriptorRow>, NoMemory>
     ensures { IfOk result (λ v. v.items ≡ replicate MAX_PROCESSES []) }
 {
@@ -86,7 +86,7 @@ fn copy_rows(alloc: Global, processes: &[DescriptorRow]) -> Result<Vec<Descripto
 }
 
 impl Descriptors {
-    /// No descriptors, and room for none.
+    /// Makes an empty list of descriptors, without cells.
     pub fn new(alloc: Global) -> Result<Descriptors, NoMemory>
         ensures { IfOk result (λ d. d.fds ≡ []) }
     {
@@ -101,14 +101,14 @@ impl Descriptors {
         cell_at(&self.processes, process, fd)
     }
 
-    // Whether the number is free.
+    // Returns whether the number is free.
     fn is_free(&self, process: Process, fd: u32) -> bool
         ensures { result ≡ not (list_any (is_fd process fd) self.now.fds) }
     {
         !cell_at(&self.processes, process, fd).is_some()
     }
 
-    /// The least number that is free.
+    /// Returns the lowest free number.
     #[inline(always)]
     pub fn least_free(&self, process: Process) -> Option<u32>
         ensures { result ≡ least_fd self.now.fds process }
@@ -116,7 +116,7 @@ impl Descriptors {
         (0..MAX_DESCRIPTORS).find(|fd| self.is_free(process, *fd))
     }
 
-    /// Makes room for all numbers of the process, where it has none.
+    /// Makes cells for all numbers of the process, if it has none.
     pub fn make_room(&mut self, alloc: Global, process: Process) -> Result<(), NoMemory>
         ensures fds { self.new.fds ≡ self.old.fds }
         ensures room { OnOk result (slice_index self.new.rooms process ≡ MAX_DESCRIPTORS) }
@@ -126,7 +126,7 @@ impl Descriptors {
         Ok(())
     }
 
-    /// One more descriptor, for which there is room.
+    /// Adds a descriptor, which has a cell.
     pub fn put(&mut self, process: Process, fd: u32, stream: StreamId)
         requires room { fd < slice_index self.old.rooms process }
         requires free { list_any (is_fd process fd) self.old.fds ≡ false }
@@ -136,7 +136,7 @@ impl Descriptors {
         set_cell(&mut self.processes, process.get(), fd, Some(stream));
     }
 
-    /// Takes out the descriptor of this number, and answers its stream.
+    /// Removes the descriptor with this number, and returns its stream.
     pub fn take(&mut self, process: Process, fd: u32) -> Option<StreamId>
         ensures stream { result ≡ stream_at self.old.fds process fd }
         ensures rest { self.new.fds ≡ filter (λ d. not (is_fd process fd d)) self.old.fds }
@@ -147,7 +147,7 @@ impl Descriptors {
         Some(stream)
     }
 
-    /// The first descriptor from a number of a process on. It looks at each cell in between.
+    /// Returns the first descriptor from a number of a process on. Looks at each cell in between.
     pub fn next(&self, process: Process, fd: u32) -> Option<Descriptor>
         ensures { IsNext self.now.fds process fd result }
     {
@@ -170,7 +170,7 @@ impl Descriptors {
         }
     }
 
-    /// What every list of them is.
+    /// Ensures the properties of every list of descriptors.
     pub fn is_sound(&self)
         ensures { IsListed self.now.fds }
     {

@@ -1,4 +1,4 @@
-//! The streams that have hung up.
+//! The hung-up streams.
 
 ghost use Rattle.std.specs.Prelude.{◌≡◌};
 ghost use Rattle.std.specs.Iterator.{YieldsFirstBy};
@@ -8,11 +8,11 @@ use crate::records::Records;
 use smx_types::StreamId;
 use std::marker::Model;
 
-/// The streams that have hung up, in order, seen as the list of those that are left. Takes no memory.
+/// An iterator over the hung-up streams, in order. Contracts see the list of those that are left. Does not allocate.
 #[derive(Drop)]
 pub struct HungStreams<'a> {
     records: &'a Records,
-    // The next stream to look at.
+    // The next stream to examine.
     driver: u8,
     minor: u8,
 }
@@ -27,7 +27,7 @@ impl<'a> Model for HungStreams<'a> {
     ghost view = { λ it. streams_from it.driver it.minor (hungs_from 0 it.records.now.hungs) };
 }
 
-// The first stream from a minor of a driver on that has hung up.
+// Returns the first hung-up stream from a minor of a driver on.
 fn first_from(records: &Records, driver: u8, minor: u8) -> Option<StreamId>
     ensures { IsNextOf (hungs_from 0 records.now.hungs) driver minor result }
 {
@@ -64,7 +64,7 @@ impl<'a> HungStreams<'a> {
 }
 
 impl<'a> HungStreams<'a> {
-    /// The next one, if any is left. Takes no memory.
+    /// Returns the next stream, if one is left. Does not allocate.
     pub fn next(&mut self) -> Option<StreamId>
         ensures { YieldsFirstBy (λ item. item) (λ rest. rest) self.old result self.new }
     {

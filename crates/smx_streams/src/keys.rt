@@ -1,4 +1,4 @@
-//! The keys of the records of one driver's streams, by their minors.
+//! The keys of the records of one driver's streams, by minor.
 
 ghost use Rattle.std.specs.Prelude.{◌≡◌, ◌<◌, None, length, replicate, slice_set, slice_index_or, IfOk};
 
@@ -6,7 +6,7 @@ use smx_types::NoMemory;
 use std::alloc::Global;
 use std::marker::Model;
 
-/// A key or none for each minor.
+/// A key or `None` for each minor.
 #[derive(Debug, Drop)]
 pub struct Keys {
     cells: Vec<Option<usize>>,

@@ -1,12 +1,13 @@
 //! The records of streams, found by driver and minor.
 
 ghost use Rattle.std.specs.Prelude.{◌≡◌, ◌≢◌, ◌+◌, ◌-◌, ◌<◌, ◌≤◌, ◌==◌, nat_lt, ◌&&◌, true, false, [], None, Some};
-ghost use Rattle.std.specs.Prelude.{map, length, replicate, slice_get, slice_index_or, IfOk, IsOk, OnOk, OnErr};
+ghost use Rattle.std.specs.Prelude.{map, length, replicate, slice_get, slice_index, slice_index_or};
+ghost use Rattle.std.specs.Prelude.{IfOk, IsOk, OnOk, OnErr};
 ghost use Rattle.slab.specs.Slab.{get, Updates};
 ghost use Rattle.smx_types.specs.declared.limits.TheConstants.{MAX_DRIVERS};
 ghost use Rattle.smx_types.specs.declared.stream.StreamId.{StreamId};
 ghost use Rattle.smx_streams.specs.RecordGrids.{key_at, with_key, is_used_and_hung, AreRecords, AreSet};
-ghost use Rattle.smx_streams.specs.RecordGrids.{IsRecordOf, IsSet};
+ghost use Rattle.smx_streams.specs.RecordGrids.{HasRows, IsCopyBefore, IsRecordOf, IsSet};
 ghost use Rattle.smx_streams.specs.HungRows.{flag_at};
 ghost use Rattle.smx_streams.specs.StreamTables.{is_in_range, number_at};
 
@@ -16,7 +17,7 @@ use smx_types::{NoMemory, StreamId};
 use std::alloc::Global;
 use std::marker::Model;
 
-/// How many descriptors and how many holds a stream has, of which there is one at least, and whether it has hung up.
+/// The number of descriptors and of holds of a stream, at least one in total, and whether the stream has hung up.
 #[derive(Clone, Copy, Debug)]
 pub struct Record {
     pub stream: StreamId,
@@ -25,13 +26,13 @@ pub struct Record {
     pub hung: bool,
 }
 
-/// The records in one slab, and for each driver the keys of its streams' records. A contract sees the minors of each
-/// driver, and two numbers and a flag for each of them.
+/// The records in one slab, and for each driver the keys of its streams' records. Contracts see the number of minors
+/// of each driver, and two numbers and a flag for each minor.
 #[derive(Debug, Drop)]
 pub struct Records {
     drivers: Vec<Keys>,
     records: Slab<Record>,
-    // False only where no stream has hung up: then none is looked at to tell whether it has.
+    // False only if no stream has hung up: then `is_hung` looks at no record.
     some_hung: bool,
 }
 
@@ -46,7 +47,7 @@ impl Model for Records {
         × CountsForHung r.some_hung (uses_of r.drivers.items r.records) };
 }
 
-// The key of the stream's record.
+// Returns the key of the stream's record.
 fn key_of(drivers: &[Keys], stream: StreamId) -> Option<usize>
     ensures { result ≡ key_at drivers.now stream }
 {
@@ -56,7 +57,7 @@ fn key_of(drivers: &[Keys], stream: StreamId) -> Option<usize>
     }
 }
 
-// The keys, with this one at a stream.
+// Sets the key of a stream.
 fn set_key(drivers: &mut Vec<Keys>, stream: StreamId, key: Option<usize>)
     requires driver { stream.driver < length drivers.old.items }
     requires minor { stream.minor < length (slice_index_or drivers.old.items stream.driver []) }
@@ -78,7 +79,7 @@ fn set_record(records: &mut Slab<Record>, key: usize, changed: Record)
     records[key] = changed;
 }
 
-// No keys, of drivers with so many minors.
+// Makes rows without keys, for drivers with these numbers of minors.
 fn new_keys(alloc: Global, minors: &[u8]) -> Result<Vec<Keys>, NoMemory>
     ensures { IfOk result (λ v. v.items ≡ map (λ n. replicate n None) minors.now) }
 {
@@ -89,24 +90,25 @@ fn new_keys(alloc: Global, minors: &[u8]) -> Result<Vec<Keys>, NoMemory>
     Ok(drivers)
 }
 
-fn copy_keys(alloc: Global, drivers: &[Keys]) -> Result<Vec<Keys>, NoMemory>
-    ensures { IfOk result (λ v. v.items ≡ drivers.now) }
+// Returns the number of minors of each driver.
+fn minors_of_each(alloc: Global, drivers: &[Keys]) -> Result<Vec<u8>, NoMemory>
+    ensures { IfOk result (λ v. v.items ≡ map length drivers.now) }
 {
-    let mut made = Vec::with_capacity(alloc, drivers.len())?;
+    let mut minors = Vec::with_capacity(alloc, drivers.len())?;
     for keys in drivers {
-        made.push(keys.copy(alloc)?)?;
+        minors.push(keys.len())?;
     }
-    Ok(made)
+    Ok(minors)
 }
 
-// Whether it counts some descriptor or hold.
+// Returns whether the record counts at least one descriptor or hold.
 fn is_used(counted: Record) -> bool
     ensures { result ≡ nat_lt 0 (counted.opens + counted.holds) }
 {
     counted.opens > 0 || counted.holds > 0
 }
 
-// The record back at its key; or, where it counts nothing more, neither record nor key.
+// Puts the record back at its key. If it counts nothing any more, removes the record and the key instead.
 fn put_back(drivers: &mut Vec<Keys>, records: &mut Slab<Record>, key: usize, changed: Record)
     requires whole { AreRecords drivers.old.items records.old }
     requires there { key_at drivers.old.items changed.stream ≡ Some key }
@@ -120,7 +122,7 @@ fn put_back(drivers: &mut Vec<Keys>, records: &mut Slab<Record>, key: usize, cha
     }
 }
 
-// A new record, and its key.
+// Adds a new record and its key.
 fn put(drivers: &mut Vec<Keys>, records: &mut Slab<Record>, added: Record) -> Result<(), NoMemory>
     requires whole { AreRecords drivers.old.items records.old }
     requires none { key_at drivers.old.items added.stream ≡ None }
@@ -138,12 +140,13 @@ fn put(drivers: &mut Vec<Keys>, records: &mut Slab<Record>, added: Record) -> Re
 }
 
 impl Records {
-    /// No records, over drivers with so many minors.
+    /// Makes an empty set of records, for drivers with these numbers of minors.
     pub fn new(alloc: Global, minors: &[u8]) -> Result<Records, NoMemory>
         requires { length minors.now ≤ MAX_DRIVERS }
         ensures minors { IfOk result (λ r. r.minors ≡ minors.now) }
         ensures none { IfOk result (λ r. (s : StreamId) → (number_at r.opens s ≡ 0) × (number_at r.holds s ≡ 0)) }
         ensures hungs { IfOk result (λ r. (s : StreamId) → flag_at r.hungs s ≡ false) }
+        ensures rows { IfOk result HasRows }
     {
         Ok(Records {
             drivers: new_keys(alloc, minors)?,
@@ -152,17 +155,14 @@ impl Records {
         })
     }
 
-    /// How many minors the driver has; none where there is no such driver.
+    /// Returns the number of minors of the driver. Returns `None` if there is no such driver.
     pub fn minors_of(&self, driver: u8) -> Option<u8>
         ensures { result ≡ slice_get self.now.minors driver }
     {
-        match self.drivers.get(driver as usize) {
-            Some(keys) => Some(keys.len()),
-            None => None,
-        }
+        Some(self.drivers.get(driver as usize)?.len())
     }
 
-    // The stream's record, where it has one.
+    // Returns the record of the stream, if it has one.
     fn record_of(&self, stream: StreamId) -> Option<Record>
         ensures { IsRecordOf self.now stream result }
     {
@@ -170,7 +170,7 @@ impl Records {
         record_at(&self.records, key)
     }
 
-    /// How many holds the stream has.
+    /// Returns the number of holds of the stream.
     pub fn holds_of(&self, stream: StreamId) -> u32
         ensures { result ≡ number_at self.now.holds stream }
     {
@@ -180,7 +180,7 @@ impl Records {
         }
     }
 
-    /// Whether the stream has one descriptor, and no hold.
+    /// Returns whether the stream has one descriptor and no hold.
     pub fn is_opened_once(&self, stream: StreamId) -> bool
         ensures { result ≡ ((number_at self.now.opens stream == 1) && (number_at self.now.holds stream == 0)) }
     {
@@ -190,7 +190,7 @@ impl Records {
         }
     }
 
-    /// Whether the stream has hung up.
+    /// Returns whether the stream has hung up.
     pub fn is_hung(&self, stream: StreamId) -> bool
         ensures { result ≡ flag_at self.now.hungs stream }
     {
@@ -203,14 +203,14 @@ impl Records {
         }
     }
 
-    /// Whether the stream has a record.
+    /// Returns whether the stream has a record.
     pub fn has(&self, stream: StreamId) -> bool
         ensures { result ≡ nat_lt 0 (number_at self.now.opens stream + number_at self.now.holds stream) }
     {
         key_of(&self.drivers, stream).is_some()
     }
 
-    /// One more descriptor of a stream.
+    /// Counts one more descriptor of a stream.
     #[inline(always)]
     pub fn open(&mut self, stream: StreamId) -> Result<(), NoMemory>
         requires range { is_in_range self.old.minors stream.driver stream.minor ≡ true }
@@ -231,30 +231,32 @@ impl Records {
                 Ok(())
             }
             None => {
-                self.add(stream)?;
+                self.add(Record {
+                    stream,
+                    opens: 1,
+                    holds: 0,
+                    hung: false,
+                })?;
                 Ok(())
             }
         }
     }
 
-    // A record of a stream that has none, with one descriptor.
-    fn add(&mut self, stream: StreamId) -> Result<(), NoMemory>
-        requires range { is_in_range self.old.minors stream.driver stream.minor ≡ true }
-        requires none { number_at self.old.opens stream + number_at self.old.holds stream ≡ 0 }
-        ensures ok { OnOk result (AreSet self.old stream 1 0 false self.new) }
+    // Adds the record of a stream that has none.
+    fn add(&mut self, record: Record) -> Result<(), NoMemory>
+        requires range { is_in_range self.old.minors record.stream.driver record.stream.minor ≡ true }
+        requires none { number_at self.old.opens record.stream + number_at self.old.holds record.stream ≡ 0 }
+        requires used { 0 < record.opens + record.holds }
+        ensures ok { OnOk result (AreSet self.old record.stream record.opens record.holds record.hung self.new) }
         ensures err { OnErr result (self.new ≡ self.old) }
+        ensures rows { HasRows self.new }
     {
-        let record = Record {
-            stream,
-            opens: 1,
-            holds: 0,
-            hung: false,
-        };
         put(&mut self.drivers, &mut self.records, record)?;
+        self.some_hung = self.some_hung || record.hung;
         Ok(())
     }
 
-    /// One descriptor less of a stream that has one; where nothing is left its record goes.
+    /// Counts one descriptor less of a stream that has one. Removes its record if it then counts nothing.
     pub fn close(&mut self, stream: StreamId)
         requires { 0 < number_at self.old.opens stream }
         ensures { AreSet self.old stream (number_at self.old.opens stream - 1) (number_at self.old.holds stream)
@@ -272,7 +274,7 @@ impl Records {
         }
     }
 
-    /// One hold more of a stream that has a record.
+    /// Counts one more hold of a stream that has a record.
     pub fn hold(&mut self, stream: StreamId)
         requires there { 0 < number_at self.old.opens stream + number_at self.old.holds stream }
         requires few { number_at self.old.holds stream < 1024 }
@@ -290,7 +292,7 @@ impl Records {
         }
     }
 
-    /// One hold less of a stream that is held; where nothing is left its record goes.
+    /// Counts one hold less of a stream that is held. Removes its record if it then counts nothing.
     pub fn release(&mut self, stream: StreamId)
         requires { 0 < number_at self.old.holds stream }
         ensures { AreSet self.old stream (number_at self.old.opens stream) (number_at self.old.holds stream - 1)
@@ -307,7 +309,7 @@ impl Records {
         }
     }
 
-    /// The flag of a stream that has a record.
+    /// Sets the hung-up flag of a stream that has a record.
     pub fn hang(&mut self, stream: StreamId)
         requires { 0 < number_at self.old.opens stream + number_at self.old.holds stream }
         ensures { AreSet self.old stream (number_at self.old.opens stream) (number_at self.old.holds stream) true
@@ -328,7 +330,7 @@ impl Records {
         }
     }
 
-    // Another record for a stream that has one, and has hung up if that says so; where it counts nothing it goes.
+    // Replaces a stream's record; the stream has hung up if it says so. Removes a record that counts nothing.
     fn change(&mut self, changed: Record)
         requires there { 0 < number_at self.old.opens changed.stream + number_at self.old.holds changed.stream }
         requires hung { changed.hung ≡ true → flag_at self.old.hungs changed.stream ≡ true }
@@ -339,8 +341,8 @@ impl Records {
         }
     }
 
-    /// What every table of records is: there are no more drivers than there may be, a stream that has descriptors or
-    /// has hung up is in range, and one that has hung up has a record.
+    /// Ensures the properties of every set of records: there are at most as many drivers as allowed, a stream that
+    /// has descriptors or has hung up is in range, and a hung-up stream has a record.
     pub fn is_sound(&self)
         ensures few { length self.now.minors ≤ MAX_DRIVERS }
         ensures range { (s : StreamId) → 0 < number_at self.now.opens s
@@ -354,13 +356,44 @@ impl Records {
         let _records = &self.records;
     }
 
+    // Copies the stream's record, if it has one, to `self` from `others`.
+    fn copy_record(&mut self, others: &Records, stream: StreamId) -> Result<(), NoMemory>
+        requires before { IsCopyBefore others.now stream.driver stream.minor self.old }
+        requires range { is_in_range others.now.minors stream.driver stream.minor ≡ true }
+        ensures { OnOk result (IsCopyBefore others.now stream.driver (stream.minor + 1) self.new) }
+    {
+        if let Some(record) = others.record_of(stream) {
+            self.add(Record {
+                stream,
+                opens: record.opens,
+                holds: record.holds,
+                hung: record.hung,
+            })?;
+        }
+        Ok(())
+    }
+
+    // Copies the records of a driver's streams to `self` from `others`.
+    fn copy_driver(&mut self, others: &Records, driver: u8, minors: u8) -> Result<(), NoMemory>
+        requires before { IsCopyBefore others.now driver 0 self.old }
+        requires minors { minors ≡ slice_index others.now.minors driver }
+        ensures { OnOk result (IsCopyBefore others.now (driver + 1) 0 self.new) }
+    {
+        for minor in 0..minors {
+            self.copy_record(others, StreamId { driver, minor })?;
+        }
+        Ok(())
+    }
+
+    /// Copies the records into memory from this allocator.
     pub fn copy(&self, alloc: Global) -> Result<Records, NoMemory>
         ensures { IfOk result (λ r. r ≡ self.now) }
     {
-        Ok(Records {
-            drivers: copy_keys(alloc, &self.drivers)?,
-            records: self.records.clone()?,
-            some_hung: self.some_hung,
-        })
+        let minors = minors_of_each(alloc, &self.drivers)?;
+        let mut copy = Records::new(alloc, &minors)?;
+        for driver in 0..minors.len() {
+            copy.copy_driver(self, driver as u8, minors[driver])?;
+        }
+        Ok(copy)
     }
 }

@@ -1,11 +1,11 @@
-//! Why no descriptor was given.
+//! The reasons for not opening a descriptor.
 
 use smx_types::NoMemory;
 
-/// Why no descriptor was given.
+/// The reason why no descriptor was opened.
 #[derive(Clone, Copy, Debug, PartialEq, Eq)]
 pub enum StreamFault {
-    /// The process has no such descriptor.
+    /// The process does not have this descriptor.
     BadDescriptor,
     /// There is no such driver.
     NoDriver,
@@ -13,7 +13,7 @@ pub enum StreamFault {
     NoMinor,
     /// The process has 16 descriptors.
     TooManyDescriptors,
-    /// A growth was refused.
+    /// An allocation failed.
     NoMemory,
 }
 

@@ -23,8 +23,8 @@ use smx_types::{Descriptor, MAX_DESCRIPTORS, NoMemory, Process, StreamId};
 use std::alloc::Global;
 use std::marker::Model;
 
-/// The descriptors of all processes, how many holds each stream has, and which have hung up. A contract sees the
-/// minors of each driver, the list of descriptors, the holds, and the list of hung-up streams.
+/// The descriptors of all processes, the number of holds of each stream, and the hung-up streams. Contracts see the
+/// number of minors of each driver, the list of descriptors, the holds, and the list of hung-up streams.
 #[derive(Debug)]
 pub struct Streams {
     alloc: Global,
@@ -33,7 +33,8 @@ pub struct Streams {
 }
 
 impl Drop for Streams {
-    // One call in each body that has one, however many ways it ends, in place of a drop for each part.
+    // Written by hand: a body then drops a table with one call, however many exits it has, instead of one drop
+    // for each part.
     fn drop(self) {
         let Streams {
             alloc: _,
@@ -55,7 +56,7 @@ impl Model for Streams {
     ghost invariant = { IsWhole };
 }
 
-// What the law says of all lists, as one fact.
+// States the law about all lists of hung-up streams as one fact.
 fn law_of_lists()
     ensures { MakeTheList }
 {
@@ -63,8 +64,8 @@ fn law_of_lists()
 }
 
 impl Streams {
-    /// No streams, over drivers with so many minors, numbered from 0. It keeps the allocator. Fails only for want of
-    /// memory.
+    /// Makes a table without streams, for drivers that are numbered from 0 and have these numbers of minors. The
+    /// table keeps the allocator. Fails only if out of memory.
     pub fn new(alloc: Global, minors: &[u8]) -> Result<Streams, NoMemory>
         requires { length minors.now ≤ MAX_DRIVERS }
         ensures minors { IfOk result (λ t. t.minors ≡ minors.now) }
@@ -79,7 +80,7 @@ impl Streams {
         })
     }
 
-    /// Whether there is that driver, and the minor is below its minors.
+    /// Returns whether the driver exists and the minor is below its number of minors.
     pub fn in_range(&self, driver: u8, minor: u32) -> bool
         ensures { result ≡ is_in_range self.now.minors driver minor }
     {
@@ -89,42 +90,42 @@ impl Streams {
         }
     }
 
-    /// Whether a descriptor names the stream, or it is held.
+    /// Returns whether a descriptor names the stream, or the stream is held.
     pub fn exists(&self, stream: StreamId) -> bool
         ensures { result ≡ exists self.now stream }
     {
         self.records.has(stream)
     }
 
-    /// Whether the stream has hung up.
+    /// Returns whether the stream has hung up.
     pub fn is_hung(&self, stream: StreamId) -> bool
         ensures { result ≡ is_hung self.now.hungs stream }
     {
         self.records.is_hung(stream)
     }
 
-    /// The streams that have hung up, in order. Takes no memory.
+    /// Returns an iterator over the hung-up streams, in order. Does not allocate.
     pub fn hungs(&self) -> HungStreams<'_>
         ensures { result ≡ self.now.hungs }
     {
         HungStreams::new(&self.records)
     }
 
-    /// How many holds the stream has.
+    /// Returns the number of holds of the stream.
     pub fn holds_of(&self, stream: StreamId) -> u32
         ensures { result ≡ number_at self.now.holds stream }
     {
         self.records.holds_of(stream)
     }
 
-    /// The stream of the process's descriptor.
+    /// Returns the stream of a descriptor of the process.
     pub fn stream_of(&self, process: Process, fd: u32) -> Option<StreamId>
         ensures { result ≡ stream_at self.now.fds process fd }
     {
         self.descriptors.stream_of(process, fd)
     }
 
-    // The least minor below `minors` whose stream doesn't exist.
+    // Returns the lowest minor below `minors` whose stream doesn't exist.
     fn least_minor(&self, driver: u8, minors: u8) -> Option<u8>
         requires { minors ≡ slice_index self.now.minors driver }
         ensures { result ≡ least_minor self.now driver }
@@ -138,7 +139,7 @@ impl Streams {
         })
     }
 
-    // One more descriptor, whose number is free.
+    // Adds a descriptor, whose number is free.
     #[inline(always)]
     fn open(&mut self, process: Process, fd: u32, stream: StreamId) -> Result<(), NoMemory>
         requires range { is_in_range self.old.minors stream.driver stream.minor ≡ true }
@@ -155,7 +156,7 @@ impl Streams {
         Ok(())
     }
 
-    // The least number that is free for a stream, given to it.
+    // Opens the lowest free descriptor for a stream.
     #[inline(always)]
     fn give(&mut self, process: Process, stream: StreamId) -> Result<(u32, StreamId), StreamFault>
         requires range { is_in_range self.old.minors stream.driver stream.minor ≡ true }
@@ -173,9 +174,9 @@ impl Streams {
         Ok((fd, stream))
     }
 
-    /// Opens the least minor of the driver whose stream doesn't exist, under the least number that is free. Refused
-    /// where there is no such driver; or else where all its minors are in use; or else where the process has 16
-    /// descriptors; or else for want of memory. Where it is refused nothing has changed.
+    /// Opens the lowest minor of the driver whose stream doesn't exist, as the lowest free descriptor. Fails with the
+    /// first of these: there is no such driver; all its minors are in use; the process has 16 descriptors; an
+    /// allocation fails. A failure changes nothing.
     pub fn open_clone(
         &mut self,
         process: Process,
@@ -195,9 +196,9 @@ impl Streams {
         self.give(process, StreamId { driver, minor })
     }
 
-    /// Opens the stream of a minor, whether it exists or not, under the least number that is free. Refused where there
-    /// is no such driver; or else where it has no such minor; or else where the process has 16 descriptors; or else
-    /// for want of memory. Where it is refused nothing has changed.
+    /// Opens the stream of a minor, whether it exists or not, as the lowest free descriptor. Fails with the first of
+    /// these: there is no such driver; it has no such minor; the process has 16 descriptors; an allocation fails. A
+    /// failure changes nothing.
     pub fn open_minor(
         &mut self,
         process: Process,
@@ -219,8 +220,8 @@ impl Streams {
         self.give(process, StreamId { driver, minor })
     }
 
-    /// The least number that is free, for the stream of a descriptor. Refused where the process has no such
-    /// descriptor; or else where it has 16. Takes no memory.
+    /// Opens the lowest free descriptor for the stream of another descriptor. Fails with the first of these: the
+    /// process has no such descriptor; it has 16 descriptors. Does not allocate.
     pub fn dup(&mut self, process: Process, fd: u32) -> Result<(u32, StreamId), StreamFault>
         ensures answer { result ≡ dup_answer self.old process fd }
         ensures ok { IfOk result (λ x. HasOneMore self.old process x.0 x.1 self.new) }
@@ -233,8 +234,8 @@ impl Streams {
         self.give(process, stream)
     }
 
-    /// Whether nothing is left of the descriptor's stream once it is closed: no other descriptor names it, and it is
-    /// not held.
+    /// Returns whether the descriptor's stream has no other descriptor and no hold, so that closing the descriptor
+    /// leaves nothing of it.
     pub fn is_last(&self, process: Process, fd: u32) -> bool
         ensures { result ≡ is_last self.now process fd }
     {
@@ -245,8 +246,8 @@ impl Streams {
         }
     }
 
-    /// Closes the process's descriptor, and no other; None where there is none. No other stream goes than the one that
-    /// it names. Takes no memory.
+    /// Closes only this descriptor of the process. Returns `None` if there is no such descriptor. Only the
+    /// descriptor's stream can cease to exist. Does not allocate.
     #[inline(always)]
     pub fn close_fd(&mut self, process: Process, fd: u32) -> Option<Closed>
         ensures stream { option_map (λ c. c.stream) result ≡ stream_at self.old.fds process fd }
@@ -267,8 +268,8 @@ impl Streams {
         })
     }
 
-    /// Closes all descriptors of a process, and no other. No other streams go than those that they name. Takes no
-    /// memory.
+    /// Closes all descriptors of a process, and no others. Only the streams that they name can cease to exist.
+    /// Does not allocate.
     pub fn close_process(&mut self, process: Process)
         ensures rest { HasNoneOf self.old process self.new }
         ensures went { (s : StreamId) → exists self.old s ≡ true → exists self.new s ≡ false
@@ -281,28 +282,29 @@ impl Streams {
         }
     }
 
-    /// The first descriptor from a number of a process on, by process and number; None where there is none.
+    /// Returns the first descriptor from a number of a process on, by process and number. Returns `None` if
+    /// there is none.
     pub fn next_fd(&self, process: Process, fd: u32) -> Option<Descriptor>
         ensures { IsNext self.now.fds process fd result }
     {
         self.descriptors.next(process, fd)
     }
 
-    /// The first descriptor of all; None where there is none.
+    /// Returns the first descriptor. Returns `None` if there is none.
     pub fn first_fd(&self) -> Option<Descriptor>
         ensures { IsNext self.now.fds 0 0 result }
     {
         self.next_fd(Process::new(0).unwrap(), 0)
     }
 
-    // What every list of descriptors is.
+    // Ensures the properties of every list of descriptors.
     fn is_listed(&self)
         ensures { IsListed self.now.fds }
     {
         self.descriptors.is_sound();
     }
 
-    /// One more hold of a stream that exists. Takes no memory.
+    /// Counts one more hold of a stream that exists. Does not allocate.
     pub fn hold(&mut self, stream: StreamId)
         requires there { exists self.old stream ≡ true }
         requires few { number_at self.old.holds stream < 1024 }
@@ -314,8 +316,8 @@ impl Streams {
         self.records.hold(stream);
     }
 
-    /// One hold less of a stream that is held. Answers whether neither a descriptor nor a hold is left. Takes no
-    /// memory.
+    /// Counts one hold less of a stream that is held. Returns whether no descriptor and no hold is left.
+    /// Does not allocate.
     #[inline(always)]
     pub fn release(&mut self, stream: StreamId) -> bool
         requires { 0 < number_at self.old.holds stream }
@@ -328,7 +330,7 @@ impl Streams {
         !self.exists(stream)
     }
 
-    /// A stream that exists hangs up. It stays so as long as it exists. Takes no memory.
+    /// Marks a stream that exists as hung up, for as long as it exists. Does not allocate.
     pub fn hang(&mut self, stream: StreamId)
         requires { exists self.old stream ≡ true }
         ensures { HasHungUp self.old stream self.new }
@@ -337,22 +339,22 @@ impl Streams {
         self.records.hang(stream);
     }
 
-    /// What the streams that have hung up always are: they are in order, and each exists. It does nothing: a caller who
-    /// needs these facts calls it.
+    /// Ensures the properties of the hung-up streams: they are in order, and each exists. Does nothing: a caller
+    /// calls it to use these facts.
     pub fn is_sound(&self)
         ensures { AreHungsSound self.now }
     {
         self.records.is_sound();
     }
 
-    /// The same table again, by the allocator that this one has. Fails only for want of memory.
-    pub fn copy(&self) -> Result<Streams, NoMemory>
+    /// Copies the table into memory from this allocator, which the copy keeps.
+    pub fn copy(&self, alloc: Global) -> Result<Streams, NoMemory>
         ensures { IfOk result (λ t. t ≡ self.now) }
     {
         Ok(Streams {
-            alloc: self.alloc,
-            descriptors: self.descriptors.copy(self.alloc)?,
-            records: self.records.copy(self.alloc)?,
+            alloc,
+            descriptors: self.descriptors.copy(alloc)?,
+            records: self.records.copy(alloc)?,
         })
     }
 }

@@ -1,15 +1,15 @@
--- One line, or the lines of one program, more after those of some programs.
+-- How the lines of some programs grow by one line, or by the lines of one more program.
 use Rattle.std.proofs.Common.{◌≡◌, ℕ, suc, ◌+◌, ◌-◌, ◌<◌, List, [], ◌∷◌, ◌++◌, length, get_or, map, sym, ap}
 use Rattle.std.proofs.Common.{◌∙◌, append_assoc, arith, refl, add-zero}
 use Rattle.std.proofs.Math.ListN.{set}
-use Rattle.std.proofs.lemmas.List.{append-nil, map_push}
+use Rattle.std.proofs.lemmas.List.{append-nil, get_or_read, map_push}
 use Rattle.smx_types.specs.declared.command.Command.{Command}
 use Rattle.smx_types.specs.declared.driver.DriverSpec.{DriverSpec}
 use Rattle.smx_text.specs.ProgramLines.{Line}
 use Rattle.smx_text.specs.ProgramLines as line
 use Rattle.smx_text.specs.ProgramsText.{program_lines}
 
--- the lines of one program more are those of the others, the line of its process, and its commands
+-- the lines of one more program follow those of the others: the line of its process, then its commands
 pub lines_add : (n : ℕ) (ps : List (List Command)) (cs : List Command)
     → program_lines n (ps ++ cs ∷ []) ≡ program_lines n ps
     ++ line.Process (n + length ps) ∷ map line.Command cs
@@ -18,7 +18,7 @@ lines_add n (p ∷ ps) cs =
     let k : (n + 1) + length ps ≡ n + suc (length ps) = omega arith in
     rw (lines_add (n + 1) ps cs, k, append_assoc) refl
 
--- programs with a process more, whose program has no command yet, have the line of that process behind theirs
+-- a new process without commands adds its line after the lines of the other programs
 pub added_process : (ds : List DriverSpec) (ps : List (List Command)) (k : ℕ) → k ≡ length ps
     → map line.Driver ds ++ program_lines 0 (ps ++ [] ∷ []) ≡ (map line.Driver ds ++ program_lines 0 ps)
     ++ line.Process k ∷ []
@@ -26,7 +26,7 @@ added_process ds ps k e =
     rw (e, lines_add 0 ps [], append_assoc (map line.Driver ds))
     (ap (λ (m : ℕ). map line.Driver ds ++ (program_lines 0 ps ++ line.Process m ∷ [])) (omega arith))
 
--- one more command of the last program is one more line, behind those of all programs
+-- a new command of the last program adds one line after the lines of all programs
 pub lines_more : (n : ℕ) (ps : List (List Command)) (d : List Command) (c : Command) → 0 < length ps
     → program_lines n (set ps (length ps - 1) (get_or ps (length ps - 1) d ++ c ∷ []))
     ≡ program_lines n ps ++ line.Command c ∷ []
@@ -39,3 +39,12 @@ lines_more n (p ∷ q ∷ ps) d c h =
     rw k (ap (λ (ls : List Line). line.Process n ∷ (map line.Command p ++ ls)) more
     ∙ ap (λ (ls : List Line). line.Process n ∷ ls)
     (sym (append_assoc (map line.Command p) (program_lines (n + 1) (q ∷ ps)) (line.Command c ∷ []))))
+
+-- if a command is appended to the last program, the last program is its old commands and then this one
+pub last_more : (ps : List (List Command)) (len : ℕ) (old new : List Command) (c : Command) → 0 < length ps
+    → len ≡ length ps → old ≡ get_or ps (len - 1) old → new ≡ old ++ c ∷ []
+    → set ps (len - 1) new ≡ set ps (length ps - 1) (get_or ps (length ps - 1) [] ++ c ∷ [])
+last_more ps len old new c some is here more =
+    let first : old ≡ get_or ps (len - 1) [] = get_or_read ps (len - 1) old (omega (arith, some, is)) here [] in
+    let last : old ≡ get_or ps (length ps - 1) [] = first ∙ ap (λ (n : ℕ). get_or ps (n - 1) []) is in
+    rw (is, more) (ap (λ (o : List Command). set ps (length ps - 1) (o ++ c ∷ [])) last)

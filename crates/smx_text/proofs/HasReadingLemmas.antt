@@ -1,6 +1,6 @@
--- Each text has a reading. For any kind of text of which each line is decided.
+-- Each text has a reading, for any kind of text in which every line is decided.
 use Rattle.std.proofs.Common.{◌≡◌, ◌≢◌, ℕ, zero, suc, ◌+◌, ◌<◌, Bool, true, false, List, [], ◌∷◌, ◌++◌}
-use Rattle.std.proofs.Common.{length, Option, Some, None, Result, Ok, Err, refl, sym, ap, subst, ◌∙◌, arith, inl, inr}
+use Rattle.std.proofs.Common.{length, Option, Some, None, Result, Ok, Err, refl, ap, ◌∙◌, arith, inl, inr}
 use Rattle.std.specs.Prelude.{◌⊎◌, IfErr}
 use Rattle.std.proofs.lemmas.List.{length-append}
 use Rattle.std.proofs.lemmas.Slice.Eq.{bytes_eq-Decides}
@@ -11,12 +11,12 @@ use Rattle.smx_text.specs.declared.text_fault.Cause.{Cause}
 use Rattle.smx_text.specs.declared.text_fault.Cause.TheVariants as cause
 use Rattle.smx_text.specs.declared.text_fault.TextFault.{TextFault}
 use Rattle.smx_text.specs.Grammar.{Grammar, IsOneLine, header, line_text, IsBegun, IsNoLine, IsOneTooMany}
-use Rattle.smx_text.specs.Grammar.{IsOneMore, IsFault, Reads, Spells}
+use Rattle.smx_text.specs.Grammar.{IsOneMore, IsFault, Reads}
 use Rattle.smx_text.proofs.ReadingLemmas.{IsBetween, started, cut_at, refused, one_more, read_to_end}
 use Rattle.smx_text.proofs.LineLemmas.{first_line}
 use Rattle.smx_text.proofs.GrammarLemmas.{IsWellMade}
 
--- what stands at a line behind lines that some allowed value begins with
+-- a line after these lines: it is accepted, refused with `Form` or `Many`, or the end line of an allowed value
 abbrev pub Decision : {V K : Type 0} → Grammar V K → List K → List ℕ → Type 0
 Decision {V} {K} g lines text =
     IsOneMore g lines text
@@ -24,41 +24,38 @@ Decision {V} {K} g lines text =
     ⊎ (IsOneTooMany g lines text
     ⊎ ((text ≡ line_text g g.end) × (v : V) × g.IsAllowed v × (g.body v ≡ lines))))
 
--- a text is decided that is so where it is read as some words, and where it is read as none
+-- a text is decided if it is decided both when it reads as some words and when it reads as none
 pub by_reading : {X D : Type 0} {Fits : X → Type 0} (words : X → List (List ℕ)) {text : List ℕ}
     → (o : Option X) × IsReadAs Fits words text o → ((x : X) → Fits x → text ≡ line_of (words x) → D)
     → (((x : X) → Fits x → text ≢ line_of (words x)) → D) → D
 by_reading words (Some x, (fits, is)) some none = some x fits is
 by_reading words (None, unread) some none = none unread
 
--- an answer that is not want of memory
+-- a result other than out of memory
 abbrev pub HasReading : {V K : Type 0} → Grammar V K → List ℕ → Type 0
 HasReading {V} g bytes = (r : Result V TextFault) × Reads g bytes r × IfErr r (λ f. f.cause ≢ cause.NoMemory)
 
 module _ {V K : Type 0} (g : Grammar V K) (made : IsWellMade g) (decides : (lines : List K) → IsBegun g lines
     → (text : List ℕ) → Decision g lines text) where
-  -- bytes with a fault that is not want of memory have a reading
+  -- bytes with a fault other than out of memory have a reading
   stops : (bytes : List ℕ) (n : ℕ) (c : Cause) → IsFault g bytes n c → c ≢ cause.NoMemory → HasReading g bytes
   stops bytes n c fault other = (Err (record { line = n; cause = c }), fault, other)
 
-  -- bytes that have come to the last line, behind all lines of an allowed value, have a reading
+  -- bytes whose last line follows all lines of an allowed value have a reading
   ends : (bytes rest : List ℕ) (lines : List K) (number : ℕ) (text after : List ℕ)
       → IsBetween g bytes rest lines number → IsOneLine text × (rest ≡ text ++ LINE_FEED ∷ after)
       → (text ≡ line_text g g.end) → (v : V) → g.IsAllowed v → g.body v ≡ lines → HasReading g bytes
   ends bytes rest lines number text [] at next end v allowed e =
-      let makes : V → V → Type 0 = λ (v w : V). w ≡ v in
-      let read = read_to_end g bytes rest lines number text [] at next end makes (Ok v) (v, allowed, e, refl, refl) in
-      (Ok v, subst (Spells g bytes) (sym read.2) read.1, tt)
+      (Ok v, read_to_end g bytes rest lines number text [] at next end (Ok v) (allowed, e, refl), tt)
   ends bytes rest lines number text (b ∷ after) at next end v allowed e =
-      let makes : V → V → Type 0 = λ (v w : V). w ≡ v in
       let fault : TextFault = record { line = number + 1; cause = cause.Trailing } in (
         Err fault,
-        read_to_end g bytes rest lines number text (b ∷ after) at next end makes (Err fault)
+        read_to_end g bytes rest lines number text (b ∷ after) at next end (Err fault)
             (inr (v, allowed, e, omega arith, refl)),
         λ c. cc,
       )
 
-  -- bytes of which lines were taken in have a reading, by how many bytes are left
+  -- bytes of which some lines were read have a reading, by induction on the number of bytes left
   goes : (n : ℕ) (bytes rest : List ℕ) (lines : List K) (number : ℕ) → length rest < n
       → IsBetween g bytes rest lines number → HasReading g bytes
   goes zero bytes rest lines number short at = absurd (omega arith)
@@ -77,7 +74,7 @@ module _ {V K : Type 0} (g : Grammar V K) (made : IsWellMade g) (decides : (line
     ]
   ]
 
-  -- where each line behind others is decided, any bytes spell a value or have a first fault
+  -- if every line after others is decided, any bytes spell a value or have a first fault
   pub has_reading : IsBegun g [] → (bytes : List ℕ) → HasReading g bytes
   has_reading begun bytes = elim (first_line bytes) [
     | inl one ↦ stops bytes 1 cause.Cut ([], bytes, inl (refl, refl), one, refl) (λ c. cc)

@@ -1,5 +1,4 @@
 pub mod EachLemmas
-pub mod PlaceLemmas
 pub mod BodyLemmas
 pub mod LineWordLemmas
 pub mod ReadingLemmas
@@ -26,8 +25,6 @@ pub mod TranscriptGrammarLemmas
 pub mod TranscriptDecidedLemmas
 pub mod WritingLemmas
 pub mod GrowingLemmas
-pub mod LastProgramLemmas
-pub mod SplitLemmas
 pub mod WorkedFaultLemmas
 pub mod WrongCommandLemmas
 pub mod WrongProgramLemmas

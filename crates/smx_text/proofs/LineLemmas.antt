@@ -1,16 +1,16 @@
--- Lines of bytes, and the first of some.
+-- Lines of bytes, and the first line.
 use Rattle.std.proofs.Common.{◌≡◌, ℕ, Bool, true, false, eqb, List, [], ◌∷◌, ◌++◌, refl, sym, ap, ◌∙◌, arith, inl, inr}
 use Rattle.std.specs.Prelude.{◌⊎◌}
 use Rattle.std.proofs.lemmas.Bool.Decides.{nat_tests}
 use Rattle.smx_words.specs.Words.{LINE_FEED}
 use Rattle.smx_text.specs.Grammar.{IsOneLine}
 
--- bytes with a line feed in them are not one line
+-- bytes that contain a line feed are not one line
 pub not_one : (xs after : List ℕ) → IsOneLine (xs ++ LINE_FEED ∷ after) → ⊥
 not_one [] after h = h.0 refl
 not_one (x ∷ xs) after h = not_one xs after h.1
 
--- bytes have one first line, and one rest behind it
+-- bytes have one first line, and one rest after it
 pub one_cut : (xs ys cs ds : List ℕ) → IsOneLine xs → IsOneLine ys
     → xs ++ LINE_FEED ∷ cs ≡ ys ++ LINE_FEED ∷ ds → (xs ≡ ys) × (cs ≡ ds)
 one_cut [] [] cs ds h k e = (refl, cc)
@@ -22,7 +22,7 @@ one_cut (x ∷ xs) (y ∷ ys) cs ds h k e =
     let t = one_cut xs ys cs ds h.1 k.1 rest in
     (ap (λ (z : ℕ). z ∷ xs) first ∙ ap (λ (zs : List ℕ). y ∷ zs) t.0, t.1)
 
--- any bytes are one line without a line feed, or have a first line that is whole
+-- any bytes are one line without a line feed, or start with a whole line
 pub first_line : (xs : List ℕ) → IsOneLine xs
     ⊎ ((text after : List ℕ) × IsOneLine text × (xs ≡ text ++ LINE_FEED ∷ after))
 first_line [] = inl tt

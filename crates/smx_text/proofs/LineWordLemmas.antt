@@ -1,4 +1,4 @@
--- What the texts take from the words of lines.
+-- Facts about the words of lines that both texts use.
 use Rattle.std.proofs.Common.{◌≡◌, ◌≢◌, ℕ, true, false, List, [], ◌∷◌, sym, ◌∙◌, arith, rules}
 use Rattle.std.specs.Prelude.{codes}
 use Rattle.std.specs.Str.{bytes_eq}
@@ -7,12 +7,12 @@ use Rattle.smx_words.specs.Words.{AreWords, LINE_FEED, line_of}
 use Rattle.smx_words.proofs.LineLemmas.{line_free, same_words, words_free}
 use Rattle.smx_text.specs.Grammar.{IsOneLine}
 
--- the first of some words, and no bytes where there is none
+-- the first of some words, or no bytes if there are no words
 abbrev pub first_word : List (List ℕ) → List ℕ
 first_word [] = []
 first_word (w ∷ ws) = w
 
--- words that make the same line are the same words
+-- two lists of words that make the same line are equal
 pub one_spelling : (ws vs : List (List ℕ)) → AreWords ws → AreWords vs → line_of ws ≡ line_of vs → ws ≡ vs
 one_spelling ws vs h k e = same_words ws vs h.0 k.0 e
 
@@ -24,11 +24,11 @@ config_spelled = (search rules, omega arith)
 pub end_spelled : AreWords (codes "end" ∷ [])
 end_spelled = (search rules, omega arith)
 
--- a line of words has no line feed in it
+-- a line of words contains no line feed
 pub one_line_of : (ws : List (List ℕ)) → AreWords ws → IsOneLine (line_of ws)
 one_line_of ws h = line_free LINE_FEED (λ e. cc) ws (words_free LINE_FEED (omega arith) ws h.0)
 
--- bytes that a comparison tells apart are not the same
+-- bytes that compare as unequal are not equal
 pub differ : (w v : List ℕ) → bytes_eq w v ≡ false → w ≢ v
 differ w v other e =
     let same = (bytes_eq-Decides w v).1 e in

@@ -1,4 +1,4 @@
--- Want of memory is told only before anything else is wrong. For any kind of text whose lines can be told apart.
+-- A reader reports out of memory only before any fault, for texts in which a line's text determines the line.
 use Rattle.std.proofs.Common.{◌≡◌, ◌≢◌, ℕ, ◌+◌, ◌<◌, ◌≤◌, List, ◌∷◌, ◌++◌, length, Result, Ok, Err, refl}
 use Rattle.std.proofs.Common.{sym, ap, subst, ◌∙◌, arith, inl, inr}
 use Rattle.std.specs.Prelude.{IfErr}
@@ -14,7 +14,7 @@ use Rattle.smx_text.proofs.GrammarLemmas.{IsWellMade, texts, Judges, Answers, St
 use Rattle.smx_text.proofs.GrammarLemmas.{begun_fits, compare, too_early, beginning_and, place}
 
 module _ {V K : Type 0} (g : Grammar V K) (made : IsWellMade g) where
-  -- a line that is refused behind others is the one behind them, or a later one
+  -- a line refused after these lines is the next line, or a later one
   at_judgement : (lines : List K) (text after : List ℕ) (n : ℕ) (c : Cause)
       → Judges g made lines text after n c → length lines + 2 ≤ n
   at_judgement lines text after n cause.Form h = omega (arith, h.1)
@@ -22,19 +22,19 @@ module _ {V K : Type 0} (g : Grammar V K) (made : IsWellMade g) where
   at_judgement lines text after n cause.Trailing (v, b, more, allowed, e, end, _, at) = omega (arith, at)
   at_judgement lines text after n c h = absurd h
 
-  -- an answer given at a whole line behind others stands at that line, or at a later one
+  -- a result at a whole line after these lines is at that line, or at a later one
   at_answer : (lines : List K) (text after : List ℕ) (r : Result V TextFault)
       → Answers g made lines text after r → length lines + 2 ≤ last_line g r
   at_answer lines text after (Ok v) (allowed, e, end, none) = omega (arith, ap (length {A = K}) e)
   at_answer lines text after (Err f) a = at_judgement lines text after f.line f.cause a
 
-  -- an answer given where bytes are left behind lines stands at the line behind them, or at a later one
+  -- a result where bytes are left after these lines is at the next line, or at a later one
   at_stop : (lines : List K) (rest : List ℕ) (r : Result V TextFault) → Stops g made lines rest r
       → length lines + 2 ≤ last_line g r
   at_stop lines rest r (inl (one, e)) = omega (arith, ap (last_line g) e)
   at_stop lines rest r (inr (text, after, one, e, a)) = at_answer lines text after r a
 
-  -- an answer behind the header stands behind all lines that the bytes begin with and some allowed value begins with
+  -- a result after the header is after every prefix of an allowed value's lines that the bytes start with
   behind : (bytes : List ℕ) (lines : List K) (rest : List ℕ) (r : Result V TextFault) → IsBegun g lines
       → bytes ≡ header g ++ LINE_FEED ∷ (texts g made lines ++ rest) → Behind g made bytes r
       → length lines + 2 ≤ last_line g r
@@ -48,7 +48,7 @@ module _ {V K : Type 0} (g : Grammar V K) (made : IsWellMade g) where
         | inr (inr more) ↦ absurd (too_early g made ms ls rest' r begun more stops)
       ]
 
-  -- an answer to bytes that begin with lines of an allowed value stands behind these lines
+  -- a result for bytes that start with lines of an allowed value is after these lines
   placed : (bytes : List ℕ) (lines : List K) (rest : List ℕ) (r : Result V TextFault) → IsBegun g lines
       → bytes ≡ header g ++ LINE_FEED ∷ (texts g made lines ++ rest) → Place g made bytes r
       → length lines + 2 ≤ last_line g r
@@ -58,7 +58,7 @@ module _ {V K : Type 0} (g : Grammar V K) (made : IsWellMade g) where
       absurd (differ (one_cut text (header g) after (texts g made lines ++ rest) one made.header_line (sym is ∙ e)).0)
   placed bytes lines rest r begun e (inr (inr h)) = behind bytes lines rest r begun e h
 
-  -- a line with which some value goes on stands before the one at which any reading but want of memory ends
+  -- a line that some allowed value has there comes before the line where any reading except out of memory ends
   pub comes_before : (bytes : List ℕ) (n : ℕ) (r : Result V TextFault) → IsFault g bytes n cause.NoMemory
       → Reads g bytes r
       → IfErr r (λ f. f.cause ≢ cause.NoMemory) → n < last_line g r

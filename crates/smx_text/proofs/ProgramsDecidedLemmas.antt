@@ -1,4 +1,4 @@
--- Each line behind those of some programs is decided.
+-- Every text after the lines of some programs is decided.
 use Rattle.std.proofs.Common.{◌≡◌, ◌≢◌, ℕ, List, [], ◌∷◌, ◌++◌, Option, refl, sym}
 use Rattle.std.proofs.Common.{subst, arith, rules, inl, inr}
 use Rattle.std.specs.List.{sum_by}
@@ -28,7 +28,7 @@ use Rattle.smx_types.specs.declared.version.Version.{Version}
 use Rattle.smx_types.specs.Versions.{most_drivers}
 use Rattle.smx_words.proofs.ToldLemmas.{told_command}
 
--- a line may stand behind those of some programs, or it may not
+-- a line may follow the lines of some programs, or it may not
 stands_or_not : (v : ProgramLists) (k : Line) → MayStand v k ⊎ (MayStand v k → ⊥)
 stands_or_not v (line.Driver d) = cases_eq (length v.programs) 0
 stands_or_not v (line.Process n) = cases_eq n (length v.programs)
@@ -39,12 +39,12 @@ stands_or_not v (line.Command c) =
     ]
 stands_or_not v line.End = inl tt
 
--- any bytes are read as a command that a version can tell, or as none
+-- any bytes read as a command that this version can express, or as none
 told_reading : (version : Version) (text : List ℕ)
     → (o : Option Command) × IsReadAs (FitsCommandIn version) command_words text o
 told_reading version text = let c = command_reading text in told_command version text c.0 c.1
 
--- programs have room for a line that is not the end, or have as many of its kind as may be
+-- programs have room for a line other than the end, or the limit for its kind is reached
 room_or_many : (version : Version) → (v : ProgramLists) (k : Line) → k ≢ line.End
     → HasRoom version v k ⊎ AreMany version v k
 room_or_many version v (line.Driver d) other = cases_lt (length v.drivers) (most_drivers version)
@@ -52,11 +52,11 @@ room_or_many version v (line.Process n) other = cases_lt (length v.programs) MAX
 room_or_many version v (line.Command c) other = cases_lt (sum_by length v.programs) MAX_COMMANDS
 room_or_many version v line.End other = absurd (other refl)
 
--- the lines of allowed programs are lines that some allowed programs begin with
+-- the lines of allowed programs are a prefix of themselves
 begun_by : (version : Version) → (v : ProgramLists) → IsAllowed version v → IsBegun (programs_grammar version) (body v)
 begun_by version v allowed = (v, [], allowed, sym (append-nil (body v)))
 
--- behind the lines of allowed programs, the text of a line that can be told and is not the end is decided
+-- after the lines of allowed programs, the text of a line that fits and is not the end is decided
 judged : (version : Version) → (v : ProgramLists) → IsAllowed version v → (text : List ℕ) (k : Line) → k ≢ line.End
     → FitsLine version k
     → text ≡ line_text (programs_grammar version) k → Decision (programs_grammar version) (body v) text
@@ -71,7 +71,7 @@ judged version v allowed text k other fits is = elim (stands_or_not v k) [
   ]
 ]
 
--- behind the lines of allowed programs, any text is decided
+-- after the lines of allowed programs, any text is decided
 behind : (version : Version) → (v : ProgramLists) → IsAllowed version v → (text : List ℕ)
     → Decision (programs_grammar version) (body v) text
 behind version v allowed text =
@@ -85,14 +85,14 @@ behind version v allowed text =
           inr (inl (no_line version (body v) text commands drivers processes other)))))
     ]
 
--- behind lines that some allowed programs begin with, any text is decided
+-- after a prefix of the lines of allowed programs, any text is decided
 decides : (version : Version) → (lines : List Line) → IsBegun (programs_grammar version) lines → (text : List ℕ)
     → Decision (programs_grammar version) lines text
 decides version lines begun text =
     let own = begun_is_body version lines begun in
     subst (λ (ls : List Line). Decision (programs_grammar version) ls text) own.2 (behind version own.0 own.1 text)
 
--- before its first line, a text is the beginning of some allowed programs
+-- before its first line, a text is a prefix of some allowed programs
 pub nothing_begun : (version : Version) → IsBegun (programs_grammar version) []
 nothing_begun version = (
   record { version = version; drivers = []; programs = [] },
@@ -101,7 +101,7 @@ nothing_begun version = (
   refl,
 )
 
--- any bytes spell programs of this version, or have a first fault that is not want of memory
+-- any bytes spell programs of this version, or have a first fault other than out of memory
 pub programs_have_reading : (version : Version) → (bytes : List ℕ) → HasReading (programs_grammar version) bytes
 programs_have_reading version bytes =
     has_reading (programs_grammar version) (well_made version) (decides version) (nothing_begun version) bytes

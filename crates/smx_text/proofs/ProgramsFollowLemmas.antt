@@ -1,4 +1,4 @@
--- Which lines may follow those of some programs, and of which there are as many as may be.
+-- The lines that may follow the lines of some programs, and those that are over the limit.
 use Rattle.std.proofs.Common.{◌≡◌, ◌≢◌, ℕ, ◌+◌, ◌-◌, ◌<◌, ◌≤◌, List, [], ◌∷◌, ◌++◌, length, map, get_or}
 use Rattle.std.proofs.Common.{refl, sym, ap, subst, ◌∙◌, append_assoc, arith}
 use Rattle.std.specs.List.{sum_by}
@@ -19,23 +19,23 @@ use Rattle.smx_text.proofs.ProgramsOrderLemmas.{body_in_order, order_behind}
 use Rattle.smx_types.specs.Versions.{most_drivers}
 use Rattle.smx_types.specs.declared.version.Version.{Version}
 
--- ---- what may stand behind the lines of these programs, and of what there are as many as may be
+-- ---- the lines that may follow these programs, and the limits
 
--- a driver may stand before all processes, a process by the next number, a command behind a process, the end
+-- a driver before any process, a process with the next number, a command after a process, or the end
 abbrev pub MayStand : ProgramLists → Line → Type 0
 MayStand v (line.Driver d) = length v.programs ≡ 0
 MayStand v (line.Process number) = number ≡ length v.programs
 MayStand v (line.Command c) = 0 < length v.programs
 MayStand v line.End = Unit {0}
 
--- there are as many drivers, programs or commands as the version allows, and the line would be one more
+-- the programs have as many drivers, processes or commands as this version allows, and the line is one more
 abbrev pub AreMany : Version → ProgramLists → Line → Type 0
 AreMany version v (line.Driver d) = most_drivers version ≤ length v.drivers
 AreMany version v (line.Process number) = MAX_PROCESSES ≤ length v.programs
 AreMany version v (line.Command c) = MAX_COMMANDS ≤ sum_by length v.programs
 AreMany version v line.End = ⊥
 
--- of lines in order behind all processes of some programs, the first may stand behind these programs
+-- of lines in order that follow all processes of some programs, the first may follow these programs
 pub stands : (v : ProgramLists) (n : ℕ) (k : Line) (more : List Line) → n ≡ length v.programs
     → InOrder n (k ∷ more) → MayStand v k
 stands v n (line.Driver d) more e h = sym e ∙ h.0
@@ -43,7 +43,7 @@ stands v n (line.Process m) more e h = h.0 ∙ e
 stands v n (line.Command c) more e h = omega (arith, e, h.0)
 stands v n line.End more e h = tt
 
--- a line that some text has behind those of these programs may stand there
+-- a line that follows these programs in some text may follow them
 pub may_stand : (version : Version) (v : ProgramLists) (k : Line) → MayFollow (programs_grammar version) (body v) k
     → MayStand v k
 may_stand version v k (w, (more, e)) =
@@ -51,7 +51,7 @@ may_stand version v k (w, (more, e)) =
     stands v (0 + sum_by a_process (body v)) k more (omega (arith, c.processes))
     (order_behind 0 (body v) (k ∷ more) (subst (InOrder 0) e (body_in_order w)))
 
--- what is counted of some lines of a text of programs and of the next is at most what is counted of all its lines
+-- a count over some lines of a text and the next line is at most the count over all its lines
 longer : (w : Line → ℕ) (v u : ProgramLists) (k : Line) (more : List Line)
     → body v ++ line.End ∷ [] ≡ body u ++ k ∷ more → sum_by w (body u) + w k ≤ sum_by w (body v) + w line.End
 longer w v u k more e =
@@ -64,7 +64,7 @@ longer w v u k more e =
       sum_by-cons w k more,
     )
 
--- where there are as many of its kind as may be, no allowed programs go on with the line
+-- if the limit for the kind of a line is reached, no allowed programs have the line there
 pub are_full : (version : Version) (v : ProgramLists) (k : Line) → AreMany version v k
     → IsFull (programs_grammar version) (body v) k
 are_full version v (line.Driver d) h w allowed (more, e) = let a = counts v in let b = counts w in
@@ -75,9 +75,9 @@ are_full version v (line.Command c) h w allowed (more, e) = let a = counts v in 
     omega (arith, longer a_command w v _ more e, a.commands, b.commands, allowed.commands, h)
 are_full version v line.End h w allowed goes = absurd h
 
--- ---- one line more
+-- ---- one more line
 
--- the programs with a driver more, with a process that has no command, or with a command of the last process
+-- the programs with one more driver, one more process without commands, or one more command of the last process
 abbrev pub with_line : ProgramLists → Line → ProgramLists
 with_line v (line.Driver d) = record v { drivers = v.drivers ++ d ∷ [] }
 with_line v (line.Process number) = record v { programs = v.programs ++ [] ∷ [] }
@@ -87,19 +87,19 @@ with_line v (line.Command c) =
     }
 with_line v line.End = v
 
--- a line that is added to programs doesn't change their version
+-- adding a line to programs doesn't change their version
 pub version_stays : (v : ProgramLists) (k : Line) → (with_line v k).version ≡ v.version
 version_stays v line.End = refl
 version_stays v k = refl
 
--- where there is no program yet, one more driver is one more line at the end
+-- while there is no process, one more driver is one more line at the end
 pub with_driver : (ds : List DriverSpec) (ps : List (List Command)) (d : DriverSpec) → length ps ≡ 0
     → body (program_lists (ds ++ d ∷ []) ps) ≡ body (program_lists ds ps) ++ line.Driver d ∷ []
 with_driver ds ps d none =
     let empty : ps ≡ [] = nil_from_length ps none in
     rw (empty, map_push line.Driver ds d) (simp append_assoc)
 
--- programs with one line more, which may stand there and is not the end, have that line behind theirs
+-- if a line may follow and is not the end, the programs with it have the same lines and then this one
 pub body_more : (v : ProgramLists) (k : Line) → MayStand v k → k ≢ line.End → body (with_line v k) ≡ body v ++ k ∷ []
 body_more v (line.Driver d) h other = with_driver v.drivers v.programs d h
 body_more v (line.Process n) h other = added_process v.drivers v.programs n h
@@ -108,7 +108,7 @@ body_more v (line.Command c) h other =
     ∙ sym (append_assoc (map line.Driver v.drivers) (program_lines 0 v.programs) (line.Command c ∷ []))
 body_more v line.End h other = absurd (other refl)
 
--- programs whose last line before the end is this one go on with it behind the other lines
+-- programs whose last line before the end is `k` have `k` after the other lines
 goes_on : (version : Version) (w : ProgramLists) (lines : List Line) (k : Line) → body w ≡ lines ++ k ∷ []
     → GoesOn (programs_grammar version) w lines k
 goes_on version w lines k e = (
@@ -116,7 +116,7 @@ goes_on version w lines k e = (
   ap (λ (ls : List Line). ls ++ line.End ∷ []) e ∙ append_assoc lines (k ∷ []) (line.End ∷ []),
 )
 
--- a line that may stand behind those of these programs stands there in some text
+-- a line that may follow these programs follows them in some text
 pub stand_may : (version : Version) (v : ProgramLists) (k : Line) → MayStand v k
     → MayFollow (programs_grammar version) (body v) k
 stand_may version v line.End h = (v, ([], refl))

@@ -1,4 +1,4 @@
--- The lines of a programs text can be told apart.
+-- In a programs text, a line's text determines the line.
 use Rattle.std.proofs.Common.{◌≡◌, ◌≢◌, ℕ, Result, Bool, true, false, ◌||◌, List, refl, sym, ap, ◌∙◌, rules}
 use Rattle.std.specs.Prelude.{codes}
 use Rattle.std.specs.Str.{bytes_eq}
@@ -28,7 +28,7 @@ use Rattle.smx_types.specs.declared.version.Version.TheVariants.{V1, V2}
 
 -- ---- the first word of a command
 
--- whether a word is one with which a command begins
+-- whether a word starts a command
 abbrev is_verb : List ℕ → Bool
 is_verb w =
     bytes_eq w (codes "clone") || bytes_eq w (codes "open") || bytes_eq w (codes "dup") || bytes_eq w
@@ -40,26 +40,26 @@ is_verb w =
     || bytes_eq w (codes "flush") || bytes_eq w (codes "inject") || bytes_eq w (codes "transmit")
     || bytes_eq w (codes "hangup")
 
--- the first word of a command is one with which a command begins
+-- the first word of a command starts a command
 verb_first : (c : Command) → is_verb (first_word (command_words c)) ≡ true
 verb_first command.CloseAll = refl
 verb_first c = refl
 
--- words that begin with no verb are no command's
+-- words whose first word is no verb are not the words of a command
 pub not_verb : (c : Command) (ws : List (List ℕ)) → command_words c ≡ ws → is_verb (first_word ws) ≡ false → ⊥
 not_verb c ws e h = let t = verb_first c in
     let same = ap (λ (vs : List (List ℕ)). is_verb (first_word vs)) e in absurd cc
 
 -- ---- lines
 
--- the words of a line that can be told are one or more, of bytes that can be seen
+-- a line that fits has at least one word, and all words are printable bytes
 spelling : (version : Version) (k : Line) → FitsLine version k → AreWords (line_words k)
 spelling version (line.Driver d) fits = driver_spelled d fits
 spelling version (line.Process n) fits = process_spelled n fits
 spelling version (line.Command c) fits = command_spelled c fits.0
 spelling version line.End fits = end_spelled
 
--- two lines of programs that can be told in a version and have the same words are the same line
+-- two lines of programs that fit a version and have the same words are equal
 words_apart : (version : Version) (k l : Line) → FitsLine version k → FitsLine version l → line_words k ≡ line_words l
     → line_text (programs_grammar version) k ≡ line_text (programs_grammar version) l → k ≡ l
 words_apart version (line.Driver d) (line.Driver e) fits also ws same =
@@ -73,21 +73,21 @@ words_apart version (line.Command c) l fits also ws same = absurd (not_verb c _ 
 words_apart version k (line.Command c) fits also ws same = absurd (not_verb c _ (sym ws) refl)
 words_apart version k l fits also ws same = absurd cc
 
--- two lines of programs that can be told in a version and have the same text are the same line
+-- two lines of programs that fit a version and have the same text are equal
 pub tells_apart : (version : Version) (k l : Line) → FitsLine version k → FitsLine version l
     → line_text (programs_grammar version) k ≡ line_text (programs_grammar version) l → k ≡ l
 tells_apart version k l fits also same =
     words_apart version k l fits also (one_spelling (line_words k) (line_words l) (spelling version k fits)
     (spelling version l also) same) same
 
--- what is answered to a line that was read is answered to its text
+-- a result for a parsed line is a result for its text
 pub answers_line : {A : Type 0} (version : Version) (lines longer : List Line) (k : Line) (text : List ℕ)
     → FitsLine version k × (text ≡ line_text (programs_grammar version) k) → (r : Result A Cause)
     → AnswersLine (programs_grammar version) lines k longer r
     → AnswersText (programs_grammar version) lines text longer r
 answers_line version = answers (programs_grammar version) (tells_apart version)
 
--- the cause for which a line may not follow is one for which its text is refused
+-- a cause for which a line is refused is one for which its text is refused
 pub refused_line : (version : Version) (lines : List Line) (k : Line) (text : List ℕ) → FitsLine version k
     → text ≡ line_text (programs_grammar version) k → (why : Cause) → RefusesLine (programs_grammar version) lines k why
     → Refuses (programs_grammar version) lines text why
@@ -105,12 +105,12 @@ no_line version lines text commands drivers processes end (line.Driver d) fits m
 no_line version lines text commands drivers processes end (line.Process n) fits may is = processes n fits is
 no_line version lines text commands drivers processes end line.End fits may is = end is
 
--- the header of programs has no line feed in it
+-- the header of programs contains no line feed
 header_is_line : (version : Version) → IsOneLine (header (programs_grammar version))
 header_is_line V1 = search rules
 header_is_line V2 = search rules
 
--- the lines of a programs text are told apart, each is one line, and they tell the programs
+-- the programs text is well made: a line's text determines it, each is one line, and lines determine the programs
 pub well_made : (version : Version) → IsWellMade (programs_grammar version)
 well_made version = record {
   header_line = header_is_line version;

@@ -1,4 +1,4 @@
--- What a reader does with a line behind those of some programs.
+-- How a reader treats a line after the lines of some programs.
 use Rattle.std.proofs.Common.{◌≡◌, ◌≢◌, ℕ, ◌+◌, ◌<◌, [], ◌∷◌, ◌++◌, length, sym, ap, subst, arith, ◌≤◌, ◌∙◌, refl, Some}
 use Rattle.std.proofs.Common.{rules}
 use Rattle.std.specs.List.{sum_by, AllByRecursion}
@@ -6,7 +6,6 @@ use Rattle.std.proofs.lemmas.List.{append-nil}
 use Rattle.std.proofs.lemmas.List.Sums.{sum_by-append, sum_by-cons}
 use Rattle.smx_types.specs.ProgramLists.{ProgramLists, AreWithinLimits}
 use Rattle.smx_types.specs.declared.limits.TheConstants.{MAX_DRIVERS, MAX_PROCESSES, MAX_COMMANDS}
-use Rattle.smx_text.specs.Drafts.{IsCounted}
 use Rattle.smx_text.specs.Grammar.{IsBegun}
 use Rattle.smx_text.specs.ProgramLines.{Line}
 use Rattle.smx_text.specs.ProgramLines as line
@@ -23,13 +22,7 @@ use Rattle.smx_types.specs.declared.version.Version.{Version}
 use Rattle.smx_types.specs.declared.version.Version.TheVariants.{V1, V2}
 use Rattle.smx_types.specs.Versions.{most_drivers}
 
--- what is counted of some programs is counted of programs that are equal to them
-pub counted : {v w : ProgramLists} {version : Version} {drivers programs commands : ℕ}
-    → IsCounted v version drivers programs commands → v ≡ w → IsCounted w version drivers programs commands
-counted {version = version} {drivers = drivers} {programs = programs} {commands = commands} h same =
-    subst (λ (p : ProgramLists). IsCounted p version drivers programs commands) same h
-
--- the line is not the end, and programs have fewer of its kind than there may be
+-- the line is not the end, and the programs are below the limit for its kind
 abbrev pub HasRoom : Version → ProgramLists → Line → Type 0
 HasRoom version v (line.Driver d) = length v.drivers < most_drivers version
 HasRoom version v (line.Process number) = length v.programs < MAX_PROCESSES
@@ -41,19 +34,19 @@ not_end : (version : Version) (v : ProgramLists) (k : Line) → HasRoom version 
 not_end version v line.End h e = h
 not_end version v k h e = cc
 
--- programs have at most as many drivers, programs and commands as there may be
+-- the programs have at most as many drivers, processes and commands as allowed
 record IsFew (version : Version) (v : ProgramLists) : Type 0 where
   drivers : length v.drivers ≤ most_drivers version
   programs : length v.programs ≤ MAX_PROCESSES
   commands : sum_by length v.programs ≤ MAX_COMMANDS
 
--- what is counted of lines with one more at their end is what is counted of the others and of that one
+-- a count over lines with one more at their end is the count over the others plus that of the new line
 sums : (weight : Line → ℕ) (v w : ProgramLists) (k : Line) → body w ≡ body v ++ k ∷ []
     → sum_by weight (body w) ≡ sum_by weight (body v) + weight k
 sums weight v w k e =
     omega (arith, ap (sum_by weight) e, sum_by-append weight (body v) (k ∷ []), sum_by-cons weight k [])
 
--- programs with one line more than allowed ones, which had room for it, have no more of each kind than there may be
+-- allowed programs with room for one more line are within the limits with it
 few_by : (version : Version) (v w : ProgramLists) (k : Line) → IsAllowed version v → HasRoom version v k
     → body w ≡ body v ++ k ∷ [] → IsFew version w
 few_by version v w line.End within room e = absurd room
@@ -63,7 +56,7 @@ few_by version v w k within room e = let a = counts v in let b = counts w in rec
   commands = omega (arith, sums a_command v w k e, a.commands, b.commands, within.commands, room);
 }
 
--- where programs have room for a line, some allowed programs begin with their lines and this one
+-- if programs have room for a line, some allowed programs start with their lines and this one
 pub adds : (version : Version) (v w : ProgramLists) (k : Line) → v.version ≡ version → w.version ≡ version
     → IsBegun (programs_grammar version) (body v) → HasRoom version v k → FitsLine version k
     → body w ≡ body v ++ k ∷ []
@@ -82,7 +75,7 @@ adds version v w k of_v of_w begun room fits e =
     } in
     (e, (w, [], kept, sym (append-nil (body w))))
 
--- where a line may stand and there is room for it, some allowed programs begin with the others and this one
+-- if a line may follow and there is room for it, some allowed programs start with the others and this one
 pub longer_begun : (version : Version) (v : ProgramLists) (k : Line) → v.version ≡ version
     → IsBegun (programs_grammar version) (body v) → MayStand v k → HasRoom version v k → FitsLine version k
     → IsBegun (programs_grammar version) (body v ++ k ∷ [])
@@ -91,17 +84,17 @@ longer_begun version v k is begun may room fits =
     subst (IsBegun (programs_grammar version)) more
     (adds version v (with_line v k) k is (version_stays v k ∙ is) begun room fits more).1
 
--- a line that may not stand behind those of some programs is refused for its form
+-- a line that may not follow some programs is refused with `Form`
 pub misplaced : (version : Version) (v : ProgramLists) (k : Line) → (MayStand v k → ⊥)
     → RefusesLine (programs_grammar version) (body v) k cause.Form
 misplaced version v k h may = h (may_stand version v k may)
 
--- a line that may stand behind those of some programs, but of which there are as many as may be, is one too many
+-- a line that may follow some programs but is over the limit is refused with `Many`
 pub too_many : (version : Version) (v : ProgramLists) (k : Line) → MayStand v k → AreMany version v k
     → RefusesLine (programs_grammar version) (body v) k cause.Many
 too_many version v k may many = (stand_may version v k may, are_full version v k many)
 
--- where a line may stand and there is room for it, it is added to programs with which some allowed ones begin
+-- if a line may follow and there is room for it, adding it gives the start of some allowed programs
 pub taken_more : (version : Version) (v w : ProgramLists) (k : Line) → v.version ≡ version → w ≡ with_line v k
     → IsBegun (programs_grammar version) (body v) → MayStand v k → HasRoom version v k → FitsLine version k
     → AddsLine (programs_grammar version) (body v) k (body w)
@@ -111,7 +104,7 @@ taken_more version v w k is same begun may room fits =
 
 -- ---- the end
 
--- programs whose lines a text begins with are within the limits
+-- programs whose lines are a prefix of allowed programs are within the limits
 pub begun_within : (v : ProgramLists) → IsBegun (programs_grammar v.version) (body v) → AreWithinLimits v
 begun_within v begun =
     let own = allowed_of v.version v refl begun in record {
@@ -124,8 +117,7 @@ begun_within v begun =
       few V1 h = search rules
       few V2 h = h
 
--- programs whose lines some allowed programs begin with may end there, as what is made of them
-pub finished : {W : Type 0} (makes : ProgramLists → W → Type 0) (v : ProgramLists) (w : W)
-    → IsBegun (programs_grammar v.version) (body v) → makes v w
-    → EndsAs (programs_grammar v.version) makes (body v) (Some w)
-finished makes v w begun made = (v, allowed_of v.version v refl begun, refl, made)
+-- programs whose lines are a prefix of allowed programs may end there
+pub finished : (v w : ProgramLists) → w ≡ v → IsBegun (programs_grammar v.version) (body v)
+    → EndsAs (programs_grammar v.version) (body v) (Some w)
+finished v w same begun = rw same (allowed_of v.version v refl begun, refl)

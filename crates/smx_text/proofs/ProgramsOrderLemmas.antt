@@ -1,4 +1,4 @@
--- How many lines of each kind the lines of some programs are, and their order.
+-- The number of lines of each kind among the lines of some programs, and their order.
 use Rattle.std.proofs.Common.{◌≡◌, ℕ, ◌+◌, ◌<◌, List, [], ◌∷◌, ◌++◌, length, map, refl, sym, ap, subst}
 use Rattle.std.proofs.Common.{append_assoc, arith}
 use Rattle.std.specs.List.{sum_by}
@@ -10,7 +10,7 @@ use Rattle.smx_text.specs.ProgramLines.{Line}
 use Rattle.smx_text.specs.ProgramLines as line
 use Rattle.smx_text.specs.ProgramsText.{program_lines, body}
 
--- ---- how many lines there are of each kind
+-- ---- the number of lines of each kind
 
 -- 1 for a driver's line, 0 for any other
 abbrev pub a_driver : Line → ℕ
@@ -32,14 +32,14 @@ abbrev pub an_end : Line → ℕ
 an_end line.End = 1
 an_end k = 0
 
--- there are so many lines of drivers, of processes and of commands, and none is the end
+-- there are d lines of drivers, p of processes and c of commands, and none is the end
 pub record HasCounts (d p c : ℕ) (lines : List Line) : Type 0 where
   pub drivers : sum_by a_driver lines ≡ d
   pub processes : sum_by a_process lines ≡ p
   pub commands : sum_by a_command lines ≡ c
   pub ends : sum_by an_end lines ≡ 0
 
--- a line in front of others that is not the end is counted with its kind, and the others as before
+-- a line other than the end put before others adds one to the count of its kind
 one_first : {d p c e q b : ℕ} (k : Line) (ls : List Line) → an_end k ≡ 0 → HasCounts d p c ls
     → (e ≡ a_driver k + d) × (q ≡ a_process k + p) × (b ≡ a_command k + c) → HasCounts e q b (k ∷ ls)
 one_first k ls none h are = record {
@@ -49,7 +49,7 @@ one_first k ls none h are = record {
   ends = omega (arith, sum_by-cons an_end k ls, none, h.ends);
 }
 
--- the counts of two lists of lines add up to those of both joined
+-- the counts of two joined lists of lines are the sums of their counts
 both : {d p c e q b : ℕ} (ls ks : List Line) → HasCounts d p c ls → HasCounts e q b ks
     → HasCounts (d + e) (p + q) (c + b) (ls ++ ks)
 both ls ks h k = record {
@@ -80,7 +80,7 @@ of_programs n (p ∷ ps) =
     (both (map line.Command p) behind (of_commands p) (of_programs (n + 1) ps))
     (omega arith, omega arith, omega (arith, sum_by-cons (length {A = Command}) p ps))
 
--- the lines of programs are one for each driver, each program and each command, and none is the end
+-- the lines of programs are one for each driver, each process and each command, and none is the end
 pub counts : (v : ProgramLists) → HasCounts (length v.drivers) (length v.programs) (sum_by length v.programs) (body v)
 counts v =
     let all = both (map line.Driver v.drivers) (program_lines 0 v.programs) (of_drivers v.drivers)
@@ -92,7 +92,7 @@ counts v =
       ends = all.ends;
     }
 
--- the line `end` is none of the lines of programs between the header and the end
+-- the line `end` is not among the lines of programs between the header and the end
 pub end_is_last : (v : ProgramLists) (lines more : List Line) → body v ≡ lines ++ line.End ∷ more → ⊥
 end_is_last v lines more e =
     let c = counts v in
@@ -104,9 +104,9 @@ end_is_last v lines more e =
       sum_by-cons an_end line.End more,
     )
 
--- ---- lines in order, where n processes came before: drivers first, and processes by rising number
+-- ---- lines in order after n processes: drivers first, and processes by rising number
 
--- behind n processes: drivers where n is 0, processes by the next number, commands where n is not 0
+-- after n processes: drivers if n is 0, processes with the next number, commands if n is not 0
 abbrev pub InOrder : ℕ → List Line → Type 0
 InOrder n [] = Unit {0}
 InOrder n (line.Driver d ∷ ls) = (n ≡ 0) × InOrder n ls
@@ -114,18 +114,18 @@ InOrder n (line.Process m ∷ ls) = (m ≡ n) × InOrder (n + 1) ls
 InOrder n (line.Command c ∷ ls) = (0 < n) × InOrder n ls
 InOrder n (line.End ∷ ls) = InOrder n ls
 
--- lines that are in order behind no process are so with lines of drivers in front of them
+-- lines in order after no process are still in order with lines of drivers before them
 drivers_in_order : (ds : List DriverSpec) (rest : List Line) → InOrder 0 rest → InOrder 0 (map line.Driver ds ++ rest)
 drivers_in_order [] rest h = h
 drivers_in_order (d ∷ ds) rest h = (refl, drivers_in_order ds rest h)
 
--- lines that are in order behind one process or more are so with lines of commands in front of them
+-- lines in order after at least one process are still in order with lines of commands before them
 commands_in_order : (n : ℕ) (cs : List Command) (rest : List Line) → 0 < n → InOrder n rest
     → InOrder n (map line.Command cs ++ rest)
 commands_in_order n [] rest some h = h
 commands_in_order n (c ∷ cs) rest some h = (some, commands_in_order n cs rest some h)
 
--- the lines of programs from process n on, with the end behind them, are in order behind n processes
+-- the lines of programs from process n on, and the end, are in order after n processes
 lines_in_order : (n : ℕ) (ps : List (List Command)) → InOrder n (program_lines n ps ++ line.End ∷ [])
 lines_in_order n [] = tt
 lines_in_order n (p ∷ ps) = (
@@ -136,14 +136,14 @@ lines_in_order n (p ∷ ps) = (
       (lines_in_order (n + 1) ps)),
 )
 
--- the lines of any programs, with the end behind them, are in order
+-- the lines of any programs, and the end, are in order
 pub body_in_order : (v : ProgramLists) → InOrder 0 (body v ++ line.End ∷ [])
 body_in_order v =
     subst (InOrder 0)
     (sym (append_assoc (map line.Driver v.drivers) (program_lines 0 v.programs) (line.End ∷ [])))
     (drivers_in_order v.drivers (program_lines 0 v.programs ++ line.End ∷ []) (lines_in_order 0 v.programs))
 
--- where lines are in order, the later ones are so behind the processes of the earlier ones
+-- if lines are in order, the later ones are in order after the processes of the earlier ones
 pub order_behind : (n : ℕ) (ls ks : List Line) → InOrder n (ls ++ ks) → InOrder (n + sum_by a_process ls) ks
 order_behind n [] ks h = subst (λ (m : ℕ). InOrder m ks) (omega arith) h
 order_behind n (line.Process m ∷ ls) ks h =
@@ -154,7 +154,7 @@ order_behind n (line.End ∷ ls) ks h =
 order_behind n (k ∷ ls) ks h =
     subst (λ (m : ℕ). InOrder m ks) (omega (arith, sum_by-cons a_process k ls)) (order_behind n ls ks h.1)
 
--- where lines are in order, the earlier ones are so
+-- if lines are in order, so are the earlier ones
 pub order_before : (n : ℕ) (ls ks : List Line) → InOrder n (ls ++ ks) → InOrder n ls
 order_before n [] ks h = tt
 order_before n (line.Process m ∷ ls) ks h = (h.0, order_before (n + 1) ls ks h.1)

@@ -1,4 +1,4 @@
--- The lines of some programs tell them, and lines that some programs begin with are those of some programs.
+-- The lines of programs determine them, and a prefix of the lines of programs is the lines of some programs.
 use Rattle.std.proofs.Common.{◌≡◌, ◌≢◌, ℕ, ◌+◌, ◌-◌, ◌≤◌, List, [], ◌∷◌, ◌++◌, length, map, get_or, refl, sym, ap}
 use Rattle.std.proofs.Common.{subst, ◌∙◌, append_assoc, arith}
 use Rattle.std.specs.List.{sum_by, AllByRecursion}
@@ -17,66 +17,66 @@ use Rattle.smx_text.proofs.ProgramsOrderLemmas.{body_in_order, order_before}
 use Rattle.smx_text.proofs.ProgramsFollowLemmas.{stands, with_line, body_more, version_stays}
 use Rattle.smx_types.specs.declared.version.Version.{Version}
 
--- ---- the lines tell the programs
+-- ---- lines determine the programs
 
--- the drivers that lines tell
+-- the drivers in some lines
 abbrev drivers_of : List Line → List DriverSpec
 drivers_of [] = []
 drivers_of (line.Driver d ∷ ls) = d ∷ drivers_of ls
 drivers_of (k ∷ ls) = drivers_of ls
 
--- the commands that lines tell before the first line of a process
+-- the commands in some lines before the first line of a process
 abbrev commands_of : List Line → List Command
 commands_of [] = []
 commands_of (line.Process n ∷ ls) = []
 commands_of (line.Command c ∷ ls) = c ∷ commands_of ls
 commands_of (k ∷ ls) = commands_of ls
 
--- the programs that lines tell: for each line of a process, the commands up to the next one
+-- the programs in some lines: for each line of a process, the commands up to the next one
 abbrev programs_of : List Line → List (List Command)
 programs_of [] = []
 programs_of (line.Process n ∷ ls) = commands_of ls ∷ programs_of ls
 programs_of (k ∷ ls) = programs_of ls
 
--- lines of drivers, and others behind them, tell these drivers and then those of the others
+-- lines of drivers followed by others contain these drivers and then those of the others
 drivers_again : (ds : List DriverSpec) (rest : List Line)
     → drivers_of (map line.Driver ds ++ rest) ≡ ds ++ drivers_of rest
 drivers_again [] rest = refl
 drivers_again (d ∷ ds) rest = ap (λ (es : List DriverSpec). d ∷ es) (drivers_again ds rest)
 
--- lines behind those of drivers tell the same programs as without them
+-- lines contain the same programs with lines of drivers before them
 programs_behind : (ds : List DriverSpec) (rest : List Line)
     → programs_of (map line.Driver ds ++ rest) ≡ programs_of rest
 programs_behind [] rest = refl
 programs_behind (d ∷ ds) rest = programs_behind ds rest
 
--- lines behind those of commands tell the same drivers as without them
+-- lines contain the same drivers with lines of commands before them
 no_drivers_of : (cs : List Command) (rest : List Line) → drivers_of (map line.Command cs ++ rest) ≡ drivers_of rest
 no_drivers_of [] rest = refl
 no_drivers_of (c ∷ cs) rest = no_drivers_of cs rest
 
--- the lines of processes and their programs tell no driver
+-- the lines of processes and their programs contain no driver
 no_drivers : (n : ℕ) (ps : List (List Command)) → drivers_of (program_lines n ps) ≡ []
 no_drivers n [] = refl
 no_drivers n (p ∷ ps) = no_drivers_of p (program_lines (n + 1) ps) ∙ no_drivers (n + 1) ps
 
--- lines of commands, and others behind them, tell these commands first and then those of the others
+-- lines of commands followed by others contain these commands and then those of the others
 commands_again : (cs : List Command) (rest : List Line)
     → commands_of (map line.Command cs ++ rest) ≡ cs ++ commands_of rest
 commands_again [] rest = refl
 commands_again (c ∷ cs) rest = ap (λ (es : List Command). c ∷ es) (commands_again cs rest)
 
--- lines behind those of commands tell the same programs as without them
+-- lines contain the same programs with lines of commands before them
 programs_after : (cs : List Command) (rest : List Line) → programs_of (map line.Command cs ++ rest) ≡ programs_of rest
 programs_after [] rest = refl
 programs_after (c ∷ cs) rest = programs_after cs rest
 
--- the lines of processes and their programs tell no command before the first process
+-- the lines of processes and their programs contain no command before the first process
 none_first : (n : ℕ) (ps : List (List Command)) → commands_of (program_lines n ps) ≡ []
 none_first n [] = refl
 none_first n (p ∷ ps) = refl
 
--- the lines of processes and their programs tell these programs
+-- the lines of processes and their programs contain these programs
 programs_again : (n : ℕ) (ps : List (List Command)) → programs_of (program_lines n ps) ≡ ps
 programs_again n [] = refl
 programs_again n (p ∷ ps) =
@@ -88,11 +88,11 @@ programs_again n (p ∷ ps) =
       append-nil,
     ) refl
 
--- what lines tell, as programs of a version
+-- the programs of this version with the drivers and programs in some lines
 abbrev told_of : Version → List Line → ProgramLists
 told_of version ls = record { version = version; drivers = drivers_of ls; programs = programs_of ls }
 
--- what the lines of programs tell in their version is the programs themselves
+-- the lines of programs, read in their version, give the programs themselves
 pub told : (v : ProgramLists) → told_of v.version (body v) ≡ v
 told v = rw (
   drivers_again v.drivers (program_lines 0 v.programs),
@@ -102,18 +102,18 @@ told v = rw (
   programs_again 0 v.programs,
 ) refl
 
--- programs of one version that have the same lines are the same
+-- two programs values of one version with the same lines are equal
 pub one_value : (v w : ProgramLists) → v.version ≡ w.version → body v ≡ body w → v ≡ w
 one_value v w same e = sym (told v) ∙ ap (told_of v.version) e
     ∙ ap (λ (n : Version). told_of n (body w)) same ∙ told w
 
--- ---- lines that some programs begin with are those of some programs
+-- ---- a prefix of the lines of programs is the lines of some programs
 
--- a line that is not counted as an end is not the end
+-- a line whose count as an end is 0 is not the end
 same_end : (k : Line) → an_end k ≡ 0 → k ≢ line.End
 same_end k none e = let one : an_end k ≡ 1 = ap an_end e in omega (arith, none, one)
 
--- where lines are in order behind some programs, all but the first are so behind the programs with the first added
+-- if lines are in order after some programs, all but the first are in order after the programs with the first added
 order_next : (v : ProgramLists) (n : ℕ) (k : Line) (more : List Line) → n ≡ length v.programs → k ≢ line.End
     → InOrder n (k ∷ more) → InOrder (length (with_line v k).programs) more
 order_next v n (line.Driver d) more e other h = subst (λ (m : ℕ). InOrder m more) e h.1
@@ -125,7 +125,7 @@ order_next v n (line.Command c) more e other h =
     (get_or v.programs (length v.programs - 1) [] ++ c ∷ []))) h.1
 order_next v n line.End more e other h = absurd (other refl)
 
--- behind lines of programs, lines in order without an end make the lines of some longer programs of that version
+-- lines in order after some programs, without an end, extend them to longer programs of that version
 lead : (v : ProgramLists) (ks : List Line) → InOrder (length v.programs) ks → sum_by an_end ks ≡ 0
     → (w : ProgramLists) × (w.version ≡ v.version) × (body w ≡ body v ++ ks)
 lead v [] order none = (v, refl, sym (append-nil (body v)))
@@ -142,7 +142,7 @@ lead v (k ∷ ks) order none =
           ∙ append_assoc (body v) (k ∷ []) ks,
     )
 
--- lines with which allowed programs begin are all the lines of some allowed programs
+-- a prefix of the lines of allowed programs is all the lines of some allowed programs
 pub begun_is_body : (version : Version) (lines : List Line) → IsBegun (programs_grammar version) lines
     → (v : ProgramLists) × IsAllowed version v × (body v ≡ lines)
 begun_is_body version lines (w, more, allowed, e) =
@@ -168,7 +168,7 @@ begun_is_body version lines (w, more, allowed, e) =
           → sum_by weight (body v) ≤ sum_by weight (body w)
       fewer weight v is = omega (arith, ap (sum_by weight) e, sum_by-append weight lines more, ap (sum_by weight) is)
 
--- programs whose lines some allowed programs begin with are allowed themselves
+-- programs whose lines are a prefix of allowed programs are allowed themselves
 pub allowed_of : (version : Version) (v : ProgramLists) → v.version ≡ version
     → IsBegun (programs_grammar version) (body v) → IsAllowed version v
 allowed_of version v is begun =

@@ -1,4 +1,4 @@
--- What a version can tell of programs, as a whole and line by line.
+-- The programs that a version can express, as a whole and line by line.
 use Rattle.std.proofs.Common.{◌≡◌, ℕ, ◌+◌, ◌≤◌, false, List, [], ◌∷◌, ◌++◌, length, map, refl}
 use Rattle.std.specs.List.{AllByRecursion, list_any}
 use Rattle.std.proofs.lemmas.Bool.{or_parts}
@@ -14,16 +14,16 @@ use Rattle.smx_text.specs.ProgramLines as line
 use Rattle.smx_text.specs.ProgramsText.{FitsLine, IsAllowed, program_lines}
 use Rattle.smx_text.proofs.LeastVersionLemmas.{few_drivers, is_first, not_more}
 
--- ---- what version 1 tells line by line needs no later one
+-- ---- programs whose lines fit version 1 need no later version
 
--- where version 1 can tell lines of commands and others behind them, no command is a hangup and it can tell the others
+-- if lines of commands followed by others fit version 1, no command is a hangup, and the others fit version 1
 told_commands : (cs : List Command) (rest : List Line)
     → AllByRecursion (FitsLine V1) (map line.Command cs ++ rest)
     → (list_any is_hangup cs ≡ false) × AllByRecursion (FitsLine V1) rest
 told_commands [] rest h = (refl, h)
 told_commands (c ∷ cs) rest h = let more = told_commands cs rest h.1 in (rw (h.0.1, more.0) refl, more.1)
 
--- programs whose lines version 1 can tell have no hangup
+-- programs whose lines fit version 1 have no hangup
 told_programs : (n : ℕ) (ps : List (List Command)) → AllByRecursion (FitsLine V1) (program_lines n ps)
     → list_any (list_any is_hangup) ps ≡ false
 told_programs n [] h = refl
@@ -31,7 +31,7 @@ told_programs n (p ∷ ps) h =
     let own = told_commands p (program_lines (n + 1) ps) h.1 in
     rw (own.0, told_programs (n + 1) ps own.1) refl
 
--- where version 1 can tell lines of drivers and others behind them, it can tell the others
+-- if lines of drivers followed by others fit version 1, the others fit version 1
 told_behind : (ds : List DriverSpec) (rest : List Line) → AllByRecursion (FitsLine V1) (map line.Driver ds ++ rest)
     → AllByRecursion (FitsLine V1) rest
 told_behind [] rest h = h
@@ -45,9 +45,9 @@ least_is_first v allowed =
     told_programs 0 v.programs (told_behind v.drivers (program_lines 0 v.programs) allowed.fits) in
     rw (few, none) refl
 
--- ---- what needs no later version, version 1 tells line by line
+-- ---- the lines of programs that need no later version fit version 1
 
--- lines of commands without a hangup that fit version 2 fit version 1, with lines behind them for which that holds
+-- lines of commands without a hangup that fit version 2 fit version 1, if the same holds of the lines after them
 first_commands : (cs : List Command) (rest : List Line) → list_any is_hangup cs ≡ false
     → AllByRecursion (FitsLine V2) (map line.Command cs ++ rest)
     → (AllByRecursion (FitsLine V2) rest → AllByRecursion (FitsLine V1) rest)
@@ -65,7 +65,7 @@ first_programs n (p ∷ ps) none h =
     let both = or_parts (list_any is_hangup p) (list_any (list_any is_hangup) ps) none in
     (h.0, first_commands p (program_lines (n + 1) ps) both.0 h.1 (first_programs (n + 1) ps both.1))
 
--- lines of programs that fit version 2 fit any version that is not before the least one of the programs
+-- lines of programs that fit version 2 fit any version not before the earliest one for the programs
 pub programs_fit : (version : Version) (v : ProgramLists) → (version ≡ V1 → least_of_programs v.drivers v.programs ≡ V1)
     → AllByRecursion (FitsLine V2) (program_lines 0 v.programs)
     → AllByRecursion (FitsLine version) (program_lines 0 v.programs)
@@ -75,7 +75,7 @@ programs_fit V1 v told h =
     first_programs 0 v.programs both.1 h
 programs_fit V2 v told h = h
 
--- programs that need no version after this one have at most as many drivers as it can tell
+-- programs that need no later version have at most as many drivers as this version allows
 pub drivers_few : (version : Version) (v : ProgramLists) → (version ≡ V1 → least_of_programs v.drivers v.programs ≡ V1)
     → length v.drivers ≤ MAX_DRIVERS → length v.drivers ≤ most_drivers version
 drivers_few V1 v told few =

@@ -1,4 +1,4 @@
--- Where a reader stands between two lines, and what it may answer there. For any kind of text.
+-- The position of a reader between two lines, and the results possible there, for any kind of text.
 use Rattle.std.proofs.Common.{◌≡◌, ◌≢◌, ℕ, ◌+◌, ◌<◌, List, [], ◌∷◌, ◌++◌, length, map, Result, Ok, Err, refl, sym}
 use Rattle.std.proofs.Common.{ap, subst, ◌∙◌, append_assoc, arith, inl, inr}
 use Rattle.std.specs.Prelude.{IfErr}
@@ -11,26 +11,21 @@ use Rattle.smx_text.specs.declared.text_fault.Cause.{Cause}
 use Rattle.smx_text.specs.declared.text_fault.Cause.TheVariants as cause
 use Rattle.smx_text.specs.declared.text_fault.TextFault.{TextFault}
 use Rattle.smx_text.specs.Grammar.{Grammar, IsOneLine, header, line_text, beginning, full_text, IsBegun}
-use Rattle.smx_text.specs.Grammar.{Continues, IsNoLine, MayFollow, Reaches, IsFault, MakesAny, ReadsAny, Spells}
+use Rattle.smx_text.specs.Grammar.{Continues, IsNoLine, MayFollow, Reaches, IsFault, Reads, ReadsAny}
 use Rattle.smx_text.specs.Reading.{Refuses, RefusesLine, EndsText, AnswersLine, AnswersText}
 
--- the text of two joined lists of lines is the text of the first and then that of the second
+-- the text of two joined lists of lines is the text of the first followed by that of the second
 pub texts_append : (ls ks : List (List (List ℕ))) → text_of (ls ++ ks) ≡ text_of ls ++ text_of ks
 texts_append ls ks = flat_map-append (λ words. line_of words ++ LINE_FEED ∷ []) ls ks
 
--- bytes that stand behind a whole line stand behind its line feed
+-- bytes after a whole line are after its line feed
 behind : (before text after : List ℕ) → (before ++ (text ++ LINE_FEED ∷ [])) ++ after
     ≡ before ++ (text ++ LINE_FEED ∷ after)
 behind before text after = append_assoc before (text ++ LINE_FEED ∷ []) after
     ∙ ap (λ (xs : List ℕ). before ++ xs) (append_assoc text (LINE_FEED ∷ []) after)
 
--- in one version: what may be made of the value that the bytes spell, or the fault that a reader may answer
-abbrev pub MakesIn : {V K W : Type 0} → Grammar V K → (V → W → Type 0) → List ℕ → Result W TextFault → Type 0
-MakesIn {V} {K} {W} g makes bytes (Ok w) = (v : V) × Spells g bytes v × makes v w
-MakesIn {V} {K} {W} g makes bytes (Err f) = IsFault g bytes f.line f.cause
-
 module _ {V K : Type 0} (g : Grammar V K) where
-  -- a beginning with one line more is the beginning and then that line with its line feed
+  -- a beginning with one more line is the beginning followed by that line and its line feed
   pub beginning_more : (lines : List K) (k : K)
       → beginning g (lines ++ k ∷ []) ≡ beginning g lines ++ (line_text g k ++ LINE_FEED ∷ [])
   beginning_more lines k =
@@ -44,25 +39,25 @@ module _ {V K : Type 0} (g : Grammar V K) where
       texts_append (g.header_words ∷ map g.line_words (g.body v)) (g.line_words g.end ∷ [])
       ∙ ap (λ (xs : List ℕ). beginning g (g.body v) ++ xs) (append-nil (line_text g g.end ++ LINE_FEED ∷ []))
 
-  -- the text of a value with bytes behind it is its beginning, the last line and these bytes
+  -- the text of a value followed by bytes is its beginning, the last line and these bytes
   pub full_and : (v : V) (more : List ℕ) → full_text g v ++ more
       ≡ beginning g (g.body v) ++ (line_text g g.end ++ LINE_FEED ∷ more)
   full_and v more = ap (λ (xs : List ℕ). xs ++ more) (full_is v)
       ∙ behind (beginning g (g.body v)) (line_text g g.end) more
 
-  -- a beginning with one line more, and bytes behind it, is the beginning, that line and these bytes
+  -- a beginning with one more line, followed by bytes, is the beginning, that line and these bytes
   pub more_and : (lines : List K) (k : K) (after : List ℕ)
       → beginning g (lines ++ k ∷ []) ++ after ≡ beginning g lines ++ (line_text g k ++ LINE_FEED ∷ after)
   more_and lines k after = ap (λ (xs : List ℕ). xs ++ after) (beginning_more lines k)
       ∙ behind (beginning g lines) (line_text g k) after
 
-  -- Between two lines: these were taken in, and the rest is still to read.
+  -- Between two lines: `lines` were read, and `rest` is still to be read.
   pub record IsBetween (bytes rest : List ℕ) (lines : List K) (number : ℕ) : Type 0 where
     pub begun : IsBegun g lines
     pub parts : bytes ≡ beginning g lines ++ rest
     pub numbered : number ≡ length lines + 2
 
-  -- behind the header, no line was taken in and line 2 comes next
+  -- after the header no line was read, and line 2 comes next
   pub started : (bytes rest : List ℕ) (lines : List K) → IsBegun g [] → lines ≡ []
       → bytes ≡ header g ++ LINE_FEED ∷ rest → IsBetween bytes rest lines 2
   started bytes rest lines begun none e = rw none (record {
@@ -72,7 +67,7 @@ module _ {V K : Type 0} (g : Grammar V K) where
     numbered = refl;
   })
 
-  -- between two lines, where the rest is no whole line, the text is cut at the next one
+  -- between two lines, if the rest has no whole line, the text is cut at the next line
   pub cut_at : (bytes rest : List ℕ) (lines : List K) (number : ℕ) → IsBetween bytes rest lines number
       → IsOneLine rest → IsFault g bytes number cause.Cut
   cut_at bytes rest lines number at one =
@@ -94,7 +89,7 @@ module _ {V K : Type 0} (g : Grammar V K) where
     refused cause.NoMemory h = (lines, text, reaches, h)
     refused why h = absurd h
 
-    -- where the next line goes on behind those before, a reader is between it and the line after it
+    -- if the next line is accepted, the reader is between it and the line after it
     pub one_more : (longer : List K) → Continues g lines text longer → IsBetween bytes after longer (number + 1)
     one_more longer (k, is, longer_is, begun) = record {
       begun = begun;
@@ -121,22 +116,21 @@ module _ {V K : Type 0} (g : Grammar V K) where
           let all = whole v e ∙ ap (λ (xs : List ℕ). full_text g v ++ xs) is in
           (v, b, more, allowed, all, omega (arith, at.numbered, ap (length {A = K}) e))
 
-      -- what is answered at the last line is what may be answered for the whole text
-      pub read_to_end : {W : Type 0} (makes : V → W → Type 0) (r : Result W TextFault)
-          → EndsText g makes lines after number r → MakesIn g makes bytes r
-      read_to_end makes (Ok w) (v, allowed, e, none, made) =
+      -- the result at the last line is a result that a reader may return for the whole text
+      pub read_to_end : (r : Result V TextFault) → EndsText g lines after number r → Reads g bytes r
+      read_to_end (Ok v) (allowed, e, none) =
           let all = whole v e ∙ ap (λ (xs : List ℕ). full_text g v ++ xs) (nil_from_length after none)
           ∙ append-nil (full_text g v) in
-          (v, record { allowed = allowed; text = all }, made)
-      read_to_end makes (Err f) (inl (never, is)) =
+          record { allowed = allowed; text = all }
+      read_to_end (Err f) (inl (never, is)) =
           subst (λ (x : TextFault). IsFault g bytes x.line x.cause) (sym is) (may_not never)
-      read_to_end makes (Err f) (inr (v, allowed, e, some, is)) =
+      read_to_end (Err f) (inr (v, allowed, e, some, is)) =
           subst (λ (x : TextFault). IsFault g bytes x.line x.cause) (sym is)
           (trails v allowed e after refl some)
 
-  -- ---- what is done with a line that was read is done with its text
+  -- ---- results for a parsed line are results for its text
 
-  -- where texts tell lines apart, the cause for which a line is refused is one for which its text is
+  -- if a line's text determines the line, the cause for which a line is refused is one for its text
   pub refuses : ((k l : K) → g.FitsLine k → g.FitsLine l → line_text g k ≡ line_text g l → k ≡ l)
       → (lines : List K) (k : K) (text : List ℕ)
       → g.FitsLine k → text ≡ line_text g k → (why : Cause) → RefusesLine g lines k why → Refuses g lines text why
@@ -146,45 +140,35 @@ module _ {V K : Type 0} (g : Grammar V K) where
   refuses tells_apart lines k text fits is cause.NoMemory h = (lines ++ k ∷ [], (k, is, refl, h))
   refuses tells_apart lines k text fits is why h = absurd h
 
-  -- where texts tell lines apart, what is answered to a line that was read is answered to its text
+  -- if a line's text determines the line, a result for a parsed line is a result for its text
   pub answers : {A : Type 0} → ((k l : K) → g.FitsLine k → g.FitsLine l → line_text g k ≡ line_text g l → k ≡ l)
       → (lines longer : List K) (k : K) (text : List ℕ) → g.FitsLine k × (text ≡ line_text g k) → (r : Result A Cause)
       → AnswersLine g lines k longer r → AnswersText g lines text longer r
   answers tells_apart lines longer k text (fits, is) (Ok x) h = (k, is, h.0, h.1)
   answers tells_apart lines longer k text (fits, is) (Err why) h = refuses tells_apart lines k text fits is why h
 
-  -- no line behind the header is refused as a wrong header
+  -- no line after the header is refused with `Header`
   pub refused_behind : (lines : List K) (text : List ℕ) (why : Cause) → Refuses g lines text why → why ≢ cause.Header
   refused_behind lines text cause.Header h e = absurd h
   refused_behind lines text why h e = cc
 
-  -- what is answered at the last line says nothing of the header
-  pub ends_behind : {W : Type 0} (makes : V → W → Type 0) (lines : List K) (after : List ℕ) (number : ℕ)
-      (r : Result W TextFault) → EndsText g makes lines after number r → IfErr r (λ f. f.cause ≢ cause.Header)
-  ends_behind makes lines after number (Ok w) h = tt
-  ends_behind makes lines after number (Err f) (inl (never, is)) = λ e. cc
-  ends_behind makes lines after number (Err f) (inr (v, allowed, same, some, is)) = λ e. cc
+  -- no result at the last line reports a wrong header
+  pub ends_behind : (lines : List K) (after : List ℕ) (number : ℕ) (r : Result V TextFault)
+      → EndsText g lines after number r → IfErr r (λ f. f.cause ≢ cause.Header)
+  ends_behind lines after number (Ok v) h = tt
+  ends_behind lines after number (Err f) (inl (never, is)) = λ e. cc
+  ends_behind lines after number (Err f) (inr (v, allowed, same, some, is)) = λ e. cc
 
 -- ---- texts of several versions
 
 module _ {V K : Type 0} (g : Version → Grammar V K) (bytes : List ℕ) where
-  -- a fault that a text has in one version, and that is not its header, may be answered by a reader of all versions
-  pub any_fault : (version : Version) (f : TextFault) → IsFault (g version) bytes f.line f.cause
-      → f.cause ≢ cause.Header → ReadsAny g bytes (Err f)
-  any_fault version f fault behind = (version, fault, λ header. absurd (behind header))
+  -- a result in one version that does not report a wrong header is possible for a reader of all versions
+  pub any_of : (version : Version) (r : Result V TextFault) → Reads (g version) bytes r
+      → IfErr r (λ f. f.cause ≢ cause.Header) → ReadsAny g bytes r
+  any_of version (Ok v) reads behind = (version, reads, tt)
+  any_of version (Err f) reads behind = (version, reads, λ header. absurd (behind header))
 
-  -- an answer in one version that is not a wrong header may be given by a reader of all versions
-  pub any_of : {W : Type 0} (makes : V → W → Type 0) (version : Version) (r : Result W TextFault)
-      → MakesIn (g version) makes bytes r → IfErr r (λ f. f.cause ≢ cause.Header) → MakesAny g makes bytes r
-  any_of makes version (Ok w) (v, spells, made) behind = (v, (version, spells, tt), made)
-  any_of makes version (Err f) fault behind = any_fault version f fault behind
-
-  -- where the value itself is made, a reader may answer it
-  pub made_is_read : (r : Result V TextFault) → MakesAny g (λ v w. w ≡ v) bytes r → ReadsAny g bytes r
-  made_is_read (Ok w) (v, reads, is) = subst (λ (x : V). ReadsAny g bytes (Ok x)) (sym is) reads
-  made_is_read (Err f) reads = reads
-
-  -- a fault that a text has in each version may be answered by a reader of all versions
+  -- a fault that a text has in every version is possible for a reader of all versions
   pub any_of_each : (f : TextFault) → ((version : Version) → IsFault (g version) bytes f.line f.cause)
       → ReadsAny g bytes (Err f)
   any_of_each f each = (

@@ -1,4 +1,4 @@
--- Each line behind those of a transcript that is being read is decided.
+-- Every text after the lines of a transcript that is being read is decided.
 use Rattle.std.proofs.Common.{◌≡◌, ◌≢◌, ℕ, Bool, true, false, List, [], ◌∷◌, ◌++◌, Option, Some, None, refl}
 use Rattle.std.proofs.Common.{sym, subst, inl, inr}
 use Rattle.smx_types.specs.declared.command.Entry.{Entry}
@@ -17,7 +17,7 @@ use Rattle.smx_words.proofs.ToldLemmas.{told_entry}
 use Rattle.smx_text.specs.declared.text_fault.Cause.TheVariants as cause
 use Rattle.smx_text.specs.declared.transcript.draft.Stage.{Stage}
 use Rattle.smx_text.specs.declared.transcript.draft.Stage.TheVariants as stage
-use Rattle.smx_text.specs.Drafts.{TranscriptSoFar}
+use Rattle.smx_text.specs.declared.transcript.draft.TranscriptDraft.{TranscriptDraft}
 use Rattle.smx_text.specs.Drafts.{grammar_of, lines, is_view}
 use Rattle.smx_text.specs.Grammar.{IsBegun, IsNoLine, line_text}
 use Rattle.smx_text.specs.TranscriptLines.{TranscriptLine}
@@ -29,12 +29,12 @@ use Rattle.smx_text.proofs.TranscriptDrafts.{takes, is_full}
 use Rattle.smx_text.proofs.TranscriptGrammarLemmas.{refused_line, not_at_end, well_made, no_line}
 use Rattle.smx_text.proofs.TranscriptLemmas.{misplaced, too_many, longer_begun, whole, begun_is_draft, nothing_begun}
 
--- any bytes are read as an entry that a version can tell, or as none
+-- any bytes read as an entry that this version can express, or as none
 told_entry_reading : (version : Version) (text : List ℕ)
     → (o : Option Entry) × IsReadAs (FitsEntryIn version) entry_words text o
 told_entry_reading version text = let e = entry_reading text in told_entry version text e.0 e.1
 
--- any bytes are read as a hung-up stream that a version can tell, or as none
+-- any bytes read as a hung-up stream that this version can express, or as none
 told_hung_reading : (version : Version) (text : List ℕ)
     → (o : Option HungLine) × IsReadAs (FitsHungIn version) hung_words text o
 told_hung_reading V1 text = (None, λ x told e. absurd (cc told.1))
@@ -42,8 +42,8 @@ told_hung_reading V2 text =
     by_reading hung_words (hung_reading text) (λ x fits is. (Some x, ((fits, tt), is)))
     (λ none. (None, λ x told e. none x told.0 e))
 
--- behind the lines of a draft, the text of a line that can be told and is not the end is decided
-judged : (d : TranscriptSoFar) → IsBegun (grammar_of d) (lines d) → (text : List ℕ) (k : TranscriptLine)
+-- after the lines of a draft, the text of a line that fits and is not the end is decided
+judged : (d : TranscriptDraft) → IsBegun (grammar_of d) (lines d) → (text : List ℕ) (k : TranscriptLine)
     → k ≢ line.End → FitsLine d.transcript.version k → text ≡ line_text (grammar_of d) k
     → Decision (grammar_of d) (lines d) text
 judged d begun text k other fits is = by_place (takes d k) refl where
@@ -57,14 +57,14 @@ judged d begun text k other fits is = by_place (takes d k) refl where
   by_place false no_place = inr (inl (refused_line d.transcript.version (lines d) k text fits is cause.Form
       (misplaced d k no_place)))
 
--- a stage at which groups are read is that of the view
+-- groups are read only at the stage `View`
 view_of : (s : Stage) → is_view s ≡ true → s ≡ stage.View
 view_of stage.History h = absurd cc
 view_of stage.Config h = absurd cc
 view_of stage.View h = refl
 
--- behind the lines of a draft, the text of the line `end` is decided
-at_end : (d : TranscriptSoFar) → IsBegun (grammar_of d) (lines d) → (text : List ℕ)
+-- after the lines of a draft, the text of the line `end` is decided
+at_end : (d : TranscriptDraft) → IsBegun (grammar_of d) (lines d) → (text : List ℕ)
     → text ≡ line_text (grammar_of d) line.End → Decision (grammar_of d) (lines d) text
 at_end d begun text end = by_stage (is_view d.stage) refl where
   by_stage : (b : Bool) → is_view d.stage ≡ b → Decision (grammar_of d) (lines d) text
@@ -72,8 +72,8 @@ at_end d begun text end = by_stage (is_view d.stage) refl where
       inr (inr (inr (end, d.transcript, all.0, all.1)))
   by_stage false early = inr (inl (subst (IsNoLine (grammar_of d) (lines d)) (sym end) (not_at_end d early)))
 
--- behind the lines of a draft, any text is decided
-behind : (d : TranscriptSoFar) → IsBegun (grammar_of d) (lines d) → (text : List ℕ)
+-- after the lines of a draft, any text is decided
+behind : (d : TranscriptDraft) → IsBegun (grammar_of d) (lines d) → (text : List ℕ)
     → Decision (grammar_of d) (lines d) text
 behind d begun text =
     let version = d.transcript.version in
@@ -99,7 +99,7 @@ behind d begun text =
           ])))
     ]
 
--- behind lines that some allowed transcript begins with, any text is decided
+-- after a prefix of the lines of an allowed transcript, any text is decided
 decides : (version : Version) (ls : List TranscriptLine) → IsBegun (transcript_grammar version) ls → (text : List ℕ)
     → Decision (transcript_grammar version) ls text
 decides version ls begun text =
@@ -110,7 +110,7 @@ decides version ls begun text =
     subst (λ (xs : List TranscriptLine). Decision (transcript_grammar version) xs text) own.1
     (subst (λ (v : Version). Decision (transcript_grammar v) (lines own.0) text) own.2 (behind own.0 start text))
 
--- any bytes spell a transcript of this version, or have a first fault that is not want of memory
+-- any bytes spell a transcript of this version, or have a first fault other than out of memory
 pub transcripts_have_reading : (version : Version) (bytes : List ℕ) → HasReading (transcript_grammar version) bytes
 transcripts_have_reading version bytes =
     has_reading (transcript_grammar version) (well_made version) (decides version) (nothing_begun version) bytes

@@ -16,7 +16,7 @@ use Rattle.smx_types.specs.declared.view.MessageLine.{MessageLine}
 use Rattle.smx_types.specs.declared.view.RouteLine.{RouteLine}
 use Rattle.smx_text.specs.declared.transcript.draft.Stage.{Stage}
 use Rattle.smx_text.specs.declared.transcript.draft.Stage.TheVariants as stage
-use Rattle.smx_text.specs.Drafts.{TranscriptSoFar}
+use Rattle.smx_text.specs.declared.transcript.draft.TranscriptDraft.{TranscriptDraft}
 use Rattle.smx_text.specs.TranscriptLines.{TranscriptLine}
 use Rattle.smx_text.specs.TranscriptLines as line
 use Rattle.smx_text.proofs.TranscriptDrafts.{◌>>=◌}
@@ -28,10 +28,10 @@ use Rattle.smx_text.specs.Drafts.{takes_hungs}
 use Rattle.smx_types.specs.declared.version.Version.{Version}
 use Rattle.smx_types.specs.declared.view.HungLine.{HungLine}
 
--- ---- the lines so far
+-- ---- the lines read so far
 
--- a transcript that is being read, and how far its reader came
-abbrev pub draft : Stage → Transcript → TranscriptSoFar
+-- a transcript that is being read, at this stage
+abbrev pub draft : Stage → Transcript → TranscriptDraft
 draft s t = record { stage = s; transcript = t }
 
 -- the line is not the end
@@ -39,64 +39,64 @@ abbrev pub is_line : TranscriptLine → Bool
 is_line line.End = false
 is_line k = true
 
--- a line other than the end is one that can be added
+-- a line other than the end can be added
 pub not_end : (k : TranscriptLine) → k ≢ line.End → is_line k ≡ true
 not_end line.End h = absurd (h refl)
 not_end k h = refl
 
--- a line behind the last of three lists of lines stands behind all three joined
+-- a line appended to the last of three lists is appended to all three joined
 behind : (xs bs vs ws : List TranscriptLine) (k : TranscriptLine) → ws ≡ vs ++ k ∷ []
     → xs ++ (bs ++ ws) ≡ (xs ++ (bs ++ vs)) ++ k ∷ []
 behind xs bs vs ws k e = rw e (simp append_assoc)
 
--- ---- where a line of a group may come, the groups behind it are empty
+-- ---- where a line of a group may follow, the later groups are empty
 
--- where a test holds together with one for an empty list, the list is empty and the first test holds
+-- if a test holds together with the test that a list is empty, the test holds and the list is empty
 empty : {A : Type 0} (may : Bool) (xs : List A) → may && eqb (length xs) 0 ≡ true → (xs ≡ []) × (may ≡ true)
 empty may xs h = let p = and_parts may (eqb (length xs) 0) h in (nil_from_length xs (grind (arith, nat_tests)), p.0)
 
 module _ (t : Transcript) where
-  -- where a full place may come, no hung-up stream came
+  -- where a full place may follow, there is no hung-up stream
   no_hungs : takes_fulls (draft stage.View t) ≡ true → t.view.hungs ≡ []
   no_hungs h = (empty (takes_hungs (draft stage.View t)) t.view.hungs h).0
 
-  -- where a message may come, no full place and no hung-up stream came
+  -- where a message may follow, there is no full place and no hung-up stream
   no_fulls : takes_msgs (draft stage.View t) ≡ true → (t.view.fulls ≡ []) × (t.view.hungs ≡ [])
   no_fulls h = let p = empty (takes_fulls (draft stage.View t)) t.view.fulls h in (p.0, no_hungs p.1)
 
-  -- where a route may come, no line of a later group came
+  -- where a route may follow, there is no line of a later group
   no_msgs : takes_routes (draft stage.View t) ≡ true
       → (t.view.msgs ≡ []) × ((t.view.fulls ≡ []) × (t.view.hungs ≡ []))
   no_msgs h = let p = empty (takes_msgs (draft stage.View t)) t.view.msgs h in (p.0, no_fulls p.1)
 
-  -- where a binding may come, no line of a later group came
+  -- where a binding may follow, there is no line of a later group
   no_routes : takes_binds (draft stage.View t) ≡ true
       → (t.view.routes ≡ []) × ((t.view.msgs ≡ []) × ((t.view.fulls ≡ []) × (t.view.hungs ≡ [])))
   no_routes h = let p = empty (takes_routes (draft stage.View t)) t.view.routes h in (p.0, no_msgs p.1)
 
-  -- where a link may come, no line of a later group came
+  -- where a link may follow, there is no line of a later group
   no_binds : takes_links (draft stage.View t) ≡ true → (t.view.binds ≡ []) × ((t.view.routes ≡ [])
       × ((t.view.msgs ≡ []) × ((t.view.fulls ≡ []) × (t.view.hungs ≡ []))))
   no_binds h = let p = empty (takes_binds (draft stage.View t)) t.view.binds h in (p.0, no_routes p.1)
 
--- the lines of a view in their groups, of which the first is there in any view
+-- the lines of a view by groups; the first group is in every view
 abbrev groups : ConfigView → List (List TranscriptLine)
 groups v =
     (line.Config ∷ line.Next v.next_id v.next_serial ∷ []) ∷ map line.Fd v.fds ∷ map line.Link v.links
     ∷ map line.Bind v.binds ∷ map line.Route v.routes ∷ map line.Msg v.msgs ∷ map line.Full v.fulls ∷ []
 
--- the lines of these groups, one group after the other, and then these lines
+-- the lines of these groups one after the other, followed by these lines
 abbrev behind_all : List (List TranscriptLine) → List TranscriptLine → List TranscriptLine
 behind_all [] ls = ls
 behind_all (g ∷ gs) ls = g ++ behind_all gs ls
 
--- one more line in a group behind others is one more line behind all of them
+-- one more line in a group that follows others is one more line after all of them
 last_of : {A : Type 0} (gs : List (List TranscriptLine)) (f : A → TranscriptLine) (xs : List A) (x : A)
     → behind_all gs (map f (xs ++ x ∷ []) ++ []) ≡ behind_all gs (map f xs ++ []) ++ f x ∷ []
 last_of [] f xs x = rw map_push (simp append-nil)
 last_of (g ∷ gs) f xs x = rw (last_of gs f xs x) (simp append_assoc)
 
--- a line that is taken in a view stands behind all other lines of that view
+-- a line that a view accepts comes after all other lines of that view
 view_more : (t : Transcript) (k : TranscriptLine) → takes (draft stage.View t) k ≡ true → is_line k ≡ true
     → shown stage.View (with_line (draft stage.View t) k).transcript.view ≡ shown stage.View t.view ++ k ∷ []
 view_more t (line.Fd x) h l =
@@ -116,7 +116,7 @@ view_more t (line.Hung x) h l =
     (last_of (groups t.view) line.Hung t.view.hungs x)
 view_more t k h l = absurd cc
 
--- a transcript that takes a line at a stage, other than the end, has it behind the lines it had
+-- a line that a transcript accepts at a stage, other than the end, comes after its other lines
 pub more_by : (s : Stage) (t : Transcript) (k : TranscriptLine) → takes (draft s t) k ≡ true
     → is_line k ≡ true → lines (with_line (draft s t) k) ≡ lines (draft s t) ++ k ∷ []
 more_by stage.History t (line.Driver x) h l =
@@ -137,45 +137,45 @@ more_by stage.View t k h l =
     behind (map line.Driver t.drivers) (map line.Entry t.entries) (shown stage.View t.view) _ k (view_more t k h l)
 more_by s t k h l = absurd cc
 
--- a draft with one more line, which it takes and which is not the end, has that line behind its own
-pub lines_more : (d : TranscriptSoFar) (k : TranscriptLine) → takes d k ≡ true → is_line k ≡ true
+-- a draft with one more line, which it accepts and which is not the end, has that line after its own
+pub lines_more : (d : TranscriptDraft) (k : TranscriptLine) → takes d k ≡ true → is_line k ≡ true
     → lines (with_line d k) ≡ lines d ++ k ∷ []
 lines_more d k h l = more_by d.stage d.transcript k h l
 
 -- ---- lines one by one
 
--- the draft after these lines, taken one by one, or nothing where one of them may not come
-abbrev pub run : TranscriptSoFar → List TranscriptLine → Option TranscriptSoFar
+-- the draft after these lines, accepted one by one, or nothing if one of them is refused
+abbrev pub run : TranscriptDraft → List TranscriptLine → Option TranscriptDraft
 run d [] = Some d
 run d (k ∷ ks) = cond (takes d k && is_line k) (run (with_line d k) ks) None
 
--- what follows on a value that a test lets through is itself let through by that test
+-- what follows a value that passed a test passes the same test
 cond_then : {A B : Type 0} (b : Bool) (o : Option A) (f : A → Option B) → cond b o None >>= f ≡ cond b (o >>= f) None
 cond_then true o f = refl
 cond_then false o f = refl
 
--- joined lines are taken one list after the other
-pub run_append : (d : TranscriptSoFar) (ks ls : List TranscriptLine) → run d (ks ++ ls) ≡ run d ks >>= (λ e. run e ls)
+-- joined lines are accepted one list after the other
+pub run_append : (d : TranscriptDraft) (ks ls : List TranscriptLine) → run d (ks ++ ls) ≡ run d ks >>= (λ e. run e ls)
 run_append d [] ls = refl
 run_append d (k ∷ ks) ls =
     rw (run_append (with_line d k) ks ls)
-    (sym (cond_then (takes d k && is_line k) (run (with_line d k) ks) (λ (e : TranscriptSoFar). run e ls)))
+    (sym (cond_then (takes d k && is_line k) (run (with_line d k) ks) (λ (e : TranscriptDraft). run e ls)))
 
--- where a value comes through a test, the test holds and the value is there
+-- if a value passed a test, the test holds and the value exists
 pub let_through : {A : Type 0} (b : Bool) (o : Option A) (x : A) → cond b o None ≡ Some x → (b ≡ true) × (o ≡ Some x)
 let_through true o x e = (refl, e)
 let_through false o x e = absurd cc
 
--- where several lines are taken, the first is taken, it is not the end, and the others are taken after it
-pub taken : (d e : TranscriptSoFar) (k : TranscriptLine) (ks : List TranscriptLine) → run d (k ∷ ks) ≡ Some e
+-- if several lines are accepted, the first is accepted and is not the end, and the others are accepted after it
+pub taken : (d e : TranscriptDraft) (k : TranscriptLine) (ks : List TranscriptLine) → run d (k ∷ ks) ≡ Some e
     → (takes d k ≡ true) × (is_line k ≡ true) × (run (with_line d k) ks ≡ Some e)
 taken d e k ks h =
     let t = let_through (takes d k && is_line k) (run (with_line d k) ks) e h in
     let p = and_parts (takes d k) (is_line k) t.0 in
     (p.0, p.1, t.1)
 
--- the lines of a draft that took some more are its own and then these
-pub run_lines : (ks : List TranscriptLine) (d e : TranscriptSoFar) → run d ks ≡ Some e → lines e ≡ lines d ++ ks
+-- the lines of a draft that accepted more lines are its own and then these
+pub run_lines : (ks : List TranscriptLine) (d e : TranscriptDraft) → run d ks ≡ Some e → lines e ≡ lines d ++ ks
 run_lines [] d e h = let same : d ≡ e = cc h in rw (← same) (sym (append-nil (lines d)))
 run_lines (k ∷ ks) d e h =
     let t = taken d e k ks h in
@@ -184,8 +184,8 @@ run_lines (k ∷ ks) d e h =
 
 -- ---- the lines of a transcript give that transcript
 
--- lines of one kind, each of which puts what it tells behind the others of its kind, put all of it there
-run_each : {X : Type 0} (line_of : X → TranscriptLine) (put : List X → TranscriptSoFar) (rest : List TranscriptLine)
+-- lines of one kind, each of which appends its value to those of its kind, append all their values
+run_each : {X : Type 0} (line_of : X → TranscriptLine) (put : List X → TranscriptDraft) (rest : List TranscriptLine)
     → ((xs : List X) (x : X) (ks : List TranscriptLine)
     → run (put xs) (line_of x ∷ ks) ≡ run (put (xs ++ x ∷ [])) ks)
     → (xs ys : List X) → run (put xs) (map line_of ys ++ rest) ≡ run (put (xs ++ ys)) rest
@@ -194,26 +194,26 @@ run_each {X} line_of put rest one xs (y ∷ ys) = one xs y (map line_of ys ++ re
     ∙ run_each line_of put rest one (xs ++ y ∷ []) ys
     ∙ ap (λ (zs : List X). run (put zs) rest) (append_assoc xs (y ∷ []) ys)
 
--- a draft that has read these drivers and entries, and no line `config` yet
-abbrev in_history : Version → List DriverSpec → List Entry → TranscriptSoFar
+-- a draft with these drivers and entries, before the line `config`
+abbrev in_history : Version → List DriverSpec → List Entry → TranscriptDraft
 in_history version ds es =
     draft stage.History (record { version = version; drivers = ds; entries = es; view = new_view 0 0 })
 
--- the lines of some drivers, taken before any entry, put these drivers behind those that were read
+-- the lines of drivers, accepted before any entry, append these drivers to those already read
 pub run_drivers : (version : Version) (ds0 ds : List DriverSpec) (rest : List TranscriptLine)
     → run (in_history version ds0 []) (map line.Driver ds ++ rest) ≡ run (in_history version (ds0 ++ ds) []) rest
 run_drivers version ds0 ds rest =
     run_each line.Driver (λ ds. in_history version ds []) rest (λ xs x ks. refl) ds0 ds
 
--- the lines of some entries, taken before `config`, put these entries behind those that were read
+-- the lines of entries, accepted before `config`, append these entries to those already read
 pub run_entries : (version : Version) (ds : List DriverSpec) (es0 es : List Entry) (rest : List TranscriptLine)
     → run (in_history version ds es0) (map line.Entry es ++ rest) ≡ run (in_history version ds (es0 ++ es)) rest
 run_entries version ds es0 es rest =
     run_each line.Entry (λ es. in_history version ds es) rest (λ xs x ks. refl) es0 es
 
--- a draft that has come to its view, with these groups in it
+-- a draft at the stage `View`, with these groups in its view
 abbrev in_view : Transcript → List DescriptorLine → List LinkLine → List BindingLine → List RouteLine
-    → List MessageLine → List FullLine → List HungLine → TranscriptSoFar
+    → List MessageLine → List FullLine → List HungLine → TranscriptDraft
 in_view t fds links binds routes msgs fulls hungs =
     draft stage.View
     (record t {
@@ -230,7 +230,7 @@ in_view t fds links binds routes msgs fulls hungs =
       };
     })
 
--- the lines of a view, taken behind the first of it, give that view
+-- the lines of a view, accepted after its first line, give that view
 run_view : (t : Transcript) (v : ConfigView) → run (in_view t [] [] [] [] [] [] []) (map line.Fd v.fds
     ++ (map line.Link v.links ++ (map line.Bind v.binds ++ (map line.Route v.routes ++ (map line.Msg v.msgs
     ++ (map line.Full v.fulls ++ map line.Hung v.hungs))))))
@@ -246,7 +246,7 @@ run_view t v =
     ∙ run_each line.Hung (λ xs. in_view t v.fds v.links v.binds v.routes v.msgs v.fulls xs) [] (λ xs x ks. refl) []
     v.hungs
 
--- the lines of a transcript, taken one by one from the first, give that transcript
+-- the lines of a transcript, accepted one by one from the first, give that transcript
 pub run_body : (t : Transcript) → run (new_draft t.version) (body t) ≡ Some (draft stage.View t)
 run_body t =
     run_drivers t.version [] t.drivers (map line.Entry t.entries ++ line.Config ∷ view_body t.view)

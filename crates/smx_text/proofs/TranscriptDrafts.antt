@@ -1,10 +1,10 @@
--- A transcript that is being read, as a machine that takes line after line.
+-- A transcript that is being read, as a machine that accepts line after line.
 use Rattle.std.specs.Prelude.{ℕ, Bool, true, false, ◌&&◌, ◌==◌, nat_le, [], ◌∷◌, ◌++◌, length, Option, Some, None}
 use Rattle.smx_types.specs.declared.limits.TheConstants.{MAX_COMMANDS}
 use Rattle.smx_types.specs.declared.view.ConfigView.{ConfigView}
 use Rattle.smx_text.specs.declared.transcript.draft.Stage.{Stage}
 use Rattle.smx_text.specs.declared.transcript.draft.Stage.TheVariants as stage
-use Rattle.smx_text.specs.Drafts.{TranscriptSoFar}
+use Rattle.smx_text.specs.declared.transcript.draft.TranscriptDraft.{TranscriptDraft}
 use Rattle.smx_text.specs.Drafts.{is_view, takes_fds, takes_links, takes_binds, takes_routes, takes_msgs, takes_fulls}
 use Rattle.smx_text.specs.Drafts.{takes_hungs}
 use Rattle.smx_text.specs.TranscriptLines.{TranscriptLine}
@@ -12,7 +12,7 @@ use Rattle.smx_text.specs.TranscriptLines as line
 use Rattle.smx_types.specs.Versions.{most_drivers}
 use Rattle.smx_types.specs.declared.version.Version.{Version}
 
--- a view with nothing in it yet
+-- a view with empty groups
 abbrev pub new_view : ℕ → ℕ → ConfigView
 new_view id serial =
     record {
@@ -27,8 +27,8 @@ new_view id serial =
       hungs = [];
     }
 
--- nothing read yet of a text of this version
-abbrev pub new_draft : Version → TranscriptSoFar
+-- a draft of this version before its first line
+abbrev pub new_draft : Version → TranscriptDraft
 new_draft version =
     record {
       stage = stage.History;
@@ -47,10 +47,10 @@ abbrev pub is_config : Stage → Bool
 is_config stage.Config = true
 is_config s = false
 
--- ---- one line more
+-- ---- one more line
 
--- the line may come next
-abbrev pub takes : TranscriptSoFar → TranscriptLine → Bool
+-- the line may follow
+abbrev pub takes : TranscriptDraft → TranscriptLine → Bool
 takes d (line.Driver x) = is_history d.stage && (length d.transcript.entries == 0)
 takes d (line.Entry x) = is_history d.stage
 takes d line.Config = is_history d.stage
@@ -64,20 +64,20 @@ takes d (line.Full x) = takes_fulls d
 takes d (line.Hung x) = takes_hungs d
 takes d line.End = is_view d.stage
 
--- there are as many drivers or entries as may be, and the line would be one more
-abbrev pub is_full : TranscriptSoFar → TranscriptLine → Bool
+-- the limit for drivers or entries is reached, and the line is one more
+abbrev pub is_full : TranscriptDraft → TranscriptLine → Bool
 is_full d (line.Driver x) = nat_le (most_drivers d.transcript.version) (length d.transcript.drivers)
 is_full d (line.Entry x) = nat_le MAX_COMMANDS (length d.transcript.entries)
 is_full d k = false
 
 infixl 10 ◌>>=◌
--- what follows on a value that may be missing: nothing where it is
+-- applies a function to a value if it exists
 abbrev pub ◌>>=◌ : {A B : Type 0} → Option A → (A → Option B) → Option B
 (Some x) >>= f = f x
 None >>= f = None
 
--- a draft that has come to its view, with this view
-abbrev pub with_view : TranscriptSoFar → ConfigView → TranscriptSoFar
+-- a draft at the stage `View`, with this view
+abbrev pub with_view : TranscriptDraft → ConfigView → TranscriptDraft
 with_view d v =
     record {
       stage = stage.View;
@@ -89,8 +89,8 @@ with_view d v =
       };
     }
 
--- a draft with one line more
-abbrev pub with_line : TranscriptSoFar → TranscriptLine → TranscriptSoFar
+-- a draft with one more line
+abbrev pub with_line : TranscriptDraft → TranscriptLine → TranscriptDraft
 with_line d (line.Driver x) = record d { transcript = record d.transcript { drivers = d.transcript.drivers ++ x ∷ [] } }
 with_line d (line.Entry x) = record d { transcript = record d.transcript { entries = d.transcript.entries ++ x ∷ [] } }
 with_line d line.Config = record d { stage = stage.Config }

@@ -1,4 +1,4 @@
--- Which lines may follow those of a transcript that is being read.
+-- The lines that may follow the lines of a transcript that is being read.
 use Rattle.std.proofs.Common.{◌≡◌, ◌≤◌, Bool, true, false, List, [], ◌∷◌, ◌++◌, length, Option, Some, refl}
 use Rattle.std.proofs.Common.{sym, ap, subst, ◌∙◌, append_assoc, arith, inl, inr}
 use Rattle.std.specs.List.{AllByRecursion}
@@ -11,7 +11,7 @@ use Rattle.smx_types.specs.declared.transcript.Transcript.{Transcript}
 use Rattle.smx_types.specs.declared.version.Version.{Version}
 use Rattle.smx_text.specs.declared.transcript.draft.Stage.{Stage}
 use Rattle.smx_text.specs.declared.transcript.draft.Stage.TheVariants as stage
-use Rattle.smx_text.specs.Drafts.{TranscriptSoFar}
+use Rattle.smx_text.specs.declared.transcript.draft.TranscriptDraft.{TranscriptDraft}
 use Rattle.smx_text.specs.TranscriptLines.{TranscriptLine}
 use Rattle.smx_text.specs.TranscriptLines as line
 use Rattle.smx_text.proofs.TranscriptDrafts.{◌>>=◌}
@@ -24,20 +24,20 @@ use Rattle.smx_text.proofs.EachLemmas.{all_push}
 use Rattle.smx_text.proofs.TranscriptDraftLemmas.{draft, is_line, lines_more, run, run_append, run_body, taken}
 use Rattle.smx_text.proofs.TranscriptWholeLemmas.{ended, completed, completes, still, IsWithin, allowed}
 
--- the second draft is of the same version as the first, and has as many drivers and entries or more
-pub record Grows (d e : TranscriptSoFar) : Type 0 where
+-- `e` has the version of `d`, and at least as many drivers and entries
+pub record Grows (d e : TranscriptDraft) : Type 0 where
   pub version : e.transcript.version ≡ d.transcript.version
   pub drivers : length d.transcript.drivers ≤ length e.transcript.drivers
   pub entries : length d.transcript.entries ≤ length e.transcript.entries
 
--- a line doesn't change the version
-pub version_stays : (d : TranscriptSoFar) (k : TranscriptLine)
+-- adding a line doesn't change the version
+pub version_stays : (d : TranscriptDraft) (k : TranscriptLine)
     → (with_line d k).transcript.version ≡ d.transcript.version
 version_stays d line.End = refl
 version_stays d k = refl
 
--- a draft with one line more is of the same version, and has as many drivers and entries or more
-one_grows : (d : TranscriptSoFar) (k : TranscriptLine) → Grows d (with_line d k)
+-- a draft with one more line has the same version, and at least as many drivers and entries
+one_grows : (d : TranscriptDraft) (k : TranscriptLine) → Grows d (with_line d k)
 one_grows d (line.Driver x) =
     let more = length-append d.transcript.drivers (x ∷ []) in
     record { version = refl; drivers = omega (arith, more); entries = omega arith }
@@ -46,8 +46,8 @@ one_grows d (line.Entry x) =
     record { version = refl; drivers = omega arith; entries = omega (arith, more) }
 one_grows d k = record { version = refl; drivers = omega arith; entries = omega arith }
 
--- while lines are taken, the version stays, and drivers and entries don't get fewer
-pub run_grows : (ks : List TranscriptLine) (d e : TranscriptSoFar) → run d ks ≡ Some e → Grows d e
+-- accepting lines keeps the version, and never lowers the number of drivers and entries
+pub run_grows : (ks : List TranscriptLine) (d e : TranscriptDraft) → run d ks ≡ Some e → Grows d e
 run_grows [] d e h =
     let same : d ≡ e = cc h in rw same (record { version = refl; drivers = omega arith; entries = omega arith })
 run_grows (k ∷ ks) d e h =
@@ -60,24 +60,24 @@ run_grows (k ∷ ks) d e h =
       entries = omega (arith, one.entries, more.entries);
     }
 
--- a draft from which one within the limits grew was within them
-pub within_before : (d e : TranscriptSoFar) → Grows d e → IsWithin e → IsWithin d
+-- if a draft that grew is within the limits, it was within them before
+pub within_before : (d e : TranscriptDraft) → Grows d e → IsWithin e → IsWithin d
 within_before d e grows within =
     record {
       drivers = omega (arith, grows.drivers, within.drivers, ap most_drivers grows.version);
       entries = omega (arith, grows.entries, within.entries);
     }
 
--- a line that leads to a draft within the limits is not one too many
-pub not_full : (d : TranscriptSoFar) (k : TranscriptLine) → IsWithin (with_line d k) → is_full d k ≡ false
+-- a line that leads to a draft within the limits is not over the limit
+pub not_full : (d : TranscriptDraft) (k : TranscriptLine) → IsWithin (with_line d k) → is_full d k ≡ false
 not_full d (line.Driver x) within = let len = length-append d.transcript.drivers (x ∷ []) in
     let most = within.drivers in grind (arith, nat_tests)
 not_full d (line.Entry x) within = let len = length-append d.transcript.entries (x ∷ []) in
     let most = within.entries in grind (arith, nat_tests)
 not_full d k within = refl
 
--- a draft within the limits is so with one line more that is not one too many
-pub still_within : (d : TranscriptSoFar) (k : TranscriptLine) → IsWithin d → is_full d k ≡ false
+-- a draft within the limits stays within them with one more line that is not over the limit
+pub still_within : (d : TranscriptDraft) (k : TranscriptLine) → IsWithin d → is_full d k ≡ false
     → IsWithin (with_line d k)
 still_within d (line.Driver x) within h = let len = length-append d.transcript.drivers (x ∷ []) in
     record { drivers = grind (arith, nat_tests); entries = within.entries }
@@ -85,7 +85,7 @@ still_within d (line.Entry x) within h = let len = length-append d.transcript.en
     record { drivers = within.drivers; entries = grind (arith, nat_tests) }
 still_within d k within h = record { drivers = within.drivers; entries = within.entries }
 
--- the line behind some lines of a whole is the end, or one of the whole
+-- the line after some lines of a list and its end is the end, or a line of the list
 split_end : (xs ls more : List TranscriptLine) (k : TranscriptLine) → xs ++ line.End ∷ [] ≡ ls ++ k ∷ more
     → ((k ≡ line.End) × (ls ≡ xs)) ⊎ ((rest : List TranscriptLine) × (xs ≡ ls ++ k ∷ rest))
 split_end [] [] more k e = inl (cc, refl)
@@ -100,27 +100,27 @@ split_end (x ∷ xs) (l ∷ ls) more k e =
       | inr (rest, all) ↦ inr (rest, cc (same, all))
     ]
 
--- what follows on a value that is there is what is made of that value
+-- applying a function to a value that exists gives the function's result
 bind_some : {A B : Type 0} (f : A → Option B) (o : Option A) (x : A) (y : B) → o ≡ Some x → o >>= f ≡ Some y
     → f x ≡ Some y
 bind_some f o x y e h = rw e at h
 
--- a transcript as one of this version, which has the same lines
+-- the same transcript with another version, which has the same lines
 abbrev pub of_version : Version → Transcript → Transcript
 of_version version t = record t { version = version }
 
--- from where some lines lead, the rest of a transcript leads to it
-pub rest_leads : (version : Version) (t : Transcript) (ls rest : List TranscriptLine) (d : TranscriptSoFar)
+-- from the draft of some lines of a transcript, its remaining lines lead to the transcript
+pub rest_leads : (version : Version) (t : Transcript) (ls rest : List TranscriptLine) (d : TranscriptDraft)
     → run (new_draft version) ls ≡ Some d → body t ≡ ls ++ rest
     → run d rest ≡ Some (draft stage.View (of_version version t))
 rest_leads version t ls rest d led e =
-    bind_some (λ (c : TranscriptSoFar). run c rest) (run (new_draft version) ls) d
+    bind_some (λ (c : TranscriptDraft). run c rest) (run (new_draft version) ls) d
     (draft stage.View (of_version version t)) led
     (sym (run_append (new_draft version) ls rest) ∙ sym (ap (run (new_draft version)) e)
     ∙ run_body (of_version version t))
 
--- a draft takes a line with which some transcript goes on behind its lines
-pub may_takes : (version : Version) (ls : List TranscriptLine) (d : TranscriptSoFar) (k : TranscriptLine)
+-- a draft accepts a line that follows its lines in some transcript
+pub may_takes : (version : Version) (ls : List TranscriptLine) (d : TranscriptDraft) (k : TranscriptLine)
     (t : Transcript) → run (new_draft version) ls ≡ Some d → GoesOn (transcript_grammar version) t ls k
     → takes d k ≡ true
 may_takes version ls d k t led (more, e) =
@@ -131,8 +131,8 @@ may_takes version ls d k t led (more, e) =
       | inr (rest, all) ↦ (taken d (draft stage.View u) k rest (rest_leads version t ls (k ∷ rest) d led all)).0
     ]
 
--- where a line is one too many for a draft, no allowed transcript goes on with it behind the draft's lines
-pub full_stops : (version : Version) (ls : List TranscriptLine) (d : TranscriptSoFar) (k : TranscriptLine)
+-- if a line is over the limit for a draft, no allowed transcript has it after the draft's lines
+pub full_stops : (version : Version) (ls : List TranscriptLine) (d : TranscriptDraft) (k : TranscriptLine)
     (t : Transcript) → run (new_draft version) ls ≡ Some d → is_full d k ≡ true → IsAllowed version t
     → GoesOn (transcript_grammar version) t ls k → ⊥
 full_stops version ls d k t led full allowed (more, e) =
@@ -149,12 +149,12 @@ full_stops version ls d k t led full allowed (more, e) =
           absurd (cc (full, room))
     ]
 
--- the least transcript that has a draft's lines and then this one
-abbrev pub next_of : TranscriptSoFar → TranscriptLine → Transcript
+-- the shortest transcript that has a draft's lines and then this one
+abbrev pub next_of : TranscriptDraft → TranscriptLine → Transcript
 next_of d k = completed (with_line d k)
 
--- a line that a draft takes may follow its lines: the least transcript with both goes on so
-pub takes_may : (version : Version) (d : TranscriptSoFar) (k : TranscriptLine) → takes d k ≡ true
+-- a line that a draft accepts may follow its lines: the shortest transcript with both has it there
+pub takes_may : (version : Version) (d : TranscriptDraft) (k : TranscriptLine) → takes d k ≡ true
     → GoesOn (transcript_grammar version) (next_of d k) (lines d) k
 takes_may version d k h = by_kind (is_line k) refl where
   at_end : (s : Stage) (t : Transcript) → is_view s ≡ true
@@ -163,7 +163,7 @@ takes_may version d k h = by_kind (is_line k) refl where
   at_end stage.Config t h = absurd cc
   at_end stage.View t h = ([], refl)
 
-  is_end : (d : TranscriptSoFar) (k : TranscriptLine) → is_line k ≡ false → takes d k ≡ true
+  is_end : (d : TranscriptDraft) (k : TranscriptLine) → is_line k ≡ false → takes d k ≡ true
       → GoesOn (transcript_grammar version) (next_of d k) (lines d) k
   is_end d line.End off h = at_end d.stage d.transcript h
   is_end d k off h = absurd cc
@@ -183,8 +183,8 @@ takes_may version d k h = by_kind (is_line k) refl where
       )
   by_kind false l = is_end d k l h
 
--- the least transcript with a draft's lines and one it takes is allowed, within the limits and where all can be told
-pub next_allowed : (d : TranscriptSoFar) (k : TranscriptLine) → takes d k ≡ true → is_full d k ≡ false
+-- the shortest transcript with a draft's lines and an accepted line is allowed, if it is within the limits and fits
+pub next_allowed : (d : TranscriptDraft) (k : TranscriptLine) → takes d k ≡ true → is_full d k ≡ false
     → IsWithin d → AllByRecursion (FitsLine d.transcript.version) (lines d) → FitsLine d.transcript.version k
     → IsAllowed d.transcript.version (next_of d k)
 next_allowed d k h room within fits one =

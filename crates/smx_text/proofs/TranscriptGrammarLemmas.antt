@@ -1,4 +1,4 @@
--- The lines of a transcript text can be told apart.
+-- In a transcript text, a line's text determines the line.
 use Rattle.std.proofs.Common.{◌≡◌, ◌≢◌, ℕ, Bool, true, false, Result, Some, ◌++◌, List}
 use Rattle.std.proofs.Common.{[], ◌∷◌, refl, sym, ap, ◌∙◌, arith, rules}
 use Rattle.std.specs.Prelude.{codes, OnOk, IfErr, if◌then◌else◌}
@@ -24,10 +24,9 @@ use Rattle.smx_words.specs.Spellable.{FitsDriver, FitsEntryIn, FitsDescriptor, F
 use Rattle.smx_words.specs.Spellable.{FitsRoute, FitsMessage, FitsFull, FitsNext}
 use Rattle.smx_text.specs.declared.text_fault.Cause.{Cause}
 use Rattle.smx_text.specs.declared.text_fault.Cause.TheVariants as cause
-use Rattle.smx_text.specs.declared.transcript.draft.Stage.{Stage}
 use Rattle.smx_text.specs.declared.transcript.draft.Stage.TheVariants as stage
-use Rattle.smx_text.specs.Drafts.{TranscriptSoFar, grammar_of, lines, so_far}
-use Rattle.smx_text.specs.TakenHistories.{TakenHistory}
+use Rattle.smx_text.specs.declared.transcript.draft.TranscriptDraft.{TranscriptDraft}
+use Rattle.smx_text.specs.Drafts.{grammar_of, lines}
 use Rattle.smx_text.specs.Grammar.{IsBegun, IsNoLine, IsOneLine, header, line_text}
 use Rattle.smx_text.specs.Reading.{Refuses, RefusesLine, AnswersLine, AnswersText}
 use Rattle.smx_text.specs.TranscriptLines.{TranscriptLine}
@@ -37,8 +36,7 @@ use Rattle.smx_text.proofs.GrammarLemmas.{IsWellMade}
 use Rattle.smx_text.proofs.ReadingLemmas.{refuses, answers}
 use Rattle.smx_text.proofs.TranscriptDrafts.{new_draft, takes, is_full, with_line, with_view}
 use Rattle.smx_text.proofs.TranscriptDraftLemmas.{draft, run, run_append, run_body, taken}
-use Rattle.smx_text.proofs.TranscriptLemmas.{misplaced, some_of, is_group, group_answers_at}
-use Rattle.smx_text.proofs.TranscriptWholeLemmas.{fits_body}
+use Rattle.smx_text.proofs.TranscriptLemmas.{misplaced, some_of, is_group, group_answers}
 use Rattle.smx_text.proofs.VersionLemmas.{AreVersions}
 use Rattle.smx_text.proofs.LineWordLemmas.{one_spelling, first_word, end_spelled, config_spelled, one_line_of, differ}
 use Rattle.smx_words.specs.Words.{AreWords}
@@ -51,7 +49,7 @@ use Rattle.smx_words.proofs.LawLemmas.{one_route, one_message, one_full, one_hun
 
 -- ---- kinds of lines, by their first words
 
--- the kind of line with this first word, as a number: 0 for digits, which an entry has, and for any other word
+-- the kind of the line with this first word, as a number: 0 for digits, which start an entry, and for any other word
 abbrev pub kind_at : List ℕ → ℕ
 kind_at w =
     if all_ascii_digits w then 0
@@ -77,7 +75,7 @@ kind_of (line.Full f) = 9
 kind_of (line.Hung h) = 10
 kind_of line.End = 11
 
--- the first word of a line that can be told tells of which kind it is
+-- the first word of a line that fits determines its kind
 pub kind_first : (version : Version) (k : TranscriptLine) → FitsLine version k
     → kind_at (first_word (line_words k)) ≡ kind_of k
 kind_first version (line.Entry e) fits = rw (digits_decimal own e.process (omega (arith, fits.0.process))) refl
@@ -85,7 +83,7 @@ kind_first version k fits = refl
 
 -- ---- lines
 
--- the words of a line that can be told are one or more, of bytes that can be seen
+-- a line that fits has at least one word, and all words are printable bytes
 pub spelling : (version : Version) (k : TranscriptLine) → FitsLine version k → AreWords (line_words k)
 spelling version (line.Driver d) fits = driver_spelled d fits
 spelling version (line.Entry e) fits = entry_spelled e fits.0
@@ -101,7 +99,7 @@ spelling version (line.Hung h) fits = hung_spelled h fits.0
 spelling version line.End fits = end_spelled
 
 module _ (version : Version) where
-  -- two lines of one kind that can be told in a version and have the same text are the same line
+  -- two lines of one kind that fit a version and have the same text are equal
   kinds_apart : (k l : TranscriptLine) → FitsLine version k → FitsLine version l → kind_of k ≡ kind_of l
       → line_text (transcript_grammar version) k ≡ line_text (transcript_grammar version) l → k ≡ l
   kinds_apart (line.Driver d) (line.Driver e) fits also kinds same =
@@ -123,7 +121,7 @@ module _ (version : Version) where
   kinds_apart line.End line.End fits also kinds same = refl
   kinds_apart k l fits also kinds same = absurd cc
 
-  -- two lines of a transcript that can be told in a version and have the same text are the same line
+  -- two lines of a transcript that fit a version and have the same text are equal
   pub tells_apart : (k l : TranscriptLine) → FitsLine version k → FitsLine version l
       → line_text (transcript_grammar version) k ≡ line_text (transcript_grammar version) l → k ≡ l
   tells_apart k l fits also same =
@@ -132,9 +130,9 @@ module _ (version : Version) where
       kinds_apart k l fits also (sym (kind_first version k fits)
       ∙ ap (λ (vs : List (List ℕ)). kind_at (first_word vs)) ws ∙ kind_first version l also) same
 
--- ---- the whole
+-- ---- the whole text
 
--- the line `end` is none of the lines of a transcript between the header and the end
+-- the line `end` is not among the lines of a transcript between the header and the end
 end_is_last : (t : Transcript) (ls more : List TranscriptLine) → body t ≡ ls ++ line.End ∷ more → ⊥
 end_is_last t ls more e =
     let start = new_draft t.version in
@@ -144,27 +142,27 @@ end_is_last t ls more e =
     let last = taken d.0 (draft stage.View t) line.End more d.2 in
     absurd (cc last.1)
 
--- transcripts of one version that have the same lines are the same
+-- two transcripts of one version with the same lines are equal
 one_value : (t u : Transcript) → t.version ≡ u.version → body t ≡ body u → t ≡ u
 one_value t u version e =
     same_value (sym (run_body t) ∙ ap (run (new_draft t.version)) e
     ∙ ap (λ (v : Version). run (new_draft v) (body u)) version ∙ run_body u) where
       same_value : Some (draft stage.View t) ≡ Some (draft stage.View u) → t ≡ u
       same_value e = let same : draft stage.View t ≡ draft stage.View u = cc e in
-          ap (λ (d : TranscriptSoFar). d.transcript) same
+          ap (λ (d : TranscriptDraft). d.transcript) same
 
--- the header of a transcript has no line feed in it
+-- the header of a transcript contains no line feed
 header_is_line : (version : Version) → IsOneLine (header (transcript_grammar version))
 header_is_line V1 = search rules
 header_is_line V2 = search rules
 
--- the lines of a transcript text are told apart, each is one line, and they tell the transcript
+-- the transcript text is well made: a line's text determines it, each is one line, and lines determine the transcript
 pub well_made : (version : Version) → IsWellMade (transcript_grammar version)
 well_made version = record {
   header_line = header_is_line version;
   one_line = λ k fits. one_line_of (line_words k) (spelling version k fits);
   tells_apart = tells_apart version;
-  fits = fits_body version;
+  fits = λ t allowed. allowed.fits;
   fits_end = tt;
   end_is_last = end_is_last;
   one_value = λ t u allowed also e. one_value t u (allowed.version_is ∙ sym also.version_is) e;
@@ -174,44 +172,42 @@ well_made version = record {
 pub versions : AreVersions transcript_grammar
 versions = record { made = well_made; differ = differ (codes "transcript 1") (codes "transcript 2") refl }
 
--- ---- what is done with a line that was read is done with its text
+-- ---- results for a parsed line are results for its text
 
--- what is answered to a line that was read is answered to its text
+-- a result for a parsed line is a result for its text
 pub answers_line : {A : Type 0} (version : Version) (ls longer : List TranscriptLine) (k : TranscriptLine)
     (text : List ℕ) → FitsLine version k × (text ≡ line_text (transcript_grammar version) k) → (r : Result A Cause)
     → AnswersLine (transcript_grammar version) ls k longer r → AnswersText (transcript_grammar version) ls text longer r
 answers_line version = answers (transcript_grammar version) (tells_apart version)
 
--- what is answered to the text of a line of a group of the view by who puts it behind the others, if it may come
-pub group_text : {A X : Type 0} {stage : Stage} {h : TakenHistory} {view : ConfigView} {d : TranscriptSoFar}
-    → so_far stage h view ≡ d → (k : TranscriptLine) (text : List ℕ) → IsBegun (grammar_of d) (lines d)
-    → is_group k ≡ true → is_full (so_far stage h view) k ≡ false → k ≢ line.End
+-- the result for the text of a line of a group: a function appends it to its group, if it may follow
+pub group_text : {A X : Type 0} (d : TranscriptDraft) (k : TranscriptLine) (text : List ℕ)
+    → IsBegun (grammar_of d) (lines d) → is_group k ≡ true → is_full d k ≡ false → k ≢ line.End
     → (put : List X → ConfigView) (old new : List X) (x : X) (takes_it : Bool) → takes_it ≡ takes d k
-    → with_line (so_far stage h view) k ≡ with_view (so_far stage h view) (put (old ++ x ∷ []))
+    → with_line d k ≡ with_view d (put (old ++ x ∷ []))
     → FitsLine d.transcript.version k × (text ≡ line_text (grammar_of d) k)
     → (r : Result A Cause) → OnOk r ((takes_it ≡ true) × (new ≡ old ++ x ∷ []))
     → IfErr r (λ why. why ≡ (if takes_it then cause.NoMemory else cause.Form))
-    → AnswersText (grammar_of d) (lines d) text (lines (so_far stage h (put new))) r
-group_text {stage = stage} {h = h} {d = d} same k text begun group room other put old new x takes_it may is spelled r
-    ok err =
-    answers_line d.transcript.version (lines d) (lines (so_far stage h (put new))) k text spelled r
-    (group_answers_at same k begun group room other put old new x takes_it may is spelled.0 r ok err)
+    → AnswersText (grammar_of d) (lines d) text (lines (draft d.stage (record d.transcript { view = put new }))) r
+group_text d k text begun group room other put old new x takes_it may is spelled r ok err =
+    answers_line d.transcript.version (lines d) (lines (draft d.stage (record d.transcript { view = put new }))) k text
+    spelled r (group_answers d k begun group room other put old new x takes_it may is spelled.0 r ok err)
 
--- the cause for which a line may not follow is one for which its text is refused
+-- a cause for which a line is refused is one for which its text is refused
 pub refused_line : (version : Version) (ls : List TranscriptLine) (k : TranscriptLine) (text : List ℕ)
     → FitsLine version k → text ≡ line_text (transcript_grammar version) k → (why : Cause)
     → RefusesLine (transcript_grammar version) ls k why → Refuses (transcript_grammar version) ls text why
 refused_line version ls k text fits is why h =
     refuses (transcript_grammar version) (tells_apart version) ls k text fits is why h
 
--- where a draft doesn't take the end, a text may not end behind its lines
-pub not_at_end : (d : TranscriptSoFar) → takes d line.End ≡ false
+-- if a draft doesn't accept the end, a text may not end after its lines
+pub not_at_end : (d : TranscriptDraft) → takes d line.End ≡ false
     → IsNoLine (grammar_of d) (lines d) (line_text (grammar_of d) line.End)
 not_at_end d h =
     refused_line d.transcript.version (lines d) line.End (line_text (grammar_of d) line.End) tt refl cause.Form
     (misplaced d line.End h)
 
--- what is none of the lines of a transcript, kind by kind
+-- a text that is no line of a transcript, kind by kind
 module _ (version : Version) (ls : List TranscriptLine) (text : List ℕ)
     (entries : (x : Entry) → FitsEntryIn version x → text ≢ line_of (entry_words x))
     (messages : (x : MessageLine) → FitsMessage x → text ≢ line_of (message_words x))
@@ -225,7 +221,7 @@ module _ (version : Version) (ls : List TranscriptLine) (text : List ℕ)
     (fulls : (x : FullLine) → FitsFull x → text ≢ line_of (full_words x))
     (hungs : (x : HungLine) → FitsHungIn version x → text ≢ line_of (hung_words x))
     (end : text ≢ line_text (transcript_grammar version) line.End) where
-  -- a text that is none of these lines is no line behind any lines of a transcript
+  -- a text that is no such line is no line after any lines of a transcript
   pub no_line : IsNoLine (transcript_grammar version) ls text
   no_line (line.Driver x) fits may is = drivers x fits is
   no_line (line.Entry x) fits may is = entries x fits is

@@ -1,48 +1,49 @@
--- What is read of a transcript so far, with the least that it lacks, is a transcript.
-use Rattle.std.proofs.Common.{◌≡◌, ◌≤◌, List, [], ◌∷◌, ◌++◌, length, map, refl, sym, ◌∙◌}
+-- The lines read so far, completed by the fewest missing lines, are those of a transcript.
+use Rattle.std.proofs.Common.{◌≡◌, ◌≤◌, List, [], ◌∷◌, ◌++◌, length, map, refl, sym, subst, ◌∙◌}
 use Rattle.std.proofs.Common.{append_assoc, true, arith, rules}
 use Rattle.std.specs.List.{AllByRecursion}
 use Rattle.std.proofs.lemmas.List.{append-nil}
-use Rattle.smx_types.specs.Versions.{is_of_hangup, most_drivers}
+use Rattle.smx_types.specs.Versions.{is_of_hangup, least_of_transcript, most_drivers}
 use Rattle.smx_types.specs.declared.limits.TheConstants.{MAX_COMMANDS}
 use Rattle.smx_types.specs.declared.transcript.Transcript.{Transcript}
 use Rattle.smx_types.specs.declared.version.Version.{Version}
+use Rattle.smx_types.specs.declared.version.Version.TheVariants.{V1}
 use Rattle.smx_types.specs.declared.view.ConfigView.{ConfigView}
 use Rattle.smx_words.specs.Spellable.{CanTell, FitsEntry, FitsHung}
 use Rattle.smx_text.specs.declared.transcript.draft.Stage.{Stage}
 use Rattle.smx_text.specs.declared.transcript.draft.Stage.TheVariants as stage
-use Rattle.smx_text.specs.Drafts.{TranscriptSoFar}
+use Rattle.smx_text.specs.declared.transcript.draft.TranscriptDraft.{TranscriptDraft}
 use Rattle.smx_text.specs.TranscriptLines.{TranscriptLine}
 use Rattle.smx_text.specs.TranscriptLines as line
-use Rattle.smx_text.specs.TranscriptText.{IsSpellableView, FitsLine, view_body, body, IsAllowed}
+use Rattle.smx_text.specs.TranscriptText.{IsSpellable, IsSpellableView, FitsLine, view_body, body, IsAllowed}
 use Rattle.smx_text.proofs.TranscriptDrafts.{new_view}
 use Rattle.smx_text.proofs.EachLemmas.{all_left, all_right, all_append, all_map, of_map, all_both, all_parts}
 use Rattle.smx_text.proofs.TranscriptDraftLemmas.{draft}
-use Rattle.smx_text.proofs.TranscriptVersionLemmas.{AreToldEntries, AreToldHungs, told_entries, told_hungs}
+use Rattle.smx_text.proofs.TranscriptVersionLemmas.{AreToldHungs, told_entries, told_hungs}
 use Rattle.smx_text.proofs.TranscriptVersionLemmas.{needs_no_later}
-use Rattle.smx_text.specs.Drafts.{shown, lines}
+use Rattle.smx_text.specs.Drafts.{lines}
 
--- the transcript as far as it was read, where the view is empty unless its lines were reached
+-- the transcript as far as it was read; the view is empty before its first line
 abbrev pub ended : Stage → Transcript → Transcript
 ended stage.History t = record t { view = new_view 0 0 }
 ended stage.Config t = record t { view = new_view 0 0 }
 ended stage.View t = t
 
--- the least lines that are wanting before the end: `config` and the next id and serial, where they have not come
+-- the fewest lines missing before the end: `config`, and the next id and serial, unless they were read
 abbrev pub still : Stage → List TranscriptLine
 still stage.History = line.Config ∷ line.Next 0 0 ∷ []
 still stage.Config = line.Next 0 0 ∷ []
 still stage.View = []
 
--- the transcript of a draft's lines and the least that they lack
-abbrev pub completed : TranscriptSoFar → Transcript
+-- the transcript of a draft's lines and the fewest missing lines
+abbrev pub completed : TranscriptDraft → Transcript
 completed d = ended d.stage d.transcript
 
--- lines behind two lists that stand behind another stand behind all three joined
+-- lines appended to two lists that follow another list are appended to all three joined
 behind_both : (xs ys zs ws : List TranscriptLine) → xs ++ (ys ++ (zs ++ ws)) ≡ (xs ++ (ys ++ zs)) ++ ws
 behind_both xs ys zs ws = simp append_assoc
 
--- a transcript read up to a stage and completed has the lines that were read, and the least that were wanting
+-- a transcript read up to a stage and then completed has the lines that were read and the fewest missing ones
 completes_by : (s : Stage) (t : Transcript) → body (ended s t) ≡ lines (draft s t) ++ still s
 completes_by stage.History t =
     behind_both (map line.Driver t.drivers) (map line.Entry t.entries) [] (line.Config ∷ line.Next 0 0 ∷ [])
@@ -50,26 +51,26 @@ completes_by stage.Config t =
     behind_both (map line.Driver t.drivers) (map line.Entry t.entries) (line.Config ∷ []) (line.Next 0 0 ∷ [])
 completes_by stage.View t = sym (append-nil (body t))
 
--- a transcript that was completed has the lines that were read, and the least that were wanting
-pub completes : (d : TranscriptSoFar) → body (completed d) ≡ lines d ++ still d.stage
+-- a completed transcript has the lines that were read and the fewest missing ones
+pub completes : (d : TranscriptDraft) → body (completed d) ≡ lines d ++ still d.stage
 completes d = completes_by d.stage d.transcript
 
--- a draft has as many drivers and entries as there may be, or fewer
-pub record IsWithin (d : TranscriptSoFar) : Type 0 where
+-- a draft has at most as many drivers and entries as allowed
+pub record IsWithin (d : TranscriptDraft) : Type 0 where
   pub drivers : length d.transcript.drivers ≤ most_drivers d.transcript.version
   pub entries : length d.transcript.entries ≤ MAX_COMMANDS
 
 module _ (version : Version) where
-  -- each of these lines can be told in the version
+  -- each of these lines fits the version
   abbrev AreFit : List TranscriptLine → Type 0
   AreFit ls = AllByRecursion (FitsLine version) ls
 
-  -- where each of a group's values and each line behind them can be told, the lines of the group and those can be
+  -- if all values of a group fit and all lines after it fit, so do the lines of the group and those after it
   joined : {X : Type 0} (f : X → TranscriptLine) (xs : List X) (rest : List TranscriptLine)
       → AllByRecursion (λ x. FitsLine version (f x)) xs → AreFit rest → AreFit (map f xs ++ rest)
   joined f xs rest h k = all_append (FitsLine version) (map f xs) rest (all_map (FitsLine version) f xs h) k
 
-  -- where the lines of a group and those behind them can be told, each of the group's values and each of those can be
+  -- if the lines of a group and those after it fit, so do the values of the group and the lines after it
   parted : {X : Type 0} (f : X → TranscriptLine) (xs : List X) (rest : List TranscriptLine)
       → AreFit (map f xs ++ rest) → AllByRecursion (λ x. FitsLine version (f x)) xs × AreFit rest
   parted f xs rest h = (
@@ -77,15 +78,13 @@ module _ (version : Version) where
     all_right (FitsLine version) (map f xs) rest h,
   )
 
-  -- each line of an allowed transcript can be told in its version
-  pub fits_body : (t : Transcript) → IsAllowed version t → AreFit (body t)
-  fits_body t allowed =
-      let fit = allowed.spellable in
+  -- each line of a transcript that can be spelled, and needs no later version than this one, fits this version
+  fits_body : (t : Transcript) → IsSpellable t → (version ≡ V1 → least_of_transcript t ≡ V1) → AreFit (body t)
+  fits_body t fit told =
       let view = fit.view in
-      let hungs = all_both FitsHung (λ h. CanTell version true) t.view.hungs view.hungs
-      (told_hungs version t allowed.told) in
+      let hungs = all_both FitsHung (λ h. CanTell version true) t.view.hungs view.hungs (told_hungs version t told) in
       let entries = all_both FitsEntry (λ e. CanTell version (is_of_hangup e)) t.entries fit.entries
-      (told_entries version t allowed.told) in
+      (told_entries version t told) in
       joined line.Driver _ _ fit.drivers (joined line.Entry _ _ entries (
         tt,
         (
@@ -96,7 +95,7 @@ module _ (version : Version) where
         ),
       ))
 
-  -- where the lines of a view can be told, it can be spelled, and its hung-up streams can be told
+  -- if the lines of a view fit, the view can be spelled, and this version can express its hung-up streams
   view_fits : (v : ConfigView) → AreFit (view_body v) → IsSpellableView v × AreToldHungs version v.hungs
   view_fits v h =
       let fds = parted line.Fd v.fds _ h.1 in
@@ -121,39 +120,30 @@ module _ (version : Version) where
         hungs.1,
       )
 
--- a view of nothing can be spelled
-pub nothing_fits : IsSpellableView (new_view 0 0)
-nothing_fits = search (rules, arith)
+-- a transcript within the limits that can be spelled, and needs no later version than its own, is allowed
+pub spellable_allowed : (version : Version) (t : Transcript) → t.version ≡ version
+    → length t.drivers ≤ most_drivers version → length t.entries ≤ MAX_COMMANDS → IsSpellable t
+    → (version ≡ V1 → least_of_transcript t ≡ V1) → IsAllowed version t
+spellable_allowed version t is drivers entries fit told =
+    record { version_is = is; drivers = drivers; entries = entries; fits = fits_body version t fit told }
 
--- where the lines of a view as far as it was read can be told, that view can be spelled, and its hung-up streams told
-ended_view : (version : Version) (s : Stage) (t : Transcript) → AllByRecursion (FitsLine version) (shown s t.view)
-    → IsSpellableView (ended s t).view × AreToldHungs version (ended s t).view.hungs
-ended_view version stage.History t h = (nothing_fits, tt)
-ended_view version stage.Config t h = (nothing_fits, tt)
-ended_view version stage.View t h = view_fits version t.view h.1
+-- an allowed transcript can be spelled, and needs no later version
+pub allowed_spellable : (version : Version) (t : Transcript) → IsAllowed version t
+    → IsSpellable t × (version ≡ V1 → least_of_transcript t ≡ V1)
+allowed_spellable version t allowed =
+    let drivers = parted version line.Driver t.drivers _ allowed.fits in
+    let entries = parted version line.Entry t.entries _ drivers.1 in
+    let both = all_parts FitsEntry (λ e. CanTell version (is_of_hangup e)) t.entries entries.0 in
+    let view = view_fits version t.view entries.1.1 in (
+      record { drivers = drivers.0; entries = both.0; view = view.0 },
+      needs_no_later version t allowed.drivers both.1 view.1,
+    )
 
--- a transcript with a draft's history, within the limits, is allowed where the draft's lines and its view can be told
-allowed_by : (version : Version) (s : Stage) (t u : Transcript) → t.version ≡ version → u.version ≡ t.version
-    → u.drivers ≡ t.drivers → u.entries ≡ t.entries
-    → IsSpellableView u.view × AreToldHungs version u.view.hungs → IsWithin (draft s t)
-    → AllByRecursion (FitsLine version) (lines (draft s t)) → IsAllowed version u
-allowed_by version s t u is v d e (spelled, hungs) within h =
-    let drivers = parted version line.Driver t.drivers _ h in
-    let entries = all_parts FitsEntry (λ x. CanTell version (is_of_hangup x)) t.entries
-    (parted version line.Entry t.entries _ drivers.1).0 in
-    let few : length u.drivers ≤ most_drivers version = rw (d, ← is) within.drivers in
-    let told : AreToldEntries version u.entries = rw e entries.1 in
-    record {
-      version_is = v ∙ is;
-      drivers = few;
-      entries = rw e within.entries;
-      spellable = record {
-        drivers = rw d drivers.0;
-        entries = rw e entries.0;
-        view = spelled;
-      };
-      told = needs_no_later version u few told hungs;
-    }
+-- the fewest missing lines fit
+still_fits : (version : Version) (s : Stage) → AllByRecursion (FitsLine version) (still s)
+still_fits version stage.History = search (rules, arith)
+still_fits version stage.Config = search (rules, arith)
+still_fits version stage.View = tt
 
 -- a transcript as far as it was read has the version, the drivers and the entries that were read
 same_history : (s : Stage) (t : Transcript)
@@ -162,12 +152,14 @@ same_history stage.History t = (refl, refl, refl)
 same_history stage.Config t = (refl, refl, refl)
 same_history stage.View t = (refl, refl, refl)
 
--- a draft within the limits whose lines can be told is completed to an allowed transcript
-pub allowed : (version : Version) (d : TranscriptSoFar) → d.transcript.version ≡ version → IsWithin d
+-- a draft within the limits whose lines fit is completed to an allowed transcript
+pub allowed : (version : Version) (d : TranscriptDraft) → d.transcript.version ≡ version → IsWithin d
     → AllByRecursion (FitsLine version) (lines d) → IsAllowed version (completed d)
 allowed version d is within h =
-    let same = same_history d.stage d.transcript in
-    let view = (parted version line.Entry d.transcript.entries _
-    (parted version line.Driver d.transcript.drivers _ h).1).1 in
-    allowed_by version d.stage d.transcript (completed d) is same.0 same.1 same.2
-    (ended_view version d.stage d.transcript view) within h
+    let same = same_history d.stage d.transcript in record {
+      version_is = same.0 ∙ is;
+      drivers = rw (same.1, ← is) within.drivers;
+      entries = rw same.2 within.entries;
+      fits = subst (AllByRecursion (FitsLine version)) (sym (completes d))
+          (all_append (FitsLine version) (lines d) (still d.stage) h (still_fits version d.stage));
+    }

@@ -1,4 +1,4 @@
--- Readings of a text that may be of any version. For any kind of text whose versions differ in their headers.
+-- Readings of a text of any version, for any kind of text whose versions have different headers.
 use Rattle.std.proofs.Common.{◌≡◌, ◌≢◌, ℕ, ◌<◌, List, ◌∷◌, ◌++◌, Result, Ok, Err, refl, sym, subst, ◌∙◌, inl, inr}
 use Rattle.std.specs.Prelude.{◌⊎◌, [], IfErr, MatchResult}
 use Rattle.smx_types.specs.declared.version.Version.{Version}
@@ -13,33 +13,33 @@ use Rattle.smx_text.proofs.HasReadingLemmas.{HasReading}
 use Rattle.smx_text.proofs.LineLemmas.{one_cut}
 use Rattle.smx_text.proofs.MemoryLemmas.{comes_before}
 
--- each version has lines that can be told apart, and a header of its own
+-- in each version a line's text determines the line, and the versions have different headers
 pub record AreVersions {V K : Type 0} (g : Version → Grammar V K) : Type 0 where
   pub made : (version : Version) → IsWellMade (g version)
   pub differ : header (g V1) ≢ header (g V2)
 
--- an answer that is not want of memory
+-- a result other than out of memory
 abbrev pub HasAnyReading : {V K : Type 0} → (Version → Grammar V K) → List ℕ → Type 0
 HasAnyReading {V} g bytes = (r : Result V TextFault) × ReadsAny g bytes r × IfErr r (λ f. f.cause ≢ cause.NoMemory)
 
 module _ {V K : Type 0} (g : Version → Grammar V K) (are : AreVersions g) where
-  -- versions with the same header are the same version
+  -- two versions with the same header are equal
   same_version : (v w : Version) → header (g v) ≡ header (g w) → v ≡ w
   same_version V1 V1 e = refl
   same_version V1 V2 e = absurd (are.differ e)
   same_version V2 V1 e = absurd (are.differ (sym e))
   same_version V2 V2 e = refl
 
-  -- the answer that line `n` is at fault for this cause
+  -- the result that reports a fault at line `n` for this cause
   abbrev Refused : ℕ → Cause → Result V TextFault
   Refused n c = Err (record { line = n; cause = c })
 
-  -- where the answer is a wrong header, the header is wrong in each version
+  -- if the result reports a wrong header, the header is wrong in each version
   abbrev IsWrongInEach : List ℕ → Result V TextFault → Type 0
   IsWrongInEach bytes r = IfErr r (λ f. f.cause ≡ cause.Header → (other : Version)
       → IsFault (g other) bytes f.line cause.Header)
 
-  -- an answer stands behind the header of its version, or is given in each
+  -- a result is after the header of its version, or is possible in each version
   moved : (v w : Version) (bytes : List ℕ) (r : Result V TextFault) → IsWrongInEach bytes r
       → Place (g v) (are.made v) bytes r → Reads (g w) bytes r ⊎ Behind (g v) (are.made v) bytes r
   moved v w bytes r each (inl (one, e)) =
@@ -48,12 +48,12 @@ module _ {V K : Type 0} (g : Version → Grammar V K) (are : AreVersions g) wher
       inl (subst (Reads (g w) bytes) (sym e) (subst (IsWrongInEach bytes) e each refl w))
   moved v w bytes r each (inr (inr behind)) = inr behind
 
-  -- an answer of a reader of all versions that is not want of memory stands in one of the places of its version
+  -- a result of a reader of all versions, except out of memory, has one of the places in its version
   at_place : (bytes : List ℕ) (r : Result V TextFault) (reads : ReadsAny g bytes r)
       → IfErr r (λ f. f.cause ≢ cause.NoMemory) → Place (g reads.0) (are.made reads.0) bytes r
   at_place bytes r reads ample = place (g reads.0) (are.made reads.0) bytes r reads.1 ample
 
-  -- a text behind the header of one version is read in that version
+  -- a text after the header of one version is read in that version
   in_version : (version : Version) (bytes rest : List ℕ) (r : Result V TextFault) → ReadsAny g bytes r
       → IfErr r (λ f. f.cause ≢ cause.NoMemory) → bytes ≡ header (g version) ++ LINE_FEED ∷ rest
       → Reads (g version) bytes r
@@ -68,7 +68,7 @@ module _ {V K : Type 0} (g : Version → Grammar V K) (are : AreVersions g) wher
 
   -- ---- the laws
 
-  -- any bytes have at most one answer in all versions that is not want of memory
+  -- bytes have at most one result in all versions other than out of memory
   pub one_reading_of_all : (bytes : List ℕ) (r s : Result V TextFault) → ReadsAny g bytes r → ReadsAny g bytes s
       → IfErr r (λ f. f.cause ≢ cause.NoMemory) → IfErr s (λ f. f.cause ≢ cause.NoMemory) → r ≡ s
   one_reading_of_all bytes r s reads (w, again, each) ample plenty =
@@ -79,11 +79,11 @@ module _ {V K : Type 0} (g : Version → Grammar V K) (are : AreVersions g) wher
             (in_version w bytes (texts (g w) (are.made w) lines ++ rest) r reads ample e) again ample plenty
       ]
 
-  -- the text of an allowed value may be read as that value by a reader of all versions
+  -- a reader of all versions may read the text of an allowed value as that value
   spelled : (version : Version) (v : V) → (g version).IsAllowed v → ReadsAny g (full_text (g version) v) (Ok v)
   spelled version v allowed = (version, record { allowed = allowed; text = refl }, tt)
 
-  -- the text of an allowed value in its version is read as that value, unless memory is wanting
+  -- the text of an allowed value in its version is read as that value, unless memory runs out
   pub written_is_read : (version : Version) (v : V) (r : Result V TextFault) → (g version).IsAllowed v
       → ReadsAny g (full_text (g version) v) r → MatchResult r (λ w. w ≡ v) (λ f. f.cause ≡ cause.NoMemory)
   written_is_read version v (Ok w) allowed reads =
@@ -104,7 +104,7 @@ module _ {V K : Type 0} (g : Version → Grammar V K) (are : AreVersions g) wher
     by_cause cause.NoMemory is = is
     by_cause c is = other c is (λ e. cc)
 
-  -- want of memory is told before the line at which any other reading ends
+  -- a reader reports out of memory only before the line where any other reading ends
   pub comes_before_all : (version : Version) (bytes : List ℕ) (n : ℕ) (r : Result V TextFault)
       → IsFault (g version) bytes n cause.NoMemory → ReadsAny g bytes r
       → IfErr r (λ f. f.cause ≢ cause.NoMemory) → n < last_line (g version) r
@@ -114,7 +114,7 @@ module _ {V K : Type 0} (g : Version → Grammar V K) (are : AreVersions g) wher
       (in_version version bytes (texts (g version) (are.made version) lines ++ (text ++ LINE_FEED ∷ at.next.0)) r
       reads ample behind) ample
 
-  -- a text that has a reading in each version has one
+  -- a text that has a reading in each version has one for a reader of all versions
   pub has_reading_of_all : (bytes : List ℕ) → ((version : Version) → HasReading (g version) bytes)
       → HasAnyReading g bytes
   has_reading_of_all bytes each = by_first (each V1).0 (each V1).1 (each V1).2 where

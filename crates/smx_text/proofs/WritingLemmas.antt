@@ -1,4 +1,4 @@
--- What is written group by group, as the lines of a whole.
+-- Bytes written group by group are the lines of the whole text.
 use Rattle.std.proofs.Common.{◌≡◌, ℕ, ◌+◌, ◌<◌, List, [], ◌∷◌, ◌++◌, length, get_or, take, map, refl, sym}
 use Rattle.std.proofs.Common.{ap, ◌∙◌, append_assoc, arith}
 use Rattle.std.proofs.lemmas.List.{append-nil, length-take-le, map-append, take_more}
@@ -27,13 +27,13 @@ use Rattle.smx_text.proofs.ReadingLemmas.{texts_append}
 use Rattle.smx_text.proofs.ProgramsVersionLemmas.{drivers_few, programs_fit}
 use Rattle.smx_words.specs.Words.{line_of, text_of}
 
--- bytes with a line and its line feed behind them are the bytes and then the text of that line
+-- bytes followed by a line and its line feed are the bytes and then the text of that line
 pub one_line_more : (before : List ℕ) (ws : List (List ℕ))
     → before ++ line_of ws ++ LINE_FEED ∷ [] ≡ before ++ text_of (ws ∷ [])
 one_line_more before ws = append_assoc before (line_of ws) (LINE_FEED ∷ [])
     ∙ ap (λ (more : List ℕ). before ++ more) (sym (append-nil (line_of ws ++ LINE_FEED ∷ [])))
 
--- the lines of the first programs with the next one are theirs, the line of its process, and its commands
+-- the lines of the first programs and the next one are theirs, the line of its process, and its commands
 one_more : (ps : List (List Command)) (i : ℕ) (cs : List Command) → i < length ps → cs ≡ get_or ps i cs
     → program_lines 0 (take (i + 1) ps) ≡ program_lines 0 (take i ps) ++ line.Process i ∷ map line.Command cs
 one_more ps i cs lt e =
@@ -42,7 +42,7 @@ one_more ps i cs lt e =
     ∙ ap (λ (c : List Command). take i ps ++ c ∷ []) (sym e) in
     rw (all, lines_add 0 (take i ps) cs, len) refl
 
--- the text of some programs with the next one is theirs, the line of its process, and its commands
+-- the text of some programs and the next one is theirs, the line of its process, and its commands
 pub program_text : (ps : List (List Command)) (i : ℕ) (cs : List Command) → i < length ps → cs ≡ get_or ps i cs
     → text_of (map line_words (program_lines 0 (take (i + 1) ps)))
     ≡ text_of (map line_words (program_lines 0 (take i ps)))
@@ -50,7 +50,7 @@ pub program_text : (ps : List (List Command)) (i : ℕ) (cs : List Command) → 
 program_text ps i cs lt e =
     rw (one_more ps i cs lt e, map-append, texts_append, map-map line_words line.Command cs) refl
 
--- where the lines of some programs fit, and the commands of the next, the lines with that one fit too
+-- if the lines of some programs fit, and the commands of the next, the lines with that one fit too
 pub program_fits : (ps : List (List Command)) (i : ℕ) (cs : List Command) → i < length ps
     → cs ≡ get_or ps i cs → FitsNumber i → AllByRecursion (FitsLine V2) (program_lines 0 (take i ps))
     → AllByRecursion FitsCommand cs → AllByRecursion (FitsLine V2) (program_lines 0 (take (i + 1) ps))
@@ -89,13 +89,13 @@ written_allowed v within drivers programs = record {
 
 -- ---- the groups of a view
 
--- what is written in eight groups, one after the other, is the text of the lines of all of them
+-- eight groups written one after the other are the text of the lines of all of them
 eight_groups : (start : List ℕ) (x : List (List ℕ)) (a b c d e f g : List (List (List ℕ)))
     → start ++ text_of (x ∷ []) ++ text_of a ++ text_of b ++ text_of c ++ text_of d ++ text_of e ++ text_of f
     ++ text_of g ≡ start ++ text_of (x ∷ (a ++ (b ++ (c ++ (d ++ (e ++ (f ++ g)))))))
 eight_groups start x a b c d e f g = simp (texts_append, append_assoc)
 
--- the lines of a view, by the groups of its values
+-- the lines of a view, group by group
 abbrev view_lines : ConfigView → List (List (List ℕ))
 view_lines v =
     next_words (v.next_id, v.next_serial) ∷ (map descriptor_words v.fds
@@ -108,7 +108,7 @@ view_lines v =
 view_is : (v : ConfigView) → map transcript_words (view_body v) ≡ view_lines v
 view_is v = simp (map-append, map-map)
 
--- the groups of a view, written one after the other, are the text of the lines of that view
+-- the groups of a view written one after the other are the text of the lines of that view
 pub view_written : (v : ConfigView) (start next fds links binds routes msgs fulls hungs : List ℕ)
     → next ≡ start ++ text_of (next_words (v.next_id, v.next_serial) ∷ [])
     → fds ≡ next ++ text_of (map descriptor_words v.fds)

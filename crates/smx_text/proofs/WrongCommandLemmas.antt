@@ -1,4 +1,4 @@
--- Lines that are misspelled commands, behind the line of a process.
+-- Lines that are misspelled commands, after the line of a process.
 use Rattle.std.proofs.Common.{◌≡◌, ◌≢◌, ℕ, ◌<◌, Bool, true, false, List, [], ◌∷◌, length, refl, sym}
 use Rattle.std.proofs.Common.{ap, ◌∙◌, arith, rules}
 use Rattle.std.specs.List.{AllByRecursion}
@@ -38,27 +38,27 @@ use Rattle.smx_text.proofs.WorkedFaultLemmas.{told, wrong_programs}
 
 -- ---- line 4 of a text
 
--- the programs whose lines stand before line 4: one driver, and one process without a command
+-- the programs before line 4: one driver, and one process without commands
 abbrev pub before : ProgramLists
 before = program_lists (record { name = codes "ip"; kind = kind.Mux; minors = 4; high = 8; low = 3; max = 16 }
     ∷ []) ([] ∷ [])
 
--- the one driver and the one process before line 4 are allowed in version 1
+-- the programs before line 4 are allowed in version 1
 pub before_allowed : IsAllowed V1 before
 before_allowed = search (rules, arith)
 
--- line 4 is whole behind one driver and one process, with which allowed programs begin
+-- line 4 is whole, after the lines of the programs before it
 reaches : (text : List ℕ) → IsOneLine text → Reaches (programs_grammar V1) (with_line_4 text) (body before) text 4
 unfolding digits
 reaches text one =
     record { begun = (before, [], before_allowed, refl); next = (codes "end\n", one, refl); numbered = refl }
 
--- a text that spells no line which may stand behind one driver and one process makes line 4 go wrong for its form
+-- a text that spells no line which may follow these programs gives line 4 the fault `Form`
 pub wrong_at_4 : (text : List ℕ) → IsOneLine text → IsNoLine (programs_grammar V1) (body before) text
     → AreWrongPrograms (with_line_4 text) 4 cause.Form
 wrong_at_4 text one none = wrong_programs V1 refl (body before, text, reaches text one, none)
 
--- words of no command, driver or process, and not the end, spell no line behind one driver and one process
+-- words of no command, driver or process, and not the end, spell no line after these programs
 no_words : (ws : List (List ℕ)) → AllByRecursion (IsFree SPACE) ws × (0 < length ws)
     → ((c : Command) → FitsCommandIn V1 c → ws ≢ command_words c)
     → bytes_eq (first_word ws) (codes "driver") ≡ false → bytes_eq (first_word ws) (codes "process") ≡ false
@@ -75,9 +75,9 @@ no_words ws free none driver process end =
       wrong_first : {b : Bool} → b ≡ true → b ≡ false → ⊥
       wrong_first e h = let bad : true ≡ false = sym e ∙ h in absurd (cc bad)
 
--- ---- words that are none
+-- ---- words that spell no value
 
--- what a number's word is worth is the number
+-- the value of a number's digits is the number
 worth : (w : List ℕ) (n : ℕ) → FitsNumber n → w ≡ decimal n → digits_value 10 w ≡ n
 worth w n fits e = ap (digits_value 10) e ∙ digits_value-decimal own n (omega (arith, fits))
 
@@ -100,7 +100,7 @@ too_large n fits e = let is : 4294967296 ≡ n = worth (codes "4294967296") n fi
 no_name : (w d : List ℕ) → is_name w ≡ false → FitsName d → w ≢ d
 no_name w d none fits e = let is : false ≡ true = sym none ∙ ap is_name e ∙ fits in absurd (cc is)
 
--- `ALL` is not the word for one link, or for all
+-- `ALL` is not the word for one link, nor for all
 no_capitals : (x : Which) → FitsWhich x → codes "ALL" ≢ which_word x
 no_capitals (which.Id n) fits e =
     let all : all_ascii_digits (codes "ALL") ≡ true = ap all_ascii_digits e ∙ decimal_digits n fits in
@@ -121,9 +121,9 @@ no_capital_digits bs fits e = let by = by_digits (codes "AA") bs (λ h. cc) fits
 no_odd_digits : (bs : List ℕ) → FitsBytes bs → codes "aab" ≢ hex_word bs
 no_odd_digits bs fits e = let by = by_digits (codes "aab") bs (λ h. cc) fits e in omega (arith, by.2)
 
--- ---- words that are no command, each as line 4
+-- ---- words that spell no command, each as line 4
 
--- words of no command, driver or process, and not the end, make line 4 go wrong for its form
+-- words of no command, driver or process, and not the end, give line 4 the fault `Form`
 wrong_words : (ws : List (List ℕ)) → AllByRecursion (IsFree SPACE) ws × (0 < length ws)
     → IsOneLine (line_of ws) → ((c : Command) → FitsCommand c → ws ≢ command_words c)
     → bytes_eq (first_word ws) (codes "driver") ≡ false → bytes_eq (first_word ws) (codes "process") ≡ false
@@ -133,17 +133,17 @@ wrong_words ws free one none driver process end =
     wrong_at_4 (line_of ws) one
     (no_words ws free (λ c fits. none c fits.0) driver process (differ (line_of ws) (codes "end") end))
 
--- words that stand behind a verb in no command of it
+-- words that no command of this verb has after its verb
 abbrev IsNone : Verb → List (List ℕ) → Type 0
 IsNone v ws = (c : Command) → FitsCommand c → verb_of c ≡ v → verb_word v ∷ ws ≢ command_words c
 
--- no verb is the word `driver` or the word `process`
+-- no verb is the word `driver` or `process`
 no_other : (v : Verb) → (bytes_eq (verb_word v) (codes "driver") ≡ false)
     × (bytes_eq (verb_word v) (codes "process") ≡ false)
 no_other verb.Clone = (refl, refl)
 no_other v = (refl, refl)
 
--- words that stand behind a verb in no command of it make line 4 go wrong for its form
+-- words that no command of this verb has after its verb give line 4 the fault `Form`
 pub wrong_verb : (v : Verb) (ws : List (List ℕ)) → AllByRecursion (IsFree SPACE) (verb_word v ∷ ws)
     × IsOneLine (line_of (verb_word v ∷ ws)) × (bytes_eq (line_of (verb_word v ∷ ws)) (codes "end") ≡ false)
     → IsNone v ws → AreWrongPrograms (with_line_4 (line_of (verb_word v ∷ ws))) 4 cause.Form
@@ -161,12 +161,12 @@ pub a_sign : IsNone verb.Dup (codes "+1" ∷ [])
 a_sign (command.Dup n) fits v e = signed n fits (cc e)
 a_sign c fits v e = absurd (cc v)
 
--- one space stands between two words, not two
+-- one space separates two words, not two
 pub two_spaces : IsNone verb.Close ([] ∷ codes "0" ∷ [])
 two_spaces (command.Close n) fits v e = omega (arith, ap (length {A = List ℕ}) e)
 two_spaces c fits v e = absurd (cc v)
 
--- no space stands behind the last word
+-- no space follows the last word
 pub a_last_space : IsNone verb.Close (codes "0" ∷ [] ∷ [])
 a_last_space (command.Close n) fits v e = omega (arith, ap (length {A = List ℕ}) e)
 a_last_space c fits v e = absurd (cc v)
@@ -176,7 +176,7 @@ pub large_number : IsNone verb.Open (codes "ip" ∷ codes "4294967296" ∷ [])
 large_number (command.OpenMinor d n) fits v e = too_large n fits.1 (cc e)
 large_number c fits v e = absurd (cc v)
 
--- a driver's name begins with no digit
+-- a driver's name does not begin with a digit
 pub digit_first : IsNone verb.Open (codes "9a" ∷ codes "0" ∷ [])
 digit_first (command.OpenMinor d n) fits v e = no_name (codes "9a") d refl fits.0 (cc e)
 digit_first c fits v e = absurd (cc v)
@@ -191,17 +191,17 @@ pub word_wanting : IsNone verb.Link (codes "0" ∷ [])
 word_wanting (command.Link n m) fits v e = omega (arith, ap (length {A = List ℕ}) e)
 word_wanting c fits v e = absurd (cc v)
 
--- the word for all links is in small letters
+-- the word for all links is in lower case
 pub capitals : IsNone verb.Unlink (codes "0" ∷ codes "ALL" ∷ [])
 capitals (command.Unlink n x) fits v e = no_capitals x fits.1 (cc e)
 capitals c fits v e = absurd (cc v)
 
--- both sides of a flush are `rw`, not `wr`
+-- the word for both sides of a flush is `rw`, not `wr`
 pub sides_turned : IsNone verb.Flush (codes "0" ∷ codes "wr" ∷ [])
 sides_turned (command.Flush n s) fits v e = turned s (cc e)
 sides_turned c fits v e = absurd (cc v)
 
--- the digits of bytes are small letters
+-- hexadecimal digits are in lower case
 pub capital_digits : IsNone verb.Write (codes "0" ∷ codes "5" ∷ codes "AA" ∷ [])
 capital_digits (command.Write n m bs) fits v e = no_capital_digits bs fits.2 (cc e)
 capital_digits c fits v e = absurd (cc v)
@@ -211,7 +211,7 @@ pub odd_digits : IsNone verb.Write (codes "0" ∷ codes "5" ∷ codes "aab" ∷ 
 odd_digits (command.Write n m bs) fits v e = no_odd_digits bs fits.2 (cc e)
 odd_digits c fits v e = absurd (cc v)
 
--- `write` has a word for its bytes even where there are none
+-- `write` has a word for its bytes even if there are none
 pub bytes_wanting : IsNone verb.Write (codes "0" ∷ codes "5" ∷ [])
 bytes_wanting (command.Write n m bs) fits v e = omega (arith, ap (length {A = List ℕ}) e)
 bytes_wanting c fits v e = absurd (cc v)
@@ -222,7 +222,7 @@ no_word =
     wrong_words ([] ∷ []) (search rules, omega arith) (search rules)
     (λ c fits e. not_verb c ([] ∷ []) (sym e) refl) refl refl refl
 
--- ---- a command of version 2 alone
+-- ---- a command of version 2 only
 
 -- version 1 has no hangup
 pub hangup : AreWrongPrograms (with_line_4 (codes "hangup ip 0")) 4 cause.Form

@@ -1,4 +1,4 @@
--- Texts with one driver too many for their version.
+-- Texts with one driver over the limit of their version.
 use Rattle.std.proofs.Common.{◌≡◌, ℕ, zero, suc, ◌+◌, ◌≤◌, List, [], ◌∷◌, ◌++◌, length, map, refl, sym, ap, subst}
 use Rattle.std.proofs.Common.{◌∙◌, append_assoc, arith, rules, true}
 use Rattle.std.specs.Fmt.{digits}
@@ -16,7 +16,7 @@ use Rattle.smx_words.specs.Spellable.{FitsDriver}
 use Rattle.smx_words.specs.Words.{LINE_FEED}
 use Rattle.smx_text.specs.declared.text_fault.Cause.TheVariants as cause
 use Rattle.smx_text.specs.declared.transcript.draft.Stage.TheVariants as stage
-use Rattle.smx_text.specs.Drafts.{TranscriptSoFar}
+use Rattle.smx_text.specs.declared.transcript.draft.TranscriptDraft.{TranscriptDraft}
 use Rattle.smx_text.specs.Drafts.{lines}
 use Rattle.smx_text.specs.Grammar.{Grammar, IsBegun, IsFault, IsOneTooMany, beginning, header, line_text}
 use Rattle.smx_text.specs.ProgramLines as row
@@ -34,11 +34,12 @@ use Rattle.smx_text.proofs.TranscriptDrafts.{new_view, is_full}
 use Rattle.smx_text.proofs.TranscriptGrammarLemmas.{refused_line as refused_transcript_line}
 use Rattle.smx_text.proofs.TranscriptLemmas.{too_many as too_many_of_a_transcript}
 use Rattle.smx_text.proofs.TranscriptVersionLemmas.{needs_no_later}
+use Rattle.smx_text.proofs.TranscriptWholeLemmas.{spellable_allowed}
 use Rattle.smx_text.proofs.WorkedFaultLemmas.{wrong_programs, wrong_transcript}
 
--- ---- the same line again and again
+-- ---- the same line repeated
 
--- a list of so many elements, all of them this one
+-- a list of n elements, all equal to x
 abbrev pub repeated : {X : Type 0} → X → ℕ → List X
 repeated x zero = []
 repeated x (suc n) = repeated x n ++ x ∷ []
@@ -48,7 +49,7 @@ pub many : {X : Type 0} (x : X) (n : ℕ) → length (repeated x n) ≡ n
 many x zero = refl
 many x (suc n) = omega (arith, length-append (repeated x n) (x ∷ []), many x n)
 
--- what holds of an element holds of each one in a list that repeats it
+-- a property of an element holds of each element in a list that repeats it
 all_same : {X : Type 0} (P : X → Type 0) (x : X) (n : ℕ) → P x → AllByRecursion P (repeated x n)
 all_same P x zero h = tt
 all_same P x (suc n) h = all_append P (repeated x n) (x ∷ []) (all_same P x n h) (h, tt)
@@ -76,7 +77,7 @@ module _ {V K : Type 0} (g : Grammar V K) (k : K) (is : line_text g k ≡ driver
       ∙ ap (λ (xs : List ℕ). (first ++ driver_lines n) ++ (xs ++ LINE_FEED ∷ [])) is
       ∙ append_assoc first (driver_lines n) (driver_text ++ LINE_FEED ∷ [])
 
-  -- a text with one driver more is the beginning with the others, the line of that driver, and the rest
+  -- a text with one more driver is the beginning with the others, the line of that driver, and the rest
   one_more_is : (n : ℕ) → with_drivers first (suc n)
       ≡ beginning g (repeated k n) ++ (driver_text ++ LINE_FEED ∷ codes "end\n")
   one_more_is n =
@@ -84,7 +85,7 @@ module _ {V K : Type 0} (g : Grammar V K) (k : K) (is : line_text g k ≡ driver
       ∙ sym (append_assoc first (driver_lines n) (driver_text ++ LINE_FEED ∷ codes "end\n"))
       ∙ ap (λ (xs : List ℕ). xs ++ (driver_text ++ LINE_FEED ∷ codes "end\n")) (sym (text_of_drivers n))
 
-  -- where the driver `ip` is one too many behind n of it, a text with one more goes wrong at line n + 2
+  -- if the driver `ip` is over the limit after n of it, a text with one more has the fault `Many` at line n + 2
   pub one_too_many : (n : ℕ) → IsBegun g (repeated k n) → IsOneTooMany g (repeated k n) driver_text
       → IsFault g (with_drivers first (suc n)) (n + 2) cause.Many
   one_too_many n begun full = (
@@ -108,7 +109,7 @@ ip_fits = search (rules, arith)
 
 -- ---- in programs
 
--- programs of a version with the driver `ip` so many times, and no process
+-- programs of a version with the driver `ip` n times, and no process
 abbrev programs : Version → ℕ → ProgramLists
 programs version n = record { version = version; drivers = repeated ip n; programs = [] }
 
@@ -116,7 +117,7 @@ programs version n = record { version = version; drivers = repeated ip n; progra
 body_is : (version : Version) (n : ℕ) → body (programs version n) ≡ repeated (row.Driver ip) n
 body_is version n = append-nil (map row.Driver (repeated ip n)) ∙ map_same row.Driver ip n
 
--- programs with the driver `ip` at most as often as a version has drivers are allowed in it
+-- programs with the driver `ip` at most as often as a version allows are allowed in it
 are_allowed : (version : Version) (n : ℕ) → n ≤ most_drivers version → AreAllowed version (programs version n)
 are_allowed version n few = record {
   version_is = refl;
@@ -132,7 +133,7 @@ driver_is : (version : Version) → line_text (programs_grammar version) (row.Dr
 unfolding digits
 driver_is version = refl
 
--- programs with one driver more than a version can tell go wrong at its line, as one too many
+-- programs with one driver more than a version allows have the fault `Many` at its line
 too_many_drivers : (version : Version) (n : ℕ) → n ≡ most_drivers version
     → IsFault (programs_grammar version) (with_drivers (header (programs_grammar version) ++ LINE_FEED ∷ []) (suc n))
     (n + 2) cause.Many
@@ -149,48 +150,42 @@ too_many_drivers version n most =
           (sym (driver_is version)) cause.Many
           (too_many version (programs version n) (row.Driver ip) refl (omega (arith, many ip n, most))))
 
--- a 65th driver is one too many of programs in version 1
+-- in programs of version 1, a 65th driver is over the limit
 pub driver_65 : AreWrongPrograms (with_drivers (codes "programs 1\n") 65) 66 cause.Many
 driver_65 = wrong_programs V1 refl (too_many_drivers V1 64 refl)
 
--- a 129th driver is one too many of programs in version 2
+-- in programs of version 2, a 129th driver is over the limit
 pub driver_129 : AreWrongPrograms (with_drivers (codes "programs 2\n") 129) 130 cause.Many
 driver_129 = wrong_programs V2 refl (too_many_drivers V2 128 refl)
 
 -- ---- in transcripts
 
--- a transcript of a version with the driver `ip` so many times, no entry and an empty view
+-- a transcript of a version with the driver `ip` n times, no entry and an empty view
 abbrev transcript : Version → ℕ → Transcript
 transcript version n = record { version = version; drivers = repeated ip n; entries = []; view = new_view 1 1 }
 
--- a transcript of which so many lines of the driver `ip` were read
-abbrev behind_drivers : Version → ℕ → TranscriptSoFar
+-- a transcript of which n lines of the driver `ip` were read
+abbrev behind_drivers : Version → ℕ → TranscriptDraft
 behind_drivers version n = draft stage.History (transcript version n)
 
--- the lines of a transcript of which the driver `ip` was read n times are its line n times
+-- the lines of a transcript of which n lines of the driver `ip` were read are its line n times
 lines_are : (version : Version) (n : ℕ) → lines (behind_drivers version n) ≡ repeated (line.Driver ip) n
 lines_are version n = append-nil (map line.Driver (repeated ip n)) ∙ map_same line.Driver ip n
 
--- a transcript with the driver `ip` at most as often as a version has drivers is allowed in it
+-- a transcript with the driver `ip` at most as often as a version allows is allowed in it
 is_allowed : (version : Version) (n : ℕ) → n ≤ most_drivers version → IsAllowed version (transcript version n)
-is_allowed version n few = record {
-  version_is = refl;
-  drivers = omega (arith, many ip n, few);
-  entries = omega arith;
-  spellable = record {
-    drivers = all_same FitsDriver ip n ip_fits;
-    entries = tt;
-    view = search (rules, arith);
-  };
-  told = needs_no_later version (transcript version n) (omega (arith, many ip n, few)) tt tt;
-}
+is_allowed version n few =
+    let as_few : length (repeated ip n) ≤ most_drivers version = omega (arith, many ip n, few) in
+    spellable_allowed version (transcript version n) refl as_few (omega arith)
+    record { drivers = all_same FitsDriver ip n ip_fits; entries = tt; view = search (rules, arith) }
+    (needs_no_later version (transcript version n) as_few tt tt)
 
 -- the line of the driver `ip` in a transcript has its text
 driver_of_transcript_is : (version : Version) → line_text (transcript_grammar version) (line.Driver ip) ≡ driver_text
 unfolding digits
 driver_of_transcript_is version = refl
 
--- a transcript with one driver more than a version can tell goes wrong at its line, as one too many
+-- a transcript with one driver more than a version allows has the fault `Many` at its line
 too_many_of_transcript : (version : Version) (n : ℕ) → n ≡ most_drivers version
     → is_full (behind_drivers version n) (line.Driver ip) ≡ true
     → IsFault (transcript_grammar version) (with_drivers
@@ -216,10 +211,10 @@ too_many_of_transcript version n most as_many =
           (sym (driver_of_transcript_is version)) cause.Many
           (too_many_of_a_transcript (behind_drivers version n) (line.Driver ip) refl as_many))
 
--- a 65th driver is one too many of a transcript in version 1
+-- in a transcript of version 1, a 65th driver is over the limit
 pub driver_65_of_a_transcript : IsWrongTranscript (with_drivers (codes "transcript 1\n") 65) 66 cause.Many
 driver_65_of_a_transcript = wrong_transcript V1 refl (too_many_of_transcript V1 64 refl refl)
 
--- a 129th driver is one too many of a transcript in version 2
+-- in a transcript of version 2, a 129th driver is over the limit
 pub driver_129_of_a_transcript : IsWrongTranscript (with_drivers (codes "transcript 2\n") 129) 130 cause.Many
 driver_129_of_a_transcript = wrong_transcript V2 refl (too_many_of_transcript V2 128 refl refl)

@@ -1,4 +1,4 @@
--- Programs texts with a line out of its place, or without a line that they need.
+-- Programs texts with a misplaced line, or with a missing line.
 use Rattle.std.proofs.Common.{◌≡◌, ◌≢◌, ℕ, zero, suc, ◌+◌, ◌≤◌, List, [], ◌∷◌, ◌++◌, length, refl, sym, ap, subst}
 use Rattle.std.proofs.Common.{◌∙◌, append_assoc, arith, rules, inl, inr}
 use Rattle.std.specs.Fmt.{decimal}
@@ -29,7 +29,7 @@ use Rattle.smx_text.proofs.WorkedFaultLemmas.{wrong_programs, wrong_in_each}
 use Rattle.smx_text.proofs.WrongCountLemmas.{many, repeated}
 use Rattle.smx_text.proofs.WrongCommandLemmas.{before, before_allowed, wrong_at_4}
 
--- ---- the header, and nothing behind it
+-- ---- the header, and nothing after it
 
 -- an empty text is cut at line 1
 pub nothing : AreWrongPrograms [] 1 cause.Cut
@@ -39,7 +39,7 @@ nothing = wrong_programs V1 refl ([], [], inl (refl, refl), tt, refl)
 pub cut_header : AreWrongPrograms (codes "programs 1") 1 cause.Cut
 cut_header = wrong_programs V1 refl ([], codes "programs 1", inl (refl, refl), search rules, refl)
 
--- `programs 3` is the header of no version
+-- `programs 3` is not the header of any version
 other_number : (version : Version) → codes "programs 3" ≢ header (programs_grammar version)
 other_number V1 = differ (codes "programs 3") (codes "programs 1") refl
 other_number V2 = differ (codes "programs 3") (codes "programs 2") refl
@@ -48,21 +48,21 @@ other_number V2 = differ (codes "programs 3") (codes "programs 2") refl
 pub version_3 : AreWrongPrograms (codes "programs 3\n") 1 cause.Header
 version_3 = wrong_in_each (λ version. (codes "programs 3", ([], search rules, refl), other_number version, refl))
 
--- a header of version 1 with nothing behind it is cut at line 2
+-- a header of version 1 with nothing after it is cut at line 2
 pub header_alone : AreWrongPrograms (codes "programs 1\n") 2 cause.Cut
 header_alone = wrong_programs V1 refl (codes "programs 1\n", [], inr ([], nothing_begun V1, refl, refl), tt, refl)
 
--- a header of version 2 with nothing behind it is cut at line 2
+-- a header of version 2 with nothing after it is cut at line 2
 pub version_2_alone : AreWrongPrograms (codes "programs 2\n") 2 cause.Cut
 version_2_alone = wrong_programs V2 refl (codes "programs 2\n", [], inr ([], nothing_begun V2, refl, refl), tt, refl)
 
--- ---- lines out of their places
+-- ---- misplaced lines
 
 -- a leaf driver, `eth`
 abbrev eth : DriverSpec
 eth = record { name = codes "eth"; kind = kind.Leaf; minors = 2; high = 8; low = 3; max = 16 }
 
--- behind process 0 comes process 1, not 2
+-- after process 0 comes process 1, not 2
 pub out_of_turn : AreWrongPrograms (with_line_4 (codes "process 2")) 4 cause.Form
 unfolding digits
 out_of_turn =
@@ -70,7 +70,7 @@ out_of_turn =
     (refused_line V1 (body before) (line.Process 2) _ (omega arith) refl cause.Form
     (misplaced V1 before (line.Process 2) (λ e. omega (arith, e))))
 
--- no driver stands behind a process
+-- no driver comes after a process
 pub late_driver : AreWrongPrograms (with_line_4 (codes "driver eth leaf 2 8 3 16")) 4 cause.Form
 unfolding digits
 late_driver =
@@ -82,7 +82,7 @@ late_driver =
 abbrev clone : Line
 clone = line.Command (command.OpenClone (codes "ip"))
 
--- no command stands before the first process
+-- no command comes before the first process
 pub no_process : AreWrongPrograms (codes "programs 1\nclone ip\nend\n") 2 cause.Form
 no_process =
     wrong_programs V1 refl (
@@ -95,15 +95,15 @@ no_process =
 
 -- ---- the end
 
--- programs with one driver and one process, which has one command
+-- programs with one driver and one process with one command
 abbrev one_command : ProgramLists
 one_command = program_lists before.drivers ((command.OpenClone (codes "ip") ∷ []) ∷ [])
 
--- programs with no driver and one process, which has no command
+-- programs with no driver and one process without commands
 abbrev no_command : ProgramLists
 no_command = program_lists [] ([] ∷ [])
 
--- programs without the line `end` are cut at the line behind their last
+-- programs without the line `end` are cut at the line after their last one
 pub no_end : AreWrongPrograms (codes "programs 1\ndriver ip mux 4 8 3 16\nprocess 0\nclone ip\n") 5 cause.Cut
 unfolding digits
 no_end =
@@ -127,22 +127,22 @@ cut_line =
       refl,
     )
 
--- not even a space stands behind the end
+-- nothing follows the end, not even a space
 pub a_space_behind : AreWrongPrograms (codes "programs 1\nprocess 0\nend\n ") 4 cause.Trailing
 unfolding digits
 a_space_behind = wrong_programs V1 refl (no_command, 32, [], search (rules, arith), refl, refl)
 
--- ---- one process too many
+-- ---- one process over the limit
 
--- programs of version 1 with one driver and so many processes, none of which has a command
+-- programs of version 1 with one driver and n processes without commands
 abbrev processes : ℕ → ProgramLists
 processes n = record { version = V1; drivers = before.drivers; programs = repeated [] n }
 
--- with one process more, the line of that process stands behind the others
+-- with one more process, the line of that process comes after the others
 body_of : (n : ℕ) → body (processes (suc n)) ≡ body (processes n) ++ line.Process n ∷ []
 body_of n = added_process before.drivers (repeated [] n) n (sym (many [] n))
 
--- a text of one driver and so many processes begins with its header, the driver and the processes' lines
+-- a text of one driver and n processes begins with its header, the driver and the lines of the processes
 text_of_processes : (n : ℕ) → beginning (programs_grammar V1) (body (processes n))
     ≡ codes "programs 1\ndriver ip mux 4 8 3 16\n" ++ process_lines n
 unfolding digits
@@ -153,7 +153,7 @@ text_of_processes (suc n) =
     ∙ ap (λ (xs : List ℕ). xs ++ (codes "process " ++ (decimal n ++ codes "\n"))) (text_of_processes n)
     ∙ append_assoc (codes "programs 1\ndriver ip mux 4 8 3 16\n") (process_lines n) _
 
--- some allowed programs begin with one driver and the lines of up to 64 processes
+-- one driver and up to 64 processes are a prefix of some allowed programs
 begun_by : (n : ℕ) → n ≤ 64 → IsBegun (programs_grammar V1) (body (processes n))
 begun_by zero most = (before, line.Process 0 ∷ [], before_allowed, refl)
 begun_by (suc n) most =
@@ -173,7 +173,7 @@ body_long (suc n) =
       body_long n,
     )
 
--- a text of 65 processes begins with the lines of 64, and then come `process 64` and `end`
+-- a text of 65 processes begins with the lines of 64, followed by `process 64` and `end`
 process_65_is : with_processes 65 ≡ beginning (programs_grammar V1) (body (processes 64))
     ++ (codes "process 64" ++ LINE_FEED ∷ codes "end\n")
 unfolding digits
@@ -183,7 +183,7 @@ process_65_is =
     ∙ sym (append_assoc (codes "programs 1\ndriver ip mux 4 8 3 16\n") (process_lines 64) (codes "process 64\nend\n"))
     ∙ ap (λ (xs : List ℕ). xs ++ codes "process 64\nend\n") (sym (text_of_processes 64))
 
--- a 65th process is one too many
+-- a 65th process is over the limit
 pub process_65 : AreWrongPrograms (with_processes 65) 67 cause.Many
 unfolding digits
 process_65 =

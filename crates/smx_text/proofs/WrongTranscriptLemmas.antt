@@ -1,4 +1,4 @@
--- Transcripts with a line out of its place, one that is no line, or without one that they need.
+-- Transcripts with a misplaced line, a line that spells nothing, or a missing line.
 use Rattle.std.proofs.Common.{◌≡◌, ◌≢◌, ℕ, ◌+◌, ◌<◌, true, false, List, [], ◌∷◌, ◌++◌, length, refl, sym}
 use Rattle.std.proofs.Common.{ap, ◌∙◌, arith, rules, inr, None, Some}
 use Rattle.std.specs.List.{AllByRecursion}
@@ -30,7 +30,7 @@ use Rattle.smx_words.proofs.SameReplyLemmas.{reply_verb_of, verb_again, verb_at}
 use Rattle.smx_words.proofs.SameWordLemmas.{fault_at, found_fault}
 use Rattle.smx_text.specs.declared.text_fault.Cause.TheVariants as cause
 use Rattle.smx_text.specs.declared.transcript.draft.Stage.TheVariants as stage
-use Rattle.smx_text.specs.Drafts.{TranscriptSoFar}
+use Rattle.smx_text.specs.declared.transcript.draft.TranscriptDraft.{TranscriptDraft}
 use Rattle.smx_text.specs.Drafts.{lines}
 use Rattle.smx_text.specs.Grammar.{HasNext, IsBegun, IsNoLine, IsOneLine, beginning, header, line_text}
 use Rattle.smx_text.specs.TranscriptLines.{TranscriptLine}
@@ -46,7 +46,7 @@ use Rattle.smx_text.proofs.LineWordLemmas.{first_word, differ}
 use Rattle.smx_text.proofs.WorkedFaultLemmas.{told, wrong_transcript, wrong_transcript_in_each}
 use Rattle.smx_words.proofs.ToldLemmas.{no_told_entry}
 
--- ---- what stands before
+-- ---- the lines before the fault
 
 -- a transcript with no driver, no entry and an empty view
 abbrev nothing : Transcript
@@ -81,7 +81,7 @@ one_link = record nothing {
   };
 }
 
--- a whole line that is none of those which may follow some lines goes wrong for its form
+-- a whole line that may not follow some lines has the fault `Form`
 wrong_line : (version : Version) {bytes : List ℕ} {n : ℕ} (ls : List TranscriptLine) (text : List ℕ)
     → IsBegun (transcript_grammar version) ls → HasNext bytes (beginning (transcript_grammar version) ls) text
     → n ≡ length ls + 2 → IsNoLine (transcript_grammar version) ls text → IsWrongTranscript bytes n cause.Form
@@ -89,10 +89,10 @@ wrong_line version ls text begun next at none =
     wrong_transcript version refl (ls, text, record { begun = begun; next = next; numbered = at }, none)
 
 -- a transcript of which `config` was read, and no line before it
-abbrev below_config : TranscriptSoFar
+abbrev below_config : TranscriptDraft
 below_config = draft stage.Config nothing
 
--- a text that spells no line which may stand behind `config` makes line 3 go wrong for its form
+-- a text that spells no line which may follow `config` gives line 3 the fault `Form`
 wrong_below_config : (text rest : List ℕ) → IsOneLine text → IsNoLine (transcript_grammar V1) (lines below_config) text
     → IsWrongTranscript (codes "transcript 1\nconfig\n" ++ (text ++ 10 ∷ rest)) 3 cause.Form
 wrong_below_config text rest one none =
@@ -100,10 +100,10 @@ wrong_below_config text rest one none =
     (rest, one, refl) refl none
 
 -- a transcript of which the line of one driver was read
-abbrev behind_driver : TranscriptSoFar
+abbrev behind_driver : TranscriptDraft
 behind_driver = draft stage.History one_driver
 
--- a text that spells no line which may stand behind one driver makes line 3 go wrong for its form
+-- a text that spells no line which may follow one driver gives line 3 the fault `Form`
 wrong_at_3 : (text : List ℕ) → IsOneLine text → IsNoLine (transcript_grammar V1) (lines behind_driver) text
     → IsWrongTranscript (with_line_3 text) 3 cause.Form
 unfolding digits
@@ -112,11 +112,11 @@ wrong_at_3 text one none =
     (one_driver, line.Config ∷ line.Next 1 1 ∷ [], search (rules, arith), refl)
     (codes "config\nnext 1 1\nend\n", one, refl) refl none
 
--- a transcript of which the line of one link was read, and no group behind it
-abbrev behind_link : TranscriptSoFar
+-- a transcript of which the line of one link was read, and no later group
+abbrev behind_link : TranscriptDraft
 behind_link = draft stage.View one_link
 
--- a text that spells no line which may stand behind one link makes line 5 go wrong for its form
+-- a text that spells no line which may follow one link gives line 5 the fault `Form`
 wrong_at_5 : (text : List ℕ) → IsOneLine text → IsNoLine (transcript_grammar V1) (lines behind_link) text
     → IsWrongTranscript (with_line_5 text) 5 cause.Form
 unfolding digits
@@ -124,27 +124,27 @@ wrong_at_5 text one none =
     wrong_line V1 (lines behind_link) text (one_link, [], search (rules, arith), refl)
     (codes "end\n", one, refl) refl none
 
--- a line that may not come behind one link makes line 5 go wrong for its form
+-- a line that may not follow one link gives line 5 the fault `Form`
 misplaced_at_5 : (text : List ℕ) → IsOneLine text → (k : TranscriptLine) → FitsLine V1 k
     → text ≡ line_text (transcript_grammar V1) k → takes behind_link k ≡ false
     → IsWrongTranscript (with_line_5 text) 5 cause.Form
 misplaced_at_5 text one k fits is never =
     wrong_at_5 text one (refused_line V1 (lines behind_link) k text fits is cause.Form (misplaced behind_link k never))
 
--- ---- lines out of their places
+-- ---- misplaced lines
 
 -- `programs 1` is not the header of a transcript
 no_header : (version : Version) → codes "programs 1" ≢ header (transcript_grammar version)
 no_header V1 = differ (codes "programs 1") (codes "transcript 1") refl
 no_header V2 = differ (codes "programs 1") (codes "transcript 2") refl
 
--- the header of programs is none of a transcript
+-- the header of programs is not that of a transcript
 pub other_header : IsWrongTranscript (codes "programs 1\nend\n") 1 cause.Header
 other_header =
     wrong_transcript_in_each
     (λ version. (codes "programs 1", (codes "end\n", search rules, refl), no_header version, refl))
 
--- `transcript 3` is the header of no version
+-- `transcript 3` is not the header of any version
 other_number : (version : Version) → codes "transcript 3" ≢ header (transcript_grammar version)
 other_number V1 = differ (codes "transcript 3") (codes "transcript 1") refl
 other_number V2 = differ (codes "transcript 3") (codes "transcript 2") refl
@@ -154,16 +154,16 @@ pub version_3 : IsWrongTranscript (codes "transcript 3\n") 1 cause.Header
 version_3 =
     wrong_transcript_in_each (λ version. (codes "transcript 3", ([], search rules, refl), other_number version, refl))
 
--- a header of version 2 with nothing behind it is cut at line 2
+-- a header of version 2 with nothing after it is cut at line 2
 pub version_2_alone : IsWrongTranscript (codes "transcript 2\n") 2 cause.Cut
 version_2_alone =
     wrong_transcript V2 refl (codes "transcript 2\n", [], inr ([], nothing_begun V2, refl, refl), tt, refl)
 
--- the line of a descriptor of process 0, open on minor 0 of `ip`
+-- the line of descriptor 0 of process 0, open on minor 0 of `ip`
 abbrev descriptor : TranscriptLine
 descriptor = line.Fd (record { process = 0; fd = 0; driver = codes "ip"; minor = 0 })
 
--- behind `config` the next id and serial come first, and no descriptor before them
+-- after `config` come the next id and serial, before any descriptor
 pub next_wanting : IsWrongTranscript (codes "transcript 1\nconfig\nfd 0 0 ip 0\nend\n") 3 cause.Form
 unfolding digits
 next_wanting =
@@ -171,16 +171,16 @@ next_wanting =
     (refused_line V1 (lines below_config) descriptor (codes "fd 0 0 ip 0") (search (rules, arith)) refl
     cause.Form (misplaced below_config descriptor refl))
 
--- behind `config` the next id and serial are not left out
+-- the next id and serial may not be missing after `config`
 pub end_too_early : IsWrongTranscript (codes "transcript 1\nconfig\nend\n") 3 cause.Form
 end_too_early = wrong_below_config (codes "end") [] (search rules) (not_at_end below_config refl)
 
--- the next id and serial come once
+-- the next id and serial come only once
 pub two_nexts : IsWrongTranscript (with_line_5 (codes "next 2 1")) 5 cause.Form
 unfolding digits
 two_nexts = misplaced_at_5 (codes "next 2 1") (search rules) (line.Next 2 1) (search (rules, arith)) refl refl
 
--- no entry stands behind `config`
+-- no entry comes after `config`
 pub late_entry : IsWrongTranscript (with_line_5 (codes "0 exit = done")) 5 cause.Form
 unfolding digits
 late_entry =
@@ -188,12 +188,12 @@ late_entry =
     (line.Entry (record { process = 0; command = command.CloseAll; reply = reply.Done [] }))
     (search (rules, arith)) refl refl
 
--- no descriptor stands behind a link
+-- no descriptor comes after a link
 pub late_descriptor : IsWrongTranscript (with_line_5 (codes "fd 0 0 ip 0")) 5 cause.Form
 unfolding digits
 late_descriptor = misplaced_at_5 (codes "fd 0 0 ip 0") (search rules) descriptor (search (rules, arith)) refl refl
 
--- a transcript without the line `end` is cut at the line behind its last
+-- a transcript without the line `end` is cut at the line after its last one
 pub no_end : IsWrongTranscript (codes "transcript 1\nconfig\nnext 1 1\n") 4 cause.Cut
 unfolding digits
 no_end =
@@ -215,14 +215,14 @@ one_hung = record {
 }
 
 -- a transcript of which the line of one hung-up stream was read
-abbrev behind_hung : TranscriptSoFar
+abbrev behind_hung : TranscriptDraft
 behind_hung = draft stage.View one_hung
 
 -- the line of a full place, on the read side of minor 0 of `eth`
 abbrev full_place : TranscriptLine
 full_place = line.Full (record { driver = codes "eth"; minor = 0; side = side.Read })
 
--- no full place stands behind a hung-up stream
+-- no full place comes after a hung-up stream
 pub late_full_place : IsWrongTranscript
     (codes "transcript 2\nconfig\nnext 1 1\nhung eth 0\nfull eth 0 r\nend\n") 5 cause.Form
 unfolding digits
@@ -232,9 +232,9 @@ late_full_place =
     (refused_line V2 (lines behind_hung) full_place (codes "full eth 0 r") (search (rules, arith)) refl cause.Form
     (misplaced behind_hung full_place refl))
 
--- ---- lines of one kind that are none
+-- ---- lines that spell nothing of their kind
 
--- words of none of the lines of the kind that their first word tells are no line of a transcript
+-- words that are no line of the kind that their first word names are no line of a transcript
 no_kind : (ls : List TranscriptLine) (n : ℕ) (ws : List (List ℕ)) → AllByRecursion (IsFree SPACE) ws × (0 < length ws)
     → kind_at (first_word ws) ≡ n
     → ((k : TranscriptLine) → FitsLine V1 k → ws ≡ line_words k → kind_of k ≡ n → ⊥)
@@ -244,7 +244,7 @@ no_kind ls n ws free is none k fits may e =
     none k fits same (sym (kind_first V1 k fits)
     ∙ ap (λ (vs : List (List ℕ)). kind_at (first_word vs)) (sym same) ∙ is)
 
--- words of the kind of an entry that are no entry are no line behind one driver
+-- words that begin like an entry but are no entry are no line after one driver
 no_entry : (ws : List (List ℕ)) → AllByRecursion (IsFree SPACE) ws × (0 < length ws)
     → kind_at (first_word ws) ≡ 0 → ((e : AnyEntry) → FitsEntryIn V1 e → ws ≢ entry_words e)
     → IsNoLine (transcript_grammar V1) (lines behind_driver) (line_of ws)
@@ -290,16 +290,16 @@ half_reply c r e = by_kind c (verb_first c verb.Clone _ _ e) e where
   by_kind (command.OpenClone d) v e = no_reply r (cc e)
   by_kind c v e = absurd (cc v)
 
--- `EINVAL` alone is no reply: a second word tells its cause
+-- `EINVAL` alone is not a reply: a second word names its cause
 pub half_a_fault : IsWrongTranscript (with_line_3 (codes "0 clone ip = EINVAL")) 3 cause.Form
 half_a_fault =
     wrong_at_3 (codes "0 clone ip = EINVAL") (search rules)
     (no_entry (codes "0" ∷ codes "clone" ∷ codes "ip" ∷ codes "=" ∷ codes "EINVAL" ∷ [])
     (search rules, omega arith) refl (λ e fits is. half_reply e.command e.reply (cc is)))
 
--- ---- lines that are of version 2 alone
+-- ---- lines of version 2 only
 
--- an entry of version 2 alone, as line 3 of a text of version 1
+-- an entry of version 2 only, as line 3 of a text of version 1
 told_later : (x : AnyEntry) → FitsEntry x → is_of_hangup x ≡ true
     → AllByRecursion (IsFree SPACE) (entry_words x) × (0 < length (entry_words x)) → IsOneLine (line_of (entry_words x))
     → kind_at (first_word (entry_words x)) ≡ 0 → IsWrongTranscript (with_line_3 (line_of (entry_words x))) 3 cause.Form

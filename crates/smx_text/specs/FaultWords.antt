@@ -1,4 +1,4 @@
--- The words in which a fault of a text prints itself.
+-- The words that a text fault prints.
 use Rattle.std.specs.Prelude.{ℕ, List, ◌++◌, codes}
 use Rattle.std.specs.Fmt.{decimal}
 use Rattle.smx_text.specs.declared.text_fault.Cause.{Cause}
@@ -14,6 +14,6 @@ cause_words cause.Cut = codes "cut"
 cause_words cause.Trailing = codes "trailing"
 cause_words cause.NoMemory = codes "no memory"
 
--- the line, and what is wrong with it
+-- the line number, and the cause
 abbrev pub text_fault_words : TextFault → List ℕ
 text_fault_words fault = codes "line " ++ (decimal fault.line ++ (codes ": " ++ cause_words fault.cause))

@@ -7,12 +7,7 @@ pub mod ProgramsText
 pub mod TranscriptLines
 pub mod TranscriptText
 pub mod GrowingTranscripts
-pub mod TakenHistories
 pub mod Drafts
-pub mod Growing
-pub mod TakenPrograms
-pub mod SplitPrograms
 pub mod WorkedTexts
 pub mod WorkedFaults
 pub mod WorkedLines
-pub mod WorkedHistories

@@ -20,14 +20,14 @@ line_words (line.Process number) = process_words number
 line_words (line.Command c) = command_words c
 line_words line.End = codes "end" ∷ []
 
--- what it says can be spelled, and told in this version
+-- the line can be spelled, and this version can express it
 abbrev pub FitsLine : Version → Line → Type 0
 FitsLine version (line.Driver d) = FitsDriver d
 FitsLine version (line.Process number) = FitsNumber number
 FitsLine version (line.Command c) = FitsCommandIn version c
 FitsLine version line.End = Unit {0}
 
--- from process n on, each process' line and then its commands
+-- starting at process n: the line of each process, followed by its commands
 abbrev pub program_lines : ℕ → List (List Command) → List Line
 program_lines n [] = []
 program_lines n (commands ∷ programs) =
@@ -37,7 +37,7 @@ program_lines n (commands ∷ programs) =
 abbrev pub body : ProgramLists → List Line
 body v = map line.Driver v.drivers ++ program_lines 0 v.programs
 
--- of this version, within its limits, and each line can be spelled
+-- `v` has this version, is within its limits, and each of its lines can be spelled
 pub record IsAllowed (version : Version) (v : ProgramLists) : Type 0 where
   pub version_is : v.version ≡ version
   pub drivers : length v.drivers ≤ most_drivers version
@@ -45,7 +45,7 @@ pub record IsAllowed (version : Version) (v : ProgramLists) : Type 0 where
   pub commands : sum_by length v.programs ≤ MAX_COMMANDS
   pub fits : AllByRecursion (FitsLine version) (body v)
 
--- the grammar of this text in a version
+-- the grammar of the programs text in each version
 abbrev pub programs_grammar : Version → Grammar ProgramLists Line
 programs_grammar version = record {
   header_words = codes "programs" ∷ version_word version ∷ [];

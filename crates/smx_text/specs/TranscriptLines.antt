@@ -1,4 +1,4 @@
--- The lines of a transcript text behind its header.
+-- The lines of a transcript text after its header.
 use Rattle.std.specs.Prelude.{ℕ}
 use Rattle.smx_types.specs.declared.command.Entry.{Entry as AnyEntry}
 use Rattle.smx_types.specs.declared.driver.DriverSpec.{DriverSpec}
@@ -10,8 +10,8 @@ use Rattle.smx_types.specs.declared.view.LinkLine.{LinkLine}
 use Rattle.smx_types.specs.declared.view.MessageLine.{MessageLine}
 use Rattle.smx_types.specs.declared.view.RouteLine.{RouteLine}
 
--- a driver, an entry of the history, the start of the configuration, the next id and the next serial, a line
--- of the view, the end
+-- a driver; an entry of the history; the start of the configuration; the next id and the next serial; the lines of
+-- the view; the end
 pub data TranscriptLine : Type 0 where
   Driver : DriverSpec → TranscriptLine
   Entry : AnyEntry → TranscriptLine

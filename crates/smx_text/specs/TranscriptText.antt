@@ -1,11 +1,10 @@
--- The transcript text: drivers, history, and the configuration at its end.
+-- The transcript text: drivers, history, and the final configuration.
 use Rattle.std.specs.Prelude.{◌≡◌, ◌≤◌, ℕ, true, List, [], ◌∷◌, ◌++◌, length, map, codes}
 use Rattle.std.specs.List.{AllByRecursion}
-use Rattle.smx_types.specs.Versions.{least_of_transcript, most_drivers}
+use Rattle.smx_types.specs.Versions.{most_drivers}
 use Rattle.smx_types.specs.declared.limits.TheConstants.{MAX_COMMANDS}
 use Rattle.smx_types.specs.declared.transcript.Transcript.{Transcript}
 use Rattle.smx_types.specs.declared.version.Version.{Version}
-use Rattle.smx_types.specs.declared.version.Version.TheVariants.{V1}
 use Rattle.smx_types.specs.declared.view.ConfigView.{ConfigView}
 use Rattle.smx_types.specs.declared.view.HungLine.{HungLine}
 use Rattle.smx_words.specs.Spelling.{driver_words, entry_words, next_words, descriptor_words, link_words}
@@ -33,11 +32,11 @@ line_words (line.Full f) = full_words f
 line_words (line.Hung h) = hung_words h
 line_words line.End = codes "end" ∷ []
 
--- a hung-up stream can be spelled, and told in this version
+-- the hung-up stream can be spelled, and this version can express it
 abbrev pub FitsHungIn : Version → HungLine → Type 0
 FitsHungIn version h = FitsHung h × CanTell version true
 
--- what it says can be spelled, and told in this version
+-- the line can be spelled, and this version can express it
 abbrev pub FitsLine : Version → TranscriptLine → Type 0
 FitsLine version (line.Driver d) = FitsDriver d
 FitsLine version (line.Entry e) = FitsEntryIn version e
@@ -52,14 +51,14 @@ FitsLine version (line.Full f) = FitsFull f
 FitsLine version (line.Hung h) = FitsHungIn version h
 FitsLine version line.End = Unit {0}
 
--- what comes next, and then open descriptors, links, bindings, routes, messages, full places and hung-up streams
+-- the next id and serial, then descriptors, links, bindings, routes, messages, full places and hung-up streams
 abbrev pub view_body : ConfigView → List TranscriptLine
 view_body v =
     line.Next v.next_id v.next_serial ∷ (map line.Fd v.fds
     ++ (map line.Link v.links ++ (map line.Bind v.binds ++ (map line.Route v.routes
     ++ (map line.Msg v.msgs ++ (map line.Full v.fulls ++ map line.Hung v.hungs))))))
 
--- the lines of a view with `config` above them, as they stand in a transcript before its last line
+-- the line `config` and the lines of a view, as in a transcript before its last line
 abbrev pub view_lines : ConfigView → List ℕ
 view_lines v = codes "config\n" ++ text_of (map line_words (view_body v))
 
@@ -67,7 +66,7 @@ view_lines v = codes "config\n" ++ text_of (map line_words (view_body v))
 abbrev pub body : Transcript → List TranscriptLine
 body t = map line.Driver t.drivers ++ (map line.Entry t.entries ++ line.Config ∷ view_body t.view)
 
--- each line of a view can be spelled
+-- each line of a view can be spelled, whatever the version
 pub record IsSpellableView (v : ConfigView) : Type 0 where
   pub next_id : FitsNumber v.next_id
   pub next_serial : FitsNumber v.next_serial
@@ -79,21 +78,20 @@ pub record IsSpellableView (v : ConfigView) : Type 0 where
   pub fulls : AllByRecursion FitsFull v.fulls
   pub hungs : AllByRecursion FitsHung v.hungs
 
--- each line can be spelled
+-- each line can be spelled, whatever the version
 pub record IsSpellable (t : Transcript) : Type 0 where
   pub drivers : AllByRecursion FitsDriver t.drivers
   pub entries : AllByRecursion FitsEntry t.entries
   pub view : IsSpellableView t.view
 
--- of this version, which can tell it, and within its limits, and each line can be spelled
+-- a transcript of this version, within its limits, whose lines can all be spelled in this version
 pub record IsAllowed (version : Version) (t : Transcript) : Type 0 where
   pub version_is : t.version ≡ version
   pub drivers : length t.drivers ≤ most_drivers version
   pub entries : length t.entries ≤ MAX_COMMANDS
-  pub spellable : IsSpellable t
-  pub told : version ≡ V1 → least_of_transcript t ≡ V1
+  pub fits : AllByRecursion (FitsLine version) (body t)
 
--- the grammar of this text in a version
+-- the grammar of the transcript text in each version
 abbrev pub transcript_grammar : Version → Grammar Transcript TranscriptLine
 transcript_grammar version = record {
   header_words = codes "transcript" ∷ version_word version ∷ [];

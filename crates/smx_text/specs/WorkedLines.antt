@@ -1,4 +1,4 @@
--- Lines of programs, for what is answered to one that comes behind others.
+-- Lines of programs, as examples of the result for a line that follows other lines.
 use Rattle.std.specs.Prelude.{ℕ, [], List, replicate, Result, Ok, Err}
 use Rattle.smx_types.specs.ProgramLists.{ProgramLists}
 use Rattle.smx_types.specs.declared.command.Command.TheVariants as command
@@ -13,11 +13,11 @@ use Rattle.smx_text.specs.ProgramsText.{body, programs_grammar}
 abbrev pub grammar : Grammar ProgramLists Line
 grammar = programs_grammar V1
 
--- so many processes, none with a command
+-- n processes, none with a command
 abbrev pub idle : ℕ → ProgramLists
 idle n = record { version = V1; drivers = []; programs = replicate n [] }
 
--- the lines of so many processes, none with a command
+-- the lines of n processes, none with a command
 abbrev pub idle_lines : ℕ → List Line
 idle_lines n = body (idle n)
 
@@ -29,10 +29,10 @@ process n = line.Process n
 abbrev pub dup : Line
 dup = line.Command (command.Dup 0)
 
--- what is answered to a line that is taken
+-- the result for a line that is accepted
 abbrev pub taken : Result (Unit {0}) Cause
 taken = Ok tt
 
--- what is answered to a line that is refused
+-- the result for a line that is refused
 abbrev pub refused : Cause → Result (Unit {0}) Cause
 refused why = Err why

@@ -1,4 +1,4 @@
--- Worked texts: values with each kind of line, command and reply, and their texts, both typed in.
+-- Worked texts: values with each kind of line, command and reply, and their texts, both written out by hand.
 use Rattle.std.specs.Prelude.{◌≡◌, ℕ, [], ◌∷◌, ◌++◌, List, Ok, Err, refl, codes}
 use Rattle.std.specs.Fmt.{digits}
 use Rattle.hex.specs.Hex.{encode_with}
@@ -30,7 +30,7 @@ drivers =
 
 -- ---- programs
 
--- each kind of command in one program, none in the next, and one in the last
+-- each kind of command in the first program, none in the second, one in the last
 abbrev pub programs : ProgramLists
 programs = program_lists drivers ((
     command.OpenClone (codes "ip")
@@ -87,7 +87,7 @@ stops_at = refl
 pub is_shortest_text : programs_text (program_lists [] []) ≡ codes "programs 1\nend\n"
 is_shortest_text = refl
 
--- hangups, which version 2 alone can tell
+-- hangups, which only version 2 can express
 abbrev pub hangups : ProgramLists
 hangups = program_lists drivers ((command.Hangup (codes "eth") 1 ∷ command.Hangup (codes "ip") 4294967295 ∷ []) ∷ [])
 
@@ -102,7 +102,7 @@ pub is_text_of_hangups : programs_text hangups ≡ hangups_bytes
 unfolding digits
 is_text_of_hangups = refl
 
--- programs that version 1 can tell have a text in version 2 too
+-- programs that version 1 can express also have a text in version 2
 pub is_raised_text : programs_text (raised (program_lists [] [])) ≡ codes "programs 2\nend\n"
 is_raised_text = refl
 
@@ -202,7 +202,7 @@ is_transcript = refl
 pub transcript_ends_at : last_line (transcript_grammar V1) (Ok transcript) ≡ 36
 transcript_ends_at = refl
 
--- a hangup, and each reply that tells of one
+-- a hangup, and each reply that reports one
 abbrev pub entries_of_hangups : List Entry
 entries_of_hangups =
     record { process = 0; command = command.Hangup (codes "eth") 1; reply = reply.Done [] }
@@ -211,7 +211,7 @@ entries_of_hangups =
     ∷ record { process = 0; command = command.Transmit (codes "eth") 1; reply = reply.Fault fault.HungUp }
     ∷ []
 
--- the drivers, such a history, and a view with hung-up streams, which version 2 alone can tell
+-- the drivers, a history with hangups, and a view with hung-up streams: only version 2 can express it
 abbrev pub transcript_of_hangups : Transcript
 transcript_of_hangups = record {
   version = V2;
@@ -238,7 +238,7 @@ pub is_transcript_of_hangups : transcript_text transcript_of_hangups ≡ transcr
 unfolding digits encode_with
 is_transcript_of_hangups = refl
 
--- a transcript that version 1 can tell, in version 2
+-- a transcript of version 2 that version 1 could also express
 abbrev pub shortest_transcript : Transcript
 shortest_transcript = record {
   version = V2;

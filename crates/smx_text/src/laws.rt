@@ -1,78 +1,93 @@
-//! Laws of the texts, in each version.
+//! The laws of both texts, in each version.
 
-ghost use Rattle.std.specs.Prelude.{◌≡◌, ◌≢◌, ◌<◌, List, ℕ, Result, Ok, MatchResult, IfErr};
+ghost use Rattle.std.specs.Prelude.{◌≡◌, ◌≢◌, ◌<◌, ◌≤◌, List, ℕ, Result, Ok, MatchResult, IfErr, length};
 ghost use Rattle.smx_types.specs.ProgramLists.{ProgramLists};
 ghost use Rattle.smx_text.specs.declared.text_fault.TextFault.{TextFault};
 ghost use Rattle.smx_text.specs.declared.text_fault.Cause.TheVariants.{NoMemory};
 ghost use Rattle.smx_types.specs.declared.transcript.Transcript.{Transcript};
+ghost use Rattle.smx_types.specs.Versions.{least_of_transcript, most_drivers};
+ghost use Rattle.smx_types.specs.declared.limits.TheConstants.{MAX_COMMANDS};
 ghost use Rattle.smx_types.specs.declared.version.Version.{Version};
+ghost use Rattle.smx_types.specs.declared.version.Version.TheVariants.{V1};
 ghost use Rattle.smx_text.specs.TranscriptText.{transcript_grammar, transcript_text};
-ghost use Rattle.smx_text.specs.TranscriptText.{IsAllowed as TranscriptIsAllowed};
+ghost use Rattle.smx_text.specs.TranscriptText.{IsAllowed as TranscriptIsAllowed, IsSpellable};
 ghost use Rattle.smx_text.specs.Grammar.{IsFault, ReadsAny, last_line};
 ghost use Rattle.smx_text.specs.ProgramsText.{IsAllowed, programs_grammar, programs_text};
 
-/// What is written of programs is read as those programs, unless memory runs out.
+/// The text that `write_programs` writes is read as the same programs, unless memory runs out.
 pub fn written_is_read()
     ensures { (v : ProgramLists) (r : Result ProgramLists TextFault)
         → IsAllowed v.version v → ReadsAny programs_grammar (programs_text v) r
         → MatchResult r (λ w. w ≡ v) (λ f. f.cause ≡ NoMemory) }
 {}
 
-/// A text that is read is the one that is written of what was read.
+/// A text that is read equals the text that is written for the result.
 pub fn read_is_written()
     ensures { (bytes : List ℕ) (v : ProgramLists)
         → ReadsAny programs_grammar bytes (Ok v) → bytes ≡ programs_text v }
 {}
 
-/// Two readings of one text are the same, faults and their lines among them, unless memory runs out.
+/// Two readings of one text have the same result, including the fault and its line, unless memory runs out.
 pub fn one_text_has_one_reading()
     ensures { (bytes : List ℕ) (r s : Result ProgramLists TextFault)
         → ReadsAny programs_grammar bytes r → ReadsAny programs_grammar bytes s
         → IfErr r (λ f. f.cause ≢ NoMemory) → IfErr s (λ f. f.cause ≢ NoMemory) → r ≡ s }
 {}
 
-/// Any bytes have a reading, so that want of memory is never the only answer.
+/// Any bytes have a reading, so out of memory is never the only possible result.
 pub fn each_text_has_a_reading()
     ensures { (bytes : List ℕ) → (r : Result ProgramLists TextFault)
         × ReadsAny programs_grammar bytes r × IfErr r (λ f. f.cause ≢ NoMemory) }
 {}
 
-/// Want of memory is told only at a line before that at which any other reading ends: before the fault,
-/// or before the line `end` of a text that spells some programs. So no fault hides behind it.
+/// A reader reports out of memory only at a line before the one where any other reading ends: before the fault, or
+/// before the line `end` of a text that spells some programs. So out of memory hides no fault.
 pub fn want_of_memory_comes_before()
     ensures { (version : Version) (bytes : List ℕ) (line : ℕ) (r : Result ProgramLists TextFault)
         → IsFault (programs_grammar version) bytes line NoMemory → ReadsAny programs_grammar bytes r
         → IfErr r (λ f. f.cause ≢ NoMemory) → line < last_line (programs_grammar version) r }
 {}
 
-/// What is written of a transcript within the limits is read as that transcript, unless memory runs out.
+/// The text that `write_transcript` writes for a transcript within the limits is read as the same transcript, unless
+/// memory runs out.
 pub fn transcript_written_is_read()
     ensures { (t : Transcript) (r : Result Transcript TextFault)
         → TranscriptIsAllowed t.version t → ReadsAny transcript_grammar (transcript_text t) r
         → MatchResult r (λ u. u ≡ t) (λ f. f.cause ≡ NoMemory) }
 {}
 
-/// A text that is read is the one that is written of what was read.
+/// A text that is read equals the text that is written for the result.
 pub fn transcript_read_is_written()
     ensures { (bytes : List ℕ) (t : Transcript)
         → ReadsAny transcript_grammar bytes (Ok t) → bytes ≡ transcript_text t }
 {}
 
-/// Two readings of one text are the same, faults and their lines among them, unless memory runs out.
+/// A transcript is allowed in its version exactly if it is within the limits of the version, all of it can be spelled,
+/// and it needs no later version.
+pub fn allowed_transcripts_can_be_spelled()
+    ensures spelled { (version : Version) (t : Transcript) → TranscriptIsAllowed version t → IsSpellable t }
+    ensures told { (version : Version) (t : Transcript)
+        → TranscriptIsAllowed version t → version ≡ V1 → least_of_transcript t ≡ V1 }
+    ensures allowed { (version : Version) (t : Transcript)
+        → t.version ≡ version → length t.drivers ≤ most_drivers version → length t.entries ≤ MAX_COMMANDS
+        → IsSpellable t → (version ≡ V1 → least_of_transcript t ≡ V1) → TranscriptIsAllowed version t }
+{}
+
+/// Two readings of one text have the same result, including the fault and its line, unless memory runs out.
 pub fn one_transcript_has_one_reading()
     ensures { (bytes : List ℕ) (r s : Result Transcript TextFault)
         → ReadsAny transcript_grammar bytes r → ReadsAny transcript_grammar bytes s
         → IfErr r (λ f. f.cause ≢ NoMemory) → IfErr s (λ f. f.cause ≢ NoMemory) → r ≡ s }
 {}
 
-/// Any bytes have a reading, so that want of memory is never the only answer.
+/// Any bytes have a reading, so out of memory is never the only possible result.
 pub fn each_transcript_has_a_reading()
     ensures { (bytes : List ℕ) → (r : Result Transcript TextFault)
         × ReadsAny transcript_grammar bytes r × IfErr r (λ f. f.cause ≢ NoMemory) }
 {}
 
-/// Want of memory is told only at a line before that at which any other reading ends: before the fault,
-/// or before the line `end` of a text that spells a transcript. So no fault hides behind it.
+/// A reader reports out of memory only at a line before the one where any other reading ends: before the fault, or
+/// before the line `end` of a text that spells a transcript. So out of memory hides no fault.
 pub fn transcript_want_of_memory_comes_before()
     ensures { (version : Version) (bytes : List ℕ) (line : ℕ) (r : Result Transcript TextFault)
         → IsFault (transcript_grammar version) bytes line NoMemory → ReadsAny transcript_grammar bytes r

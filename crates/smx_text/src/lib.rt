@@ -1,21 +1,17 @@
-//! The texts of a STREAMS multiplexer: what each value's one spelling is, its reader and its writer.
+//! The texts of a STREAMS multiplexer: the one spelling of each value, its reader and its writer.
 #![tactic(auto)]
 
 pub mod laws;
 pub mod laws_of_lines;
-pub mod laws_of_split_texts;
 mod programs;
 mod reading;
 mod text_fault;
 mod transcript;
-mod transcript_writer;
+mod transcript_pieces;
 pub mod worked_texts;
 mod write;
 
-pub use programs::{
-    ProgramTaker, SplitPrograms, TakenPrograms, next_command, read_programs, split_programs,
-    take_programs,
-};
+pub use programs::read_programs;
 pub use reading::next_line;
 pub use smx_types::{
     Binding, BindingLine, BindingLines, Bytes, Command, Commands, ConfigView, Copied, Descriptor,
@@ -27,6 +23,6 @@ pub use smx_types::{
     RouteLines, Same, Serials, Side, Sides, SpecFault, StreamId, Transcript, Version, Which,
 };
 pub use text_fault::{Cause, TextFault};
-pub use transcript::{TakenTranscript, TranscriptTaker, read_transcript, take_transcript};
-pub use transcript_writer::{TranscriptWriter, transcript_opening, write_view};
+pub use transcript::read_transcript;
+pub use transcript_pieces::{add_entry_line, finish_transcript, transcript_opening, write_view};
 pub use write::{write_programs, write_transcript};

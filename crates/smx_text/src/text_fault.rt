@@ -7,25 +7,25 @@ use smx_types::NoMemory;
 use std::alloc::AllocFailed;
 use std::fmt;
 
-/// What is wrong with a line of a text.
+/// The cause of a fault at a line of a text.
 #[derive(Clone, Copy, Debug, PartialEq, Eq)]
 pub enum Cause {
     /// The first line is whole and is not the header.
     Header,
-    /// A whole line is none of those that may stand there.
+    /// The line is whole, but it is not one of the lines allowed there.
     Form,
-    /// A well-formed line is one more than there may be of its kind.
+    /// The line is well-formed, but the limit for lines of its kind is reached.
     Many,
     /// No line feed follows before the input ends, or the input ends before the line `end`.
     Cut,
     /// A byte follows the line `end`.
     Trailing,
-    /// A growth was refused while the line was read. It is well-formed, may stand there and is not one too
-    /// many, so that no other cause hides behind it.
+    /// An allocation failed while the line was read. The line is well-formed, allowed there and within the limit, so
+    /// that out of memory hides no other cause.
     NoMemory,
 }
 
-/// The first line at which something is wrong, numbered from 1, and what that is.
+/// The first fault of a text: its line, numbered from 1, and its cause.
 #[derive(Clone, Copy, Debug, PartialEq, Eq)]
 pub struct TextFault {
     pub line: usize,
@@ -33,7 +33,7 @@ pub struct TextFault {
 }
 
 impl Cause {
-    // The fault at a line.
+    // Returns this cause as a fault at `line`.
     pub(crate) fn at(self, line: usize) -> TextFault
         ensures { result ≡ record { line = line; cause = self } }
     {

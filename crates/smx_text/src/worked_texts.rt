@@ -1,4 +1,4 @@
-//! Worked texts: what some bytes spell, and where others go wrong, as the examples of `docs/FORMATS.md` do.
+//! Worked texts: which values some bytes spell, and where others are invalid, as in the examples of `docs/FORMATS.md`.
 
 ghost use Rattle.std.specs.Prelude.{[], codes};
 ghost use Rattle.smx_text.specs.declared.text_fault.Cause.TheVariants.{Header, Form, Many, Cut, Trailing};
@@ -11,14 +11,14 @@ ghost use Rattle.smx_text.specs.WorkedTexts.{transcript_of_hangups_bytes, shorte
 ghost use Rattle.smx_text.specs.WorkedFaults.{AreWrongPrograms, IsWrongTranscript, with_line_3, with_line_4};
 ghost use Rattle.smx_text.specs.WorkedFaults.{with_line_5, with_processes, with_drivers};
 
-/// Texts with each kind of line, command and reply of version 1, and the shortest of programs.
+/// Texts with each kind of line, command and reply of version 1, and the shortest text of programs.
 pub fn right_texts()
     ensures each_command { SpellsPrograms programs_bytes programs }
     ensures shortest { SpellsPrograms (codes "programs 1\nend\n") (program_lists [] []) }
     ensures each_reply { SpellsTranscript transcript_bytes transcript }
 {}
 
-/// Texts of version 2, with each kind of line, command and reply that it alone has, and without any.
+/// Texts of version 2: with each kind of line, command and reply that only it has, and without any of them.
 pub fn right_texts_of_version_2()
     ensures hangups { SpellsPrograms hangups_bytes hangups }
     ensures shortest { SpellsPrograms (codes "programs 2\nend\n") (raised (program_lists [] [])) }
@@ -27,8 +27,8 @@ pub fn right_texts_of_version_2()
         (codes "transcript 2\nconfig\nnext 1 1\nend\n") shortest_transcript }
 {}
 
-/// A number has no leading zero, no sign and 32 bits; a name begins with a letter and is not too long; bytes
-/// are pairs of lower-case digits; each word stands where it has to, with one space between two.
+/// A number has no leading zero, no sign and at most 32 bits. A name begins with a letter and is not too long. Bytes
+/// are pairs of lower-case digits. Each word is at its place, with exactly one space between two words.
 pub fn wrong_commands()
     ensures two_zeros { AreWrongPrograms (with_line_4 (codes "dup 00")) 4 Form }
     ensures a_sign { AreWrongPrograms (with_line_4 (codes "dup +1")) 4 Form }
@@ -46,7 +46,7 @@ pub fn wrong_commands()
     ensures no_word { AreWrongPrograms (with_line_4 []) 4 Form }
 {}
 
-/// A line stands in its place, a text has its header and its end, and nothing behind it.
+/// Each line is at its place; a text has its header and its end, and nothing after the end.
 pub fn wrong_programs()
     ensures nothing { AreWrongPrograms [] 1 Cut }
     ensures cut_header { AreWrongPrograms (codes "programs 1") 1 Cut }
@@ -64,7 +64,8 @@ pub fn wrong_programs()
     ensures a_space_behind { AreWrongPrograms (codes "programs 1\nprocess 0\nend\n ") 4 Trailing }
 {}
 
-/// A process is below 64, a reply is one; entries stand above the configuration, and groups in their order.
+/// A process is below 64, and a reply is one of the replies. Entries come before the configuration, and
+/// groups in order.
 pub fn wrong_transcripts()
     ensures other_header { IsWrongTranscript (codes "programs 1\nend\n") 1 Header }
     ensures version_3 { IsWrongTranscript (codes "transcript 3\n") 1 Header }
@@ -81,7 +82,7 @@ pub fn wrong_transcripts()
     ensures no_end { IsWrongTranscript (codes "transcript 1\nconfig\nnext 1 1\n") 4 Cut }
 {}
 
-/// No text of version 1 tells of a hangup, and none has a 65th driver. In version 2 the 129th is one too many.
+/// No text of version 1 has a hangup, or a 65th driver. In version 2 the 129th driver is over the limit.
 pub fn wrong_for_their_version()
     ensures hangup { AreWrongPrograms (with_line_4 (codes "hangup ip 0")) 4 Form }
     ensures told_hangup { IsWrongTranscript (with_line_3 (codes "0 hangup ip 0 = done")) 3 Form }

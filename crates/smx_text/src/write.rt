@@ -10,15 +10,15 @@ ghost use Rattle.smx_text.specs.ProgramsText.{FitsLine, IsAllowed};
 ghost use Rattle.smx_text.specs.TranscriptText.{transcript_text, IsSpellable};
 ghost use Rattle.smx_words.specs.Words.{LINE_FEED, text_of};
 
-use crate::transcript_writer::TranscriptWriter;
+use crate::transcript_pieces::finish_transcript;
 use smx_types::{Commands, NoMemory, Programs, Transcript, Version};
 use smx_words::{write_lines, write_process};
 use std::alloc::Global;
 
-/// The one text of these programs. Fails only for want of memory.
+/// Writes the one text of these programs. Fails only if out of memory.
 pub fn write_programs(alloc: Global, programs: &Programs) -> Result<Vec<u8>, NoMemory>
     ensures written { IfOk result (λ v. v.items ≡ programs_text programs.now) }
-    // So what is written is read again, whatever these programs are.
+    // The text can be read back, whatever these programs are.
     ensures allowed { OnOk result (IsAllowed programs.now.version programs.now) }
 {
     let mut out = Vec::from_slice(alloc, first_line(programs.version()))?;
@@ -28,7 +28,7 @@ pub fn write_programs(alloc: Global, programs: &Programs) -> Result<Vec<u8>, NoM
     Ok(out)
 }
 
-// The header, with its line feed.
+// Returns the header, with its line feed.
 fn first_line(version: Version) -> &'static [u8]
     ensures { result.now ≡ header (programs_grammar version) ++ LINE_FEED ∷ [] }
 {
@@ -38,24 +38,21 @@ fn first_line(version: Version) -> &'static [u8]
     }
 }
 
-/// The one text of this transcript, which its version can tell. Fails only for want of memory.
+/// Writes the one text of this transcript, which its version must be able to express. Fails only if out of memory.
 pub fn write_transcript(alloc: Global, transcript: &Transcript) -> Result<Vec<u8>, NoMemory>
     requires { transcript.now.version ≡ V1 → least_of_transcript transcript.now ≡ V1 }
     ensures written { IfOk result (λ v. v.items ≡ transcript_text transcript.now) }
-    // So what is written is read again, where the transcript is within the limits.
+    // The text can be read back, if the transcript is within the limits.
     ensures spellable { OnOk result (IsSpellable transcript.now) }
 {
-    let mut writer = TranscriptWriter::begin(
-        Vec::new(alloc),
-        transcript.version,
-        transcript.drivers.as_slice(),
-    )?;
-    writer.add(transcript.entries.as_slice())?;
-    let text = writer.finish(&transcript.view)?;
+    let mut lines = Vec::new(alloc);
+    write_lines(&mut lines, transcript.entries.as_slice())?;
+    let drivers = transcript.drivers.as_slice();
+    let text = finish_transcript(lines, transcript.version, drivers, &transcript.view)?;
     Ok(text)
 }
 
-// Each program behind the line of its process.
+// Writes each program after the line of its process.
 fn write_each(out: &mut Vec<u8>, programs: &[Commands]) -> Result<(), NoMemory>
     requires { length programs.now < 2 ^ 32 }
     ensures written { OnOk result (out.new.items

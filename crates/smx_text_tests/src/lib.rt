@@ -1,4 +1,4 @@
-//! Tests of texts, and of the values in them, that go by the public calls of the libraries alone.
+//! Tests of texts, and of the values in them, through the public calls of the libraries only.
 #![tactic(auto)]
 
 #[cfg(test)]

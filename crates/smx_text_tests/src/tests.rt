@@ -1,15 +1,15 @@
-//! Texts that were typed in, and what comes of them.
+//! Texts that were typed in, and what the libraries make of them.
 
 mod at_limits;
+mod copied_values;
 mod copies;
 mod driver_counts;
 mod entries;
 mod faults;
-mod line_parts;
+mod opens_and_closes;
+mod plain_values;
 mod program_texts;
+mod replies;
 mod spelling;
-mod split_texts;
 mod sweeps;
-mod taken_entries;
-mod taken_lines;
 mod transcript_texts;

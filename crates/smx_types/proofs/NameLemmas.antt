@@ -1,4 +1,4 @@
--- Comparing names, and making them of bytes. No public clause needs this.
+-- Compares names, and makes them from bytes. No public clause needs this.
 use Rattle.std.proofs.Common.{◌≡◌, refl, sym, ap, ◌∙◌, ℕ, suc, zero, ◌+◌, ◌-◌, ◌*◌, ◌^◌, ◌<◌, ◌≤◌, true, ◌&&◌, nat_eq}
 use Rattle.std.proofs.Common.{List, [], ◌∷◌, ◌++◌, length, drop, get_or, drop_of_length-le, arith, rules}
 use Rattle.std.specs.Cmp.Lexicographic.{pointwise}
@@ -11,7 +11,7 @@ use Rattle.std.proofs.lemmas.Nat.{le_bytes_8}
 use Rattle.std.proofs.lemmas.Slice.Eq.{slice_eq-Decides}
 use Rattle.smx_types.specs.Names.{is_name_byte, padded}
 
--- eight bytes are the same where the numbers are that they spell
+-- two lists of eight bytes are equal if the numbers that they spell are equal
 pub same_numbers : (xs ys : List ℕ) (m n : ℕ) → length xs ≡ 8 → length ys ≡ 8
     → ((i : ℕ) → get_or xs i 0 < 256) → ((i : ℕ) → get_or ys i 0 < 256)
     → m ≡ from_le_bytes w64 xs → n ≡ from_le_bytes w64 ys → nat_eq m n ≡ pointwise nat_eq xs ys
@@ -26,12 +26,12 @@ same_numbers xs ys m n lx ly sx sy em en =
 
 -- ---- the bytes of a name as a number
 
--- the number whose lowest bytes these are, the first of them the lowest
+-- the number with these bytes, the first of which is the lowest
 unfoldable pub number : List ℕ → ℕ
 number [] = 0
 number (b ∷ bs) = 256 * number bs + b
 
--- from each place on, what is behind it counts 256 times
+-- the number of the bytes from one index on is 256 times that of the bytes after them, plus the byte at the index
 one_more : (bs : List ℕ) (k : ℕ) → number (drop k bs) ≡ 256 * number (drop (suc k) bs) + get_or bs k 0
 unfolding number
 one_more [] zero = refl
@@ -55,46 +55,46 @@ is_read bs few = omega (
   ap number (drop_of_length-le bs few),
 )
 
--- each is a byte
+-- each element is a byte
 abbrev pub AreBytes : List ℕ → Type 0
 AreBytes bs = AllByRecursion (λ b. b < 256) bs
 
--- so is each that is read, and the zero behind them
+-- each element that is read is a byte, and so is the zero past the end
 each_is_byte : (bs : List ℕ) → AreBytes bs → (i : ℕ) → get_or bs i 0 < 256
 each_is_byte [] all i = omega arith
 each_is_byte (b ∷ bs) all zero = all.0
 each_is_byte (b ∷ bs) all (suc i) = each_is_byte bs all.1 i
 
--- so the number of up to eight fits into 64 bits
+-- the number of up to eight bytes fits into 64 bits
 number_fits : (bs : List ℕ) → length bs ≤ 8 → AreBytes bs → number bs < 2 ^ 64
 number_fits bs few all =
     let small = each_is_byte bs all in
     omega (arith, is_read bs few, small 0, small 1, small 2, small 3, small 4, small 5, small 6, small 7)
 
--- each is zero
+-- each element is zero
 abbrev AreZeros : List ℕ → Type 0
 AreZeros zs = AllByRecursion (λ z. z ≡ 0) zs
 
--- so are those that are left behind some
+-- the zeros after the first k are zeros
 zeros_left : (zs : List ℕ) (k : ℕ) → AreZeros zs → AreZeros (drop k zs)
 zeros_left zs zero all = all
 zeros_left [] (suc k) all = tt
 zeros_left (z ∷ zs) (suc k) all = zeros_left zs k all.1
 
--- behind bytes they are bytes too
+-- bytes followed by zeros are bytes
 bytes_then_zeros : (bs zs : List ℕ) → AreBytes bs → AreZeros zs → AreBytes (bs ++ zs)
 bytes_then_zeros [] [] all zeros = tt
 bytes_then_zeros [] (z ∷ zs) all zeros = (omega (arith, zeros.0), bytes_then_zeros [] zs tt zeros.1)
 bytes_then_zeros (b ∷ bs) zs all zeros = (all.0, bytes_then_zeros bs zs all.1 zeros)
 
--- and leave the number as it is
+-- zeros after bytes do not change their number
 number_then_zeros : (bs zs : List ℕ) → AreZeros zs → number bs ≡ number (bs ++ zs)
 unfolding number
 number_then_zeros [] [] zeros = refl
 number_then_zeros [] (z ∷ zs) zeros = omega (arith, zeros.0, number_then_zeros [] zs zeros.1)
 number_then_zeros (b ∷ bs) zs zeros = ap (λ n. 256 * n + b) (number_then_zeros bs zs zeros)
 
--- its bytes are those that it was made of, and zeros up to eight
+-- the bytes of the number are those that it was made from, and zeros up to eight
 pub bytes_of_number : (bs : List ℕ) → length bs ≤ 8 → AreBytes bs → to_le_bytes w64 (number bs) ≡ padded bs
 bytes_of_number bs few all =
     let eight_zeros : List ℕ = 0 ∷ 0 ∷ 0 ∷ 0 ∷ 0 ∷ 0 ∷ 0 ∷ 0 ∷ [] in
@@ -111,7 +111,7 @@ pub name_bytes : (bs : List ℕ) → list_all is_name_byte bs ≡ true → AreBy
 name_bytes [] named = tt
 name_bytes (b ∷ bs) named = (grind (arith, nat_tests), name_bytes bs (grind rules))
 
--- what the bytes from the one before this place on are, where those from this place on are a name's
+-- the bytes from `left - 1` on, if the bytes from `left` on are a name's: all are a name's, and their number fits
 pub record HasOneBefore (bs : List ℕ) (left : ℕ) : Type 0 where
   pub named : list_all is_name_byte (drop (left - 1) bs) ≡ true
   pub value : number (drop (left - 1) bs) ≡ 256 * number (drop left bs) + get_or bs (left - 1) 0

@@ -4,5 +4,4 @@ pub mod Drivers
 pub mod FaultWords
 pub mod Versions
 pub mod ProgramLists
-pub mod GrowingPrograms
 pub mod SameLemmas

@@ -14,7 +14,7 @@ pub record ProgramLists : Type 0 where
   pub drivers : List DriverSpec
   pub programs : List (List Command)
 
--- these two as one value, in the first version that can tell them
+-- these drivers and programs as one value, in the earliest version that can express them
 abbrev pub program_lists : List DriverSpec → List (List Command) → ProgramLists
 program_lists drivers programs =
     record { version = least_of_programs drivers programs; drivers = drivers; programs = programs }
@@ -23,7 +23,7 @@ program_lists drivers programs =
 abbrev pub raised : ProgramLists → ProgramLists
 raised p = record p { version = V2 }
 
--- at most 128 drivers, 64 programs, and 100,000 commands in all of them, and what is of version 1 can be told in it
+-- at most 128 drivers, 64 programs, and 100,000 commands in all of them; programs of version 1 need no later version
 pub record AreWithinLimits (p : ProgramLists) : Type 0 where
   pub drivers : length p.drivers ≤ MAX_DRIVERS
   pub programs : length p.programs ≤ MAX_PROCESSES

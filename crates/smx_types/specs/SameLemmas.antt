@@ -1,4 +1,4 @@
--- What `==` tells of the larger values, where a search through all cases at once finds nothing.
+-- `==` on the larger values, for which one search through all cases at once finds no proof.
 use Rattle.std.specs.Prelude.{◌≡◌, ℕ, Bool, false, List}
 use Rattle.std.proofs.Common.{rules, arith, refl, ap, ◌∙◌, eqb}
 use Rattle.std.specs.Bool.{Decides}
@@ -26,7 +26,7 @@ use Rattle.smx_types.specs.contracts.view.LinkLinePartialEq.TheImpl as of_link_l
 use Rattle.smx_types.specs.contracts.view.MessageLinePartialEq.TheImpl as of_message_line
 use Rattle.smx_types.specs.contracts.view.RouteLinePartialEq.TheImpl as of_route_line
 
--- the test tells exactly whether both are the same
+-- the test returns whether both values are equal
 abbrev pub Tells : {X : Type 0} → (X → X → Bool) → Type 0
 Tells {X} test = (a b : X) → Decides (test a b) (a ≡ b)
 
@@ -52,7 +52,7 @@ number_of (command.Inject _ _ _ _) = 16
 number_of (command.Transmit _ _) = 17
 number_of (command.Hangup _ _) = 18
 
--- commands of two kinds differ, and the test says so
+-- two commands of different kinds differ, and the test returns false
 apart : (a b : Command) → eqb (number_of a) (number_of b) ≡ false → of_command.ghosts.eq a b ≡ false
     → Decides (of_command.ghosts.eq a b) (a ≡ b)
 apart a b other says = (λ h. absurd (cc (h, says)), λ e. absurd (differs e)) where
@@ -62,7 +62,7 @@ apart a b other says = (λ h. absurd (cc (h, says)), λ e. absurd (differs e)) w
       ap (λ (x : Command). eqb (number_of a) (number_of x)) e ∙ other in
       grind (arith, nat_tests)
 
--- whether two commands are the same is told, by a search for each kind, since all at once are too many for one
+-- `==` decides equality of commands, by one search for each kind, since all kinds are too many for one search
 pub command_tells : Tells of_command.ghosts.eq
 command_tells (command.OpenClone k) (command.OpenClone k') = search rules
 command_tells (command.OpenMinor k l) (command.OpenMinor k' l') = search rules
@@ -85,31 +85,31 @@ command_tells (command.Transmit k l) (command.Transmit k' l') = search rules
 command_tells (command.Hangup k l) (command.Hangup k' l') = search rules
 command_tells a b = apart a b refl refl
 
--- whether two replies are the same is told
+-- `==` decides equality of replies
 pub reply_tells : Tells of_reply.ghosts.eq
 reply_tells a b = search rules
 
--- whether two entries are the same is told
+-- `==` decides equality of entries
 pub entry_tells : Tells of_entry.ghosts.eq
 entry_tells a b = search (rules, command_tells, reply_tells)
 
--- whether two lists of drivers are the same is told
+-- `==` decides equality of lists of drivers
 pub drivers_tell : Tells (pointwise of_driver.ghosts.eq)
 drivers_tell = pointwise_decides (λ a b. search rules)
 
--- whether two lists of programs are the same is told
+-- `==` decides equality of lists of programs
 program_lists_tell : Tells (pointwise (pointwise of_command.ghosts.eq))
 program_lists_tell = pointwise_decides (pointwise_decides command_tells)
 
--- whether two lists of entries are the same is told
+-- `==` decides equality of lists of entries
 pub entries_tell : Tells (pointwise of_entry.ghosts.eq)
 entries_tell = pointwise_decides entry_tells
 
--- drivers and programs of no version, as one value
+-- drivers and programs without a version, as one value
 abbrev many_of : List DriverSpec → List (List Command) → Many
 many_of drivers programs = record { drivers = drivers; programs = programs }
 
--- whether drivers and programs of no version are the same is told
+-- `==` decides equality of drivers and programs without a version
 pub many_tells : Tells of_many.ghosts.eq
 many_tells a b =
     let both = Decides-and _ _ (drivers_tell a.drivers b.drivers) (program_lists_tell a.programs b.programs) in (
@@ -117,15 +117,15 @@ many_tells a b =
       λ h. both.1 (ap (λ (m : Many). m.drivers) h, ap (λ (m : Many). m.programs) h),
     )
 
--- whether two versions are the same is told
+-- `==` decides equality of versions
 version_tells : Tells of_version.ghosts.eq
 version_tells a b = search rules
 
--- drivers and programs of a version, as one value
+-- drivers and programs with a version, as one value
 abbrev lists_of : Version → List DriverSpec → List (List Command) → ProgramLists
 lists_of version drivers programs = record { version = version; drivers = drivers; programs = programs }
 
--- whether drivers and programs of a version are the same is told
+-- `==` decides equality of drivers and programs with a version
 pub programs_tell : Tells of_programs.ghosts.eq
 programs_tell a b =
     let both = Decides-and _ _ (drivers_tell a.drivers b.drivers) (program_lists_tell a.programs b.programs) in
@@ -138,35 +138,35 @@ programs_tell a b =
       ),
     )
 
--- whether two lists of open descriptors are the same is told
+-- `==` decides equality of lists of open descriptors
 descriptors_tell : Tells (pointwise of_descriptor_line.ghosts.eq)
 descriptors_tell = pointwise_decides (λ a b. search rules)
 
--- whether two lists of links are the same is told
+-- `==` decides equality of lists of links
 links_tell : Tells (pointwise of_link_line.ghosts.eq)
 links_tell = pointwise_decides (λ a b. search rules)
 
--- whether two lists of bindings are the same is told
+-- `==` decides equality of lists of bindings
 bindings_tell : Tells (pointwise of_binding_line.ghosts.eq)
 bindings_tell = pointwise_decides (λ a b. search rules)
 
--- whether two lists of routes are the same is told
+-- `==` decides equality of lists of routes
 routes_tell : Tells (pointwise of_route_line.ghosts.eq)
 routes_tell = pointwise_decides (λ a b. search rules)
 
--- whether two lists of queued messages are the same is told
+-- `==` decides equality of lists of queued messages
 messages_tell : Tells (pointwise of_message_line.ghosts.eq)
 messages_tell = pointwise_decides (λ a b. search rules)
 
--- whether two lists of full places are the same is told
+-- `==` decides equality of lists of full places
 fulls_tell : Tells (pointwise of_full_line.ghosts.eq)
 fulls_tell = pointwise_decides (λ a b. search rules)
 
--- whether two lists of hung-up streams are the same is told
+-- `==` decides equality of lists of hung-up streams
 hungs_tell : Tells (pointwise of_hung_line.ghosts.eq)
 hungs_tell = pointwise_decides (λ a b. search rules)
 
--- whether two views are the same is told
+-- `==` decides equality of views
 pub view_tells : Tells of_view.ghosts.eq
 view_tells a b =
     search (rules, descriptors_tell, links_tell, bindings_tell, routes_tell, messages_tell, fulls_tell, hungs_tell)

@@ -1,4 +1,4 @@
--- Which version of the texts can tell what.
+-- The values that each version of the texts can express.
 use Rattle.std.specs.Prelude.{ℕ, Bool, true, false, ◌||◌, nat_lt, List, length}
 use Rattle.std.specs.List.{list_any}
 use Rattle.smx_types.specs.declared.command.Command.{Command}
@@ -41,7 +41,7 @@ is_hangup (command.Inject name minor addr bytes) = false
 is_hangup (command.Transmit name minor) = false
 is_hangup (command.Hangup name minor) = true
 
--- the command was refused since its device has hung up
+-- the command was refused because its device has hung up
 abbrev pub is_hung_up : Fault → Bool
 is_hung_up fault.BadDescriptor = false
 is_hung_up fault.Below = false
@@ -61,7 +61,7 @@ is_hung_up fault.Empty = false
 is_hung_up fault.BadSize = false
 is_hung_up fault.HungUp = true
 
--- the reply tells of a device that has hung up: end of file, or that refusal
+-- the reply reports a hangup: end of file, or the refusal after a hangup
 abbrev pub tells_of_hangup : Reply → Bool
 tells_of_hangup (reply.Fd fd minor) = false
 tells_of_hangup (reply.Id id) = false
@@ -71,25 +71,25 @@ tells_of_hangup (reply.Done dropped) = false
 tells_of_hangup reply.Eof = true
 tells_of_hangup (reply.Fault f) = is_hung_up f
 
--- an entry that only version 2 has: of a hangup, or of a reply that tells of one
+-- only version 2 has the entry: its command is a hangup, or its reply reports one
 abbrev pub is_of_hangup : Entry → Bool
 is_of_hangup e = is_hangup e.command || tells_of_hangup e.reply
 
--- version 2 where version 1 can't tell something, and else version 1
+-- version 2 if version 1 can't express something, otherwise version 1
 abbrev pub version_2_where : Bool → Version
 version_2_where true = V2
 version_2_where false = V1
 
--- more drivers than a text of version 1 has
+-- more drivers than version 1 allows
 abbrev pub are_more_drivers : List DriverSpec → Bool
 are_more_drivers drivers = nat_lt MAX_DRIVERS_OF_VERSION_1 (length drivers)
 
--- the first version that can tell drivers and programs
+-- the earliest version that can express these drivers and programs
 abbrev pub least_of_programs : List DriverSpec → List (List Command) → Version
 least_of_programs drivers programs =
     version_2_where (are_more_drivers drivers || list_any (list_any is_hangup) programs)
 
--- the first version that can tell a transcript
+-- the earliest version that can express the transcript
 abbrev pub least_of_transcript : Transcript → Version
 least_of_transcript t =
     version_2_where (are_more_drivers t.drivers || (list_any is_of_hangup t.entries || nat_lt 0 (length t.view.hungs)))

@@ -1,4 +1,4 @@
-//! Commands, and the entries that they leave in a history.
+//! Commands, and the entries that record them in a history.
 
 ghost use Rattle.std.specs.Prelude.{◌≡◌, IfOk};
 ghost use Rattle.smx_types.specs.Versions.{is_hangup, is_of_hangup};
@@ -11,16 +11,16 @@ use crate::process::Process;
 use crate::reply::Reply;
 use std::alloc::Global;
 
-/// Which links an unlinking is for.
+/// The links that an unlinking removes.
 #[derive(Clone, Copy, Debug, PartialEq, Eq)]
 pub enum Which {
-    /// The link of this id (streamio(7), I_UNLINK).
+    /// The link with this id (streamio(7), I_UNLINK).
     Id(u32),
-    /// Each link that may be named there (MUXID_ALL).
+    /// All links that the command may remove (MUXID_ALL).
     All,
 }
 
-/// Which sides of a stream a flush empties.
+/// The sides of a stream that a flush empties.
 #[derive(Clone, Copy, Debug, PartialEq, Eq)]
 pub enum Sides {
     /// The read side.
@@ -31,21 +31,21 @@ pub enum Sides {
     RW,
 }
 
-/// What a process asks of the configuration. A descriptor, minor or id is any number: one that is not there is
-/// refused. docs/COMMANDS.md has the refusals of each, in order.
+/// A command of a process. A descriptor, minor or id is any number; the command is refused if it does not exist.
+/// docs/COMMANDS.md lists the refusals of each command, in order.
 #[derive(Debug, Drop, PartialEq)]
 pub enum Command {
-    /// Opens a new stream on the least minor that is not in use, under the lowest free descriptor of the process (SVR4
+    /// Opens a new stream on the lowest minor that is not in use, as the lowest free descriptor of the process (SVR4
     /// Programmer's Guide: STREAMS, clone open).
     OpenClone {
         driver: Name,
     },
-    /// Opens the stream of this minor, or shares it (open(2)).
+    /// Opens the stream of this minor, or shares it if it is open (open(2)).
     OpenMinor {
         driver: Name,
         minor: u32,
     },
-    /// Makes one more descriptor of the same stream (dup(2)).
+    /// Makes another descriptor of the same stream (dup(2)).
     Dup {
         fd: u32,
     },
@@ -55,18 +55,18 @@ pub enum Command {
     },
     /// Closes all descriptors of the process (exit(2)).
     CloseAll,
-    /// Links the stream of `arg` below the driver of `fd`, until the stream of `fd` is closed for the last time
-    /// (streamio(7), I_LINK).
+    /// Links the stream of `arg` below the driver of `fd`, until the stream of `fd` is closed for the last
+    /// time (streamio(7), I_LINK).
     Link {
         fd: u32,
         arg: u32,
     },
-    /// The same with a persistent link, which stays until it is removed (I_PLINK).
+    /// Links in the same way, with a persistent link, which exists until it is removed (I_PLINK).
     Plink {
         fd: u32,
         arg: u32,
     },
-    /// Removes ordinary links that were made on this very stream (I_UNLINK).
+    /// Removes ordinary links that were made on this stream (I_UNLINK).
     Unlink {
         fd: u32,
         which: Which,
@@ -76,22 +76,22 @@ pub enum Command {
         fd: u32,
         which: Which,
     },
-    /// Binds the stream to an address of its driver (this project's own).
+    /// Binds the stream to an address of its driver (specific to this project).
     Bind {
         fd: u32,
         addr: u32,
     },
-    /// Takes the stream's address away (own).
+    /// Unbinds the stream from its address (specific to this project).
     Unbind {
         fd: u32,
     },
-    /// Sends messages for an address down this link of the stream's driver (own).
+    /// Sends messages for an address down this link of the stream's driver (specific to this project).
     Route {
         fd: u32,
         addr: u32,
         id: u32,
     },
-    /// Takes the route for an address away (own).
+    /// Removes the route for an address (specific to this project).
     Unroute {
         fd: u32,
         addr: u32,
@@ -102,7 +102,7 @@ pub enum Command {
         addr: u32,
         bytes: Bytes,
     },
-    /// Takes the first message of the stream's read side (read(2)).
+    /// Removes and returns the first message of the stream's read side (read(2)).
     Read {
         fd: u32,
     },
@@ -111,20 +111,20 @@ pub enum Command {
         fd: u32,
         sides: Sides,
     },
-    /// A message arrives from the device at a leaf stream's read side (own).
+    /// A message arrives from the device on the read side of a leaf's stream (specific to this project).
     Inject {
         driver: Name,
         minor: u32,
         addr: u32,
         bytes: Bytes,
     },
-    /// The device takes the first message of a leaf stream's write side (own).
+    /// The device removes the first message of the write side of a leaf's stream (specific to this project).
     Transmit {
         driver: Name,
         minor: u32,
     },
-    /// The device of a leaf stream hangs up: nothing goes out to it any longer, and what came in can still be read
-    /// (STREAMS guide, M_HANGUP).
+    /// The device of a leaf's stream hangs up: no more messages go out to it, and the messages that came in can still
+    /// be read (STREAMS guide, M_HANGUP).
     Hangup {
         driver: Name,
         minor: u32,
@@ -134,7 +134,7 @@ pub enum Command {
 /// The commands of a process, in order.
 pub type Commands = Items<Command>;
 
-/// One command that was performed, for which process, and its reply.
+/// A command that was performed, its process, and its reply.
 #[derive(Debug, Drop, PartialEq)]
 pub struct Entry {
     pub process: Process,
@@ -142,18 +142,18 @@ pub struct Entry {
     pub reply: Reply,
 }
 
-/// Entries in the order in which they were made.
+/// Entries in the order in which they were recorded.
 pub type Entries = Items<Entry>;
 
 impl Command {
-    /// Whether it is a hangup. Takes no memory.
+    /// Returns whether the command is a hangup. Does not allocate.
     pub fn is_hangup(&self) -> bool
         ensures { result ≡ is_hangup self.now }
     {
         matches!(self, Command::Hangup { .. })
     }
 
-    /// The same command again. Fails only for want of memory.
+    /// Copies the command. Fails only if out of memory.
     pub fn copy(&self, alloc: Global) -> Result<Command, NoMemory>
         ensures { IfOk result (λ c. c ≡ self.now) }
     {
@@ -206,14 +206,14 @@ impl Copied for Command {
 }
 
 impl Entry {
-    /// Whether it is of a hangup, or its reply tells of one. Takes no memory.
+    /// Returns whether the command is a hangup or the reply reports one. Does not allocate.
     pub fn is_of_hangup(&self) -> bool
         ensures { result ≡ is_of_hangup self.now }
     {
         self.command.is_hangup() || self.reply.tells_of_hangup()
     }
 
-    /// The same entry again. Fails only for want of memory.
+    /// Copies the entry. Fails only if out of memory.
     pub fn copy(&self, alloc: Global) -> Result<Entry, NoMemory>
         ensures { IfOk result (λ c. c ≡ self.now) }
     {

@@ -1,4 +1,4 @@
-//! Drivers, as they are asked for.
+//! Driver specifications.
 
 ghost use Rattle.std.specs.Prelude.{◌≡◌};
 ghost use Rattle.smx_types.specs.Drivers.{spec_check};
@@ -13,35 +13,36 @@ use std::fmt;
 /// Whether streams can be linked below a driver.
 #[derive(Clone, Copy, Debug, PartialEq, Eq)]
 pub enum DriverKind {
-    /// The driver of a device, below which nothing is linked.
+    /// A device driver: no stream can be linked below it.
     Leaf,
     /// A multiplexing driver.
     Mux,
 }
 
-/// A driver as it is asked for; `check` says whether it can be had.
+/// A driver as a programs text specifies it. `check` says whether it is valid.
 #[derive(Clone, Copy, Debug, PartialEq, Eq)]
 pub struct DriverSpec {
     pub name: Name,
     pub kind: DriverKind,
-    /// How many minors it has, 1 to 64. Their numbers start from 0.
+    /// The number of its minors, 1 to 64. Minors are numbered from 0.
     pub minors: u32,
-    /// The high water mark of each of its queues, in bytes: above `low`, at most 4,096. A queue is full from an arrival
-    /// on that brings it to so many (Programmer's Guide: STREAMS, flow control).
+    /// The high water mark of each of its queues, in bytes: above `low`, at most 4,096. A queue becomes full when an
+    /// arriving message brings it to this size (Programmer's Guide: STREAMS, flow control).
     pub high: u32,
-    /// The low water mark of each of its queues, in bytes: below `high`. A full queue is full no longer once a removal
-    /// has brought it down to so many.
+    /// The low water mark of each of its queues, in bytes: below `high`. A full queue stops being full when a removal
+    /// brings it down to this size.
     pub low: u32,
-    /// The most bytes of a message that is written or injected to it, 1 to 1,024: its maximum packet size.
+    /// The maximum number of bytes of a message that is written or injected to it, 1 to 1,024 (its
+    /// maximum packet size).
     pub max: u32,
 }
 
-/// What is wrong with a driver that is asked for.
+/// The fault of an invalid driver specification.
 #[derive(Clone, Copy, Debug, PartialEq, Eq)]
 pub enum SpecFault {
     /// The minors are not 1 to 64.
     BadMinors,
-    /// The high water mark is above 4,096, or the low one not below it.
+    /// The high water mark is above 4,096, or the low one is not below the high one.
     BadMarks,
     /// The longest message is not 1 to 1,024 bytes.
     BadMax,
@@ -51,7 +52,7 @@ pub enum SpecFault {
 pub type Drivers = Items<DriverSpec>;
 
 impl DriverSpec {
-    /// The first fault in the order of `SpecFault`, if there is one. Takes no memory.
+    /// Fails with the first fault in the order of `SpecFault`, if there is one. Does not allocate.
     pub fn check(&self) -> Result<(), SpecFault>
         ensures { result ≡ spec_check self.now }
     {

@@ -1,4 +1,4 @@
-//! The one list type of the values: a `Vec` that contracts see as a list.
+//! The list type of all values: a `Vec` that contracts see as a list.
 
 ghost use Rattle.std.specs.Prelude.{◌≡◌, ◌++◌, ◌∷◌, [], IfOk, OnOk, OnErr};
 
@@ -6,15 +6,15 @@ use crate::memory::NoMemory;
 use std::alloc::Global;
 use std::marker::Model;
 
-/// What can be copied where there is memory.
+/// Values that can be copied, unless memory runs out.
 pub trait Copied: Drop {
-    /// The same value again. Fails only for want of memory.
+    /// Copies the value. Fails only if out of memory.
     fn copied(&self, alloc: Global) -> Result<Self, NoMemory>
     where
         Self: Sized,
         ensures { IfOk result (λ c. c ≡ self.now) };
 
-    /// The same values again, in a vector with room for just them. Fails only for want of memory.
+    /// Copies the values into a vector whose capacity is their number. Fails only if out of memory.
     fn copies(alloc: Global, items: &[Self]) -> Result<Vec<Self>, NoMemory>
     where
         Self: Sized,
@@ -48,7 +48,7 @@ impl Copied for u32 {
     }
 }
 
-/// Values in order. A contract sees the list of them.
+/// A list of values. Contracts see it as a list.
 #[derive(Debug, Drop)]
 pub struct Items<T> {
     items: Vec<T>,
@@ -63,7 +63,7 @@ impl<T> Model for Items<T> {
 }
 
 impl<T> Items<T> {
-    /// None yet. Takes no memory.
+    /// Makes an empty list. Does not allocate.
     pub fn new(alloc: Global) -> Items<T>
         ensures { result ≡ [] }
     {
@@ -72,28 +72,28 @@ impl<T> Items<T> {
         }
     }
 
-    /// These, in their order. Takes no memory.
+    /// Makes a list of these values, in their order. Does not allocate.
     pub fn from_vec(items: Vec<T>) -> Items<T>
         ensures { result ≡ items.items }
     {
         Items { items }
     }
 
-    /// The vector that they are in. Takes no memory.
+    /// Returns the vector that holds the values. Does not allocate.
     pub fn into_vec(self) -> Vec<T>
         ensures { result.items ≡ self }
     {
         self.items
     }
 
-    /// Gives back the memory that they have and don't need. They stay as they are.
+    /// Frees the memory that the values don't need. The values don't change.
     pub fn shrink(&mut self)
         ensures { self.new ≡ self.old }
     {
         self.items.shrink_to_fit();
     }
 
-    /// All of them, in order. Takes no memory.
+    /// Returns all values, in order. Does not allocate.
     pub fn as_slice(&self) -> &[T]
         ensures { result.now ≡ self.now }
     {
@@ -102,7 +102,7 @@ impl<T> Items<T> {
 }
 
 impl<T: Drop> Items<T> {
-    /// One more, at the end. Fails only for want of memory, and then drops it.
+    /// Appends a value. Fails only if out of memory, and then drops the value.
     pub fn push(&mut self, item: T) -> Result<(), NoMemory>
         ensures ok { OnOk result (self.new ≡ self.old ++ item ∷ []) }
         ensures err { OnErr result (self.new ≡ self.old) }
@@ -113,7 +113,7 @@ impl<T: Drop> Items<T> {
 }
 
 impl<T: Copied> Items<T> {
-    /// The same list again. Fails only for want of memory.
+    /// Copies the list. Fails only if out of memory.
     pub fn copy(&self, alloc: Global) -> Result<Items<T>, NoMemory>
         ensures { IfOk result (λ c. c ≡ self.now) }
     {

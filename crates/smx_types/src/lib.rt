@@ -1,4 +1,4 @@
-//! Plain values of a STREAMS multiplexer: what its programs, replies and transcripts are made of.
+//! Plain values of a STREAMS multiplexer: the parts of its programs, replies and transcripts.
 #![tactic(auto)]
 
 mod command;

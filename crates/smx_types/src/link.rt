@@ -1,30 +1,31 @@
-//! Links below a multiplexing driver, and how it finds its way over them.
+//! Links below a multiplexing driver, and the driver's bindings and routes.
 
 use crate::stream::StreamId;
 
-/// How a link was made, and so how long it stays.
+/// How a link was made, which decides how long it exists.
 #[derive(Clone, Copy, Debug, PartialEq, Eq)]
 pub enum LinkKind {
-    /// Until it is removed, or its controlling stream is closed for the last time (streamio(7), I_LINK).
+    /// The link exists until it is removed, or its controlling stream is closed for the last
+    /// time (streamio(7), I_LINK).
     Ordinary,
-    /// Until it is removed (streamio(7), I_PLINK).
+    /// The link exists until it is removed (streamio(7), I_PLINK).
     Persistent,
 }
 
 /// A stream that is linked below a multiplexing driver.
 #[derive(Clone, Copy, Debug, PartialEq, Eq)]
 pub struct Link {
-    /// The multiplexor id (streamio(7), I_LINK): from 1 to 4,294,967,294, and never used again.
+    /// The multiplexor id (streamio(7), I_LINK): from 1 to 4,294,967,294, and never reused.
     pub id: u32,
     /// The controlling stream, on which the link was made; its driver is the upper one.
     pub ctl: StreamId,
-    /// The stream below.
+    /// The stream that is linked below.
     pub lower: StreamId,
     pub kind: LinkKind,
 }
 
-/// An address that is bound to a stream of a driver: messages for it go up there. The driver is 0 to 127, the minor 0
-/// to 63.
+/// An address that is bound to a stream of a driver: messages for the address go up that stream. The driver is 0 to
+/// 127, the minor 0 to 63.
 #[derive(Clone, Copy, Debug, PartialEq, Eq)]
 pub struct Binding {
     pub driver: u8,
@@ -32,7 +33,7 @@ pub struct Binding {
     pub minor: u8,
 }
 
-/// The link down which a driver sends the messages for an address, by its id. The driver is 0 to 127.
+/// A route: the id of the link down which a driver sends the messages for an address. The driver is 0 to 127.
 #[derive(Clone, Copy, Debug, PartialEq, Eq)]
 pub struct Route {
     pub driver: u8,

@@ -1,9 +1,9 @@
-//! Want of memory.
+//! Out of memory.
 
 use std::alloc::{AllocError, AllocFailed};
 use std::fmt;
 
-/// A growth was refused. What then stays, the call that answers it says.
+/// An allocation failed. The contract of the call that returns this says what has then changed.
 #[derive(Clone, Copy, Debug, PartialEq, Eq)]
 pub struct NoMemory;
 

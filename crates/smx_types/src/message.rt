@@ -9,24 +9,24 @@ use std::alloc::Global;
 /// The bytes of a message, in order.
 pub type Bytes = Items<u8>;
 
-/// The serials of messages, which are numbered from 1.
+/// Serials of messages, which are numbered from 1.
 pub type Serials = Items<u32>;
 
-/// A message that was taken in.
+/// A message that was accepted.
 #[derive(Debug, Drop, PartialEq)]
 pub struct Message {
-    /// Its number: from 1 to 4,294,967,294, and never used again.
+    /// Its serial: from 1 to 4,294,967,294, and never reused.
     pub serial: u32,
-    /// The address that it is for.
+    /// Its address.
     pub addr: u32,
     pub bytes: Bytes,
 }
 
-/// Messages in order, the first of a queue at the front.
+/// Messages in order. The first message of a queue is at its front.
 pub type Messages = Items<Message>;
 
 impl Message {
-    /// The same message again. Fails only for want of memory.
+    /// Copies the message. Fails only if out of memory.
     pub fn copy(&self, alloc: Global) -> Result<Message, NoMemory>
         ensures { IfOk result (λ c. c ≡ self.now) }
     {

@@ -8,7 +8,7 @@ ghost use Rattle.smx_types.specs.Names.{is_letter, is_name_byte, is_name, padded
 
 use std::marker::Model;
 
-/// A driver's name: 1 to 8 of `a` to `z` and `0` to `9`, the first a letter. A contract sees its bytes.
+/// A driver's name: 1 to 8 of `a` to `z` and `0` to `9`; the first is a letter. Contracts see its bytes.
 #[derive(Clone, Copy, Debug)]
 pub struct Name {
     len: u8,
@@ -32,7 +32,7 @@ impl Model for Name {
     ghost inverse_ok = { padded_view };
 }
 
-// Whether they are the same, as one comparison of numbers.
+// Returns whether both are equal, with one comparison of numbers.
 fn are_same(bytes: [u8; 8], others: [u8; 8]) -> bool
     ensures { result ≡ pointwise nat_eq bytes others }
 {
@@ -62,7 +62,7 @@ impl Eq for Name {
 }
 
 impl Name {
-    /// The name that a text spells; `None` exactly where it spells none. Takes no memory.
+    /// Parses a name from a string. Returns `None` exactly if the string is not a name. Does not allocate.
     pub fn new(text: &str) -> Option<Name>
         ensures valid { IsSome result ↔ IsTrue (is_name text.now) }
         ensures value { IfSome result (λ n. n ≡ text.now) }
@@ -70,7 +70,7 @@ impl Name {
         Name::from_bytes(text.as_bytes())
     }
 
-    /// The name that bytes spell; `None` exactly where they spell none. Takes no memory.
+    /// Parses a name from bytes. Returns `None` exactly if the bytes are not a name. Does not allocate.
     pub fn from_bytes(bytes: &[u8]) -> Option<Name>
         ensures valid { IsSome result ↔ IsTrue (is_name bytes.now) }
         ensures value { IfSome result (λ n. n ≡ bytes.now) }
@@ -85,8 +85,8 @@ impl Name {
         })
     }
 
-    /// A number that is the same for the same name, and mostly another one for another. No clause says so. Takes no
-    /// memory.
+    /// Returns a hash of the name: equal names have equal hashes, and different names mostly have different ones. No
+    /// clause says so. Does not allocate.
     #[inline(always)]
     pub fn short_hash(&self) -> u8 {
         // The upper byte of a product with the golden ratio.
@@ -94,7 +94,7 @@ impl Name {
         word.wrapping_mul(0x9E37_79B9_7F4A_7C15).to_be_bytes()[0]
     }
 
-    /// Its bytes, which always spell a name. Takes no memory.
+    /// Returns its bytes, which always are a valid name. Does not allocate.
     pub fn as_bytes(&self) -> &[u8]
         ensures value { result.now ≡ self.now }
         ensures name { IsTrue (is_name self.now) }
@@ -115,8 +115,8 @@ fn is_name_byte(byte: u8) -> bool
     is_letter(byte) || byte.is_ascii_digit()
 }
 
-// The number whose lowest bytes these are, the first of them the lowest, if they may stand in a name. So a name is made
-// without a call that copies bytes, of which there are few, and its eight bytes are written at once.
+// Returns the number with these bytes, the first of which is the lowest, if all of them are allowed in a name. This
+// makes a name without a call that copies its few bytes, and writes all eight bytes at once.
 #[inline(always)]
 fn word_of(bytes: &[u8]) -> Option<u64>
     requires { length bytes.now ≤ 8 }

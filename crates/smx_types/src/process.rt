@@ -6,7 +6,7 @@ ghost use Rattle.smx_types.specs.declared.limits.TheConstants.{MAX_PROCESSES};
 use crate::limits::MAX_PROCESSES;
 use std::marker::Model;
 
-/// A process, by its number from 0 to 63. A contract sees the number.
+/// A process, identified by its number from 0 to 63. Contracts see the number.
 #[derive(Clone, Copy, Debug, PartialEq, Eq, PartialOrd, Ord)]
 pub struct Process {
     number: u32,
@@ -26,7 +26,7 @@ impl Model for Process {
 }
 
 impl Process {
-    /// The process of a number; `None` exactly where it is 64 or more. Takes no memory.
+    /// Returns the process with this number. Returns `None` exactly if the number is 64 or more. Does not allocate.
     pub fn new(number: u32) -> Option<Process>
         ensures valid { IsSome result ↔ (number < MAX_PROCESSES) }
         ensures value { IfSome result (λ p. p ≡ number) }
@@ -38,7 +38,7 @@ impl Process {
         }
     }
 
-    /// Its number. Takes no memory.
+    /// Returns its number. Does not allocate.
     pub fn get(&self) -> u32
         ensures value { result ≡ self.now }
         ensures range { self.now < MAX_PROCESSES }

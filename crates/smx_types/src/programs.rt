@@ -19,7 +19,7 @@ use std::marker::Model;
 /// The commands of process 0, of process 1, and so on.
 pub type ProgramList = Items<Commands>;
 
-/// More drivers, programs or commands than there may be: what was given, as it was given.
+/// The lists that were given, unchanged, if they exceed the limit for drivers, programs or commands.
 #[derive(Debug, Drop, PartialEq)]
 pub struct Many {
     pub drivers: Drivers,
@@ -27,7 +27,7 @@ pub struct Many {
 }
 
 impl Many {
-    /// The same lists again. Fails only for want of memory.
+    /// Copies the lists. Fails only if out of memory.
     pub fn copy(&self, alloc: Global) -> Result<Many, NoMemory>
         ensures { IfOk result (λ m. m ≡ self.now) }
     {
@@ -51,8 +51,8 @@ impl fmt::Display for Many {
 
 impl std::error::Error for Many {}
 
-/// At most 128 drivers, at most 64 programs, and at most 100,000 commands in all of them, for a text of some version
-/// that can tell them.
+/// At most 128 drivers, at most 64 programs, and at most 100,000 commands in all of them, with a version that
+/// can express them.
 #[derive(Debug, Drop, PartialEq)]
 pub struct Programs {
     version: Version,
@@ -75,9 +75,9 @@ impl Model for Programs {
 }
 
 impl Programs {
-    /// These drivers and programs, in the first version that can tell them, unless they are too many: `Many` hands both
-    /// lists back, and comes exactly where there are over 128 drivers, 64 programs or 100,000 commands. Takes no
-    /// memory.
+    /// Makes programs of these drivers and programs, in the earliest version that can express them. Fails
+    /// exactly if there are over 128 drivers, 64 programs or 100,000 commands; `Many` then returns both lists.
+    /// Does not allocate.
     pub fn new(drivers: Drivers, programs: ProgramList) -> Result<Programs, Many>
         ensures taken { IfOk result (λ p. p ≡ program_lists drivers programs) }
         ensures given_back { IfErr result (λ m. m ≡ record { drivers = drivers; programs = programs }) }
@@ -97,7 +97,7 @@ impl Programs {
         })
     }
 
-    /// The same in version 2. Takes no memory.
+    /// Changes the version to 2. Does not allocate.
     pub fn raised(self) -> Programs
         ensures { result ≡ raised self }
     {
@@ -108,7 +108,7 @@ impl Programs {
         }
     }
 
-    /// The version of their text. Takes no memory.
+    /// Returns the version of the programs text. Does not allocate.
     pub fn version(&self) -> Version
         ensures version { result ≡ self.now.version }
         ensures within { AreWithinLimits self.now }
@@ -116,15 +116,15 @@ impl Programs {
         self.version
     }
 
-    /// The first version that can tell them: the second exactly where there are over 64 drivers or a hangup. Takes no
-    /// memory.
+    /// Returns the earliest version that can express the programs: version 2 exactly if there are over 64 drivers or
+    /// a hangup. Does not allocate.
     pub fn least(&self) -> Version
         ensures { result ≡ least_of_programs self.now.drivers self.now.programs }
     {
         least_of(self.drivers.as_slice(), self.programs.as_slice())
     }
 
-    /// The drivers. Takes no memory.
+    /// Returns the drivers. Does not allocate.
     pub fn drivers(&self) -> &[DriverSpec]
         ensures drivers { result.now ≡ self.now.drivers }
         ensures within { AreWithinLimits self.now }
@@ -132,7 +132,7 @@ impl Programs {
         self.drivers.as_slice()
     }
 
-    /// The program of each process. Takes no memory.
+    /// Returns the program of each process. Does not allocate.
     pub fn programs(&self) -> &[Commands]
         ensures programs { result.now ≡ self.now.programs }
         ensures within { AreWithinLimits self.now }
@@ -140,7 +140,7 @@ impl Programs {
         self.programs.as_slice()
     }
 
-    /// The drivers, and the program of each process. Takes no memory.
+    /// Returns the drivers, and the program of each process. Does not allocate.
     pub fn into_parts(self) -> (Drivers, ProgramList)
         ensures drivers { result.0 ≡ self.drivers }
         ensures programs { result.1 ≡ self.programs }
@@ -149,7 +149,7 @@ impl Programs {
         (self.drivers, self.programs)
     }
 
-    /// The same programs again. Fails only for want of memory.
+    /// Copies the programs. Fails only if out of memory.
     pub fn copy(&self, alloc: Global) -> Result<Programs, NoMemory>
         ensures { IfOk result (λ c. c ≡ self.now) }
     {
@@ -163,7 +163,7 @@ impl Programs {
     }
 }
 
-// Whether there are at most 100,000 commands.
+// Returns whether there are at most 100,000 commands.
 fn are_few(programs: &[Commands]) -> bool
     ensures { IsTrue result ↔ (sum_by length programs.now ≤ MAX_COMMANDS) }
 {
@@ -178,14 +178,14 @@ fn are_few(programs: &[Commands]) -> bool
     true
 }
 
-// The first version that can tell them.
+// Returns the earliest version that can express them.
 fn least_of(drivers: &[DriverSpec], programs: &[Commands]) -> Version
     ensures { result ≡ least_of_programs drivers.now programs.now }
 {
     version_2_where(are_more_drivers(drivers) || hang_up(programs))
 }
 
-// Whether a command of some program is a hangup.
+// Returns whether a command of some program is a hangup.
 fn hang_up(programs: &[Commands]) -> bool
     ensures { result ≡ list_any (list_any is_hangup) programs.now }
 {
@@ -194,7 +194,7 @@ fn hang_up(programs: &[Commands]) -> bool
         .any(|commands| has_hangup(commands.as_slice()))
 }
 
-// Whether one of the commands is a hangup.
+// Returns whether one of the commands is a hangup.
 fn has_hangup(commands: &[Command]) -> bool
     ensures { result ≡ list_any is_hangup commands.now }
 {

@@ -1,4 +1,4 @@
-//! Replies, and the faults with which commands are refused.
+//! Replies, and the faults for which commands are refused.
 
 ghost use Rattle.std.specs.Prelude.{◌≡◌, IfOk};
 ghost use Rattle.smx_types.specs.Versions.{tells_of_hangup};
@@ -11,23 +11,24 @@ use std::alloc::Global;
 /// Why a command was refused. A refused command changes nothing.
 #[derive(Clone, Copy, Debug, PartialEq, Eq)]
 pub enum Fault {
-    /// `EBADF fd`: it is not an open descriptor of the process.
+    /// `EBADF fd`: the process has no such open descriptor.
     BadDescriptor,
     /// `EINVAL below`: the stream is linked below a driver.
     Below,
     /// `EINVAL notmux`: the stream's driver is a leaf.
     NotMux,
-    /// `EINVAL already`: the stream that was to be linked is linked below a driver.
+    /// `EINVAL already`: the stream to be linked is already linked below a driver.
     AlreadyBelow,
     /// `EINVAL cycle`: both drivers are the same, or links lead from the lower one to the upper one.
     Cycle,
-    /// `EAGAIN links`: 1,024 links stand, or there is no further id.
+    /// `EAGAIN links`: there are 1,024 links, or no id is left.
     TooManyLinks,
-    /// `EINVAL id`: there is no link of that id which the command may name.
+    /// `EINVAL id`: there is no link with that id which the command may remove or use.
     NoLink,
-    /// `ENXIO driver`: there is no driver of that name, or a device was asked for and it is a multiplexing one.
+    /// `ENXIO driver`: there is no driver with that name, or the command requires a device and the driver
+    /// is a multiplexer.
     NoDriver,
-    /// `ENXIO minor`: the driver has no free minor, not that one, or no such stream.
+    /// `ENXIO minor`: the driver has no free minor, not this minor, or no such stream.
     NoMinor,
     /// `EMFILE`: the process has 16 descriptors.
     TooManyDescriptors,
@@ -37,17 +38,17 @@ pub enum Fault {
     Unbound,
     /// `EINVAL unrouted`: the driver has no route for the address.
     Unrouted,
-    /// `EAGAIN full`: the queue is full, or there is no further serial.
+    /// `EAGAIN full`: the queue is full, or no serial is left.
     Full,
     /// `EAGAIN empty`: the queue has no message.
     Empty,
-    /// `ERANGE`: no bytes, or more than the driver's longest message has.
+    /// `ERANGE`: the message has no bytes, or more than the driver's longest message.
     BadSize,
     /// `ENXIO hangup`: the stream's device has hung up.
     HungUp,
 }
 
-/// What a command is answered.
+/// The reply to a command.
 #[derive(Debug, Drop, PartialEq)]
 pub enum Reply {
     /// The new descriptor, and the minor of its stream.
@@ -57,7 +58,7 @@ pub enum Reply {
     },
     /// The id of the new link.
     Id(u32),
-    /// The message was taken in under this serial.
+    /// The message was accepted and has this serial.
     Took {
         serial: u32,
     },
@@ -67,25 +68,25 @@ pub enum Reply {
         addr: u32,
         bytes: Bytes,
     },
-    /// It is done, and these messages were dropped, by rising serial.
+    /// The command succeeded and dropped these messages, by rising serial.
     Done {
         dropped: Serials,
     },
-    /// End of file: the device has hung up, and all that came in was read.
+    /// End of file: the device has hung up, and all messages that came in were read.
     Eof,
-    /// It was refused.
+    /// The command was refused.
     Fault(Fault),
 }
 
 impl Reply {
-    /// Whether it tells of a device that has hung up: end of file, or that refusal. Takes no memory.
+    /// Returns whether the reply reports a hangup: end of file, or the refusal after a hangup. Does not allocate.
     pub fn tells_of_hangup(&self) -> bool
         ensures { result ≡ tells_of_hangup self.now }
     {
         matches!(self, Reply::Eof | Reply::Fault(Fault::HungUp))
     }
 
-    /// Gives back the memory that its serials have and don't need. It stays as it is.
+    /// Frees the memory that its serials don't need. The reply doesn't change.
     pub fn shrink(&mut self)
         ensures { self.new ≡ self.old }
     {
@@ -94,7 +95,7 @@ impl Reply {
         }
     }
 
-    /// The same reply again. Fails only for want of memory.
+    /// Copies the reply. Fails only if out of memory.
     pub fn copy(&self, alloc: Global) -> Result<Reply, NoMemory>
         ensures { IfOk result (λ c. c ≡ self.now) }
     {

@@ -1,4 +1,4 @@
-//! What `==` tells of the values of this crate: exactly whether both are the same.
+//! `==` on the values of this crate decides equality.
 
 ghost use Rattle.std.proofs.Common.{rules};
 
@@ -19,13 +19,13 @@ use crate::view::{
     BindingLine, ConfigView, DescriptorLine, FullLine, HungLine, LinkLine, MessageLine, RouteLine,
 };
 
-/// What is equal exactly where it is the same, so that `==` leaves nothing out.
+/// A type whose `==` compares everything: it is true exactly if both values are equal.
 pub trait Same: PartialEq {
     ghost use Rattle.std.specs.Prelude.{◌≡◌, ◌↔◌, IsTrue};
 
     ghost tells: { (a b : Self) → IsTrue (Self.eq a b) ↔ (a ≡ b) };
 
-    /// Whether both are the same, which is what `==` tells. Takes no memory.
+    /// Returns whether both values are equal, as `==` does. Does not allocate.
     final fn is_same(&self, other: &Self) -> bool
         ensures { IsTrue result ↔ (self.now ≡ other.now) }
     {

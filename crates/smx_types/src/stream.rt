@@ -2,24 +2,24 @@
 
 use crate::process::Process;
 
-/// A stream, by the number of its driver and its minor: in every configuration the driver is 0 to 127, and the minor 0
-/// to 63.
+/// A stream, identified by the number of its driver and its minor. In every configuration the driver is 0 to 127, and
+/// the minor 0 to 63.
 #[derive(Clone, Copy, Debug, PartialEq, Eq)]
 pub struct StreamId {
     pub driver: u8,
     pub minor: u8,
 }
 
-/// A side of a stream; each has a queue of messages.
+/// A side of a stream. Each side has a queue of messages.
 #[derive(Clone, Copy, Debug, PartialEq, Eq)]
 pub enum Side {
-    /// Where messages go down: it is written by processes and drained towards the device.
+    /// The side on which messages go down: processes write to it, and it is drained towards the device.
     Write,
-    /// Where messages come up: they arrive from the device, and processes read them.
+    /// The side on which messages come up: they arrive from the device, and processes read them.
     Read,
 }
 
-/// A side of a stream, as the place of a queue.
+/// A side of a stream: the place of a queue.
 #[derive(Clone, Copy, Debug, PartialEq, Eq)]
 pub struct Place {
     pub stream: StreamId,

@@ -1,4 +1,4 @@
-//! What a run leaves: its history, and the configuration at its end as it is shown.
+//! The result of a run: its history and its final configuration.
 
 ghost use Rattle.std.specs.Prelude.{◌≡◌, IfOk};
 ghost use Rattle.std.specs.List.{list_any};
@@ -11,20 +11,20 @@ use crate::version::{Version, are_more_drivers, version_2_where};
 use crate::view::ConfigView;
 use std::alloc::Global;
 
-/// The drivers of a run, its history, and the configuration at its end, for a text of some version.
+/// The drivers of a run, its history, and its final configuration, for a text of this version.
 #[derive(Debug, Drop, PartialEq)]
 pub struct Transcript {
     pub version: Version,
     pub drivers: Drivers,
-    /// The history, in its order.
+    /// The history, in order.
     pub entries: Entries,
-    /// The configuration behind it, as it is said to be.
+    /// The configuration after the history, according to the transcript.
     pub view: ConfigView,
 }
 
 impl Transcript {
-    /// The first version that can tell it: the second exactly where there are over 64 drivers, a hangup, an end of
-    /// file, a refusal for a hangup, or a hung-up stream. Takes no memory.
+    /// Returns the earliest version that can express the transcript: version 2 exactly if there are over 64 drivers,
+    /// a hangup, an end of file, a refusal after a hangup, or a hung-up stream. Does not allocate.
     pub fn least(&self) -> Version
         ensures { result ≡ least_of_transcript self.now }
     {
@@ -35,7 +35,7 @@ impl Transcript {
         )
     }
 
-    /// The same transcript again. Fails only for want of memory.
+    /// Copies the transcript. Fails only if out of memory.
     pub fn copy(&self, alloc: Global) -> Result<Transcript, NoMemory>
         ensures { IfOk result (λ c. c ≡ self.now) }
     {
@@ -51,7 +51,7 @@ impl Transcript {
     }
 }
 
-// Whether one of them is of a hangup.
+// Returns whether an entry has a hangup, or a reply that reports one.
 fn are_of_hangup(entries: &[Entry]) -> bool
     ensures { result ≡ list_any is_of_hangup entries.now }
 {

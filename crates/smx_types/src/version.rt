@@ -1,4 +1,4 @@
-//! The versions of the texts, and which of them can tell what.
+//! The versions of the texts, and the values that each can express.
 
 ghost use Rattle.std.specs.Prelude.{◌≡◌};
 ghost use Rattle.smx_types.specs.Versions.{are_more_drivers, most_drivers, version_2_where};
@@ -6,17 +6,17 @@ ghost use Rattle.smx_types.specs.Versions.{are_more_drivers, most_drivers, versi
 use crate::driver::DriverSpec;
 use crate::limits::{MAX_DRIVERS, MAX_DRIVERS_OF_VERSION_1};
 
-/// A version of the texts. The second one also tells of devices that hang up, and has more drivers.
+/// A version of the texts. Version 2 adds hangups of devices, and allows more drivers.
 #[derive(Clone, Copy, Debug, PartialEq, Eq)]
 pub enum Version {
-    /// The first one, with 64 drivers at most.
+    /// Version 1, with at most 64 drivers.
     V1,
-    /// The second one, with 128 drivers at most.
+    /// Version 2, with at most 128 drivers.
     V2,
 }
 
 impl Version {
-    /// The most drivers that a text of this version has. Takes no memory.
+    /// Returns the maximum number of drivers in a text of this version. Does not allocate.
     pub fn max_drivers(&self) -> usize
         ensures { result ≡ most_drivers self.now }
     {
@@ -27,14 +27,14 @@ impl Version {
     }
 }
 
-// The second version where the first can't tell it.
+// Returns version 2 if it is needed, otherwise version 1.
 pub(crate) fn version_2_where(needed: bool) -> Version
     ensures { result ≡ version_2_where needed }
 {
     if needed { Version::V2 } else { Version::V1 }
 }
 
-// Whether these are more drivers than a text of version 1 has.
+// Returns whether there are more drivers than version 1 allows.
 pub(crate) fn are_more_drivers(drivers: &[DriverSpec]) -> bool
     ensures { result ≡ are_more_drivers drivers.now }
 {

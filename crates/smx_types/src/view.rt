@@ -1,4 +1,4 @@
-//! A configuration as it is shown: its drivers by name, its parts as groups of lines.
+//! The view of a configuration: drivers by name, and the parts as groups of lines.
 
 ghost use Rattle.std.specs.Prelude.{◌≡◌, IfOk};
 
@@ -31,7 +31,7 @@ pub struct LinkLine {
     pub kind: LinkKind,
 }
 
-/// An address of a driver that is bound, and the minor of the stream that it is bound to.
+/// A binding: the driver, the bound address, and the minor of the stream that it is bound to.
 #[derive(Clone, Copy, Debug, PartialEq, Eq)]
 pub struct BindingLine {
     pub driver: Name,
@@ -39,7 +39,7 @@ pub struct BindingLine {
     pub minor: u32,
 }
 
-/// An address that a driver has a route for, and the id of the link that it goes down.
+/// A route: the driver, the address, and the id of the link that its messages go down.
 #[derive(Clone, Copy, Debug, PartialEq, Eq)]
 pub struct RouteLine {
     pub driver: Name,
@@ -47,7 +47,7 @@ pub struct RouteLine {
     pub id: u32,
 }
 
-/// A message that is queued, and its place.
+/// A queued message and its place.
 #[derive(Debug, Drop, PartialEq)]
 pub struct MessageLine {
     pub driver: Name,
@@ -71,28 +71,28 @@ pub struct HungLine {
     pub minor: u32,
 }
 
-/// Descriptors as they are shown, by rising process and number.
+/// The open descriptors in a view, by rising process and number.
 pub type DescriptorLines = Items<DescriptorLine>;
 
-/// Links as they are shown, by rising id.
+/// The links in a view, by rising id.
 pub type LinkLines = Items<LinkLine>;
 
-/// Bindings as they are shown, by rising number of the driver and address.
+/// The bindings in a view, by rising number of the driver, then address.
 pub type BindingLines = Items<BindingLine>;
 
-/// Routes as they are shown, by rising number of the driver and address.
+/// The routes in a view, by rising number of the driver, then address.
 pub type RouteLines = Items<RouteLine>;
 
-/// Queued messages as they are shown, by rising place, and from the front within a place.
+/// The queued messages in a view, by rising place, and from the front of the queue within a place.
 pub type MessageLines = Items<MessageLine>;
 
-/// Full places as they are shown, rising.
+/// The full places in a view, rising.
 pub type FullLines = Items<FullLine>;
 
-/// Hung-up streams as they are shown, rising.
+/// The hung-up streams in a view, rising.
 pub type HungLines = Items<HungLine>;
 
-/// A configuration as it is shown.
+/// The view of a configuration.
 #[derive(Debug, PartialEq)]
 pub struct ConfigView {
     /// The id that the next link gets. Ids start from 1.
@@ -109,7 +109,8 @@ pub struct ConfigView {
 }
 
 impl Drop for ConfigView {
-    // One call in each body that has one, however many ways it ends, in place of a drop for each list.
+    // Written by hand: a body then drops a view with one call, however many exits it has, instead of one drop
+    // for each list.
     fn drop(self) {
         let ConfigView {
             next_id: _,
@@ -126,7 +127,7 @@ impl Drop for ConfigView {
 }
 
 impl MessageLine {
-    /// The same line again. Fails only for want of memory.
+    /// Copies the line. Fails only if out of memory.
     pub fn copy(&self, alloc: Global) -> Result<MessageLine, NoMemory>
         ensures { IfOk result (λ c. c ≡ self.now) }
     {
@@ -141,7 +142,7 @@ impl MessageLine {
 }
 
 impl ConfigView {
-    /// The same view again. Fails only for want of memory.
+    /// Copies the view. Fails only if out of memory.
     pub fn copy(&self, alloc: Global) -> Result<ConfigView, NoMemory>
         ensures { IfOk result (λ c. c ≡ self.now) }
     {

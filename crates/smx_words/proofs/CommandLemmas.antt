@@ -1,4 +1,4 @@
--- A command begins with its verb.
+-- A command starts with its verb.
 use Rattle.std.proofs.Common.{◌≢◌, List, ℕ, ◌∷◌, ◌++◌}
 use Rattle.std.specs.Prelude.{codes}
 use Rattle.smx_types.specs.declared.command.Command.{Command}
@@ -10,7 +10,7 @@ use Rattle.smx_words.specs.Verbs.{verb_word}
 use Rattle.smx_words.specs.Words.{SPACE, line_of}
 use Rattle.smx_words.proofs.SameCommandLemmas.{verb_of}
 
--- a line that begins with no verb and a space behind it, and is not `exit`, is no command's
+-- a line that does not start with a verb and a space, and is not `exit`, is no command's
 pub no_verb : (line : List ℕ) → ((v : Verb) (after : List ℕ) → FitsAlways v
     → line ≢ verb_word v ++ SPACE ∷ after) → line ≢ codes "exit" → (c : Command) → FitsCommand c
     → line ≢ line_of (command_words c)

@@ -1,4 +1,4 @@
--- Bytes cut at a separator, and two ways to cut the same bytes.
+-- Bytes split at a separator, and two ways to split the same bytes.
 use Rattle.std.proofs.Common.{◌≡◌, ◌≢◌, ℕ, zero, suc, ◌+◌, ◌-◌, ◌<◌, ◌≤◌, Bool, true, false, eqb, List, []}
 use Rattle.std.proofs.Common.{◌∷◌, ◌++◌, length, slice_index, take, drop, refl, sym, ap, ◌∙◌, arith}
 use Rattle.std.proofs.Common.{drop-cons, add-one}
@@ -9,7 +9,7 @@ use Rattle.std.specs.Prelude.{IsTrue, ◌↔◌}
 use Rattle.memchr.specs.Find.{Nowhere, Passes, is_byte}
 use Rattle.smx_words.specs.Words.{SPACE, IsFree}
 
--- bytes of which none is the separator are not cut at one
+-- bytes that do not contain the separator are not split
 pub not_cut : (s : ℕ) (bytes : List ℕ) → Nowhere (Passes (is_byte s) bytes) 0 (length bytes)
     → (before after : List ℕ) → bytes ≡ before ++ s ∷ after → ⊥
 not_cut s bytes none before after e =
@@ -19,7 +19,7 @@ not_cut s bytes none before after e =
     ∙ length-append before (s ∷ after) in
     none (length before) (omega arith) (omega (arith, long)) (grind (arith, nat_tests))
 
--- what stands before the first separator is free of it
+-- the bytes before the first separator do not contain it
 pub free_front : (s : ℕ) (bytes : List ℕ) (i : ℕ) → ((k : ℕ) → k < i → eqb (slice_index bytes k) s ≡ true → ⊥)
     → i ≤ length bytes → IsFree s (take i bytes)
 free_front s bytes zero none in_it = tt
@@ -29,7 +29,7 @@ free_front s (b ∷ bytes) (suc i) none in_it = (
   free_front s bytes i (λ k lt is. none (suc k) (omega arith) is) (omega arith),
 )
 
--- bytes are what stands before a separator in them, that separator, and what stands behind it
+-- bytes are the bytes before a separator, the separator, and the bytes after it
 pub is_cut : (s : ℕ) (bytes : List ℕ) (i : ℕ) → i < length bytes → slice_index bytes i ≡ s
     → bytes ≡ take i bytes ++ s ∷ take (length bytes - (i + 1)) (drop (i + 1) bytes)
 is_cut s bytes i lt here =
@@ -38,16 +38,7 @@ is_cut s bytes i lt here =
     sym (take-append-drop i bytes) ∙ ap (λ (xs : List ℕ). take i bytes ++ xs)
     (rw (at, rest, add-one) (ap (λ (b : ℕ). b ∷ drop (suc i) bytes) here))
 
--- a front that is free of the separator is so with one byte more that is not the separator
-pub free_more : (s : ℕ) (bytes : List ℕ) (i : ℕ) → i < length bytes → IsFree s (take i bytes)
-    → slice_index bytes i ≢ s → IsFree s (take (i + 1) bytes)
-free_more s [] i lt free other = absurd (omega arith)
-free_more s (b ∷ bytes) zero lt free other = (other, tt)
-free_more s (b ∷ bytes) (suc i) lt free other =
-    let more = free_more s bytes i (omega arith) free.1 other in
-    rw add-one (free.0, rw add-one at more)
-
--- bytes that are free of the separator as a whole are not cut at one
+-- bytes that do not contain the separator as a whole are not split
 pub free_whole : (s : ℕ) (bytes : List ℕ) (i : ℕ) → length bytes ≤ i → IsFree s (take i bytes)
     → (before after : List ℕ) → bytes ≢ before ++ s ∷ after
 free_whole s [] i le free before after e = no_middle before (sym e) where
@@ -59,7 +50,7 @@ free_whole s (b ∷ bytes) (suc i) le free [] after e = free.0 (cc e)
 free_whole s (b ∷ bytes) (suc i) le free (c ∷ before) after e =
     free_whole s bytes i (omega arith) free.1 before after (cc e)
 
--- two ways to cut at the first separator are one
+-- two ways to split at the first separator are the same
 pub apart : (s : ℕ) (v w after rest : List ℕ) → IsFree s v → IsFree s w → v ++ s ∷ after ≡ w ++ s ∷ rest
     → (v ≡ w) × (after ≡ rest)
 apart s [] [] after rest h k e = (refl, cc e)
@@ -70,7 +61,7 @@ apart s (b ∷ v) (c ∷ w) after rest h k e =
     let first : b ≡ c = cc e in
     (cc (first, more.0), more.1)
 
--- where the word before the first space is no value's, the bytes begin with no value's word and a space
+-- if the word before the first space spells no value, the bytes start with no value's word and a space
 pub no_field : {X : Type 0} (Fits : X → Type 0) (word_of : X → List ℕ)
     → ((x : X) → Fits x → IsFree SPACE (word_of x)) → (bytes word rest : List ℕ) → IsFree SPACE word
     → bytes ≡ word ++ SPACE ∷ rest
@@ -78,11 +69,11 @@ pub no_field : {X : Type 0} (Fits : X → Type 0) (word_of : X → List ℕ)
 no_field Fits word_of free bytes word rest clear is none x after fits e =
     none x fits (apart SPACE word (word_of x) rest after clear (free x fits) (sym is ∙ e)).0
 
--- bytes for which a test of equality fails are not the word that they were compared with
+-- bytes that fail a comparison with a word are not that word
 pub differs : (bytes word : List ℕ) (r : Bool) → (IsTrue r ↔ (bytes ≡ word)) → r ≡ false → bytes ≢ word
 differs bytes word r is other e = let same = is.1 e in absurd (cc (same, other))
 
--- bytes that have a space in them are not a word that has none
+-- bytes that contain a space are not a word without spaces
 pub no_space_in : (v after w : List ℕ) → IsFree SPACE w → v ++ SPACE ∷ after ≡ w → ⊥
 no_space_in [] after [] free bad = absurd (cc bad)
 no_space_in [] after (c ∷ w) free bad = free.0 (sym (cc bad))

@@ -1,4 +1,4 @@
--- Commands, replies and entries have words of their own, and each line of any bytes has a reading as one.
+-- Commands, replies and entries have words of their own, and each line has a reading as one of them.
 use Rattle.std.proofs.Common.{◌≢◌, ℕ, List, Option, refl, subst, arith, rules, inr}
 use Rattle.std.specs.List.{AllByRecursion}
 use Rattle.std.specs.Prelude.{codes}
@@ -19,7 +19,7 @@ use Rattle.smx_words.proofs.SameCommandLemmas.{same_command}
 use Rattle.smx_words.proofs.SameReplyLemmas.{same_reply}
 use Rattle.smx_words.proofs.SameWordLemmas.{every_fault, flush_sides}
 
--- any words are those of a command, or of none
+-- any words are those of a command, or of no command
 command_answer : (ws : List (List ℕ)) → Answer FitsCommand command_words ws
 command_answer ws =
     or_else command.OpenClone (after (codes "clone") refl (last name)) (λ p h. h) (λ no_clone.
@@ -71,7 +71,7 @@ command_answer ws =
       | command.Hangup d n ↦ no_hangup (d, n)
     ])))))))))))))))))))))
 
--- each command has words of its own, and whether words are a command's is told
+-- each command has words of its own, and it is decided whether words are a command's
 pub command_has_words : HasWords FitsCommand command_words
 command_has_words = record {
   answer = command_answer;
@@ -79,7 +79,7 @@ command_has_words = record {
   are_words = λ c h. plain_words (command_words c) (command_plain c h);
 }
 
--- any words are those of a reply, or of none
+-- any words are those of a reply, or of no reply
 reply_answer : (ws : List (List ℕ)) → Answer FitsReply reply_words ws
 reply_answer ws =
     or_else (λ p. reply.Fd p.0 p.1) (after (codes "fd") refl two_numbers) (λ p h. h) (λ no_fd.
@@ -100,7 +100,7 @@ reply_answer ws =
       | reply.Fault f ↦ no_fault f
     ])))))))))
 
--- each reply has words of its own, and whether words are a reply's is told
+-- each reply has words of its own, and it is decided whether words are a reply's
 pub reply_has_words : HasWords FitsReply reply_words
 reply_has_words = record {
   answer = reply_answer;
@@ -108,30 +108,30 @@ reply_has_words = record {
   are_words = λ r h. plain_words (reply_words r) (reply_plain r h);
 }
 
--- each call has words of its own, and whether words are a call's is told
+-- each call has words of its own, and it is decided whether words are a call's
 pub call_has_words : HasWords FitsCall call_words
 call_has_words = first process command_has_words
 
--- each entry has words of its own, and whether words are an entry's is told
+-- each entry has words of its own, and it is decided whether words are an entry's
 pub entry_has_words : HasWords FitsEntry entry_words
 entry_has_words = via (λ p. record { process = p.0; command = p.1.0; reply = p.1.1 })
     (first process (joined (codes "=") refl command_has_words no_sign reply_has_words))
     (λ e. (e.process, (e.command, e.reply))) (λ p h. search rules) (λ e h. search rules) (λ e. refl) where
-      -- no word of a command is the sign
+      -- no word of a command is the equals sign
       no_sign : (c : Command) → FitsCommand c → AllByRecursion (λ w. w ≢ codes "=") (command_words c)
       no_sign c h = all_weaker (λ w k e. (subst (IsFree EQUALS) e k).0 refl) (command_words c)
           (plain_words_free (command_words c) (command_plain c h))
 
 -- ---- each line has a reading
 
--- each line is that of a command, or of none
+-- each line is that of a command, or of no command
 pub command_reading : (line : List ℕ) → (o : Option Command) × IsReadAs FitsCommand command_words line o
 command_reading = reading command_has_words some_command
 
--- each line is that of an entry, or of none
+-- each line is that of an entry, or of no entry
 pub entry_reading : (line : List ℕ) → (o : Option Entry) × IsReadAs FitsEntry entry_words line o
 entry_reading = reading entry_has_words (λ e. omega arith)
 
--- each line is that of a call, or of none
+-- each line is that of a call, or of no call
 pub call_reading : (line : List ℕ) → (o : Option (ℕ × Command)) × IsReadAs FitsCall call_words line o
 call_reading = reading call_has_words (λ c. omega arith)

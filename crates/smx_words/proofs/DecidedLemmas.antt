@@ -1,5 +1,5 @@
--- Words of some values: none is of two of them, and whether words are of one is told for words, for words in order, and
--- for the line of words.
+-- Values with words of their own: no two values share their words, and it is decided whether some words belong to a
+-- value. Stated for one word, for several words in order, and for the line of the words.
 use Rattle.std.proofs.Common.{◌≡◌, ◌≢◌, ℕ, ◌<◌, ◌≤◌, Bool, true, false, ◌&&◌, List, [], ◌∷◌, ◌++◌, length, map}
 use Rattle.std.proofs.Common.{Option, Some, None, refl, sym, ap, subst, ◌∙◌, arith, inl, inr}
 use Rattle.std.specs.Prelude.{◌⊎◌, nat_le}
@@ -11,27 +11,27 @@ use Rattle.smx_words.specs.LineReading.{IsReadAs}
 use Rattle.smx_words.specs.Words.{IsWord, SPACE, line_of}
 use Rattle.smx_words.proofs.LineLemmas.{all_append, same_free_words, same_words, words_free, words_in}
 
--- some value fits and is spelled so
+-- some value that fits is spelled so
 abbrev Has : {X S : Type 0} → (X → Type 0) → (X → S) → S → Type 0
 Has {X} {S} Fits spelling s = (x : X) × Fits x × (s ≡ spelling x)
 
--- some value that fits is spelled so, or none is
+-- some value that fits is spelled so, or no such value is
 abbrev pub Answer : {X S : Type 0} → (X → Type 0) → (X → S) → S → Type 0
 Answer {X} {S} Fits spelling s = Has Fits spelling s ⊎ ((x : X) → Fits x → s ≢ spelling x)
 
--- each value that fits has a word of its own, and whether a word is one of theirs is told
+-- each value that fits has a word of its own, and it is decided whether a word is one of theirs
 pub record HasWord {X : Type 0} (Fits : X → Type 0) (word : X → List ℕ) : Type 0 where
   pub answer : (w : List ℕ) → Answer Fits word w
   pub one : (x y : X) → Fits x → Fits y → word x ≡ word y → x ≡ y
   pub is_word : (x : X) → Fits x → IsWord (word x)
 
--- each value that fits has words of its own, and whether words are those of one is told
+-- each value that fits has words of its own, and it is decided whether words are those of one
 pub record HasWords {X : Type 0} (Fits : X → Type 0) (words : X → List (List ℕ)) : Type 0 where
   pub answer : (ws : List (List ℕ)) → Answer Fits words ws
   pub one : (x y : X) → Fits x → Fits y → words x ≡ words y → x ≡ y
   pub are_words : (x : X) → Fits x → AllByRecursion IsWord (words x)
 
--- two words are the same or they differ
+-- two words are equal or different
 pub same_or_not : (w v : List ℕ) → (w ≡ v) ⊎ (w ≢ v)
 same_or_not w v = by_test (bytes_eq w v) refl where
   by_test : (b : Bool) → bytes_eq w v ≡ b → (w ≡ v) ⊎ (w ≢ v)
@@ -40,39 +40,39 @@ same_or_not w v = by_test (bytes_eq w v) refl where
     wrong : true ≡ false → ⊥
     wrong bad = absurd (cc bad)
 
--- each of these bytes can be seen, as a test
+-- a test: each of these bytes is visible
 abbrev is_seen : List ℕ → Bool
 is_seen w = list_all (λ b. nat_le 0x21 b && nat_le b 0x7E) w
 
--- these are one or more bytes that can be seen, as a test
+-- a test: these are one or more visible bytes
 abbrev is_word : List ℕ → Bool
 is_word [] = false
 is_word (b ∷ w) = is_seen (b ∷ w)
 
--- of bytes that pass this test each can be seen
+-- bytes that pass this test are all visible
 seen : (w : List ℕ) → is_seen w ≡ true → AllByRecursion (λ b. (0x21 ≤ b) × (b ≤ 0x7E)) w
 seen [] h = tt
 seen (b ∷ w) h = ((grind (arith, nat_tests), grind (arith, nat_tests)), seen w (grind (arith, nat_tests)))
 
--- bytes that pass the test of a word are a word
+-- bytes that pass the test for words are a word
 word_is : (w : List ℕ) → is_word w ≡ true → IsWord w
 word_is [] h = absurd (cc h)
 word_is (b ∷ w) h = (omega arith, seen (b ∷ w) h)
 
--- two pairs of the same parts are the same
+-- two pairs with equal parts are equal
 both : {X Y : Type 0} (p q : X × Y) → p.0 ≡ q.0 → p.1 ≡ q.1 → p ≡ q
 both {X} {Y} p q h k = let same : ◌≡◌ {A = X × Y} (p.0, p.1) (q.0, q.1) = cc (h, k) in same
 
--- ---- words in order
+-- ---- several words in order
 
--- a value that has no words is told where there are none
+-- the one value without words is determined by an empty list of words
 pub nothing : HasWords (λ (x : Unit {0}). Unit {0}) (λ (x : Unit {0}). [])
 nothing = record { answer = answer; one = λ x y h k e. refl; are_words = λ x h. tt } where
   answer : (ws : List (List ℕ)) → Answer (λ (x : Unit {0}). Unit {0}) (λ (x : Unit {0}). []) ws
   answer [] = inl (tt, tt, refl)
   answer (w ∷ ws) = inr (λ x fits e. absurd (cc e))
 
--- values that are told by a word are told by it where no more words follow
+-- values determined by one word are determined by it as the only word
 pub last : {X : Type 0} {Fits : X → Type 0} {word : X → List ℕ} → HasWord Fits word → HasWords Fits (λ x. word x ∷ [])
 last {X} {Fits} {word} d = record {
   answer = answer;
@@ -88,7 +88,7 @@ last {X} {Fits} {word} d = record {
       ]
   answer (w ∷ v ∷ ws) = inr (λ x fits e. absurd (cc e))
 
--- values told by a word, and others told by the words behind it, are told together by all of these
+-- values determined by a word, and others by the words after it, are together determined by all these words
 pub first : {X Y : Type 0} {Fits : X → Type 0} {word : X → List ℕ} {FitsMore : Y → Type 0}
     {words : Y → List (List ℕ)} → HasWord Fits word → HasWords FitsMore words
     → HasWords (λ (p : X × Y). Fits p.0 × FitsMore p.1) (λ (p : X × Y). word p.0 ∷ words p.1)
@@ -109,7 +109,7 @@ first {X} {Y} {Fits} {word} {FitsMore} {words} d more = record {
         | inr none ↦ inr (λ x fits e. none x.0 fits.0 (cc e))
       ]
 
--- values that are told by their words are told by them behind a word that stands for nothing
+-- values determined by their words are determined by them after a fixed word
 pub after : {X : Type 0} {Fits : X → Type 0} {words : X → List (List ℕ)} (word : List ℕ) → is_word word ≡ true
     → HasWords Fits words → HasWords Fits (λ x. word ∷ words x)
 after {X} {Fits} {words} word is d = record {
@@ -128,7 +128,7 @@ after {X} {Fits} {words} word is d = record {
         | inr other ↦ inr (λ x fits e. other (cc e))
       ]
 
--- lists of values, each told by a word, are told by these words in order
+-- lists of values, each determined by a word, are determined by these words in order
 pub each : {X : Type 0} {Fits : X → Type 0} {word : X → List ℕ} → HasWord Fits word
     → HasWords (AllByRecursion Fits) (map word)
 each {X} {Fits} {word} d = record { answer = answer; one = one; are_words = are_words } where
@@ -161,7 +161,7 @@ each {X} {Fits} {word} d = record { answer = answer; one = one; are_words = are_
         no_first none [] fits e = absurd (cc e)
         no_first none (x ∷ xs) fits e = none x fits.0 (cc e)
 
--- pairs are told by the words of the first value, a word that is none of them, and the words of the second
+-- pairs are determined by the words of the first value, a sign that is not among them, and the words of the second
 pub joined : {X Y : Type 0} {Fits : X → Type 0} {words : X → List (List ℕ)} {FitsMore : Y → Type 0}
     {more : Y → List (List ℕ)} (sign : List ℕ) → is_word sign ≡ true → HasWords Fits words
     → ((x : X) → Fits x → AllByRecursion (λ w. w ≢ sign) (words x)) → HasWords FitsMore more
@@ -173,7 +173,7 @@ joined {X} {Y} {Fits} {words} {FitsMore} {more} sign is d free m = record {
       both p q (d.one p.0 q.0 h.0 k.0 t.0) (m.one p.1 q.1 h.1 k.1 t.1);
   are_words = λ p h. all_append IsWord (words p.0) _ (d.are_words p.0 h.0) (word_is sign is, m.are_words p.1 h.1);
 } where
-  -- the sign is found in one place
+  -- the sign occurs at one place
   alone : (a c b e : List (List ℕ)) → AllByRecursion (λ w. w ≢ sign) a → AllByRecursion (λ w. w ≢ sign) c
       → a ++ sign ∷ b ≡ c ++ sign ∷ e → (a ≡ c) × (b ≡ e)
   alone [] [] b e h k is = (refl, cc is)
@@ -184,7 +184,7 @@ joined {X} {Y} {Fits} {words} {FitsMore} {more} sign is d free m = record {
       let t = alone a c b e h.1 k.1 (cc is) in
       (cc (first, t.0), t.1)
 
-  -- or nowhere
+  -- or the sign does not occur
   cut : (ws : List (List ℕ))
       → ((a : List (List ℕ)) × (b : List (List ℕ)) × AllByRecursion (λ w. w ≢ sign) a × (ws ≡ a ++ sign ∷ b))
       ⊎ ((a b : List (List ℕ)) → ws ≢ a ++ sign ∷ b)
@@ -221,9 +221,9 @@ joined {X} {Y} {Fits} {words} {FitsMore} {more} sign is d free m = record {
             none p.0 fits.0 (alone a (words p.0) b (more p.1) clear (free p.0 fits.0) (sym whole ∙ e)).0)
       ]
 
--- ---- other values for the same words
+-- ---- values represented by other values
 
--- values for which others stand are told by their words where the others are
+-- values that correspond to other values are determined by the words of those
 pub via : {X Y : Type 0} {Fits : X → Type 0} {words : X → List (List ℕ)} {FitsOther : Y → Type 0} (make : Y → X)
     → HasWords FitsOther (λ y. words (make y)) → (back : X → Y) → ((y : Y) → FitsOther y → Fits (make y))
     → ((x : X) → Fits x → FitsOther (back x)) → ((x : X) → make (back x) ≡ x) → HasWords Fits words
@@ -243,7 +243,7 @@ via {X} {Y} {Fits} {words} {FitsOther} make d back to from same = record {
         | inr none ↦ inr (λ x fits e. none (back x) (from x fits) (e ∙ sym (was x)))
       ]
 
--- whether words are a value's is told where it is told once they are known to be those of no value of one form
+-- it is decided whether words are a value's if it is decided once the words are known not to be those of one form
 pub or_else : {X Y : Type 0} {Fits : X → Type 0} {words : X → List (List ℕ)} {FitsOther : Y → Type 0}
     {ws : List (List ℕ)} (make : Y → X) → HasWords FitsOther (λ y. words (make y))
     → ((y : Y) → FitsOther y → Fits (make y))
@@ -253,13 +253,13 @@ or_else {ws = ws} make d to rest =
 
 -- ---- lines
 
--- no two values that have words of their own have one line
+-- no two values with words of their own have the same line
 pub one_line : {X : Type 0} {Fits : X → Type 0} {words_of : X → List (List ℕ)} → HasWords Fits words_of
     → (x y : X) → Fits x → Fits y → line_of (words_of x) ≡ line_of (words_of y) → x ≡ y
 one_line {words_of = words_of} d x y h k e =
     d.one x y h k (same_words (words_of x) (words_of y) (d.are_words x h) (d.are_words y k) e)
 
--- each line is that of one of the values that have words of their own, or of none
+-- each line is that of a value with words of its own, or of no such value
 pub reading : {X : Type 0} {Fits : X → Type 0} {words_of : X → List (List ℕ)} → HasWords Fits words_of
     → ((x : X) → 0 < length (words_of x)) → (line : List ℕ) → (o : Option X) × IsReadAs Fits words_of line o
 reading {X} {Fits} {words_of} d some line =

@@ -1,4 +1,4 @@
--- Each kind of value has words of its own, and each line of any bytes has a reading as it.
+-- Each kind of value has words of its own, and each line has a reading as that kind.
 use Rattle.std.proofs.Common.{ℕ, List, Option, refl, arith, rules}
 use Rattle.std.specs.Prelude.{codes}
 use Rattle.smx_types.specs.declared.driver.DriverSpec.{DriverSpec}
@@ -18,15 +18,15 @@ use Rattle.smx_words.proofs.DecidedWordLemmas.{bytes, name, number, process}
 use Rattle.smx_words.proofs.SameWordLemmas.{driver_kind, link_kind, stream_side}
 use Rattle.smx_types.specs.declared.view.HungLine.{HungLine}
 
--- the start of each process has words of its own, and whether words are such a start is told
+-- the start of each process has words of its own, and it is decided whether words are such a start
 pub process_has_words : HasWords FitsNumber process_words
 process_has_words = after (codes "process") refl (last number)
 
--- each next id and next serial have words of their own, and whether words are such two is told
+-- each next id and serial have words of their own, and it is decided whether words are such a pair
 pub next_has_words : HasWords FitsNext next_words
 next_has_words = after (codes "next") refl (first number (last number))
 
--- each driver has words of its own, and whether words are a driver's is told
+-- each driver has words of its own, and it is decided whether words are a driver's
 pub driver_has_words : HasWords FitsDriver driver_words
 driver_has_words =
     via
@@ -36,13 +36,13 @@ driver_has_words =
     (λ d. (d.name, (d.kind, (d.minors, (d.high, (d.low, d.max))))))
     (λ p h. search rules) (λ d h. search rules) (λ d. refl)
 
--- each open descriptor has words of its own, and whether words are a descriptor's is told
+-- each open descriptor has words of its own, and it is decided whether words are a descriptor's
 pub descriptor_has_words : HasWords FitsDescriptor descriptor_words
 descriptor_has_words = via (λ p. record { process = p.0; fd = p.1.0; driver = p.1.1.0; minor = p.1.1.1 })
     (after (codes "fd") refl (first process (first number (first name (last number)))))
     (λ d. (d.process, (d.fd, (d.driver, d.minor)))) (λ p h. search rules) (λ d h. search rules) (λ d. refl)
 
--- each link has words of its own, and whether words are a link's is told
+-- each link has words of its own, and it is decided whether words are a link's
 pub link_has_words : HasWords FitsLink link_words
 link_has_words =
     via (λ p. record {
@@ -58,19 +58,19 @@ link_has_words =
     (λ l. (l.id, (l.ctl_driver, (l.ctl_minor, (l.lower_driver, (l.lower_minor, l.kind))))))
     (λ p h. search rules) (λ l h. search rules) (λ l. refl)
 
--- each binding has words of its own, and whether words are a binding's is told
+-- each binding has words of its own, and it is decided whether words are a binding's
 pub bind_has_words : HasWords FitsBinding bind_words
 bind_has_words = via (λ p. record { driver = p.0; addr = p.1.0; minor = p.1.1 })
     (after (codes "bind") refl (first name (first number (last number))))
     (λ b. (b.driver, (b.addr, b.minor))) (λ p h. search rules) (λ b h. search rules) (λ b. refl)
 
--- each route has words of its own, and whether words are a route's is told
+-- each route has words of its own, and it is decided whether words are a route's
 pub route_has_words : HasWords FitsRoute route_words
 route_has_words = via (λ p. record { driver = p.0; addr = p.1.0; id = p.1.1 })
     (after (codes "route") refl (first name (first number (last number))))
     (λ r. (r.driver, (r.addr, r.id))) (λ p h. search rules) (λ r h. search rules) (λ r. refl)
 
--- each queued message has words of its own, and whether words are a queued message's is told
+-- each queued message has words of its own, and it is decided whether words are a queued message's
 pub message_has_words : HasWords FitsMessage message_words
 message_has_words =
     via (λ p. record {
@@ -84,12 +84,12 @@ message_has_words =
     (λ m. (m.driver, (m.minor, (m.side, (m.message.serial, (m.message.addr, m.message.bytes))))))
     (λ p h. search rules) (λ m h. search rules) (λ m. refl)
 
--- each hung-up stream has words of its own, and whether words are a hung-up stream's is told
+-- each hung-up stream has words of its own, and it is decided whether words are a hung-up stream's
 pub hung_has_words : HasWords FitsHung hung_words
 hung_has_words = via (λ p. record { driver = p.0; minor = p.1 }) (after (codes "hung") refl (first name (last number)))
     (λ s. (s.driver, s.minor)) (λ p h. search rules) (λ s h. search rules) (λ s. refl)
 
--- each full place has words of its own, and whether words are a full place's is told
+-- each full place has words of its own, and it is decided whether words are a full place's
 pub full_has_words : HasWords FitsFull full_words
 full_has_words = via (λ p. record { driver = p.0; minor = p.1.0; side = p.1.1 })
     (after (codes "full") refl (first name (first number (last stream_side))))
@@ -97,42 +97,42 @@ full_has_words = via (λ p. record { driver = p.0; minor = p.1.0; side = p.1.1 }
 
 -- ---- each line has a reading
 
--- each line is that with which a process begins, or is none
+-- each line is the start of a process, or of no process
 pub process_reading : (line : List ℕ) → (o : Option ℕ) × IsReadAs FitsNumber process_words line o
 process_reading = reading process_has_words (λ x. omega arith)
 
--- each line is that of a next id and a next serial, or of none
+-- each line is that of a next id and a next serial, or of no such pair
 pub next_reading : (line : List ℕ) → (o : Option (ℕ × ℕ)) × IsReadAs FitsNext next_words line o
 next_reading = reading next_has_words (λ x. omega arith)
 
--- each line is that of a driver, or of none
+-- each line is that of a driver, or of no driver
 pub driver_reading : (line : List ℕ) → (o : Option DriverSpec) × IsReadAs FitsDriver driver_words line o
 driver_reading = reading driver_has_words (λ x. omega arith)
 
--- each line is that of an open descriptor, or of none
+-- each line is that of an open descriptor, or of no open descriptor
 pub descriptor_reading : (line : List ℕ) → (o : Option DescriptorLine) × IsReadAs FitsDescriptor descriptor_words line o
 descriptor_reading = reading descriptor_has_words (λ x. omega arith)
 
--- each line is that of a link, or of none
+-- each line is that of a link, or of no link
 pub link_reading : (line : List ℕ) → (o : Option LinkLine) × IsReadAs FitsLink link_words line o
 link_reading = reading link_has_words (λ x. omega arith)
 
--- each line is that of a binding, or of none
+-- each line is that of a binding, or of no binding
 pub bind_reading : (line : List ℕ) → (o : Option BindingLine) × IsReadAs FitsBinding bind_words line o
 bind_reading = reading bind_has_words (λ x. omega arith)
 
--- each line is that of a route, or of none
+-- each line is that of a route, or of no route
 pub route_reading : (line : List ℕ) → (o : Option RouteLine) × IsReadAs FitsRoute route_words line o
 route_reading = reading route_has_words (λ x. omega arith)
 
--- each line is that of a queued message, or of none
+-- each line is that of a queued message, or of no queued message
 pub message_reading : (line : List ℕ) → (o : Option MessageLine) × IsReadAs FitsMessage message_words line o
 message_reading = reading message_has_words (λ x. omega arith)
 
--- each line is that of a full place, or of none
+-- each line is that of a full place, or of no full place
 pub full_reading : (line : List ℕ) → (o : Option FullLine) × IsReadAs FitsFull full_words line o
 full_reading = reading full_has_words (λ x. omega arith)
 
--- each line is that of a hung-up stream, or of none
+-- each line is that of a hung-up stream, or of no hung-up stream
 pub hung_reading : (line : List ℕ) → (o : Option HungLine) × IsReadAs FitsHung hung_words line o
 hung_reading = reading hung_has_words (λ x. omega arith)

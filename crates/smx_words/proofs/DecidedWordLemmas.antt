@@ -1,4 +1,4 @@
--- Numbers, names, bytes and ids have a word of their own each, and whether a word is one of theirs is told.
+-- Each number, name, list of bytes and id has a word of its own, and it is decided whether a word is one of these.
 use Rattle.std.proofs.Common.{◌≡◌, ◌≢◌, ℕ, ◌<◌, ◌≤◌, ◌^◌, ◌%◌, Bool, true, false, List, [], ◌∷◌, length}
 use Rattle.std.proofs.Common.{refl, sym, ap, ◌∙◌, arith, inl, inr}
 use Rattle.std.specs.Prelude.{codes}
@@ -19,7 +19,7 @@ use Rattle.smx_words.proofs.NumberLemmas.{own, same_number}
 use Rattle.smx_words.proofs.PlainLemmas.{hex_plain, name_plain, number_plain, plain_word, which_plain}
 use Rattle.smx_words.proofs.SameWordLemmas.{same_bytes, same_which}
 
--- each word is that of a number below the limit, or of none
+-- each word is that of a number below the limit, or of no such number
 below : (limit : ℕ) → limit ≤ 2 ^ 32 → HasWord (λ n. n < limit) decimal
 below limit le = record {
   answer = answer;
@@ -39,15 +39,15 @@ below limit le = record {
         | inr large ↦ inr (λ n fits e. omega (arith, large, fits, value w n fits e))
       ]
 
--- each word is that of a number of 32 bits, or of none
+-- each word is that of a number of 32 bits, or of no such number
 pub number : HasWord FitsNumber decimal
 number = below (2 ^ 32) (omega arith)
 
--- each word is that of a process, or of none
+-- each word is that of a process, or of no process
 pub process : HasWord FitsProcess decimal
 process = below _ (omega arith)
 
--- each word is a driver's name, or is none
+-- each word is a driver's name, or no driver's name
 pub name : HasWord FitsName (λ (w : List ℕ). w)
 name = record {
   answer = λ w. by_test w (is_name w) refl;
@@ -60,7 +60,7 @@ name = record {
     wrong : true ≡ false → ⊥
     wrong bad = absurd (cc bad)
 
--- each word is that of bytes, a dash or digits of even length, or of none
+-- each word is that of some bytes (a dash, or digits of even length), or of no bytes
 pub bytes : HasWord FitsBytes hex_word
 bytes = record {
   answer = answer;
@@ -87,7 +87,7 @@ bytes = record {
     ]
   ]
 
--- each word is that of an id, or of all, or is none
+-- each word is that of an id, the word for all, or neither
 pub id_or_all : HasWord FitsWhich which_word
 id_or_all = record {
   answer = answer;
@@ -108,12 +108,12 @@ id_or_all = record {
     ]
   ]
 
--- ---- words in order that several values have
+-- ---- several words that more than one value has
 
--- any words are those of two numbers, or of none
+-- any words are those of two numbers, or not
 pub two_numbers : HasWords (λ p. FitsNumber p.0 × FitsNumber p.1) (λ (p : ℕ × ℕ). decimal p.0 ∷ decimal p.1 ∷ [])
 two_numbers = first number (last number)
 
--- any words are those of a number and of an id or all, or of none
+-- any words are those of a number and of an id or all, or not
 pub number_which : HasWords (λ p. FitsNumber p.0 × FitsWhich p.1) (λ (p : ℕ × Which). decimal p.0 ∷ which_word p.1 ∷ [])
 number_which = first number (last id_or_all)

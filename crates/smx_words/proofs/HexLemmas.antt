@@ -1,14 +1,13 @@
--- Bytes as words: digits spell the bytes of their values.
+-- Bytes as words of hexadecimal digits.
 use lib.Seq.{take-append_seam}
 use Rattle.std.proofs.Common.{◌≡◌, ◌≢◌, ℕ, zero, suc, ◌+◌, ◌-◌, ◌*◌, ◌/◌, ◌%◌, ◌<◌, ◌≤◌, Bool, true, false}
 use Rattle.std.proofs.Common.{cond, eqb, ltb, ◌&&◌, List, [], ◌∷◌, ◌++◌, length, slice_index, get_or, take}
 use Rattle.std.proofs.Common.{set, refl, sym, ap, ◌∙◌, append_assoc, arith, inl, inr}
 use Rattle.std.specs.List.{list_all}
-use Rattle.std.specs.Prelude.{bit_or, codes}
+use Rattle.std.specs.Prelude.{codes}
 use Rattle.std.proofs.lemmas.Bool.{and_parts, cases_lt}
 use Rattle.std.proofs.lemmas.Bool.Decides.{nat_tests}
 use Rattle.std.proofs.lemmas.List.{take_more, take_more_set}
-use Rattle.std.proofs.lemmas.Nat.{le_or_l, le_or_r, or_lt}
 use Rattle.hex.specs.Hex.{IsBytes, encode_lower, encode_with, lower_digits}
 use Rattle.smx_words.specs.HexWords.{hex_word, is_digit}
 use Rattle.smx_words.specs.LineReading.{IsSpelled}
@@ -20,12 +19,12 @@ use Rattle.smx_words.specs.Spellable.{FitsBytes}
 abbrev pub digit : ℕ → ℕ
 digit n = cond (ltb n 10) (48 + n) (87 + n)
 
--- so many of the library's lower-case digits are these, as a test
+-- a test: the first n of the library's lower-case digits are these
 abbrev are_digits : ℕ → Bool
 are_digits zero = true
 are_digits (suc n) = eqb (slice_index lower_digits n) (digit n) && are_digits n
 
--- where so many of the library's lower-case digits are these, each one of them is
+-- if the first n of the library's lower-case digits are these, each one of them is
 digit_below : (n k : ℕ) → are_digits n ≡ true → k < n → slice_index lower_digits k ≡ digit k
 digit_below zero k h lt = absurd (omega arith)
 digit_below (suc n) k h lt =
@@ -38,11 +37,11 @@ digit_below (suc n) k h lt =
           rw same here
     ]
 
--- the sixteen lower-case digits of the library are these
+-- the sixteen lower-case digits of the library are these digits
 pub digit_is : (k : ℕ) → k < 16 → slice_index lower_digits k ≡ digit k
 digit_is k lt = digit_below 16 k refl lt
 
--- each of the sixteen digits passes the test of a digit, is from 48 to 102, and is no equals sign
+-- each of the sixteen digits passes the test for digits, is from 48 to 102, and is not an equals sign
 pub digit_range : (k : ℕ) → k < 16 → (47 < digit k) × (digit k < 103) × (digit k ≢ 61) × (is_digit (digit k) ≡ true)
 digit_range k lt = elim (cases_lt k 10) [
   | inl small ↦ let is : digit k ≡ 48 + k = grind (arith, nat_tests) in
@@ -63,23 +62,23 @@ of_letter d low high = let large : ltb (d - 97 + 10) 10 ≡ false = grind (arith
 
 -- ---- bytes and their digits
 
--- bytes that can be spelled are bytes in the words of the library
+-- bytes that can be spelled are bytes as the library defines them
 pub are_bytes : (bs : List ℕ) → FitsBytes bs → IsBytes bs
 are_bytes [] h i = omega arith
 are_bytes (b ∷ bs) h zero = h.0
 are_bytes (b ∷ bs) h (suc i) = are_bytes bs h.1 i
 
--- bytes, one or more, are encoded as two digits or more
+-- one or more bytes are encoded as at least two digits
 pub long : (b : ℕ) (bs : List ℕ) → 1 < length (encode_lower (b ∷ bs))
 unfolding encode_with
 long b bs = omega arith
 
--- a dash is the word of no bytes, and of no others
+-- a dash is the word of no bytes, and of nothing else
 pub dash : (bs : List ℕ) → hex_word bs ≡ codes "-" → bs ≡ []
 dash [] e = refl
 dash (b ∷ bs) e = absurd (omega (arith, long b bs, ap (length {A = ℕ}) e))
 
--- what bytes are encoded as is digits alone
+-- encoded bytes are only digits
 pub encoded_digits : (bs : List ℕ) → FitsBytes bs → list_all is_digit (encode_lower bs) ≡ true
 unfolding encode_with
 encoded_digits [] h = refl
@@ -91,7 +90,7 @@ encoded_digits (b ∷ bs) h =
     let z = digit_range (b % 16) low in
     rw (digit_is (b / 16) high, digit_is (b % 16) low, a.3, z.3, encoded_digits bs h.1) refl
 
--- one byte more behind others is encoded as two digits more
+-- one more byte after others is encoded as two more digits
 pub encode_push : (bs : List ℕ) (b : ℕ) → encode_lower (bs ++ b ∷ [])
     ≡ encode_lower bs ++ slice_index lower_digits (b / 16) ∷ slice_index lower_digits (b % 16) ∷ []
 unfolding encode_with
@@ -104,13 +103,13 @@ unfolding encode_with
 encoded_long [] = refl
 encoded_long (b ∷ bs) = omega (arith, encoded_long bs)
 
--- a word of digits of even length, one or more, is the bytes' that are spelled so
+-- the digits of one or more bytes are the word of these bytes
 pub some_digits : (w bs : List ℕ) → 0 < length w → w ≡ encode_lower bs → w ≡ hex_word bs
 unfolding encode_with
 some_digits w [] some e = absurd (omega (arith, ap (length {A = ℕ}) e))
 some_digits w (b ∷ bs) some e = e
 
--- bytes are spelled by digits of even length, one or more, or by a dash
+-- a word other than a dash that spells bytes is their digits, of even length and not empty
 pub by_digits : (w bs : List ℕ) → w ≢ codes "-" → FitsBytes bs → w ≡ hex_word bs
     → (0 < length w) × (list_all is_digit w ≡ true) × (length w ≡ 2 * length bs)
 by_digits w [] other fits e = absurd (other e)
@@ -120,15 +119,15 @@ by_digits w (b ∷ bs) other fits e = (
   ap (length {A = ℕ}) e ∙ encoded_long (b ∷ bs),
 )
 
--- ---- one byte more
+-- ---- one more byte
 
--- of a word that is digits alone, the byte at each index is a digit
+-- if a word is only digits, the byte at each index is a digit
 pub all_at : (w : List ℕ) (i : ℕ) → i < length w → list_all is_digit w ≡ true → is_digit (slice_index w i) ≡ true
 all_at [] i lt h = absurd (omega arith)
 all_at (b ∷ w) zero lt h = (and_parts (is_digit b) (list_all is_digit w) h).0
 all_at (b ∷ w) (suc i) lt h = all_at w i (omega arith) (and_parts (is_digit b) (list_all is_digit w) h).1
 
--- the first bytes of a word with two more are those and then these two
+-- the first bytes of a word, and two more, are those and then these two
 two_more : (w : List ℕ) (i : ℕ) → 2 * i + 1 < length w
     → take (2 * (i + 1)) w ≡ take (2 * i) w ++ get_or w (2 * i) 0 ∷ get_or w (2 * i + 1) 0 ∷ []
 two_more w i lt =
@@ -137,13 +136,13 @@ two_more w i lt =
     ∙ ap (λ (x : List ℕ). x ++ get_or w (2 * i + 1) 0 ∷ []) (take_more w (2 * i) 0 (omega arith))
     ∙ append_assoc (take (2 * i) w) (get_or w (2 * i) 0 ∷ []) (get_or w (2 * i + 1) 0 ∷ [])
 
--- a byte set to what the next two digits spell encodes as them, behind the bytes before
+-- setting a byte to the value of the next two digits adds these digits to the encoding of the bytes before it
 pub one_byte_more : (w bs : List ℕ) (i high low : ℕ) → length w ≡ 2 * length bs → i < length bs → high < 16 → low < 16
     → slice_index lower_digits high ≡ slice_index w (2 * i) → slice_index lower_digits low ≡ slice_index w (2 * i + 1)
     → take (2 * i) w ≡ encode_lower (take i bs)
-    → take (2 * (i + 1)) w ≡ encode_lower (take (i + 1) (set bs i (high % 16 * 16 + low % 16)))
+    → take (2 * (i + 1)) w ≡ encode_lower (take (i + 1) (set bs i (high * 16 + low)))
 one_byte_more w bs i high low even lt h l first second so_far =
-    let v = high % 16 * 16 + low % 16 in
+    let v = high * 16 + low in
     let top : v / 16 ≡ high = omega arith in
     let bottom : v % 16 ≡ low = omega arith in
     two_more w i (omega arith) ∙ rw (
@@ -162,7 +161,7 @@ one_byte_more w bs i high low even lt h l first second so_far =
 abbrev digit_value : ℕ → ℕ
 digit_value d = cond (ltb d 58) (d - 48) (d - 97 + 10)
 
--- a digit has a value below 16, and is the digit of that value
+-- a digit has a value below 16, and it is the digit of that value
 value_back : (d : ℕ) → is_digit d ≡ true → (digit_value d < 16) × (slice_index lower_digits (digit_value d) ≡ d)
 value_back d h = elim (cases_lt d 58) [
   | inl small ↦ let low : 48 ≤ d = grind (arith, nat_tests) in
@@ -179,7 +178,7 @@ bytes_at [] = []
 bytes_at (a ∷ []) = []
 bytes_at (a ∷ b ∷ w) = (digit_value a * 16 + digit_value b) ∷ bytes_at w
 
--- digits of even length spell bytes that can be spelled, and that are encoded as these digits
+-- digits of even length spell bytes that can be spelled and that are encoded as these digits
 spelled_by : (w : List ℕ) (n : ℕ) → length w ≡ 2 * n → list_all is_digit w ≡ true
     → FitsBytes (bytes_at w) × (w ≡ encode_lower (bytes_at w))
 unfolding encode_with
@@ -197,30 +196,16 @@ spelled_by (a ∷ b ∷ w) (suc n) even h =
     let bottom : v % 16 ≡ digit_value b = omega (arith, x.0, y.0) in
     ((omega (arith, x.0, y.0), more.0), rw (top, bottom, x.1, y.1, ← more.1) refl)
 
--- digits of even length, one or more, are the word of some bytes
+-- one or more digits of even length are the word of some bytes
 pub spell_some : (w : List ℕ) → 0 < length w → length w % 2 ≢ 1 → list_all is_digit w ≡ true
     → IsSpelled FitsBytes hex_word w
 spell_some w some even h =
     let s = spelled_by w (length w / 2) (omega (arith, even)) h in
     (bytes_at w, s.0, some_digits w (bytes_at w) some s.1)
 
--- ---- what the code's tests say
+-- ---- the results of the code's tests
 
--- three values joined bit by bit are below 16 exactly where each of them is
-pub worst_is : (worst high low : ℕ)
-    → (bit_or worst (bit_or high low) < 16 → (worst < 16) × (high < 16) × (low < 16))
-    × (worst < 16 → high < 16 → low < 16 → bit_or worst (bit_or high low) < 16)
-worst_is worst high low = (
-  λ small.
-      let one = le_or_l worst (bit_or high low) in
-      let both = le_or_r worst (bit_or high low) in
-      let first = le_or_l high low in
-      let last = le_or_r high low in
-      (omega (arith, one, small), omega (arith, both, first, small), omega (arith, both, last, small)),
-  λ w h l. or_lt 4 worst (bit_or high low) w (or_lt 4 high low h l),
-)
-
--- an empty word, or one of odd length, spells no bytes unless it is a dash
+-- an empty word, or a word of odd length, spells no bytes unless it is a dash
 pub odd_is_none : (w : List ℕ) → ((0 < length w → length w % 2 ≡ 1)) → w ≢ codes "-" → (bs : List ℕ)
     → FitsBytes bs → w ≢ hex_word bs
 odd_is_none w odd other bs fits e =
@@ -232,38 +217,33 @@ odd_is_none w odd other bs fits e =
 pub no_dash : (w : List ℕ) → length w % 2 ≢ 1 → w ≢ codes "-"
 no_dash w even e = even (ap (λ (x : List ℕ). length x % 2) e)
 
--- a word of even length with a byte that is no digit spells no bytes
+-- a word of even length that contains a byte other than a digit spells no bytes
 pub no_digits : (w : List ℕ) → length w % 2 ≢ 1 → list_all is_digit w ≡ false → (bs : List ℕ) → FitsBytes bs
     → w ≢ hex_word bs
 no_digits w even bad bs fits e = let by = by_digits w bs (no_dash w even) fits e in
     let both : true ≡ false = sym by.1 ∙ bad in absurd (cc both)
 
--- a word of even length with a byte that has no value below 16 spells no bytes
-pub too_bad : (w : List ℕ) (r : ℕ) → length w % 2 ≢ 1 → (list_all is_digit w ≡ true → r < 16) → 16 ≤ r
-    → (bs : List ℕ) → FitsBytes bs → w ≢ hex_word bs
-too_bad w r even good bad bs fits e = let by = by_digits w bs (no_dash w even) fits e in omega (arith, good by.1, bad)
-
--- where the bytes that digits spell were put in front of others, that many of the first bytes are what the word spells
-pub set_are : (w new old got : List ℕ) (n : ℕ) → 0 < length w → got ≡ take n (new ++ old) → length new ≡ n
-    → FitsBytes new → w ≡ encode_lower new → FitsBytes got × (w ≡ hex_word got)
-set_are w new old got n some kept long fits e =
+-- if the bytes that digits spell were put before others, that many of the first bytes are those
+pub set_are : (w new old got : List ℕ) (n : ℕ) → got ≡ take n (new ++ old) → length new ≡ n
+    → FitsBytes new × (w ≡ encode_lower new) → FitsBytes got × (w ≡ encode_lower got)
+set_are w new old got n kept long both =
     let same : got ≡ new = kept ∙ ap (λ (k : ℕ). take k (new ++ old)) (sym long) ∙ take-append_seam new old in
-    rw same (fits, some_digits w new some e)
+    rw same both
 
--- a word whose length was found not to be 0 has a byte
+-- a word whose length is not 0 contains a byte
 pub not_empty : (w : List ℕ) (r : Bool) → r ≡ eqb (length w) 0 → r ≡ false → 0 < length w
 not_empty w r test differs = let e = sym test ∙ differs in grind (arith, nat_tests)
 
--- a word whose length was found to be 0 has no byte
+-- a word whose length is 0 contains no byte
 pub when_empty : (w : List ℕ) (r : Bool) → r ≡ eqb (length w) 0 → r ≡ true → 0 < length w → ⊥
 when_empty w r test same some = let e = sym test ∙ same in grind (arith, nat_tests)
 
--- what is below 256 at each index is bytes that can be spelled
+-- numbers below 256 at each index are bytes that can be spelled
 pub fits_all : (bs : List ℕ) → ((i : ℕ) → slice_index bs i < 256) → FitsBytes bs
 fits_all [] h = tt
 fits_all (b ∷ bs) h = (h 0, fits_all bs (λ i. h (suc i)))
 
--- bytes of which one is set to another byte can be spelled as before
+-- bytes can still be spelled after one of them is set to another byte
 pub set_fits : (bs : List ℕ) (i v : ℕ) → v < 256 → FitsBytes bs → FitsBytes (set bs i v)
 set_fits [] i v small h = tt
 set_fits (b ∷ bs) zero v small h = (small, h.1)

@@ -4,12 +4,9 @@ pub mod LineLemmas
 pub mod NumberLemmas
 pub mod WordLemmas
 pub mod HexLemmas
-pub mod DigitTableLemmas
-pub mod PairLemmas
 pub mod EntryLemmas
 pub mod ReplyLemmas
 pub mod CommandLemmas
-pub mod PushLemmas
 pub mod PlainLemmas
 pub mod SameWordLemmas
 pub mod SameCommandLemmas

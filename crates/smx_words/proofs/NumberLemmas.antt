@@ -1,4 +1,4 @@
--- Numbers as words: the digits that bytes begin with are the number that they spell.
+-- Numbers as words: the leading digits of bytes, and the number that they spell.
 use lib.Seq.{take-append_seam}
 use Rattle.std.proofs.Common.{◌≡◌, ◌≢◌, ℕ, suc, zero, ◌+◌, ◌*◌, ◌-◌, ◌^◌, ◌<◌, ◌≤◌, true, false, eqb, ltb}
 use Rattle.std.proofs.Common.{◌&&◌, ◌||◌, List, [], ◌∷◌, ◌++◌, length, slice_index, get_or, take, drop, refl}
@@ -21,41 +21,17 @@ use Rattle.smx_words.specs.Spellable.{FitsNumber}
 use Rattle.smx_words.specs.Words.{SPACE, IsFree}
 use Rattle.smx_words.proofs.CutLemmas.{apart, is_cut}
 
--- digits and their value are numerals, as the laws of `decimal` need them
+-- digits and their value are a numeral model, as the laws of `decimal` require
 pub own : IsNumeralModel (λ ds. all_ascii_digits ds ≡ true) (digits_value 10)
 own = numerals_by_value _ tells_all_ascii_digits
 
--- the word of a number is digits alone
+-- the word of a number is only digits
 pub decimal_digits : (n : ℕ) → FitsNumber n → all_ascii_digits (decimal n) ≡ true
 decimal_digits n fits = digits_decimal own n (omega arith)
 
--- ---- one digit
+-- ---- one more digit
 
--- a digit that bytes begin with is the number that it spells
-pub one_digit : (w : List ℕ) → 0 < length w → is_ascii_digit (slice_index w 0) ≡ true
-    → take 1 w ≡ decimal (slice_index w 0 - 48)
-one_digit [] some is = absurd (omega arith)
-one_digit (b ∷ w) some is =
-    let least : 48 ≤ b = grind (arith, nat_tests) in
-    let most : b ≤ 57 = grind (arith, nat_tests) in
-    let same : 48 + (b - 48) ≡ b = omega (arith, least) in
-    sym (decimal_digit (b - 48) (omega (arith, least, most)) ∙ ap (λ (d : ℕ). d ∷ []) same)
-
--- what a digit spells is a number
-pub digit_fits : (b : ℕ) → is_ascii_digit b ≡ true → FitsNumber (b - 48)
-digit_fits b is = let most : b ≤ 57 = grind (arith, nat_tests) in omega (arith, most)
-
--- a word of one digit is the number that this spells
-pub one_alone : (w : List ℕ) → length w ≡ 1 → is_ascii_digit (slice_index w 0) ≡ true
-    → FitsNumber (slice_index w 0 - 48) × (w ≡ decimal (slice_index w 0 - 48))
-one_alone w one is = (
-  digit_fits (slice_index w 0) is,
-  sym (ap (λ (n : ℕ). take n w) (sym one) ∙ take-length w) ∙ one_digit w (omega (arith, one)) is,
-)
-
--- ---- one digit more
-
--- first bytes of a word that are digits are so with the next one, where that is a digit
+-- the first bytes of a word, all digits, and a next byte that is a digit are all digits
 one_more : (w : List ℕ) (i : ℕ) → i < length w → all_ascii_digits (take i w) ≡ true
     → is_ascii_digit (get_or w i 0) ≡ true → all_ascii_digits (take (suc i) w) ≡ true
 one_more [] i lt h k = absurd (omega arith)
@@ -63,19 +39,19 @@ one_more (b ∷ w) zero lt h k = grind (arith, nat_tests)
 one_more (b ∷ w) (suc i) lt h k = let more = one_more w i (omega arith) (grind (arith, nat_tests)) k in
     grind (arith, nat_tests)
 
--- where the first bytes of a word are digits, and the next one is, one more of its first bytes are
+-- if the first bytes of a word are digits and the next one is too, one more of its first bytes are digits
 pub all_more : (w : List ℕ) (i : ℕ) → i < length w → all_ascii_digits (take i w) ≡ true
     → is_ascii_digit (get_or w i 0) ≡ true → all_ascii_digits (take (i + 1) w) ≡ true
 all_more w i lt h k = rw add-one (one_more w i lt h k)
 
--- one more digit makes a number ten times what it was, and adds the digit
+-- one more digit multiplies a number by ten and adds the digit
 pub value_more : (w : List ℕ) (i n : ℕ) → i < length w → is_ascii_digit (get_or w i 0) ≡ true
     → n ≡ digits_value 10 (take i w) → n * 10 + (get_or w i 0 - 48) ≡ digits_value 10 (take (i + 1) w)
 value_more w i n lt k is = let more = digits_value_more 10 w i lt in grind (arith, nat_tests)
 
--- ---- where the digits end
+-- ---- the end of the digits
 
--- digits that bytes begin with are among those that a number ends before
+-- leading digits of bytes are a prefix of the digits that end where no digit follows
 digits_front : (v w a b : List ℕ) → all_ascii_digits v ≡ true → NoDigitFirst b → v ++ a ≡ w ++ b
     → (r : List ℕ) × (w ≡ v ++ r)
 digits_front [] w a b h k e = (w, refl)
@@ -89,12 +65,12 @@ digits_front (d ∷ v) (c ∷ w) a b h k e =
     let first : c ≡ d = cc e in
     (more.0, cc (first, more.1))
 
--- bytes that begin with others, and are not longer, are those others
+-- bytes that start with others, and are not longer, are equal to them
 nothing_more : (v w r : List ℕ) → w ≡ v ++ r → length w ≤ length v → v ≡ w
 nothing_more v w [] e le = sym (e ∙ append-nil v)
 nothing_more v w (d ∷ r) e le = absurd (omega (arith, ap (length {A = ℕ}) e ∙ length-append v (d ∷ r)))
 
--- bytes begin with one list of digits behind which no digit stands
+-- bytes start with only one list of digits that no digit follows
 pub same_digits : (v w a b : List ℕ) → all_ascii_digits v ≡ true → all_ascii_digits w ≡ true → NoDigitFirst a
     → NoDigitFirst b → v ++ a ≡ w ++ b → v ≡ w
 same_digits v w a b h k no_a no_b e =
@@ -102,16 +78,16 @@ same_digits v w a b h k no_a no_b e =
     let g = digits_front w v b a k no_a (sym e) in
     nothing_more v w f.0 f.1 (omega (arith, ap (length {A = ℕ}) g.1 ∙ length-append w g.0))
 
--- bytes from an index on begin with no digit where none stands at that index
+-- the bytes from an index on start with no digit if there is no digit at that index
 pub ends : (w : List ℕ) (i : ℕ) → (i < length w → is_ascii_digit (get_or w i 0) ≡ false) → NoDigitFirst (drop i w)
 ends w i clear = elim (cases_lt i (length w)) [
   | inl lt ↦ rw (drop-cons w i 0 lt) (clear lt)
   | inr out ↦ rw (drop_of_length-le w out) tt
 ]
 
--- ---- what the leading digits spell
+-- ---- the number that leading digits spell
 
--- bytes whose leading digits are worth 2^32 or more begin with no number
+-- bytes whose leading digits have a value of at least 2^32 start with no number
 pub too_large : (w : List ℕ) (i : ℕ) → all_ascii_digits (take i w) ≡ true
     → 2 ^ 32 ≤ digits_value 10 (take i w) → (n : ℕ) (after : List ℕ) → FitsNumber n → NoDigitFirst after
     → w ≢ decimal n ++ after
@@ -135,7 +111,7 @@ good_start n h =
           rw (zero_is, one) (omega arith, λ e. refl)
     ]
 
--- where bytes begin with the word of a number and no digit behind it, their leading digits are that word
+-- if bytes start with the word of a number and no digit follows, their leading digits are that word
 pub digits_are : (w : List ℕ) (i : ℕ) → all_ascii_digits (take i w) ≡ true → NoDigitFirst (drop i w)
     → (n : ℕ) (after : List ℕ) → FitsNumber n → NoDigitFirst after → w ≡ decimal n ++ after
     → take i w ≡ decimal n
@@ -143,17 +119,17 @@ digits_are w i all clear n after fits nothing_more e =
     same_digits (take i w) (decimal n) (drop i w) after all (decimal_digits n fits) clear nothing_more
     (take-append-drop i w ∙ e)
 
--- leading digits that begin wrong, one or more, are a zero before others
+-- leading digits with a wrong start, of which there is at least one, are a zero before other digits
 is_wrong : (w : List ℕ) (i : ℕ) → 0 < i → (eqb i 0 || (eqb (get_or w 0 0) 48 && ltb 1 i)) ≡ true
     → (get_or w 0 0 ≡ 48) × (1 < i)
 is_wrong w i pos h = (grind (arith, nat_tests), grind (arith, nat_tests))
 
--- leading digits that don't begin wrong are one or more, and one alone where the first is a zero
+-- leading digits without a wrong start are one or more, and only one if the first is a zero
 is_right : (w : List ℕ) (i : ℕ) → (eqb i 0 || (eqb (get_or w 0 0) 48 && ltb 1 i)) ≡ false
     → (0 < i) × (get_or w 0 0 ≡ 48 → i ≤ 1)
 is_right w i h = (grind (arith, nat_tests), λ z. grind (arith, nat_tests))
 
--- bytes whose leading digits are none, or a zero before others, begin with no number
+-- bytes without leading digits, or with a zero before other digits, start with no number
 pub wrong_start : (w : List ℕ) (i : ℕ) → i ≤ length w → all_ascii_digits (take i w) ≡ true
     → NoDigitFirst (drop i w) → (eqb i 0 || (eqb (get_or w 0 0) 48 && ltb 1 i)) ≡ true
     → (n : ℕ) (after : List ℕ) → FitsNumber n → NoDigitFirst after → w ≢ decimal n ++ after
@@ -167,7 +143,7 @@ wrong_start w i le all clear wrong n after fits none e =
     ap (λ (x : List ℕ). get_or x 0 0) (sym same) ∙ get_or-take i w 0 0 pos ∙ bad.0 in
     omega (arith, start.1 first, ap (length {A = ℕ}) same, long, bad.1)
 
--- leading digits, one or more and without a zero before others, are the word of the number that they are worth
+-- one or more leading digits, without a zero before others, are the word of their value
 pub right_start : (w : List ℕ) (i n : ℕ) → i ≤ length w → all_ascii_digits (take i w) ≡ true
     → n ≡ digits_value 10 (take i w) → n < 2 ^ 32
     → (eqb i 0 || (eqb (get_or w 0 0) 48 && ltb 1 i)) ≡ false → take i w ≡ decimal n
@@ -181,22 +157,22 @@ right_start w i n le all value small right =
 
 -- ---- numbers as words, and before a space
 
--- digits have no space among them
+-- digits contain no space
 all_free : (w : List ℕ) → all_ascii_digits w ≡ true → IsFree SPACE w
 all_free [] h = tt
 all_free (b ∷ w) h = (λ e. space_is_none b w e h, all_free w (grind (arith, nat_tests))) where
   space_is_none : (b : ℕ) (w : List ℕ) → b ≡ 32 → all_ascii_digits (b ∷ w) ≡ true → ⊥
   space_is_none b w e h = grind (arith, nat_tests)
 
--- no space stands in the word of a number
+-- the word of a number contains no space
 pub number_free : (n : ℕ) → FitsNumber n → IsFree SPACE (decimal n)
 number_free n fits = all_free (decimal n) (decimal_digits n fits)
 
--- where leading digits are the word of a number, and are all of a word, it is the word of that number
+-- if leading digits are the word of a number and are the whole word, the word is that number's
 pub whole : (w : List ℕ) (i n : ℕ) → take i w ≡ decimal n → i ≡ length w → w ≡ decimal n
 whole w i n front e = sym (take-length w) ∙ ap (λ (k : ℕ). take k w) (sym e) ∙ front
 
--- where leading digits are the word of a number, but are not all of a word, it is no number's
+-- if leading digits are the word of a number but not the whole word, the word is no number's
 pub not_whole : (w : List ℕ) (i n : ℕ) → FitsNumber n → i ≤ length w → take i w ≡ decimal n
     → NoDigitFirst (drop i w) → i ≢ length w → (m : ℕ) → FitsNumber m → w ≢ decimal m
 not_whole w i n small le front clear part m fits e =
@@ -204,7 +180,7 @@ not_whole w i n small le front clear part m fits e =
     let same = digits_are w i all clear m [] fits tt (e ∙ sym (append-nil (decimal m))) in
     part (omega (arith, ap (length {A = ℕ}) same, ap (length {A = ℕ}) e, length-take-le i w le))
 
--- where a space follows a number's digits, that number begins the bytes, and no other rest stands behind one
+-- if a space follows a number's digits, the bytes start with that number, and the rest after it is unique
 pub is_first : (w : List ℕ) (i n : ℕ) → FitsNumber n → i < length w → take i w ≡ decimal n → slice_index w i ≡ 32
     → FitsNumber n × (w ≡ decimal n ++ SPACE ∷ take (length w - (i + 1)) (drop (i + 1) w))
     × ((m : ℕ) (after : List ℕ) → FitsNumber m → w ≡ decimal m ++ SPACE ∷ after
@@ -220,7 +196,7 @@ is_first w i n small lt front space =
           (sym e ∙ cut)).1,
     )
 
--- where a number and a space begin some bytes, a space stands behind their leading digits
+-- if bytes start with a number and a space, a space follows their leading digits
 pub not_first : (w : List ℕ) (i n : ℕ) → FitsNumber n → i ≤ length w → take i w ≡ decimal n → NoDigitFirst (drop i w)
     → (m : ℕ) (after : List ℕ) → FitsNumber m → w ≡ decimal m ++ SPACE ∷ after → (i < length w) × (slice_index w i ≡ 32)
 not_first w i n small le front clear m after fits e =
@@ -234,6 +210,6 @@ not_first w i n small le front clear m after fits e =
           ∙ ap (λ (x : List ℕ). slice_index x (length (decimal m))) e ∙ get_or-append_seam (decimal m) SPACE after 0,
     )
 
--- a number is told by its word
+-- the word of a number determines the number
 pub same_number : (n m : ℕ) → FitsNumber n → FitsNumber m → decimal n ≡ decimal m → n ≡ m
 same_number n m h k e = decimal_injective n m (omega arith) (omega arith) e

@@ -1,4 +1,4 @@
--- The words of values are of bytes that can be seen, and none but an entry's has an equals sign.
+-- The words of values are visible bytes, and only an entry has an equals sign.
 use Rattle.std.proofs.Common.{◌≡◌, ◌≢◌, ℕ, ◌/◌, ◌%◌, ◌<◌, ◌≤◌, Bool, true, false, ◌&&◌, List, [], ◌∷◌}
 use Rattle.std.proofs.Common.{length, map, arith, rules}
 use Rattle.std.specs.List.{list_all, AllByRecursion}
@@ -27,57 +27,57 @@ use Rattle.smx_words.proofs.HexLemmas.{digit, digit_is, digit_range, long}
 use Rattle.smx_words.proofs.LineLemmas.{all_weaker}
 use Rattle.smx_words.proofs.NumberLemmas.{decimal_digits}
 
--- a byte that can be seen, and no equals sign
+-- a visible byte other than an equals sign
 abbrev pub IsPlainByte : ℕ → Type 0
 IsPlainByte b = (0x21 ≤ b) × (b ≤ 0x7E) × (b ≢ EQUALS)
 
--- one or more bytes that can be seen, none an equals sign
+-- one or more visible bytes, none of which is an equals sign
 abbrev pub IsPlain : List ℕ → Type 0
 IsPlain w = (0 < length w) × AllByRecursion IsPlainByte w
 
--- bytes that pass a test which lets no other through can be seen, and none is an equals sign
+-- bytes that pass a test are plain, if the test passes only visible bytes other than the equals sign
 all_plain : (test : ℕ → Bool) → ((b : ℕ) → test b ≡ true → IsPlainByte b) → (w : List ℕ) → list_all test w ≡ true
     → AllByRecursion IsPlainByte w
 all_plain test plain [] h = tt
 all_plain test plain (b ∷ w) h = let parts = and_parts (test b) (list_all test w) h in
     (plain b parts.0, all_plain test plain w parts.1)
 
--- the word of a number is bytes that can be seen, none an equals sign
+-- the word of a number is plain
 pub number_plain : (n : ℕ) → FitsNumber n → IsPlain (decimal n)
 number_plain n fits =
     (decimal_nonempty n (omega arith), all_plain is_ascii_digit plain (decimal n) (decimal_digits n fits)) where
       plain : (b : ℕ) → is_ascii_digit b ≡ true → IsPlainByte b
       plain b h = (grind (arith, nat_tests), grind (arith, nat_tests), λ e. grind (arith, nat_tests))
 
--- where three tests hold, the last of them does
+-- if three tests hold, the last of them holds
 and_right : (a b c : Bool) → (a && (b && c)) ≡ true → c ≡ true
 and_right true true c h = h
 and_right true false c h = absurd cc
 and_right false b c h = absurd cc
 
--- a driver's name is bytes that can be seen, none an equals sign
+-- a driver's name is plain
 pub name_plain : (w : List ℕ) → FitsName w → IsPlain w
 name_plain [] h = absurd (cc h)
 name_plain (b ∷ w) h = (omega arith, all_plain is_name_byte plain (b ∷ w) (and_right _ _ _ h)) where
   plain : (b : ℕ) → is_name_byte b ≡ true → IsPlainByte b
   plain b h = (grind (arith, nat_tests), grind (arith, nat_tests), λ e. grind (arith, nat_tests))
 
--- the word of an id, or of all, is bytes that can be seen, none an equals sign
+-- the word of an id, or of all, is plain
 pub which_plain : (x : Which) → FitsWhich x → IsPlain (which_word x)
 which_plain (which.Id id) fits = number_plain id fits
 which_plain which.All fits = search rules
 
--- the word for the sides of a flush is bytes that can be seen, none an equals sign
+-- the word for the sides of a flush is plain
 pub sides_plain : (s : Sides) → IsPlain (sides_word s)
 sides_plain sides.R = search rules
 sides_plain sides.W = search rules
 sides_plain sides.RW = search rules
 
--- a digit can be seen, and is no equals sign
+-- a digit is visible, and is not an equals sign
 digit_plain : (k : ℕ) → k < 16 → IsPlainByte (digit k)
 digit_plain k lt = let r = digit_range k lt in (omega (arith, r.0), omega (arith, r.1), r.2)
 
--- bytes are encoded as bytes that can be seen, none an equals sign
+-- encoded bytes are visible, and contain no equals sign
 encoded_plain : (bs : List ℕ) → FitsBytes bs → AllByRecursion IsPlainByte (encode_lower bs)
 unfolding encode_with
 encoded_plain [] h = tt
@@ -90,21 +90,21 @@ encoded_plain (b ∷ bs) h =
       (digit_plain (b % 16) low, encoded_plain bs h.1),
     )
 
--- the word of bytes is bytes that can be seen, none an equals sign
+-- the word of some bytes is plain
 pub hex_plain : (bs : List ℕ) → FitsBytes bs → IsPlain (hex_word bs)
 hex_plain [] fits = search rules
 hex_plain (b ∷ bs) fits = (omega (arith, long b bs), encoded_plain (b ∷ bs) fits)
 
 -- ---- commands and replies
 
--- the words of numbers are bytes that can be seen, none an equals sign
+-- the words of numbers are plain
 numbers_plain : (ns : List ℕ) → AllByRecursion FitsNumber ns → AllByRecursion IsPlain (map decimal ns)
 numbers_plain [] h = tt
 numbers_plain (n ∷ ns) h = (number_plain n h.0, numbers_plain ns h.1)
 
 ruleset plain_word_of = (number_plain, numbers_plain, name_plain, which_plain, sides_plain, hex_plain)
 
--- each word of a command is bytes that can be seen, none an equals sign
+-- each word of a command is plain
 pub command_plain : (c : Command) → FitsCommand c → AllByRecursion IsPlain (command_words c)
 command_plain command.CloseAll fits = search rules
 command_plain c fits = search (rules, plain_word_of)
@@ -114,12 +114,12 @@ pub some_command : (c : Command) → 0 < length (command_words c)
 some_command command.CloseAll = omega arith
 some_command c = omega arith
 
--- a fault has words, and each of them is bytes that can be seen, none an equals sign
+-- a fault has words, and each of them is plain
 pub fault_plain : (f : Fault) → (0 < length (fault_words f)) × AllByRecursion IsPlain (fault_words f)
 fault_plain fault.BadDescriptor = search rules
 fault_plain f = search rules
 
--- each word of a reply is bytes that can be seen, none an equals sign
+-- each word of a reply is plain
 pub reply_plain : (r : Reply) → FitsReply r → AllByRecursion IsPlain (reply_words r)
 reply_plain (reply.Fault f) fits = (fault_plain f).1
 reply_plain r fits = search (rules, plain_word_of)
@@ -129,16 +129,16 @@ pub some_reply : (r : Reply) → 0 < length (reply_words r)
 some_reply (reply.Fault f) = (fault_plain f).0
 some_reply r = omega arith
 
--- ---- bytes that can be seen are words, and where none is an equals sign, none stands in their lines
+-- ---- plain bytes are words, and their lines contain no equals sign
 
--- some bytes that can be seen, with no equals sign, are a word
+-- plain bytes are a word
 pub plain_word : (w : List ℕ) → IsPlain w → IsWord w
 plain_word w h = (h.0, all_weaker (λ b k. (k.0, k.1)) w h.1)
 
--- lists of bytes that can be seen, with no equals sign, are words
+-- lists of plain bytes are words
 pub plain_words : (ws : List (List ℕ)) → AllByRecursion IsPlain ws → AllByRecursion IsWord ws
 plain_words = all_weaker plain_word
 
--- in lists of bytes that can be seen, with no equals sign, none stands anywhere
+-- lists of plain bytes contain no equals sign
 pub plain_words_free : (ws : List (List ℕ)) → AllByRecursion IsPlain ws → AllByRecursion (IsFree EQUALS) ws
 plain_words_free = all_weaker (λ w h. all_weaker (λ b k. k.2) w h.1)

@@ -1,47 +1,43 @@
--- The serials of a reply, and replies of one word or of a fault's.
-use Rattle.std.proofs.Common.{◌≡◌, ◌≢◌, Bool, true, false, ℕ, List, [], ◌∷◌, ◌++◌, map, Option, Some, None, Result, Ok}
+-- The serials of a reply, and replies without a verb.
+use Rattle.std.proofs.Common.{◌≡◌, ◌≢◌, Bool, ℕ, List, [], ◌∷◌, ◌++◌, map, Option, Some, None, Result, Ok}
 use Rattle.std.proofs.Common.{Err, refl, sym, ap, ◌∙◌, append_assoc, arith}
 use Rattle.std.specs.List.{AllByRecursion}
 use Rattle.std.specs.Fmt.{decimal}
 use Rattle.std.specs.Prelude.{codes, is_some, IfErr, IfOk, MatchBool, MatchOption, MatchResult}
-use Rattle.smx_types.specs.Versions.{is_hung_up}
 use Rattle.smx_types.specs.declared.reply.Fault.{Fault}
 use Rattle.smx_types.specs.declared.reply.Reply.{Reply}
 use Rattle.smx_types.specs.declared.reply.Reply.TheVariants as reply
 use Rattle.smx_words.specs.declared.reading.verb.ReplyVerb.{ReplyVerb}
 use Rattle.smx_words.specs.declared.reading.verb.ReplyVerb.TheVariants as reply_verb
 use Rattle.smx_words.specs.LineReading.{IsFoundIn, IsLineOf, IsReadAs}
-use Rattle.smx_words.specs.Spellable.{CanTell, FitsAlways, FitsNumber, FitsReply, FitsReplyIn, FitsSerials}
+use Rattle.smx_words.specs.Spellable.{FitsAlways, FitsNumber, FitsReply, FitsReplyIn, FitsSerials}
 use Rattle.smx_words.specs.Spelling.{fault_words, reply_words}
 use Rattle.smx_words.specs.Verbs.{reply_verb_word}
 use Rattle.smx_words.specs.Words.{SPACE, line_of}
 use Rattle.smx_words.proofs.CutLemmas.{apart, no_space_in}
-use Rattle.smx_words.proofs.DecidedLemmas.{one_line}
 use Rattle.smx_words.proofs.LineLemmas.{all_append}
 use Rattle.smx_words.proofs.NumberLemmas.{number_free, same_number}
-use Rattle.smx_words.proofs.SameWordLemmas.{every_fault}
-use Rattle.smx_types.specs.declared.version.Version.{Version}
-use Rattle.smx_types.specs.declared.version.Version.TheVariants.{V1, V2}
+use Rattle.smx_types.specs.declared.version.Version.TheVariants.{V1}
 
--- the words of these serials, one or more
+-- the words of these serials, of which there is at least one
 abbrev pub Spell : List ℕ → List ℕ → Type 0
 Spell line serials = FitsSerials serials × (line ≡ line_of (map decimal serials))
 
--- a line is the words of these serials and of those that the rest is the words of, and of no others
+-- a line is the words of the serials `before` and then of the serials of `rest`, and of no others
 pub record AreThen (line before rest : List ℕ) : Type 0 where
   pub fit : AllByRecursion FitsNumber before
   pub then : (more : List ℕ) → Spell rest more → Spell line (before ++ more)
   pub only : (all : List ℕ) → Spell line all → (more : List ℕ) × (all ≡ before ++ more) × Spell rest more
 
--- before a serial was read, the rest of a line is all of it
+-- before the first serial, the rest of a line is the whole line
 pub at_first : (line : List ℕ) → AreThen line [] line
 at_first line = record { fit = tt; then = λ more h. h; only = λ all h. (all, refl, h) }
 
--- the word of a number is not that of another with a space behind it
+-- the word of a number is not that of another number followed by a space
 no_space : (m n : ℕ) (after : List ℕ) → FitsNumber m → decimal n ++ SPACE ∷ after ≡ decimal m → ⊥
 no_space m n after fits_m bad = no_space_in (decimal n) after (decimal m) (number_free m fits_m) bad
 
--- a serial with a space behind it, read at the rest, is one more, and what stands behind the space is the rest then
+-- a serial and a space at the start of the rest are one more serial, and the bytes after the space are the new rest
 pub one_more : (line before rest after : List ℕ) (n : ℕ) → AreThen line before rest → FitsNumber n
     → rest ≡ decimal n ++ SPACE ∷ after → AreThen line (before ++ n ∷ []) after
 one_more line before rest after n h fits is =
@@ -72,7 +68,7 @@ one_more line before rest after n h fits is =
               ((omega arith, t.0.1.1), sym words.1),
             )
 
--- where no serial with a space begins the rest, whether it is one serial tells whether the line is serials
+-- if the rest starts with no serial and space, the line is serials exactly if the rest is one serial
 pub last : {E : Type 0} (line before rest : List ℕ) (r : Result (Option (List ℕ)) E) → AreThen line before rest
     → ((n : ℕ) (after : List ℕ) → FitsNumber n → rest ≢ decimal n ++ SPACE ∷ after)
     → IfOk r (λ o. MatchOption o ((n : ℕ) → FitsNumber n
@@ -86,12 +82,12 @@ last line before rest (Ok None) h alone one = λ all fits e. let o = h.only all 
   by_rest (m ∷ k ∷ more) t = alone m (line_of (map decimal (k ∷ more))) t.0.1.0 t.1
 last line before rest (Ok (Some all)) h alone one = rw one.3 (h.then (one.0 ∷ []) ((omega arith, (one.1, tt)), one.2))
 
--- the serials of the rest are the last of the line's, and where the rest has none the line has none
+-- the serials of the rest are the last of the line; if the rest has none, the line has none
 pub went_on : (line before rest : List ℕ) → AreThen line before rest → IsLineOf FitsSerials (map decimal) rest
     → IsLineOf FitsSerials (map decimal) line
 went_on line before rest h more = let all = h.then more.0 (more.1, more.2) in (before ++ more.0, all.0, all.1)
 
--- where the rest is not the words of serials, the line is not either
+-- if the rest is not the words of serials, neither is the line
 pub none_left : (line before rest : List ℕ) → AreThen line before rest
     → ((all : List ℕ) → FitsSerials all → rest ≢ line_of (map decimal all))
     → (all : List ℕ) → FitsSerials all → line ≢ line_of (map decimal all)
@@ -101,7 +97,7 @@ none_left line before rest h none all fits e = let o = h.only all (fits, e) in n
 pub last_is : (rest : List ℕ) (n : ℕ) → FitsNumber n → rest ≡ decimal n → IsLineOf FitsSerials (map decimal) rest
 last_is rest n fits is = (n ∷ [], (omega arith, (fits, tt)), is)
 
--- a rest that is no serial, and begins with none that has a space behind it, is the line of no serials
+-- a rest that is no serial, and starts with no serial and space, is the line of no serials
 last_is_none : (rest : List ℕ) → ((n : ℕ) (after : List ℕ) → FitsNumber n → rest ≢ decimal n ++ SPACE ∷ after)
     → ((n : ℕ) → FitsNumber n → rest ≢ decimal n)
     → (all : List ℕ) → FitsSerials all → rest ≢ line_of (map decimal all)
@@ -109,7 +105,7 @@ last_is_none rest alone one [] fits e = omega (arith, fits.0)
 last_is_none rest alone one (m ∷ []) fits e = one m fits.1.0 e
 last_is_none rest alone one (m ∷ k ∷ more) fits e = alone m (line_of (map decimal (k ∷ more))) fits.1.0 e
 
--- at the last word of a line, whether it is a serial tells whether the line is the words of serials
+-- at the last word of a line, the line is the words of serials exactly if that word is a serial
 pub tells_last : (line : List ℕ) (before : List ℕ) (rest : List ℕ) (o : Option ℕ) (r : Bool) → r ≡ is_some o
     → AreThen line before rest
     → ((n : ℕ) (after : List ℕ) → FitsNumber n → rest ≢ decimal n ++ SPACE ∷ after)
@@ -121,7 +117,7 @@ tells_last line before rest (Some n) r test h alone found =
 tells_last line before rest None r test h alone found =
     rw test (none_left line before rest h (last_is_none rest alone found))
 
--- `done` and the line of some serials behind it are the line of a reply
+-- `done` followed by the line of some serials is the line of a reply
 pub done_line : (rest : List ℕ) → IsLineOf FitsSerials (map decimal) rest
     → IsLineOf (FitsReplyIn V1) reply_words (line_of (codes "done" ∷ rest ∷ []))
 done_line rest h = by_serials h.0 h.1 h.2 where
@@ -130,10 +126,10 @@ done_line rest h = by_serials h.0 h.1 h.2 where
   by_serials [] fits e = absurd (omega (arith, fits.0))
   by_serials (n ∷ ns) fits e = (reply.Done (n ∷ ns), (fits.1, refl), ap (λ (x : List ℕ). codes "done" ++ SPACE ∷ x) e)
 
--- ---- a reply that stands alone
+-- ---- a reply without a verb
 
--- a line that no verb and space begin is the line of no reply of some, where it is neither `done`, nor `eof` or a fault
--- that are among these
+-- a line that starts with no verb and space is no reply of this kind, if it is neither `done`, nor `eof` or a fault
+-- of this kind
 no_lone_reply : (Is : Reply → Type 0) (line : List ℕ)
     → ((v : ReplyVerb) (after : List ℕ) → FitsAlways v → line ≢ reply_verb_word v ++ SPACE ∷ after)
     → line ≢ codes "done" → (Is reply.Eof → line ≢ codes "eof")
@@ -148,7 +144,7 @@ no_lone_reply Is line none done end fault (reply.Done (n ∷ ns)) is e = none re
 no_lone_reply Is line none done end fault reply.Eof is e = end is e
 no_lone_reply Is line none done end fault (reply.Fault f) is e = fault f is e
 
--- a line that no verb and space begin is `done`, `eof`, a fault, or no reply
+-- a line that starts with no verb and space is `done`, `eof`, a fault, or no reply
 pub standing_alone : (line : List ℕ) (r : Option Reply)
     → ((v : ReplyVerb) (after : List ℕ) → FitsAlways v → line ≢ reply_verb_word v ++ SPACE ∷ after)
     → MatchOption r ((line ≢ codes "done") × (line ≢ codes "eof") × ((f : Fault) → line ≢ line_of (fault_words f)))
@@ -158,43 +154,14 @@ standing_alone line (Some x) none found = found
 standing_alone line None none found =
     no_lone_reply FitsReply line none found.0 (λ h. found.1) (λ f h. found.2 f)
 
--- each version can tell what is not of a hangup
-pub can_tell_rest : (v : Version) → CanTell v false
-can_tell_rest V1 = refl
-can_tell_rest V2 = tt
-
--- what stands alone in a line and can be told, and what can't
-abbrev pub TellsAlone : Version → List ℕ → Bool → Type 0
-TellsAlone v line r =
-    MatchBool r (IsLineOf (FitsReplyIn v) reply_words line)
-    ((line ≢ codes "done") × (CanTell v true → line ≢ codes "eof")
-    × ((f : Fault) → CanTell v (is_hung_up f) → line ≢ line_of (fault_words f)))
-
--- a line that no verb and space begin is a reply that can be told where one that stands alone is
-pub told_alone : (v : Version) (line : List ℕ) (r : Bool)
-    → ((w : ReplyVerb) (after : List ℕ) → FitsAlways w → line ≢ reply_verb_word w ++ SPACE ∷ after)
-    → TellsAlone v line r
-    → MatchBool r (IsLineOf (FitsReplyIn v) reply_words line)
-    ((x : Reply) → FitsReplyIn v x → line ≢ line_of (reply_words x))
-told_alone v line true none found = found
-told_alone v line false none found =
-    no_lone_reply (FitsReplyIn v) line none found.0 (λ h. found.1 h.1) (λ f h. found.2 f h.1)
-
--- a line of a fault that can't be told is the line of no fault that can
-pub no_told_fault : (v : Version) (line : List ℕ) (f : Fault) → line ≡ line_of (fault_words f)
-    → (CanTell v (is_hung_up f) → ⊥) → (g : Fault) → CanTell v (is_hung_up g) → line ≢ line_of (fault_words g)
-no_told_fault v line f is cannot g can e =
-    let same : f ≡ g = one_line every_fault f g tt tt (sym is ∙ e) in
-    cannot (rw same can)
-
--- where memory was wanting for the last serial alone, the line is the words of serials
+-- if there was no memory for the last serial only, the line is the words of serials
 pub last_wanted : {A E : Type 0} (line before rest : List ℕ) (r : Result A E) → AreThen line before rest
     → IfErr r (λ _. (n : ℕ) × FitsNumber n × (rest ≡ decimal n))
     → IfErr r (λ _. IsLineOf FitsSerials (map decimal) line)
 last_wanted line before rest (Ok o) h wanted = tt
 last_wanted line before rest (Err e) h wanted = went_on line before rest h (last_is rest wanted.0 wanted.1 wanted.2)
 
--- where memory is wanting for a serial, whether the rest is serials tells whether the line is
+-- if there is no memory for a serial, the line is serials exactly if the rest is
 pub went_bad : {E : Type 0} (line before rest : List ℕ) (r : Result (Option (List ℕ)) E) → AreThen line before rest
     → MatchResult r (λ o. (o ≡ None) × ((all : List ℕ) → FitsSerials all → rest ≢ line_of (map decimal all)))
     (λ _. IsLineOf FitsSerials (map decimal) rest)

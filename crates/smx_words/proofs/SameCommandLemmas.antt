@@ -1,4 +1,4 @@
--- Commands are told apart by their words.
+-- The words of a command determine it.
 use Rattle.std.proofs.Common.{[], ◌≡◌, ℕ, List, ◌∷◌, refl, sym, ap, ◌∙◌, ◌++◌}
 use Rattle.std.proofs.lemmas.List.{append-nil}
 use Rattle.smx_types.specs.declared.command.Command.{Command}
@@ -12,7 +12,7 @@ use Rattle.smx_words.proofs.DecidedLemmas.{HasWord}
 use Rattle.smx_words.proofs.DecidedWordLemmas.{bytes, id_or_all, name, number}
 use Rattle.smx_words.proofs.SameWordLemmas.{flush_sides, same_verb}
 
--- what a command does
+-- the verb of a command
 abbrev pub verb_of : Command → Verb
 verb_of (command.OpenClone d) = verb.Clone
 verb_of (command.OpenMinor d n) = verb.Open
@@ -34,12 +34,12 @@ verb_of (command.Inject d n m bs) = verb.Inject
 verb_of (command.Transmit d n) = verb.Transmit
 verb_of (command.Hangup d n) = verb.Hangup
 
--- the words of a command begin with the word of its verb
+-- the words of a command start with the word of its verb
 first_word : (c : Command) → (ws : List (List ℕ)) × (command_words c ≡ verb_word (verb_of c) ∷ ws)
 first_word command.CloseAll = (_, refl)
 first_word c = (_, refl)
 
--- commands that have the same words have the same verb
+-- two commands with the same words have the same verb
 one_verb : (c d : Command) → command_words c ≡ command_words d → verb_of c ≡ verb_of d
 one_verb c d e =
     let f = first_word c in
@@ -47,7 +47,7 @@ one_verb c d e =
     let both : verb_word (verb_of c) ∷ f.0 ≡ verb_word (verb_of d) ∷ g.0 = sym f.1 ∙ e ∙ g.1 in
     same_verb (verb_of c) (verb_of d) (cc both)
 
--- words that begin with a verb, and with a command's words, are those of a command of that verb
+-- if words that start with a verb are a command's words, or these and more, the command has that verb
 pub verb_first : (c : Command) (v : Verb) (ws more : List (List ℕ))
     → verb_word v ∷ ws ≡ command_words c ++ more → verb_of c ≡ v
 verb_first c v ws more e =
@@ -56,17 +56,17 @@ verb_first c v ws more e =
     sym (e ∙ ap (λ (us : List (List ℕ)). us ++ more) f.1) in
     same_verb (verb_of c) v (cc both)
 
--- a verb that is the first of a command's words is the verb of that command
+-- the verb that is the first word of a command is the verb of that command
 pub verb_is : (c : Command) (v : Verb) (ws : List (List ℕ)) → verb_word v ∷ ws ≡ command_words c → verb_of c ≡ v
 verb_is c v ws e = verb_first c v ws [] (e ∙ sym (append-nil (command_words c)))
 
--- values that are made of two parts, each told by its word, are told by these two words
+-- values made of two parts, each determined by its word, are determined by these two words
 pub two : {X Y C : Type 0} {FitsX : X → Type 0} {FitsY : Y → Type 0} {word_x : X → List ℕ} {word_y : Y → List ℕ}
     → HasWord FitsX word_x → HasWord FitsY word_y → (make : X → Y → C) (a x : X) (b y : Y) → FitsX a × FitsY b
     → FitsX x × FitsY y → word_x a ∷ word_y b ∷ [] ≡ word_x x ∷ word_y y ∷ [] → make a b ≡ make x y
 two one other make a x b y h k e = cc (one.one a x h.0 k.0 (cc e), other.one b y h.1 k.1 (cc e))
 
--- two commands of one verb that have the same words are the same
+-- two commands of one verb with the same words are equal
 by_verb : (c d : Command) → FitsCommand c → FitsCommand d → verb_of c ≡ verb_of d
     → command_words c ≡ command_words d → c ≡ d
 by_verb (command.OpenClone d) (command.OpenClone x) h k v e = ap command.OpenClone (cc e)
@@ -97,6 +97,6 @@ by_verb (command.Transmit d n) (command.Transmit x y) h k v e = two name number 
 by_verb (command.Hangup d n) (command.Hangup x y) h k v e = two name number command.Hangup d x n y h k (cc e)
 by_verb c d h k v e = absurd (cc v)
 
--- a command is told by its words
+-- the words of a command determine it
 pub same_command : (c d : Command) → FitsCommand c → FitsCommand d → command_words c ≡ command_words d → c ≡ d
 same_command c d h k e = by_verb c d h k (one_verb c d e) e

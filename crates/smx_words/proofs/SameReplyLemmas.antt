@@ -1,4 +1,4 @@
--- Replies are told apart by their words.
+-- The words of a reply determine it.
 use Rattle.std.proofs.Common.{◌≡◌, ◌≢◌, codes, ℕ, List, [], ◌∷◌, Option, Some, None, refl, sym, ap, ◌∙◌}
 use Rattle.std.specs.Str.{bytes_eq}
 use Rattle.smx_types.specs.declared.reply.Fault.{Fault}
@@ -15,7 +15,7 @@ use Rattle.smx_words.proofs.DecidedWordLemmas.{bytes, number}
 use Rattle.smx_words.proofs.SameCommandLemmas.{two}
 use Rattle.smx_words.proofs.SameWordLemmas.{every_fault, fault_at, first_of_these, found_fault}
 
--- what a reply tells, if it is no fault
+-- the verb of a reply, unless it has none
 abbrev pub reply_verb_of : Reply → Option ReplyVerb
 reply_verb_of (reply.Fd n m) = Some reply_verb.Fd
 reply_verb_of (reply.Id n) = Some reply_verb.Id
@@ -32,21 +32,21 @@ verb_at (w ∷ ws) =
     first_of_these bytes_eq reply_verb_word
     (reply_verb.Fd ∷ reply_verb.Id ∷ reply_verb.Took ∷ reply_verb.Got ∷ reply_verb.Done ∷ []) w
 
--- no verb is found in the words of a fault
+-- the words of a fault start with no verb
 fault_verb : (f : Fault) → verb_at (fault_words f) ≡ None
 fault_verb fault.BadDescriptor = refl
 fault_verb f = refl
 
--- the verb that is found in the words of a reply is its own, and none is found where it has none
+-- the verb found in the words of a reply is its own, and none is found if it has none
 pub verb_again : (r : Reply) → verb_at (reply_words r) ≡ reply_verb_of r
 verb_again (reply.Fault f) = fault_verb f
 verb_again r = refl
 
--- no fault has the words of the end of file
+-- no fault has the words of end of file
 no_end : (f : Fault) → fault_words f ≢ codes "eof" ∷ []
 no_end f e = let none : ◌≡◌ {A = Option Fault} (Some f) None = sym (found_fault f) ∙ ap fault_at e in absurd (cc none)
 
--- two replies of one verb, or of none, that have the same words are the same
+-- two replies with the same verb, or both without one, that have the same words are equal
 by_reply_verb : (r s : Reply) → FitsReply r → FitsReply s → reply_verb_of r ≡ reply_verb_of s
     → reply_words r ≡ reply_words s → r ≡ s
 by_reply_verb (reply.Fd n m) (reply.Fd x y) h k v e = two number number reply.Fd n x m y h k (cc e)
@@ -61,6 +61,6 @@ by_reply_verb (reply.Fault f) reply.Eof h k v e = absurd (no_end f e)
 by_reply_verb (reply.Fault f) (reply.Fault g) h k v e = ap reply.Fault (every_fault.one f g tt tt e)
 by_reply_verb r s h k v e = absurd (cc v)
 
--- a reply is told by its words
+-- the words of a reply determine it
 pub same_reply : (r s : Reply) → FitsReply r → FitsReply s → reply_words r ≡ reply_words s → r ≡ s
 same_reply r s h k e = by_reply_verb r s h k (sym (verb_again r) ∙ ap verb_at e ∙ verb_again s) e

@@ -1,4 +1,4 @@
--- Values of one word are told apart by it, and faults by their words. Whether words are of one of few is told.
+-- The word of a value determines it, and so do the words of a fault. It is decided whether words are one of a few.
 use Rattle.std.proofs.Common.{◌≡◌, ℕ, Result, Ok, Bool, true, false, cond, List, [], ◌∷◌}
 use Rattle.std.proofs.Common.{Option, Some, None, refl, sym, ap, ◌∙◌, rules, inl, inr}
 use Rattle.std.specs.Bool.{Decides}
@@ -33,21 +33,21 @@ use Rattle.smx_words.proofs.HexLemmas.{are_bytes, dash}
 use Rattle.smx_words.proofs.NumberLemmas.{decimal_digits, same_number}
 use Rattle.smx_words.proofs.PlainLemmas.{fault_plain, plain_words}
 
--- ---- values of few, each of which has its spelling
+-- ---- values of an enum, each with its own spelling
 
--- the first of these values that is spelled so, as a test of spellings tells
+-- the first of these values with this spelling, by a test that compares spellings
 abbrev pub first_of_these : {X S : Type 0} → (S → S → Bool) → (X → S) → List X → S → Option X
 first_of_these same spelling [] s = None
 first_of_these same spelling (x ∷ xs) s = cond (same s (spelling x)) (Some x) (first_of_these same spelling xs s)
 
--- where each of few values is found by its spelling, no two are spelled alike
+-- if each of a few values is found by its spelling, no two have the same spelling
 pub told : {X S : Type 0} (same : S → S → Bool) (spelling : X → S) (all : List X)
     → ((x : X) → first_of_these same spelling all (spelling x) ≡ Some x) → (x y : X)
     → spelling x ≡ spelling y → x ≡ y
 told same spelling all found x y e =
     let both : Some x ≡ Some y = sym (found x) ∙ ap (first_of_these same spelling all) e ∙ found y in cc both
 
--- where each of few values is found by its spelling, whether one of them is spelled so is told
+-- if each of a few values is found by its spelling, it is decided whether one of them has a given spelling
 pub few : {X S : Type 0} (same : S → S → Bool) → ((s t : S) → Decides (same s t) (s ≡ t)) → (spelling : X → S)
     (all : List X) → ((x : X) → first_of_these same spelling all (spelling x) ≡ Some x)
     → (s : S) → Answer FitsAlways spelling s
@@ -67,11 +67,11 @@ few {X} same tells spelling all found s = by_first (first_of_these same spelling
   by_first None e = inr (λ x fits is.
       let bad : None ≡ Some x = sym e ∙ ap (first_of_these same spelling all) is ∙ found x in absurd (cc bad))
 
--- a value is found among these by what spells it, which is a word
+-- the value is found in this list by its word, which is a word
 abbrev IsTold : {X : Type 0} → (X → List ℕ) → List X → X → Type 0
 IsTold word all x = (first_of_these bytes_eq word all (word x) ≡ Some x) × IsWord (word x)
 
--- few values, each found by its word, have a word each of their own, and whether a word is one of theirs is told
+-- a few values, each found by its word, have words of their own, and it is decided whether a word is one of theirs
 word_of_few : {X : Type 0} (word : X → List ℕ) (all : List X) → ((x : X) → IsTold word all x) → HasWord FitsAlways word
 word_of_few word all found = record {
   answer = few bytes_eq bytes_eq-Decides word all (λ x. (found x).0);
@@ -79,28 +79,28 @@ word_of_few word all found = record {
   is_word = λ x h. (found x).1;
 }
 
--- each of the two kinds of drivers has a word of its own, and whether a word is one of theirs is told
+-- the two kinds of drivers have words of their own, and it is decided whether a word is one of these
 pub driver_kind : HasWord FitsAlways kind_word
 driver_kind = word_of_few kind_word (kind.Leaf ∷ kind.Mux ∷ []) found where
   found : (k : DriverKind) → IsTold kind_word (kind.Leaf ∷ kind.Mux ∷ []) k
   found kind.Leaf = search rules
   found kind.Mux = search rules
 
--- each of the two kinds of links has a word of its own, and whether a word is one of theirs is told
+-- the two kinds of links have words of their own, and it is decided whether a word is one of these
 pub link_kind : HasWord FitsAlways link_kind_word
 link_kind = word_of_few link_kind_word (link.Ordinary ∷ link.Persistent ∷ []) found where
   found : (k : LinkKind) → IsTold link_kind_word (link.Ordinary ∷ link.Persistent ∷ []) k
   found link.Ordinary = search rules
   found link.Persistent = search rules
 
--- each of the two sides of a stream has a word of its own, and whether a word is one of theirs is told
+-- the two sides of a stream have words of their own, and it is decided whether a word is one of these
 pub stream_side : HasWord FitsAlways side_word
 stream_side = word_of_few side_word (side.Write ∷ side.Read ∷ []) found where
   found : (s : Side) → IsTold side_word (side.Write ∷ side.Read ∷ []) s
   found side.Write = search rules
   found side.Read = search rules
 
--- each choice of a flush has a word of its own, and whether a word is one of theirs is told
+-- the choices of a flush have words of their own, and it is decided whether a word is one of these
 pub flush_sides : HasWord FitsAlways sides_word
 flush_sides = word_of_few sides_word (sides.R ∷ sides.W ∷ sides.RW ∷ []) found where
   found : (s : Sides) → IsTold sides_word (sides.R ∷ sides.W ∷ sides.RW ∷ []) s
@@ -119,7 +119,7 @@ found_verb : (v : Verb) → first_of_these bytes_eq verb_word all_verb (verb_wor
 found_verb verb.Clone = refl
 found_verb v = refl
 
--- no two verbs have one word
+-- no two verbs have the same word
 pub same_verb : (x y : Verb) → verb_word x ≡ verb_word y → x ≡ y
 same_verb = told bytes_eq verb_word all_verb found_verb
 
@@ -135,12 +135,12 @@ all_fault =
 abbrev pub fault_at : List (List ℕ) → Option Fault
 fault_at = first_of_these (pointwise bytes_eq) fault_words all_fault
 
--- the fault that is found by a fault's words is that fault
+-- the fault that is found by the words of a fault is that fault
 pub found_fault : (f : Fault) → fault_at (fault_words f) ≡ Some f
 found_fault fault.BadDescriptor = refl
 found_fault f = refl
 
--- each fault has words of its own, and whether words are a fault's is told
+-- each fault has words of its own, and it is decided whether words are a fault's
 pub every_fault : HasWords FitsAlways fault_words
 every_fault = record {
   answer = few (pointwise bytes_eq) (pointwise_decides bytes_eq-Decides) fault_words all_fault found_fault;
@@ -150,7 +150,7 @@ every_fault = record {
 
 -- ---- other words
 
--- no two ids have one word, and none has that of all
+-- no two ids have the same word, and none has the word for all
 pub same_which : (x y : Which) → FitsWhich x → FitsWhich y → which_word x ≡ which_word y → x ≡ y
 same_which (which.Id n) (which.Id m) h k e = ap which.Id (same_number n m h k e)
 same_which (which.Id n) which.All h k e = let bad : all_ascii_digits (codes "all") ≡ true =
@@ -159,7 +159,7 @@ same_which which.All (which.Id n) h k e = let bad : all_ascii_digits (codes "all
     ap all_ascii_digits e ∙ decimal_digits n k in absurd (cc bad)
 same_which which.All which.All h k e = refl
 
--- no two lists of bytes have one word
+-- no two lists of bytes have the same word
 pub same_bytes : (bs cs : List ℕ) → FitsBytes bs → FitsBytes cs → hex_word bs ≡ hex_word cs → bs ≡ cs
 same_bytes [] cs h k e = sym (dash cs (sym e))
 same_bytes (b ∷ bs) [] h k e = dash (b ∷ bs) e

@@ -1,4 +1,4 @@
--- Words have no space in them.
+-- Words contain no spaces.
 use Rattle.std.proofs.Common.{◌≡◌, ℕ, List, ◌∷◌, ◌++◌, sym, ap, ◌∙◌, arith, rules}
 use Rattle.smx_words.specs.declared.reading.verb.ReplyVerb.{ReplyVerb}
 use Rattle.smx_words.specs.declared.reading.verb.ReplyVerb.TheVariants as reply_verb
@@ -10,17 +10,17 @@ use Rattle.smx_words.proofs.DecidedLemmas.{HasWord}
 use Rattle.smx_words.proofs.DecidedWordLemmas.{name}
 use Rattle.smx_words.proofs.LineLemmas.{seen_free}
 
--- no space stands in a word
+-- a word contains no space
 pub word_free : {X : Type 0} {Fits : X → Type 0} {word : X → List ℕ} → HasWord Fits word → (x : X) → Fits x
     → IsFree SPACE (word x)
 word_free {word = word} d x fits = seen_free SPACE (omega arith) (word x) (d.is_word x fits).1
 
--- no space stands in the word with which a reply begins
+-- the first word of a reply contains no space
 pub reply_verb_free : (v : ReplyVerb) → FitsAlways v → IsFree SPACE (reply_verb_word v)
 reply_verb_free reply_verb.Fd fits = search rules
 reply_verb_free v fits = search rules
 
--- a name before the first space begins the bytes, and no other rest stands behind a name and a space
+-- bytes start with the name before the first space, and the rest after it is unique
 pub first_name_is : (text word rest called : List ℕ) → IsFree SPACE word → text ≡ word ++ SPACE ∷ rest
     → FitsName called → word ≡ called
     → FitsName called × (text ≡ called ++ SPACE ∷ rest)

@@ -1,14 +1,14 @@
--- Bytes that spell a number, a command or a call, and bytes that spell none.
+-- Bytes that spell a number, a command or a call, and bytes that spell none of these.
 use Rattle.std.proofs.Common.{◌≡◌, ◌≢◌, true, ℕ, List, [], ◌∷◌, ◌++◌, refl, sym, ap, ◌∙◌, arith, rules}
 use Rattle.std.specs.Fmt.{decimal, digits}
-use Rattle.std.specs.Prelude.{codes, slice_index}
+use Rattle.std.specs.Prelude.{codes}
 use Rattle.std.specs.Str.Parse.{digits_value}
 use Rattle.std.proofs.lemmas.Fmt.{decimal_digit, digits_value-decimal}
 use Rattle.smx_types.specs.Versions.{is_hangup}
 use Rattle.smx_types.specs.declared.command.Command.{Command}
 use Rattle.smx_types.specs.declared.command.Command.TheVariants as command
 use Rattle.smx_types.specs.declared.version.Version.TheVariants.{V1, V2}
-use Rattle.smx_words.specs.LineReading.{AreParts, IsCallLine, IsCommandLine}
+use Rattle.smx_words.specs.LineReading.{IsCallLine, IsCommandLine}
 use Rattle.smx_words.specs.Spellable.{FitsCall, FitsCommand, FitsNumber}
 use Rattle.smx_words.specs.Spelling.{call_words, command_words, process_words}
 use Rattle.smx_words.specs.Words.{AreWords, SPACE, line_of}
@@ -18,7 +18,6 @@ use Rattle.smx_words.proofs.LawLemmas.{call_spelled, command_spelled}
 use Rattle.smx_words.proofs.LineLemmas.{same_words}
 use Rattle.smx_words.proofs.NumberLemmas.{number_free, own}
 use Rattle.smx_words.proofs.SameCommandLemmas.{verb_is, verb_of}
-use Rattle.smx_words.proofs.ToldLemmas.{parts_of}
 
 -- ---- numbers
 
@@ -27,7 +26,7 @@ pub seven_is : codes "7" ≡ decimal 7
 unfolding digits
 seven_is = refl
 
--- what a number's word is worth is the number
+-- the value of a number's digits is the number
 worth : (w : List ℕ) (n : ℕ) → FitsNumber n → w ≡ decimal n → digits_value 10 w ≡ n
 worth w n fits e = ap (digits_value 10) e ∙ digits_value-decimal own n (omega (arith, fits))
 
@@ -35,40 +34,36 @@ worth w n fits e = ap (digits_value 10) e ∙ digits_value-decimal own n (omega 
 pub not_eight : codes "7" ≢ decimal 8
 not_eight e = let is : 7 ≡ 8 = worth (codes "7") 8 (omega arith) e in omega (arith, is)
 
--- `8` is not the word of 7
-pub not_seven : codes "8" ≢ decimal 7
-not_seven e = let is : 8 ≡ 7 = worth (codes "8") 7 (omega arith) e in omega (arith, is)
-
--- `07` is the word of no number
+-- `07` is not the word of any number
 pub leading_zero : (n : ℕ) → FitsNumber n → codes "07" ≢ decimal n
 leading_zero n fits e =
     let value : 7 ≡ n = worth (codes "07") n fits e in
     let one = e ∙ ap decimal (sym value) ∙ decimal_digit 7 (omega arith) in
     absurd (cc one)
 
--- `4294967296` is the word of no number of 32 bits
+-- `4294967296` is not the word of any number of 32 bits
 pub too_large : (n : ℕ) → FitsNumber n → codes "4294967296" ≢ decimal n
 too_large n fits e = let is : 4294967296 ≡ n = worth (codes "4294967296") n fits e in omega (arith, is, fits)
 
--- ---- bytes that begin with a number
+-- ---- bytes that start with a number
 
 -- `7 x y` is the word of 7, a space, and `x y`
 pub seven_and_more_is : codes "7 x y" ≡ decimal 7 ++ SPACE ∷ codes "x y"
 unfolding digits
 seven_and_more_is = refl
 
--- `7 x y` begins with no number but 7
+-- `7 x y` starts with no number except 7
 pub only_seven : (n : ℕ) (after : List ℕ) → FitsNumber n → codes "7 x y" ≡ decimal n ++ SPACE ∷ after
     → (decimal n ≡ decimal 7) × (after ≡ codes "x y")
 only_seven n after fits e =
     apart SPACE (decimal n) (decimal 7) after (codes "x y") (number_free n fits) (number_free 7 (omega arith))
     (sym e ∙ seven_and_more_is)
 
--- `7` begins with no number that has a space behind it
+-- `7` starts with no number and space
 pub no_space : (n : ℕ) (after : List ℕ) → codes "7" ≢ decimal n ++ SPACE ∷ after
 no_space n after e = free_whole SPACE (codes "7") 1 (omega arith) (search (rules, arith)) (decimal n) after e
 
--- `4294967296 x` begins with no number of 32 bits
+-- `4294967296 x` starts with no number of 32 bits
 pub begins_too_large : (n : ℕ) (after : List ℕ) → FitsNumber n → codes "4294967296 x" ≢ decimal n ++ SPACE ∷ after
 begins_too_large n after fits e =
     too_large n fits (sym (apart SPACE (decimal n) (codes "4294967296") after (codes "x") (number_free n fits)
@@ -76,28 +71,28 @@ begins_too_large n after fits e =
 
 -- ---- lines of a process
 
--- where `process` and a word are the line of a process, the word is that of its number
+-- if `process` and a word are the line of a process, the word is that of its number
 pub number_of : (w : List ℕ) (n : ℕ) → line_of (codes "process" ∷ w ∷ []) ≡ line_of (process_words n) → w ≡ decimal n
 number_of w n e = cc e
 
--- `process 7` is the line with which process 7 begins
+-- `process 7` is the first line of process 7
 pub process_is : codes "process 7" ≡ line_of (process_words 7)
 unfolding digits
 process_is = refl
 
 -- ---- lines of a command
 
--- words that have the line of a command are the words of that command
+-- words with the line of a command are the words of that command
 told : (ws : List (List ℕ)) (c : Command) → AreWords ws → FitsCommand c → line_of ws ≡ line_of (command_words c)
     → ws ≡ command_words c
 told ws c are fits e = same_words ws (command_words c) are.0 (command_spelled c fits).0 e
 
--- `dup 0` is the line of a command that version 1 can tell
+-- `dup 0` is the line of a command of version 1
 pub dup_line : IsCommandLine V1 (codes "dup 0")
 unfolding digits
 dup_line = (command.Dup 0, search (rules, arith), refl)
 
--- `hangup ip 0` is the line of a command that version 2 can tell
+-- `hangup ip 0` is the line of a command of version 2
 pub hangup_line : IsCommandLine V2 (codes "hangup ip 0")
 unfolding digits
 hangup_line = (command.Hangup (codes "ip") 0, search (rules, arith), refl)
@@ -108,7 +103,7 @@ large_dup : (c : Command) → FitsCommand c → verb_of c ≡ verb.Dup
 large_dup (command.Dup n) fits v e = too_large n fits (cc e)
 large_dup c fits v e = absurd (cc v)
 
--- `dup 4294967296`, whose number has 33 bits, is the line of no command
+-- `dup 4294967296`, whose number needs 33 bits, is not the line of a command
 pub no_large_dup : IsCommandLine V2 (codes "dup 4294967296") → ⊥
 no_large_dup (c, fits, e) =
     let same = told (codes "dup" ∷ codes "4294967296" ∷ []) c (search (rules, arith)) fits.0 e in
@@ -116,27 +111,27 @@ no_large_dup (c, fits, e) =
 
 -- ---- lines of a call
 
--- words that have the line of a call are the words of that call
+-- words with the line of a call are the words of that call
 told_call : (ws : List (List ℕ)) (c : ℕ × Command) → AreWords ws → FitsCall c → line_of ws ≡ line_of (call_words c)
     → ws ≡ call_words c
 told_call ws c are fits e = same_words ws (call_words c) are.0 (call_spelled c fits).0 e
 
--- `63 dup 0` is the line of a call that version 1 can tell
+-- `63 dup 0` is the line of a call of version 1
 pub dup_call : IsCallLine V1 (codes "63 dup 0")
 unfolding digits
 dup_call = ((63, command.Dup 0), search (rules, arith), refl)
 
--- `0 hangup ip 0` is the line of a call that version 2 can tell
+-- `0 hangup ip 0` is the line of a call of version 2
 pub hangup_call : IsCallLine V2 (codes "0 hangup ip 0")
 unfolding digits
 hangup_call = ((0, command.Hangup (codes "ip") 0), search (rules, arith), refl)
 
--- a command with the words of a hangup is one
+-- a command with the verb of a hangup is a hangup
 hangup_is : (c : Command) → verb_of c ≡ verb.Hangup → is_hangup c ≡ true
 hangup_is (command.Hangup d n) v = refl
 hangup_is c v = absurd (cc v)
 
--- `0 hangup ip 0` is the line of no call that version 1 can tell
+-- `0 hangup ip 0` is not the line of a call of version 1
 pub no_early_hangup : IsCallLine V1 (codes "0 hangup ip 0") → ⊥
 no_early_hangup (c, fits, e) =
     let ws : List (List ℕ) = codes "hangup" ∷ codes "ip" ∷ codes "0" ∷ [] in
@@ -145,7 +140,7 @@ no_early_hangup (c, fits, e) =
     hangup_is c.1 (verb_is c.1 verb.Hangup (codes "ip" ∷ codes "0" ∷ []) (cc same)) in
     absurd (cc (sym hangup ∙ fits.1))
 
--- `64 dup 0`, whose process is one too many, is the line of no call
+-- `64 dup 0`, whose process is over the limit, is not the line of a call
 pub no_call_of_64 : IsCallLine V2 (codes "64 dup 0") → ⊥
 no_call_of_64 (c, fits, e) =
     let same = told_call (codes "64" ∷ codes "dup" ∷ codes "0" ∷ []) c (search (rules, arith)) fits.0 e in
@@ -153,12 +148,12 @@ no_call_of_64 (c, fits, e) =
     let is : 64 ≡ c.0 = worth (codes "64") c.0 (omega (arith, fits.0.0)) process in
     omega (arith, is, fits.0.0)
 
--- `0` is the one word of no command
+-- no command has `0` as its only word
 no_number : (c : Command) → codes "0" ∷ [] ≢ command_words c
 no_number command.CloseAll e = cc e
 no_number c e = cc e
 
--- `dup 0`, which has no process, is the line of no call
+-- `dup 0`, which has no process, is not the line of a call
 pub no_call_without_process : IsCallLine V2 (codes "dup 0") → ⊥
 no_call_without_process (c, fits, e) =
     let same = told_call (codes "dup" ∷ codes "0" ∷ []) c (search (rules, arith)) fits.0 e in
@@ -170,37 +165,10 @@ long_dup : (c : Command) → verb_of c ≡ verb.Dup
 long_dup (command.Dup n) v e = cc e
 long_dup c v e = absurd (cc v)
 
--- `0 dup 0 = done`, which has a reply, is the line of no call
+-- `0 dup 0 = done`, which has a reply, is not the line of a call
 pub no_call_with_reply : IsCallLine V2 (codes "0 dup 0 = done") → ⊥
 no_call_with_reply (c, fits, e) =
     let ws : List (List ℕ) = codes "0" ∷ codes "=" ∷ codes "done" ∷ [] in
     let same = told_call (codes "0" ∷ codes "dup" ∷ ws) c (search (rules, arith)) fits.0 e in
     let words : codes "dup" ∷ ws ≡ command_words c.1 = cc same in
     long_dup c.1 (verb_is c.1 verb.Dup ws words) words
-
--- ---- the parts of a line
-
--- `2 close 3 = EBADF fd` has the parts of an entry that version 1 can tell
-pub close_parts : AreParts V1 (codes "2 close 3 = EBADF fd") 2 (command.Close 3) (codes "EBADF fd")
-unfolding digits
-close_parts =
-    parts_of V1 (codes "2 close 3 = EBADF fd") 2 (command.Close 3) (codes "EBADF fd") (search (rules, arith)) refl
-
--- `2 close 3 = ` has such parts, too, though its text is no reply's
-pub empty_parts : AreParts V1 (codes "2 close 3 = ") 2 (command.Close 3) []
-unfolding digits
-empty_parts = parts_of V1 (codes "2 close 3 = ") 2 (command.Close 3) [] (search (rules, arith)) refl
-
--- `0 hangup ip 0 = done` has no parts that version 1 can tell
-pub no_early_parts : AreParts V1 (codes "0 hangup ip 0 = done") 0 (command.Hangup (codes "ip") 0) (codes "done") → ⊥
-no_early_parts parts = cc parts.call.1
-
--- `eof` is not the text of `2 close 3 = done`
-pub no_other_text : AreParts V2 (codes "2 close 3 = done") 2 (command.Close 3) (codes "eof") → ⊥
-unfolding digits
-no_other_text parts = absurd (cc parts.is)
-
--- 3 is not the process of `2 close 3 = done`
-pub no_other_process : AreParts V2 (codes "2 close 3 = done") 3 (command.Close 3) (codes "done") → ⊥
-unfolding digits
-no_other_process parts = let first : 50 ≡ 51 = ap (λ (xs : List ℕ). slice_index xs 0) parts.is in omega (arith, first)

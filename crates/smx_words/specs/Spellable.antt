@@ -1,4 +1,4 @@
--- Which values can be spelled: names are names, and numbers and bytes are in range. The types keep this.
+-- The values that can be spelled: names are valid, and numbers and bytes are in range. The types guarantee this.
 use Rattle.std.specs.Prelude.{◌≡◌, ℕ, ◌<◌, ◌^◌, Bool, true, false, List, length}
 use Rattle.std.specs.List.{AllByRecursion}
 use Rattle.smx_types.specs.Names.{is_name}
@@ -26,7 +26,7 @@ use Rattle.smx_types.specs.declared.view.RouteLine.{RouteLine}
 abbrev pub FitsNumber : ℕ → Type 0
 FitsNumber n = n < 2 ^ 32
 
--- a name as drivers have it
+-- a valid driver name
 abbrev pub FitsName : List ℕ → Type 0
 FitsName text = is_name text ≡ true
 
@@ -34,11 +34,11 @@ FitsName text = is_name text ≡ true
 abbrev pub FitsBytes : List ℕ → Type 0
 FitsBytes bytes = AllByRecursion (λ b. b < 256) bytes
 
--- a process has one of these numbers
+-- a process number is below the limit
 abbrev pub FitsProcess : ℕ → Type 0
 FitsProcess process = process < MAX_PROCESSES
 
--- any value of a kind with a few values, each of which has a word
+-- any value of an enum in which each variant has its own word
 abbrev pub FitsAlways : {X : Type 0} → X → Type 0
 FitsAlways x = Unit {0}
 
@@ -82,7 +82,7 @@ FitsCommand (command.Inject driver minor addr bytes) =
 FitsCommand (command.Transmit driver minor) = FitsName driver × FitsNumber minor
 FitsCommand (command.Hangup driver minor) = FitsName driver × FitsNumber minor
 
--- serials of which there are one or more, each a number
+-- one or more serials, each of them a number
 abbrev pub FitsSerials : List ℕ → Type 0
 FitsSerials serials = (0 < length serials) × AllByRecursion FitsNumber serials
 
@@ -96,45 +96,45 @@ FitsReply (reply.Done dropped) = AllByRecursion FitsNumber dropped
 FitsReply reply.Eof = Unit {0}
 FitsReply (reply.Fault f) = Unit {0}
 
--- a version can tell something: what tells of a hangup is of version 2 alone
+-- this version can express the value: only version 2 can express hangups
 abbrev pub CanTell : Version → Bool → Type 0
 CanTell V1 hangup = hangup ≡ false
 CanTell V2 hangup = Unit {0}
 
--- a command can be spelled, and told in this version
+-- a command can be spelled, and this version can express it
 abbrev pub FitsCommandIn : Version → Command → Type 0
 FitsCommandIn version c = FitsCommand c × CanTell version (is_hangup c)
 
--- a reply can be spelled, and told in this version
+-- a reply can be spelled, and this version can express it
 abbrev pub FitsReplyIn : Version → Reply → Type 0
 FitsReplyIn version r = FitsReply r × CanTell version (tells_of_hangup r)
 
--- there is such a process, and its command can be spelled
+-- the process exists, and its command can be spelled
 abbrev pub FitsCall : ℕ × Command → Type 0
 FitsCall call = FitsProcess call.0 × FitsCommand call.1
 
--- a call can be spelled, and its command can be told in this version
+-- a call can be spelled, and this version can express its command
 abbrev pub FitsCallIn : Version → ℕ × Command → Type 0
 FitsCallIn version call = FitsCall call × CanTell version (is_hangup call.1)
 
--- there is such a process, and its command and reply can be spelled
+-- the process exists, and its command and reply can be spelled
 pub record FitsEntry (e : Entry) : Type 0 where
   pub process : FitsProcess e.process
   pub command : FitsCommand e.command
   pub reply : FitsReply e.reply
 
--- an entry can be spelled, and its command and its reply can be told in this version
+-- an entry can be spelled, and this version can express its command and reply
 abbrev pub FitsEntryIn : Version → Entry → Type 0
 FitsEntryIn version e = FitsEntry e × CanTell version (is_of_hangup e)
 
--- an open descriptor that can be shown
+-- the line of an open descriptor can be spelled
 pub record FitsDescriptor (d : DescriptorLine) : Type 0 where
   pub process : FitsProcess d.process
   pub fd : FitsNumber d.fd
   pub driver : FitsName d.driver
   pub minor : FitsNumber d.minor
 
--- a link that can be shown
+-- the line of a link can be spelled
 pub record FitsLink (l : LinkLine) : Type 0 where
   pub id : FitsNumber l.id
   pub ctl_driver : FitsName l.ctl_driver
@@ -142,19 +142,19 @@ pub record FitsLink (l : LinkLine) : Type 0 where
   pub lower_driver : FitsName l.lower_driver
   pub lower_minor : FitsNumber l.lower_minor
 
--- a binding that can be shown
+-- the line of a binding can be spelled
 pub record FitsBinding (b : BindingLine) : Type 0 where
   pub driver : FitsName b.driver
   pub addr : FitsNumber b.addr
   pub minor : FitsNumber b.minor
 
--- a route that can be shown
+-- the line of a route can be spelled
 pub record FitsRoute (r : RouteLine) : Type 0 where
   pub driver : FitsName r.driver
   pub addr : FitsNumber r.addr
   pub id : FitsNumber r.id
 
--- a queued message that can be shown
+-- the line of a queued message can be spelled
 pub record FitsMessage (m : MessageLine) : Type 0 where
   pub driver : FitsName m.driver
   pub minor : FitsNumber m.minor
@@ -162,12 +162,12 @@ pub record FitsMessage (m : MessageLine) : Type 0 where
   pub addr : FitsNumber m.message.addr
   pub bytes : FitsBytes m.message.bytes
 
--- a full place that can be shown
+-- the line of a full place can be spelled
 pub record FitsFull (f : FullLine) : Type 0 where
   pub driver : FitsName f.driver
   pub minor : FitsNumber f.minor
 
--- a hung-up stream that can be shown
+-- the line of a hung-up stream can be spelled
 pub record FitsHung (h : HungLine) : Type 0 where
   pub driver : FitsName h.driver
   pub minor : FitsNumber h.minor

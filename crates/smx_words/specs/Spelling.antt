@@ -1,4 +1,4 @@
--- The words that spell each value. There is one spelling per value.
+-- The words that spell each value. Each value has one spelling.
 use Rattle.std.specs.Prelude.{List, ℕ, [], ◌∷◌, ◌++◌, map, codes}
 use Rattle.std.specs.Fmt.{decimal}
 use Rattle.smx_types.specs.declared.command.Command.{Command}
@@ -50,7 +50,7 @@ abbrev pub side_word : Side → List ℕ
 side_word side.Write = codes "w"
 side_word side.Read = codes "r"
 
--- a link is named by the command that makes it
+-- the kind of a link is named like the command that makes it
 abbrev pub link_kind_word : LinkKind → List ℕ
 link_kind_word link.Ordinary = codes "link"
 link_kind_word link.Persistent = codes "plink"
@@ -61,7 +61,7 @@ driver_words d =
     codes "driver" ∷ d.name ∷ kind_word d.kind ∷ decimal d.minors ∷ decimal d.high ∷ decimal
     d.low ∷ decimal d.max ∷ []
 
--- the words of a command, its own name first
+-- the words of a command, starting with its name
 abbrev pub command_words : Command → List (List ℕ)
 command_words (command.OpenClone driver) = codes "clone" ∷ driver ∷ []
 command_words (command.OpenMinor driver minor) = codes "open" ∷ driver ∷ decimal minor ∷ []
@@ -84,11 +84,11 @@ command_words (command.Inject driver minor addr bytes) =
 command_words (command.Transmit driver minor) = codes "transmit" ∷ driver ∷ decimal minor ∷ []
 command_words (command.Hangup driver minor) = codes "hangup" ∷ driver ∷ decimal minor ∷ []
 
--- a call: the process, and its command
+-- a call: the process and its command
 abbrev pub call_words : ℕ × Command → List (List ℕ)
 call_words call = decimal call.0 ∷ command_words call.1
 
--- an error of errno(3), and a word that tells its causes apart
+-- an error of errno(3), and a word for its cause if the error has several
 abbrev pub fault_words : Fault → List (List ℕ)
 fault_words fault.BadDescriptor = codes "EBADF" ∷ codes "fd" ∷ []
 fault_words fault.Below = codes "EINVAL" ∷ codes "below" ∷ []
@@ -118,7 +118,7 @@ reply_words (reply.Done dropped) = codes "done" ∷ map decimal dropped
 reply_words reply.Eof = codes "eof" ∷ []
 reply_words (reply.Fault f) = fault_words f
 
--- the call, and behind an equals sign the reply
+-- the call, an equals sign, and the reply
 abbrev pub entry_words : Entry → List (List ℕ)
 entry_words e = call_words (e.process, e.command) ++ codes "=" ∷ reply_words e.reply
 
@@ -126,7 +126,7 @@ entry_words e = call_words (e.process, e.command) ++ codes "=" ∷ reply_words e
 abbrev pub entry_line : Entry → List ℕ
 entry_line e = line_of (entry_words e) ++ LINE_FEED ∷ []
 
--- where the program of the process of this number begins
+-- the start of the program of the process with this number
 abbrev pub process_words : ℕ → List (List ℕ)
 process_words number = codes "process" ∷ decimal number ∷ []
 

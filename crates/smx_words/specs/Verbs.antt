@@ -5,7 +5,7 @@ use Rattle.smx_words.specs.declared.reading.verb.ReplyVerb.TheVariants as reply_
 use Rattle.smx_words.specs.declared.reading.verb.Verb.{Verb}
 use Rattle.smx_words.specs.declared.reading.verb.Verb.TheVariants as verb
 
--- the word that each command begins with
+-- the word that starts each command
 abbrev pub verb_word : Verb → List ℕ
 verb_word verb.Clone = codes "clone"
 verb_word verb.Open = codes "open"
@@ -27,7 +27,7 @@ verb_word verb.Inject = codes "inject"
 verb_word verb.Transmit = codes "transmit"
 verb_word verb.Hangup = codes "hangup"
 
--- the word that each reply but a fault begins with
+-- the word that starts each reply except a fault
 abbrev pub reply_verb_word : ReplyVerb → List ℕ
 reply_verb_word reply_verb.Fd = codes "fd"
 reply_verb_word reply_verb.Id = codes "id"

@@ -1,4 +1,4 @@
--- Spellings of which one is the other with a space and more behind it, for what begins bytes in two ways.
+-- Two spellings, the second of which is the first with a space and another word: bytes may start with both.
 use Rattle.std.specs.Prelude.{ℕ, List, Bool, true, false, codes}
 
 -- `a` for true, and `a b` for false

@@ -1,4 +1,4 @@
-//! Laws of spellings: they are words, and lines tell them and their values apart.
+//! Laws of spellings: they are words, and a line determines its words and its value.
 
 ghost use Rattle.std.specs.Prelude.{◌≡◌, ◌∷◌, [], ℕ, List, codes};
 ghost use Rattle.std.specs.List.{AllByRecursion};
@@ -20,7 +20,7 @@ ghost use Rattle.smx_words.specs.Spelling.{next_words, descriptor_words, link_wo
 ghost use Rattle.smx_words.specs.Spelling.{message_words, full_words, hung_words};
 ghost use Rattle.smx_words.specs.Words.{AreWords, IsWord, line_of};
 
-/// Each value that can be spelled is spelled by words, one or more.
+/// A value that can be spelled is spelled by one or more words.
 pub fn spellings_are_words()
     ensures driver { (x : DriverSpec) → FitsDriver x → AreWords (driver_words x) }
     ensures process { (x : ℕ) → FitsNumber x → AreWords (process_words x) }
@@ -37,13 +37,13 @@ pub fn spellings_are_words()
     ensures hung { (x : HungLine) → FitsHung x → AreWords (hung_words x) }
 {}
 
-/// Words that make the same line are the same words.
+/// Two lists of words that make the same line are equal.
 pub fn lines_tell_words_apart()
     ensures { (words others : List (List ℕ)) → AllByRecursion IsWord words → AllByRecursion IsWord others
         → line_of words ≡ line_of others → words ≡ others }
 {}
 
-/// Values that can be spelled and make the same line are the same value.
+/// Two values that can be spelled and make the same line are equal.
 pub fn one_value_each()
     ensures driver { (x y : DriverSpec) → FitsDriver x → FitsDriver y
         → line_of (driver_words x) ≡ line_of (driver_words y) → x ≡ y }
@@ -73,7 +73,7 @@ pub fn one_value_each()
         → line_of (hung_words x) ≡ line_of (hung_words y) → x ≡ y }
 {}
 
-/// A word is one byte or more, each from `!` to `~`, and a line is one word or more.
+/// A word is one or more bytes, each from `!` to `~`. A line is one or more words.
 pub fn words_are_seen()
     ensures seen { AreWords (codes "!~" ∷ []) }
     ensures no_space { IsWord (codes " ") → ⊥ }

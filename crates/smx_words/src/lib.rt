@@ -1,4 +1,4 @@
-//! The words of one line: what each value's one spelling is, read from a line and written to one.
+//! The words of one line: the one spelling of each value, its reader and its writer.
 #![tactic(auto)]
 
 pub mod laws;
@@ -10,10 +10,7 @@ pub use reading::hex_word::spells_bytes;
 pub use reading::number::number;
 pub use reading::word::{driver_kind, link_kind, name, side, sides, which};
 pub use reading::{
-    bind_of, call_and_reply_in, call_of_line, command_in, command_of, descriptor_of, driver_of,
-    entry_of, full_of, hung_of, is_reply_line, link_of, message_of, next_of, process_of,
-    push_command, reply_of, route_of,
+    bind_of, call_of_line, command_of, descriptor_of, driver_of, entry_of, full_of, hung_of,
+    link_of, message_of, next_of, process_of, reply_of, route_of,
 };
-pub use writing::{
-    Spell, write_entry, write_entry_of_line, write_lines, write_next, write_process, write_reply,
-};
+pub use writing::{Spell, write_entry, write_lines, write_next, write_process, write_reply};

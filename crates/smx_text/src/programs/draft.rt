@@ -1,62 +1,58 @@
-//! The programs that are being read.
+//! Programs that are being read.
 
 ghost use Rattle.std.specs.Prelude.{◌≡◌, ◌≢◌, ◌<◌, codes, length, OnOk, IfErr};
 ghost use Rattle.std.specs.List.{sum_by};
+ghost use Rattle.smx_types.specs.ProgramLists.{AreWithinLimits, ProgramLists};
 ghost use Rattle.smx_types.specs.declared.limits.TheConstants.{MAX_COMMANDS};
 ghost use Rattle.smx_types.specs.declared.command.Command.{Command as AnyCommand};
 ghost use Rattle.smx_words.specs.LineReading.{IsNoCommandLine};
-ghost use Rattle.smx_words.specs.Spellable.{FitsDriver};
+ghost use Rattle.smx_words.specs.Spellable.{FitsCommandIn, FitsDriver};
 ghost use Rattle.smx_text.specs.Grammar.{IsBegun};
 ghost use Rattle.smx_text.specs.Reading.{AnswersLine, AnswersText, RefusesLine};
 ghost use Rattle.smx_text.specs.ProgramLines.{Command as CommandLine, Driver as DriverLine, Process as ProcessLine};
 ghost use Rattle.smx_text.specs.ProgramsText.{body, programs_grammar};
 
-use crate::programs::taker::ProgramTaker;
 use crate::reading::Draft;
 use crate::text_fault::Cause;
-use smx_types::{DriverSpec, MAX_COMMANDS, MAX_PROCESSES, NoMemory, Version};
+use smx_types::{
+    Command, Commands, DriverSpec, Drivers, MAX_COMMANDS, MAX_PROCESSES, NoMemory, ProgramList,
+    Programs, Version,
+};
 use smx_words::{command_of, driver_of, process_of};
 use std::alloc::Global;
 use std::marker::Model;
 
-// Who takes what the lines so far say, and how many drivers, programs and commands there were.
-#[derive(Drop)]
-pub struct ProgramsDraft<P: ProgramTaker> {
+// The drivers and programs read so far, and the number of their commands.
+#[derive(Debug, Drop)]
+pub struct ProgramsDraft {
     version: Version,
-    taker: P,
-    drivers: usize,
-    programs: usize,
-    commands: usize,
+    drivers: Vec<DriverSpec>,
+    programs: Vec<Commands>,
+    count: usize,
 }
 
-impl<P: ProgramTaker> Model for ProgramsDraft<P> {
+impl Model for ProgramsDraft {
     ghost use Rattle.smx_types.specs.ProgramLists.{ProgramLists};
     ghost use Rattle.smx_text.specs.Drafts.{IsCounted};
 
     ghost Value = { ProgramLists };
 
-    ghost view = { λ d. P.taken d.taker };
+    ghost view = { λ d.
+        record { version = d.version; drivers = d.drivers.items; programs = d.programs.items } };
 
-    ghost invariant = { λ d. IsCounted (P.taken d.taker) d.version d.drivers d.programs d.commands };
+    ghost invariant = { λ d. IsCounted d.programs.items d.count };
 }
 
-impl<P: ProgramTaker> Draft for ProgramsDraft<P> {
-    type With = P::With;
-
-    type Whole = P::Whole;
+impl Draft for ProgramsDraft {
+    type Whole = Programs;
 
     ghost use Rattle.std.specs.Prelude.{refl};
-    ghost use Rattle.smx_types.specs.ProgramLists.{ProgramLists};
     ghost use Rattle.smx_text.specs.ProgramLines.{Line};
     ghost use Rattle.smx_text.specs.ProgramsText.{body, programs_grammar};
-
-    ghost Said = { ProgramLists };
 
     ghost Line = { Line };
 
     ghost grammar = { programs_grammar };
-
-    ghost makes = { P.makes };
 
     ghost version_of = { λ d. d.version };
 
@@ -69,32 +65,50 @@ impl<P: ProgramTaker> Draft for ProgramsDraft<P> {
         }
     }
 
-    fn begin(alloc: Global, with: P::With, version: Version) -> ProgramsDraft<P> {
+    fn begin(alloc: Global, version: Version) -> ProgramsDraft {
         ProgramsDraft {
             version,
-            taker: P::begin(alloc, with, version),
-            drivers: 0,
-            programs: 0,
-            commands: 0,
+            drivers: Vec::new(alloc),
+            programs: Vec::new(alloc),
+            count: 0,
         }
     }
 
     fn add(&mut self, alloc: Global, text: &[u8]) -> Result<(), Cause> {
-        match self.room_for_command() {
-            Ok(()) => self.add_where_room(alloc, text),
-            Err(cause) => self.add_where_none(alloc, text, cause),
+        match command_of(alloc, self.version, text) {
+            Ok(Some(command)) => self.add_command(command),
+            Ok(None) => self.add_other(alloc, text),
+            Err(NoMemory) => Err(self.command_unread()),
         }
     }
 
-    fn finish(self) -> Option<P::Whole> {
-        Some(self.taker.finish())
+    fn finish(self) -> Option<Programs> {
+        Some(in_version(
+            self.version,
+            Drivers::from_vec(self.drivers),
+            ProgramList::from_vec(self.programs),
+        ))
     }
 
     ghost end_is = { λ v. refl };
 }
 
-impl<P: ProgramTaker> ProgramsDraft<P> {
-    // A line that is no command.
+// Makes programs of this version.
+fn in_version(version: Version, drivers: Drivers, programs: ProgramList) -> Programs
+    requires { AreWithinLimits (record { version = version; drivers = drivers; programs = programs }) }
+    ensures { result ≡ record { version = version; drivers = drivers; programs = programs } }
+{
+    let Ok(programs) = Programs::new(drivers, programs) else {
+        unreachable!()
+    };
+    match version {
+        Version::V1 => programs,
+        Version::V2 => programs.raised(),
+    }
+}
+
+impl ProgramsDraft {
+    // Adds a line other than a command.
     fn add_other(&mut self, alloc: Global, text: &[u8]) -> Result<(), Cause>
         requires begun { IsBegun (programs_grammar self.old.version) (body self.old) }
         requires no_command { IsNoCommandLine self.old.version text.now }
@@ -120,14 +134,13 @@ impl<P: ProgramTaker> ProgramsDraft<P> {
             (body self.new) result }
         ensures version { OnOk result (self.new.version ≡ self.old.version) }
     {
-        if self.programs > 0 {
+        if !self.programs.is_empty() {
             return Err(Cause::Form);
         }
-        if self.drivers >= self.version.max_drivers() {
+        if self.drivers.len() >= self.version.max_drivers() {
             return Err(Cause::Many);
         }
-        self.taker.add_driver(driver)?;
-        self.drivers += 1;
+        self.drivers.push(driver)?;
         Ok(())
     }
 
@@ -138,65 +151,54 @@ impl<P: ProgramTaker> ProgramsDraft<P> {
             (body self.new) result }
         ensures version { OnOk result (self.new.version ≡ self.old.version) }
     {
-        if number as usize != self.programs {
+        if number as usize != self.programs.len() {
             return Err(Cause::Form);
         }
         if number >= MAX_PROCESSES {
             return Err(Cause::Many);
         }
-        self.taker.add_program(alloc)?;
-        self.programs += 1;
+        self.programs.push(Commands::new(alloc))?;
         Ok(())
     }
 
-    // A line where a command may come, which is of the process whose line came last.
-    fn add_where_room(&mut self, alloc: Global, text: &[u8]) -> Result<(), Cause>
+    // A command belongs to the process whose line came last.
+    fn add_command(&mut self, command: Command) -> Result<(), Cause>
         requires begun { IsBegun (programs_grammar self.old.version) (body self.old) }
-        requires some { 0 < length self.old.programs }
-        requires few { sum_by length self.old.programs < MAX_COMMANDS }
-        requires no_end { text.now ≢ codes "end" }
-        ensures answers { AnswersText (programs_grammar self.old.version) (body self.old) text.now
+        requires fits { FitsCommandIn self.old.version command }
+        ensures answers { AnswersLine (programs_grammar self.old.version) (body self.old) (CommandLine command)
             (body self.new) result }
         ensures version { OnOk result (self.new.version ≡ self.old.version) }
     {
-        match self.taker.add_command(alloc, text) {
-            Ok(true) => {
-                self.commands += 1;
-                Ok(())
-            }
-            Ok(false) => self.add_other(alloc, text),
-            Err(NoMemory) => Err(Cause::NoMemory),
-        }
+        self.room_for_command()?;
+        let last = self.programs.len() - 1;
+        self.programs[last].push(command)?;
+        self.count += 1;
+        Ok(())
     }
 
-    // A line where a command is refused, and why.
-    fn add_where_none(&mut self, alloc: Global, text: &[u8], cause: Cause) -> Result<(), Cause>
-        requires begun { IsBegun (programs_grammar self.old.version) (body self.old) }
-        requires none { (c : AnyCommand)
-            → RefusesLine (programs_grammar self.old.version) (body self.old) (CommandLine c) cause }
-        requires no_end { text.now ≢ codes "end" }
-        ensures answers { AnswersText (programs_grammar self.old.version) (body self.old) text.now
-            (body self.new) result }
-        ensures version { OnOk result (self.new.version ≡ self.old.version) }
+    // Returns why a command is refused for which there was no memory.
+    fn command_unread(&self) -> Cause
+        requires begun { IsBegun (programs_grammar self.now.version) (body self.now) }
+        ensures { (c : AnyCommand) → FitsCommandIn self.now.version c
+            → RefusesLine (programs_grammar self.now.version) (body self.now) (CommandLine c) result }
     {
-        match command_of(alloc, self.version, text) {
-            Ok(None) => self.add_other(alloc, text),
-            Ok(Some(_)) => Err(cause),
-            Err(NoMemory) => Err(cause),
+        match self.room_for_command() {
+            Ok(()) => Cause::NoMemory,
+            Err(cause) => cause,
         }
     }
 
-    // Whether a command may come and is not one too many.
+    // Fails if no command may follow, or if one would be over the limit.
     fn room_for_command(&self) -> Result<(), Cause>
         ensures some { OnOk result (0 < length self.now.programs) }
         ensures few { OnOk result (sum_by length self.now.programs < MAX_COMMANDS) }
         ensures refused { IfErr result (λ why. (c : AnyCommand)
             → RefusesLine (programs_grammar self.now.version) (body self.now) (CommandLine c) why) }
     {
-        if self.programs == 0 {
+        if self.programs.is_empty() {
             return Err(Cause::Form);
         }
-        if self.commands >= MAX_COMMANDS {
+        if self.count >= MAX_COMMANDS {
             return Err(Cause::Many);
         }
         Ok(())

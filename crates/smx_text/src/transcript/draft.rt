@@ -1,4 +1,4 @@
-//! The transcript that is being read.
+//! A transcript that is being read.
 
 ghost use Rattle.std.specs.Prelude.{◌≡◌, ◌≢◌, [], OnOk};
 ghost use Rattle.smx_types.specs.declared.command.Entry.{Entry as AnyEntry};
@@ -13,62 +13,39 @@ ghost use Rattle.smx_text.specs.TranscriptLines.{Driver as DriverLine, Config as
 
 use crate::reading::Draft;
 use crate::text_fault::Cause;
-use crate::transcript::taker::TranscriptTaker;
-use smx_types::{ConfigView, DriverSpec, Items, NoMemory, Version};
-use smx_words::{driver_of, message_of, next_of};
+use smx_types::{ConfigView, DriverSpec, Items, NoMemory, Transcript, Version};
+use smx_words::{driver_of, entry_of, message_of, next_of};
 use std::alloc::Global;
-use std::marker::Model;
 
-// How far a transcript is read.
+// How much of a transcript was read.
 #[derive(Clone, Copy, Debug, PartialEq, Eq)]
 pub enum Stage {
-    // Drivers and entries come.
+    // Drivers and entries may follow.
     History,
-    // The line `config` came last.
+    // The line `config` was the last one.
     Config,
     // The line `next` was read.
     View,
 }
 
-// Who takes what the lines so far say, how many drivers and entries there were, and the view as far as it was read.
-#[derive(Drop)]
-pub struct TranscriptDraft<T: TranscriptTaker> {
-    pub version: Version,
+// The contents of the lines read so far.
+#[derive(Debug, Drop)]
+pub struct TranscriptDraft {
     pub stage: Stage,
-    pub taker: T,
-    pub drivers: usize,
-    pub entries: usize,
-    pub view: ConfigView,
+    pub transcript: Transcript,
 }
 
-impl<T: TranscriptTaker> Model for TranscriptDraft<T> {
-    ghost use Rattle.smx_text.specs.Drafts.{IsCountedHistory, TranscriptSoFar, so_far};
-
-    ghost Value = { TranscriptSoFar };
-
-    ghost view = { λ d. so_far d.stage (T.taken d.taker) d.view };
-
-    ghost invariant = { λ d. IsCountedHistory (T.taken d.taker) d.version d.drivers d.entries };
-}
-
-impl<T: TranscriptTaker> Draft for TranscriptDraft<T> {
-    type With = T::With;
-
-    type Whole = T::Whole;
+impl Draft for TranscriptDraft {
+    type Whole = Transcript;
 
     ghost use Rattle.std.specs.Prelude.{refl};
-    ghost use Rattle.smx_types.specs.declared.transcript.Transcript.{Transcript as AnyTranscript};
     ghost use Rattle.smx_text.specs.Drafts.{lines};
     ghost use Rattle.smx_text.specs.TranscriptLines.{TranscriptLine};
     ghost use Rattle.smx_text.specs.TranscriptText.{transcript_grammar};
 
-    ghost Said = { AnyTranscript };
-
     ghost Line = { TranscriptLine };
 
     ghost grammar = { transcript_grammar };
-
-    ghost makes = { T.makes };
 
     ghost version_of = { λ d. d.transcript.version };
 
@@ -81,29 +58,31 @@ impl<T: TranscriptTaker> Draft for TranscriptDraft<T> {
         }
     }
 
-    fn begin(alloc: Global, with: T::With, version: Version) -> TranscriptDraft<T> {
+    fn begin(alloc: Global, version: Version) -> TranscriptDraft {
         TranscriptDraft {
-            version,
             stage: Stage::History,
-            taker: T::begin(alloc, with, version),
-            drivers: 0,
-            entries: 0,
-            view: new_view(alloc, 0, 0),
+            transcript: Transcript {
+                version,
+                drivers: Items::new(alloc),
+                entries: Items::new(alloc),
+                view: new_view(alloc, 0, 0),
+            },
         }
     }
 
     fn add(&mut self, alloc: Global, text: &[u8]) -> Result<(), Cause> {
-        match self.room_for_entry() {
-            Ok(()) => self.add_where_room(alloc, text),
-            Err(cause) => self.add_where_none(alloc, text, cause),
+        match entry_of(alloc, self.transcript.version, text) {
+            Ok(Some(entry)) => self.add_entry(entry),
+            Ok(None) => self.add_other(alloc, text),
+            Err(NoMemory) => Err(self.entry_unread()),
         }
     }
 
-    fn finish(self) -> Option<T::Whole> {
+    fn finish(self) -> Option<Transcript> {
         if self.stage != Stage::View {
             return None;
         }
-        Some(self.taker.finish(self.view))
+        Some(self.transcript)
     }
 
     ghost end_is = { λ v. refl };
@@ -135,9 +114,9 @@ fn new_view(alloc: Global, next_id: u32, next_serial: u32) -> ConfigView
     }
 }
 
-impl<T: TranscriptTaker> TranscriptDraft<T> {
-    // A line that is no entry.
-    pub fn add_other(&mut self, alloc: Global, text: &[u8]) -> Result<(), Cause>
+impl TranscriptDraft {
+    // Adds a line other than an entry.
+    fn add_other(&mut self, alloc: Global, text: &[u8]) -> Result<(), Cause>
         requires begun { IsBegun (grammar_of self.old) (lines self.old) }
         requires no_entry { (e : AnyEntry) → FitsEntryIn self.old.transcript.version e
             → text.now ≢ line_of (entry_words e) }
@@ -153,7 +132,7 @@ impl<T: TranscriptTaker> TranscriptDraft<T> {
         }
     }
 
-    // A line of one of the kinds that are short.
+    // Adds a line other than an entry and a message.
     fn add_plain(&mut self, alloc: Global, text: &[u8]) -> Result<(), Cause>
         requires begun { IsBegun (grammar_of self.old) (lines self.old) }
         requires no_entry { (e : AnyEntry) → FitsEntryIn self.old.transcript.version e
@@ -184,18 +163,17 @@ impl<T: TranscriptTaker> TranscriptDraft<T> {
             (lines self.new) result }
         ensures version { OnOk result (self.new.transcript.version ≡ self.old.transcript.version) }
     {
-        if self.stage != Stage::History || self.entries > 0 {
+        if self.stage != Stage::History || !self.transcript.entries.as_slice().is_empty() {
             return Err(Cause::Form);
         }
-        if self.drivers >= self.version.max_drivers() {
+        if self.transcript.drivers.as_slice().len() >= self.transcript.version.max_drivers() {
             return Err(Cause::Many);
         }
-        self.taker.add_driver(driver)?;
-        self.drivers += 1;
+        self.transcript.drivers.push(driver)?;
         Ok(())
     }
 
-    // The configuration comes behind the entries.
+    // The configuration comes after the entries.
     fn add_config(&mut self) -> Result<(), Cause>
         requires begun { IsBegun (grammar_of self.old) (lines self.old) }
         ensures answers { AnswersLine (grammar_of self.old) (lines self.old) ConfigLine
@@ -209,7 +187,7 @@ impl<T: TranscriptTaker> TranscriptDraft<T> {
         Ok(())
     }
 
-    // The view begins with what comes next.
+    // The view starts with the next id and serial.
     fn add_next(&mut self, alloc: Global, next_id: u32, next_serial: u32) -> Result<(), Cause>
         requires begun { IsBegun (grammar_of self.old) (lines self.old) }
         ensures answers { AnswersLine (grammar_of self.old) (lines self.old) (NextLine next_id next_serial)
@@ -220,7 +198,7 @@ impl<T: TranscriptTaker> TranscriptDraft<T> {
             return Err(Cause::Form);
         }
         self.stage = Stage::View;
-        self.view = new_view(alloc, next_id, next_serial);
+        self.transcript.view = new_view(alloc, next_id, next_serial);
         Ok(())
     }
 }

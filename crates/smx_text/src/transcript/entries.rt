@@ -1,9 +1,10 @@
 //! The entries of a transcript that is being read.
 
-ghost use Rattle.std.specs.Prelude.{◌≡◌, ◌≢◌, ◌<◌, codes, length, OnOk, IfErr};
+ghost use Rattle.std.specs.Prelude.{◌≡◌, ◌<◌, length, OnOk, IfErr};
 ghost use Rattle.smx_types.specs.declared.command.Entry.{Entry as AnyEntry};
+ghost use Rattle.smx_words.specs.Spellable.{FitsEntryIn};
 ghost use Rattle.smx_text.specs.Grammar.{IsBegun};
-ghost use Rattle.smx_text.specs.Reading.{AnswersText, RefusesLine};
+ghost use Rattle.smx_text.specs.Reading.{AnswersLine, RefusesLine};
 ghost use Rattle.smx_text.specs.Drafts.{lines, grammar_of};
 ghost use Rattle.smx_text.specs.declared.transcript.draft.Stage.TheVariants.{History};
 ghost use Rattle.smx_types.specs.declared.limits.TheConstants.{MAX_COMMANDS};
@@ -11,50 +12,35 @@ ghost use Rattle.smx_text.specs.TranscriptLines.{Entry as EntryLine};
 
 use super::draft::{Stage, TranscriptDraft};
 use crate::text_fault::Cause;
-use crate::transcript::taker::TranscriptTaker;
-use smx_types::{MAX_COMMANDS, NoMemory};
-use smx_words::entry_of;
-use std::alloc::Global;
+use smx_types::{Entry, MAX_COMMANDS};
 
-impl<T: TranscriptTaker> TranscriptDraft<T> {
-    // A line where an entry may come.
-    pub fn add_where_room(&mut self, alloc: Global, text: &[u8]) -> Result<(), Cause>
+impl TranscriptDraft {
+    pub fn add_entry(&mut self, entry: Entry) -> Result<(), Cause>
         requires begun { IsBegun (grammar_of self.old) (lines self.old) }
-        requires history { self.old.stage ≡ History }
-        requires few { length self.old.transcript.entries < MAX_COMMANDS }
-        requires no_end { text.now ≢ codes "end" }
-        ensures answers { AnswersText (grammar_of self.old) (lines self.old) text.now
+        requires fits { FitsEntryIn self.old.transcript.version entry }
+        ensures answers { AnswersLine (grammar_of self.old) (lines self.old) (EntryLine entry)
             (lines self.new) result }
         ensures version { OnOk result (self.new.transcript.version ≡ self.old.transcript.version) }
     {
-        match self.taker.add_entry(alloc, text) {
-            Ok(true) => {
-                self.entries += 1;
-                Ok(())
-            }
-            Ok(false) => self.add_other(alloc, text),
-            Err(NoMemory) => Err(Cause::NoMemory),
-        }
+        self.room_for_entry()?;
+        self.transcript.entries.push(entry)?;
+        Ok(())
     }
 
-    // A line where an entry is refused, and why.
-    pub fn add_where_none(&mut self, alloc: Global, text: &[u8], cause: Cause) -> Result<(), Cause>
-        requires begun { IsBegun (grammar_of self.old) (lines self.old) }
-        requires none { (e : AnyEntry) → RefusesLine (grammar_of self.old) (lines self.old) (EntryLine e) cause }
-        requires no_end { text.now ≢ codes "end" }
-        ensures answers { AnswersText (grammar_of self.old) (lines self.old) text.now
-            (lines self.new) result }
-        ensures version { OnOk result (self.new.transcript.version ≡ self.old.transcript.version) }
+    // Returns why an entry is refused for which there was no memory.
+    pub fn entry_unread(&self) -> Cause
+        requires begun { IsBegun (grammar_of self.now) (lines self.now) }
+        ensures { (e : AnyEntry) → FitsEntryIn self.now.transcript.version e
+            → RefusesLine (grammar_of self.now) (lines self.now) (EntryLine e) result }
     {
-        match entry_of(alloc, self.version, text) {
-            Ok(None) => self.add_other(alloc, text),
-            Ok(Some(_)) => Err(cause),
-            Err(NoMemory) => Err(cause),
+        match self.room_for_entry() {
+            Ok(()) => Cause::NoMemory,
+            Err(cause) => cause,
         }
     }
 
-    // Whether an entry may come and is not one too many.
-    pub fn room_for_entry(&self) -> Result<(), Cause>
+    // Fails if no entry may follow, or if one would be over the limit.
+    fn room_for_entry(&self) -> Result<(), Cause>
         ensures history { OnOk result (self.now.stage ≡ History) }
         ensures few { OnOk result (length self.now.transcript.entries < MAX_COMMANDS) }
         ensures refused { IfErr result (λ why. (e : AnyEntry)
@@ -63,7 +49,7 @@ impl<T: TranscriptTaker> TranscriptDraft<T> {
         if self.stage != Stage::History {
             return Err(Cause::Form);
         }
-        if self.entries >= MAX_COMMANDS {
+        if self.transcript.entries.as_slice().len() >= MAX_COMMANDS {
             return Err(Cause::Many);
         }
         Ok(())

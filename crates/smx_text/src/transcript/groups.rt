@@ -1,4 +1,4 @@
-//! The groups of the configuration in a transcript that is being read: each comes behind those before it.
+//! The groups of the configuration in a transcript that is being read: each group comes after the ones before it.
 
 ghost use Rattle.std.specs.Prelude.{◌≡◌, ◌≢◌, ◌∷◌, ◌++◌, [], ℕ, true, OnOk, IfErr, if◌then◌else◌};
 ghost use Rattle.smx_types.specs.declared.command.Entry.{Entry as AnyEntry};
@@ -18,22 +18,21 @@ ghost use Rattle.smx_text.specs.declared.text_fault.Cause.TheVariants.{Form, NoM
 
 use super::draft::{Stage, TranscriptDraft};
 use crate::text_fault::Cause;
-use crate::transcript::taker::TranscriptTaker;
 use smx_types::{HungLine, Items, MessageLine, Version};
 use smx_words::{bind_of, descriptor_of, full_of, hung_of, link_of, route_of};
 
-impl<T: TranscriptTaker> TranscriptDraft<T> {
-    // The hung-up stream that a line spells, if this version can tell it.
+impl TranscriptDraft {
+    // Parses the line of a hung-up stream, which only version 2 has.
     fn read_hung(&self, text: &[u8]) -> Option<HungLine>
         ensures { IsReadAs (FitsHungIn self.now.transcript.version) hung_words text.now result }
     {
-        match self.version {
+        match self.transcript.version {
             Version::V1 => None,
             Version::V2 => hung_of(text),
         }
     }
 
-    // A line of a group of the view.
+    // Adds a line of a group of the view, except a message.
     pub fn add_to_group(&mut self, text: &[u8]) -> Result<(), Cause>
         requires begun { IsBegun (grammar_of self.old) (lines self.old) }
         requires no_entry { (e : AnyEntry) → FitsEntryIn self.old.transcript.version e
@@ -48,22 +47,22 @@ impl<T: TranscriptTaker> TranscriptDraft<T> {
         ensures version { OnOk result (self.new.transcript.version ≡ self.old.transcript.version) }
     {
         if let Some(fd) = descriptor_of(text) {
-            return push_if(self.takes_fds(), &mut self.view.fds, fd);
+            return push_if(self.takes_fds(), &mut self.transcript.view.fds, fd);
         }
         if let Some(link) = link_of(text) {
-            return push_if(self.takes_links(), &mut self.view.links, link);
+            return push_if(self.takes_links(), &mut self.transcript.view.links, link);
         }
         if let Some(bind) = bind_of(text) {
-            return push_if(self.takes_binds(), &mut self.view.binds, bind);
+            return push_if(self.takes_binds(), &mut self.transcript.view.binds, bind);
         }
         if let Some(route) = route_of(text) {
-            return push_if(self.takes_routes(), &mut self.view.routes, route);
+            return push_if(self.takes_routes(), &mut self.transcript.view.routes, route);
         }
         if let Some(full) = full_of(text) {
-            return push_if(self.takes_fulls(), &mut self.view.fulls, full);
+            return push_if(self.takes_fulls(), &mut self.transcript.view.fulls, full);
         }
         match self.read_hung(text) {
-            Some(hung) => push_if(self.takes_hungs(), &mut self.view.hungs, hung),
+            Some(hung) => push_if(self.takes_hungs(), &mut self.transcript.view.hungs, hung),
             None => Err(Cause::Form),
         }
     }
@@ -75,10 +74,10 @@ impl<T: TranscriptTaker> TranscriptDraft<T> {
             (lines self.new) result }
         ensures version { OnOk result (self.new.transcript.version ≡ self.old.transcript.version) }
     {
-        push_if(self.takes_msgs(), &mut self.view.msgs, message)
+        push_if(self.takes_msgs(), &mut self.transcript.view.msgs, message)
     }
 
-    // Why a message is refused for which there is no memory.
+    // Returns why a message is refused for which there was no memory.
     pub fn message_unread(&self) -> Cause
         requires begun { IsBegun (grammar_of self.now) (lines self.now) }
         ensures { (m : AnyMessage) → FitsMessage m
@@ -91,57 +90,57 @@ impl<T: TranscriptTaker> TranscriptDraft<T> {
         }
     }
 
-    // Whether a hung-up stream may come: the last group.
+    // Returns whether a hung-up stream may follow: this is the last group.
     fn takes_hungs(&self) -> bool
         ensures { result ≡ takes_hungs self.now }
     {
         self.stage == Stage::View
     }
 
-    // Whether one of the full places may come: nothing of a later group has.
+    // Returns whether a full place may follow: the later group is empty.
     fn takes_fulls(&self) -> bool
         ensures { result ≡ takes_fulls self.now }
     {
-        self.takes_hungs() && self.view.hungs.as_slice().is_empty()
+        self.takes_hungs() && self.transcript.view.hungs.as_slice().is_empty()
     }
 
-    // Whether one of the messages may come: nothing of a later group has.
+    // Returns whether a message may follow: the later groups are empty.
     fn takes_msgs(&self) -> bool
         ensures { result ≡ takes_msgs self.now }
     {
-        self.takes_fulls() && self.view.fulls.as_slice().is_empty()
+        self.takes_fulls() && self.transcript.view.fulls.as_slice().is_empty()
     }
 
-    // Whether one of the routes may come: nothing of a later group has.
+    // Returns whether a route may follow: the later groups are empty.
     fn takes_routes(&self) -> bool
         ensures { result ≡ takes_routes self.now }
     {
-        self.takes_msgs() && self.view.msgs.as_slice().is_empty()
+        self.takes_msgs() && self.transcript.view.msgs.as_slice().is_empty()
     }
 
-    // Whether one of the bindings may come: nothing of a later group has.
+    // Returns whether a binding may follow: the later groups are empty.
     fn takes_binds(&self) -> bool
         ensures { result ≡ takes_binds self.now }
     {
-        self.takes_routes() && self.view.routes.as_slice().is_empty()
+        self.takes_routes() && self.transcript.view.routes.as_slice().is_empty()
     }
 
-    // Whether one of the links may come: nothing of a later group has.
+    // Returns whether a link may follow: the later groups are empty.
     fn takes_links(&self) -> bool
         ensures { result ≡ takes_links self.now }
     {
-        self.takes_binds() && self.view.binds.as_slice().is_empty()
+        self.takes_binds() && self.transcript.view.binds.as_slice().is_empty()
     }
 
-    // Whether one of the descriptors may come: nothing of a later group has.
+    // Returns whether a descriptor may follow: the later groups are empty.
     fn takes_fds(&self) -> bool
         ensures { result ≡ takes_fds self.now }
     {
-        self.takes_links() && self.view.links.as_slice().is_empty()
+        self.takes_links() && self.transcript.view.links.as_slice().is_empty()
     }
 }
 
-// Puts a line behind those of its group, if it may come.
+// Appends a line to its group, if it may follow.
 fn push_if<T: Drop>(takes: bool, group: &mut Items<T>, line: T) -> Result<(), Cause>
     ensures pushed { OnOk result ((takes ≡ true) × (group.new ≡ group.old ++ line ∷ [])) }
     ensures refused { IfErr result (λ why. why ≡ if takes then NoMemory else Form) }

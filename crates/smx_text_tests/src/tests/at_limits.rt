@@ -1,11 +1,9 @@
-//! Each reader, each writer and each copy at its real limit, and lists that are too long by one.
+//! Each reader, each writer and each copy at its real limit.
 
-use super::spelling::{programs, spells_programs, spells_transcript};
+use super::spelling::{spells_programs, spells_transcript};
 use smx_samples::Part;
 use smx_samples::Part::{Each, Once};
-use smx_types::{Command, Commands, Drivers, ProgramList, Programs, Same, Version};
-use std::mem::forget;
-use std::process::Abort;
+use smx_types::Version;
 
 const DRIVERS: Part = Each(0, 128, "driver a{n} leaf 1 1 0 1\n");
 
@@ -32,7 +30,8 @@ const PROGRAMS: [(&[Part], Version); 2] = [
     ),
 ];
 
-// 128 drivers, 100,000 entries, 1,024 links and 4,096 messages; the most dropped serials; and the longest messages.
+// 128 drivers, 100,000 entries, 1,024 links and 4,096 messages; the largest number of dropped serials; and the
+// longest messages.
 const TRANSCRIPTS: [(&[Part], Version); 3] = [
     (
         &[
@@ -76,47 +75,4 @@ fn the_longest_texts(rt: HostRuntime) {
     for (text, least) in &TRANSCRIPTS {
         spells_transcript(&rt, *text, *least);
     }
-}
-
-// 128 drivers, and 63 programs with the most commands in all of them.
-const OF_63: [Part; 5] = [
-    Once("programs 2\n"),
-    DRIVERS,
-    Each(0, 63, "process {n}\n"),
-    Each(0, 100_000, "close 0\n"),
-    Once("end\n"),
-];
-
-// There are too many of them, and so they are given back, and copied too.
-fn are_too_many(rt: &(impl AllocGlobal + Abort), drivers: Drivers, programs: ProgramList) {
-    let many = Programs::new(drivers, programs)
-        .err()
-        .expect(rt, "too many");
-    let again = many.copy(rt.alloc()).expect(rt, "memory");
-    assert!(rt; again.is_same(&many));
-    forget(again);
-    forget(many);
-}
-
-// The most drivers and one more.
-fn one_driver_more(rt: &(impl AllocGlobal + Abort), mut drivers: Drivers, programs: ProgramList) {
-    let first = *drivers.as_slice().first().expect(rt, "a driver");
-    assert!(rt; drivers.push(first).is_ok());
-    are_too_many(rt, drivers, programs);
-}
-
-// The most commands, and a program of one command more.
-fn one_command_more(rt: &(impl AllocGlobal + Abort), drivers: Drivers, mut programs: ProgramList) {
-    let mut commands = Commands::new(rt.alloc());
-    assert!(rt; commands.push(Command::Close { fd: 0 }).is_ok());
-    assert!(rt; programs.push(commands).is_ok());
-    are_too_many(rt, drivers, programs);
-}
-
-#[test]
-fn one_driver_and_one_command_too_many(rt: HostRuntime) {
-    let (drivers, lists) = programs(&rt, &OF_63).into_parts();
-    one_driver_more(&rt, drivers, lists);
-    let (drivers, lists) = programs(&rt, &OF_63).into_parts();
-    one_command_more(&rt, drivers, lists);
 }

@@ -1,10 +1,10 @@
-//! Each copy, with ample memory, is equal to what it was made of, and has just the room that it needs.
+//! Each copy, with enough memory, equals its original, and has exactly the room that it needs.
 
 use smx_types::{Copied, Items, Programs, Reply, Same, Transcript};
 use std::mem::forget;
 use std::process::Abort;
 
-// A list is copied, with room for just what is in it, and so is each that is in it.
+// Checks the copy of a list, which has room for exactly its items, and the copy of each item.
 fn list_is_copied<T: Copied + Same>(rt: &(impl AllocGlobal + Abort), list: &Items<T>) {
     let again = list.copy(rt.alloc()).expect(rt, "memory");
     assert!(rt; again.is_same(list));
@@ -16,7 +16,7 @@ fn list_is_copied<T: Copied + Same>(rt: &(impl AllocGlobal + Abort), list: &Item
     }
 }
 
-// The lists in a reply are copied.
+// Checks the copies of the lists in a reply.
 fn lists_are_copied(rt: &(impl AllocGlobal + Abort), reply: &Reply) {
     match reply {
         Reply::Done { dropped } => list_is_copied(rt, dropped),
@@ -25,7 +25,7 @@ fn lists_are_copied(rt: &(impl AllocGlobal + Abort), reply: &Reply) {
     }
 }
 
-/// It is copied, and so are its parts.
+/// Checks the copies of a transcript and of its parts.
 pub fn is_copied(rt: &(impl AllocGlobal + Abort), value: &Transcript) {
     let again = value.copy(rt.alloc()).expect(rt, "memory");
     assert!(rt; again.is_same(value));
@@ -47,7 +47,7 @@ pub fn is_copied(rt: &(impl AllocGlobal + Abort), value: &Transcript) {
     }
 }
 
-/// They are copied.
+/// Checks the copies of programs.
 pub fn are_copied(rt: &(impl AllocGlobal + Abort), value: &Programs) {
     let again = value.copy(rt.alloc()).expect(rt, "memory");
     assert!(rt; again.is_same(value));

@@ -1,4 +1,4 @@
-//! As many drivers as each version has, and one more.
+//! The largest number of drivers in each version, and one more.
 
 use super::spelling::{are_none, is_none, spells_programs, spells_transcript};
 use smx_samples::Part::{Each, Once};

@@ -1,13 +1,29 @@
-//! A line that is read by itself, as an entry or as a call; and the first line of a text.
+//! A line that is read separately, as a command, a call or an entry; and the first line of a text.
 
 use smx_text::next_line;
-use smx_types::{Command, Entry, Fault, Process, Reply, Version};
-use smx_words::{call_of_line, entry_of};
+use smx_types::{Command, Entry, Fault, Process, Reply, Sides, Version};
+use smx_words::{call_of_line, command_of, entry_of};
 use std::alloc::Global;
 use std::mem::forget;
 use std::process::Abort;
 
-// Process 2 closed descriptor 3, which it had not.
+#[test]
+fn a_line_is_a_command(rt: HostRuntime) {
+    let flush = command_of(rt.alloc(), Version::V1, b"flush 3 rw").expect(&rt, "memory");
+    assert!(rt;
+        flush
+            == Some(Command::Flush {
+                fd: 3,
+                sides: Sides::RW
+            })
+    );
+    forget(flush);
+    let hangup = command_of(rt.alloc(), Version::V1, b"hangup ip 0").expect(&rt, "memory");
+    assert!(rt; hangup.is_none());
+    forget(hangup);
+}
+
+// Checks that process 2 closed descriptor 3, which it did not have.
 fn is_refused_close(rt: &impl Abort, entry: &Entry) {
     assert!(rt; entry.process == Process::new(2).expect(rt, "a process"));
     assert!(rt; entry.command == Command::Close { fd: 3 });
@@ -22,7 +38,25 @@ fn a_line_is_an_entry(rt: HostRuntime) {
     forget(entry);
 }
 
-// There is memory, and the line is no call of version 1.
+// Checks that the line is not an entry of version 1, and that memory does not run out.
+fn is_no_entry(rt: &impl Abort, alloc: Global, line: &[u8]) {
+    let read = entry_of(alloc, Version::V1, line).expect(rt, "memory");
+    assert!(rt; read.is_none());
+    forget(read);
+}
+
+#[test]
+fn other_lines_are_no_entries(rt: HostRuntime) {
+    is_no_entry(&rt, rt.alloc(), b"2 close 3");
+    is_no_entry(&rt, rt.alloc(), b"close 3 = done");
+    is_no_entry(&rt, rt.alloc(), b"64 close 3 = done");
+    is_no_entry(&rt, rt.alloc(), b"2 close = done");
+    is_no_entry(&rt, rt.alloc(), b"2 close 3 =done");
+    is_no_entry(&rt, rt.alloc(), b"2 close 3 = done = done");
+    is_no_entry(&rt, rt.alloc(), b"2 hangup ip 0 = done");
+}
+
+// Checks that the line is not a call of version 1, and that memory does not run out.
 fn is_no_call(rt: &impl Abort, alloc: Global, line: &[u8]) {
     let read = call_of_line(alloc, Version::V1, line).expect(rt, "memory");
     assert!(rt; read.is_none());

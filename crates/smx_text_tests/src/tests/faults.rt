@@ -1,4 +1,4 @@
-//! Texts that are no programs, and texts that are no transcript.
+//! Texts that are not programs, and texts that are not a transcript.
 
 use super::program_texts::ALMOST_A_RING_OF_VERSION_1;
 use super::spelling::{are_none, is_none};
@@ -7,7 +7,7 @@ use smx_samples::Part;
 use smx_samples::Part::{Each, Once};
 use smx_text::Cause;
 
-// No commands.
+// Lines that are not commands.
 const NO_COMMANDS: [&str; 20] = [
     "dup 00",
     "write 0 5 AA",
@@ -31,7 +31,7 @@ const NO_COMMANDS: [&str; 20] = [
     "driver b leaf 1 1 0 1",
 ];
 
-// No entries.
+// Lines that are not entries.
 const NO_ENTRIES: [&str; 22] = [
     "64 exit = done",
     "0 exit",
@@ -57,7 +57,7 @@ const NO_ENTRIES: [&str; 22] = [
     "clone ip",
 ];
 
-// Texts that are no programs, the line at fault and why.
+// Texts that are not programs, with the number of the malformed line and the cause.
 const NO_PROGRAMS: [(&[Part], usize, Cause); 8] = [
     (&[Once("")], 1, Cause::Cut),
     (&[Once("programs 3\n")], 1, Cause::Header),
@@ -89,7 +89,7 @@ const NO_PROGRAMS: [(&[Part], usize, Cause); 8] = [
     (ALMOST_A_RING_OF_VERSION_1, 66, Cause::Many),
 ];
 
-// The same of transcripts.
+// The same for transcripts.
 const NO_TRANSCRIPTS: [(&[Part], usize, Cause); 20] = [
     (&[Once("")], 1, Cause::Cut),
     (&[Once("programs 1\n")], 1, Cause::Header),

@@ -6,8 +6,8 @@ use smx_samples::Part::{Each, Once};
 use smx_types::Version;
 use std::mem::forget;
 
-// Streams that are opened and closed.
-const OPENS_AND_CLOSES: &str =
+/// Streams that are opened and closed.
+pub const OPENS_AND_CLOSES: &str =
     "programs 1\ndriver ip mux 4 8 3 16\nprocess 0\nclone ip\nclone ip\nclose 0\nclone ip\nend\n";
 
 // Each command of version 1.
@@ -39,7 +39,8 @@ transmit eth 31
 end
 ";
 
-// A ring of 128 multiplexers, each above the next, but for one link, that link, and what it takes to have it.
+// A ring of 128 multiplexers, each above the next, with one link missing; then that link, and what it takes to have
+// it.
 const ALMOST_A_RING: &[Part] = &[
     Once("programs 2\n"),
     Each(0, 128, "driver d{n} mux 2 8 3 16\n"),
@@ -48,7 +49,7 @@ const ALMOST_A_RING: &[Part] = &[
     Once("clone d127\nclone d0\nplink 0 1\nopen d1 0\nclone d63\npunlink 2 all\nplink 0 1\nend\n"),
 ];
 
-/// The same under the header of version 1, which has no 65th driver.
+/// The same with the header of version 1, which has no 65th driver.
 pub const ALMOST_A_RING_OF_VERSION_1: &[Part] = &[
     Once("programs 1\n"),
     Each(0, 128, "driver d{n} mux 2 8 3 16\n"),
@@ -57,7 +58,7 @@ pub const ALMOST_A_RING_OF_VERSION_1: &[Part] = &[
     Once("clone d127\nclone d0\nplink 0 1\nopen d1 0\nclone d63\npunlink 2 all\nplink 0 1\nend\n"),
 ];
 
-// Texts of either version, and the first version that can tell the same.
+// Texts of either version, and the first version that allows the same.
 const ROWS: [(&[Part], Version); 7] = [
     (ALMOST_A_RING, Version::V2),
     (&[Once(OPENS_AND_CLOSES)], Version::V1),

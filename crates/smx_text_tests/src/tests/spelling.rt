@@ -1,23 +1,22 @@
-//! How a text is read, written again and copied. What is large is given to `forget`, since a proof grows where such a
-//! value is dropped.
+//! How a text is read, written again and copied. Large values are given to `forget`, because a proof grows where such
+//! a value is dropped.
 
 use super::copies::{are_copied, is_copied};
 use smx_samples::{Part, text_of};
 use smx_text::{
-    Cause, TextFault, TranscriptWriter, read_programs, read_transcript, write_programs,
-    write_transcript,
+    Cause, TextFault, add_entry_line, finish_transcript, read_programs, read_transcript,
+    write_programs, write_transcript,
 };
-use smx_types::{Programs, Transcript, Version};
+use smx_types::{Entry, Programs, Transcript, Version};
 use std::mem::forget;
 use std::process::Abort;
-use std::slice;
 
-/// The text of these parts.
+/// Returns the text of these parts.
 pub fn whole(rt: &(impl AllocGlobal + Abort), parts: &[Part]) -> String {
     text_of(rt.alloc(), parts).expect(rt, "memory")
 }
 
-/// The programs that the text spells.
+/// Returns the programs that the text spells.
 pub fn programs(rt: &(impl AllocGlobal + Abort), text: &[Part]) -> Programs {
     let text = whole(rt, text);
     match read_programs(rt.alloc(), text.as_bytes()) {
@@ -26,7 +25,7 @@ pub fn programs(rt: &(impl AllocGlobal + Abort), text: &[Part]) -> Programs {
     }
 }
 
-/// The transcript that the text spells.
+/// Returns the transcript that the text spells.
 pub fn transcript(rt: &(impl AllocGlobal + Abort), text: &[Part]) -> Transcript {
     let text = whole(rt, text);
     match read_transcript(rt.alloc(), text.as_bytes()) {
@@ -35,7 +34,7 @@ pub fn transcript(rt: &(impl AllocGlobal + Abort), text: &[Part]) -> Transcript 
     }
 }
 
-/// They are written as this text and copied, and this is the first version that can tell them.
+/// Checks that the programs are written as this text and copied, and that this is the first version that allows them.
 pub fn are_spelled(
     rt: &(impl AllocGlobal + Abort),
     value: &Programs,
@@ -49,25 +48,29 @@ pub fn are_spelled(
     are_copied(rt, value);
 }
 
-/// The text spells programs, which are so.
+/// Checks that the text spells programs, and then checks these.
 pub fn spells_programs(rt: &(impl AllocGlobal + Abort), text: &[Part], least: Version) {
     let value = programs(rt, text);
     are_spelled(rt, &value, text, least);
     forget(value);
 }
 
-// The text of a transcript that is written entry by entry, in the room of other bytes.
+// Returns the text of a transcript that is written entry by entry.
 fn written_as_it_grows(rt: &(impl AllocGlobal + Abort), value: &Transcript) -> Vec<u8> {
-    let room = Vec::from_slice(rt.alloc(), b"no longer wanted").expect(rt, "memory");
-    let drivers = value.drivers.as_slice();
-    let mut writer = TranscriptWriter::begin(room, value.version, drivers).expect(rt, "memory");
+    let mut lines = Vec::new(rt.alloc());
     for entry in value.entries.as_slice() {
-        assert!(rt; writer.add(slice::from_ref(entry)).is_ok());
+        let Entry {
+            process,
+            command,
+            reply,
+        } = entry;
+        assert!(rt; add_entry_line(&mut lines, *process, command, reply).is_ok());
     }
-    writer.finish(&value.view).expect(rt, "memory")
+    let drivers = value.drivers.as_slice();
+    finish_transcript(lines, value.version, drivers, &value.view).expect(rt, "memory")
 }
 
-// It is written as this text, whole and entry by entry.
+// Checks that the transcript is written as this text, whole and entry by entry.
 fn is_written(rt: &(impl AllocGlobal + Abort), value: &Transcript, text: &str) {
     assert!(rt; value.version == Version::V2 || value.least() == Version::V1);
     let written = write_transcript(rt.alloc(), value).expect(rt, "memory");
@@ -78,8 +81,8 @@ fn is_written(rt: &(impl AllocGlobal + Abort), value: &Transcript, text: &str) {
     );
 }
 
-/// The text spells a transcript, which is written as this text and copied, and this is the first version that can tell
-/// it.
+/// Checks that the text spells a transcript, which is written as this text and copied, and that this is the first
+/// version that allows it.
 pub fn spells_transcript(rt: &(impl AllocGlobal + Abort), text: &[Part], least: Version) {
     let value = transcript(rt, text);
     let text = whole(rt, text);
@@ -89,14 +92,14 @@ pub fn spells_transcript(rt: &(impl AllocGlobal + Abort), text: &[Part], least: 
     forget(value);
 }
 
-/// The text is no programs, for this cause at this line.
+/// Checks that the text is not programs, for this cause at this line.
 pub fn are_none(rt: &(impl AllocGlobal + Abort), text: &[Part], line: usize, cause: Cause) {
     let text = whole(rt, text);
     let fault = read_programs(rt.alloc(), text.as_bytes()).err();
     assert!(rt; fault == Some(TextFault { line, cause }), "{text}");
 }
 
-/// The text is no transcript, for this cause at this line.
+/// Checks that the text is not a transcript, for this cause at this line.
 pub fn is_none(rt: &(impl AllocGlobal + Abort), text: &[Part], line: usize, cause: Cause) {
     let text = whole(rt, text);
     let fault = read_transcript(rt.alloc(), text.as_bytes()).err();

@@ -1,11 +1,11 @@
-//! Every number of programs, every size of a message, and commands at many addresses: neither reading nor writing wants
-//! memory at some of them alone.
+//! Every number of programs, every size of a message, and commands at many addresses: at none of them reading or
+//! writing runs out of memory.
 
 use super::spelling::spells_programs;
 use smx_samples::Part::{At, Each, Once};
 use smx_types::Version;
 
-// Numbers of few and of many digits, the least and the largest among them.
+// Numbers of few and of many digits, including the smallest and the largest.
 const ADDRESSES: [u32; 12] = [
     0,
     1,
@@ -33,7 +33,7 @@ fn programs_of_each_number_size_and_address(rt: HostRuntime) {
         spells_programs(&rt, &text, Version::V1);
     }
     for size in 1..1_025u32 {
-        // The bytes differ, and differ from size to size.
+        // The bytes differ, also from size to size.
         let bytes = Each(size, size.wrapping_mul(2), "{n % 251 hex}");
         let begin = Once("programs 1\nprocess 0\nwrite 0 5 ");
         let text = [

@@ -59,10 +59,10 @@ full eth 0 w
 end
 ";
 
-/// Hung-up streams alone.
+/// Only hung-up streams.
 pub const HUNGS: &str = "config\nnext 1 1\nhung eth 0\nhung eth 4294967295\nend\n";
 
-// What is shown after the marks were met across a join, with an address that is bound.
+// The view after the marks were reached across a join, with a bound address.
 const EACH_GROUP: &str = "transcript 2
 0 transmit eth 0 = got 1 5 00000001
 0 write 0 5 00000001 = took 2
@@ -82,7 +82,7 @@ hung eth 0
 end
 ";
 
-// Texts of either version, and the first version that can tell the same.
+// Texts of either version, and the first version that allows the same.
 const ROWS: [(&[Part], Version); 12] = [
     (&[Once(REPLIES)], Version::V1),
     (&[Once(GROUPS)], Version::V1),

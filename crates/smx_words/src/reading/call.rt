@@ -10,8 +10,8 @@ use crate::reading::number::first_number;
 use smx_types::{Command, NoMemory, Process, Version};
 use std::alloc::Global;
 
-/// The process and the command whose words a line is, `PROCESS COMMAND` as an entry's line begins, if it is those of
-/// a command that a version can tell. Fails only for want of memory, and then the line is such a call's.
+/// Parses a line `PROCESS COMMAND`. Returns `None` if `version` has no call with this line. Fails only if an allocation
+/// fails, and only if the line is such a call's.
 pub fn call_of_line(
     alloc: Global,
     version: Version,

@@ -12,7 +12,7 @@ use crate::reading::number::{first_number, number, pair};
 use crate::reading::word::{first_kind, first_name};
 use smx_types::DriverSpec;
 
-/// The driver whose words a line is, if it is one's.
+/// Parses the line of a driver.
 pub fn driver_of(line: &[u8]) -> Option<DriverSpec>
     ensures { IsReadAs FitsDriver driver_words line.now result }
 {
@@ -41,7 +41,7 @@ pub fn driver_of(line: &[u8]) -> Option<DriverSpec>
     })
 }
 
-/// The number of the process whose program begins at a line, if one does.
+/// Parses a line `process NUMBER`, at which the program of a process begins. Returns its number.
 pub fn process_of(line: &[u8]) -> Option<u32>
     ensures { IsReadAs FitsNumber process_words line.now result }
 {
@@ -51,7 +51,7 @@ pub fn process_of(line: &[u8]) -> Option<u32>
     number(rest)
 }
 
-/// The next id and the next serial whose words a line is, if it is some.
+/// Parses a line `next ID SERIAL`.
 pub fn next_of(line: &[u8]) -> Option<(u32, u32)>
     ensures { IsReadAs FitsNext next_words line.now result }
 {
@@ -61,7 +61,7 @@ pub fn next_of(line: &[u8]) -> Option<(u32, u32)>
     pair(rest)
 }
 
-// The three numbers that are all of some bytes.
+// Parses three numbers.
 fn three(text: &[u8]) -> Option<(u32, u32, u32)>
     ensures { MatchOption result
         ((a b c : ℕ) → FitsNumber a → FitsNumber b → FitsNumber c

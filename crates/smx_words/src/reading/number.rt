@@ -10,14 +10,10 @@ ghost use Rattle.smx_words.specs.Words.{SPACE};
 
 use smx_types::Process;
 
-/// The number that a word spells. Most are one digit, which is looked for first.
-#[inline(always)]
+/// Parses a word that is a number.
 pub fn number(word: &[u8]) -> Option<u32>
     ensures { IsFoundIn FitsNumber decimal word.now result }
 {
-    if word.len() == 1 && word[0].is_ascii_digit() {
-        return Some((word[0] - b'0') as u32);
-    }
     let Some((number, end)) = leading_number(word) else {
         return None;
     };
@@ -27,14 +23,10 @@ pub fn number(word: &[u8]) -> Option<u32>
     None
 }
 
-// The number before the first space, and what stands behind that. One digit is looked for first.
-#[inline(always)]
+// Parses the number before the first space. Returns it and the bytes after the space.
 pub fn first_number(text: &[u8]) -> Option<(u32, &[u8])>
     ensures { BeginsWith FitsNumber decimal text.now result }
 {
-    if text.len() > 1 && text[1] == b' ' && text[0].is_ascii_digit() {
-        return Some(((text[0] - b'0') as u32, &text[2..]));
-    }
     let Some((number, end)) = leading_number(text) else {
         return None;
     };
@@ -45,8 +37,7 @@ pub fn first_number(text: &[u8]) -> Option<(u32, &[u8])>
     }
 }
 
-// The two numbers that are all of some bytes.
-#[inline(always)]
+// Parses two numbers.
 pub fn pair(text: &[u8]) -> Option<(u32, u32)>
     ensures { MatchOption result
         ((a b : ℕ) → FitsNumber a → FitsNumber b → text.now ≢ decimal a ++ SPACE ∷ decimal b)
@@ -61,7 +52,7 @@ pub fn pair(text: &[u8]) -> Option<(u32, u32)>
     }
 }
 
-// The process before the first space.
+// Parses the process before the first space. Returns it and the bytes after the space.
 pub fn first_process(text: &[u8]) -> Option<(Process, &[u8])>
     ensures { BeginsWith FitsProcess decimal text.now result }
 {
@@ -74,8 +65,7 @@ pub fn first_process(text: &[u8]) -> Option<(Process, &[u8])>
     }
 }
 
-// The number that all leading digits spell, and how many they are.
-#[inline(always)]
+// Parses the leading digits as a number. Returns it and the number of digits.
 fn leading_number(text: &[u8]) -> Option<(u32, usize)>
     ensures { MatchOption result
         ((n : ℕ) (after : List ℕ) → FitsNumber n → NoDigitFirst after → text.now ≢ decimal n ++ after)
@@ -97,8 +87,7 @@ fn leading_number(text: &[u8]) -> Option<(u32, usize)>
     Some((value as u32, end))
 }
 
-// There is no digit, or a leading zero.
-#[inline(always)]
+// Returns whether there is no digit, or a zero before other digits.
 fn starts_wrong(text: &[u8], end: usize) -> bool
     requires { end ≤ length text.now }
     ensures { result ≡ ((end == 0) || ((slice_index text.now 0 == 48) && nat_lt 1 end)) }

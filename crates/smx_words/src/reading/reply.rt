@@ -1,11 +1,9 @@
 //! The words of a reply.
 
-ghost use Rattle.std.specs.Prelude.{◌≡◌, ◌≢◌, ◌∷◌, ◌++◌, [], ℕ, List, codes, None, map, true, MatchBool, MatchOption};
+ghost use Rattle.std.specs.Prelude.{◌≡◌, ◌≢◌, ◌∷◌, ◌++◌, [], ℕ, List, codes, None, map, MatchBool, MatchOption};
 ghost use Rattle.std.specs.Prelude.{MatchResult, IfOk, IfErr};
 ghost use Rattle.std.specs.Fmt.{decimal};
 ghost use Rattle.smx_types.specs.Versions.{tells_of_hangup};
-ghost use Rattle.smx_types.specs.declared.reply.Reply.{Reply as AnyReply};
-ghost use Rattle.smx_types.specs.declared.reply.Reply.TheVariants.{Fault as FaultReply};
 ghost use Rattle.smx_types.specs.declared.version.Version.TheVariants.{V1};
 ghost use Rattle.smx_words.specs.LineReading.{IsReadAs, IsLineOf};
 ghost use Rattle.smx_words.specs.Spellable.{CanTell, FitsAlways, FitsNumber, FitsReply, FitsReplyIn, FitsSerials};
@@ -14,14 +12,14 @@ ghost use Rattle.smx_words.specs.Verbs.{reply_verb_word};
 ghost use Rattle.smx_words.specs.Words.{line_of};
 
 use crate::reading::cutting::{after, is};
-use crate::reading::hex_word::{number_and_bytes, spells_bytes};
+use crate::reading::hex_word::number_and_bytes;
 use crate::reading::number::{first_number, number, pair};
 use crate::reading::verb::{ReplyVerb, first_reply_verb};
 use smx_types::{Fault, NoMemory, Reply, Serials, Version};
 use std::alloc::Global;
 
-/// The reply whose words a line is, if it is one's that a version can tell. Fails only for want of memory, and then the
-/// line is such a reply's.
+/// Parses the words of a reply. Returns `None` if `version` has no such reply. Fails only if an allocation fails, and
+/// only if the words are such a reply's.
 pub fn reply_of(alloc: Global, version: Version, line: &[u8]) -> Result<Option<Reply>, NoMemory>
     ensures reading { IfOk result (IsReadAs (FitsReplyIn version) reply_words line.now) }
     ensures wanted { IfErr result (λ _. IsLineOf (FitsReplyIn version) reply_words line.now) }
@@ -35,125 +33,7 @@ pub fn reply_of(alloc: Global, version: Version, line: &[u8]) -> Result<Option<R
     }
 }
 
-/// Whether a line is the words of a reply that a version can tell. Takes no memory.
-pub fn is_reply_line(version: Version, line: &[u8]) -> bool
-    ensures { MatchBool result (IsLineOf (FitsReplyIn version) reply_words line.now)
-        ((r : AnyReply) → FitsReplyIn version r → line.now ≢ line_of (reply_words r)) }
-{
-    match first_reply_verb(line) {
-        Some((verb, rest)) => is_reply_after(verb, rest),
-        None => is_lone_reply(version, line),
-    }
-}
-
-// Whether a verb and what stands behind it are a reply.
-fn is_reply_after(verb: ReplyVerb, rest: &[u8]) -> bool
-    ensures { MatchBool result
-        (IsLineOf (FitsReplyIn V1) reply_words (line_of (reply_verb_word verb ∷ rest.now ∷ [])))
-        ((r : AnyReply) → FitsReply r → line_of (reply_verb_word verb ∷ rest.now ∷ []) ≢ line_of (reply_words r)) }
-{
-    match verb {
-        ReplyVerb::Fd => is_fd(rest),
-        ReplyVerb::Id => is_id(rest),
-        ReplyVerb::Took => is_took(rest),
-        ReplyVerb::Got => is_got(rest),
-        ReplyVerb::Done => is_done(rest),
-    }
-}
-
-#[inline(always)]
-fn is_fd(rest: &[u8]) -> bool
-    ensures { MatchBool result (IsLineOf (FitsReplyIn V1) reply_words (line_of (codes "fd" ∷ rest.now ∷ [])))
-        ((r : AnyReply) → FitsReply r → line_of (codes "fd" ∷ rest.now ∷ []) ≢ line_of (reply_words r)) }
-{
-    match pair(rest) {
-        Some(_) => true,
-        None => false,
-    }
-}
-
-#[inline(always)]
-fn is_id(rest: &[u8]) -> bool
-    ensures { MatchBool result (IsLineOf (FitsReplyIn V1) reply_words (line_of (codes "id" ∷ rest.now ∷ [])))
-        ((r : AnyReply) → FitsReply r → line_of (codes "id" ∷ rest.now ∷ []) ≢ line_of (reply_words r)) }
-{
-    match number(rest) {
-        Some(_) => true,
-        None => false,
-    }
-}
-
-#[inline(always)]
-fn is_took(rest: &[u8]) -> bool
-    ensures { MatchBool result (IsLineOf (FitsReplyIn V1) reply_words (line_of (codes "took" ∷ rest.now ∷ [])))
-        ((r : AnyReply) → FitsReply r → line_of (codes "took" ∷ rest.now ∷ []) ≢ line_of (reply_words r)) }
-{
-    match number(rest) {
-        Some(_) => true,
-        None => false,
-    }
-}
-
-#[inline(always)]
-fn is_got(rest: &[u8]) -> bool
-    ensures { MatchBool result (IsLineOf (FitsReplyIn V1) reply_words (line_of (codes "got" ∷ rest.now ∷ [])))
-        ((r : AnyReply) → FitsReply r → line_of (codes "got" ∷ rest.now ∷ []) ≢ line_of (reply_words r)) }
-{
-    let Some((_, rest)) = first_number(rest) else {
-        return false;
-    };
-    let Some((_, rest)) = first_number(rest) else {
-        return false;
-    };
-    if spells_bytes(rest) {
-        return true;
-    }
-    false
-}
-
-fn is_done(rest: &[u8]) -> bool
-    ensures { MatchBool result (IsLineOf (FitsReplyIn V1) reply_words (line_of (codes "done" ∷ rest.now ∷ [])))
-        ((r : AnyReply) → FitsReply r → line_of (codes "done" ∷ rest.now ∷ []) ≢ line_of (reply_words r)) }
-{
-    if are_serials(rest) {
-        return true;
-    }
-    false
-}
-
-// Whether a line is a reply that stands alone and that a version can tell: nothing dropped, end of file, or a fault.
-fn is_lone_reply(version: Version, line: &[u8]) -> bool
-    ensures { MatchBool result (IsLineOf (FitsReplyIn version) reply_words line.now)
-        ((line.now ≢ codes "done") × (CanTell version true → line.now ≢ codes "eof")
-        × ((f : _) → CanTell version (tells_of_hangup (FaultReply f)) → line.now ≢ line_of (fault_words f))) }
-{
-    if is(line, b"done") {
-        return true;
-    }
-    if is(line, b"eof") {
-        return matches!(version, Version::V2);
-    }
-    let Some(fault) = fault_of(line) else {
-        return false;
-    };
-    if can_tell(version, fault) {
-        return true;
-    }
-    false
-}
-
-// Whether a version can tell a fault.
-fn can_tell(version: Version, fault: Fault) -> bool
-    ensures { MatchBool result (CanTell version (tells_of_hangup (FaultReply fault)))
-        (CanTell version (tells_of_hangup (FaultReply fault)) → ⊥) }
-{
-    match (version, fault) {
-        (Version::V1, Fault::HungUp) => false,
-        (Version::V1 | Version::V2, _) => true,
-    }
-}
-
-// The reply, if the version can tell it.
+// Returns the reply, if this version can express it.
 fn told(version: Version, reply: Reply) -> Option<Reply>
     ensures { MatchOption result (CanTell version (tells_of_hangup reply) → ⊥)
         (λ r. (r ≡ reply) × CanTell version (tells_of_hangup reply)) }
@@ -164,7 +44,7 @@ fn told(version: Version, reply: Reply) -> Option<Reply>
     }
 }
 
-// The reply of a verb and what stands behind it.
+// Parses the words after a verb.
 fn reply_after(alloc: Global, verb: ReplyVerb, rest: &[u8]) -> Result<Option<Reply>, NoMemory>
     ensures reading { IfOk result (IsReadAs FitsReply reply_words (line_of (reply_verb_word verb ∷ rest.now ∷ []))) }
     ensures wanted { IfErr result (λ _.
@@ -233,7 +113,7 @@ fn done(alloc: Global, rest: &[u8]) -> Result<Option<Reply>, NoMemory>
     }
 }
 
-// The serials whose words a line is, one or more.
+// Parses one or more serials.
 fn serials(alloc: Global, line: &[u8]) -> Result<Option<Serials>, NoMemory>
     ensures reading { IfOk result (IsReadAs FitsSerials (map decimal) line.now) }
     ensures wanted { IfErr result (λ _. IsLineOf FitsSerials (map decimal) line.now) }
@@ -251,7 +131,7 @@ fn serials(alloc: Global, line: &[u8]) -> Result<Option<Serials>, NoMemory>
     }
 }
 
-// Want of memory where a line is the words of serials.
+// Reports out of memory, unless a serial is malformed.
 fn unless_bad(error: NoMemory, line: &[u8]) -> Result<Option<Serials>, NoMemory>
     ensures { MatchResult result (λ o. (o ≡ None)
         × ((all : _) → FitsSerials all → line.now ≢ line_of (map decimal all)))
@@ -263,7 +143,7 @@ fn unless_bad(error: NoMemory, line: &[u8]) -> Result<Option<Serials>, NoMemory>
     Ok(None)
 }
 
-// Whether a line is the words of serials.
+// Returns whether a line is one or more serials.
 fn are_serials(line: &[u8]) -> bool
     ensures { MatchBool result (IsLineOf FitsSerials (map decimal) line.now)
         ((all : _) → FitsSerials all → line.now ≢ line_of (map decimal all)) }
@@ -291,7 +171,7 @@ fn last_serial(mut serials: Serials, word: &[u8]) -> Result<Option<Serials>, NoM
     }
 }
 
-// The reply that stands alone: nothing dropped, end of file, or a fault.
+// Parses a reply without a verb: nothing dropped, end of file, or a fault.
 fn lone_reply(alloc: Global, line: &[u8]) -> Option<Reply>
     ensures { MatchOption result ((line.now ≢ codes "done") × (line.now ≢ codes "eof")
         × ((f : _) → line.now ≢ line_of (fault_words f)))
@@ -309,7 +189,7 @@ fn lone_reply(alloc: Global, line: &[u8]) -> Option<Reply>
     Some(Reply::Fault(fault))
 }
 
-// The fault whose words a line is.
+// Parses the words of a fault.
 fn fault_of(line: &[u8]) -> Option<Fault>
     ensures { IsReadAs FitsAlways fault_words line.now result }
 {
@@ -319,7 +199,7 @@ fn fault_of(line: &[u8]) -> Option<Fault>
     }
 }
 
-// The fault of an argument that is not valid, by what is wrong with it.
+// Parses a fault that begins with EINVAL.
 fn invalid(line: &[u8]) -> Option<Fault>
     requires { (cause : List ℕ) × (line.now ≡ codes "EINVAL " ++ cause) }
     ensures { IsReadAs FitsAlways fault_words line.now result }
@@ -348,7 +228,7 @@ fn invalid(line: &[u8]) -> Option<Fault>
     None
 }
 
-// Any other fault.
+// Parses any other fault.
 fn valid(line: &[u8]) -> Option<Fault>
     requires { (cause : List ℕ) → line.now ≢ codes "EINVAL " ++ cause }
     ensures { IsReadAs FitsAlways fault_words line.now result }

@@ -7,9 +7,9 @@ ghost use Rattle.smx_words.specs.Verbs.{verb_word, reply_verb_word};
 ghost use Rattle.smx_words.specs.Words.{SPACE};
 ghost use Rattle.smx_words.specs.declared.reading.verb.Verb.{Verb as AnyVerb};
 
-use crate::reading::cutting::{after, cut_soon};
+use crate::reading::cutting::{after, cut};
 
-/// What a command does, by its first word.
+/// The verb of a command, which is its first word.
 #[derive(Clone, Copy)]
 pub enum Verb {
     Clone,
@@ -33,7 +33,7 @@ pub enum Verb {
     Hangup,
 }
 
-/// What a reply that is no fault tells, by its first word.
+/// The verb of a reply other than a fault, which is its first word.
 #[derive(Clone, Copy)]
 pub enum ReplyVerb {
     Fd,
@@ -43,8 +43,7 @@ pub enum ReplyVerb {
     Done,
 }
 
-// The one verb whose word the bytes may begin with, by its first letters.
-#[inline(always)]
+// Returns the only verb that the bytes may start with, judging by their first letters.
 fn candidate(text: &[u8]) -> Option<Verb>
     ensures { (verb : AnyVerb) (after : List ℕ) → text.now ≡ verb_word verb ++ SPACE ∷ after → result ≡ Some verb }
 {
@@ -72,8 +71,7 @@ fn candidate(text: &[u8]) -> Option<Verb>
     }
 }
 
-// What stands behind the word of a verb and a space, if the bytes begin with them.
-#[inline(always)]
+// Returns the bytes after the verb and a space, if the text starts with these.
 fn behind(text: &[u8], verb: Verb) -> Option<&[u8]>
     ensures { MatchOption result ((rest : List ℕ) → text.now ≢ verb_word verb ++ SPACE ∷ rest)
         (λ rest. text.now ≡ verb_word verb ++ SPACE ∷ rest.now) }
@@ -101,8 +99,7 @@ fn behind(text: &[u8], verb: Verb) -> Option<&[u8]>
     }
 }
 
-// The verb before the first space.
-#[inline(always)]
+// Parses the verb of a command before the first space. Returns it and the bytes after the space.
 pub fn first_verb(text: &[u8]) -> Option<(Verb, &[u8])>
     ensures { BeginsWith FitsAlways verb_word text.now result }
 {
@@ -111,7 +108,7 @@ pub fn first_verb(text: &[u8]) -> Option<(Verb, &[u8])>
     Some((verb, rest))
 }
 
-// The verb of a reply that a word is.
+// Parses the verb of a reply.
 fn reply_verb_of(word: &[u8]) -> Option<ReplyVerb>
     ensures { IsFoundIn FitsAlways reply_verb_word word.now result }
 {
@@ -125,11 +122,11 @@ fn reply_verb_of(word: &[u8]) -> Option<ReplyVerb>
     }
 }
 
-// The verb of a reply before the first space.
+// Parses the verb of a reply before the first space. Returns it and the bytes after the space.
 pub fn first_reply_verb(text: &[u8]) -> Option<(ReplyVerb, &[u8])>
     ensures { BeginsWith FitsAlways reply_verb_word text.now result }
 {
-    let Some((word, rest)) = cut_soon(text, b' ') else {
+    let Some((word, rest)) = cut(text, b' ') else {
         return None;
     };
     match reply_verb_of(word) {

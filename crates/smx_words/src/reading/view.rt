@@ -29,7 +29,7 @@ use smx_types::{
 };
 use std::alloc::Global;
 
-/// The open descriptor whose words a line is, if it is one's.
+/// Parses the line of an open descriptor.
 pub fn descriptor_of(line: &[u8]) -> Option<DescriptorLine>
     ensures { IsReadAs FitsDescriptor descriptor_words line.now result }
 {
@@ -53,7 +53,7 @@ pub fn descriptor_of(line: &[u8]) -> Option<DescriptorLine>
     })
 }
 
-/// The link whose words a line is, if it is one's.
+/// Parses the line of a link.
 pub fn link_of(line: &[u8]) -> Option<LinkLine>
     ensures { IsReadAs FitsLink link_words line.now result }
 {
@@ -82,7 +82,7 @@ pub fn link_of(line: &[u8]) -> Option<LinkLine>
     })
 }
 
-// The lower stream of a link, by driver and minor, and the link's kind, that are all of some bytes.
+// Parses the driver and the minor of a link's lower stream, and the link's kind.
 fn stream_and_kind(text: &[u8]) -> Option<(Name, u32, LinkKind)>
     ensures { MatchOption result
         ((name : List ℕ) (n : ℕ) (kind : AnyKind) → FitsName name → FitsNumber n
@@ -102,7 +102,7 @@ fn stream_and_kind(text: &[u8]) -> Option<(Name, u32, LinkKind)>
     }
 }
 
-/// The binding whose words a line is, if it is one's.
+/// Parses the line of a binding.
 pub fn bind_of(line: &[u8]) -> Option<BindingLine>
     ensures { IsReadAs FitsBinding bind_words line.now result }
 {
@@ -122,7 +122,7 @@ pub fn bind_of(line: &[u8]) -> Option<BindingLine>
     })
 }
 
-/// The route whose words a line is, if it is one's.
+/// Parses the line of a route.
 pub fn route_of(line: &[u8]) -> Option<RouteLine>
     ensures { IsReadAs FitsRoute route_words line.now result }
 {
@@ -138,7 +138,7 @@ pub fn route_of(line: &[u8]) -> Option<RouteLine>
     Some(RouteLine { driver, addr, id })
 }
 
-/// The full place whose words a line is, if it is one's.
+/// Parses the line of a full place.
 pub fn full_of(line: &[u8]) -> Option<FullLine>
     ensures { IsReadAs FitsFull full_words line.now result }
 {
@@ -159,7 +159,7 @@ pub fn full_of(line: &[u8]) -> Option<FullLine>
     })
 }
 
-/// The hung-up stream whose words a line is, if it is one's.
+/// Parses the line of a hung-up stream.
 pub fn hung_of(line: &[u8]) -> Option<HungLine>
     ensures { IsReadAs FitsHung hung_words line.now result }
 {
@@ -172,8 +172,7 @@ pub fn hung_of(line: &[u8]) -> Option<HungLine>
     Some(HungLine { driver, minor })
 }
 
-/// The queued message whose words a line is, if it is one's. Fails only for want of memory, and then the line is some
-/// message's.
+/// Parses the line of a queued message. Fails only if an allocation fails, and only if the line is a message's.
 pub fn message_of(alloc: Global, line: &[u8]) -> Result<Option<MessageLine>, NoMemory>
     ensures reading { IfOk result (IsReadAs FitsMessage message_words line.now) }
     ensures wanted { IfErr result (λ _. IsLineOf FitsMessage message_words line.now) }

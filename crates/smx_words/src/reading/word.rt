@@ -1,4 +1,4 @@
-//! Words of few values, and names.
+//! Words of enums, and names.
 
 ghost use Rattle.std.specs.Prelude.{◌≡◌, ◌≢◌, ◌∷◌, ◌++◌, ℕ, List, MatchOption};
 ghost use Rattle.std.specs.Fmt.{decimal};
@@ -7,23 +7,22 @@ ghost use Rattle.smx_words.specs.Spellable.{FitsName, FitsNumber, FitsWhich, Fit
 ghost use Rattle.smx_words.specs.Spelling.{kind_word, which_word, sides_word, side_word, link_kind_word};
 ghost use Rattle.smx_words.specs.Words.{SPACE};
 
-use crate::reading::cutting::{cut, cut_soon, is};
+use crate::reading::cutting::{cut, is};
 use crate::reading::number::number;
 use smx_types::{DriverKind, LinkKind, Name, Side, Sides, Which};
 
-/// The name that a word is.
+/// Parses a driver's name.
 pub fn name(word: &[u8]) -> Option<Name>
     ensures { IsFoundIn FitsName (λ n. n) word.now result }
 {
     Name::from_bytes(word)
 }
 
-// The name before the first space.
-#[inline(always)]
+// Parses the name before the first space. Returns it and the bytes after the space.
 pub fn first_name(text: &[u8]) -> Option<(Name, &[u8])>
     ensures { BeginsWith FitsName (λ n. n) text.now result }
 {
-    let Some((word, rest)) = cut_soon(text, b' ') else {
+    let Some((word, rest)) = cut(text, b' ') else {
         return None;
     };
     match name(word) {
@@ -32,8 +31,7 @@ pub fn first_name(text: &[u8]) -> Option<(Name, &[u8])>
     }
 }
 
-// The name and the number that are all of some bytes.
-#[inline(always)]
+// Parses a name and a number.
 pub fn name_and_number(text: &[u8]) -> Option<(Name, u32)>
     ensures { MatchOption result
         ((name : List ℕ) (n : ℕ) → FitsName name → FitsNumber n → text.now ≢ name ++ SPACE ∷ decimal n)
@@ -48,7 +46,7 @@ pub fn name_and_number(text: &[u8]) -> Option<(Name, u32)>
     }
 }
 
-/// The kind of driver that a word names.
+/// Parses a kind of driver.
 pub fn driver_kind(word: &[u8]) -> Option<DriverKind>
     ensures { IsFoundIn FitsAlways kind_word word.now result }
 {
@@ -59,7 +57,7 @@ pub fn driver_kind(word: &[u8]) -> Option<DriverKind>
     }
 }
 
-// The kind of driver before the first space.
+// Parses the kind of driver before the first space. Returns it and the bytes after the space.
 pub fn first_kind(text: &[u8]) -> Option<(DriverKind, &[u8])>
     ensures { BeginsWith FitsAlways kind_word text.now result }
 {
@@ -72,7 +70,7 @@ pub fn first_kind(text: &[u8]) -> Option<(DriverKind, &[u8])>
     }
 }
 
-/// The links that a word names: one by its id, or all.
+/// Parses a selection of links: one link by its id, or all.
 pub fn which(word: &[u8]) -> Option<Which>
     ensures { IsFoundIn FitsWhich which_word word.now result }
 {
@@ -83,7 +81,7 @@ pub fn which(word: &[u8]) -> Option<Which>
     Some(Which::Id(id))
 }
 
-/// The sides that a flush names.
+/// Parses the sides of a flush.
 pub fn sides(word: &[u8]) -> Option<Sides>
     ensures { IsFoundIn FitsAlways sides_word word.now result }
 {
@@ -95,7 +93,7 @@ pub fn sides(word: &[u8]) -> Option<Sides>
     }
 }
 
-/// The side of a place.
+/// Parses the side of a place.
 pub fn side(word: &[u8]) -> Option<Side>
     ensures { IsFoundIn FitsAlways side_word word.now result }
 {
@@ -106,7 +104,7 @@ pub fn side(word: &[u8]) -> Option<Side>
     }
 }
 
-// The side of a place before the first space.
+// Parses the side of a place before the first space. Returns it and the bytes after the space.
 pub fn first_side(text: &[u8]) -> Option<(Side, &[u8])>
     ensures { BeginsWith FitsAlways side_word text.now result }
 {
@@ -119,7 +117,7 @@ pub fn first_side(text: &[u8]) -> Option<(Side, &[u8])>
     }
 }
 
-/// The kind of a link.
+/// Parses the kind of a link.
 pub fn link_kind(word: &[u8]) -> Option<LinkKind>
     ensures { IsFoundIn FitsAlways link_kind_word word.now result }
 {

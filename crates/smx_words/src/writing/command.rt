@@ -24,7 +24,7 @@ impl Spell for Command {
     }
 }
 
-/// The words of a command, with a space between them.
+/// Appends the words of a command, with a space between two words.
 pub(super) fn put_command(out: &mut Vec<u8>, command: &Command) -> Result<(), NoMemory>
     ensures written { OnOk result (out.new.items
         ≡ out.old.items ++ line_of (command_words command.now)) }
@@ -70,7 +70,6 @@ fn put_exit(out: &mut Vec<u8>) -> Result<(), NoMemory>
     put_text(out, b"exit")
 }
 
-#[inline(always)]
 fn put_clone(out: &mut Vec<u8>, driver: &Name) -> Result<(), NoMemory>
     ensures written { OnOk result (out.new.items
         ≡ out.old.items ++ line_of (codes "clone" ∷ driver.now ∷ [])) }
@@ -80,7 +79,6 @@ fn put_clone(out: &mut Vec<u8>, driver: &Name) -> Result<(), NoMemory>
     put_name(out, driver)
 }
 
-#[inline(always)]
 fn put_stream(out: &mut Vec<u8>, word: &[u8], driver: &Name, minor: u32) -> Result<(), NoMemory>
     ensures written { OnOk result (out.new.items
         ≡ out.old.items ++ line_of (word.now ∷ driver.now ∷ decimal minor ∷ [])) }
@@ -91,8 +89,7 @@ fn put_stream(out: &mut Vec<u8>, word: &[u8], driver: &Name, minor: u32) -> Resu
     put_spaced(out, minor)
 }
 
-// A word and a number.
-#[inline(always)]
+// Appends a word and a number.
 fn put_one(out: &mut Vec<u8>, word: &[u8], a: u32) -> Result<(), NoMemory>
     ensures written { OnOk result (out.new.items
         ≡ out.old.items ++ line_of (word.now ∷ decimal a ∷ [])) }
@@ -102,8 +99,7 @@ fn put_one(out: &mut Vec<u8>, word: &[u8], a: u32) -> Result<(), NoMemory>
     put_spaced(out, a)
 }
 
-// A word and two numbers.
-#[inline(always)]
+// Appends a word and two numbers.
 fn put_two(out: &mut Vec<u8>, word: &[u8], a: u32, b: u32) -> Result<(), NoMemory>
     ensures written { OnOk result (out.new.items
         ≡ out.old.items ++ line_of (word.now ∷ decimal a ∷ decimal b ∷ [])) }
@@ -114,7 +110,6 @@ fn put_two(out: &mut Vec<u8>, word: &[u8], a: u32, b: u32) -> Result<(), NoMemor
     put_spaced(out, b)
 }
 
-#[inline(always)]
 fn put_three(out: &mut Vec<u8>, word: &[u8], a: u32, b: u32, c: u32) -> Result<(), NoMemory>
     ensures written { OnOk result (out.new.items
         ≡ out.old.items ++ line_of (word.now ∷ decimal a ∷ decimal b ∷ decimal c ∷ [])) }
@@ -124,7 +119,7 @@ fn put_three(out: &mut Vec<u8>, word: &[u8], a: u32, b: u32, c: u32) -> Result<(
     put_spaced(out, c)
 }
 
-// A word, two numbers and bytes.
+// Appends a word, two numbers and bytes.
 fn put_write(out: &mut Vec<u8>, word: &[u8], a: u32, b: u32, bytes: &[u8]) -> Result<(), NoMemory>
     ensures written { OnOk result (out.new.items
         ≡ out.old.items ++ line_of (word.now ∷ decimal a ∷ decimal b ∷ hex_word bytes.now ∷ [])) }

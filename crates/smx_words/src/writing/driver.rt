@@ -24,7 +24,7 @@ impl Spell for DriverSpec {
     }
 }
 
-// A space and the kind of a driver.
+// Appends a space and the kind of a driver.
 fn put_kind(out: &mut Vec<u8>, kind: DriverKind) -> Result<(), NoMemory>
     ensures { OnOk result (out.new.items ≡ out.old.items ++ SPACE ∷ kind_word kind) }
 {
@@ -37,7 +37,7 @@ fn put_kind(out: &mut Vec<u8>, kind: DriverKind) -> Result<(), NoMemory>
     )
 }
 
-// The numbers of a driver, each behind a space, and a line feed.
+// Appends the numbers of a driver, each after a space, and a line feed.
 fn put_sizes(out: &mut Vec<u8>, spec: &DriverSpec) -> Result<(), NoMemory>
     ensures written { OnOk result (out.new.items ≡ out.old.items
         ++ SPACE ∷ line_of (decimal spec.now.minors ∷ decimal spec.now.high ∷ decimal spec.now.low

@@ -45,7 +45,7 @@ impl Spell for LinkLine {
     }
 }
 
-// The lower stream of a link and its kind, each word behind a space, and a line feed.
+// Appends the lower stream of a link and its kind, each word after a space, and a line feed.
 fn put_lower(out: &mut Vec<u8>, link: &LinkLine) -> Result<(), NoMemory>
     ensures written { OnOk result (out.new.items ≡ out.old.items
         ++ SPACE ∷ line_of (link.now.lower_driver ∷ decimal link.now.lower_minor ∷ link_kind_word link.now.kind ∷ [])
@@ -57,7 +57,7 @@ fn put_lower(out: &mut Vec<u8>, link: &LinkLine) -> Result<(), NoMemory>
     put_last_kind(out, link.kind)
 }
 
-// A space, the kind of a link, and a line feed.
+// Appends a space, the kind of a link, and a line feed.
 fn put_last_kind(out: &mut Vec<u8>, kind: LinkKind) -> Result<(), NoMemory>
     ensures { OnOk result (out.new.items
         ≡ out.old.items ++ SPACE ∷ link_kind_word kind ++ LINE_FEED ∷ []) }
@@ -134,7 +134,7 @@ impl Spell for HungLine {
     }
 }
 
-// A space and the words of a place.
+// Appends a space and the words of a place.
 fn put_place(out: &mut Vec<u8>, driver: &Name, minor: u32, side: Side) -> Result<(), NoMemory>
     ensures written { OnOk result (out.new.items
         ≡ out.old.items ++ SPACE ∷ driver.now ++ SPACE ∷ decimal minor ++ SPACE ∷ side_word side) }

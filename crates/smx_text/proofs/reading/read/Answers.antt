@@ -27,15 +27,15 @@ lines-init g c =
       );
     }
 
-pub returns-then-is_end : goal.returns-then-is_end
-returns-then-is_end g c =
+pub returns-then-eq : goal.returns-then-eq
+returns-then-eq g c =
     let end : c.in-Some.text.now ≡ codes "end" = search rules in
     let version = g.D.Draft.version_of c.lines.draft in
-    any_of g.D.Draft.grammar c.args.bytes.now g.D.Draft.makes version c.ended.result
+    any_of g.D.Draft.grammar c.args.bytes.now version c.ended.result
     (read_to_end (g.D.Draft.grammar version) c.args.bytes.now _ _ _ c.in-Some.text.now c.in-Some.after.now
-    c.lines.invariant.between c.in-Some.ensures.next (end ∙ sym (g.met.D.Draft.end_is version)) g.D.Draft.makes
-    c.ended.result c.ended.ensures)
-    (ends_behind (g.D.Draft.grammar version) g.D.Draft.makes _ _ _ c.ended.result c.ended.ensures)
+    c.lines.invariant.between c.in-Some.ensures.next (end ∙ sym (g.met.D.Draft.end_is version)) c.ended.result
+    c.ended.ensures)
+    (ends_behind (g.D.Draft.grammar version) _ _ _ c.ended.result c.ended.ensures)
 
 pub returns-in-Err : goal.returns-in-Err
 returns-in-Err g c =

@@ -17,7 +17,7 @@ bytes-init c =
       value = sym (ap number none);
     }
 
--- one byte more
+-- one more byte
 more : (c : Else-not-is_name_byte) → HasOneBefore c.args.bytes.now c.bytes.left
 more c =
     let loop = c.bytes.invariant in

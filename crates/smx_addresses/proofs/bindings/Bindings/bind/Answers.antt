@@ -9,11 +9,11 @@ use Rattle.smx_addresses.proofs.ChangeLemmas.{Sets, sets_from}
 use Rattle.smx_addresses.proofs.bindings.Bindings.bind.Goals as goal
 use Rattle.smx_addresses.proofs.bindings.Bindings.bind.Goals.{After-unwrap}
 
--- in the table as it was, neither the address nor the stream is bound
+-- in the old table, neither the address nor the stream is bound
 free : (c : After-unwrap) → is_taken (bindings_of c.self.inside.minors.entries) c.args.stream c.args.addr ≡ false
 free c = subst (λ (bs : List Binding). is_taken bs c.args.stream c.args.addr ≡ false) (sym c.self.view_is) c.requires
 
--- the minor is under the address
+-- the minor is at the address
 set : (c : After-unwrap) → Sets c.self.inside.minors.entries c.insert.new.self.entries
     (c.args.stream.driver, c.args.addr) (Some c.args.stream.minor)
 set c = sets_from _ _ _ _ _ c.reserve.ensures.entries (rw c.unwrap.ensures at c.insert.ensures.updates).0

@@ -1,11 +1,13 @@
-use Rattle.std.proofs.Common.{ap, ◌∙◌}
-use Rattle.smx_addresses.specs.TableFields.{routes_of}
-use Rattle.smx_addresses.proofs.TargetLemmas.{copied_whole, ids_again}
+use Rattle.std.proofs.Common.{sym, subst, ◌∙◌}
+use Rattle.smx_types.specs.declared.link.Route.{Route}
+use Rattle.smx_addresses.specs.RouteLists.{IsRouteList}
+use Rattle.smx_addresses.proofs.CopyLemmas.{route_next}
 use Rattle.smx_addresses.proofs.routes.Routes.copy.Goals as goal
 
-pub invariant_of-result : goal.invariant_of-result
-invariant_of-result c = copied_whole c.self.inside.ids.entries _ c.self.inside.targets.entries _ c.self.invariant
-    (ids_again _ _ c.in_ok-clone.ensures.cases) c.in_ok-clone-2.ensures.cases
-
-pub returns : goal.returns
-returns c = ap routes_of (ids_again c.self.inside.ids.entries _ c.in_ok-clone.ensures.cases) ∙ c.self.view_is
+pub loop-route-preserved : goal.loop-route-preserved
+loop-route-preserved c =
+    let first : Route = record { driver = 0; addr = 0; id = 0 } in
+    rw c.loop-route.invariant at c.in_ok-route.ensures.ok
+    ∙ route_next c.deref-route-items.result.now c.loop-route.route-index first
+    (subst IsRouteList (sym c.deref-route-items.ensures.value) c.in_ok-list.ensures.order)
+    c.loop-route-test.true

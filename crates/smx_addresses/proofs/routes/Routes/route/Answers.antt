@@ -13,19 +13,19 @@ use Rattle.smx_addresses.proofs.TargetLemmas.{leads_to, routed_away, routed_ther
 use Rattle.smx_addresses.proofs.routes.Routes.route.Goals as goal
 use Rattle.smx_addresses.proofs.routes.Routes.route.Goals.{After-unwrap}
 
--- the id is under the address
+-- the id is at the address
 set : (c : After-unwrap) → Sets c.self.inside.ids.entries c.insert.new.self.entries (c.args.driver, c.args.addr)
     (Some c.args.id)
 set c = sets_from _ _ _ _ _ c.reserve.ensures.entries (rw c.unwrap.ensures at c.insert.ensures.updates).0
 
--- what was under the address
+-- the old route of the address
 was : (c : After-unwrap) (o : Option ℕ) → c.unwrap.result ≡ o
     → lookup (is_key (c.args.driver, c.args.addr)) c.self.inside.ids.entries ≡ o
 was c o is =
     ap (lookup (is_key (c.args.driver, c.args.addr))) (sym c.reserve.ensures.entries)
     ∙ sym (rw c.unwrap.ensures at c.insert.ensures.old) ∙ is
 
--- the list has the route in place of the one that the address had
+-- the list has the new route in place of the old one of the address
 listed : (c : After-unwrap) → routes_of c.insert.new.self.entries ≡ with_inserted route_before
     (filter (λ r. not (is_route c.args.driver c.args.addr r)) c.args.self.now)
     (record { driver = c.args.driver; addr = c.args.addr; id = c.args.id })

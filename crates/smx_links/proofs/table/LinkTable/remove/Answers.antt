@@ -1,6 +1,22 @@
-use Rattle.std.proofs.Common.{◌∙◌}
-use Rattle.smx_links.proofs.LinkTableLemmas.{without_one}
+use Rattle.std.proofs.Common.{◌≡◌, ℕ, List, Bool, eqb, not, length, ap, ◌∙◌}
+use Rattle.std.proofs.lemmas.List.Elements.{All-filter}
+use Rattle.smx_types.specs.declared.link.Link.{Link}
+use Rattle.smx_links.specs.Masks.{IsWithin}
+use Rattle.smx_links.proofs.LinkTableLemmas.{parts_less, lent}
 use Rattle.smx_links.proofs.table.LinkTable.remove.Goals as goal
 
-pub returns-clause-rest : goal.returns-clause-rest
-returns-clause-rest c = c.remove_each.ensures.rest ∙ without_one c.args.self.now c.args.id
+pub recompute-requires-clause-within : goal.recompute-requires-clause-within
+recompute-requires-clause-within c =
+    let stays : Link → Bool = λ l. not (eqb l.id c.args.id) in
+    rw (c.as_slice.ensures, c.in_ok-link.ensures.rest, c.deref_mut.ensures.value)
+    (All-filter stays (IsWithin (length c.self.inside.masks.items)) c.self.inside.links c.self.invariant.within)
+
+pub invariant_of-self-2 : goal.invariant_of-self-2
+invariant_of-self-2 c =
+    let ws : List ℕ = c.self.inside.masks.items in
+    let stays : Link → Bool = λ l. not (eqb l.id c.args.id) in
+    let long : length c.recompute.new.words ≡ length ws =
+    c.recompute.ensures.length ∙ ap length c.deref_mut.ensures.value in
+    rw (lent c.self.inside.masks.len c.recompute.new.words ws long c.self.inside.masks.ok.0)
+    (parts_less ws c.recompute.new.words c.self.inside.links _ c.self.inside.next_id stays c.self.invariant
+    c.in_ok-link.ensures.rest long (rw c.as_slice.ensures at c.recompute.ensures.masks))

@@ -1,25 +1,34 @@
-use Rattle.std.proofs.Common.{◌≡◌, ◌∙◌, sym, ap, subst}
-use Rattle.smx_streams.specs.HungRows.{flag_at}
-use Rattle.smx_streams.specs.RecordGrids.{Grid, Uses, AreRecords, uses_of}
-use Rattle.smx_streams.proofs.RecordLemmas.{records_same, slots_same, uses_same}
+use Rattle.std.proofs.Common.{◌≡◌, ℕ, length, map, subst, ap, ◌∙◌, arith}
+use Rattle.smx_streams.specs.RecordGrids.{Uses, HasRows, IsCopyBefore}
+use Rattle.smx_streams.proofs.CopyLemmas.{all_copied, has_rows, none_copied}
 use Rattle.smx_streams.proofs.records.Records.copy.Goals as goal
+use Rattle.smx_streams.proofs.records.Records.copy.Goals.{In_ok-minors}
 
-pub invariant_of-result : goal.invariant_of-result
-invariant_of-result c =
-    let keys = c.in_ok-copy_keys.ensures ∙ c.deref.ensures.value in
-    let slots = slots_same _ _ c.in_ok-clone.ensures.cases.slots in (
-      subst (λ (grid : Grid). AreRecords grid c.in_ok-clone.field-0) (sym keys)
-          (records_same c.self.inside.drivers.items c.self.inside.records c.in_ok-clone.field-0 slots
-          c.self.invariant.0),
-      λ none s. ap (λ (grid : Grid). flag_at (uses_of grid c.in_ok-clone.field-0).hungs s) keys
-          ∙ ap (λ (u : Uses). flag_at u.hungs s)
-          (uses_same c.self.inside.drivers.items c.self.inside.records c.in_ok-clone.field-0 slots)
-          ∙ c.self.invariant.1 none s,
-    )
+-- the number of minors of each driver
+minors_are : (c : In_ok-minors) → c.in_ok-minors.minors.items ≡ c.args.self.now.minors
+minors_are c = c.in_ok-minors.ensures ∙ ap (map length) c.deref.ensures.value
+    ∙ ap (λ (u : Uses). u.minors) c.self.view_is
+
+pub loop-driver-init : goal.loop-driver-init
+loop-driver-init c =
+    none_copied c.args.self.now c.in_ok-copy.copy
+    (subst HasRows c.self.view_is (has_rows c.self.inside.drivers.items c.self.inside.records))
+    c.in_ok-copy.ensures.rows
+    (c.in_ok-copy.ensures.minors ∙ c.deref-2.ensures.value ∙ minors_are (goal.at.loop-driver-init c).In_ok-minors)
+    c.in_ok-copy.ensures.none c.in_ok-copy.ensures.hungs
 
 pub returns : goal.returns
 returns c =
-    ap (λ (grid : Grid). uses_of grid c.in_ok-clone.field-0) (c.in_ok-copy_keys.ensures ∙ c.deref.ensures.value)
-    ∙ uses_same c.self.inside.drivers.items c.self.inside.records c.in_ok-clone.field-0
-    (slots_same _ _ c.in_ok-clone.ensures.cases.slots)
-    ∙ c.self.view_is
+    let size : length c.in_ok-minors.minors.items ≡ length c.args.self.now.minors =
+    ap length (minors_are (goal.at.returns c).In_ok-minors) in
+    let all : c.loop-driver.driver ≡ length c.args.self.now.minors =
+    omega (
+      arith,
+      c.loop-driver.auto.driver-end,
+      c.loop-driver-test.false,
+      c.len-driver-end.ensures,
+      size,
+      c.in_ok-minors.minors.ok.0,
+    ) in
+    all_copied c.args.self.now c.loop-driver.copy
+    (subst (λ (d : ℕ). IsCopyBefore c.args.self.now d 0 c.loop-driver.copy) all c.loop-driver.invariant)

@@ -1,4 +1,5 @@
 use Rattle.std.proofs.Common.{refl}
+use Rattle.smx_streams.proofs.CopyLemmas.{has_rows}
 use Rattle.smx_streams.proofs.GridLemmas.{no_keys_lengths}
 use Rattle.smx_streams.proofs.RecordLemmas.{no_holds, no_hungs, no_opens, none_recorded}
 use Rattle.smx_streams.proofs.records.Records.new.Goals as goal
@@ -21,3 +22,6 @@ returns-clause-none c = λ s. (
 
 pub returns-clause-hungs : goal.returns-clause-hungs
 returns-clause-hungs c = λ s. rw c.in_ok-new_keys.ensures (no_hungs c.args.minors.now c.new.result s)
+
+pub returns-clause-rows : goal.returns-clause-rows
+returns-clause-rows c = has_rows c.in_ok-new_keys.field-0.items c.new.result

@@ -15,7 +15,7 @@ close-requires c =
     (sym c.in_ok-stream.ensures.stream) in
     omega (arith, some, c.self.invariant c.in_ok-stream.stream)
 
--- the records count the descriptors that are left
+-- the records count the remaining descriptors
 whole : (c : After-close) → IsWhole (record c.self.inside { descriptors = c.take.new.self; records = c.close.new.self })
 whole c s =
     c.close.ensures.opens_now s

@@ -5,8 +5,8 @@ use Rattle.smx_words.proofs.reading.command.inject.Goals as goal
 
 pub returns-in-Err-clause-wanted : goal.returns-in-Err-clause-wanted
 returns-in-Err-clause-wanted c =
-    let bytes = c.in-Err.ensures.wanted in (
-      command.Inject c.in-Some.driver c.in-Some-first_number.minor c.in-Some-first_number-2.addr bytes.0,
-      ((c.in-Some.ensures.0, c.in-Some-first_number.ensures.0, c.in-Some-first_number-2.ensures.0, bytes.1), refl),
+    let some = c.in-Err.ensures.wanted in (
+      command.Inject c.in-Some.driver c.in-Some-first_number.minor some.0 some.1,
+      ((c.in-Some.ensures.0, c.in-Some-first_number.ensures.0, some.2, some.3), refl),
       grind (arith, common_steps),
     )

@@ -3,7 +3,7 @@ use Rattle.smx_words.proofs.CommandLemmas.{no_verb}
 use Rattle.smx_words.proofs.CutLemmas.{differs}
 use Rattle.smx_words.proofs.reading.command.lone_command.Goals as goal
 
-pub returns-else-is : goal.returns-else-is
-returns-else-is c = λ v. rw c.requires.none (λ x told e.
+pub returns : goal.returns
+returns c = λ v x told e.
     let not_exit = differs c.args.line.now (codes "exit") c.is.result c.is.ensures c.if-is.false in
-    no_verb c.args.line.now c.requires.no_verb not_exit x told.0 e)
+    no_verb c.args.line.now c.requires not_exit x told.0 e

@@ -7,11 +7,9 @@ use Rattle.smx_words.proofs.reading.command.write.Goals as goal
 
 pub returns-in-Err-clause-wanted : goal.returns-in-Err-clause-wanted
 returns-in-Err-clause-wanted c =
-    let bytes = c.in-Err.ensures.wanted in
-    let addr = c.in-Some-first_number.ensures.1
-    ∙ ap (λ (x : List ℕ). decimal c.in-Some-first_number.addr ++ SPACE ∷ x) bytes.2 in
-    let fd = c.in-Some.ensures.1 ∙ ap (λ (x : List ℕ). decimal c.in-Some.fd ++ SPACE ∷ x) addr in (
-      command.Write c.in-Some.fd c.in-Some-first_number.addr bytes.0,
-      ((c.in-Some.ensures.0, c.in-Some-first_number.ensures.0, bytes.1), refl),
+    let some = c.in-Err.ensures.wanted in
+    let fd = c.in-Some.ensures.1 ∙ ap (λ (x : List ℕ). decimal c.in-Some.fd ++ SPACE ∷ x) some.4 in (
+      command.Write c.in-Some.fd some.0 some.1,
+      ((c.in-Some.ensures.0, some.2, some.3), refl),
       ap (λ (x : List ℕ). codes "write" ++ SPACE ∷ x) fd,
     )

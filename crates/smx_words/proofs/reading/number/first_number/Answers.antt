@@ -1,14 +1,8 @@
-use Rattle.std.proofs.Common.{arith, sym}
-use Rattle.smx_words.proofs.NumberLemmas.{digit_fits, is_first, not_first, one_digit}
+use Rattle.std.proofs.Common.{arith}
+use Rattle.smx_words.proofs.NumberLemmas.{is_first, not_first}
 use Rattle.smx_words.proofs.reading.number.first_number.Goals as goal
 use Rattle.smx_words.proofs.reading.number.first_number.Goals.{else-end-text-via-then-end-text+else-text-end-eq32}
 use Rattle.smx_words.proofs.reading.number.first_number.Goals.{else-end-text-via-else-end-text}
-
-pub returns-then-is_ascii_digit : goal.returns-then-is_ascii_digit
-returns-then-is_ascii_digit c =
-    let digit = sym c.if-is_ascii_digit.ensures.value in
-    is_first c.args.text.now 1 _ (digit_fits _ digit) c.if-text-gt1.true
-    (one_digit c.args.text.now (omega (arith, c.if-text-gt1.true)) digit) c.if-text-eq32.true
 
 pub returns-then-text-end-eq32 : goal.returns-then-text-end-eq32
 returns-then-text-end-eq32 c =

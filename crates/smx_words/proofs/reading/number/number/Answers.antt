@@ -1,10 +1,6 @@
 use Rattle.std.proofs.Common.{append-nil, [], sym, ◌∙◌}
-use Rattle.smx_words.proofs.NumberLemmas.{one_alone, whole, not_whole}
+use Rattle.smx_words.proofs.NumberLemmas.{whole, not_whole}
 use Rattle.smx_words.proofs.reading.number.number.Goals as goal
-
-pub returns-then-is_ascii_digit : goal.returns-then-is_ascii_digit
-returns-then-is_ascii_digit c =
-    one_alone c.args.word.now c.if-word-eq1.true (sym c.if-is_ascii_digit.ensures.value)
 
 pub returns-then-end-word : goal.returns-then-end-word
 returns-then-end-word c = (

@@ -1,12 +1,16 @@
-use Rattle.std.proofs.Common.{sym, subst}
-use Rattle.smx_types.specs.ProgramLists.{AreWithinLimits, ProgramLists}
+use Rattle.std.proofs.Common.{◌≡◌, sym, subst, rules}
+use Rattle.smx_types.specs.ProgramLists.{AreWithinLimits}
 use Rattle.smx_text.proofs.ProgramsLemmas.{begun_within, finished}
 use Rattle.smx_text.proofs.programs.draft.ProgramsDraftDraft.finish.Goals as goal
 
-pub finish-requires : goal.finish-requires
-finish-requires g c = subst AreWithinLimits (sym c.self.view_is) (begun_within c.args.self c.requires.begun)
+pub in_version-requires : goal.in_version-requires
+in_version-requires c =
+    let same : record {
+      version = c.self.inside.version;
+      drivers = c.from_vec.result;
+      programs = c.from_vec-2.result;
+    } ≡ c.args.self = search rules in
+    subst AreWithinLimits (sym same) (begun_within c.args.self c.requires.begun)
 
 pub returns : goal.returns
-returns g c =
-    finished g.P.ProgramTaker.makes c.args.self c.finish.result c.requires.begun
-    (subst (λ (p : ProgramLists). g.P.ProgramTaker.makes p c.finish.result) c.self.view_is c.finish.ensures)
+returns c = finished c.args.self c.in_version.result (search rules) c.requires.begun

@@ -1,14 +1,13 @@
 use Rattle.std.proofs.Common.{rules, refl}
 use Rattle.smx_text.specs.TranscriptLines as line
-use Rattle.smx_text.proofs.TranscriptLemmas.{counted, misplaced, adds_line}
+use Rattle.smx_text.proofs.TranscriptDrafts.{with_line}
+use Rattle.smx_text.proofs.TranscriptLemmas.{misplaced, adds}
 use Rattle.smx_text.proofs.transcript.draft.TranscriptDraft.add_config.Goals as goal
 
 pub returns-then-ne-clause-answers : goal.returns-then-ne-clause-answers
-returns-then-ne-clause-answers g c =
-    let at = counted c.self.invariant c.self.view_is in
-    misplaced c.args.self.now line.Config (search rules)
+returns-then-ne-clause-answers c = misplaced c.args.self.now line.Config (search rules)
 
 pub returns-clause-answers : goal.returns-clause-answers
-returns-clause-answers g c =
-    let at = counted c.self.invariant c.self.view_is in
-    adds_line c.self.view_is line.Config c.requires.begun (search rules) refl tt (λ e. cc)
+returns-clause-answers c =
+    adds c.args.self.now (with_line c.args.self.now line.Config) line.Config c.requires.begun (search rules)
+    refl tt (λ e. cc) refl

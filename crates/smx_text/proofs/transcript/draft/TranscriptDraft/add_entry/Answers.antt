@@ -1,0 +1,22 @@
+use Rattle.std.proofs.Common.{rules, refl}
+use Rattle.smx_text.specs.TranscriptLines as line
+use Rattle.smx_text.proofs.TranscriptDrafts.{with_line}
+use Rattle.smx_text.proofs.TranscriptLemmas.{adds, longer_begun}
+use Rattle.smx_text.proofs.transcript.draft.TranscriptDraft.add_entry.Goals as goal
+
+pub returns-in_err-room_for_entry-clause-answers : goal.returns-in_err-room_for_entry-clause-answers
+returns-in_err-room_for_entry-clause-answers c = let why =
+    c.in_err-room_for_entry.ensures.refused c.args.entry in search rules
+
+pub returns-clause-answers : goal.returns-clause-answers
+returns-clause-answers c =
+    rw c.in_ok-push.ensures.ok (adds c.args.self.now (with_line c.args.self.now (line.Entry c.args.entry))
+    (line.Entry c.args.entry) c.requires.begun (search rules) (search rules) c.requires.fits
+    (λ e. cc) refl)
+
+pub returns-in_err-push-clause-answers : goal.returns-in_err-push-clause-answers
+returns-in_err-push-clause-answers c =
+    let room =
+    longer_begun c.args.self.now (line.Entry c.args.entry) c.requires.begun (search rules) (search rules)
+    c.requires.fits (λ e. cc) in
+    search rules

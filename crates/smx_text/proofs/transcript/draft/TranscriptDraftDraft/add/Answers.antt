@@ -1,0 +1,21 @@
+use Rattle.smx_text.specs.TranscriptLines as line
+use Rattle.smx_text.proofs.TranscriptGrammarLemmas.{answers_line, refused_line}
+use Rattle.smx_text.proofs.transcript.draft.TranscriptDraftDraft.add.Goals as goal
+
+pub returns-in-Ok-Some-clause-answers : goal.returns-in-Ok-Some-clause-answers
+returns-in-Ok-Some-clause-answers c =
+    let is = rw c.in-Ok-Some.field-0-is at c.in-Ok-Some.ensures.reading in
+    answers_line _ _ _ (line.Entry c.in-Ok-Some.entry) _ is _ c.add_entry.ensures.answers
+
+pub returns-in-Err-clause-answers : goal.returns-in-Err-clause-answers
+returns-in-Err-clause-answers c =
+    let some = c.in-Err.ensures.wanted in
+    refused_line _ _ (line.Entry some.0) _ some.1 some.2 _ (c.entry_unread.ensures some.0 some.1)
+
+pub add_entry-requires-clause-fits : goal.add_entry-requires-clause-fits
+add_entry-requires-clause-fits c =
+    let is = rw c.in-Ok-Some.field-0-is at c.in-Ok-Some.ensures.reading in is.0
+
+pub add_other-requires-clause-no_entry : goal.add_other-requires-clause-no_entry
+add_other-requires-clause-no_entry c =
+    rw c.in-Ok-None.field-0-is at c.in-Ok-None.ensures.reading

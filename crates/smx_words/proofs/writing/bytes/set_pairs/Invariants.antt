@@ -1,6 +1,0 @@
-use Rattle.std.proofs.Common.{◌≡◌, ◌*◌, ◌++◌, take, drop}
-use Rattle.hex.specs.Hex.{encode_lower}
-use Rattle.smx_words.proofs.writing.bytes.set_pairs.Given as goal
-
-abbrev pub invariant-loop-i : goal.invariant-loop-i
-invariant-loop-i l = take (2 * l.i) l.pairs ++ encode_lower (drop l.i l.bytes) ≡ encode_lower l.bytes
