@@ -1,4 +1,4 @@
--- What an accepted result says of what came before it.
+-- Consequences of an accepted result.
 use Rattle.std.proofs.Common.{◌≡◌, ℕ, Bool, true, false, not, List, Option, Some, None}
 use Rattle.std.proofs.Common.{Result, Ok, refl, ap, ◌∙◌, subst}
 use Rattle.std.proofs.lemmas.Bool.{not-false}
@@ -12,26 +12,26 @@ use Rattle.smx_model.specs.DriverList.{is_mux}
 use Rattle.smx_model.specs.Lookups.{driver_of, free_stream, leaf_stream, stream_of}
 use Rattle.smx_model.specs.Outcomes.{◌>>=◌, or_fault, refuse}
 use Rattle.smx_model.specs.Standing.{exists, is_below}
--- what came before an accepted result was accepted
+-- if a result is accepted, so is the look-up before it
 pub use Rattle.smx_model.proofs.LookupLemmas.{looked_up as bound}
 
--- what is not refused has failed the test
+-- a test that didn't lead to a refusal is false
 pub not_refused : (f : Fault) (t : Bool) {u : Unit {0}} → refuse f t ≡ Ok u → t ≡ false
 not_refused f true h = absurd cc
 not_refused f false h = refl
 
--- what is accepted is one thing
+-- two accepted results are equal only if their values are
 pub accepted : {A : Type 0} (x y : A) → ◌≡◌ {A = Result A Fault} (Ok x) (Ok y) → x ≡ y
 accepted x y h = cc
 
--- ---- lookups
+-- ---- look-ups
 
--- a stream that a lookup of a descriptor gives without a refusal is there
+-- a look-up of a descriptor that isn't refused has found this stream
 pub fd_at : (o : Option StreamId) (s : StreamId) → or_fault BadDescriptor o ≡ Ok s → o ≡ Some s
 fd_at None s e = absurd cc
 fd_at (Some x) s e = ap (λ (y : StreamId). Some y) (accepted x s e)
 
--- the stream of a free descriptor is the descriptor's, and it is not below a link
+-- the stream of a free descriptor is the descriptor's stream, and it is not below a link
 pub free_says : (c : Configuration) (process fd : ℕ) (s : StreamId) → free_stream c process fd ≡ Ok s
     → (stream_of c process fd ≡ Ok s) × (is_below c.links s ≡ false)
 free_says c process fd s e =
@@ -42,7 +42,7 @@ free_says c process fd s e =
           (not_refused Below _ above.1),
     )
 
--- the stream of a device exists, and its driver is no multiplexing one
+-- the stream of a device exists, and its driver is not a multiplexing driver
 pub leaf_says : (drivers : List DriverSpec) (c : Configuration) (name : List ℕ) (minor : ℕ) (s : StreamId)
     → leaf_stream drivers c name minor ≡ Ok s → (exists drivers c s ≡ true) × (is_mux drivers s.driver ≡ false)
 leaf_says drivers c name minor s e =

@@ -1,4 +1,4 @@
--- What a close of descriptors touches, and its outcome.
+-- The streams that a close of descriptors touches, and its outcome.
 use Rattle.std.proofs.Common.{◌≡◌, ℕ, ◌+◌, ◌<◌, true, false, ◌||◌, not, List, [], ◌∷◌, ◌++◌, filter, Option, Some, None}
 use Rattle.std.proofs.Common.{Ok, refl, sym, ap, subst, ◌∙◌, arith, inl, inr}
 use Rattle.std.specs.Prelude.{nat_lt}
@@ -33,7 +33,7 @@ use Rattle.smx_tables.proofs.HungSweepLemmas.{sweep_of_left}
 use Rattle.smx_tables.proofs.TouchLemmas.{touched_by, touched_fds, touched_hungs, touched_there}
 use Rattle.smx_tables.proofs.WatchLemmas.{listed_last}
 
--- one descriptor is closed, and its stream stays
+-- if the stream stays when one of its descriptors is closed, each stream that was in the table still is
 pub closed_stays : (t u : StreamTable) (p n : ℕ) → is_last t p n ≡ false → HasOneLess t p n u
     → ((s : StreamId) → is_there t s ≡ true → is_there u s ≡ false → stream_at t.fds p n ≡ Some s)
     → (s : StreamId) → is_there t s ≡ true → is_there_or_touched u [] s ≡ true
@@ -47,14 +47,14 @@ closed_stays t u p n stays less went s there = elim (cases_Bool (is_there u s)) 
   same = ap (λ (fds : List Descriptor). is_named fds s || nat_lt 0 (number_at u.holds s)) less.fds
       ∙ ap (λ (m : ℕ). is_named (filter (λ d. not (is_fd p n d)) t.fds) s || nat_lt 0 m) (less.holds s)
 
--- where each stream that was there still is, so is each hung-up one
+-- if each stream that was in the table still is, so is each hung-up stream
 pub all_stay : (t u : StreamTable) (hungs : List StreamId)
     → ((x : StreamId) → is_hung hungs x ≡ true → is_there t x ≡ true)
     → ((x : StreamId) → is_there t x ≡ true → is_there_or_touched u [] x ≡ true)
     → (x : StreamId) → is_hung hungs x ≡ true → is_there u x ≡ true
 all_stay t u hungs there stays x up = touched_there u [] x refl (stays x (there x up))
 
--- or it is touched
+-- if the stream of a closed descriptor is in a list, each stream that was in the table still is, or is in the list
 pub closed_touches : (t u : StreamTable) (p n : ℕ) (s : StreamId) (ss : List StreamId) → stream_at t.fds p n ≡ Some s
     → list_any (same_stream s) ss ≡ true
     → ((x : StreamId) → is_there t x ≡ true → is_there u x ≡ false → stream_at t.fds p n ≡ Some x) → (x : StreamId)
@@ -67,7 +67,7 @@ closed_touches t u p n s ss at one went x there = elim (cases_Bool (is_there u x
       or_right _ _ (subst (λ (y : StreamId). list_any (same_stream y) ss ≡ true) same one)
 ]
 
--- where the stream of a closed descriptor is listed, the sweep finds all that may have gone
+-- if the stream of a closed descriptor is in a list, the list has all streams that may have ceased to exist
 pub close_touches : (drivers : List DriverSpec) (old : Configuration) (t u : StreamTable) (p n : ℕ) (s : StreamId)
     (ss : List StreamId) → TellsExisting drivers old t → IsSwept drivers old → stream_at t.fds p n ≡ Some s
     → list_any (same_stream s) ss ≡ true
@@ -77,7 +77,8 @@ close_touches drivers old t u p n s ss told swept at one went =
     touched_hungs u ss (record old { fds = u.fds }) u.hungs
     (touched_fds u ss old u.fds (touched_by drivers old t u ss told swept (closed_touches t u p n s ss at one went)))
 
--- all descriptors of a process are closed
+-- if the streams of all closed descriptors of a process are in a list, each stream that was in the table still is, or
+-- is in the list
 pub all_closed_touch : (t u : StreamTable) (p : ℕ) (ss : List StreamId)
     → ((n : ℕ) (s : StreamId) → n < MAX_DESCRIPTORS → stream_at t.fds p n ≡ Some s → list_any (same_stream s) ss ≡ true)
     → ((x : StreamId) → is_there t x ≡ true → is_there u x ≡ false → (n : ℕ) × (n < MAX_DESCRIPTORS)
@@ -89,7 +90,7 @@ all_closed_touch t u p ss named went x there = elim (cases_Bool (is_there u x)) 
 
 -- ---- the outcome of a close
 
--- what was swept after a close is its outcome
+-- the sweep after a close gives the outcome of the close
 pub closes_last : (t : Inside) (m : Machine) (p n : ℕ) (u : StreamTable) (given : List DriverSpec) (d : Configuration)
     (r : Reply) → machine_of t ≡ m → TablesInvariant t → HasOneLess t.lists.streams p n u → given ≡ t.drivers.items
     → d ≡ after_sweep given (record (configuration_of t.lists) { fds = u.fds; hungs = u.hungs })
@@ -103,7 +104,7 @@ closes_last t m p n u given d r e kept less same is left =
     (sweep_of_left t.drivers.items swept u old.hungs (λ s. less.holds s ∙ kept.kept.held s) refl less.hungs
     ∙ ap (λ (fs : List Descriptor). after_sweep t.drivers.items (record old { fds = fs })) less.fds) left)
 
--- a close that leaves nothing to sweep takes its descriptor away, and drops no message
+-- a close that leaves nothing to sweep removes only the descriptor, and drops no message
 pub closes_shared : (drivers : List DriverSpec) (c : Configuration) (process fd : ℕ) (fds : List Descriptor)
     (new : Configuration) (r : Reply) → IsSwept drivers (record c { fds = fds })
     → fds ≡ filter (λ d. not (is_fd process fd d)) c.fds → new ≡ record c { fds = fds } → r ≡ Done []
@@ -114,11 +115,11 @@ closes_shared drivers c process fd fds new r swept e is none =
 
 -- ---- the streams of a process's descriptors
 
--- the streams of the process's descriptors with numbers below k are all among these
+-- the list has the streams of all descriptors of the process with numbers below k
 abbrev pub AreNamed : List Descriptor → ℕ → ℕ → List StreamId → Type 0
 AreNamed fds p k ss = (n : ℕ) (s : StreamId) → n < k → stream_at fds p n ≡ Some s → list_any (same_stream s) ss ≡ true
 
--- one number more, with a stream, adds that stream
+-- a list with one more stream covers the next number, whose descriptor names this stream
 pub one_named_more : (fds : List Descriptor) (p k : ℕ) (t : StreamId) (ss : List StreamId) → stream_at fds p k ≡ Some t
     → AreNamed fds p k ss → AreNamed fds p (k + 1) (ss ++ t ∷ [])
 one_named_more fds p k t ss at h = λ n s lt e. elim (cases_lt n k) [
@@ -131,7 +132,7 @@ one_named_more fds p k t ss at h = λ n s lt e. elim (cases_lt n k) [
       subst (λ (x : StreamId). list_any (same_stream x) (ss ++ t ∷ []) ≡ true) same (listed_last ss t)
 ]
 
--- one number more, which no descriptor has, adds no stream
+-- the same list covers the next number, if there is no descriptor with this number
 pub none_named_more : (fds : List Descriptor) (p k : ℕ) (ss : List StreamId) → stream_at fds p k ≡ None
     → AreNamed fds p k ss → AreNamed fds p (k + 1) ss
 none_named_more fds p k ss at h = λ n s lt e. elim (cases_lt n k) [

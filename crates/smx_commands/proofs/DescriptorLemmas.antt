@@ -1,4 +1,4 @@
--- What the table of streams answers an open or a dup is what the command table says.
+-- The table of streams answers an open or a dup as the command table requires.
 use Rattle.std.proofs.Common.{◌≡◌, ℕ, zero, suc, ◌<◌, Bool, true, false, not, List, [], ◌∷◌, length, map, find, Option}
 use Rattle.std.proofs.Common.{Some, None, Ok, Err, refl, sym, ap, subst, ◌∙◌, arith, inl, inr}
 use Rattle.std.specs.Prelude.{IsOk, nat_le, slice_index}
@@ -27,42 +27,43 @@ use Rattle.smx_commands.specs.Machine.{Machine}
 use Rattle.smx_commands.specs.Refinement.{HasOutcome}
 use Rattle.smx_commands.specs.StreamFaults.{as_step_error}
 
--- a refusal with this fault; or none, where memory is wanted
+-- the outcome is refused with this fault; or it is accepted, and the error is out of memory
 abbrev pub IsRefusedBy : Outcome → StepError → Type 0
 IsRefusedBy o (step_error.Refused f) = o ≡ Err f
 IsRefusedBy o step_error.NoMemory = IsOk o
 
--- where an outcome is refused with this fault, or memory is wanted, and nothing has changed, that is what came of it
+-- if nothing has changed, and the outcome is refused with this fault, or the error is out of memory, `HasOutcome` holds
 pub refused_by : (old new : Machine) (o : Outcome) (e : StepError) → new ≡ old → IsRefusedBy o e
     → HasOutcome old new o (Err e)
 refused_by old new o (step_error.Refused f) same h = (same, h)
 refused_by old new o step_error.NoMemory same h = (same, h)
 
--- the outcome is that of the table's answer: one more descriptor, or the same refusal
+-- the outcome agrees with the answer of the table of streams: one more descriptor, or the same refusal
 abbrev pub Agrees : Configuration → ℕ → Answer → Outcome → Type 0
 Agrees c process (Ok x) o = o ≡ Ok (with_fd c process x.0 x.1, Fd x.0 x.1.minor)
 Agrees c process (Err f) o = IsRefusedBy o (as_step_error f)
 
--- where the table answers a number and a stream, and the outcome agrees, it is one more descriptor
+-- if the table answers with a number and a stream, and the outcome agrees, the outcome is one more descriptor
 pub agrees_ok : (c : Configuration) (process : ℕ) (a : Answer) (o : Outcome) (x : ℕ × StreamId) → Agrees c process a o
     → a ≡ Ok x → o ≡ Ok (with_fd c process x.0 x.1, Fd x.0 x.1.minor)
 agrees_ok c process a o x h e = subst (λ (b : Answer). Agrees c process b o) e h
 
--- where the table answers, and the outcome agrees, that is accepted
+-- if the table answers with a descriptor, and the outcome agrees, the outcome is accepted
 agrees_some : (c : Configuration) (process : ℕ) (a : Answer) (o : Outcome) → Agrees c process a o → IsOk a → IsOk o
 agrees_some c process (Ok x) o h some = rw h refl
 agrees_some c process (Err f) o h some = absurd cc
 
--- where the table refuses, and the outcome agrees, that is refused with the same fault, or memory is wanted
+-- if the table refuses, and the outcome agrees, the outcome is refused with the same fault, or the table is out of
+-- memory
 pub agrees_err : (c : Configuration) (process : ℕ) (a : Answer) (o : Outcome) (f : StreamFault) → Agrees c process a o
     → IsRefused a f → IsRefusedBy o (as_step_error f)
 agrees_err c process a o f h (inl e) = subst (λ (b : Answer). Agrees c process b o) e h
 agrees_err c process a o f h (inr both) =
     subst (λ (g : StreamFault). IsRefusedBy o (as_step_error g)) (sym both.0) (agrees_some c process a o h both.1)
 
--- ---- each of them
+-- ---- the three commands
 
--- the list of the drivers' minors has the minors of each driver at its number
+-- the list of the drivers' numbers of minors has each driver's number at the driver's index
 minors_at : (drivers : List DriverSpec) (n : ℕ)
     → slice_index (map (λ (d : DriverSpec). d.minors) drivers) n ≡ minors_of drivers n
 minors_at [] n = refl
@@ -75,7 +76,7 @@ find_same f g [] h = refl
 find_same f g (n ∷ ns) h =
     elim (cases_Bool (g n)) [ inl t ↦ rw (h n, t) refl | inr u ↦ rw (h n, u) (find_same f g ns h) ]
 
--- where a table tells which streams exist, its least free minor is the least whose stream doesn't exist
+-- if the table has exactly the streams that exist, its lowest free minor is the lowest whose stream doesn't exist
 least_same : (drivers : List DriverSpec) (c : Configuration) (t : StreamTable) (n : ℕ)
     → t.minors ≡ map (λ d. d.minors) drivers → TellsExisting drivers c t
     → least_minor t n ≡ find (λ m. not (exists drivers c (record { driver = n; minor = m })))
@@ -87,7 +88,7 @@ least_same drivers c t n minors told =
     (λ m. not (exists drivers c (record { driver = n; minor = m }))) (range_with_len 0 (minors_of drivers n))
     (λ m. ap not (told (record { driver = n; minor = m }))))
 
--- there is such a driver
+-- a driver of the list is a driver of the table
 has_driver : (drivers : List DriverSpec) (t : StreamTable) (n : ℕ) → t.minors ≡ map (λ d. d.minors) drivers
     → n < length drivers → nat_le (length t.minors) n ≡ false
 has_driver drivers t n minors lt =
@@ -97,13 +98,13 @@ has_driver drivers t n minors lt =
       many [] = refl
       many (d ∷ ds) = ap suc (many ds)
 
--- the free number of a descriptor is the least that the table has free
+-- the free descriptor number of the model is the lowest free number of the table
 number : (c : Configuration) (t : StreamTable) (process : ℕ) → t.fds ≡ c.fds → (k : Option ℕ)
     → least_fd t.fds process ≡ k → free_fd c process ≡ or_fault TooManyDescriptors k
 number c t process same k e =
     ap (or_fault TooManyDescriptors) (ap (λ (fds : List Descriptor). least_fd fds process) (sym same) ∙ e)
 
--- what the table of streams answers a clone open agrees with the outcome of the command
+-- the answer of the table of streams to a clone open agrees with the outcome of the command
 pub clone_agrees : (drivers : List DriverSpec) (c : Configuration) (t : StreamTable) (process n : ℕ) (name : List ℕ)
     → t.minors ≡ map (λ d. d.minors) drivers → TellsExisting drivers c t → t.fds ≡ c.fds
     → driver_of drivers name ≡ Ok n → n < length drivers
@@ -121,7 +122,7 @@ clone_agrees drivers c t process n name minors told same found lt =
       by (Some m) (Some k) e g =
           rw (has_driver drivers t n minors lt, e, g, found, free (Some m) e, number c t process same (Some k) g) refl
 
--- what the table of streams answers an open of a minor agrees with the outcome of the command
+-- the answer of the table of streams to an open of a minor agrees with the outcome of the command
 pub minor_agrees : (drivers : List DriverSpec) (c : Configuration) (t : StreamTable) (process n minor : ℕ)
     (name : List ℕ) → t.minors ≡ map (λ d. d.minors) drivers → t.fds ≡ c.fds
     → driver_of drivers name ≡ Ok n → n < length drivers → nat_le (minors_of drivers n) minor ≡ false

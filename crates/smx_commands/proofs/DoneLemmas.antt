@@ -1,4 +1,4 @@
--- What a swept change comes to.
+-- The outcomes of changes after a sweep.
 use Rattle.std.proofs.Common.{◌≡◌, ℕ, Bool, true, false, ◌&&◌, not, eqb, List, [], filter}
 use Rattle.std.proofs.Common.{Ok, Err, refl, rules, ap, ◌∙◌}
 use Rattle.std.specs.List.{list_any}
@@ -28,27 +28,27 @@ use Rattle.smx_tables.proofs.ExistingLemmas.{all_fewer}
 use Rattle.smx_commands.specs.UnlinkTargets.{unlinks}
 use Rattle.smx_commands.proofs.AcceptedLemmas.{leaf_says}
 
--- what a body has swept, by drivers that it was given, with a reply that names the serials that left, is what the
--- change comes to, where their sweeps come to the same
+-- a swept configuration, with a reply that names the serials that left, is the outcome of a change, if the sweep of the
+-- changed configuration has the same result
 pub swept_is : (drivers given : List DriverSpec) (c new changed d : Configuration) (r : Reply) → given ≡ drivers
     → d ≡ after_sweep given changed → after_sweep drivers changed ≡ after_sweep drivers new
     → r ≡ Done (serials_that_left c.flow d.flow) → done_outcome drivers c new ≡ Ok (d, r)
 swept_is drivers given c new changed d r same is left gone =
     let swept = is ∙ ap (λ (ds : List DriverSpec). after_sweep ds changed) same ∙ left in rw (gone, swept) refl
 
--- ---- without a few bindings, or with other routes, nothing is left to sweep
+-- ---- fewer bindings or other routes leave nothing to sweep
 
--- with fewer bindings, what is swept is still swept
+-- a swept configuration with fewer bindings is swept
 fewer_binds : (drivers : List DriverSpec) (c : Configuration) (t : Binding → Bool) → IsSwept drivers c
     → IsSwept drivers (record c { binds = filter t c.binds })
 fewer_binds drivers c t h = search (all_fewer, rules)
 
--- with other routes, what is swept is still swept
+-- a swept configuration with other routes is swept
 other_routes : (drivers : List DriverSpec) (c : Configuration) (routes : List Route) → IsSwept drivers c
     → IsSwept drivers (record c { routes = routes })
 other_routes drivers c routes h = search rules
 
--- a route that is not refused replaces its driver's route for the address, and drops no message
+-- a route that is not refused replaces the driver's route for the address, and drops no message
 pub route_does : (drivers : List DriverSpec) (c : Configuration) (process fd addr id : ℕ) (s : StreamId)
     (new : Configuration) (r : Reply) → IsSwept drivers c
     → mux_stream drivers c process fd ≡ Ok s
@@ -62,7 +62,7 @@ pub route_does : (drivers : List DriverSpec) (c : Configuration) (process fd add
 route_does drivers c process fd addr id s new r clean e there is none =
     rw (e, there, is, none) (done_idle drivers c _ (other_routes drivers c _ clean) refl)
 
--- with one more binding, of a stream that exists, what is swept is still swept
+-- a swept configuration with one more binding, of a stream that exists, is swept
 one_more_bind : (drivers : List DriverSpec) (c : Configuration) (b : Binding)
     → exists drivers c (record { driver = b.driver; minor = b.minor }) ≡ true → IsSwept drivers c
     → IsSwept drivers (record c { binds = with_inserted bind_before c.binds b })
@@ -82,7 +82,7 @@ bind_does drivers c process fd addr s new r clean e there is none = rw (e, there
     (done_idle drivers c _ (one_more_bind drivers c (record { driver = s.driver; addr = addr; minor = s.minor })
     (mux_exists drivers c process fd s e) clean) refl)
 
--- an unbind that is not refused takes the binding of its stream away, and drops no message
+-- an unbind that is not refused removes the binding of its stream, and drops no message
 pub unbind_does : (drivers : List DriverSpec) (c : Configuration) (process fd : ℕ) (s : StreamId) (new : Configuration)
     (r : Reply) → IsSwept drivers c → mux_stream drivers c process fd ≡ Ok s
     → list_any (λ b. eqb b.driver s.driver && eqb b.minor s.minor) c.binds ≡ true
@@ -91,14 +91,14 @@ pub unbind_does : (drivers : List DriverSpec) (c : Configuration) (process fd : 
 unbind_does drivers c process fd s new r clean e there is none =
     rw (e, there, is, none) (done_idle drivers c _ (fewer_binds drivers c _ clean) refl)
 
--- where nothing is bound to the stream an unbind is refused
+-- an unbind is refused if the stream has no binding
 pub unbind_refused : (drivers : List DriverSpec) (c : Configuration) (process fd : ℕ) (s : StreamId)
     → mux_stream drivers c process fd ≡ Ok s
     → list_any (λ b. eqb b.driver s.driver && eqb b.minor s.minor) c.binds ≡ false
     → outcome drivers c process (command.Unbind fd) ≡ Err Unbound
 unbind_refused drivers c process fd s e none = rw (e, none) refl
 
--- an unroute that is not refused takes its driver's route for the address away, and drops no message
+-- an unroute that is not refused removes the driver's route for the address, and drops no message
 pub unroute_does : (drivers : List DriverSpec) (c : Configuration) (process fd addr : ℕ) (s : StreamId)
     (new : Configuration) (r : Reply) → IsSwept drivers c
     → mux_stream drivers c process fd ≡ Ok s
@@ -108,7 +108,7 @@ pub unroute_does : (drivers : List DriverSpec) (c : Configuration) (process fd a
 unroute_does drivers c process fd addr s new r clean e there is none =
     rw (e, there, is, none) (done_idle drivers c _ (other_routes drivers c _ clean) refl)
 
--- where the driver has no route for the address an unroute is refused
+-- an unroute is refused if the driver has no route for the address
 pub unroute_refused : (drivers : List DriverSpec) (c : Configuration) (process fd addr : ℕ) (s : StreamId)
     → mux_stream drivers c process fd ≡ Ok s
     → list_any (λ x. eqb x.driver s.driver && eqb x.addr addr) c.routes ≡ false
@@ -117,7 +117,7 @@ unroute_refused drivers c process fd addr s e none = rw (e, none) refl
 
 -- ---- a hangup
 
--- a hangup that is not refused hangs its stream up, and drops no message
+-- a hangup that is not refused hangs up its stream, and drops no message
 pub hangup_does : (drivers : List DriverSpec) (c : Configuration) (process : ℕ) (name : List ℕ) (minor : ℕ)
     (s : StreamId) (new : Configuration) (r : Reply) → IsSwept drivers c
     → leaf_stream drivers c name minor ≡ Ok s
@@ -127,15 +127,15 @@ hangup_does drivers c process name minor s new r clean e is none = rw (e, is, no
     (done_idle drivers c _
     (hung_swept drivers c s clean (leaf_says drivers c name minor s e).0) refl)
 
--- ---- both kinds of links at once
+-- ---- both kinds of links
 
--- the outcome of unlink is that of an unlinking of ordinary links
+-- the outcome of `unlink` is the removal of ordinary links
 pub unlink_is : (drivers : List DriverSpec) (c : Configuration) (process fd : ℕ) (w : Which)
     → outcome drivers c process (command.Unlink fd w) ≡ unlinks drivers c process fd w kind.Ordinary
 unlink_is drivers c process fd which.All = refl
 unlink_is drivers c process fd (which.Id id) = refl
 
--- the outcome of punlink is that of an unlinking of persistent links
+-- the outcome of `punlink` is the removal of persistent links
 pub punlink_is : (drivers : List DriverSpec) (c : Configuration) (process fd : ℕ) (w : Which)
     → outcome drivers c process (command.Punlink fd w) ≡ unlinks drivers c process fd w kind.Persistent
 punlink_is drivers c process fd which.All = refl

@@ -1,4 +1,4 @@
--- No more serials leave a flow than are in it.
+-- At most as many serials leave a flow as are in it.
 use Rattle.std.proofs.Common.{◌≡◌, ℕ, ◌≤◌, Bool, not, eqb, ltb, List, [], ◌∷◌, length, filter, refl, arith}
 use Rattle.std.specs.List.{list_any}
 use Rattle.std.proofs.lemmas.List.{length-map}
@@ -7,12 +7,12 @@ use Rattle.smx_model.specs.Ordered.{in_rising_order}
 use Rattle.smx_model.specs.Removal.{serials, serials_that_left}
 use Rattle.smx_tables.proofs.LengthLemmas.{longer_by_one, not_more}
 
--- in rising order there are as many numbers as there were
+-- a list in rising order is as long as before
 as_many : (ns : List ℕ) → length (in_rising_order ns) ≡ length ns
 as_many [] = refl
 as_many (n ∷ ns) = omega (arith, longer_by_one ltb (in_rising_order ns) _ n refl, as_many ns)
 
--- no more serials leave a flow than are in it
+-- at most as many serials leave a flow as are in it
 pub few_left : (old new : List QueuedMessage) → length (serials_that_left old new) ≤ length old
 few_left old new = omega (
   arith,

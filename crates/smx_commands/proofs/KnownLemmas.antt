@@ -1,4 +1,4 @@
--- What exists has a driver, and a minor that this driver has.
+-- A stream that exists has a driver and a minor that the list of drivers has.
 use Rattle.std.proofs.Common.{◌≡◌, ℕ, zero, suc, ◌<◌, ◌≤◌, Bool, true, false, ◌&&◌, not, List, [], ◌∷◌, length, find}
 use Rattle.std.proofs.Common.{Ok, subst, arith, inl, inr}
 use Rattle.std.specs.Option.{option_map}
@@ -18,7 +18,7 @@ use Rattle.smx_model.specs.Outcomes.{or_fault}
 use Rattle.smx_model.specs.Standing.{is_persistent, is_named, stands_within, exists}
 use Rattle.smx_tables.proofs.AboveLemmas.{stream_is}
 
--- the stream that a passing element has is known
+-- if each item's stream is known, and an item that passes a test has this stream, this stream is known
 any_known : {X : Type 0} (drivers : List DriverSpec) (stream : X → StreamId) (t : X → Bool) (s : StreamId) (xs : List X)
     → ((x : X) → t x ≡ true → stream x ≡ s)
     → AllByRecursion (λ x. IsKnown drivers (stream x)) xs → list_any t xs ≡ true → IsKnown drivers s
@@ -26,7 +26,7 @@ any_known drivers stream t s [] f k h = absurd cc
 any_known drivers stream t s (x ∷ xs) f k h = elim (or_cases (t x) (list_any t xs) h)
     [ inl a ↦ subst (IsKnown drivers) (f x a) k.0 | inr b ↦ any_known drivers stream t s xs f k.1 b ]
 
--- a stream that stands is one that the drivers have, where all streams of descriptors and below links are
+-- if all streams of descriptors and all lower streams of links are known, a stream that exists within n climbs is known
 stands_known : (drivers : List DriverSpec) (fds : List Descriptor) (links : List Link) (n : ℕ) (s : StreamId)
     → AllByRecursion (λ d. IsKnown drivers d.stream) fds → AllByRecursion (λ l. IsKnown drivers l.lower) links
     → stands_within fds links n s ≡ true → IsKnown drivers s
@@ -48,7 +48,7 @@ stands_known drivers fds links (suc n) s kf kl
           stream_is l.lower s (and_parts (same_stream l.lower s) (stands_within fds links n l.ctl) r.1).0) kl b
     ]
 
--- a stream that exists is one that the drivers have
+-- a stream that exists is known
 pub exists_known : (drivers : List DriverSpec) (c : Configuration) (s : StreamId) → AreStreamsKnown drivers c
     → exists drivers c s ≡ true → IsKnown drivers s
 exists_known drivers c s k h = stands_known drivers c.fds c.links (length drivers) s
@@ -61,7 +61,7 @@ pub unknown_is_not : (drivers : List DriverSpec) (c : Configuration) (s : Stream
 unknown_is_not drivers c s k past =
     false_from_ne_true _ (λ t. let known = exists_known drivers c s k t in omega (arith, known.1))
 
--- the stream of a descriptor is known
+-- the stream of a descriptor is known, if the streams of all descriptors are
 found_known : (drivers : List DriverSpec) (process fd : ℕ) (fds : List Descriptor) (s : StreamId)
     → AllByRecursion (λ d. IsKnown drivers d.stream) fds
     → or_fault BadDescriptor (option_map (λ d. d.stream) (find (is_fd process fd) fds)) ≡ Ok s → IsKnown drivers s
@@ -71,13 +71,13 @@ found_known drivers process fd (d ∷ ds) s k h = elim (cases_Bool (is_fd proces
   | inr f ↦ found_known drivers process fd ds s k.1 (rw f at h)
 ]
 
--- the stream of a descriptor is one that the drivers have
+-- the stream of a descriptor is known
 pub stream_known : (drivers : List DriverSpec) (c : Configuration) (process fd : ℕ) (s : StreamId)
     → AreStreamsKnown drivers c → stream_of c process fd ≡ Ok s → IsKnown drivers s
 stream_known drivers c process fd s k h =
     found_known drivers process fd c.fds s (recursion_from_All (λ d. IsKnown drivers d.stream) c.fds k.fds) h
 
--- the driver of a descriptor's stream is there
+-- the driver of a descriptor's stream exists
 pub driver_known : (drivers : List DriverSpec) (c : Configuration) (process fd : ℕ) (s : StreamId)
     → AreStreamsKnown drivers c → stream_of c process fd ≡ Ok s → s.driver < length drivers
 driver_known drivers c process fd s k h = (stream_known drivers c process fd s k h).0

@@ -9,3 +9,4 @@ pub mod MoveLemmas
 pub mod DoneLemmas
 pub mod ClosingLemmas
 pub mod TablesLemmas
+pub mod PlaceNumberLemmas

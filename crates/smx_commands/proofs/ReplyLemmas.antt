@@ -1,4 +1,4 @@
--- Replies that carry no bytes and no serials, and the room for them.
+-- Replies without bytes and serials, and the room for them.
 use Rattle.std.proofs.Common.{◌≡◌, ℕ, Bool, true, false, not, List, [], ◌∷◌, Result, Ok, Err}
 use Rattle.std.proofs.Common.{refl, rules, sym, ◌∙◌}
 use Rattle.std.specs.Prelude.{◌≢◌, IsTrue}
@@ -15,22 +15,22 @@ use Rattle.smx_model.specs.Outcomes.{Outcome, ◌>>=◌}
 use Rattle.smx_commands.specs.SecondReplies.{HasRoomFor, HasRoomForReply, bytes_of}
 use Rattle.smx_commands.specs.declared.second_reply.ReplyRoom.{ReplyRoom}
 
--- neither delivers a message nor may drop one
+-- the command neither delivers a message nor may drop one
 abbrev pub carries_nothing : Command → Bool
 carries_nothing (command.Read fd) = false
 carries_nothing (command.Transmit name minor) = false
 carries_nothing k = not (may_drop k)
 
--- the reply to an outcome carries no bytes
+-- the reply to the outcome has no bytes
 record HasNoBytes (drivers : List DriverSpec) (c : Configuration) (o : Outcome) : Type 0 where
   pub none : bytes_of (after_outcome drivers c o).1 ≡ []
 
--- an accepted outcome whose reply carries no bytes has none
+-- an accepted outcome has no bytes if its reply has none
 nothing : (drivers : List DriverSpec) (c : Configuration) (x : Configuration × Reply) → bytes_of x.1 ≡ []
     → HasNoBytes drivers c (Ok x)
 nothing drivers c x h = record { none = h }
 
--- what holds of each outcome behind a step holds of the whole
+-- an outcome has no bytes if each outcome after its first step has none
 behind : {A : Type 0} (drivers : List DriverSpec) (c : Configuration) (a : Result A Fault) (f : A → Outcome)
     → ((v : A) → HasNoBytes drivers c (f v)) → HasNoBytes drivers c (a >>= f)
 behind drivers c (Ok v) f h = h v
@@ -54,12 +54,12 @@ drops_none (command.Read fd) h = refl
 drops_none (command.Transmit name minor) h = refl
 drops_none k h = not-true _ h
 
--- a list of numbers that can't have some has none
+-- a list of numbers that can't be non-empty is empty
 not_some : (ns : List ℕ) → ((ns ≡ [] → ⊥) → ⊥) → ns ≡ []
 not_some [] h = refl
 not_some (n ∷ ns) h = absurd (h (λ e. cc))
 
--- for the reply of a command that carries nothing no room is enough
+-- the reply of a command that carries nothing needs no room
 pub nothing_fits : (drivers : List DriverSpec) (c : Configuration) (process : ℕ) (k : Command) (room : ReplyRoom)
     → carries_nothing k ≡ true → (dropped_by (step drivers c process k).1 ≢ [] → IsTrue (may_drop k))
     → HasRoomFor 0 0 room

@@ -1,4 +1,4 @@
--- What is known of the value of some tables, and of their fields.
+-- The value of tables, and their fields.
 use Rattle.smx_commands.specs.declared.tables.Tables.TheInside.{Inside}
 use Rattle.std.proofs.Common.{◌≡◌, ℕ, List, length, map, Ok, ap, subst, sym, ◌∙◌}
 use Rattle.smx_types.specs.declared.driver.DriverSpec.{DriverSpec}
@@ -10,12 +10,12 @@ use Rattle.smx_tables.specs.ModelOfLists.{configuration_of}
 use Rattle.smx_commands.specs.Machine.{Machine}
 use Rattle.smx_commands.specs.ModelOfTables.{machine_of, TablesInvariant}
 
--- where the value is sound, the fields are
+-- if the value is sound, the fields are
 pub sound_inside : (t : Inside) (m : Machine) → machine_of t ≡ m → IsSound m.drivers m.configuration
     → IsSound t.drivers.items (configuration_of t.lists)
 sound_inside t m e h = subst (λ (x : Machine). IsSound x.drivers x.configuration) (sym e) h
 
--- what is accepted over the fields is accepted over the value
+-- an outcome accepted for the fields is accepted for the value
 pub accepted : (t : Inside) (m : Machine) (new : Configuration) (o : Machine → Outcome) (r : Reply) → machine_of t ≡ m
     → o (machine_of t) ≡ Ok (new, r) → (t.drivers.items ≡ m.drivers) × (o m ≡ Ok (new, r))
 accepted t m new o r e h =
@@ -26,7 +26,7 @@ pub table_over : (t : Inside) (m : Machine) → machine_of t ≡ m → TablesInv
     → t.lists.links.drivers ≡ length m.drivers
 table_over t m e h = ap (λ (x : ℕ × List ℕ × List DriverSpec). x.0) h.sizes ∙ ap (λ (x : Machine). length x.drivers) e
 
--- the table of streams has their minors
+-- the table of streams has the minors of the drivers
 pub streams_over : (t : Inside) (m : Machine) → machine_of t ≡ m → TablesInvariant t
     → t.lists.streams.minors ≡ map (λ d. d.minors) m.drivers
 streams_over t m e h = ap (λ (x : ℕ × List ℕ × List DriverSpec). x.1) h.sizes

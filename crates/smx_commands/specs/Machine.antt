@@ -1,16 +1,16 @@
--- A configuration with its drivers, and the commands that take no memory.
+-- A configuration with its drivers, and the commands that never allocate.
 use Rattle.std.specs.Prelude.{Bool, true, false, List}
 use Rattle.smx_types.specs.declared.command.Command.{Command}
 use Rattle.smx_types.specs.declared.command.Command.TheVariants as command
 use Rattle.smx_types.specs.declared.driver.DriverSpec.{DriverSpec}
 use Rattle.smx_model.specs.Configuration.{Configuration}
 
--- the drivers never change
+-- a configuration over some drivers, which never change
 pub record Machine : Type 0 where
   pub drivers : List DriverSpec
   pub configuration : Configuration
 
--- commands for which all room is there already
+-- the command does not allocate
 abbrev pub takes_no_memory : Command → Bool
 takes_no_memory (command.OpenClone name) = false
 takes_no_memory (command.OpenMinor name minor) = false

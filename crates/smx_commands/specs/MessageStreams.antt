@@ -1,4 +1,4 @@
--- The stream at which a command sends or takes a message: it is looked up once.
+-- The stream at which a command sends or takes a message. It is looked up once.
 use Rattle.std.specs.Prelude.{ℕ, List, Result, Err}
 use Rattle.smx_types.specs.declared.command.Command.{Command}
 use Rattle.smx_types.specs.declared.command.Command.TheVariants as command
@@ -9,7 +9,7 @@ use Rattle.smx_types.specs.declared.stream.StreamId.{StreamId}
 use Rattle.smx_model.specs.Configuration.{Configuration}
 use Rattle.smx_model.specs.Lookups.{free_stream, live_leaf, live_stream}
 
--- the stream, or why there is none; of a command that neither sends nor takes a message, a fault that nothing tells
+-- the stream, or the refusal; for a command that neither sends nor takes a message, a fault that no reply reports
 abbrev pub message_stream : List DriverSpec → Configuration → ℕ → Command → Result StreamId Fault
 message_stream drivers c process (command.OpenClone name) = Err BadDescriptor
 message_stream drivers c process (command.OpenMinor name minor) = Err BadDescriptor

@@ -1,4 +1,4 @@
--- What the part of a step that is a command leaves, before messages move on.
+-- The effect of a command, before messages move on.
 use Rattle.std.specs.Prelude.{◌≡◌, ℕ, Result, Ok, Err, IsOk}
 use Rattle.smx_types.specs.declared.command.Command.{Command}
 use Rattle.smx_types.specs.declared.reply.Fault.{Fault}
@@ -9,23 +9,23 @@ use Rattle.smx_commands.specs.Machine.{Machine}
 use Rattle.smx_commands.specs.declared.step_error.StepError.{StepError}
 use Rattle.smx_commands.specs.declared.step_error.StepError.TheVariants as step_error
 
--- accepted, with this outcome; or refused; or a growth was refused of what was accepted: then nothing has changed
+-- accepted with this outcome; or refused, or out of memory for what would be accepted, and then nothing has changed
 abbrev pub HasOutcome : Machine → Machine → Outcome → Result Reply StepError → Type 0
 HasOutcome old new o (Ok r) = (new.drivers ≡ old.drivers) × (o ≡ Ok (new.configuration, r))
 HasOutcome old new o (Err (step_error.Refused f)) = (new ≡ old) × (o ≡ Err f)
 HasOutcome old new o (Err step_error.NoMemory) = (new ≡ old) × IsOk o
 
--- a command comes to the outcome of the command table
+-- the effect of the command is the outcome of the command table
 abbrev pub Refines : Machine → Machine → ℕ → Command → Result Reply StepError → Type 0
 Refines old new process command result =
     HasOutcome old new (outcome old.drivers old.configuration process command) result
 
--- the answer of a command whose reply, if it is accepted, is written into a place
+-- the result of a command whose reply, if it is accepted, is written into a place
 abbrev pub answer_of : Result (Unit {0}) StepError → Reply → Result Reply StepError
 answer_of (Ok _) reply = Ok reply
 answer_of (Err e) _ = Err e
 
--- the answer of a command that takes no memory, among those that may take some
+-- the result of a command that does not allocate, as one of a command that may
 abbrev pub as_step_error : Result Reply Fault → Result Reply StepError
 as_step_error (Ok r) = Ok r
 as_step_error (Err f) = Err (step_error.Refused f)

@@ -1,4 +1,4 @@
--- Sending and taking a message, once it is known at which stream. No public clause needs this.
+-- Sending and taking a message at a stream that is known. No public clause needs this.
 use Rattle.std.specs.Prelude.{ℕ, Bool, ◌&&◌, ◌||◌, not, ◌==◌, nat_lt, nat_le, List, length, Result}
 use Rattle.std.specs.Option.{is_some}
 use Rattle.smx_types.specs.declared.driver.DriverSpec.{DriverSpec}
@@ -16,25 +16,25 @@ use Rattle.smx_model.specs.Hangups.{is_hung}
 use Rattle.smx_model.specs.Outcomes.{◌>>=◌, refuse, Outcome}
 use Rattle.smx_model.specs.Queues.{first_message, is_full}
 
--- a message of these bytes may be sent to the place, or the refusal that applies
+-- a message with these bytes may be sent to the place; or the first refusal that applies
 abbrev pub may_send : List DriverSpec → Configuration → Place → List ℕ → Result (Unit {0}) Fault
 may_send drivers c p bytes = do
   size ← refuse BadSize ((length bytes == 0) || nat_lt (max_of drivers p.stream.driver) (length bytes))
   refuse Full (is_full c p || nat_le NUMBER_END c.next_serial)
 
--- a message is sent to a side of the stream that a command names, if it names one
+-- sends a message to a side of the stream that the command names, or refuses it
 abbrev pub sent_to : List DriverSpec → Configuration → Result StreamId Fault → Side → ℕ → List ℕ → Outcome
 sent_to drivers c named on addr bytes = do
   s ← named
   send_outcome drivers c (record { stream = s; side = on }) addr bytes
 
--- the first message at a side of the stream that a command names is delivered, if it names one
+-- delivers the first message on a side of the stream that the command names, or refuses
 abbrev pub received_from : List DriverSpec → Configuration → Result StreamId Fault → Side → Outcome
 received_from drivers c named on = do
   s ← named
   receive_outcome drivers c (record { stream = s; side = on })
 
--- the stream that a command names is read, if it names one: its first message, or the end of file
+-- reads the stream that the command names: its first message, or the end of file; or refuses
 abbrev pub read_from : List DriverSpec → Configuration → Result StreamId Fault → Outcome
 read_from drivers c named = do
   s ← named

@@ -1,4 +1,4 @@
-//! What a command answers, as the command table has it: a refusal, or that it is done.
+//! Results of commands: a refusal, or a reply without dropped messages.
 
 ghost use Rattle.std.specs.Prelude.{◌≡◌, []};
 ghost use Rattle.smx_types.specs.declared.reply.Reply.TheVariants.{Done};
@@ -7,14 +7,14 @@ ghost use Rattle.smx_model.specs.Outcomes.{refuse};
 use smx_types::{Fault, Reply, Serials};
 use std::alloc::Global;
 
-// Refused with this fault where the test holds.
+// Refuses with this fault if the test is true.
 pub fn refuse(fault: Fault, test: bool) -> Result<(), Fault>
     ensures { result ≡ refuse fault test }
 {
     if test { Err(fault) } else { Ok(()) }
 }
 
-// Done, with no message dropped. Takes no memory.
+// Returns `Reply::Done` without dropped messages. Does not allocate.
 pub fn done(alloc: Global) -> Reply
     ensures { result ≡ Done [] }
 {

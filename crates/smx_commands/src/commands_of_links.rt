@@ -1,9 +1,8 @@
-//! Linking streams below a driver, and removing links.
+//! Making and removing links.
 
 ghost use Rattle.std.specs.Prelude.{◌≡◌, map, filter, IfOk, Ok};
 ghost use Rattle.std.specs.List.{list_any};
 ghost use Rattle.smx_types.specs.declared.command.Which.TheVariants as which;
-ghost use Rattle.smx_types.specs.declared.stream.StreamId.{StreamId as StreamValue};
 ghost use Rattle.smx_model.specs.Commands.{link_outcome};
 ghost use Rattle.smx_model.specs.KeptConfigurations.{IsSound};
 ghost use Rattle.smx_commands.specs.UnlinkTargets.{may_have_links, may_unlink, is_target, are_there, unlinks};
@@ -21,7 +20,7 @@ use smx_tables::sweep::{reserve_for_sweep, sweep_and_reply};
 use smx_types::{Fault, Link, LinkKind, Process, Reply, StreamId, Which};
 use std::alloc::{AllocError, Global};
 
-// Whether a command for links of this kind on this stream is for the link.
+// Returns whether the command that removes links of this kind may remove `link` through `stream`.
 fn may_unlink(kind: LinkKind, stream: StreamId, link: &Link) -> bool
     ensures { result ≡ may_unlink kind stream link.now }
 {
@@ -31,17 +30,7 @@ fn may_unlink(kind: LinkKind, stream: StreamId, link: &Link) -> bool
     }
 }
 
-// The links among which those are that a command for links of this kind may be for.
-fn links_of(links: &LinkTable, kind: LinkKind) -> &[Link]
-    ensures { (s : StreamValue) → filter (may_unlink kind s) result.now ≡ filter (may_unlink kind s) links.now.links }
-{
-    match kind {
-        LinkKind::Ordinary => links.ordinary(),
-        LinkKind::Persistent => links.links(),
-    }
-}
-
-// The ids of all links that such a command may be for.
+// Returns the ids of all links that this command may remove through `stream`.
 fn all_targets(
     alloc: Global,
     links: &LinkTable,
@@ -51,7 +40,7 @@ fn all_targets(
     ensures { IfOk result (λ v. v.items ≡ map (λ l. l.id) (filter (may_unlink kind stream) links.now.links)) }
 {
     let mut ids = Vec::new(alloc);
-    for link in links_of(links, kind) {
+    for link in links.links() {
         if may_unlink(kind, stream, link) {
             ids.push(link.id)?;
         }
@@ -59,7 +48,7 @@ fn all_targets(
     Ok(ids)
 }
 
-// The ids of the links that the command is for.
+// Returns the ids of the links that the command removes.
 fn targets(
     alloc: Global,
     links: &LinkTable,
@@ -77,7 +66,7 @@ fn targets(
     }
 }
 
-// Whether a command for links of this kind on this stream is for the link with the id.
+// Returns whether there is a link with this id that the command may remove through `stream`.
 fn has_target(links: &LinkTable, id: u32, kind: LinkKind, stream: StreamId) -> bool
     ensures { result ≡ list_any (is_target (which.Id id) kind stream) links.now.links }
 {
@@ -89,7 +78,7 @@ fn has_target(links: &LinkTable, id: u32, kind: LinkKind, stream: StreamId) -> b
 }
 
 impl Tables {
-    // Whether streams may be linked below this one; the first refusal that applies.
+    // Checks whether streams may be linked below this one. Fails with the first refusal that applies.
     fn check_upper(&self, upper: StreamId) -> Result<(), Fault>
         ensures { result ≡ may_have_links self.now.drivers self.now.configuration upper }
     {
@@ -118,7 +107,7 @@ impl Tables {
         Ok(Reply::Id(id))
     }
 
-    // Whether links are there that are named; links of no id need not be.
+    // Fails if the command names an id, and may remove no link with this id. Without an id there need not be a link.
     pub(crate) fn check_targets(
         &self,
         which: Which,

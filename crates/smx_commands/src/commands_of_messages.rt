@@ -1,4 +1,4 @@
-//! Writing, reading, flushing, and the device's side.
+//! Writing, reading and flushing messages, and the device's side.
 
 ghost use Rattle.std.specs.Prelude.{◌≡◌, ◌≢◌, ◌==◌, ◌||◌, nat_lt, nat_le, length, IfOk, Err};
 ghost use Rattle.smx_types.specs.declared.command.Command.TheVariants.{Flush};
@@ -23,7 +23,7 @@ use smx_types::{
     Bytes, DriverSpec, Fault, Message, NUMBER_END, Place, Process, Reply, Side, Sides, StreamId,
 };
 
-// Whether there are no bytes, or more than the driver lets a message have.
+// Returns whether there are no bytes, or more than the driver allows for a message.
 fn has_bad_size(drivers: &[DriverSpec], place: Place, bytes: &Bytes) -> bool
     ensures { result ≡ ((length bytes.now == 0) || nat_lt (max_of drivers.now place.stream.driver) (length bytes.now)) }
 {
@@ -32,7 +32,7 @@ fn has_bad_size(drivers: &[DriverSpec], place: Place, bytes: &Bytes) -> bool
 }
 
 impl Tables {
-    // Whether the place is full, or there is no next serial.
+    // Returns whether the place is full, or no serial is left.
     fn has_no_room(&self, place: Place) -> bool
         ensures { result
             ≡ (is_full self.now.configuration place || nat_le NUMBER_END self.now.configuration.next_serial) }
@@ -40,7 +40,7 @@ impl Tables {
         self.is_full(place) || self.lists.next_serial >= NUMBER_END
     }
 
-    // Whether bytes may be sent to the place; the first refusal that applies.
+    // Checks whether the bytes may be sent to the place. Fails with the first refusal that applies.
     fn check_send(&self, place: Place, bytes: &Bytes) -> Result<(), Fault>
         ensures { result ≡ may_send self.now.drivers self.now.configuration place bytes.now }
     {
@@ -60,7 +60,7 @@ impl Tables {
             (send_outcome self.old.drivers self.old.configuration place addr bytes.now) (answer_of result reply.new) }
     {
         self.check_send(place, bytes)?;
-        let bytes = self.lists.queues.copied_bytes(bytes.as_slice())?;
+        let bytes = bytes.copy(self.alloc)?;
         self.lists.queues.reserve_one()?;
         let serial = self.lists.next_serial;
         let message = Message {
@@ -74,7 +74,7 @@ impl Tables {
         Ok(())
     }
 
-    // A message that a command sends to a side of the stream that it names.
+    // Sends a message to a side of the stream that the command names.
     pub(crate) fn send(
         &mut self,
         named: Result<StreamId, Fault>,
@@ -108,27 +108,7 @@ impl Tables {
         Ok(())
     }
 
-    /// Keeps the memory of a reply that nobody needs any more: that of the bytes that were got, where they are few, for a
-    /// message to come; and that of the serials of what was dropped, if there are any, for those that will be. The tables
-    /// stay as they are to every clause. Takes no memory.
-    #[inline(always)]
-    pub fn take_back(&mut self, reply: Reply)
-        ensures { self.new ≡ self.old }
-    {
-        match reply {
-            Reply::Got { bytes, .. } => self.lists.queues.keep_bytes(bytes),
-            Reply::Done { dropped } => {
-                let serials = dropped.into_vec();
-                if serials.capacity() > 0 {
-                    self.room.dropped = serials;
-                }
-            }
-            Reply::Fd { .. } | Reply::Id(_) | Reply::Took { .. } => {}
-            Reply::Eof | Reply::Fault(_) => {}
-        }
-    }
-
-    // Whether the stream has hung up, and there is nothing to read.
+    // Returns whether the stream has hung up and there is nothing to read.
     pub(crate) fn is_at_end(&self, stream: StreamId) -> bool
         ensures { result ≡ is_at_end self.now.configuration stream }
     {
@@ -137,8 +117,8 @@ impl Tables {
             && !self.lists.queues.has_messages(Place { stream, side })
     }
 
-    // The first message of the read side of the stream that a command names; the end of file, where that has hung up
-    // and has none.
+    // Replies with the first message on the read side of the stream that the command names, and removes it. If the
+    // stream has hung up and has no message there, replies with the end of file.
     pub(crate) fn read(
         &mut self,
         named: Result<StreamId, Fault>,
@@ -157,7 +137,7 @@ impl Tables {
         self.receive_from(Place { stream, side }, reply)
     }
 
-    // The message that a command takes from a side of the stream that it names.
+    // Replies with the first message on a side of the stream that the command names, and removes it.
     pub(crate) fn receive(
         &mut self,
         named: Result<StreamId, Fault>,

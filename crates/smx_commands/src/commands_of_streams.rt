@@ -1,4 +1,4 @@
-//! Opening, sharing and closing streams.
+//! Opening, duplicating and closing descriptors, and hanging up streams.
 
 ghost use Rattle.std.specs.Prelude.{◌≡◌, ◌≢◌, ℕ, ◌+◌, ◌<◌, ◌≤◌, true, false, length, vec_capacity, Some, Err};
 ghost use Rattle.std.specs.List.{list_any};
@@ -24,7 +24,7 @@ use smx_tables::sweep::{
 };
 use smx_types::{Fault, MAX_DESCRIPTORS, Name, Process, Reply, StreamId};
 
-// A descriptor and its stream, as a reply.
+// Returns the reply that names a descriptor and its stream's minor.
 fn fd_reply(opened: (u32, StreamId)) -> Reply
     ensures { result ≡ Fd opened.0 opened.1.minor }
 {
@@ -34,7 +34,7 @@ fn fd_reply(opened: (u32, StreamId)) -> Reply
     }
 }
 
-// Puts the streams of a process's descriptors to those that a change touches.
+// Adds the streams of all descriptors of a process to `touched`.
 fn touch_each(streams: &Streams, process: Process, touched: &mut Vec<StreamId>)
     requires { length touched.old.items + MAX_DESCRIPTORS ≤ vec_capacity touched.old }
     ensures named { (n : ℕ) (s : StreamId) → n < MAX_DESCRIPTORS → stream_at streams.now.fds process n ≡ Some s
@@ -87,8 +87,8 @@ impl Tables {
         Ok(fd_reply(opened))
     }
 
-    // Closes the last descriptor of a stream that isn't held, and sweeps what goes with it: the stream alone, where no
-    // link is below its driver.
+    // Closes the last descriptor of a stream that isn't held, and sweeps. If the stream's driver is above no link, only
+    // what belongs to this stream is swept.
     fn close_last(
         &mut self,
         process: Process,
@@ -113,7 +113,7 @@ impl Tables {
         Ok(sweep_and_reply(&self.drivers, &mut self.lists, &mut self.room))
     }
 
-    // Where a stream stays, nothing goes with its descriptor, so that no memory is taken.
+    // If the stream stays, nothing is removed except the descriptor, and nothing is allocated.
     pub(crate) fn close(&mut self, process: Process, fd: u32) -> Result<Reply, StepError>
         requires { IsSound self.old.drivers self.old.configuration }
         ensures { Refines self.old self.new process (Close fd) result }
@@ -140,7 +140,7 @@ impl Tables {
         Ok(sweep_and_reply(&self.drivers, &mut self.lists, &mut self.room))
     }
 
-    // What is left to sweep stays as it is: the stream exists.
+    // A hangup leaves nothing to sweep, since the stream exists.
     pub(crate) fn hangup(&mut self, name: &Name, minor: u32) -> Result<Reply, Fault>
         requires { IsSound self.old.drivers self.old.configuration }
         ensures { (process : ℕ) → Refines self.old self.new process (Hangup name.now minor) (as_step_error result) }

@@ -1,21 +1,24 @@
-//! What the words of a command name in a configuration, and the refusals where they name nothing.
+//! Look-ups of the drivers, streams and messages that a command names, with the refusals.
 
-ghost use Rattle.std.specs.Prelude.{◌≡◌, ◌<◌, length, IfOk};
+ghost use Rattle.std.specs.Prelude.{◌≡◌, ◌<◌, ◌^◌, length, option_copied, slice_get, IfOk, IfSome, IsSome, Some};
 ghost use Rattle.std.specs.Option.{is_some};
 ghost use Rattle.smx_model.specs.KeptConfigurations.{IsSound};
 ghost use Rattle.smx_model.specs.DriverList.{minors_of};
 ghost use Rattle.smx_model.specs.Lookups.{driver_of, leaf_stream, live_leaf};
 ghost use Rattle.smx_model.specs.Lookups.{free_stream, live_stream, mux_stream, stream_of};
 ghost use Rattle.smx_model.specs.Queues.{first_message, is_full};
+ghost use Rattle.smx_model.specs.KnownStreams.{IsKnown};
 ghost use Rattle.smx_model.specs.Standing.{exists};
+ghost use Rattle.smx_queues.specs.PlaceLists.{places_of};
+ghost use Rattle.smx_types.specs.declared.stream.Place.{Place as PlaceValue};
 
 use crate::answers::refuse;
 use crate::tables::{Tables, tells_existing};
 use smx_tables::driver_specs::{driver_of, is_driver_named, is_mux, minors_of};
-use smx_types::{Fault, Name, Place, Process, StreamId};
+use smx_types::{Fault, Message, Name, Place, Process, StreamId};
 
 impl Tables {
-    // The number of the driver of this name.
+    // Returns the number of the driver with this name.
     pub(crate) fn driver_of(&self, name: &Name) -> Result<u8, Fault>
         ensures found { result ≡ driver_of self.now.drivers name.now }
         ensures in_range { IfOk result (λ n. n < length self.now.drivers) }
@@ -27,28 +30,28 @@ impl Tables {
         Ok(driver_of(&self.drivers, name)? as u8)
     }
 
-    // How many minors the driver has; 0 where there is no such driver.
-    pub(crate) fn minors_of(&self, driver: u8) -> u8
+    /// Returns the number of minors of the driver, or 0 if there is no such driver. Does not allocate.
+    pub fn minors_of(&self, driver: u8) -> u8
         ensures { result ≡ minors_of self.now.drivers driver }
     {
         minors_of(&self.drivers, driver as usize) as u8
     }
 
-    /// Whether the place is full. Takes no memory.
+    /// Returns whether the place is full. Does not allocate.
     pub fn is_full(&self, place: Place) -> bool
         ensures { result ≡ is_full self.now.configuration place }
     {
         self.lists.queues.is_full(place)
     }
 
-    /// Whether there is a message at the place. Takes no memory.
+    /// Returns whether there is a message at the place. Does not allocate.
     pub fn has_messages(&self, place: Place) -> bool
         ensures { result ≡ is_some (first_message self.now.configuration.flow place) }
     {
         self.lists.queues.has_messages(place)
     }
 
-    /// The stream of a descriptor of the process; refused where there is none. Takes no memory.
+    /// Returns the stream of a descriptor of the process. Fails if there is no such descriptor. Does not allocate.
     pub fn stream_of(&self, process: Process, fd: u32) -> Result<StreamId, Fault>
         ensures { result ≡ stream_of self.now.configuration process fd }
     {
@@ -66,8 +69,8 @@ impl Tables {
         Ok(stream)
     }
 
-    /// The stream of a descriptor; refused as `stream_of` has it, or where it is below a link, or else where its device
-    /// has hung up. Takes no memory.
+    /// Returns the stream of a descriptor. Fails as `stream_of` does, or if the stream is below a link, or else if its
+    /// device has hung up. Does not allocate.
     #[inline(always)]
     pub fn live_stream(&self, process: Process, fd: u32) -> Result<StreamId, Fault>
         ensures { result ≡ live_stream self.now.configuration process fd }
@@ -77,8 +80,8 @@ impl Tables {
         Ok(free)
     }
 
-    /// The stream of a descriptor; refused as `stream_of` has it, or where it is below a link, or else where its driver
-    /// is no multiplexing one. Takes no memory.
+    /// Returns the stream of a descriptor. Fails as `stream_of` does, or if the stream is below a link, or else if its
+    /// driver is not a multiplexing driver. Does not allocate.
     pub fn mux_stream(&self, process: Process, fd: u32) -> Result<StreamId, Fault>
         ensures { result ≡ mux_stream self.now.drivers self.now.configuration process fd }
     {
@@ -90,7 +93,7 @@ impl Tables {
         Ok(stream)
     }
 
-    // Whether the stream exists, by the table.
+    // Returns whether the stream exists. Looks only at the table of streams.
     fn exists(&self, stream: StreamId) -> bool
         requires { IsSound self.now.drivers self.now.configuration }
         ensures { result ≡ exists self.now.drivers self.now.configuration stream }
@@ -117,7 +120,7 @@ impl Tables {
         Ok(stream)
     }
 
-    // The same, where its device has not hung up.
+    // Returns the same stream as `leaf_stream`. Also fails if its device has hung up.
     #[inline(always)]
     pub(crate) fn live_leaf(&self, name: &Name, minor: u32) -> Result<StreamId, Fault>
         requires { IsSound self.now.drivers self.now.configuration }
@@ -126,5 +129,56 @@ impl Tables {
         let leaf = self.leaf_stream(name, minor)?;
         refuse(Fault::HungUp, self.lists.streams.is_hung(leaf))?;
         Ok(leaf)
+    }
+
+    /// How many places there are. Takes no memory.
+    pub fn place_count(&self) -> usize
+        ensures count { result ≡ length (places_of self.now.drivers) }
+        ensures few { result < 2 ^ 63 }
+    {
+        self.lists.queues.place_count()
+    }
+
+    /// The number of the place, if the drivers have it. Takes no memory.
+    pub fn number(&self, place: Place) -> Option<usize>
+        ensures found { IfSome result (λ n. slice_get (places_of self.now.drivers) n ≡ Some place) }
+        ensures known { IsKnown self.now.drivers place.stream → IsSome result }
+    {
+        self.lists.queues.number(place)
+    }
+
+    /// The place of a number. Takes no memory.
+    pub fn place_at(&self, n: usize) -> Place
+        requires { n < length (places_of self.now.drivers) }
+        ensures { slice_get (places_of self.now.drivers) n ≡ Some result }
+    {
+        self.lists.queues.place_at(n)
+    }
+
+    /// Whether the place of a number is full. Takes no memory.
+    pub fn is_full_at(&self, n: usize) -> bool
+        requires { n < length (places_of self.now.drivers) }
+        ensures { (p : PlaceValue) → slice_get (places_of self.now.drivers) n ≡ Some p
+            → result ≡ is_full self.now.configuration p }
+    {
+        self.lists.queues.is_full_at(n)
+    }
+
+    /// Whether there is a message at the place of a number. Takes no memory.
+    pub fn has_messages_at(&self, n: usize) -> bool
+        requires { n < length (places_of self.now.drivers) }
+        ensures { (p : PlaceValue) → slice_get (places_of self.now.drivers) n ≡ Some p
+            → result ≡ is_some (first_message self.now.configuration.flow p) }
+    {
+        self.lists.queues.has_messages_at(n)
+    }
+
+    /// The first message at the place of a number, if there is one. Takes no memory.
+    pub fn front_at(&self, n: usize) -> Option<&Message>
+        requires { n < length (places_of self.now.drivers) }
+        ensures { (p : PlaceValue) → slice_get (places_of self.now.drivers) n ≡ Some p
+            → option_copied result ≡ first_message self.now.configuration.flow p }
+    {
+        self.lists.queues.front_at(n)
     }
 }

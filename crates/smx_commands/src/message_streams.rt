@@ -9,8 +9,8 @@ use crate::tables::Tables;
 use smx_types::{Command, Fault, Process, StreamId};
 
 impl Tables {
-    /// The stream at which the command sends or takes a message, or why there is none; of any other command
-    /// `BadDescriptor`. Takes no memory.
+    /// Returns the stream at which the command sends or takes a message. Fails with the refusal if there is no such
+    /// stream, and with `BadDescriptor` for any other command. Does not allocate.
     pub fn message_stream(&self, process: Process, command: &Command) -> Result<StreamId, Fault>
         requires { IsSound self.now.drivers self.now.configuration }
         ensures value { result ≡ message_stream self.now.drivers self.now.configuration process command.now }

@@ -1,27 +1,30 @@
-//! A message that goes from one place to another.
+//! Moving a message from one place to another.
 
-ghost use Rattle.std.specs.Prelude.{◌≡◌, false, IsSome};
-ghost use Rattle.smx_model.specs.Configuration.{same_place};
-ghost use Rattle.smx_model.specs.KnownStreams.{IsKnown};
+ghost use Rattle.std.specs.Prelude.{◌≡◌, ◌≢◌, ◌<◌, false, length, slice_get, IsSome, Some};
+ghost use Rattle.smx_types.specs.declared.stream.Place.{Place as PlaceValue};
+ghost use Rattle.smx_queues.specs.PlaceLists.{places_of};
 ghost use Rattle.smx_model.specs.LoneMessages.{after_move_between};
 ghost use Rattle.smx_model.specs.Queues.{first_message, is_full};
 
 use crate::tables::Tables;
-use smx_types::Place;
 
 impl Tables {
-    /// The first message of a place goes to the end of another's queue, each with its full mark after that. Takes no
-    /// memory.
+    /// Moves the first message at the place with one number to the end of the queue at the place with another, and sets
+    /// the full marks of both. Does not allocate.
     #[inline(always)]
-    pub fn carry(&mut self, from: Place, to: Place)
-        requires some { IsSome (first_message self.old.configuration.flow from) }
-        requires known { IsKnown self.old.drivers to.stream }
-        requires differ { same_place from to ≡ false }
-        requires free { is_full self.old.configuration to ≡ false }
-        ensures { self.new
-            ≡ record self.old { configuration = after_move_between self.old.drivers self.old.configuration from to } }
+    pub fn carry(&mut self, from: usize, to: usize)
+        requires from { from < length (places_of self.old.drivers) }
+        requires to { to < length (places_of self.old.drivers) }
+        requires differ { from ≢ to }
+        requires some { (p : PlaceValue) → slice_get (places_of self.old.drivers) from ≡ Some p
+            → IsSome (first_message self.old.configuration.flow p) }
+        requires open { (q : PlaceValue) → slice_get (places_of self.old.drivers) to ≡ Some q
+            → is_full self.old.configuration q ≡ false }
+        ensures { (p q : PlaceValue) → slice_get (places_of self.old.drivers) from ≡ Some p
+            → slice_get (places_of self.old.drivers) to ≡ Some q → self.new
+            ≡ record self.old { configuration = after_move_between self.old.drivers self.old.configuration p q } }
     {
         self.lists.links.is_sound();
-        self.lists.queues.move_front(from, to);
+        self.lists.queues.move_front_at(from, to);
     }
 }

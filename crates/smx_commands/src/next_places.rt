@@ -1,4 +1,4 @@
-//! Where messages go next.
+//! The next places of messages.
 
 ghost use Rattle.std.specs.Prelude.{◌≡◌};
 ghost use Rattle.smx_model.specs.Settling.{live_write_side, place_below, place_above, next_place};
@@ -8,7 +8,7 @@ use smx_tables::driver_specs::is_mux;
 use smx_types::{Place, Side, StreamId};
 
 impl Tables {
-    // The write side of the stream, unless its device has hung up.
+    // Returns the write side of the stream, unless its device has hung up.
     fn live_write_side(&self, stream: StreamId) -> Option<Place>
         ensures { result ≡ live_write_side self.now.configuration.hungs stream }
     {
@@ -19,7 +19,8 @@ impl Tables {
         Some(Place { stream, side })
     }
 
-    // The write side of the stream below the link of the driver's route, unless that has hung up.
+    // Returns the write side of the stream below the link of the driver's route, unless this stream's device has hung
+    // up.
     fn down(&self, driver: u8, addr: u32) -> Option<Place>
         ensures { result ≡ place_below self.now.configuration.links self.now.configuration.routes
             self.now.configuration.hungs driver addr }
@@ -29,7 +30,7 @@ impl Tables {
         self.live_write_side(link.lower)
     }
 
-    // The read side of the stream that is bound to the address on the upper driver.
+    // Returns the read side of the stream that is bound to the address at the driver above `stream`.
     fn up(&self, stream: StreamId, addr: u32) -> Option<Place>
         ensures { result ≡ place_above self.now.configuration.links self.now.configuration.binds stream addr }
     {
@@ -44,7 +45,7 @@ impl Tables {
         })
     }
 
-    /// The next place of a message of this address, whether it is full or not. Takes no memory.
+    /// Returns the next place of a message with this address, whether the place is full or not. Does not allocate.
     #[inline(always)]
     pub fn next_place(&self, place: Place, addr: u32) -> Option<Place>
         ensures { result ≡ next_place self.now.drivers self.now.configuration place addr }

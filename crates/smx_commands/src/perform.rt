@@ -1,4 +1,4 @@
-//! One command, before messages move on.
+//! Performing one command, before messages move on.
 
 ghost use Rattle.std.specs.Prelude.{◌≡◌, ◌≢◌, IfOk, IsTrue, Err};
 ghost use Rattle.smx_model.specs.KeptConfigurations.{IsSound};
@@ -21,7 +21,7 @@ fn as_step_error(answer: Result<Reply, Fault>) -> Result<Reply, StepError>
     }
 }
 
-// Writes the reply of a command into its place, where there is one.
+// Writes the reply of a command to its place, if there is a reply.
 #[inline(always)]
 fn put(reply: &mut Reply, answer: Result<Reply, StepError>) -> Result<(), StepError>
     ensures { answer_of result reply.new ≡ answer }
@@ -31,9 +31,9 @@ fn put(reply: &mut Reply, answer: Result<Reply, StepError>) -> Result<(), StepEr
 }
 
 impl Tables {
-    /// Does a command of a process, before messages move on; it is told which stream the command sends to or takes
-    /// from. Its reply is written in the place of another, so that it is not moved. Where it is refused, or memory is
-    /// wanting, nothing has changed; `dup`, `unbind`, `unroute`, `read`, `transmit` and `hangup` take none.
+    /// Performs a command of a process, before messages move on. `named` is the result of `message_stream` for this
+    /// command. Writes the reply to `reply`, so that no caller moves it. If the command is refused or fails for lack of
+    /// memory, nothing has changed. `dup`, `unbind`, `unroute`, `read`, `transmit` and `hangup` do not allocate.
     #[inline(always)]
     pub fn perform(
         &mut self,
@@ -61,8 +61,7 @@ impl Tables {
         }
     }
 
-    // The same, of all commands. Apart: its locals are set to zero where it begins, and those that send or take a message
-    // need none of them.
+    // Performs any command. `perform` itself handles the commands that send or take a message.
     #[inline(always)]
     fn perform_any(
         &mut self,

@@ -1,4 +1,4 @@
-//! A reply a second time, in room that is made before the step.
+//! A second copy of a reply, in room that is reserved before the step.
 
 ghost use Rattle.std.specs.Prelude.{◌≡◌, ◌≢◌, ◌≤◌, [], length, vec_capacity};
 ghost use Rattle.std.specs.Prelude.{IfOk, IfErr, IsTrue, Err};
@@ -18,14 +18,14 @@ use smx_types::{
 };
 use std::alloc::{AllocError, Global};
 
-/// Two empty lists, with room for the bytes and the serials that a reply carries.
+/// Two empty lists with room for the bytes and the serials of a reply.
 #[derive(Drop)]
 pub struct ReplyRoom {
     bytes: Vec<u8>,
     serials: Vec<u32>,
 }
 
-// Room for so many of both.
+// Reserves room for these numbers of bytes and serials.
 fn room_for(alloc: Global, bytes: usize, serials: usize) -> Result<ReplyRoom, AllocError>
     ensures { IfOk result (HasRoomFor bytes serials) }
 {
@@ -45,7 +45,7 @@ fn no_room(alloc: Global) -> ReplyRoom
 }
 
 impl Tables {
-    // Room for the bytes of the first message on a side of a stream.
+    // Reserves room for the bytes of the first message on a side of a stream.
     fn room_for_first(&self, place: Place) -> Result<ReplyRoom, StepError>
         ensures makes { MakesRoom self.now (receive_outcome self.now.drivers self.now.configuration place) result }
         ensures in_place { delivered_by (after_outcome self.now.drivers self.now.configuration
@@ -57,7 +57,7 @@ impl Tables {
         Ok(room_for(self.alloc, message.bytes.as_slice().len(), 0)?)
     }
 
-    // The same of what is read from a stream; the end of file needs none.
+    // Reserves room for the bytes of the message that a read returns. The end of file needs no room.
     fn room_for_read(&self, stream: StreamId) -> Result<ReplyRoom, StepError>
         ensures makes { MakesRoom self.now (read_outcome self.now.drivers self.now.configuration stream) result }
         ensures in_place { delivered_by (after_outcome self.now.drivers self.now.configuration
@@ -70,7 +70,7 @@ impl Tables {
         self.room_for_first(Place { stream, side })
     }
 
-    // Room for the serials of all messages.
+    // Reserves room for the serials of all messages.
     fn room_for_all(&self) -> Result<ReplyRoom, StepError>
         ensures ok { IfOk result (HasRoomFor 0 (length self.now.configuration.flow)) }
         ensures err { IfErr result (λ e. e ≡ step_error.NoMemory) }
@@ -78,7 +78,7 @@ impl Tables {
         Ok(room_for(self.alloc, 0, self.lists.queues.len())?)
     }
 
-    // The same, unless the removal of links is refused.
+    // Reserves room for the serials of all messages, unless the removal of links is refused.
     #[tactic(auto, using(crate::proofs::DroppedLemmas::few_left))]
     fn room_for_unlink(
         &self,
@@ -95,7 +95,8 @@ impl Tables {
         self.room_for_all()
     }
 
-    /// Room for the reply to a command; or the fault of one that is refused, where that is found on the way.
+    /// Reserves room for the reply to a command. Fails with the fault if the command is refused and this is found on
+    /// the way.
     #[tactic(auto, using(crate::proofs::DroppedLemmas::few_left))]
     pub fn room_for_reply(
         &self,
@@ -151,7 +152,7 @@ impl Tables {
     }
 }
 
-// These values, in an empty list that has room for them.
+// Returns the room with these values in it.
 fn filled<T: Copy>(room: Vec<T>, values: &[T]) -> Vec<T>
     requires empty { room.items ≡ [] }
     requires room { length values.now ≤ vec_capacity room }
@@ -163,7 +164,7 @@ fn filled<T: Copy>(room: Vec<T>, values: &[T]) -> Vec<T>
 }
 
 impl ReplyRoom {
-    /// The reply again. Takes no memory.
+    /// Returns a copy of the reply. Does not allocate.
     pub fn copy_of(self, reply: &Reply) -> Reply
         requires { HasRoomForReply reply.now self }
         ensures { result ≡ reply.now }

@@ -1,11 +1,11 @@
-//! Why a command made no step.
+//! The reasons for which a command makes no step.
 
 use smx_links::LinkFault;
 use smx_streams::StreamFault;
 use smx_types::{Fault, NoMemory};
 use std::alloc::{AllocError, AllocFailed};
 
-/// The command was refused, with this fault; or a growth was.
+/// The command was refused with this fault, or an allocation failed.
 #[derive(Clone, Copy)]
 pub enum StepError {
     Refused(Fault),

@@ -1,4 +1,4 @@
-//! The tables of a configuration, over its drivers.
+//! The tables of a configuration over its drivers.
 
 ghost use Rattle.std.specs.Prelude.{◌≡◌, IfOk};
 ghost use Rattle.smx_model.specs.Configuration.{empty};
@@ -19,8 +19,8 @@ use smx_types::{DriverSpec, NoMemory};
 use std::alloc::Global;
 use std::marker::Model;
 
-/// Drivers, and the tables of a configuration over them. A contract sees both as one value. What each table keeps by
-/// itself its own type says; that they fit one another is kept here.
+/// Drivers, and the tables of a configuration over them. Contracts see both as one value. The type of each table keeps
+/// the properties of this table; this type keeps those that relate the tables to each other and to the drivers.
 #[derive(Debug, Drop)]
 pub struct Tables {
     pub(crate) alloc: Global,
@@ -43,8 +43,8 @@ impl Model for Tables {
     ghost invariant = { TablesInvariant };
 }
 
-// In a sound configuration the table of streams has a stream exactly where it exists. It does nothing: a body that
-// needs this calls it.
+// Ensures that the table of streams has exactly the streams that exist, if the configuration is sound. Does nothing at
+// run time.
 pub fn tells_existing(drivers: &[DriverSpec], lists: &Lists)
     requires kept { KeepsHolds lists.now }
     requires sound { IsSound drivers.now (configuration_of lists.now) }
@@ -54,7 +54,7 @@ pub fn tells_existing(drivers: &[DriverSpec], lists: &Lists)
 }
 
 impl Tables {
-    /// Empty tables over these drivers. Fails only for want of memory.
+    /// Makes empty tables over these drivers. Fails only if out of memory.
     pub fn new(alloc: Global, drivers: &[DriverSpec]) -> Result<Tables, NoMemory>
         requires { IsDriverList drivers.now }
         ensures { IfOk result (λ t. t ≡ record { drivers = drivers.now; configuration = empty }) }
@@ -71,12 +71,7 @@ impl Tables {
         })
     }
 
-    /// The allocator that they were made with. No clause speaks of it.
-    pub fn alloc(&self) -> Global {
-        self.alloc
-    }
-
-    /// The drivers that they were made with, which no command changes. Takes no memory.
+    /// Returns the drivers that the tables were made with. No command changes them. Does not allocate.
     pub fn drivers(&self) -> &[DriverSpec]
         ensures value { result.now ≡ self.now.drivers }
         ensures list { IsDriverList self.now.drivers }
@@ -84,14 +79,14 @@ impl Tables {
         self.drivers.as_slice()
     }
 
-    /// The table of links. Takes no memory.
+    /// Returns the table of links. Does not allocate.
     pub fn links(&self) -> &LinkTable
         ensures { result.now.links ≡ self.now.configuration.links }
     {
         &self.lists.links
     }
 
-    /// The table of queues. Takes no memory.
+    /// Returns the table of queues. Does not allocate.
     pub fn queues(&self) -> &FlowTable
         ensures flow { result.now.flow ≡ self.now.configuration.flow }
         ensures fulls { result.now.fulls ≡ self.now.configuration.fulls }
@@ -99,11 +94,10 @@ impl Tables {
         &self.lists.queues
     }
 
-    /// The same tables again, by the allocator that these have. Fails only for want of memory.
-    pub fn copy(&self) -> Result<Tables, NoMemory>
+    /// Copies the tables into memory from this allocator, which the copy keeps. Fails only if out of memory.
+    pub fn copy(&self, alloc: Global) -> Result<Tables, NoMemory>
         ensures { IfOk result (λ t. t ≡ self.now) }
     {
-        let alloc = self.alloc;
         let drivers = Vec::from_slice(alloc, &self.drivers)?;
         let lists = copy_lists(alloc, &self.lists)?;
         Ok(Tables {

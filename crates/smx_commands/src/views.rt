@@ -1,4 +1,4 @@
-//! The configuration as it is shown.
+//! Views of the configuration.
 
 ghost use Rattle.std.specs.Prelude.{◌≡◌, ◌↔◌, [], IfOk, IsTrue};
 ghost use Rattle.smx_model.specs.KeptConfigurations.{IsSound};
@@ -19,7 +19,7 @@ use smx_types::{
 };
 
 impl Tables {
-    // The configuration as it is shown, but with no messages. Fails only for want of memory.
+    // Returns the view of the configuration without its messages. Fails only if out of memory.
     fn show_without_messages(&self) -> Result<ConfigView, NoMemory>
         requires { IsSound self.now.drivers self.now.configuration }
         ensures { IfOk result (λ v. v ≡ record (view self.now.drivers self.now.configuration) { msgs = [] }) }
@@ -45,7 +45,7 @@ impl Tables {
         })
     }
 
-    /// The configuration as it is shown. Fails only for want of memory.
+    /// Returns the view of the configuration. Fails only if out of memory.
     pub fn show(&self) -> Result<ConfigView, NoMemory>
         requires { IsSound self.now.drivers self.now.configuration }
         ensures { IfOk result (λ v. v ≡ view self.now.drivers self.now.configuration) }
@@ -56,7 +56,8 @@ impl Tables {
         Ok(view)
     }
 
-    /// The same of tables that nobody needs any more: no message is copied. Fails only for want of memory.
+    /// Returns the same view as `show`, of tables that are no longer needed: moves the messages instead of copying
+    /// them. Fails only if out of memory.
     pub fn into_view(self) -> Result<ConfigView, NoMemory>
         requires { IsSound self.drivers self.configuration }
         ensures { IfOk result (λ v. v ≡ view self.drivers self.configuration) }
@@ -74,7 +75,8 @@ impl Tables {
         Ok(view)
     }
 
-    /// Whether `show` would answer just this view. It is compared line by line where it stands: that takes no memory.
+    /// Returns whether this is the view that `show` would return. Compares it line by line, in place. Does not
+    /// allocate.
     pub fn shows(&self, shown: &ConfigView) -> bool
         requires { IsSound self.now.drivers self.now.configuration }
         ensures { IsTrue result ↔ (shown.now ≡ view self.now.drivers self.now.configuration) }

@@ -1,10 +1,20 @@
--- A move to the place to which the first message may go on.
-use Rattle.std.proofs.Common.{◌≡◌, Option, Some, sym, ap, ◌∙◌}
+-- A move to the place to which the first message may go on, and what is marked after it.
+use Rattle.std.proofs.Common.{◌≡◌, List, Option, Some, sym, ap, ◌∙◌}
+use Rattle.smx_types.specs.declared.driver.DriverSpec.{DriverSpec}
 use Rattle.smx_types.specs.declared.stream.Place.{Place}
+use Rattle.smx_model.specs.Configuration.{Configuration, same_place}
+use Rattle.smx_model.specs.KeptConfigurations.{IsSound}
 use Rattle.smx_model.specs.LoneMessages.{after_move_between}
 use Rattle.smx_model.specs.Queues.{first_message}
 use Rattle.smx_model.specs.Settling.{after_move, after_move_to, next_open_place}
+use Rattle.smx_model.specs.SettlingByMarks.{turned_by_move}
+use Rattle.smx_model.proofs.FeederLemmas.{moved_frees}
+use Rattle.smx_model.proofs.TurningLemmas.{turns_moved}
 use Rattle.smx_commands.specs.Machine.{Machine}
+use Rattle.smx_config.specs.Marking.{AreMarks, IsWoken}
+use Rattle.smx_config.specs.declared.marks.Marks.{Marks}
+use Rattle.smx_config.proofs.WakeLemmas.{marks_after}
+use Rattle.smx_config.proofs.WokenLemmas.{turned_is}
 
 -- a message that goes to the place that it may go on to makes the move
 pub moves_there : (m n : Machine) (p q : Place) → next_open_place m.drivers m.configuration p ≡ Some q
@@ -13,3 +23,18 @@ pub moves_there : (m n : Machine) (p q : Place) → next_open_place m.drivers m.
 moves_there m n p q e is = is ∙ ap (λ (o : Option Place).
     record m { configuration = after_move_to m.drivers m.configuration p o (first_message m.configuration.flow p) })
     (sym e)
+
+-- after a move it is enough to mark the place that it takes from, the one that it goes to, if that was empty, and what
+-- waits for the first of them, if that is freed
+pub moved_marks : (drivers : List DriverSpec) (c : Configuration) (p q : Place) (old new : Marks) → IsSound drivers c
+    → AreMarks drivers c old → next_open_place drivers c p ≡ Some q
+    → IsWoken drivers (after_move drivers c p) (turned_by_move drivers c p) (same_place p) old new
+    → AreMarks drivers (after_move drivers c p) new
+moved_marks drivers c p q old new sound marks next w =
+    let now = after_move drivers c p in
+    marks_after drivers c now (turned_by_move drivers c p) (same_place p) (same_place p) old new marks
+    (record {
+      frees = λ r f. f;
+      turns_only = turned_is drivers c now p q next (turns_moved drivers c p q sound.ordered.flow next);
+      frees_only = λ r. moved_frees drivers c p r;
+    }) w

@@ -1,38 +1,48 @@
--- The least place with a run mark, and what is left of the marks where it can't be moved from.
-use Rattle.std.proofs.Common.{◌≡◌, Bool, true, false, cond, List, [], Option, Some, None}
-use Rattle.std.proofs.Common.{refl, sym, ap, ◌∙◌, subst, inl, inr}
-use Rattle.std.specs.Prelude.{◌≢◌, ◌⊎◌, IfNone}
-use Rattle.std.specs.List.{list_any}
+-- The least number with a run mark, and what is left of the marks where its place can't be moved from.
+use Rattle.std.proofs.Common.{◌≡◌, ℕ, suc, ◌<◌, Bool, true, false, cond, List, length, set, Option, Some, None}
+use Rattle.std.proofs.Common.{refl, sym, ap, ◌∙◌, subst, inl, inr, arith}
+use Rattle.std.specs.Prelude.{◌≢◌, IfNone, IfSome, IsSome}
 use Rattle.std.specs.Option.{is_some}
-use Rattle.std.proofs.lemmas.Bool.{cases_Bool, false≢true}
-use Rattle.std.proofs.lemmas.Option.{none-some}
+use Rattle.std.proofs.lemmas.Bool.{and_from, cases_Bool, cases_eq, false≢true, ne_eqb}
+use Rattle.std.proofs.lemmas.List.{get_or-set_other, get_or-set_same, length-set}
+use Rattle.std.proofs.lemmas.Option.{none-some, same_Some}
 use Rattle.smx_types.specs.declared.driver.DriverSpec.{DriverSpec}
 use Rattle.smx_types.specs.declared.message.Message.{Message}
 use Rattle.smx_types.specs.declared.stream.Place.{Place}
-use Rattle.smx_model.specs.Configuration.{Configuration, empty, same_place}
+use Rattle.smx_model.specs.Configuration.{Configuration, empty, place_before}
+use Rattle.smx_model.specs.KeptConfigurations.{IsSound}
 use Rattle.smx_model.specs.KnownStreams.{IsKnown}
 use Rattle.smx_model.specs.Queues.{first_message, is_full}
-use Rattle.smx_model.specs.RunMarks.{all_but, is_held_up, is_next_of_first, is_one_of, nowhere, next_of, next_of_first}
-use Rattle.smx_model.specs.Settling.{◌>>=◌, IsSettled, is_movable, next_open_place, next_place}
-use Rattle.smx_model.proofs.SettlingByMarksLemmas.{none_is_least}
-use Rattle.smx_model.specs.SettlingByMarks.{HasItsMarks, HasNoRunMark, IsAtRest, IsCleared, IsLeastMarked}
-use Rattle.smx_queues.specs.PlaceMarks.{MarkList, has_mark}
-use Rattle.smx_queues.specs.Waiters.{WaitList, target_of}
+use Rattle.smx_model.specs.RunMarks.{AreMarked, is_held_up, next_of, next_of_first}
+use Rattle.smx_model.specs.Settling.{◌>>=◌, IsSettled, is_movable, least_movable, next_open_place, next_place}
+use Rattle.smx_model.proofs.KnownPlaceLemmas.{held_known}
+use Rattle.smx_model.proofs.SettlingByMarksLemmas.{marked_is_least, none_is_least}
+use Rattle.smx_queues.specs.Bits.{BitTable, has_bit, has_bit_but}
+use Rattle.smx_queues.specs.PlaceLists.{places_of}
+use Rattle.smx_queues.specs.Rings.{RingTable, at}
+use Rattle.smx_queues.proofs.PlacesOfLemmas.{before_lower, known_number}
 use Rattle.smx_config.specs.declared.marks.Marks.{Marks}
 use Rattle.smx_config.specs.declared.settling.Move.{Move}
-use Rattle.smx_config.specs.Marking.{AreMarks, IsNotedFor, marked_configuration}
-use Rattle.smx_config.specs.Moves.{IsLeastMove, if_open}
-use Rattle.smx_queues.proofs.PlaceLemmas.{place_is}
+use Rattle.smx_config.specs.Marking.{AreFor, AreMarks, HasNoBit, IsAt, IsNotedFor}
+use Rattle.smx_config.specs.Moves.{IsLeastMove, IsNextOf}
+use Rattle.smx_config.specs.Wakes.{everywhere}
+use Rattle.smx_config.proofs.PlaceNumberLemmas.{one_place}
 
 -- where it is settled there is no least move
 pub none_left : (drivers : List DriverSpec) (c : Configuration) (r : Option Move) (P : Type 0) → IsSettled drivers c
     → IsLeastMove drivers c r → IfNone r P → P
 none_left drivers c None P s least none = none
 none_left drivers c (Some m) P s least none = let e = none_is_least drivers c s in
-    absurd (none-some m.from (sym e ∙ least.0))
+    absurd (none-some least.moves.from (sym e ∙ least.least))
+
+-- ---- where a first message may go on to
+
+-- the place, unless it is full
+abbrev if_open : Configuration → Option Place → Option Place
+if_open c o = o >>= (λ q. cond (is_full c q) None (Some q))
 
 -- where a first message goes, unless that is full, is where it may go on to
-pub open_of_next : (drivers : List DriverSpec) (c : Configuration) (p : Place)
+open_of_next : (drivers : List DriverSpec) (c : Configuration) (p : Place)
     → next_open_place drivers c p ≡ if_open c (next_of_first drivers c p)
 open_of_next drivers c p = by (first_message c.flow p) where
   by : (o : Option Message) → (o >>= (λ m. next_place drivers c p m.addr >>= (λ q. cond (is_full c q) None (Some q))))
@@ -40,192 +50,221 @@ open_of_next drivers c p = by (first_message c.flow p) where
   by None = refl
   by (Some m) = refl
 
+-- where a first message goes next, by whether that is full
+by_full : (drivers : List DriverSpec) (c : Configuration) (p q : Place) (full : Bool)
+    → next_of_first drivers c p ≡ Some q → is_full c q ≡ full → next_open_place drivers c p ≡ cond full None (Some q)
+by_full drivers c p q full next is = open_of_next drivers c p
+    ∙ (ap (if_open c) next ∙ ap (λ (b : Bool). cond b None (Some q)) is)
+
 -- a first message whose next place isn't full may go on to that
-pub moves_to : (drivers : List DriverSpec) (c : Configuration) (p q : Place) (next : Option Place)
-    → next ≡ next_of_first drivers c p → Some q ≡ if_open c next → next_open_place drivers c p ≡ Some q
-moves_to drivers c p q next is e = open_of_next drivers c p ∙ (ap (if_open c) (sym is) ∙ sym e)
+pub moves_to : (drivers : List DriverSpec) (c : Configuration) (p q : Place) → next_of_first drivers c p ≡ Some q
+    → is_full c q ≡ false → next_open_place drivers c p ≡ Some q
+moves_to drivers c p q next vacant = by_full drivers c p q false next vacant
 
 -- a place whose first message may go on to another is movable
 pub movable_to : (drivers : List DriverSpec) (c : Configuration) (p q : Place) → next_open_place drivers c p ≡ Some q
     → is_movable drivers c p ≡ true
 movable_to drivers c p q e = ap (λ (o : Option Place). is_some o) e
 
--- a place that is not open is full
-pub not_open : (c : Configuration) (q : Place) (next : Option Place) → next ≡ Some q → if_open c next ≡ None
-    → is_full c q ≡ true
-not_open c q next is e = by (is_full c q) (subst (λ (o : Option Place). if_open c o ≡ None) is e) where
-  by : (b : Bool) → cond b None (Some q) ≡ None → b ≡ true
-  by true h = refl
-  by false h = absurd cc
+-- a place is not movable where its first message goes nowhere next
+stays_nowhere : (drivers : List DriverSpec) (c : Configuration) (p : Place) → next_of_first drivers c p ≡ None
+    → is_movable drivers c p ≡ false
+stays_nowhere drivers c p none =
+    ap (λ (o : Option Place). is_some o) (open_of_next drivers c p ∙ ap (if_open c) none)
+
+-- nor where that goes to a full place
+stays_behind : (drivers : List DriverSpec) (c : Configuration) (p q : Place) → next_of_first drivers c p ≡ Some q
+    → is_full c q ≡ true → is_movable drivers c p ≡ false
+stays_behind drivers c p q next full =
+    ap (λ (o : Option Place). is_some o) (by_full drivers c p q true next full)
 
 -- a place from which a message goes next has one
 pub next_has_message : (drivers : List DriverSpec) (c : Configuration) (p q : Place)
     → next_of_first drivers c p ≡ Some q → first_message c.flow p ≢ None
 next_has_message drivers c p q e none = none-some q (sym (ap (next_of drivers c p) none) ∙ e)
 
--- ---- a run mark is cleared
+-- a movable place is one that the drivers have
+movable_known : (drivers : List DriverSpec) (c : Configuration) (p : Place) → IsSound drivers c
+    → is_movable drivers c p ≡ true → IsKnown drivers p.stream
+movable_known drivers c p sound moves = held_known drivers c p sound.known (λ none.
+    false≢true (sym (stays_nowhere drivers c p (ap (next_of drivers c p) none)) ∙ moves))
 
--- a place that is there, and is the same as another, is that one
-next_is : (o : Option Place) (q : Place) → is_one_of (λ x. same_place x q) o ≡ true → o ≡ Some q
-next_is None q h = absurd (false≢true h)
-next_is (Some x) q h = ap (λ (y : Place). Some y) (place_is x q h)
+-- each place that is not movable waits, if all places are wanted
+all_wait : (drivers : List DriverSpec) (c : Configuration) → AreMarked drivers c (is_movable drivers c) everywhere
+all_wait drivers c p stays = by (next_of_first drivers c p) refl where
+  by : (o : Option Place) → next_of_first drivers c p ≡ o → is_held_up c everywhere o ≡ true
+  by None e = refl
+  by (Some q) e = elim (cases_Bool (is_full c q)) [
+    | inl t ↦ and_from _ _ t refl
+    | inr f ↦ absurd (false≢true (sym stays ∙ movable_to drivers c p q (moves_to drivers c p q e f)))
+  ]
 
--- where the least marked place isn't movable, it is cleared: its run mark goes, and its next place is wanted
-pub is_cleared : (drivers : List DriverSpec) (c : Configuration) (p : Place) (next : Option Place) (old new : Marks)
-    → IsLeastMarked (has_mark old.run) p → next ≡ next_of_first drivers c p → if_open c next ≡ None
-    → ((q : Place) → has_mark new.run q ≡ all_but (has_mark old.run) p q)
-    → ((q : Place) → has_mark old.wanted q ≡ true → has_mark new.wanted q ≡ true)
-    → ((q : Place) → next ≡ Some q → has_mark new.wanted q ≡ true)
-    → IsCleared drivers p (marked_configuration c old) (marked_configuration c new)
-is_cleared drivers c p next old new least is stays gone kept there = record {
-  least = least;
-  waits = ap (λ (o : Option Place). is_some o) (open_of_next drivers c p ∙ (ap (if_open c) (sym is) ∙ stays));
-  same = refl;
-  run = gone;
-  wanted = λ q h. elim (cases_Bool (has_mark old.wanted q)) [
-    | inl t ↦ kept q t
-    | inr f ↦ let k : is_next_of_first drivers c p q ≡ true = rw f at h in
-        there q (is ∙ next_is (next_of_first drivers c p) q k)
-  ];
-}
+-- where a first message goes next has the number that was found for it
+pub goes_to : (drivers : List DriverSpec) (c : Configuration) (p q : Place) (r : Option ℕ)
+    → next_of_first drivers c p ≡ Some q → IsSome r → IfSome r (λ n. IsAt drivers n q) → IsNextOf drivers c p r
+goes_to drivers c p q None next some found = absurd cc
+goes_to drivers c p q (Some n) next some found = record { place = q; there = found; next = next }
 
--- what waits is noted
-pub record IsNoted (drivers : List DriverSpec) (c : Configuration) (old new : Marks) : Type 0 where
-  pub held_up : (p q : Place) → has_mark new.run p ≡ false → next_of_first drivers c p ≡ Some q → IsNotedFor new p q
-  pub same_drivers : new.waits.drivers ≡ old.waits.drivers
+-- ---- what the marks say
 
--- where the run mark of one place is cleared, each other place without a run mark had none before
-still_run : (old new : MarkList) (p q : Place) → ((r : Place) → has_mark new r ≡ all_but (has_mark old) p r)
-    → same_place p q ≡ false → has_mark new q ≡ false → has_mark old q ≡ false
-still_run old new p q gone other clear = elim (cases_Bool (has_mark old q)) [
-  | inl t ↦ absurd (false≢true (sym clear ∙ (gone q ∙ rw t (rw other refl))))
+-- a place without a run mark is not movable
+unmarked_stays : (drivers : List DriverSpec) (c : Configuration) (m : Marks) (i : ℕ) (p : Place) → AreMarks drivers c m
+    → IsAt drivers i p → has_bit m.run i ≡ false → is_movable drivers c p ≡ false
+unmarked_stays drivers c m i p h there clear = by (next_of_first drivers c p) refl where
+  by : (o : Option Place) → next_of_first drivers c p ≡ o → is_movable drivers c p ≡ false
+  by None e = stays_nowhere drivers c p e
+  by (Some q) e = stays_behind drivers c p q e (h.held_up i p q there clear e).0
+
+-- a movable place has a run mark
+pub movable_marked : (drivers : List DriverSpec) (c : Configuration) (m : Marks) (i : ℕ) (p : Place)
+    → AreMarks drivers c m → IsAt drivers i p → is_movable drivers c p ≡ true → has_bit m.run i ≡ true
+movable_marked drivers c m i p h there moves = elim (cases_Bool (has_bit m.run i)) [
+  | inl t ↦ t
+  | inr f ↦ absurd (false≢true (sym (unmarked_stays drivers c m i p h there f) ∙ moves))
+]
+
+-- without a run mark it is settled
+pub none_marked : (drivers : List DriverSpec) (c : Configuration) (m : Marks) → IsSound drivers c → AreMarks drivers c m
+    → HasNoBit m.run → IsSettled drivers c
+none_marked drivers c m sound h none p = elim (cases_Bool (is_movable drivers c p)) [
+  | inl t ↦
+      let k = known_number drivers p (movable_known drivers c p sound t) in
+      unmarked_stays drivers c m k.0 p h k.1 (none k.0)
   | inr f ↦ f
 ]
 
--- the place whose mark is cleared is noted, and the others are as before
-pub noted : (drivers : List DriverSpec) (c : Configuration) (p : Place) (next : Option Place) (old new : Marks)
-    → AreMarks drivers c old → next ≡ next_of_first drivers c p
-    → ((q : Place) → has_mark new.run q ≡ all_but (has_mark old.run) p q)
-    → ((q : Place) → next ≡ Some q → IsNotedFor new p q)
-    → ((q : Place) → same_place p q ≡ false → target_of new.waits q ≡ target_of old.waits q)
-    → new.waits.drivers ≡ old.waits.drivers → IsNoted drivers c old new
-noted drivers c p next old new h is gone there others same = record {
-  held_up = λ r q clear e. elim (cases_Bool (same_place p r)) [
-    | inl here ↦ let k = place_is p r here in
-        subst (λ (x : Place). IsNotedFor new x q) k
-        (there q (is ∙ subst (λ (x : Place). next_of_first drivers c x ≡ Some q) (sym k) e))
-    | inr other ↦ others r other ∙ h.held_up r q (still_run old.run new.run p r gone other clear) e
-  ];
-  same_drivers = same;
-}
+-- the place of the least number with a run mark, where it is movable, is the least movable place
+pub least_is : (drivers : List DriverSpec) (c : Configuration) (m : Marks) (n : ℕ) (p : Place) → IsSound drivers c
+    → AreMarks drivers c m → IsAt drivers n p → ((k : ℕ) → k < n → has_bit m.run k ≡ false)
+    → is_movable drivers c p ≡ true → least_movable drivers c ≡ Some p
+least_is drivers c m n p sound h there least moves = marked_is_least drivers c (is_movable drivers c) everywhere p
+    sound.ordered.flow (all_wait drivers c) (record { marked = moves; none_before = before }) moves where
+      before : (q : Place) → place_before q p ≡ true → is_movable drivers c q ≡ false
+      before q b = elim (cases_Bool (is_movable drivers c q)) [
+        | inl t ↦
+            let k = known_number drivers q (movable_known drivers c q sound t) in
+            unmarked_stays drivers c m k.0 q h k.1 (least k.0 (before_lower drivers k.0 n q p k.1 there b))
+        | inr f ↦ f
+      ]
 
--- what is left of the marks
-pub cleared_marks : (drivers : List DriverSpec) (c : Configuration) (next : Option Place) (old new : Marks)
-    → AreMarks drivers c old → HasItsMarks drivers (marked_configuration c new) → if_open c next ≡ None
-    → ((q : Place) → has_mark new.wanted q ≡ true → (has_mark old.wanted q ≡ true) ⊎ (next ≡ Some q))
-    → new.run.drivers ≡ old.run.drivers → new.wanted.drivers ≡ old.wanted.drivers → IsNoted drivers c old new
-    → AreMarks drivers c new
-cleared_marks drivers c next old new h waiting stays few run wanted noted = record {
-  run = run ∙ h.run;
-  wanted = wanted ∙ h.wanted;
-  waiting = waiting;
-  full = λ q w. elim (few q w) [ inl before ↦ h.full q before | inr here ↦ not_open c q next here stays ];
-  waits = noted.same_drivers ∙ h.waits;
-  held_up = noted.held_up;
-}
+-- a first message that is told not to be there is none
+pub told_none : (o : Option Message) → false ≡ is_some o → None ≡ o
+told_none None h = refl
+told_none (Some m) h = absurd (false≢true h)
 
--- a place without messages waits, so its mark may go
-pub emptied_marks : (drivers : List DriverSpec) (c : Configuration) (p : Place) (old new : Marks)
-    → first_message c.flow p ≡ None → AreMarks drivers c old
-    → ((q : Place) → has_mark new.run q ≡ all_but (has_mark old.run) p q)
-    → new.run.drivers ≡ old.run.drivers → new.wanted ≡ old.wanted → new.waits ≡ old.waits → AreMarks drivers c new
-emptied_marks drivers c p old new none h gone run wanted waits = record {
-  run = run ∙ h.run;
-  wanted = ap (λ (m : MarkList). m.drivers) wanted ∙ h.wanted;
-  waiting = λ q clear. elim (cases_Bool (same_place p q)) [
-    | inl here ↦ ap (λ (o : Option Place). is_held_up c (has_mark new.wanted) o) (nowhere_next q here)
-    | inr other ↦ rw wanted (h.waiting q (still_run old.run new.run p q gone other clear))
-  ];
-  full = λ q w. h.full q (subst (λ (m : MarkList). has_mark m q ≡ true) wanted w);
-  waits = ap (λ (t : WaitList). t.drivers) waits ∙ h.waits;
-  held_up = λ r q clear e. elim (cases_Bool (same_place p r)) [
-    | inl here ↦ absurd (none-some q (sym (nowhere_next r here) ∙ e))
-    | inr other ↦ subst (λ (t : WaitList). target_of t r ≡ Some q) (sym waits)
-        (h.held_up r q (still_run old.run new.run p r gone other clear) e)
-  ];
-} where
-  nowhere_next : (q : Place) → same_place p q ≡ true → next_of_first drivers c q ≡ None
-  nowhere_next q here =
-      ap (next_of drivers c q) (subst (λ (x : Place). first_message c.flow x ≡ None) (place_is p q here) none)
+-- what holds where nothing was found
+pub if_none : (r : Option ℕ) (P : Type 0) → is_some r ≡ false → IfNone r P → P
+if_none None P none h = h
+if_none (Some n) P none h = absurd (false≢true (sym none))
 
--- a place with a run mark, or without messages, need not be noted
-pub forgotten : (drivers : List DriverSpec) (c : Configuration) (p : Place) (old new : Marks) → AreMarks drivers c old
-    → (has_mark old.run p ≡ true) ⊎ (first_message c.flow p ≡ None) → new.run ≡ old.run → new.wanted ≡ old.wanted
-    → ((q : Place) → same_place p q ≡ false → target_of new.waits q ≡ target_of old.waits q)
-    → new.waits.drivers ≡ old.waits.drivers → AreMarks drivers c new
-forgotten drivers c p old new h here run wanted others same = record {
-  run = ap (λ (m : MarkList). m.drivers) run ∙ h.run;
-  wanted = ap (λ (m : MarkList). m.drivers) wanted ∙ h.wanted;
-  waits = same ∙ h.waits;
-  waiting = λ q clear. rw wanted (h.waiting q (subst (λ (m : MarkList). has_mark m q ≡ false) run clear));
-  full = λ q w. h.full q (subst (λ (m : MarkList). has_mark m q ≡ true) wanted w);
-  held_up = λ r q clear e. elim (cases_Bool (same_place p r)) [
-    | inl y ↦ absurd (not_it r q (place_is p r y) (subst (λ (m : MarkList). has_mark m r ≡ false) run clear) e)
-    | inr other ↦ others r other ∙ h.held_up r q (subst (λ (m : MarkList). has_mark m r ≡ false) run clear) e
-  ];
-} where
-  not_it : (r q : Place) → p ≡ r → has_mark old.run r ≡ false → next_of_first drivers c r ≡ Some q → ⊥
-  not_it r q k clear e = elim here [
-    | inl marked ↦ false≢true (sym clear ∙ subst (λ (x : Place). has_mark old.run x ≡ true) k marked)
-    | inr none ↦
-        none-some q (sym (ap (next_of drivers c r) (subst (λ (x : Place). first_message c.flow x ≡ None) k none)) ∙ e)
-  ]
+-- ---- a run mark is cleared
 
--- ---- the place that is waited for
-
--- where no mark but that of the next place may be new, each wanted place was wanted before, or is the next one
-pub few_wanted : (to q : Place) (old new : MarkList) (next : Option Place) → next ≡ Some to
-    → (same_place to q ≡ false → has_mark new q ≡ has_mark old q) → has_mark new q ≡ true
-    → (has_mark old q ≡ true) ⊎ (next ≡ Some q)
-few_wanted to q old new next is others h = elim (cases_Bool (same_place to q)) [
-  | inl t ↦ inr (is ∙ ap (λ (x : Place). Some x) (place_is to q t))
-  | inr f ↦ inl (sym (others f) ∙ h)
+-- where the run mark of one number is cleared, each other number without a run mark had none before
+still_run : (old new : BitTable) (n k : ℕ) → ((m : ℕ) → has_bit new m ≡ has_bit_but old n m) → n ≢ k
+    → has_bit new k ≡ false → has_bit old k ≡ false
+still_run old new n k gone other clear = elim (cases_Bool (has_bit old k)) [
+  | inl t ↦ absurd (false≢true (sym clear ∙ (gone k ∙ rw t (rw (ne_eqb n k other) refl))))
+  | inr f ↦ f
 ]
 
--- where the next place has a mark if its stream is known, so has any place that is the next one
-pub there_too : (to q : Place) (m : MarkList) (next : Option Place) (drivers : List DriverSpec) → next ≡ Some to
-    → (IsKnown drivers to.stream → has_mark m to ≡ true) → next ≡ Some q → IsKnown drivers q.stream
-    → has_mark m q ≡ true
-there_too to q m next drivers is here at known =
-    let both : ◌≡◌ {A = Option Place} (Some to) (Some q) = sym is ∙ at in let same : to ≡ q = cc in
-    subst (λ (x : Place). IsKnown drivers x.stream → has_mark m x ≡ true) same here known
+-- the marks with other run marks
+abbrev pub with_run : Marks → BitTable → Marks
+with_run m run = record { run = run; wanted = m.wanted; waits = m.waits }
+
+-- a place from which no message goes next needs no mark
+pub unmarked : (drivers : List DriverSpec) (c : Configuration) (n : ℕ) (p : Place) (m : Marks) (run : BitTable)
+    → AreMarks drivers c m → IsAt drivers n p → next_of_first drivers c p ≡ None
+    → ((k : ℕ) → has_bit run k ≡ has_bit_but m.run n k) → run.count ≡ m.run.count → AreMarks drivers c (with_run m run)
+unmarked drivers c n p m run h here none gone same = record {
+  over = record { run = same ∙ h.over.run; wanted = h.over.wanted; waits = h.over.waits; many = h.over.many };
+  held_up = λ i r q there clear e. elim (cases_eq n i) [
+    | inl is ↦ absurd (none-some q (sym none
+        ∙ subst (λ (x : Place). next_of_first drivers c x ≡ Some q) (sym (one_place drivers n i p r here there is)) e))
+    | inr other ↦
+        let held = h.held_up i r q there (still_run m.run run n i gone other clear) e in (
+          held.0,
+          record { number = held.1.number; there = held.1.there; noted = held.1.noted },
+        )
+  ];
+  listed = h.listed;
+}
+
+-- these rings, where one number is in that of another
+abbrev pub with_waiter : RingTable → ℕ → ℕ → RingTable
+with_waiter t n j = record t { owners = set t.owners n (suc j) }
+
+-- the mark of a number goes, which waits for a full one now, and that is wanted
+pub record IsHeldUp (n j : ℕ) (m : Marks) (run wanted : BitTable) : Type 0 where
+  pub gone : (k : ℕ) → has_bit run k ≡ has_bit_but m.run n k
+  pub wants : has_bit wanted j ≡ true
+  pub kept : (k : ℕ) → has_bit m.wanted k ≡ true → has_bit wanted k ≡ true
+  pub run_over : run.count ≡ m.run.count
+  pub wanted_over : wanted.count ≡ m.wanted.count
+
+-- what is left of the marks
+pub held_up : (drivers : List DriverSpec) (c : Configuration) (n j : ℕ) (p q : Place) (m : Marks)
+    (run wanted : BitTable)
+    → AreMarks drivers c m → IsAt drivers n p → IsAt drivers j q → n < length (places_of drivers)
+    → next_of_first drivers c p ≡ Some q → is_full c q ≡ true
+    → IsHeldUp n j m run wanted
+    → AreMarks drivers c (record { run = run; wanted = wanted; waits = with_waiter m.waits n j })
+held_up drivers c n j p q m run wanted h here to_at below next full k = record {
+  over = record {
+    run = k.run_over ∙ h.over.run;
+    wanted = k.wanted_over ∙ h.over.wanted;
+    waits = h.over.waits;
+    many = omega (arith, h.over.many, length-set m.waits.owners n (suc j));
+  };
+  held_up = λ i r s there clear e. elim (cases_eq n i) [
+    | inl is ↦
+        let same : q ≡ s = same_Some q s (sym next
+        ∙ subst (λ (x : Place). next_of_first drivers c x ≡ Some s)
+        (sym (one_place drivers n i p r here there is)) e) in (
+          subst (λ (x : Place). is_full c x ≡ true) same full,
+          record {
+            number = j;
+            there = subst (IsAt drivers j) same to_at;
+            noted = (
+              omega (arith, below, is, h.over.waits),
+              subst (λ (x : ℕ). at (set m.waits.owners n (suc j)) x ≡ suc j) is here_now,
+            );
+          },
+        )
+    | inr other ↦
+        let held = h.held_up i r s there (still_run m.run run n i k.gone other clear) e in (
+          held.0,
+          record {
+            number = held.1.number;
+            there = held.1.there;
+            noted = (held.1.noted.0, elsewhere i other ∙ held.1.noted.1);
+          },
+        )
+  ];
+  listed = λ i s noted. elim (cases_eq n i) [
+    | inl is ↦
+        let owner : at (set m.waits.owners n (suc j)) n ≡ suc s =
+        subst (λ (x : ℕ). at (set m.waits.owners n (suc j)) x ≡ suc s) (sym is) noted.1 in
+        let same : j ≡ s = omega (arith, here_now, owner) in
+        subst (λ (x : ℕ). has_bit wanted x ≡ true) same k.wants
+    | inr other ↦ k.kept s (h.listed i s (noted.0, sym (elsewhere i other) ∙ noted.1))
+  ];
+} where
+  here_now : at (set m.waits.owners n (suc j)) n ≡ suc j
+  here_now = get_or-set_same m.waits.owners n (suc j) 0 (omega (arith, below, h.over.many))
+
+  elsewhere : (i : ℕ) → n ≢ i → at (set m.waits.owners n (suc j)) i ≡ at m.waits.owners i
+  elsewhere i other = get_or-set_other m.waits.owners n i (suc j) 0 (λ e. other (sym e))
 
 -- ---- at first
 
 -- no marks beside the empty configuration
-pub marks_at_first : (drivers : List DriverSpec) (m : Marks) → m.run.drivers ≡ drivers → m.wanted.drivers ≡ drivers
-    → m.waits.drivers ≡ drivers → m.run.marked ≡ [] → m.wanted.marked ≡ []
-    → IsAtRest drivers (record { configuration = empty; run = nowhere; wanted = nowhere })
-    → AreMarks drivers empty m × HasNoRunMark (has_mark m.run)
-marks_at_first drivers m run wanted waits no_run no_wanted rest = (
-  record {
-    run = run;
-    wanted = wanted;
-    waits = waits;
-    waiting = at_rest.marks;
-    full = λ p h. absurd (false≢true (sym (ap (list_any (same_place p)) no_wanted) ∙ h));
-    held_up = λ p q clear e. absurd (none-some q e);
-  },
-  at_rest.none,
-) where
-  rested : (xs ys : List Place) → xs ≡ [] → ys ≡ []
-      → IsAtRest drivers
-      (record {
-        configuration = empty;
-        run = λ p. list_any (same_place p) xs;
-        wanted = λ p. list_any (same_place p) ys;
-      })
-  rested xs ys e f = rw (e, f) rest
-
-  at_rest : IsAtRest drivers (marked_configuration empty m)
-  at_rest = rested m.run.marked m.wanted.marked no_run no_wanted
+pub marks_at_first : (drivers : List DriverSpec) (m : Marks) → AreFor (length (places_of drivers)) m
+    → ((n : ℕ) → n < length (places_of drivers) → at m.waits.owners n ≡ 0) → AreMarks drivers empty m
+marks_at_first drivers m over none = record {
+  over = over;
+  held_up = λ i p q there clear e. absurd (none-some q e);
+  listed = λ i j noted. absurd (no_waiter i j noted);
+} where
+  no_waiter : (i j : ℕ) → IsNotedFor m i j → ⊥
+  no_waiter i j noted = let zero_there = none i (omega (arith, noted.0, over.waits))
+      in omega (arith, zero_there, noted.1)

@@ -24,7 +24,7 @@ use Rattle.smx_model.specs.RunMarks.{next_of, next_of_first}
 use Rattle.smx_model.specs.Standing.{is_below}
 use Rattle.smx_model.specs.TurnedPlaces.{of_stream}
 use Rattle.smx_commands.proofs.AcceptedLemmas.{bound, free_says, leaf_says}
-use Rattle.smx_config.proofs.AlikeLemmas.{read_alike}
+use Rattle.smx_config.proofs.LinkLemmas.{read_links}
 use Rattle.smx_queues.proofs.PlaceLemmas.{place_is}
 
 -- ---- what an accepted lookup says
@@ -56,7 +56,7 @@ nowhere_next drivers c p none = by (first_message c.flow p) where
   by (Some m) = none m
 
 -- nothing goes up from a stream that is not below a link
-pub read_side_stays : (drivers : List DriverSpec) (c : Configuration) (p : Place) → p.side ≡ side.Read
+read_side_stays : (drivers : List DriverSpec) (c : Configuration) (p : Place) → p.side ≡ side.Read
     → is_below c.links p.stream ≡ false → next_of_first drivers c p ≡ None
 read_side_stays drivers c p at free = nowhere_next drivers c p
     (λ m. rw (at, none_found (λ l. same_stream l.lower p.stream) c.links free) refl)
@@ -79,7 +79,7 @@ pub read_stays : (drivers : List DriverSpec) (c : Configuration) (process fd : �
     → next_of_first drivers x.0 p ≡ None
 read_stays drivers c process fd x p e t =
     let found = bound (free_stream c process fd) _ x e in
-    let links = (read_alike drivers c found.0 x found.2).links in
+    let links = read_links drivers c found.0 x found.2 in
     stays_at drivers x.0 (read_side found.0) p (rw found.1 at t)
     (read_side_stays drivers x.0 (read_side found.0) refl
     (subst (λ (ls : List Link). is_below ls found.0 ≡ false) (sym links) (free_says c process fd found.0 found.1).1))

@@ -22,7 +22,7 @@ use Rattle.smx_types.specs.declared.stream.StreamId.{StreamId}
 use Rattle.smx_model.specs.Commands.{done_outcome, outcome, step}
 use Rattle.smx_model.specs.Configuration.{Configuration, QueuedMessage, bind_before, route_before, same_place}
 use Rattle.smx_model.specs.Configuration.{same_side, same_stream, read_side, write_side}
-use Rattle.smx_model.specs.FreedPlaces.{FreesOnly, freed_by}
+use Rattle.smx_model.specs.FreedPlaces.{FreesOnly, HaveFullPlacesMessages, freed_by}
 use Rattle.smx_model.specs.Lookups.{free_stream, live_leaf, live_stream, mux_stream, stream_of}
 use Rattle.smx_model.specs.Ordered.{with_inserted}
 use Rattle.smx_model.specs.Outcomes.{refuse}
@@ -40,15 +40,20 @@ use Rattle.smx_commands.specs.declared.step_error.StepError.TheVariants as step_
 use Rattle.smx_config.specs.Marking.{AreMarks, IsWoken}
 use Rattle.smx_commands.specs.Machine.{Machine}
 use Rattle.smx_commands.specs.Refinement.{Refines, answer_of}
-use Rattle.smx_config.specs.Wakes.{IsEnough, arrives, drops_none, freed_under, is_either_side, on_stream, turned_under}
+use Rattle.smx_config.specs.Wakes.{arrives, drops_none, freed_under, is_either_side, on_stream, turned_under}
 use Rattle.smx_config.specs.Wakes.{wakes_of}
 use Rattle.smx_config.specs.declared.wakes.Wakes.{Wakes}
 use Rattle.smx_config.specs.declared.wakes.Wakes.TheVariants as wakes
+use Rattle.smx_model.specs.KeptConfigurations.{IsSound}
 use Rattle.smx_model.proofs.IdleSweepLemmas.{swept_idle}
+use Rattle.smx_model.proofs.MarkedCommandLemmas.{few_freed}
+use Rattle.smx_model.proofs.TurningCommandLemmas.{outcomes_turn}
+use Rattle.smx_model.proofs.UndroppedLemmas.{undropped_if}
 use Rattle.smx_model.proofs.SweptLemmas.{stream_self}
 use Rattle.smx_model.proofs.TurningLemmas.{same_stream_is}
 use Rattle.smx_commands.proofs.AcceptedLemmas.{accepted, bound}
 use Rattle.smx_config.proofs.StayingLemmas.{read_stays, transmit_stays}
+use Rattle.smx_config.proofs.WakeLemmas.{marks_after}
 
 -- ---- bindings and routes change no link and no message
 
@@ -259,11 +264,11 @@ turned_is drivers c new from to e h = subst
 
 -- ---- what holds of an accepted outcome
 
--- what follows from four properties of an accepted result holds of it, where all four do
-pub of_four : {X : Type 0} {P Q S T R : X → Type 0} (r : Result X Fault) → IfOk r P → IfOk r Q → IfOk r S → IfOk r T
-    → ((x : X) → r ≡ Ok x → P x → Q x → S x → T x → R x) → IfOk r R
-of_four (Ok x) p q s t f = f x refl p q s t
-of_four (Err e) p q s t f = tt
+-- what follows from three properties of an accepted result holds of it, where all three do
+pub of_three : {X : Type 0} {P Q S R : X → Type 0} (r : Result X Fault) → IfOk r P → IfOk r Q → IfOk r S
+    → ((x : X) → r ≡ Ok x → P x → Q x → S x → R x) → IfOk r R
+of_three (Ok x) p q s f = f x refl p q s
+of_three (Err e) p q s f = tt
 
 -- what holds of a result if it is accepted holds of an accepted one
 pub of_accepted : {X : Type 0} (P : X → Type 0) (r : Result X Fault) (x : X) → r ≡ Ok x → IfOk r P → P x
@@ -272,38 +277,43 @@ of_accepted P (Err g) x e h = absurd cc
 
 -- ---- after a command that was performed
 
--- where it is enough to wake what a command may turn and free, the marks are right after it is accepted
-enough_at : (drivers : List DriverSpec) (c : Configuration) (process : ℕ) (k : Command) (m n : Marks)
-    (x : Configuration × Reply) → IsEnough drivers c process k m n → outcome drivers c process k ≡ Ok x
-    → IsWoken x.0 (turned_under x.0 (wakes_of drivers c process k))
-    (freed_under x.1 (wakes_of drivers c process k)) m n
-    → AreMarks drivers x.0 n
-enough_at drivers c process k m n x enough e =
-    of_accepted (λ (y : Configuration × Reply). IsWoken y.0 (turned_under y.0 (wakes_of drivers c process k))
-    (freed_under y.1 (wakes_of drivers c process k)) m n → AreMarks drivers y.0 n) (outcome drivers c process k) x e
-    enough
-
--- where it is enough to wake what a command may turn and free, and that is done after it, the marks are right
-woken_after : (old new : Machine) (process : ℕ) (k : Command) (r : Reply) (w : Wakes) (m n : Marks)
-    → Refines old new process k (Ok r)
-    → w ≡ wakes_of old.drivers old.configuration process k → IsEnough old.drivers old.configuration process k m n
-    → IsWoken new.configuration (turned_under new.configuration w) (freed_under r w) m n
-    → AreMarks new.drivers new.configuration n
-woken_after old new process k r w m n here tells enough woken =
-    subst (λ (ds : List DriverSpec). AreMarks ds new.configuration n) (sym here.0)
-    (enough_at old.drivers old.configuration process k m n (new.configuration, r) enough here.1
-    (subst (λ (x : Wakes). IsWoken new.configuration (turned_under new.configuration x) (freed_under r x) m n) tells
-    woken))
+-- where all that an accepted command may turn and free was woken, the marks are right after it
+enough : (drivers : List DriverSpec) (c : Configuration) (process : ℕ) (k : Command) (m n : Marks) → IsSound drivers c
+    → HaveFullPlacesMessages c → AreMarks drivers c m → IfOk (outcome drivers c process k) (λ x.
+    IsWoken drivers x.0 (turned_under x.0 (wakes_of drivers c process k))
+    (freed_under x.1 (wakes_of drivers c process k)) m n → AreMarks drivers x.0 n)
+enough drivers c process k m n sound filled marks = of_three (outcome drivers c process k)
+    (few_freed drivers c process k sound) (outcomes_turn drivers c process k sound)
+    (undropped_if drivers c process k sound.serials filled)
+    (λ x accepted frees_few turns_only none_freed woken.
+    let f = frees_among drivers c process k x frees_few none_freed in
+    marks_after drivers c x.0 (turned_under x.0 (wakes_of drivers c process k)) f.freed
+    (freed_under x.1 (wakes_of drivers c process k)) m n marks
+    (record {
+      frees = f.among;
+      turns_only = turns_few drivers c process k x sound.swept accepted turns_only;
+      frees_only = f.only;
+    }) woken)
 
 -- the same, by the test that it was accepted, wherever its reply is written
 pub woken_if : (old new : Machine) (process : ℕ) (k : Command) (answer : Result (Unit {0}) StepError) (r : Reply)
     (w : Wakes) (m n : Marks) → is_ok answer ≡ true → Refines old new process k (answer_of answer r)
-    → w ≡ wakes_of old.drivers old.configuration process k → IsEnough old.drivers old.configuration process k m n
-    → IsWoken new.configuration (turned_under new.configuration w) (freed_under r w) m n
+    → w ≡ wakes_of old.drivers old.configuration process k → IsSound old.drivers old.configuration
+    → HaveFullPlacesMessages old.configuration → AreMarks old.drivers old.configuration m
+    → IsWoken new.drivers new.configuration (turned_under new.configuration w) (freed_under r w) m n
     → AreMarks new.drivers new.configuration n
-woken_if old new process k (Ok u) r w m n is refines tells enough woken =
-    woken_after old new process k r w m n refines tells enough woken
-woken_if old new process k (Err e) r w m n is refines tells enough woken = absurd (false≢true is)
+woken_if old new process k (Ok u) r w m n is refines tells sound filled marks woken =
+    subst (λ (ds : List DriverSpec). AreMarks ds new.configuration n) (sym refines.0)
+    (of_accepted (λ (y : Configuration × Reply).
+    IsWoken old.drivers y.0 (turned_under y.0 (wakes_of old.drivers old.configuration process k))
+    (freed_under y.1 (wakes_of old.drivers old.configuration process k)) m n → AreMarks old.drivers y.0 n)
+    (outcome old.drivers old.configuration process k) (new.configuration, r) refines.1
+    (enough old.drivers old.configuration process k m n sound filled marks)
+    (subst (λ (x : Wakes). IsWoken old.drivers new.configuration (turned_under new.configuration x) (freed_under r x) m
+    n) tells (subst (λ (ds : List DriverSpec).
+    IsWoken ds new.configuration (turned_under new.configuration w) (freed_under r w) m n) refines.0 woken)))
+woken_if old new process k (Err e) r w m n is refines tells sound filled marks woken =
+    absurd (false≢true is)
 
 -- where it was not accepted, nothing has changed
 pub unchanged : (old new : Machine) (process : ℕ) (k : Command) (result : Result Reply StepError)
@@ -311,6 +321,13 @@ pub unchanged : (old new : Machine) (process : ℕ) (k : Command) (result : Resu
 unchanged old new process k (Ok r) not_ok refines = absurd (false≢true (sym not_ok))
 unchanged old new process k (Err (step_error.Refused f)) not_ok refines = refines.0
 unchanged old new process k (Err step_error.NoMemory) not_ok refines = refines.0
+
+-- no command changes the drivers
+pub same_drivers : (old new : Machine) (process : ℕ) (k : Command) (result : Result Reply StepError)
+    → Refines old new process k result → new.drivers ≡ old.drivers
+same_drivers old new process k (Ok r) refines = refines.0
+same_drivers old new process k (Err (step_error.Refused f)) refines = ap (λ (m : Machine). m.drivers) refines.0
+same_drivers old new process k (Err step_error.NoMemory) refines = ap (λ (m : Machine). m.drivers) refines.0
 
 -- where its reply is a fault, nothing has changed once messages have moved on
 pub fault_keeps : (old mid new : Machine) (process : ℕ) (k : Command) (result : Result Reply StepError) (r : Reply)

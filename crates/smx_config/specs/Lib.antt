@@ -1,12 +1,8 @@
 pub mod Machine
 pub mod DriverFaults
 pub mod FaultWords
-pub mod Ways
-pub mod Moves
 pub mod Marking
+pub mod Moves
 pub mod Wakes
 pub mod ModelOfConfig
 pub mod Verdicts
-pub mod ToldReplies
-pub mod GrowingChecks
-pub mod WorkedToldReplies

@@ -1,100 +1,121 @@
--- Run marks, wanted marks and the places that wait beside the lists, and what marks a change puts and takes. No
--- public clause needs this.
-use Rattle.std.specs.Prelude.{◌≡◌, ◌≢◌, ℕ, Bool, true, false, ◌&&◌, ◌==◌, List, None, Some}
+-- Run marks, wanted marks and the places that wait, by the numbers of places, and what marks a change puts and takes.
+-- No public clause needs this.
+use Rattle.std.specs.Prelude.{◌≡◌, ◌≢◌, ◌⊎◌, ℕ, suc, ◌<◌, ◌≤◌, Bool, true, false, ◌&&◌, ◌==◌, List, length}
+use Rattle.std.specs.Prelude.{Option, None, Some, slice_get}
 use Rattle.smx_types.specs.declared.driver.DriverSpec.{DriverSpec}
 use Rattle.smx_types.specs.declared.stream.Place.{Place}
-use Rattle.smx_types.specs.declared.stream.Side.TheVariants as side
-use Rattle.smx_model.specs.Configuration.{Configuration, QueuedMessage, same_place, same_side}
-use Rattle.smx_model.specs.KnownStreams.{IsKnown}
-use Rattle.smx_model.specs.LoneMessages.{IsAlone}
+use Rattle.smx_types.specs.declared.stream.Side.{Side}
+use Rattle.smx_model.specs.Configuration.{Configuration, QueuedMessage, same_side}
 use Rattle.smx_model.specs.Queues.{first_message, is_full}
-use Rattle.smx_model.specs.RunMarks.{asks_up, is_below_driver, next_of_first}
-use Rattle.smx_model.specs.SettlingByMarks.{HasItsMarks, MarkedConfiguration}
-use Rattle.smx_queues.specs.PlaceMarks.{MarkList, has_mark}
-use Rattle.smx_queues.specs.Waiters.{WaitList, target_of}
+use Rattle.smx_model.specs.RunMarks.{asks_up, has_addr, next_of_first}
+use Rattle.smx_queues.specs.Bits.{BitTable, has_bit}
+use Rattle.smx_queues.specs.PlaceLists.{places_of}
+use Rattle.smx_queues.specs.Rings.{at}
 use Rattle.smx_config.specs.declared.marks.Marks.{Marks}
 
--- the configuration with its marks
-abbrev pub marked_configuration : Configuration → Marks → MarkedConfiguration
-marked_configuration c m = record { configuration = c; run = has_mark m.run; wanted = has_mark m.wanted }
+-- the place has this number
+abbrev pub IsAt : List DriverSpec → ℕ → Place → Type 0
+IsAt drivers n p = slice_get (places_of drivers) n ≡ Some p
 
--- that the first place waits for the second is noted
-abbrev pub IsNotedFor : Marks → Place → Place → Type 0
-IsNotedFor m p q = target_of m.waits p ≡ Some q
+-- some place has this number
+abbrev pub IsNumber : List DriverSpec → ℕ → Type 0
+IsNumber drivers n = n < length (places_of drivers)
 
--- over these drivers, each place without a run mark waits, a wanted mark stands at full places alone, and where there
--- is no run mark and the first message has a next place, that it waits for that place is noted
+-- there are marks for so many numbers
+pub record AreFor (count : ℕ) (m : Marks) : Type 0 where
+  pub run : m.run.count ≡ count
+  pub wanted : m.wanted.count ≡ count
+  pub waits : m.waits.count ≡ count
+  pub many : count ≤ length m.waits.owners
+
+-- there are marks for the places of these drivers
+abbrev pub AreOver : List DriverSpec → Marks → Type 0
+AreOver drivers m = AreFor (length (places_of drivers)) m
+
+-- that the first number waits for the second is noted
+abbrev pub IsNotedFor : Marks → ℕ → ℕ → Type 0
+IsNotedFor m i j = (i < m.waits.count) × (at m.waits.owners i ≡ suc j)
+
+-- each number for which another one waits is wanted
+abbrev pub IsListed : Marks → Type 0
+IsListed m = (i j : ℕ) → IsNotedFor m i j → has_bit m.wanted j ≡ true
+
+-- that a number waits for that of the place is noted
+pub record IsWaitingFor (drivers : List DriverSpec) (m : Marks) (i : ℕ) (q : Place) : Type 0 where
+  pub number : ℕ
+  pub there : IsAt drivers number q
+  pub noted : IsNotedFor m i number
+
+-- over these drivers, a place without a run mark whose first message has a next place waits for that, and it is full;
+-- and each place that another one waits for is wanted
 pub record AreMarks (drivers : List DriverSpec) (c : Configuration) (m : Marks) : Type 0 where
-  pub run : m.run.drivers ≡ drivers
-  pub wanted : m.wanted.drivers ≡ drivers
-  pub waits : m.waits.drivers ≡ drivers
-  pub waiting : HasItsMarks drivers (marked_configuration c m)
-  pub full : (p : Place) → has_mark m.wanted p ≡ true → is_full c p ≡ true
-  pub held_up : (p q : Place) → has_mark m.run p ≡ false → next_of_first drivers c p ≡ Some q → IsNotedFor m p q
+  pub over : AreOver drivers m
+  pub held_up : (i : ℕ) (p q : Place) → IsAt drivers i p → has_bit m.run i ≡ false → next_of_first drivers c p ≡ Some q
+      → (is_full c q ≡ true) × IsWaitingFor drivers m i q
+  pub listed : IsListed m
 
--- by these marks, the message at the place is the only one that may move on
-abbrev pub MovesAlone : List DriverSpec → Configuration → Marks → Place → Type 0
-MovesAlone drivers c m p = IsAlone drivers c (has_mark m.run) (has_mark m.wanted) p
+-- no number is marked
+abbrev pub HasNoBit : BitTable → Type 0
+HasNoBit b = (n : ℕ) → has_bit b n ≡ false
 
--- a write side of the driver's streams
-abbrev pub is_write_of : ℕ → Place → Bool
-is_write_of driver p = same_side p.side side.Write && (p.stream.driver == driver)
+-- the least marked number
+pub record IsLeastBit (b : BitTable) (n : ℕ) : Type 0 where
+  pub below : n < b.count
+  pub marked : has_bit b n ≡ true
+  pub least : (m : ℕ) → m < n → has_bit b m ≡ false
 
--- the read side of a stream below a link of the driver
-abbrev pub is_read_below_driver : Configuration → ℕ → Place → Bool
-is_read_below_driver c driver p = same_side p.side side.Read && is_below_driver c driver p.stream
+-- the first message on this side of a stream of the driver has this address
+abbrev pub asks_at : Configuration → ℕ → Side → ℕ → Place → Bool
+asks_at c driver s addr p =
+    (same_side p.side s && (p.stream.driver == driver)) && has_addr addr (first_message c.flow p)
 
 -- the first message at the read side of a stream of this lower driver, below the upper one, has this address
 abbrev pub asks_between : Configuration → ℕ → ℕ → ℕ → Place → Bool
 asks_between c driver addr lower p = asks_up c driver addr p && (p.stream.driver == lower)
 
 -- of the places that pass the test, those with a message have a mark, and all that had one
-pub record IsMarkedWhere (flow : List QueuedMessage) (test : Place → Bool) (old new : MarkList) : Type 0 where
-  pub kept : (p : Place) → has_mark old p ≡ true → has_mark new p ≡ true
-  pub marked : (p : Place) → IsKnown old.drivers p.stream → first_message flow p ≢ None → test p ≡ true
-      → has_mark new p ≡ true
-  pub drivers : new.drivers ≡ old.drivers
+pub record IsMarkedWhere (drivers : List DriverSpec) (flow : List QueuedMessage) (test : Place → Bool)
+    (old new : BitTable) : Type 0 where
+  pub kept : (i : ℕ) → has_bit old i ≡ true → has_bit new i ≡ true
+  pub marked : (i : ℕ) (p : Place) → IsAt drivers i p → first_message flow p ≢ None → test p ≡ true
+      → has_bit new i ≡ true
+  pub count : new.count ≡ old.count
 
--- the place has a mark too
-pub record IsOneMore (place : Place) (old new : MarkList) : Type 0 where
-  pub here : IsKnown old.drivers place.stream → has_mark new place ≡ true
-  pub others : (q : Place) → same_place place q ≡ false → has_mark new q ≡ has_mark old q
-  pub kept : (q : Place) → has_mark old q ≡ true → has_mark new q ≡ true
-  pub drivers : new.drivers ≡ old.drivers
+-- the number of the place has a mark if the first message there has the address, and all that had one
+pub record IsMarkedIf (drivers : List DriverSpec) (c : Configuration) (addr : ℕ) (place : Place) (old new : BitTable)
+    : Type 0 where
+  pub here : (i : ℕ) → IsAt drivers i place → has_addr addr (first_message c.flow place) ≡ true → has_bit new i ≡ true
+  pub kept : (i : ℕ) → has_bit old i ≡ true → has_bit new i ≡ true
+  pub count : new.count ≡ old.count
 
--- of all these marks those are there that matter: of places whose first message has a next place
-pub record HasNeeded (drivers : List DriverSpec) (c : Configuration) (all some : MarkList) : Type 0 where
-  pub needed : (p : Place) → has_mark all p ≡ true → next_of_first drivers c p ≢ None → has_mark some p ≡ true
-  pub same_drivers : some.drivers ≡ all.drivers
+-- the number has a mark too, unless its place had messages before
+pub record IsMarkedUnless (filled : Bool) (n : ℕ) (old new : BitTable) : Type 0 where
+  pub here : filled ≡ false → has_bit new n ≡ true
+  pub kept : (i : ℕ) → has_bit old i ≡ true → has_bit new i ≡ true
+  pub count : new.count ≡ old.count
 
--- the place has a mark too, unless it had messages before
-pub record IsMarkedUnless (filled : Bool) (place : Place) (old new : MarkList) : Type 0 where
-  pub here : filled ≡ false → IsKnown old.drivers place.stream → has_mark new place ≡ true
-  pub kept : (q : Place) → has_mark old q ≡ true → has_mark new q ≡ true
-  pub drivers : new.drivers ≡ old.drivers
+-- run marks are kept, and what waited waits still or has one
+pub record AreKept (old new : Marks) : Type 0 where
+  pub kept : (i : ℕ) → has_bit old.run i ≡ true → has_bit new.run i ≡ true
+  pub waiting : (i j : ℕ) → IsNotedFor old i j → (has_bit new.run i ≡ true) ⊎ IsNotedFor new i j
+  pub few : (i j : ℕ) → IsNotedFor new i j → IsNotedFor old i j
+  pub listed : IsListed new
+  pub over : (count : ℕ) → AreFor count old → AreFor count new
 
--- the places that wait for this one have a mark, and all that had one
-pub record AreWaitersMarked (waits : WaitList) (q : Place) (old new : MarkList) : Type 0 where
-  pub kept : (p : Place) → has_mark old p ≡ true → has_mark new p ≡ true
-  pub marked : (p : Place) → IsKnown old.drivers p.stream → target_of waits p ≡ Some q → has_mark new p ≡ true
-  pub same_drivers : new.drivers ≡ old.drivers
+-- the same, and none waits for the number any more
+pub record AreWaitersMarked (j : ℕ) (old new : Marks) : Type 0 where
+  pub kept : AreKept old new
+  pub none : (i : ℕ) → IsNotedFor new i j → ⊥
 
--- of the freed places those that are wanted and no longer full are wanted no more, and what waits for them has a run
--- mark
-pub record IsReleased (c : Configuration) (freed : Place → Bool) (old new : Marks) : Type 0 where
-  pub kept : (p : Place) → has_mark old.run p ≡ true → has_mark new.run p ≡ true
-  pub waiters : (q p : Place) → freed q ≡ true → is_full c q ≡ false → has_mark old.wanted q ≡ true
-      → IsKnown old.run.drivers p.stream → IsNotedFor old p q → has_mark new.run p ≡ true
-  pub wanted : (q : Place) → has_mark old.wanted q ≡ true → is_full c q ≡ true → has_mark new.wanted q ≡ true
-  pub gone : (q : Place) → freed q ≡ true → has_mark new.wanted q ≡ true → is_full c q ≡ true
-  pub left : (q : Place) → freed q ≡ false → has_mark old.wanted q ≡ true → has_mark new.wanted q ≡ true
-  pub fewer : (q : Place) → has_mark new.wanted q ≡ true → has_mark old.wanted q ≡ true
-  pub run_drivers : new.run.drivers ≡ old.run.drivers
-  pub wanted_drivers : new.wanted.drivers ≡ old.wanted.drivers
-  pub waits : new.waits ≡ old.waits
+-- run marks are kept, and none waits any more for a freed place that is not full
+pub record IsReleased (drivers : List DriverSpec) (c : Configuration) (freed : Place → Bool) (old new : Marks)
+    : Type 0 where
+  pub kept : AreKept old new
+  pub gone : (i j : ℕ) (q : Place) → IsAt drivers j q → IsNotedFor new i j → freed q ≡ true → is_full c q ≡ true
 
 -- the same, and the turned places with a message have a run mark
-pub record IsWoken (c : Configuration) (turned freed : Place → Bool) (old new : Marks) : Type 0 where
-  pub released : IsReleased c freed old new
-  pub turned_ones : (p : Place) → IsKnown old.run.drivers p.stream → first_message c.flow p ≢ None → turned p ≡ true
-      → has_mark new.run p ≡ true
+pub record IsWoken (drivers : List DriverSpec) (c : Configuration) (turned freed : Place → Bool) (old new : Marks)
+    : Type 0 where
+  pub released : IsReleased drivers c freed old new
+  pub turned_ones : (i : ℕ) (p : Place) → IsAt drivers i p → first_message c.flow p ≢ None → turned p ≡ true
+      → has_bit new.run i ≡ true

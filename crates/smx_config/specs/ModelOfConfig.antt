@@ -2,13 +2,10 @@
 use Rattle.smx_config.specs.declared.config.Config.TheInside.{Inside}
 use Rattle.smx_model.specs.FreedPlaces.{HaveFullPlacesMessages}
 use Rattle.smx_model.specs.KeptConfigurations.{IsKept}
-use Rattle.smx_model.specs.SettlingByMarks.{HasNoRunMark}
-use Rattle.smx_queues.specs.PlaceMarks.{has_mark}
 use Rattle.smx_commands.specs.Machine.{Machine}
-use Rattle.smx_config.specs.Marking.{AreMarks}
-use Rattle.smx_config.specs.Ways.{AreWays}
+use Rattle.smx_config.specs.Marking.{AreMarks, HasNoBit}
 
--- the tables are the value that a contract sees: the marks and ways beside them tell nothing more
+-- the tables are the value that a contract sees: the marks beside them tell nothing more
 abbrev pub machine_of : Inside → Machine
 machine_of c = c.tables
 
@@ -18,10 +15,7 @@ pub record ConfigInvariant (c : Inside) : Type 0 where
   pub kept : IsKept c.tables.drivers c.tables.configuration
   -- each full place has messages, so that what is done with none dropped frees no place
   pub filled : HaveFullPlacesMessages c.tables.configuration
-  -- each place without a run mark waits, a wanted mark stands at full places alone, and what is held up is listed
-  -- with the place that holds it up
+  -- each place without a run mark whose first message has a next place waits for that, which is full and wanted
   pub marks : AreMarks c.tables.drivers c.tables.configuration c.marks
-  -- where messages go on to, as it is noted, they go on to still
-  pub ways : AreWays c.tables.drivers c.tables.configuration c.ways
   -- none has a run mark
-  pub none : HasNoRunMark (has_mark c.marks.run)
+  pub none : HasNoBit c.marks.run

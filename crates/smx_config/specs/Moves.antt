@@ -1,30 +1,47 @@
 -- The move that settling makes next. No public clause needs this.
-use Rattle.std.specs.Prelude.{◌≡◌, ℕ, true, List, Option, Some, None, if◌then◌else◌}
+use Rattle.std.specs.Prelude.{◌≡◌, ℕ, true, false, List, Option, Some, None}
 use Rattle.smx_config.specs.declared.settling.Move.{Move}
 use Rattle.smx_types.specs.declared.driver.DriverSpec.{DriverSpec}
 use Rattle.smx_types.specs.declared.stream.Place.{Place}
 use Rattle.smx_model.specs.Configuration.{Configuration}
-use Rattle.smx_model.specs.KeptConfigurations.{IsSound}
-use Rattle.smx_model.specs.Queues.{first_message, is_full}
-use Rattle.smx_model.specs.RunMarks.{has_addr}
-use Rattle.smx_model.specs.Settling.{◌>>=◌, after_settling_within, next_open_place, least_movable}
-use Rattle.smx_config.specs.Ways.{LeadAlike}
+use Rattle.smx_model.specs.Queues.{is_full}
+use Rattle.smx_model.specs.RunMarks.{next_of_first}
+use Rattle.smx_model.specs.Settling.{next_open_place, least_movable}
+use Rattle.smx_config.specs.Marking.{IsAt}
 
--- the place, unless it is full
-abbrev pub if_open : Configuration → Option Place → Option Place
-if_open c o = do
-  q ← o
-  if is_full c q then None else Some q
+-- the place of the number is not full
+abbrev pub IsOpenAt : List DriverSpec → Configuration → ℕ → Type 0
+IsOpenAt drivers c n = (q : Place) → IsAt drivers n q → is_full c q ≡ false
 
--- by some of so many moves, which leave others
-pub record HasMoved (drivers : List DriverSpec) (old new : Configuration) (moves left : ℕ) : Type 0 where
-  pub comes_to : after_settling_within drivers left new ≡ after_settling_within drivers moves old
-  pub sound : IsSound drivers new
-  pub alike : LeadAlike old new
+-- the place of the number is full
+abbrev pub IsFullAt : List DriverSpec → Configuration → ℕ → Type 0
+IsFullAt drivers c n = (q : Place) → IsAt drivers n q → is_full c q ≡ true
 
--- from the least movable place to its next open place, with the address of its first message; or no place is movable
+-- the first message at the place goes next to that of the number
+pub record GoesTo (drivers : List DriverSpec) (c : Configuration) (p : Place) (n : ℕ) : Type 0 where
+  pub place : Place
+  pub there : IsAt drivers n place
+  pub next : next_of_first drivers c p ≡ Some place
+
+-- the number of the place where the first message of a place goes next, if there is one
+abbrev pub IsNextOf : List DriverSpec → Configuration → Place → Option ℕ → Type 0
+IsNextOf drivers c p None = next_of_first drivers c p ≡ None
+IsNextOf drivers c p (Some n) = GoesTo drivers c p n
+
+-- from the place of one number to that of another, which is where its first message may go on to
+pub record IsOpenMove (drivers : List DriverSpec) (c : Configuration) (m : Move) : Type 0 where
+  pub from : Place
+  pub to : Place
+  pub from_at : IsAt drivers m.from from
+  pub to_at : IsAt drivers m.to to
+  pub goes : next_open_place drivers c from ≡ Some to
+
+-- so it is from the least movable place
+pub record IsFirstMove (drivers : List DriverSpec) (c : Configuration) (m : Move) : Type 0 where
+  pub moves : IsOpenMove drivers c m
+  pub least : least_movable drivers c ≡ Some moves.from
+
+-- from the least movable place to its next open place; or no place is movable
 abbrev pub IsLeastMove : List DriverSpec → Configuration → Option Move → Type 0
 IsLeastMove drivers c None = least_movable drivers c ≡ None
-IsLeastMove drivers c (Some m) =
-    (least_movable drivers c ≡ Some m.from) × (next_open_place drivers c m.from ≡ Some m.to)
-    × (has_addr m.addr (first_message c.flow m.from) ≡ true)
+IsLeastMove drivers c (Some m) = IsFirstMove drivers c m

@@ -1,5 +1,5 @@
 -- What a command may wake, as it is told before the command is done. No public clause needs this.
-use Rattle.std.specs.Prelude.{ℕ, Bool, true, false, if◌then◌else◌, IfOk, List, [], ◌∷◌, Result, Ok, Err}
+use Rattle.std.specs.Prelude.{ℕ, Bool, true, false, if◌then◌else◌, List, [], ◌∷◌, Result, Ok, Err}
 use Rattle.std.specs.Option.{is_some}
 use Rattle.smx_types.specs.declared.command.Command.{Command}
 use Rattle.smx_types.specs.declared.command.Command.TheVariants as command
@@ -9,13 +9,10 @@ use Rattle.smx_types.specs.declared.reply.Reply.{Reply}
 use Rattle.smx_types.specs.declared.reply.Reply.TheVariants as reply
 use Rattle.smx_types.specs.declared.stream.Place.{Place}
 use Rattle.smx_types.specs.declared.stream.StreamId.{StreamId}
-use Rattle.smx_model.specs.Commands.{outcome}
 use Rattle.smx_model.specs.Configuration.{Configuration, same_place, read_side, write_side}
 use Rattle.smx_model.specs.Lookups.{free_stream, live_leaf, live_stream, mux_stream, stream_of}
 use Rattle.smx_model.specs.Queues.{first_message}
 use Rattle.smx_model.specs.RunMarks.{asks_down, asks_up, either, nowhere}
-use Rattle.smx_config.specs.Marking.{AreMarks, IsWoken}
-use Rattle.smx_config.specs.declared.marks.Marks.{Marks}
 use Rattle.smx_config.specs.declared.wakes.Wakes.{Wakes}
 use Rattle.smx_config.specs.declared.wakes.Wakes.TheVariants as wakes
 
@@ -97,9 +94,3 @@ wakes_of drivers c process (command.Inject name minor addr bytes) =
 wakes_of drivers c process (command.Transmit name minor) =
     on_stream (live_leaf drivers c name minor) (λ s. wakes.Leaves (write_side s))
 wakes_of drivers c process (command.Hangup name minor) = wakes.Nothing
-
--- if a command is accepted, and all that it may turn and free was woken, the marks are right after it
-abbrev pub IsEnough : List DriverSpec → Configuration → ℕ → Command → Marks → Marks → Type 0
-IsEnough drivers c process k m n = IfOk (outcome drivers c process k)
-    (λ x. IsWoken x.0 (turned_under x.0 (wakes_of drivers c process k))
-    (freed_under x.1 (wakes_of drivers c process k)) m n → AreMarks drivers x.0 n)

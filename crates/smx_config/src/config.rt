@@ -14,14 +14,11 @@ ghost use Rattle.smx_commands.specs.Machine.{takes_no_memory};
 
 use crate::config_fault::ConfigFault;
 use crate::driver_list::check_drivers;
-use crate::laws_of_waking::woken_marks_are_enough;
 use crate::marks::{Marks, copy_marks, no_marks};
 use crate::settling::settle;
 use crate::wakes::wakes_of;
 use crate::waking::wake;
-use crate::ways::Ways;
 use smx_commands::{StepError, Tables};
-use smx_model::laws_of_marked_commands::empty_needs_no_mark;
 use smx_model::laws_of_marks::full_places_have_messages;
 use smx_model::laws_of_steps::{
     commands_keep, empty_is_kept, outcomes_are_sound, refusals_change_nothing,
@@ -35,7 +32,6 @@ use std::marker::Model;
 pub struct Config {
     tables: Tables,
     marks: Marks,
-    ways: Ways,
 }
 
 impl Drop for Config {
@@ -44,7 +40,6 @@ impl Drop for Config {
         let Config {
             tables: _tables,
             marks: _marks,
-            ways: _ways,
         } = self;
     }
 }
@@ -71,17 +66,11 @@ impl Config {
         ensures refused { IfErr result (RefusesDrivers drivers.now) }
     {
         empty_is_kept();
-        empty_needs_no_mark();
         full_places_have_messages();
         check_drivers(drivers)?;
         let tables = Tables::new(alloc, drivers)?;
-        let marks = no_marks(alloc, drivers)?;
-        let ways = Ways::new(alloc, drivers.len())?;
-        Ok(Config {
-            tables,
-            marks,
-            ways,
-        })
+        let marks = no_marks(alloc, tables.place_count())?;
+        Ok(Config { tables, marks })
     }
 
     /// Does a command of a process: its reply and the new configuration are those of the command table. A fault for a
@@ -99,62 +88,26 @@ impl Config {
         ensures in_place { IsTrue (takes_no_memory command.now) → IsOk result }
         ensures refused { IsErr (outcome self.old.drivers self.old.configuration process command.now) → IsOk result }
     {
-        let mut reply = Reply::Eof;
-        self.step_in(process, command, &mut reply)?;
-        reply.shrink();
-        Ok(reply)
-    }
-
-    /// `step` with its reply written in the place of another, so that it is not moved. Where memory is wanting, any
-    /// reply may be there. The serials of what was dropped have room for more; who keeps the reply shrinks it.
-    pub fn step_in(
-        &mut self,
-        process: Process,
-        command: &Command,
-        reply: &mut Reply,
-    ) -> Result<(), NoMemory>
-        // What it does.
-        ensures drivers { self.new.drivers ≡ self.old.drivers }
-        ensures ok { OnOk result (
-            step self.old.drivers self.old.configuration process command.now ≡ (self.new.configuration, reply.new)) }
-        // What changes nothing.
-        ensures fault { OnOk result ((f : Fault) → reply.new ≡ replies.Fault f → self.new ≡ self.old) }
-        ensures err { OnErr result (self.new ≡ self.old) }
-        // What is always answered.
-        ensures in_place { IsTrue (takes_no_memory command.now) → IsOk result }
-        ensures refused { IsErr (outcome self.old.drivers self.old.configuration process command.now) → IsOk result }
-    {
         commands_keep();
         full_places_have_messages();
         outcomes_are_sound();
         refusals_change_nothing();
-        woken_marks_are_enough();
+        let mut reply = Reply::Eof;
         let named = self.tables.message_stream(process, command);
         let wakes = wakes_of(&self.tables, process, command, named);
-        let answer = self.tables.perform(process, command, named, reply);
+        let answer = self.tables.perform(process, command, named, &mut reply);
         if answer.is_ok() {
-            self.ways.forget_after(command);
-            wake(&self.tables, &mut self.marks, wakes, reply);
-            settle(&mut self.tables, &mut self.marks, &mut self.ways);
+            wake(&self.tables, &mut self.marks, wakes, &reply);
+            settle(&mut self.tables, &mut self.marks);
         }
         match answer {
-            Ok(()) => Ok(()),
-            Err(StepError::Refused(fault)) => {
-                *reply = Reply::Fault(fault);
-                Ok(())
+            Ok(()) => {
+                reply.shrink();
+                Ok(reply)
             }
+            Err(StepError::Refused(fault)) => Ok(Reply::Fault(fault)),
             Err(StepError::NoMemory) => Err(NoMemory),
         }
-    }
-
-    /// Keeps the memory of a reply that nobody needs any more: that of the bytes that were got, where they are few, for a
-    /// message to come, and that of the serials of what was dropped. It may be any reply, and the configuration stays as
-    /// it is. Takes no memory.
-    #[inline(always)]
-    pub fn take_back(&mut self, reply: Reply)
-        ensures { self.new ≡ self.old }
-    {
-        self.tables.take_back(reply);
     }
 
     /// `step` with its reply twice. The memory of the second one is taken before the first change too, so that `read`
@@ -189,9 +142,12 @@ impl Config {
         }
     }
 
-    /// The configuration as it is shown. Fails only for want of memory.
+    /// Returns the configuration as it is shown. Fails if an allocation fails. Whichever commands came before, no cycle
+    /// of links and no stream below two of them is shown, nothing is left of a stream that doesn't exist, and no
+    /// message can move on.
     pub fn show(&self) -> Result<ConfigView, NoMemory>
-        ensures { IfOk result (λ v. v ≡ view self.now.drivers self.now.configuration) }
+        ensures view { IfOk result (λ v. v ≡ view self.now.drivers self.now.configuration) }
+        ensures kept { IsKept self.now.drivers self.now.configuration }
     {
         self.tables.show()
     }
@@ -204,7 +160,6 @@ impl Config {
         let Config {
             tables,
             marks: _marks,
-            ways: _ways,
         } = self;
         tables.into_view()
     }
@@ -232,26 +187,13 @@ impl Config {
         self.tables.drivers()
     }
 
-    /// What every configuration is, whichever commands came before: its links form no cycle and no stream is below two
-    /// of them, nothing is left of a stream that doesn't exist, each list is in its order, and no message can move on.
-    /// It does nothing: a caller who needs these facts calls it.
-    pub fn is_sound_and_settled(&self)
-        ensures drivers { IsDriverList self.now.drivers }
-        ensures kept { IsKept self.now.drivers self.now.configuration }
-    {
-        // That the drivers can be had the call says; the rest is known where a field is read.
-        let _drivers = self.tables.drivers();
-    }
-
-    /// The same configuration again, by the allocator that this one has. Fails only for want of memory.
-    pub fn copy(&self) -> Result<Config, NoMemory>
+    /// Copies the configuration into memory from this allocator, which the copy keeps.
+    pub fn copy(&self, alloc: Global) -> Result<Config, NoMemory>
         ensures { IfOk result (λ c. c ≡ self.now) }
     {
-        let alloc = self.tables.alloc();
         Ok(Config {
-            tables: self.tables.copy()?,
+            tables: self.tables.copy(alloc)?,
             marks: copy_marks(alloc, &self.marks)?,
-            ways: self.ways.copy(alloc)?,
         })
     }
 }

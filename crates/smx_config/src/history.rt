@@ -1,9 +1,6 @@
 //! Whether a history is legal, and its end as claimed.
 
-ghost use Rattle.std.specs.Prelude.{◌≡◌, ◌↔◌, List, IfOk, IfErr, IfNone, IfSome, IsTrue};
-ghost use Rattle.smx_types.specs.declared.command.Entry.{Entry};
-ghost use Rattle.smx_types.specs.declared.driver.DriverSpec.{DriverSpec};
-ghost use Rattle.smx_model.specs.Commands.{step};
+ghost use Rattle.std.specs.Prelude.{◌≡◌, IfOk, IfErr, IfNone, IfSome};
 ghost use Rattle.smx_model.specs.Configuration.{empty};
 ghost use Rattle.smx_model.specs.DriverList.{IsDriverList};
 ghost use Rattle.smx_model.specs.Histories.{IsLegal, after};
@@ -15,44 +12,11 @@ use crate::config::Config;
 use crate::config_fault::ConfigFault;
 use crate::verdict::Verdict;
 use smx_model::laws::one_entry_more;
-use smx_types::{Command, ConfigView, DriverSpec, Entry, NoMemory, Process, Reply, Same};
+use smx_types::{ConfigView, DriverSpec, Entry, NoMemory, Same};
 use std::alloc::Global;
 
-/// Gives the command of an entry again; whether it gets the reply of the entry.
-pub fn gets_its_reply(
-    config: &mut Config,
-    process: Process,
-    command: &Command,
-    reply: &Reply,
-) -> Result<bool, NoMemory>
-    ensures drivers { config.new.drivers ≡ config.old.drivers }
-    ensures next { IfOk result (λ _. config.new.configuration
-        ≡ (step config.old.drivers config.old.configuration process command.now).0) }
-    ensures same { IfOk result (λ same. IsTrue same
-        ↔ ((step config.old.drivers config.old.configuration process command.now).1 ≡ reply.now)) }
-{
-    let mut answer = Reply::Eof;
-    config.step_in(process, command, &mut answer)?;
-    let same = answer.is_same(reply);
-    config.take_back(answer);
-    Ok(same)
-}
-
-/// What is said of a history that is legal, and behind which this is the configuration.
-pub fn verdict_of(config: &Config, shown: &ConfigView) -> Verdict
-    ensures { (drivers : List DriverSpec) (entries : List Entry) → config.now.drivers ≡ drivers
-        → IsLegal drivers entries → config.now.configuration ≡ after drivers entries
-        → IsVerdict drivers entries shown.now result }
-{
-    if config.shows(shown) {
-        Verdict::Legal
-    } else {
-        Verdict::ConfigDiffers
-    }
-}
-
-// Gives the commands of the entries again, from the empty configuration on: the number of the first entry whose reply
-// is another.
+// Performs the commands of the entries again, from the empty configuration on. Returns the number of the first entry
+// whose reply is another, if there is one.
 fn first_illegal(config: &mut Config, entries: &[Entry]) -> Result<Option<usize>, NoMemory>
     requires { config.old.configuration ≡ empty }
     ensures drivers { config.new.drivers ≡ config.old.drivers }
@@ -62,16 +26,17 @@ fn first_illegal(config: &mut Config, entries: &[Entry]) -> Result<Option<usize>
 {
     one_entry_more();
     for (i, entry) in entries.iter().enumerate() {
-        if !gets_its_reply(config, entry.process, &entry.command, &entry.reply)? {
+        let reply = config.step(entry.process, &entry.command)?;
+        if !reply.is_same(&entry.reply) {
             return Ok(Some(i + 1));
         }
     }
     Ok(None)
 }
 
-/// Judges a history, whoever made it, and the view that is claimed of its end: each command is given again, from the
-/// empty configuration on, up to the first whose reply is another. Refused for drivers that a configuration can't have,
-/// whatever the entries are, or for want of memory. Replies and view are compared where they stand, with no copy.
+/// Judges a history, whoever made it, and the view that is claimed of its end: performs each command again, from the
+/// empty configuration on, up to the first whose reply is another. Fails if the drivers are invalid, whatever the
+/// entries are, or if an allocation fails. The view is compared where it is, with no copy.
 pub fn check_history(
     alloc: Global,
     drivers: &[DriverSpec],
@@ -86,5 +51,9 @@ pub fn check_history(
     if let Some(entry) = first_illegal(&mut config, entries)? {
         return Ok(Verdict::Illegal { entry });
     }
-    Ok(verdict_of(&config, shown))
+    if config.shows(shown) {
+        Ok(Verdict::Legal)
+    } else {
+        Ok(Verdict::ConfigDiffers)
+    }
 }

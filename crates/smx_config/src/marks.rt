@@ -1,32 +1,34 @@
-//! Run marks, wanted marks, and the places that wait.
+//! Run marks, wanted marks, and the places that wait, by number.
 
-ghost use Rattle.std.specs.Prelude.{◌≡◌, [], IfOk};
-ghost use Rattle.smx_model.specs.DriverList.{IsDriverList};
+ghost use Rattle.std.specs.Prelude.{◌≡◌, ℕ, ◌<◌, ◌^◌, false, IfOk};
+ghost use Rattle.smx_queues.specs.Bits.{has_bit};
+ghost use Rattle.smx_queues.specs.Rings.{at};
+ghost use Rattle.smx_config.specs.Marking.{AreFor};
 
-use smx_queues::{PlaceMarks, Waiters};
-use smx_types::{DriverSpec, NoMemory};
+use smx_queues::{Bits, Rings};
+use smx_types::NoMemory;
 use std::alloc::Global;
 
-/// Two marks for each place: a run mark where the first message may be able to move on, and a wanted mark where a full
-/// place holds up another place's first message. And the places whose first message may be held up, each with the place
-/// that holds it up.
+/// Two marks for each place, by its number: a run mark where the first message may be able to move on, and a wanted
+/// mark where a full place holds up another place's first message. The places that wait for the same place are in its
+/// ring.
 #[derive(Debug, Drop)]
 pub struct Marks {
-    pub run: PlaceMarks,
-    pub wanted: PlaceMarks,
-    pub waits: Waiters,
+    pub run: Bits,
+    pub wanted: Bits,
+    pub waits: Rings,
 }
 
-pub fn no_marks(alloc: Global, drivers: &[DriverSpec]) -> Result<Marks, NoMemory>
-    requires { IsDriverList drivers.now }
-    ensures run { IfOk result (λ m. (m.run.drivers ≡ drivers.now) × (m.run.marked ≡ [])) }
-    ensures wanted { IfOk result (λ m. (m.wanted.drivers ≡ drivers.now) × (m.wanted.marked ≡ [])) }
-    ensures waits { IfOk result (λ m. m.waits.drivers ≡ drivers.now) }
+pub fn no_marks(alloc: Global, count: usize) -> Result<Marks, NoMemory>
+    requires { count < 2 ^ 63 }
+    ensures many { IfOk result (AreFor count) }
+    ensures run { IfOk result (λ m. (n : ℕ) → has_bit m.run n ≡ false) }
+    ensures waits { IfOk result (λ m. (n : ℕ) → n < count → at m.waits.owners n ≡ 0) }
 {
     Ok(Marks {
-        run: PlaceMarks::new(alloc, drivers)?,
-        wanted: PlaceMarks::new(alloc, drivers)?,
-        waits: Waiters::new(alloc, drivers)?,
+        run: Bits::new(alloc, count)?,
+        wanted: Bits::new(alloc, count)?,
+        waits: Rings::new(alloc, count)?,
     })
 }
 

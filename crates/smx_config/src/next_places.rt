@@ -1,66 +1,48 @@
 //! Where messages go next.
 
-ghost use Rattle.std.specs.Prelude.{◌≡◌, false, true, IfSome, None};
+ghost use Rattle.std.specs.Prelude.{◌≡◌, IfNone, IfSome, Some};
+ghost use Rattle.smx_types.specs.declared.stream.Place.{Place as PlaceValue};
+ghost use Rattle.smx_model.specs.KeptConfigurations.{IsSound};
 ghost use Rattle.smx_model.specs.Queues.{first_message};
-ghost use Rattle.smx_model.specs.RunMarks.{has_addr, next_of_first};
-ghost use Rattle.smx_model.specs.Settling.{next_place};
-ghost use Rattle.smx_config.specs.Ways.{AreWays};
+ghost use Rattle.smx_model.specs.RunMarks.{has_addr};
+ghost use Rattle.smx_config.specs.Marking.{IsAt, IsNumber};
+ghost use Rattle.smx_config.specs.Moves.{IsFullAt, IsNextOf, IsOpenAt};
 
-use crate::ways::Ways;
 use smx_commands::Tables;
-use smx_tables::driver_specs::is_mux;
-use smx_types::{Place, Side};
 
-// Whether a message may go on from the place: it is the write side of a multiplexing driver's stream, or the read
-// side of a stream that is below a link.
-pub fn leads_on(tables: &Tables, place: Place) -> bool
-    ensures { result ≡ false → next_of_first tables.now.drivers tables.now.configuration place ≡ None }
+// Whether the first message at the place of a number has this address.
+pub fn asks_for(tables: &Tables, n: usize, addr: u32) -> bool
+    requires { IsNumber tables.now.drivers n }
+    ensures { (p : PlaceValue) → IsAt tables.now.drivers n p
+        → result ≡ has_addr addr (first_message tables.now.configuration.flow p) }
 {
-    match place.side {
-        Side::Write => is_mux(tables.drivers(), place.stream.driver as usize),
-        Side::Read => tables.links().is_below(place.stream),
+    match tables.front_at(n) {
+        Some(message) => message.addr == addr,
+        None => false,
     }
 }
 
-// The next place, which is noted.
-#[inline(always)]
-fn note_next(tables: &Tables, ways: &mut Ways, place: Place, addr: u32) -> Option<Place>
-    requires { AreWays tables.now.drivers tables.now.configuration ways.old }
-    ensures value { result ≡ next_place tables.now.drivers tables.now.configuration place addr }
-    ensures ways { AreWays tables.now.drivers tables.now.configuration ways.new }
+// The number of the place where the first message at that of a number goes next, whether that is full or not, if there
+// is one.
+pub fn next_of_first(tables: &Tables, n: usize) -> Option<usize>
+    requires sound { IsSound tables.now.drivers tables.now.configuration }
+    requires number { IsNumber tables.now.drivers n }
+    ensures value { (p : PlaceValue) → IsAt tables.now.drivers n p
+        → IsNextOf tables.now.drivers tables.now.configuration p result }
+    ensures number { IfSome result (IsNumber tables.now.drivers) }
 {
-    let next = tables.next_place(place, addr)?;
-    ways.note(place, addr, next);
-    Some(next)
+    let message = tables.front_at(n)?;
+    let next = tables.next_place(tables.place_at(n), message.addr)?;
+    tables.number(next)
 }
 
-// The next place, by what is noted, if it is.
-#[inline(always)]
-pub fn next_by_ways(tables: &Tables, ways: &mut Ways, place: Place, addr: u32) -> Option<Place>
-    requires { AreWays tables.now.drivers tables.now.configuration ways.old }
-    ensures value { result ≡ next_place tables.now.drivers tables.now.configuration place addr }
-    ensures ways { AreWays tables.now.drivers tables.now.configuration ways.new }
+// The number, unless its place is full.
+pub fn if_open(tables: &Tables, next: Option<usize>) -> Option<usize>
+    requires { IfSome next (IsNumber tables.now.drivers) }
+    ensures same { IfSome result (λ n. next ≡ Some n) }
+    ensures open { IfSome result (IsOpenAt tables.now.drivers tables.now.configuration) }
+    ensures full { IfNone result (IfSome next (IsFullAt tables.now.drivers tables.now.configuration)) }
 {
-    match ways.find(place, addr) {
-        Some(next) => Some(next),
-        None => note_next(tables, ways, place, addr),
-    }
-}
-
-// Where the first message of the place goes next, whether that is full or not, and its address; nowhere, and 0, if
-// there is none.
-pub fn next_of_first(tables: &Tables, ways: &mut Ways, place: Place) -> (Option<Place>, u32)
-    requires { AreWays tables.now.drivers tables.now.configuration ways.old }
-    ensures value { result.0 ≡ next_of_first tables.now.drivers tables.now.configuration place }
-    ensures addr { IfSome result.0 (λ _.
-        has_addr result.1 (first_message tables.now.configuration.flow place) ≡ true) }
-    ensures ways { AreWays tables.now.drivers tables.now.configuration ways.new }
-{
-    match tables.queues().front(place) {
-        Some(message) => (
-            next_by_ways(tables, ways, place, message.addr),
-            message.addr,
-        ),
-        None => (None, 0),
-    }
+    let n = next?;
+    if tables.is_full_at(n) { None } else { Some(n) }
 }

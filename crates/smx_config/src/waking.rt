@@ -1,87 +1,116 @@
 //! What a change wakes is marked.
 
-ghost use Rattle.std.specs.Prelude.{◌≡◌, ◌<◌, false, true, length, IfSome, IfNone};
+ghost use Rattle.std.specs.Prelude.{◌≡◌, ℕ, ◌<◌, false, true, length, IfSome, IfNone, List};
+ghost use Rattle.smx_types.specs.declared.driver.DriverSpec.{DriverSpec};
 ghost use Rattle.smx_types.specs.declared.stream.Place.{Place as PlaceValue};
 ghost use Rattle.smx_model.specs.Configuration.{Configuration, same_place};
 ghost use Rattle.smx_model.specs.Queues.{is_full};
-ghost use Rattle.smx_queues.specs.PlaceMarks.{has_mark, MarkList};
-ghost use Rattle.smx_config.specs.Marking.{AreWaitersMarked, HasNeeded, IsMarkedWhere, IsReleased, IsWoken};
+ghost use Rattle.smx_queues.specs.Bits.{bit_count, has_bit};
+ghost use Rattle.smx_queues.specs.PlaceLists.{places_of};
+ghost use Rattle.smx_config.specs.Marking.{AreFor, AreOver, AreWaitersMarked, IsAt, IsListed, IsMarkedWhere};
+ghost use Rattle.smx_config.specs.Marking.{IsNumber, IsReleased, IsWoken};
+ghost use Rattle.smx_config.specs.Moves.{IsFullAt, IsOpenAt};
 ghost use Rattle.smx_config.specs.Wakes.{drops_none, everywhere, freed_under, is_either_side, turned_under};
 ghost use Rattle.smx_config.specs.declared.wakes.Wakes.TheVariants as wakes;
 
 use crate::marks::Marks;
-use crate::run_marks::{mark_reads, mark_waiting, mark_writes};
+use crate::run_marks::{mark_reads, mark_writes};
 use crate::wakes::Wakes;
 use smx_commands::Tables;
-use smx_queues::{PlaceMarks, Waiters};
-use smx_tables::comparisons::same_place;
+use smx_queues::Bits;
 use smx_types::{Place, Reply, Side, StreamId};
 
-// Marks those of the waiting places that wait for this one.
-fn mark_waiters(waits: &Waiters, run: &mut PlaceMarks, place: Place)
-    ensures { AreWaitersMarked waits.now place run.old run.new }
+// What waits for the number has a run mark, and waits no longer.
+fn mark_waiters(marks: &mut Marks, n: usize)
+    requires over { AreFor marks.old.run.count marks.old }
+    requires number { n < marks.old.run.count }
+    requires listed { IsListed marks.old }
+    ensures waiters { AreWaitersMarked n marks.old marks.new }
+    ensures wanted { marks.new.wanted ≡ marks.old.wanted }
 {
-    for wait in waits.waits() {
-        if same_place(place, wait.target) {
-            run.mark(wait.waiter);
-        }
+    while let Some(waiter) = marks.waits.take_one(n) {
+        marks.run.set(waiter);
     }
 }
 
 // A place that is not full is wanted no more, and what waits for it has a run mark.
-#[inline(always)]
-fn release(marks: &mut Marks, place: Place)
-    ensures released { (c : Configuration) → is_full c place ≡ false
-        → IsReleased c (same_place place) marks.old marks.new }
-    ensures fewer { has_mark marks.old.wanted place ≡ true
-        → length marks.new.wanted.marked < length marks.old.wanted.marked }
+fn release(marks: &mut Marks, n: usize)
+    requires over { AreFor marks.old.run.count marks.old }
+    requires number { n < marks.old.run.count }
+    requires listed { IsListed marks.old }
+    ensures released { (drivers : List DriverSpec) (c : Configuration) (p : PlaceValue) → IsAt drivers n p
+        → is_full c p ≡ false → IsReleased drivers c (same_place p) marks.old marks.new }
+    ensures fewer { has_bit marks.old.wanted n ≡ true → bit_count marks.new.wanted < bit_count marks.old.wanted }
 {
-    marks.wanted.clear(place);
-    mark_waiters(&marks.waits, &mut marks.run, place);
+    mark_waiters(marks, n);
+    marks.wanted.clear(n);
 }
 
-// So it is with the place, if it is wanted and not full.
-#[inline(always)]
-pub fn release_if_open(tables: &Tables, marks: &mut Marks, place: Place)
-    ensures { IsReleased tables.now.configuration (same_place place) marks.old marks.new }
+// So it is with the place of the number, if it is wanted and not full.
+pub fn release_if_open(tables: &Tables, marks: &mut Marks, n: usize)
+    requires over { AreOver tables.now.drivers marks.old }
+    requires number { IsNumber tables.now.drivers n }
+    requires listed { IsListed marks.old }
+    ensures { (p : PlaceValue) → IsAt tables.now.drivers n p
+        → IsReleased tables.now.drivers tables.now.configuration (same_place p) marks.old marks.new }
 {
-    if !tables.is_full(place) && marks.wanted.is_marked(place) {
-        release(marks, place);
+    if !tables.is_full_at(n) && marks.wanted.is_set(n) {
+        release(marks, n);
+    }
+}
+
+// So it is with the place.
+fn release_place(tables: &Tables, marks: &mut Marks, place: Place)
+    requires over { AreOver tables.now.drivers marks.old }
+    requires listed { IsListed marks.old }
+    ensures { IsReleased tables.now.drivers tables.now.configuration (same_place place) marks.old marks.new }
+{
+    if let Some(n) = tables.number(place) {
+        release_if_open(tables, marks, n);
     }
 }
 
 // So it is with either side of the stream.
 fn release_sides(tables: &Tables, marks: &mut Marks, stream: StreamId)
-    ensures { IsReleased tables.now.configuration (is_either_side stream) marks.old marks.new }
+    requires over { AreOver tables.now.drivers marks.old }
+    requires listed { IsListed marks.old }
+    ensures { IsReleased tables.now.drivers tables.now.configuration (is_either_side stream) marks.old marks.new }
 {
     let side = Side::Write;
-    release_if_open(tables, marks, Place { stream, side });
+    release_place(tables, marks, Place { stream, side });
     let side = Side::Read;
-    release_if_open(tables, marks, Place { stream, side });
+    release_place(tables, marks, Place { stream, side });
 }
 
-// A wanted place that is not full, if there is one.
-fn first_open(tables: &Tables, wanted: &PlaceMarks) -> Option<Place>
-    ensures some { IfSome result (λ p.
-        (has_mark wanted.now p ≡ true) × (is_full tables.now.configuration p ≡ false)) }
-    ensures none { IfNone result ((p : PlaceValue)
-        → has_mark wanted.now p ≡ true → is_full tables.now.configuration p ≡ true) }
+// The number of a wanted place that is not full, if there is one.
+fn first_open(tables: &Tables, wanted: &Bits) -> Option<usize>
+    requires { wanted.now.count ≡ length (places_of tables.now.drivers) }
+    ensures number { IfSome result (IsNumber tables.now.drivers) }
+    ensures wanted { IfSome result (λ n. has_bit wanted.now n ≡ true) }
+    ensures open { IfSome result (IsOpenAt tables.now.drivers tables.now.configuration) }
+    ensures none { IfNone result ((n : ℕ) → has_bit wanted.now n ≡ true
+        → IsFullAt tables.now.drivers tables.now.configuration n) }
 {
-    let mut rest = wanted.marked();
-    while let Some(place) = rest.next() {
-        if !tables.is_full(place) {
-            return Some(place);
+    let end = tables.place_count();
+    let mut start = 0;
+    while start < end {
+        let n = wanted.first_from(start)?;
+        if !tables.is_full_at(n) {
+            return Some(n);
         }
+        start = n + 1;
     }
     None
 }
 
 // So it is with each place.
 fn release_all(tables: &Tables, marks: &mut Marks)
-    ensures { IsReleased tables.now.configuration everywhere marks.old marks.new }
+    requires over { AreOver tables.now.drivers marks.old }
+    requires listed { IsListed marks.old }
+    ensures { IsReleased tables.now.drivers tables.now.configuration everywhere marks.old marks.new }
 {
-    while let Some(place) = first_open(tables, &marks.wanted) {
-        release(marks, place);
+    while let Some(n) = first_open(tables, &marks.wanted) {
+        release(marks, n);
     }
 }
 
@@ -98,7 +127,9 @@ fn drops_none(reply: &Reply) -> bool
 // So it is with either side of the stream whose messages may have been dropped. A full place has messages, so where
 // none was dropped it is full still, and is not looked at.
 fn release_emptied(tables: &Tables, marks: &mut Marks, stream: StreamId, reply: &Reply)
-    ensures { IsReleased tables.now.configuration (freed_under reply.now (wakes.Empties stream)) marks.old marks.new }
+    requires over { AreOver tables.now.drivers marks.old }
+    requires listed { IsListed marks.old }
+    ensures { IsReleased tables.now.drivers tables.now.configuration (freed_under reply.now (wakes.Empties stream)) marks.old marks.new }
 {
     if !drops_none(reply) {
         release_sides(tables, marks, stream);
@@ -107,7 +138,9 @@ fn release_emptied(tables: &Tables, marks: &mut Marks, stream: StreamId, reply: 
 
 // And so with each place.
 fn release_dropped(tables: &Tables, marks: &mut Marks, reply: &Reply)
-    ensures { IsReleased tables.now.configuration (freed_under reply.now wakes.Frees) marks.old marks.new }
+    requires over { AreOver tables.now.drivers marks.old }
+    requires listed { IsListed marks.old }
+    ensures { IsReleased tables.now.drivers tables.now.configuration (freed_under reply.now wakes.Frees) marks.old marks.new }
 {
     if !drops_none(reply) {
         release_all(tables, marks);
@@ -115,10 +148,12 @@ fn release_dropped(tables: &Tables, marks: &mut Marks, reply: &Reply)
 }
 
 fn release_freed(tables: &Tables, marks: &mut Marks, wakes: Wakes, reply: &Reply)
-    ensures { IsReleased tables.now.configuration (freed_under reply.now wakes) marks.old marks.new }
+    requires over { AreOver tables.now.drivers marks.old }
+    requires listed { IsListed marks.old }
+    ensures { IsReleased tables.now.drivers tables.now.configuration (freed_under reply.now wakes) marks.old marks.new }
 {
     match wakes {
-        Wakes::Leaves(place) => release_if_open(tables, marks, place),
+        Wakes::Leaves(place) => release_place(tables, marks, place),
         Wakes::Empties(stream) => release_emptied(tables, marks, stream, reply),
         Wakes::Frees => release_dropped(tables, marks, reply),
         Wakes::Nothing | Wakes::Turns(_) | Wakes::TurnsWrites { .. } | Wakes::TurnsReads { .. } =>
@@ -126,13 +161,23 @@ fn release_freed(tables: &Tables, marks: &mut Marks, wakes: Wakes, reply: &Reply
     }
 }
 
-fn mark_turned(tables: &Tables, run: &mut PlaceMarks, wakes: Wakes)
-    ensures { (all : MarkList)
-        × IsMarkedWhere tables.now.configuration.flow (turned_under tables.now.configuration wakes) run.old all
-        × HasNeeded tables.now.drivers tables.now.configuration all run.new }
+// Marks the number of the place, if the drivers have it.
+fn mark_place(tables: &Tables, run: &mut Bits, place: Place)
+    requires { run.old.count ≡ length (places_of tables.now.drivers) }
+    ensures { IsMarkedWhere tables.now.drivers tables.now.configuration.flow (same_place place) run.old run.new }
+{
+    if let Some(n) = tables.number(place) {
+        run.set(n);
+    }
+}
+
+fn mark_turned(tables: &Tables, run: &mut Bits, wakes: Wakes)
+    requires { run.old.count ≡ length (places_of tables.now.drivers) }
+    ensures { IsMarkedWhere tables.now.drivers tables.now.configuration.flow (turned_under tables.now.configuration wakes)
+        run.old run.new }
 {
     match wakes {
-        Wakes::Turns(place) => mark_waiting(tables, run, place),
+        Wakes::Turns(place) => mark_place(tables, run, place),
         Wakes::TurnsWrites { driver, addr } => mark_writes(tables, run, driver, addr),
         Wakes::TurnsReads { driver, addr } => mark_reads(tables, run, driver, addr),
         Wakes::Nothing | Wakes::Leaves(_) | Wakes::Empties(_) | Wakes::Frees => {}
@@ -141,9 +186,10 @@ fn mark_turned(tables: &Tables, run: &mut PlaceMarks, wakes: Wakes)
 
 // Marks what a command woke that had this reply, and takes the wanted marks of the places that it freed.
 pub fn wake(tables: &Tables, marks: &mut Marks, wakes: Wakes, reply: &Reply)
-    ensures { (all : MarkList) × IsWoken tables.now.configuration (turned_under tables.now.configuration wakes)
-        (freed_under reply.now wakes) marks.old (record marks.new { run = all })
-        × HasNeeded tables.now.drivers tables.now.configuration all marks.new.run }
+    requires over { AreOver tables.now.drivers marks.old }
+    requires listed { IsListed marks.old }
+    ensures { IsWoken tables.now.drivers tables.now.configuration (turned_under tables.now.configuration wakes)
+        (freed_under reply.now wakes) marks.old marks.new }
 {
     release_freed(tables, marks, wakes, reply);
     mark_turned(tables, &mut marks.run, wakes);

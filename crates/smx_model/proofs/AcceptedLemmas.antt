@@ -1,4 +1,4 @@
--- What holds of each accepted command, by the rows of the command table.
+-- Properties of every accepted command, by the rows of the command table.
 use Rattle.std.proofs.Common.{◌≡◌, ℕ, ◌+◌, Bool, false, ◌&&◌, ◌||◌, not, eqb, leb, List, [], ◌∷◌, ◌++◌, length, filter}
 use Rattle.std.proofs.Common.{Some, Ok, refl, rules}
 use Rattle.std.specs.List.{list_any}
@@ -41,7 +41,7 @@ taken drivers c p addr bytes =
       next_serial = c.next_serial + 1;
     }
 
--- P holds of what each row of the command table comes to, where none of its refusals applies
+-- P holds of the outcome of each row of the command table, if none of its refusals applies
 pub record OfRows (P : Configuration → Reply → Type 0) (drivers : List DriverSpec) (c : Configuration) (process : ℕ)
     (k : Command) : Type 0 where
   pub clone : (name : List ℕ) (n minor fd : ℕ) → driver_of drivers name ≡ Ok n → free_minor drivers c n ≡ Ok minor
@@ -111,14 +111,14 @@ pub record OfRows (P : Configuration → Reply → Type 0) (drivers : List Drive
       → leaf_stream drivers c name minor ≡ Ok s
       → IfAccepted P (done_outcome drivers c (record c { hungs = with_hung s c.hungs }))
 
--- P holds of an unlinking, if it holds once links are removed and swept, whichever these are
+-- P holds of an unlinking, if it holds after any links are removed and swept
 pub unlinked : (P : Configuration → Reply → Type 0) (drivers : List DriverSpec) (c : Configuration) (w : Which)
     (mine : Link → Bool) → ((goes : Link → Bool) → IfAccepted P (done_outcome drivers c (without_links c goes)))
     → IfAccepted P (unlink_outcome drivers c w mine)
 unlinked P drivers c which.All mine h = h mine
 unlinked P drivers c (which.Id id) mine h = search (after_test, h, rules) depth 12
 
--- P holds of a command's outcome if it is accepted, where P holds of each row of the command table
+-- P holds of an accepted command's outcome, if P holds of each row of the command table
 pub of_rows : (P : Configuration → Reply → Type 0) (drivers : List DriverSpec) (c : Configuration) (process : ℕ)
     (k : Command) → OfRows P drivers c process k → IfAccepted P (outcome drivers c process k)
 of_rows P drivers c process (command.OpenClone name) h = search (after_ok, at_ok, h.clone, rules) depth 20
@@ -149,6 +149,6 @@ of_rows P drivers c process (command.Transmit name minor) h =
     search (after_some, after_ok, at_ok, h.transmit, rules) depth 20
 of_rows P drivers c process (command.Hangup name minor) h = search (after_ok, h.hangup name minor refl, rules) depth 20
 
--- anything holds of what can't be
+-- everything holds of an impossible outcome
 pub at_none : (P : Configuration → Reply → Type 0) (o : Outcome) → ⊥ → IfAccepted P o
 at_none P o e = absurd e

@@ -1,4 +1,4 @@
--- Which bindings a command takes away.
+-- The bindings that a command removes.
 use Rattle.std.proofs.Common.{◌≡◌, ◌↔◌, ℕ, Bool, true, ◌&&◌, not, eqb, List, [], filter, Ok, Err, refl}
 use Rattle.std.proofs.Common.{rules, sym, subst}
 use Rattle.std.specs.List.{All, Contains, list_any}
@@ -26,17 +26,17 @@ use Rattle.smx_model.proofs.SettledLemmas.{after_found, after_refusal, settled_a
 use Rattle.smx_model.proofs.SweptLemmas.{swept_accepted}
 use Rattle.smx_model.proofs.TestLemmas.{all_filter}
 
--- the stream that a binding is of
+-- the stream of a binding
 abbrev stream : Binding → StreamId
 stream b = record { driver = b.driver; minor = b.minor }
 
 -- unbind
 
--- of the old bindings just those are left that don't go
+-- of the old bindings exactly those remain that the test does not remove
 record LosesBindings (c d : Configuration) (goes : Binding → Bool) : Type 0 where
   each : (b : Binding) → Contains c.binds b → Contains d.binds b ↔ (not (goes b) ≡ true)
 
--- where a command that is done takes nothing but bindings from a swept configuration, just those are left that don't go
+-- if a command that is done removes only bindings from a swept configuration, exactly the others remain
 loosed_fewer : (drivers : List DriverSpec) (c : Configuration) (goes : Binding → Bool) → IsSwept drivers c
     → LosesBindings c (after_outcome drivers c
     (done_outcome drivers c (record c { binds = filter (λ b. not (goes b)) c.binds }))).0 goes
@@ -51,7 +51,7 @@ loosed_fewer drivers c goes h =
       idle : done_outcome drivers c fewer ≡ Ok (fewer, reply.Done [])
       idle = done_idle drivers c fewer (search (all_filter, rules)) refl
 
--- unbind takes away the bindings of its stream, and leaves all others
+-- unbind removes the bindings of its stream, and keeps all others
 pub unbind_looses : (drivers : List DriverSpec) (c : Configuration) (process fd : ℕ) (s : StreamId) → IsSwept drivers c
     → mux_stream drivers c process fd ≡ Ok s
     → All (λ b. Contains (step drivers c process (command.Unbind fd)).0.binds b
@@ -66,55 +66,55 @@ unbind_looses drivers c process fd s h e = all_in _ c.binds left.each where
       (λ f. record { each = λ b k. (λ m. rw (none_in mine c.binds (not-true _ f) b k) refl, λ t. k) })
       (λ f. loosed_fewer drivers c mine h))
 
--- each other command leaves the bindings of streams that exist
+-- each other command keeps the bindings of streams that exist
 
--- the old bindings of streams that exist are left
+-- the old bindings of streams that exist remain
 record KeepsBindings (drivers : List DriverSpec) (c d : Configuration) : Type 0 where
   each : (b : Binding) → Contains c.binds b → exists drivers d (stream b) ≡ true → Contains d.binds b
 
--- where the bindings are as they were, the old ones of streams that exist are left
+-- if the bindings are unchanged, the old ones of streams that exist remain
 bound_same : (drivers : List DriverSpec) (c d : Configuration) → d.binds ≡ c.binds → KeepsBindings drivers c d
 bound_same drivers c d e = record { each = λ b h t. subst (λ (bs : List Binding). Contains bs b) (sym e) h }
 
--- where no binding goes before the sweep, the old ones of streams that exist are left after it
+-- if no binding is removed before the sweep, the old ones of streams that exist remain after it
 bound_done : (drivers : List DriverSpec) (c d : Configuration)
     → ((b : Binding) → Contains c.binds b → Contains d.binds b)
     → IfAccepted (λ d r. KeepsBindings drivers c d) (done_outcome drivers c d)
 bound_done drivers c d f = record { holds = record { each = λ b h t. in_filtered _ d.binds b (f b h) t } }
 
--- where the bindings are as they were before the sweep, the old ones of streams that exist are left after it
+-- if the bindings are unchanged before the sweep, the old ones of streams that exist remain after it
 bound_like : (drivers : List DriverSpec) (c d : Configuration) → d.binds ≡ c.binds
     → IfAccepted (λ d r. KeepsBindings drivers c d) (done_outcome drivers c d)
 bound_like drivers c d e = bound_done drivers c d (λ b h. subst (λ (bs : List Binding). Contains bs b) (sym e) h)
 
--- where one more binding is made before the sweep, the old ones of streams that exist are left after it
+-- if one more binding is made before the sweep, the old ones of streams that exist remain after it
 bound_bind : (drivers : List DriverSpec) (c : Configuration) (x : Binding)
     → IfAccepted (λ d r. KeepsBindings drivers c d)
     (done_outcome drivers c (record c { binds = with_inserted bind_before c.binds x }))
 bound_bind drivers c x = bound_done drivers c (record c { binds = with_inserted bind_before c.binds x })
     (λ b h. in_placed bind_before c.binds b x h)
 
--- an accepted command that is no unbind leaves the old bindings of streams that exist
+-- an accepted command other than unbind keeps the old bindings of streams that exist
 bound_accepted : (drivers : List DriverSpec) (c : Configuration) (process : ℕ) (k : Command)
     → ((fd : ℕ) → k ≡ command.Unbind fd → ⊥)
     → IfAccepted (λ d r. KeepsBindings drivers c d) (outcome drivers c process k)
 bound_accepted drivers c process k never =
     search (of_rows, bound_same, bound_bind, bound_like, at_none, never, rules) depth 24
 
--- no old bindings of streams that don't exist are left
+-- no old bindings of streams that don't exist remain
 
--- of the old bindings just those are left whose streams exist
+-- of the old bindings exactly those whose streams exist remain
 record JustBound (drivers : List DriverSpec) (c d : Configuration) : Type 0 where
   each : (b : Binding) → Contains c.binds b → Contains d.binds b ↔ (exists drivers d (stream b) ≡ true)
 
--- where of the old bindings just those are left whose streams exist, moves change nothing in that
+-- if of the old bindings exactly those whose streams exist remain, moves change nothing about that
 just_settled : (drivers : List DriverSpec) (c : Configuration) (n : ℕ) (d : Configuration) → JustBound drivers c d
     → JustBound drivers c (after_settling_within drivers n d)
 just_settled drivers c n d h =
     let s = settled_alone drivers n d in record { each = λ b k. rw (s.binds, s.links, s.fds) (h.each b k) }
 
--- of a swept configuration's bindings a command leaves just those whose streams exist, if what it is accepted with is
--- swept and has these
+-- a command keeps exactly the bindings of a swept configuration whose streams exist, if its accepted outcome is swept
+-- and has these
 just_finished : (drivers : List DriverSpec) (c : Configuration) (o : Outcome) → IsSwept drivers c
     → IfAccepted (λ d r. IsSwept drivers d) o → IfAccepted (λ d r. KeepsBindings drivers c d) o
     → JustBound drivers c (after_outcome drivers c o).0
@@ -123,7 +123,7 @@ just_finished drivers c (Ok x) h swept_ m = just_settled drivers c _ x.0
 just_finished drivers c (Err f) h swept_ m =
     record { each = λ b k. (λ there. in_all _ c.binds b h.binds there, λ e. k) }
 
--- a command that is no unbind leaves just those of the old bindings whose streams exist after it
+-- a command other than unbind keeps exactly the old bindings whose streams exist afterwards
 pub others_keep_bound : (drivers : List DriverSpec) (c : Configuration) (process : ℕ) (k : Command) → IsSwept drivers c
     → ((fd : ℕ) → k ≡ command.Unbind fd → ⊥)
     → All (λ b. Contains (step drivers c process k).0.binds b

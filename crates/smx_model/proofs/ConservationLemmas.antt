@@ -1,4 +1,4 @@
--- Each message that was taken is delivered, dropped or queued.
+-- Each accepted message is delivered, dropped or queued.
 use Rattle.std.proofs.Common.{◌≡◌, ℕ, zero, suc, ◌+◌, ◌<◌, ◌≤◌, Bool, cond, eqb, List, [], ◌∷◌, ◌++◌, length, filter}
 use Rattle.std.proofs.Common.{Some, Ok, Err, refl, rules, sym, ap, ◌∙◌, subst, arith, inl, inr}
 use Rattle.std.proofs.Common.{length-append}
@@ -15,7 +15,7 @@ use Rattle.smx_model.specs.Commands.{outcome, step, after_outcome, done_outcome}
 use Rattle.smx_model.specs.Configuration.{Configuration, QueuedMessage, empty, is_at, queued_before}
 use Rattle.smx_model.specs.Histories.{after_from, after, IsLegalFrom, IsLegal}
 use Rattle.smx_model.specs.LawfulHistories.{taken_by, delivered_by, dropped_by, taken_serials, delivered_serials}
-use Rattle.smx_model.specs.LawfulHistories.{dropped_serials, IsConserving}
+use Rattle.smx_model.specs.LawfulHistories.{dropped_serials, AreMessagesConserved}
 use Rattle.smx_model.specs.Ordered.{with_inserted, without_first}
 use Rattle.smx_model.specs.Outcomes.{Outcome}
 use Rattle.smx_model.specs.Queues.{first_message, after_leaving}
@@ -28,7 +28,7 @@ use Rattle.smx_model.proofs.OutcomeLemmas.{IfAccepted}
 
 -- serials of a flow
 
--- with one more message in the flow its serial is there once more, and each other one as often as before
+-- one more message in the flow adds one to the count of its serial, and leaves the other counts
 serials_placed : (n : ℕ) (hs : List QueuedMessage) (h : QueuedMessage)
     → times n (serials (with_inserted queued_before hs h)) ≡ cond (eqb h.message.serial n) 1 0 + times n (serials hs)
 serials_placed n [] h = refl
@@ -42,7 +42,7 @@ serials_filter n test [] = omega arith
 serials_filter n test (h ∷ hs) = elim (cases_Bool (test h))
     [ inl t ↦ rw t (omega (arith, serials_filter n test hs)) | inr f ↦ rw f (omega (arith, serials_filter n test hs)) ]
 
--- without the first message of a place its serial is in the flow once less, and each other one as often as before
+-- removing the first message of a place takes one from the count of its serial, and leaves the other counts
 serials_front : (n : ℕ) (hs : List QueuedMessage) (p : Place) (m : Message) → first_message hs p ≡ Some m
     → times n (serials hs) ≡ cond (eqb m.serial n) 1 0 + times n (serials (without_first (is_at p) hs))
 serials_front n [] p m e = cc
@@ -51,16 +51,16 @@ serials_front n (h ∷ hs) p m e = elim (cases_Bool (is_at p h)) [
   | inr f ↦ rw f (omega (arith, serials_front n hs p m (rw f at e)))
 ]
 
--- from old to new by a reply
+-- the change from an old to a new configuration by a reply
 
--- what was taken in or queued is delivered, dropped or queued then, and serials are taken from the next one on
+-- each accepted or queued message is then delivered, dropped or queued, and serials are given from the next one on
 pub record Goes (c d : Configuration) (r : Reply) : Type 0 where
   pub balance : (n : ℕ) → times n (taken_by r) + times n (serials c.flow)
       ≡ times n (delivered_by r) + (times n (dropped_by r) + times n (serials d.flow))
   pub numbered : taken_by r ≡ range_with_len c.next_serial (length (taken_by r))
   pub next : d.next_serial ≡ c.next_serial + length (taken_by r)
 
--- each queued message has a serial of its own, below the next one
+-- the queued messages have different serials, below the next one
 pub record IsNumbered (c : Configuration) : Type 0 where
   pub once : (n : ℕ) → times n (serials c.flow) ≤ 1
   pub below : (n : ℕ) → c.next_serial ≤ n → times n (serials c.flow) ≡ 0
@@ -74,13 +74,13 @@ two_filters : (n : ℕ) (f g : QueuedMessage → Bool) (hs : List QueuedMessage)
     → times n (serials (filter g (filter f hs))) ≤ times n (serials hs)
 two_filters n f g hs = omega (arith, serials_filter n g (filter f hs), serials_filter n f hs)
 
--- a sweep leaves no serial more often in the flow
+-- after a sweep no serial is in the flow more often
 fewer_swept : (n : ℕ) (drivers : List DriverSpec) (c : Configuration)
     → times n (serials (after_sweep drivers c).flow) ≤ times n (serials c.flow)
 fewer_swept n drivers c = two_filters n _ _ c.flow
 
--- a command that is done loses and doubles no message, where each queued one has a serial of its own, no serial is
--- queued more often before the sweep, and the next serial is as it was
+-- a command that is done loses and duplicates no message, if queued messages have different serials, no serial is
+-- queued more often before the sweep, and the next serial is unchanged
 goes_done : (drivers : List DriverSpec) (c d : Configuration) → IsNumbered c → d.next_serial ≡ c.next_serial
     → IsFewer c d → IfAccepted (Goes c) (done_outcome drivers c d)
 goes_done drivers c d h same fewer = record {
@@ -96,7 +96,7 @@ goes_done drivers c d h same fewer = record {
   };
 }
 
--- where the flow and the next serial are as they were, and the reply names no message, none is lost or doubled
+-- if the flow and the next serial are unchanged and the reply names no message, none is lost or duplicated
 goes_still : (c d : Configuration) (r : Reply) → d.flow ≡ c.flow → d.next_serial ≡ c.next_serial → taken_by r ≡ []
     → delivered_by r ≡ [] → dropped_by r ≡ [] → Goes c d r
 goes_still c d r e same none given gone = record {
@@ -105,7 +105,7 @@ goes_still c d r e same none given gone = record {
   next = rw none (omega (arith, same));
 }
 
--- where a message is taken in under the next serial, none is lost or doubled
+-- if a message is accepted under the next serial, none is lost or duplicated
 goes_took : (drivers : List DriverSpec) (c : Configuration) (p : Place) (addr : ℕ) (bytes : List ℕ)
     → Goes c (taken drivers c p addr bytes) (reply.Took c.next_serial)
 goes_took drivers c p addr bytes = record {
@@ -119,19 +119,19 @@ goes_took drivers c p addr bytes = record {
   next = refl;
 }
 
--- where the first message of a place is delivered, none is lost or doubled
+-- if the first message of a place is delivered, none is lost or duplicated
 goes_got : (drivers : List DriverSpec) (c : Configuration) (p : Place) (m : Message) → first_message c.flow p ≡ Some m
     → Goes c (after_leaving drivers c p) (reply.Got m.serial m.addr m.bytes)
 goes_got drivers c p m e =
     record { balance = λ n. omega (arith, serials_front n c.flow p m e); numbered = refl; next = omega arith }
 
--- an accepted command loses and doubles no message, where each queued one has a serial of its own
+-- an accepted command loses and duplicates no message, if queued messages have different serials
 pub goes_accepted : (drivers : List DriverSpec) (c : Configuration) (process : ℕ) (k : Command) → IsNumbered c
     → IfAccepted (Goes c) (outcome drivers c process k)
 goes_accepted drivers c process k h =
     search (of_rows, goes_still, goes_took, goes_got, goes_done, serials_filter, rules) depth 24
 
--- settling keeps what is queued
+-- settling keeps the queued messages
 
 -- a move leaves the same serials in the flow, each as often
 pub moved_same : (n : ℕ) (drivers : List DriverSpec) (c : Configuration) (p : Place)
@@ -143,17 +143,17 @@ moved_same n drivers c p = moved_by (λ d. times n (serials d.flow) ≡ times n 
       serials_placed n (after_leaving drivers c p).flow (record { place = q; message = m }),
     ))
 
--- a move leaves the next serial as it is
+-- a move doesn't change the next serial
 pub moved_next : (drivers : List DriverSpec) (c : Configuration) (p : Place)
     → (after_move drivers c p).next_serial ≡ c.next_serial
 moved_next drivers c p = moved_by (λ d. d.next_serial ≡ c.next_serial) drivers c p refl (λ q m e. refl)
 
--- the same serials are queued, each as often, and the next serial is as it was
+-- the same serials are queued, each as often, and the next serial is unchanged
 record KeepsSerials (c d : Configuration) : Type 0 where
   same : (n : ℕ) → times n (serials d.flow) ≡ times n (serials c.flow)
   next : d.next_serial ≡ c.next_serial
 
--- any number of moves leave the same serials in the flow, each as often, and the next serial as it is
+-- moves leave the same serials in the flow, each as often, and don't change the next serial
 settled_keeps : (drivers : List DriverSpec) (n : ℕ) (c : Configuration)
     → KeepsSerials c (after_settling_within drivers n c)
 settled_keeps drivers n c = settled_by (KeepsSerials c) drivers n c (record {
@@ -163,7 +163,7 @@ settled_keeps drivers n c = settled_by (KeepsSerials c) drivers n c (record {
 
 -- a step
 
--- a command loses and doubles no message, if none is lost or doubled in what it is accepted with
+-- a command loses and duplicates no message, if its accepted outcome loses and duplicates none
 goes_finished : (drivers : List DriverSpec) (c : Configuration) (o : Outcome) → IfAccepted (Goes c) o
     → Goes c (after_outcome drivers c o).0 (after_outcome drivers c o).1
 goes_finished drivers c (Ok x) k = let s = settled_keeps drivers _ x.0 in record {
@@ -173,25 +173,25 @@ goes_finished drivers c (Ok x) k = let s = settled_keeps drivers _ x.0 in record
 }
 goes_finished drivers c (Err f) k = record { balance = λ n. omega arith; numbered = refl; next = omega arith }
 
--- a step loses and doubles no message, where each queued one has a serial of its own
+-- a step loses and duplicates no message, if queued messages have different serials
 pub goes_step : (drivers : List DriverSpec) (c : Configuration) (process : ℕ) (k : Command) → IsNumbered c
     → Goes c (step drivers c process k).0 (step drivers c process k).1
 goes_step drivers c process k h =
     goes_finished drivers c (outcome drivers c process k) (goes_accepted drivers c process k h)
 
--- a number below a is none of the numbers from a on
+-- a number below a is not among the numbers from a on
 times_range_below : (n a k : ℕ) → n < a → times n (range_with_len a k) ≡ 0
 times_range_below n a zero lt = refl
 times_range_below n a (suc k) lt =
     rw (ne_eqb a n (λ e. omega (arith, e))) (omega (arith, times_range_below n (a + 1) k (omega arith)))
 
--- a number from a + k on is none of the k numbers from a on
+-- a number from a + k on is not among the k numbers from a on
 times_range_above : (n a k : ℕ) → a + k ≤ n → times n (range_with_len a k) ≡ 0
 times_range_above n a zero le = refl
 times_range_above n a (suc k) le =
     rw (ne_eqb a n (λ e. omega (arith, e))) (omega (arith, times_range_above n (a + 1) k (omega arith)))
 
--- no number is there twice among the k numbers from a on
+-- no number occurs twice among the k numbers from a on
 times_range_once : (n a k : ℕ) → times n (range_with_len a k) ≤ 1
 times_range_once n a zero = omega arith
 times_range_once n a (suc k) = elim (cases_eq a n) [
@@ -199,7 +199,7 @@ times_range_once n a (suc k) = elim (cases_eq a n) [
   | inr ne ↦ rw (ne_eqb a n ne) (omega (arith, times_range_once n (a + 1) k))
 ]
 
--- what is queued has lower serials, each once
+-- the queued messages have lower serials, each once
 pub numbered_goes : (c d : Configuration) (r : Reply) → IsNumbered c → Goes c d r → IsNumbered d
 numbered_goes c d r h g = record { once = at_most; below = λ n le. none n le } where
   count : (n : ℕ) → times n (taken_by r) ≡ times n (range_with_len c.next_serial (length (taken_by r)))
@@ -232,14 +232,14 @@ range_join a (suc k) m =
     ap (λ (xs : List ℕ). a ∷ xs) (ap (λ (x : ℕ). range_with_len (a + 1) k ++ range_with_len x m) e
     ∙ range_join (a + 1) k m) ∙ ap (range_with_len a) f
 
--- over these entries each message that was taken in or queued is delivered, dropped or queued, and serials are taken
--- from the next one on
+-- over these entries each accepted or queued message is delivered, dropped or queued, and serials are given from the
+-- next one on
 record Ends (drivers : List DriverSpec) (c : Configuration) (es : List Entry) : Type 0 where
   balance : (n : ℕ) → times n (taken_serials es) + times n (serials c.flow) ≡ times n (delivered_serials es)
       + (times n (dropped_serials es) + times n (serials (after_from drivers c es).flow))
   numbered : taken_serials es ≡ range_with_len c.next_serial (length (taken_serials es))
 
--- entries that are legal from a configuration lose and double no message, where each queued one has a serial of its own
+-- entries that are legal from a configuration lose and duplicate no message, if queued messages have different serials
 ends : (drivers : List DriverSpec) (c : Configuration) (es : List Entry) → IsNumbered c → IsLegalFrom drivers c es
     → Ends drivers c es
 ends drivers c [] h legal = record { balance = λ n. omega arith; numbered = refl }
@@ -270,22 +270,25 @@ ends drivers c (e ∷ es) h legal =
           ∙ (ap (λ (zs : List ℕ). range_with_len a (length xs) ++ zs)
           (k ∙ ap (λ (m : ℕ). range_with_len m (length ys)) next) ∙ (j ∙ ap (range_with_len a) (sym l)))
 
--- no message is queued in the empty configuration, so each has a serial of its own
+-- no message is queued in the empty configuration, so queued messages have different serials
 pub numbered_empty : IsNumbered empty
 numbered_empty = record { once = λ n. omega arith; below = λ n le. refl }
 
--- a legal history takes messages in under serials from 1 on, and loses and doubles none
+-- a legal history gives accepted messages serials from 1 on
+pub numbered_from_one : (drivers : List DriverSpec) (history : List Entry) → IsLegal drivers history
+    → taken_serials history ≡ range_with_len 1 (length (taken_serials history))
+numbered_from_one drivers history legal = (ends drivers empty history numbered_empty legal).numbered
+
+-- a legal history loses and duplicates no message
 pub conserving : (drivers : List DriverSpec) (history : List Entry) → IsLegal drivers history
-    → IsConserving drivers history
-conserving drivers history legal = let e = ends drivers empty history numbered_empty legal in record {
-  numbered = e.numbered;
-  conserved = permuted (taken_serials history)
-      (delivered_serials history ++ (dropped_serials history ++ serials (after drivers history).flow))
-      (λ n. omega (
-        arith,
-        e.balance n,
-        times_append n (delivered_serials history)
-            (dropped_serials history ++ serials (after drivers history).flow),
-        times_append n (dropped_serials history) (serials (after drivers history).flow),
-      ));
-}
+    → AreMessagesConserved history (after drivers history)
+conserving drivers history legal = let e = ends drivers empty history numbered_empty legal in
+    permuted (taken_serials history)
+    (delivered_serials history ++ (dropped_serials history ++ serials (after drivers history).flow))
+    (λ n. omega (
+      arith,
+      e.balance n,
+      times_append n (delivered_serials history)
+          (dropped_serials history ++ serials (after drivers history).flow),
+      times_append n (dropped_serials history) (serials (after drivers history).flow),
+    ))

@@ -1,4 +1,4 @@
--- How often a number is in a list.
+-- The number of occurrences of a number in a list.
 use Rattle.std.proofs.Common.{◌≡◌, ℕ, ◌+◌, ◌≤◌, Bool, true, false, not, cond, eqb, ltb, List, [], ◌∷◌, ◌++◌, filter}
 use Rattle.std.proofs.Common.{refl, sym, ap, ◌∙◌, subst, arith, inl, inr}
 use Rattle.std.specs.List.{list_any}
@@ -8,28 +8,28 @@ use Rattle.std.proofs.lemmas.List.Sorted.{IsPermutation-refl, IsPermutation-cons
 use Rattle.std.proofs.lemmas.List.Sorted.{IsPermutation-sym, IsPermutation-to_front, IsPermutation-append_left}
 use Rattle.smx_model.specs.Ordered.{with_inserted, in_rising_order, without_first}
 
--- how often the number n is in a list
+-- the number of occurrences of n in a list
 abbrev pub times : ℕ → List ℕ → ℕ
 times n [] = 0
 times n (m ∷ ms) = cond (eqb m n) 1 0 + times n ms
 
--- in two lists, one after the other, a number is as often as in both together
+-- the count in two joined lists is the sum of the counts
 pub times_append : (n : ℕ) (xs ys : List ℕ) → times n (xs ++ ys) ≡ times n xs + times n ys
 times_append n [] ys = omega arith
 times_append n (x ∷ xs) ys = omega (arith, times_append n xs ys)
 
--- a number is once more in a list into which it is inserted, and as often as before if another is
+-- inserting a number adds one to its count, and leaves the other counts
 times_placed : (n : ℕ) (xs : List ℕ) (x : ℕ) → times n (with_inserted ltb xs x) ≡ cond (eqb x n) 1 0 + times n xs
 times_placed n [] x = refl
 times_placed n (y ∷ ys) x =
     elim (cases_Bool (ltb x y)) [ inl t ↦ rw t refl | inr f ↦ rw f (omega (arith, times_placed n ys x)) ]
 
--- numbers that are put in rising order are there as often as before
+-- sorting leaves all counts
 pub times_rising : (n : ℕ) (xs : List ℕ) → times n (in_rising_order xs) ≡ times n xs
 times_rising n [] = refl
 times_rising n (x ∷ xs) = omega (arith, times_placed n (in_rising_order xs) x, times_rising n xs)
 
--- a filter leaves a number that passes as often as it was, and one that doesn't pass 0 times
+-- a filter leaves the count of a number that passes, and makes that of one that fails 0
 pub times_filter : (n : ℕ) (test : ℕ → Bool) (xs : List ℕ) → times n (filter test xs) ≡ cond (test n) (times n xs) 0
 times_filter n test [] = elim (cases_Bool (test n)) [ inl t ↦ rw t refl | inr f ↦ rw f refl ]
 times_filter n test (x ∷ xs) = elim (cases_eq x n) [
@@ -52,7 +52,7 @@ times_filter n test (x ∷ xs) = elim (cases_eq x n) [
       ]
 ]
 
--- a number that no element is equal to is there 0 times
+-- a number that equals no element has the count 0
 pub times_none : (n : ℕ) (xs : List ℕ) → list_any (λ m. eqb n m) xs ≡ false → times n xs ≡ 0
 times_none n [] h = refl
 times_none n (x ∷ xs) h = let p = or_parts (eqb n x) (list_any (λ m. eqb n m) xs) h in
@@ -62,14 +62,14 @@ times_none n (x ∷ xs) h = let p = or_parts (eqb n x) (list_any (λ m. eqb n m)
           rw (ne_eqb x n ne) (omega (arith, times_none n xs p.1))
     ]
 
--- a number that some element is equal to is there at least once
+-- a number that equals some element has a count of at least one
 pub times_some : (n : ℕ) (xs : List ℕ) → list_any (λ m. eqb n m) xs ≡ true → 1 ≤ times n xs
 times_some n [] h = absurd (false≢true h)
 times_some n (x ∷ xs) h = elim (or_cases (eqb n x) (list_any (λ m. eqb n m) xs) h)
     [ inl e ↦ rw (eq-eqb x n (sym (eqb-true n x e))) (omega arith) | inr r ↦ omega (arith, times_some n xs r) ]
 
--- a number that is at most once in an old list, and no more often in a new one, is as often among those that left and
--- in the new list together as it was in the old one
+-- if a number is at most once in the old list, and no more often in the new one, the removed numbers and the new list
+-- together have it as often as the old list
 pub times_gone : (n : ℕ) (old new : List ℕ) → times n new ≤ times n old → times n old ≤ 1
     → times n (in_rising_order (filter (λ m. not (list_any (λ k. eqb m k) new)) old)) + times n new ≡ times n old
 times_gone n old new fewer once =
@@ -82,16 +82,16 @@ times_gone n old new fewer once =
           omega (arith, g, r, times_none n new u)
     ]
 
--- a list without the first of it that is this number
+-- the list without the first occurrence of this number
 abbrev without_one : ℕ → List ℕ → List ℕ
 without_one n ms = without_first (λ m. eqb m n) ms
 
--- a list is the same but for the order when its first two numbers are exchanged
+-- exchanging the first two numbers of a list permutes it
 swap_two : (x y : ℕ) (xs : List ℕ) → IsPermutation (x ∷ y ∷ xs) (y ∷ x ∷ xs)
 swap_two x y xs = IsPermutation-append_left xs (x ∷ y ∷ []) (y ∷ x ∷ [])
     (IsPermutation-sym (y ∷ x ∷ []) (x ∷ y ∷ []) (IsPermutation-to_front (y ∷ []) x))
 
--- a list is the same but for the order when a number of it is brought to the front
+-- moving one number of a list to its front permutes it
 one_in_front : (n : ℕ) (xs : List ℕ) → 1 ≤ times n xs → IsPermutation (n ∷ without_one n xs) xs
 one_in_front n [] h = absurd (omega arith)
 one_in_front n (x ∷ xs) h = elim (cases_eq x n) [
@@ -102,7 +102,7 @@ one_in_front n (x ∷ xs) h = elim (cases_eq x n) [
       (IsPermutation-cons x (n ∷ without_one n xs) xs (one_in_front n xs (omega (arith, rw z at h)))))
 ]
 
--- with a number taken out of a list once, that number is once less in it, and each other as often as before
+-- removing one occurrence of a number takes one from its count, and leaves the other counts
 times_without : (n m : ℕ) (xs : List ℕ) → 1 ≤ times m xs → times n xs ≡ cond (eqb m n) 1 0 + times n (without_one m xs)
 times_without n m [] h = absurd (omega arith)
 times_without n m (x ∷ xs) h = elim (cases_eq x m) [
@@ -111,12 +111,12 @@ times_without n m (x ∷ xs) h = elim (cases_eq x m) [
       rw z (omega (arith, times_without n m xs (omega (arith, rw z at h))))
 ]
 
--- a list in which each number is 0 times is empty
+-- a list in which each number has the count 0 is empty
 none_counted : (xs : List ℕ) → ((n : ℕ) → 0 ≡ times n xs) → xs ≡ []
 none_counted [] h = refl
 none_counted (x ∷ xs) h = let k = h x in absurd (omega (arith, rw (eq-eqb x x refl) at k))
 
--- lists in which each number is as often are the same but for the order
+-- two lists with the same counts are permutations of each other
 pub permuted : (xs ys : List ℕ) → ((n : ℕ) → times n xs ≡ times n ys) → IsPermutation xs ys
 permuted [] ys h = subst (λ (zs : List ℕ). IsPermutation [] zs) (sym (none_counted ys h)) (IsPermutation-refl [])
 permuted (x ∷ xs) ys h =

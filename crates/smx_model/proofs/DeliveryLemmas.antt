@@ -1,4 +1,4 @@
--- Messages keep their serial, address and bytes from where they are taken in to where they are delivered.
+-- Messages keep their serial, address and bytes from acceptance to delivery.
 use Rattle.std.proofs.Common.{◌≡◌, ◌⊎◌, ℕ, Bool, List, [], ◌∷◌, ◌++◌, Some, Ok, Err, refl}
 use Rattle.std.proofs.Common.{rules, ap, sym, ◌∙◌, subst, inl, inr, arith}
 use Rattle.std.specs.List.{All}
@@ -31,11 +31,11 @@ use Rattle.smx_model.proofs.OutcomeLemmas.{IfAccepted}
 use Rattle.std.specs.List.{AllByRecursion}
 use Rattle.std.proofs.lemmas.List.Elements.{All-from_recursion}
 
--- P of each queued message
+-- P holds of each queued message
 abbrev OfEach : (Message → Type 0) → List QueuedMessage → Type 0
 OfEach P hs = AllByRecursion (λ h. P h.message) hs
 
--- what holds of each message of a flow holds of the first one at a place
+-- a property of all messages of a flow holds of the first one at a place
 first_has : (P : Message → Type 0) (hs : List QueuedMessage) (p : Place) (m : Message) → first_message hs p ≡ Some m
     → OfEach P hs → P m
 first_has P [] p m e h = cc
@@ -44,27 +44,27 @@ first_has P (k ∷ ks) p m e h = elim (cases_Bool (is_at p k)) [
   | inr f ↦ first_has P ks p m (rw f at e) h.1
 ]
 
--- what holds of each message of a flow holds of each without the first that passes a test
+-- a property of all messages of a flow holds of those without the first that passes a test
 rest_has : (P : Message → Type 0) (test : QueuedMessage → Bool) (hs : List QueuedMessage) → OfEach P hs
     → OfEach P (without_first test hs)
 rest_has P test [] h = tt
 rest_has P test (k ∷ ks) h =
     elim (cases_Bool (test k)) [ inl t ↦ rw t h.1 | inr f ↦ rw f (h.0, rest_has P test ks h.1) ]
 
--- what a command leaves and delivers
+-- the messages that a command leaves and delivers
 
--- each message that is left was there, so that P holds of it, or was taken in by this command under the serial of its
--- reply, and one that is delivered was there
+-- each remaining message was queued before, so that P holds of it, or this command accepted it under the serial of
+-- its reply; a delivered message was queued before
 pub record Carries (P : Message → Type 0) (k : Command) (d : Configuration) (r : Reply) : Type 0 where
   pub flow : OfEach (λ m. P m ⊎ ((r ≡ reply.Took m.serial) × Sends k m.addr m.bytes)) d.flow
   pub got : (m : Message) → r ≡ reply.Got m.serial m.addr m.bytes → P m
 
--- messages of which P holds were there, and so are among those that were there or were taken in
+-- messages of which P holds were queued before, so they are among those that were queued or were accepted
 each_was_there : (P : Message → Type 0) (k : Command) (r : Reply) (hs : List QueuedMessage) → OfEach P hs
     → OfEach (λ m. P m ⊎ ((r ≡ reply.Took m.serial) × Sends k m.addr m.bytes)) hs
 each_was_there P k r hs h = each_map _ _ hs (λ x p. inl p) h
 
--- where all messages that are left were there, and the reply delivers none, no message comes from elsewhere
+-- if all remaining messages were queued before, and the reply delivers none, no message is new
 carries_still : (P : Message → Type 0) (k : Command) (d : Configuration) (r : Reply) → OfEach P d.flow
     → delivered_by r ≡ [] → Carries P k d r
 carries_still P k d r h none = record {
@@ -72,7 +72,7 @@ carries_still P k d r h none = record {
   got = λ m e. let none_is : [] ≡ m.serial ∷ [] = sym none ∙ ap delivered_by e in cc;
 }
 
--- where all messages were there before a sweep, those that are left after it were, and none is delivered
+-- if all messages before a sweep were queued before, so were those after it, and none is delivered
 carries_done : (P : Message → Type 0) (k : Command) (drivers : List DriverSpec) (c d : Configuration) → OfEach P d.flow
     → IfAccepted (Carries P k) (done_outcome drivers c d)
 carries_done P k drivers c d h =
@@ -80,8 +80,8 @@ carries_done P k drivers c d h =
       holds = record { flow = each_was_there P k _ _ (each_filter _ _ _ (each_filter _ _ d.flow h)); got = λ m e. cc };
     }
 
--- where a message is taken in under the next serial, it has the address and the bytes that were sent, and all others
--- were there
+-- a message accepted under the next serial has the address and the bytes that were sent, and all others
+-- were queued before
 carries_took : (P : Message → Type 0) (k : Command) (drivers : List DriverSpec) (c : Configuration) (p : Place)
     (addr : ℕ) (bytes : List ℕ) → Sends k addr bytes → OfEach P c.flow
     → Carries P k (taken drivers c p addr bytes) (reply.Took c.next_serial)
@@ -92,7 +92,7 @@ carries_took P k drivers c p addr bytes sends h = record {
   got = λ m e. cc;
 }
 
--- where the first message of a place is delivered, it was there, as were all that are left
+-- if the first message of a place is delivered, it was queued before, and so were all remaining ones
 carries_got : (P : Message → Type 0) (k : Command) (drivers : List DriverSpec) (c : Configuration) (p : Place)
     (m : Message) → first_message c.flow p ≡ Some m → OfEach P c.flow
     → Carries P k (after_leaving drivers c p) (reply.Got m.serial m.addr m.bytes)
@@ -107,7 +107,8 @@ carries_got P k drivers c p m e h = record {
   same a b x y bs zs e = let f : a ≡ x = cc in let g : b ≡ y = cc in let i : bs ≡ zs = cc in
       ap (λ (n : ℕ). message n b bs) f ∙ (ap (λ (n : ℕ). message x n bs) g ∙ ap (message x y) i)
 
--- an accepted command leaves messages that were there or that it took in, and delivers one that was there
+-- an accepted command leaves messages that were queued before or that it accepted, and delivers one that
+-- was queued before
 carries_accepted : (P : Message → Type 0) (drivers : List DriverSpec) (c : Configuration) (process : ℕ) (k : Command)
     → OfEach P c.flow → IfAccepted (Carries P k) (outcome drivers c process k)
 carries_accepted P drivers c process k h = search (
@@ -130,7 +131,7 @@ carries_accepted P drivers c process k h = search (
 
 -- moves and settling keep messages
 
--- what holds of each message of a flow holds of each after a move
+-- a property of all messages of a flow holds of all after a move
 moved_has : (P : Message → Type 0) (drivers : List DriverSpec) → MovesKeep (λ d. OfEach P d.flow) drivers
 moved_has P drivers = record {
   each = λ c p h. moved_by (λ d. OfEach P d.flow) drivers c p h
@@ -140,8 +141,8 @@ moved_has P drivers = record {
 
 -- a step
 
--- a command leaves messages that were there or that it took in, and delivers one that was there, if so does what it is
--- accepted with
+-- a command leaves messages that were queued before or that it accepted, and delivers one that was queued before, if
+-- its accepted outcome does
 carries_finished : (P : Message → Type 0) (drivers : List DriverSpec) (c : Configuration) (k : Command) (o : Outcome)
     → OfEach P c.flow → IfAccepted (Carries P k) o
     → Carries P k (after_outcome drivers c o).0 (after_outcome drivers c o).1
@@ -154,12 +155,12 @@ carries_finished P drivers c k (Ok x) h m = record { flow = settled; got = m.hol
 carries_finished P drivers c k (Err f) h m =
     record { flow = each_was_there P k (reply.Fault f) c.flow h; got = λ m e. cc }
 
--- P holds of the message, or this entry took it in
+-- P holds of the message, or this entry accepted it
 abbrev Known : (Message → Type 0) → Entry → Message → Type 0
 Known P e m = P m ⊎ ((e.reply ≡ reply.Took m.serial) × Sends e.command m.addr m.bytes)
 
--- a step with the reply of an entry leaves messages that were there or that the entry took in, and delivers one that
--- was there
+-- a step with the reply of an entry leaves messages that were queued before or that the entry accepted, and delivers
+-- one that was queued before
 carries_step : (P : Message → Type 0) (drivers : List DriverSpec) (c : Configuration) (e : Entry)
     → (step drivers c e.process e.command).1 ≡ e.reply → OfEach P c.flow
     → Carries P e.command (step drivers c e.process e.command).0 e.reply
@@ -169,16 +170,15 @@ carries_step P drivers c e is h = subst (Carries P e.command (step drivers c e.p
 
 -- a history
 
--- a message that was there, or was taken in by an entry or by those behind it, was there or was taken in by all of
--- these
+-- a message that was queued before, or that an entry or later ones accepted, was queued before, or all these entries
+-- together accepted it
 known_or_taken_in : (P : Message → Type 0) (e : Entry) (es : List Entry) (m : Message) → Known P e m ⊎ IsTakenIn es m
     → P m ⊎ IsTakenIn (e ∷ es) m
 known_or_taken_in P e es m (inl (inl p)) = inl p
 known_or_taken_in P e es m (inl (inr k)) = inr (e, is_first e es, k.0, k.1)
 known_or_taken_in P e es m (inr k) = inr (k.0, is_later k.0 e es k.1, k.2, k.3)
 
--- a message that an entry of a legal history from a configuration delivers was there at first, or was taken in by an
--- earlier entry
+-- a message that an entry of a legal history delivers was queued at first, or an earlier entry accepted it
 got_from : (P : Message → Type 0) (drivers : List DriverSpec) (c : Configuration) (early late : List Entry) (e : Entry)
     (m : Message) → OfEach P c.flow → IsLegalFrom drivers c (early ++ e ∷ late)
     → e.reply ≡ reply.Got m.serial m.addr m.bytes → P m ⊎ IsTakenIn early m
@@ -187,7 +187,7 @@ got_from P drivers c (x ∷ xs) late e m h legal is =
     known_or_taken_in P x xs m (got_from (Known P x) drivers (step drivers c x.process x.command).0 xs late e m
     (carries_step P drivers c x legal.0 h).flow legal.1 is)
 
--- a message that is delivered was taken in before, with the same serial, address and bytes
+-- a delivered message was accepted before, with the same serial, address and bytes
 pub arrive_whole : (drivers : List DriverSpec) (early late : List Entry) (e : Entry) (serial addr : ℕ) (bytes : List ℕ)
     → IsLegal drivers (early ++ e ∷ late) → e.reply ≡ reply.Got serial addr bytes
     → IsTakenIn early (record { serial = serial; addr = addr; bytes = bytes })
@@ -195,7 +195,7 @@ arrive_whole drivers early late e serial addr bytes legal is =
     elim (got_from (λ m. ⊥) drivers empty early late e
     (record { serial = serial; addr = addr; bytes = bytes }) tt legal is) [ inl none ↦ absurd none | inr k ↦ k ]
 
--- a message that is queued after a legal history from a configuration was there at first, or was taken in by an entry
+-- a message that is queued after a legal history was queued at first, or an entry accepted it
 queued_from : (P : Message → Type 0) (drivers : List DriverSpec) (c : Configuration) (es : List Entry) → OfEach P c.flow
     → IsLegalFrom drivers c es → OfEach (λ m. P m ⊎ IsTakenIn es m) (after_from drivers c es).flow
 queued_from P drivers c [] h legal = each_map _ _ c.flow (λ x p. inl p) h
@@ -203,24 +203,24 @@ queued_from P drivers c (e ∷ es) h legal = each_map _ _ _ (λ x k. known_or_ta
     (queued_from (Known P e) drivers (step drivers c e.process e.command).0 es
     (carries_step P drivers c e legal.0 h).flow legal.1)
 
--- a message that is queued after a legal history was taken in by it, with its serial, address and bytes
+-- a message that is queued after a legal history was accepted by it, with the same serial, address and bytes
 pub stay_whole : (drivers : List DriverSpec) (history : List Entry) → IsLegal drivers history
     → All (λ h. IsTakenIn history h.message) (after drivers history).flow
 stay_whole drivers history legal = All-from_recursion (λ h. IsTakenIn history h.message) (after drivers history).flow
     (each_map (λ h. ⊥ ⊎ IsTakenIn history h.message) (λ h. IsTakenIn history h.message) (after drivers history).flow
     (λ h k. elim k [ inl none ↦ absurd none | inr t ↦ t ]) (queued_from (λ m. ⊥) drivers empty history tt legal))
 
--- a command keeps, delivers or drops each message that was queued
+-- a command keeps, delivers or drops each queued message
 
--- after any entries each queued message has a serial of its own, if each had before them
+-- after any entries queued messages have different serials, if they had before
 numbered_from : (drivers : List DriverSpec) (c : Configuration) (es : List Entry) → IsNumbered c
     → IsNumbered (after_from drivers c es)
 numbered_from drivers c [] h = h
 numbered_from drivers c (e ∷ es) h = numbered_from drivers (step drivers c e.process e.command).0 es
     (numbered_goes c _ _ h (goes_step drivers c e.process e.command h))
 
--- where no message is lost or doubled, what was taken in or queued is, but for the order, what is delivered, dropped or
--- queued then
+-- if no message is lost or duplicated, the accepted and the queued messages are a permutation of those that are then
+-- delivered, dropped or queued
 balanced : (c d : Configuration) (r : Reply) → Goes c d r
     → IsPermutation (taken_by r ++ serials c.flow) (delivered_by r ++ (dropped_by r ++ serials d.flow))
 balanced c d r g =
@@ -232,7 +232,7 @@ balanced c d r g =
       times_append n (dropped_by r) (serials d.flow),
     ))
 
--- what was queued or is taken in is, but for the order, what is delivered, is dropped or is queued then
+-- the queued and the accepted messages are a permutation of those that are then delivered, dropped or queued
 pub go_by_name : (drivers : List DriverSpec) (history : List Entry) (process : ℕ) (k : Command)
     → IsPermutation (taken_by (step drivers (after drivers history) process k).1
     ++ serials (after drivers history).flow)

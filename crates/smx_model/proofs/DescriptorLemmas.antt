@@ -1,4 +1,4 @@
--- Which descriptors a command closes.
+-- The descriptors that a command closes.
 use Rattle.std.proofs.Common.{◌≡◌, ◌↔◌, ℕ, Bool, true, false, not, eqb, List, [], ◌∷◌, filter, find, Option, Some, None}
 use Rattle.std.proofs.Common.{Ok, Err, refl, rules, sym, subst, inl, inr}
 use Rattle.std.specs.List.{All, Contains, list_any}
@@ -20,7 +20,7 @@ use Rattle.smx_model.proofs.AcceptedLemmas.{of_rows, at_none}
 use Rattle.smx_model.proofs.OutcomeLemmas.{IfAccepted}
 use Rattle.smx_model.proofs.SettledLemmas.{settled_alone}
 
--- where a search finds nothing, no element passes its test
+-- if a search finds nothing, no element passes its test
 none_found : {X : Type 0} (t : X → Bool) (xs : List X) → find t xs ≡ None → list_any t xs ≡ false
 none_found t [] e = refl
 none_found t (x ∷ xs) e = elim (cases_Bool (t x))
@@ -28,11 +28,11 @@ none_found t (x ∷ xs) e = elim (cases_Bool (t x))
 
 -- closing
 
--- of the old descriptors just those are left that don't go
+-- of the old descriptors exactly those remain that the test does not remove
 record LosesDescriptors (c d : Configuration) (goes : Descriptor → Bool) : Type 0 where
   each : (x : Descriptor) → Contains c.fds x → Contains d.fds x ↔ (not (goes x) ≡ true)
 
--- what takes some descriptors away and is swept and settled leaves just the others
+-- a command that removes some descriptors keeps exactly the others, after its sweep and settling
 shut_done : (drivers : List DriverSpec) (c : Configuration) (goes : Descriptor → Bool)
     → LosesDescriptors c
     (after_settling drivers (after_sweep drivers (record c { fds = filter (λ d. not (goes d)) c.fds }))) goes
@@ -42,11 +42,11 @@ shut_done drivers c goes = record {
       (λ k. filtered_passes (λ d. not (goes d)) c.fds x k, λ e. in_filtered (λ d. not (goes d)) c.fds x h e);
 }
 
--- where no descriptor is to go, just those are left that don't go
+-- if no descriptor is to be removed, exactly those that are not to be removed remain
 shut_none : (c : Configuration) (goes : Descriptor → Bool) → list_any goes c.fds ≡ false → LosesDescriptors c c goes
 shut_none c goes e = record { each = λ x h. (λ k. rw (none_in goes c.fds e x h) refl, λ e. h) }
 
--- close takes away just the descriptor of its process that it names
+-- close removes exactly the descriptor of its process that it names
 pub close_shuts : (drivers : List DriverSpec) (c : Configuration) (process fd : ℕ)
     → All (λ d. Contains (step drivers c process (command.Close fd)).0.fds d ↔ (not (is_fd process fd d) ≡ true)) c.fds
 close_shuts drivers c process fd = all_in _ c.fds (by (find (is_fd process fd) c.fds) refl).each where
@@ -63,45 +63,45 @@ close_shuts drivers c process fd = all_in _ c.fds (by (find (is_fd process fd) c
   by None e = shut_none c (is_fd process fd) (none_found (is_fd process fd) c.fds e)
   by (Some d) e = shut_done drivers c (is_fd process fd)
 
--- exit takes away just the descriptors of its process
+-- exit removes exactly the descriptors of its process
 pub exit_shuts : (drivers : List DriverSpec) (c : Configuration) (process : ℕ)
     → All (λ d. Contains (step drivers c process command.CloseAll).0.fds d ↔ (not (eqb d.process process) ≡ true)) c.fds
 exit_shuts drivers c process = all_in _ c.fds (shut_done drivers c (λ d. eqb d.process process)).each
 
--- each other command leaves every descriptor
+-- each other command keeps every descriptor
 
--- all of the old descriptors are left
+-- all old descriptors remain
 record KeepsDescriptors (c d : Configuration) : Type 0 where
   each : (x : Descriptor) → Contains c.fds x → Contains d.fds x
 
--- where the descriptors are the same, all are left
+-- if the descriptors are the same, all remain
 open_same : (c d : Configuration) → d.fds ≡ c.fds → KeepsDescriptors c d
 open_same c d e = record { each = λ x h. subst (λ (ds : List Descriptor). Contains ds x) (sym e) h }
 
--- with one more descriptor all of the old ones are left
+-- with one more descriptor all old ones remain
 open_fd : (c : Configuration) (process fd : ℕ) (s : StreamId) → KeepsDescriptors c (with_fd c process fd s)
 open_fd c process fd s =
     record { each = λ x h. in_placed fd_before c.fds x (record { process = process; fd = fd; stream = s }) h }
 
--- a sweep leaves all descriptors
+-- a sweep keeps all descriptors
 open_done : (drivers : List DriverSpec) (c d : Configuration) → d.fds ≡ c.fds
     → IfAccepted (λ d r. KeepsDescriptors c d) (done_outcome drivers c d)
 open_done drivers c d e = record { holds = open_same c (after_sweep drivers d) e }
 
--- an accepted command that is neither close nor exit leaves all descriptors
+-- an accepted command other than close and exit keeps all descriptors
 open_accepted : (drivers : List DriverSpec) (c : Configuration) (process : ℕ) (k : Command)
     → ((fd : ℕ) → k ≡ command.Close fd → ⊥) → (k ≡ command.CloseAll → ⊥)
     → IfAccepted (λ d r. KeepsDescriptors c d) (outcome drivers c process k)
 open_accepted drivers c process k no_close no_exit =
     search (of_rows, open_fd, open_same, open_done, at_none, no_close, no_exit, rules) depth 24
 
--- where an outcome leaves all descriptors, so does settling after it
+-- if an outcome keeps all descriptors, so does settling after it
 open_finished : (drivers : List DriverSpec) (c : Configuration) (o : Outcome)
     → IfAccepted (λ d r. KeepsDescriptors c d) o → KeepsDescriptors c (after_outcome drivers c o).0
 open_finished drivers c (Ok x) h = record { each = λ d k. rw ((settled_alone drivers _ x.0).fds) (h.holds.each d k) }
 open_finished drivers c (Err f) h = record { each = λ d k. k }
 
--- a command that is neither close nor exit leaves all descriptors
+-- a command other than close and exit keeps all descriptors
 pub others_leave_open : (drivers : List DriverSpec) (c : Configuration) (process : ℕ) (k : Command)
     → ((fd : ℕ) → k ≡ command.Close fd → ⊥) → (k ≡ command.CloseAll → ⊥)
     → All (Contains (step drivers c process k).0.fds) c.fds

@@ -1,4 +1,4 @@
--- Which commands drop messages.
+-- The commands that drop messages.
 use Rattle.std.proofs.Common.{◌≡◌, ℕ, Bool, true, false, not, eqb, List, [], ◌∷◌, filter, Ok, Err, refl, rules}
 use Rattle.std.proofs.Common.{sym, ap, ◌∙◌, inl, inr}
 use Rattle.std.specs.List.{list_any, list_all}
@@ -32,13 +32,13 @@ use Rattle.smx_model.proofs.SweptLemmas.{free_exists, leaf_exists}
 use Rattle.smx_model.proofs.TestLemmas.{all_filter, all_placed}
 use Rattle.smx_model.specs.Hangups.{is_hung, with_hung}
 
--- of numbers that are all in a list none is left without those of the list
+-- if all numbers are in a list, none is left without those of the list
 all_there : (ms ns : List ℕ) → list_all (λ n. list_any (λ m. eqb n m) ms) ns ≡ true
     → filter (λ n. not (list_any (λ m. eqb n m) ms)) ns ≡ []
 all_there ms [] h = refl
 all_there ms (n ∷ ns) h = let p = and_parts (list_any (λ m. eqb n m) ms) _ h in rw p.0 (all_there ms ns p.1)
 
--- numbers that are all in a list are all in it with one more in front
+-- numbers that are all in a list are all in it with one more at the front
 in_more : (m : ℕ) (ms ns : List ℕ) → list_all (λ n. list_any (λ k. eqb n k) ms) ns ≡ true
     → list_all (λ n. list_any (λ k. eqb n k) (m ∷ ms)) ns ≡ true
 in_more m ms [] h = refl
@@ -50,11 +50,11 @@ in_itself : (ns : List ℕ) → list_all (λ n. list_any (λ k. eqb n k) ns) ns 
 in_itself [] = refl
 in_itself (n ∷ ns) = and_from _ _ (or_left _ _ (eq-eqb n n refl)) (in_more n ns ns (in_itself ns))
 
--- no serial has left a flow that is as it was
+-- no serial has left an unchanged flow
 none_gone : (flow : List QueuedMessage) → serials_that_left flow flow ≡ []
 none_gone flow = ap in_rising_order (all_there (serials flow) (serials flow) (in_itself (serials flow)))
 
--- what leaves nothing to sweep, and the flow as it was, is done with none dropped
+-- a change that leaves nothing to sweep and keeps the flow is done with no message dropped
 pub done_idle : (drivers : List DriverSpec) (c new : Configuration) → IsSwept drivers new → new.flow ≡ c.flow
     → done_outcome drivers c new ≡ Ok (new, Done [])
 done_idle drivers c new clean same =
@@ -66,18 +66,18 @@ done_idle drivers c new clean same =
 abbrev DropsNone : Outcome → Type 0
 DropsNone o = IfAccepted (λ d r. dropped_by r ≡ []) o
 
--- what leaves nothing to sweep, and the flow as it was, is done with no message dropped
+-- a change that leaves nothing to sweep and keeps the flow names no dropped message
 idle_drops : (drivers : List DriverSpec) (c d : Configuration) → IsSwept drivers d → d.flow ≡ c.flow
     → DropsNone (done_outcome drivers c d)
 idle_drops drivers c d clean same = rw (done_idle drivers c d clean same) (at_ok _ d (Done []) refl)
 
--- a multiplexing driver's stream that a descriptor names, and that is not linked below, exists
+-- a multiplexer's stream that a descriptor names, and that is not linked below, exists
 pub mux_exists : (drivers : List DriverSpec) (c : Configuration) (process fd : ℕ) (s : StreamId)
     → mux_stream drivers c process fd ≡ Ok s → exists drivers c s ≡ true
 mux_exists drivers c process fd s e = free_exists drivers c process fd s
     (tested NotMux (free_stream c process fd) (λ t. not (is_mux drivers t.driver)) s e).0
 
--- a configuration that is swept stays so when a stream that exists hangs up
+-- a swept configuration stays swept when a stream that exists hangs up
 pub hung_swept : (drivers : List DriverSpec) (c : Configuration) (s : StreamId) → IsSwept drivers c
     → exists drivers c s ≡ true → IsSwept drivers (record c { hungs = with_hung s c.hungs })
 hung_swept drivers c s h e = record {
@@ -109,7 +109,7 @@ drops_accepted drivers c process k never h = search (
   drops : (x : Command) → k ≡ x → may_drop x ≡ true → ⊥
   drops x e may = false≢true (sym never ∙ (ap may_drop e ∙ may))
 
--- a command whose reply names dropped messages is one of those that may drop
+-- a command whose reply names dropped messages may drop messages
 pub step_drops : (drivers : List DriverSpec) (c : Configuration) (process : ℕ) (k : Command) → IsSwept drivers c
     → (dropped_by (step drivers c process k).1 ≡ [] → ⊥) → may_drop k ≡ true
 step_drops drivers c process k h some = elim (cases_Bool (may_drop k)) [
@@ -121,7 +121,7 @@ step_drops drivers c process k h some = elim (cases_Bool (may_drop k)) [
   by (Ok x) m = m.holds
   by (Err f) m = refl
 
--- each entry of a legal history from here on names dropped messages only if its command may drop
+-- each entry of a history that is legal from here names dropped messages only if its command may drop
 drops_from : (drivers : List DriverSpec) (c : Configuration) (es : List Entry) → IsKept drivers c
     → IsLegalFrom drivers c es → AllByRecursion (λ e. (dropped_by e.reply ≡ [] → ⊥) → may_drop e.command ≡ true) es
 drops_from drivers c [] h legal = tt

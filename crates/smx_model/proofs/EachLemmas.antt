@@ -1,4 +1,4 @@
--- What holds of each element of a list, and of each with all later ones, by recursion.
+-- Properties of all elements of a list, and of each with all later ones, by recursion.
 use Rattle.std.proofs.Common.{◌≡◌, suc, Bool, false, arith, List, [], ◌∷◌, ◌++◌, filter, find, Some, subst, inl}
 use Rattle.std.proofs.Common.{inr, true}
 use Rattle.std.specs.List.{list_any, AllByRecursion, AllPairs, list_all}
@@ -6,14 +6,14 @@ use Rattle.std.proofs.lemmas.Bool.{cases_Bool, and_parts, or_parts}
 use Rattle.std.proofs.lemmas.List.Elements.{recursion_from_All}
 use Rattle.smx_model.specs.Ordered.{AllLater, with_inserted, without_first}
 
--- what holds of each element holds of each that a filter leaves
+-- a property of all elements holds of all that a filter keeps
 pub each_filter : {X : Type 0} (P : X → Type 0) (test : X → Bool) (xs : List X) → AllByRecursion P xs
     → AllByRecursion P (filter test xs)
 each_filter P test [] h = tt
 each_filter P test (x ∷ xs) h = elim (cases_Bool (test x))
     [ inl t ↦ rw t (h.0, each_filter P test xs h.1) | inr f ↦ rw f (each_filter P test xs h.1) ]
 
--- what holds of each element, and of one more, holds of each once that is inserted
+-- a property of all elements and of one more holds of all after that one is inserted
 pub each_placed : {X : Type 0} (P : X → Type 0) (before : X → X → Bool) (xs : List X) (x : X) → P x
     → AllByRecursion P xs
     → AllByRecursion P (with_inserted before xs x)
@@ -21,13 +21,13 @@ each_placed P before [] x p h = (p, tt)
 each_placed P before (y ∷ ys) x p h =
     elim (cases_Bool (before x y)) [ inl t ↦ rw t (p, h) | inr f ↦ rw f (h.0, each_placed P before ys x p h.1) ]
 
--- what holds of each element, and of one more, holds of each with that one at the end
+-- a property of all elements and of one more holds of all with that one at the end
 pub each_push : {X : Type 0} (P : X → Type 0) (xs : List X) (x : X) → P x → AllByRecursion P xs
     → AllByRecursion P (xs ++ x ∷ [])
 each_push P [] x p h = (p, tt)
 each_push P (y ∷ ys) x p h = (h.0, each_push P ys x p h.1)
 
--- what holds of each element holds of the one that a search finds
+-- a property of all elements holds of the one that a search finds
 pub each_find : {X : Type 0} (P : X → Type 0) (test : X → Bool) (xs : List X) (x : X) → find test xs ≡ Some x
     → AllByRecursion P xs → P x
 each_find P test [] x e h = cc
@@ -36,51 +36,51 @@ each_find P test (y ∷ ys) x e h = elim (cases_Bool (test y)) [
   | inr f ↦ each_find P test ys x (rw f at e) h.1
 ]
 
--- where P implies Q, and P holds of each element, Q holds of each
+-- if P implies Q and P holds of all elements, Q holds of all
 pub each_map : {X : Type 0} (P Q : X → Type 0) (xs : List X) → ((x : X) → P x → Q x) → AllByRecursion P xs
     → AllByRecursion Q xs
 each_map P Q [] f h = tt
 each_map P Q (x ∷ xs) f h = (f x h.0, each_map P Q xs f h.1)
 
--- where P and Q hold of each element, both hold of each
+-- if P and Q hold of all elements, both hold of each
 pub each_both : {X : Type 0} (P Q : X → Type 0) (xs : List X) → AllByRecursion P xs → AllByRecursion Q xs
     → AllByRecursion (λ x. P x × Q x) xs
 each_both P Q [] h k = tt
 each_both P Q (x ∷ xs) h k = ((h.0, k.0), each_both P Q xs h.1 k.1)
 
--- where each element passes a test, and what passes has P, P holds of each
+-- if all elements pass a test, and P holds of what passes, P holds of all
 pub each_of_list_all : {X : Type 0} (t : X → Bool) (P : X → Type 0) (xs : List X) → ((x : X) → t x ≡ true → P x)
     → list_all t xs ≡ true → AllByRecursion P xs
 each_of_list_all t P [] f e = tt
 each_of_list_all t P (x ∷ xs) f e =
     let p = and_parts (t x) (list_all t xs) e in (f x p.0, each_of_list_all t P xs f p.1)
 
--- where no element passes a test, and what doesn't pass has P, P holds of each
+-- if no element passes a test, and P holds of what fails, P holds of all
 pub none_passes : {X : Type 0} (t : X → Bool) (P : X → Type 0) (xs : List X) → ((x : X) → t x ≡ false → P x)
     → list_any t xs ≡ false → AllByRecursion P xs
 none_passes t P [] f e = tt
 none_passes t P (x ∷ xs) f e = let p = or_parts (t x) (list_any t xs) e in (f x p.0, none_passes t P xs f p.1)
 
--- where what passes a test has P, P holds of each element that a filter by the test leaves
+-- if P holds of what passes a test, P holds of all elements that a filter by the test keeps
 pub kept_passes : {X : Type 0} (t : X → Bool) (P : X → Type 0) (xs : List X) → ((x : X) → t x ≡ true → P x)
     → AllByRecursion P (filter t xs)
 kept_passes t P [] f = tt
 kept_passes t P (x ∷ xs) f =
     elim (cases_Bool (t x)) [ inl k ↦ rw k (f x k, kept_passes t P xs f) | inr k ↦ rw k (kept_passes t P xs f) ]
 
--- what holds of each element holds of each but the first that passes a test
+-- a property of all elements holds of all except the first that passes a test
 pub each_without_first : {X : Type 0} (P : X → Type 0) (test : X → Bool) (xs : List X) → AllByRecursion P xs
     → AllByRecursion P (without_first test xs)
 each_without_first P test [] h = tt
 each_without_first P test (x ∷ xs) h =
     elim (cases_Bool (test x)) [ inl t ↦ rw t h.1 | inr f ↦ rw f (h.0, each_without_first P test xs h.1) ]
 
--- what holds of all holds of each element
+-- a property of all values holds of each element
 pub each_of_every : {X : Type 0} (P : X → Type 0) (xs : List X) → ((x : X) → P x) → AllByRecursion P xs
 each_of_every P [] f = tt
 each_of_every P (x ∷ xs) f = (f x, each_of_every P xs f)
 
--- where each element is related so to all later ones, it is so among those that a filter leaves
+-- if each element is related to all later ones, so it is among those that a filter keeps
 pub later_filter : {X : Type 0} (R : X → X → Type 0) (keep : X → Bool) (xs : List X) → AllLater R xs
     → AllLater R (filter keep xs)
 later_filter R keep [] h = tt
@@ -90,7 +90,7 @@ later_filter R keep (x ∷ xs) h = elim (cases_Bool (keep x)) [
       rw f (later_filter R keep xs h.1)
 ]
 
--- where each element is related so to all later ones, it is so without the first that passes a test
+-- if each element is related to all later ones, so it is without the first that passes a test
 pub later_without_first : {X : Type 0} (R : X → X → Type 0) (test : X → Bool) (xs : List X) → AllLater R xs
     → AllLater R (without_first test xs)
 later_without_first R test [] h = tt
@@ -99,20 +99,20 @@ later_without_first R test (x ∷ xs) h = elim (cases_Bool (test x)) [
   | inr f ↦ rw f (each_without_first (R x) test xs h.0, later_without_first R test xs h.1)
 ]
 
--- where what is related by R is related by S, and each element is related by R to all later ones, it is so by S
+-- if R implies S, and each element is related by R to all later ones, it is related to them by S
 pub later_map : {X : Type 0} (R S : X → X → Type 0) (xs : List X) → ((x y : X) → R x y → S x y) → AllLater R xs
     → AllLater S xs
 later_map R S [] f h = tt
 later_map R S (x ∷ xs) f h = (each_map (R x) (S x) xs (f x) h.0, later_map R S xs f h.1)
 
--- where each element is related so to all later ones and to one more, it is so with that one at the end
+-- if each element is related to all later ones and to one more, so it is with that one at the end
 pub later_push : {X : Type 0} (R : X → X → Type 0) (xs : List X) (x : X) → AllByRecursion (λ y. R y x) xs
     → AllLater R xs → AllLater R (xs ++ x ∷ [])
 later_push R [] x h r = (tt, tt)
 later_push R (y ∷ ys) x h r = (each_push (R y) ys x h.0 r.0, later_push R ys x h.1 r.1)
 
--- where each element is related so to all later ones, it is so with one more that is inserted, if that one is related
--- so to what it is put before, and to all that this is related to, and what it isn't put before is related so to it
+-- if each element is related to all later ones, so it is after one more is inserted: that one has to be related to
+-- the element that it is put before and to all that this one is related to, and the elements before it to that one
 pub later_placed : {X : Type 0} (R : X → X → Type 0) (before : X → X → Bool) (x : X)
     → ((y : X) → before x y ≡ true → R x y) → ((y z : X) → before x y ≡ true → R y z → R x z) → (xs : List X)
     → AllByRecursion (λ y. before x y ≡ false → R y x) xs → AllLater R xs → AllLater R (with_inserted before xs x)
@@ -122,7 +122,7 @@ later_placed R before x first later (y ∷ ys) other h = elim (cases_Bool (befor
   | inr f ↦ rw f (each_placed (R y) before ys x (other.0 f) h.0, later_placed R before x first later ys other.1 h.1)
 ]
 
--- where each element is related so to all later ones by index, it is so by recursion
+-- a relation of each element to all later ones, by index, also holds by recursion
 pub later_pairs : {X : Type 0} (R : X → X → Type 0) (xs : List X) → AllPairs R xs → AllLater R xs
 later_pairs R [] h = tt
 later_pairs R (x ∷ xs) h = (

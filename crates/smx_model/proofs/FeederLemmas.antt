@@ -1,4 +1,4 @@
--- Which places can feed one, and which one a move frees.
+-- The places that can feed a place, and the place that a move frees.
 use Rattle.std.proofs.Common.{◌≡◌, ℕ, Bool, true, false, ◌&&◌, not, eqb, List, [], ◌∷◌, find, Option}
 use Rattle.std.proofs.Common.{Some, None, refl, sym, ap, ◌∙◌, subst, inl, inr}
 use Rattle.std.specs.List.{list_any}
@@ -33,7 +33,7 @@ use Rattle.std.specs.List.{AllByRecursion}
 use Rattle.std.proofs.lemmas.List.Elements.{recursion_from_All}
 use Rattle.smx_model.specs.Ordered.{AllLater}
 
--- where no element passes one test, none passes that and another
+-- if no element passes one test, none passes that test and another
 none_both : {X : Type 0} (t u : X → Bool) (xs : List X) → AllByRecursion (λ y. t y ≡ false) xs
     → list_any (λ y. t y && u y) xs ≡ false
 none_both t u [] h = refl
@@ -58,7 +58,7 @@ one_driver (k ∷ ks) id driver l h e a = elim (cases_Bool (eqb k.id id)) [
   | inr f ↦ one_driver ks id driver l h.1 (rw f at e) (rw f at a)
 ]
 
--- a place whose first message goes next to another is one of those that can feed that
+-- a place whose first message goes next to another place can feed that place
 pub feeders : (drivers : List DriverSpec) (c : Configuration) (q r : Place) → AreRoutesSound drivers c → IsKeyed c
     → feeds drivers c (same_place q) r ≡ true → can_feed c q r ≡ true
 feeders drivers c q r sound keyed h = by (first_message c.flow r) h where
@@ -151,12 +151,12 @@ feeders drivers c q r sound keyed h = by (first_message c.flow r) h where
 
 -- ---- a move frees one place
 
--- where a message leaves a place, each other place is as full as it was
+-- when a message leaves a place, each other place is as full as before
 pub left_keeps : (drivers : List DriverSpec) (c : Configuration) (p q : Place) → same_place p q ≡ false
     → is_full (after_leaving drivers c p) q ≡ is_full c q
 left_keeps drivers c p q f = marked_full p q _ c.fulls ∙ rw f refl
 
--- where a message arrives, each place that was full still is
+-- when a message arrives, each place that was full stays full
 pub arrived_more : (drivers : List DriverSpec) (c : Configuration) (p q : Place) (m : Message) → is_full c q ≡ true
     → is_full (after_arrival drivers c p m) q ≡ true
 arrived_more drivers c p q m h = marked_full p q _ c.fulls ∙ elim (cases_Bool (same_place p q)) [
@@ -164,7 +164,7 @@ arrived_more drivers c p q m h = marked_full p q _ c.fulls ∙ elim (cases_Bool 
   | inr f ↦ rw f h
 ]
 
--- a move frees no place but the one that it takes from
+-- a move frees only the place that the message leaves
 pub moved_frees : (drivers : List DriverSpec) (c : Configuration) (p q : Place)
     → is_freed c (after_move drivers c p) q ≡ true → same_place p q ≡ true
 moved_frees drivers c p q h = by (next_open_place drivers c p) (first_message c.flow p) h where

@@ -1,4 +1,4 @@
--- With fewer links, routes, bindings and messages, and more streams that have hung up, no place is turned.
+-- With fewer links, routes, bindings and messages, and more hung-up streams, no place is turned.
 use Rattle.std.proofs.Common.{◌≡◌, ℕ, Bool, true, false, ◌&&◌, not, eqb, List, [], filter, find, Option}
 use Rattle.std.proofs.Common.{Some, None, refl, sym, ap, ◌∙◌, inl, inr, rules, ◌<◌, length}
 use Rattle.std.specs.Prelude.{slice_get}
@@ -37,9 +37,9 @@ use Rattle.smx_model.proofs.TurningLemmas.{bound_side, down_by, lower_side, up_b
 use Rattle.std.specs.List.{AllByRecursion}
 use Rattle.smx_model.specs.Ordered.{AllLater}
 
--- ---- fewer links, routes, bindings and messages, and more streams that have hung up
+-- ---- fewer links, routes, bindings and messages, and more hung-up streams
 
--- each key finds what it found, or nothing, and the lower stream of each link that is found has hung up if it had
+-- each key finds what it found before, or nothing; the lower stream of a link that is found is hung up if it was
 pub record Fewer (c d : Configuration) : Type 0 where
   pub routes : (driver addr : ℕ) → Finds (find (λ r. eqb r.driver driver && eqb r.addr addr) c.routes)
       (find (λ r. eqb r.driver driver && eqb r.addr addr) d.routes)
@@ -51,7 +51,7 @@ pub record Fewer (c d : Configuration) : Type 0 where
   pub hungs : (id : ℕ) (l : Link) → find (λ l. eqb l.id id) d.links ≡ Some l → is_hung c.hungs l.lower ≡ true
       → is_hung d.hungs l.lower ≡ true
 
--- the write side of a stream is as before, or none, where it has hung up if it had before
+-- the write side of a stream is the same as before, or none; a stream that was hung up stays so
 live_finds : (old new : List StreamId) (s : StreamId) → (is_hung old s ≡ true → is_hung new s ≡ true)
     → Finds (live_write_side old s) (live_write_side new s)
 live_finds old new s f = elim (cases_Bool (is_hung new s)) [
@@ -60,7 +60,7 @@ live_finds old new s f = elim (cases_Bool (is_hung new s)) [
       (λ t. both_ways (is_hung new s) n (f t)) in rw (o, n) (inl refl)
 ]
 
--- where each key is found as before or not at all, a route leads down as before, or nowhere
+-- if each key is found as before or not at all, a route leads down as before, or nowhere
 down_finds : (c d : Configuration) (o n : Option Route) → Fewer c d → Finds o n
     → Finds (down_by c.links c.hungs o) (down_by d.links d.hungs n)
 down_finds c d o n h (inr e) = rw e (inr refl)
@@ -75,7 +75,7 @@ down_finds c d o n h (inl e) = rw e (by o) where
   by None = inl refl
   by (Some r) = over r.id (find (λ l. eqb l.id r.id) c.links) (find (λ l. eqb l.id r.id) d.links) refl (h.ids r.id)
 
--- where each key is found as before or not at all, a link leads up as before, or nowhere
+-- if each key is found as before or not at all, a link leads up as before, or nowhere
 up_finds : (c d : Configuration) (addr : ℕ) (o n : Option Link) → Fewer c d → Finds o n
     → Finds (up_by c.binds addr o) (up_by d.binds addr n)
 up_finds c d addr o n h (inr e) = rw e (inr refl)
@@ -84,7 +84,7 @@ up_finds c d addr o n h (inl e) = rw e (by o) where
   by None = inl refl
   by (Some l) = finds_by bound_side _ _ refl (h.binds l.ctl.driver addr)
 
--- where each key is found as before or not at all, the next place by a side is as before, or none
+-- if each key is found as before or not at all, the next place by a side is as before, or none
 next_finds : (drivers : List DriverSpec) (c d : Configuration) (s : StreamId) (addr : ℕ) (x : Side) → Fewer c d
     → Finds (next_by drivers c s addr x) (next_by drivers d s addr x)
 next_finds drivers c d s addr side.Write h = elim (cases_Bool (is_mux drivers s.driver)) [
@@ -93,7 +93,7 @@ next_finds drivers c d s addr side.Write h = elim (cases_Bool (is_mux drivers s.
 ]
 next_finds drivers c d s addr side.Read h = up_finds c d addr _ _ h (h.lowers s)
 
--- where each key and a message are found as before or not at all, the message goes next as before, or nowhere
+-- if each key and a message are found as before or not at all, the message goes next as before, or nowhere
 next_of_finds : (drivers : List DriverSpec) (c d : Configuration) (p : Place) (o n : Option Message) → Fewer c d
     → Finds o n → Finds (next_of drivers c p o) (next_of drivers d p n)
 next_of_finds drivers c d p o n h (inr e) = rw e (inr refl)
@@ -102,37 +102,37 @@ next_of_finds drivers c d p o n h (inl e) = rw e (by o) where
   by None = inl refl
   by (Some m) = stays_by drivers c d p m.addr (next_finds drivers c d p.stream m.addr p.side h)
 
--- a change after which each key, and each first message, is found as before or not at all turns no place
+-- a change turns no place if each key and each first message is found as before or not at all
 pub fewer_turns : (drivers : List DriverSpec) (c d : Configuration) → Fewer c d
     → ((r : Place) → Finds (first_message c.flow r) (first_message d.flow r)) → TurnsOnly drivers c d nowhere
 fewer_turns drivers c d h f r n = next_of_finds drivers c d r (first_message c.flow r) (first_message d.flow r) h (f r)
 
--- each key is there once
+-- each key occurs once
 pub record IsKeyed (c : Configuration) : Type 0 where
   pub routes : AllLater (λ r s. (eqb r.driver s.driver && eqb r.addr s.addr) ≡ false) c.routes
   pub ids : AllLater (λ l k. eqb l.id k.id ≡ false) c.links
   pub lowers : AllLater (λ l k. same_stream l.lower k.lower ≡ false) c.links
   pub binds : AllLater (λ b e. (eqb b.driver e.driver && eqb b.addr e.addr) ≡ false) c.binds
 
--- of filtered routes the one for a driver and an address is found as before, or none
+-- among filtered routes the one for a driver and an address is found as before, or none
 pub routes_find : (keep : Route → Bool) (c : Configuration) (driver addr : ℕ) → IsKeyed c
     → Finds (find (λ r. eqb r.driver driver && eqb r.addr addr) c.routes)
     (find (λ r. eqb r.driver driver && eqb r.addr addr) (filter keep c.routes))
 routes_find keep c driver addr h =
     finds_kept _ _ keep c.routes (λ x y t r. no_other_pair x.driver x.addr y.driver y.addr driver addr t r) h.routes
 
--- of filtered links the one with an id is found as before, or none
+-- among filtered links the one with an id is found as before, or none
 ids_find : (keep : Link → Bool) (c : Configuration) (id : ℕ) → IsKeyed c
     → Finds (find (λ l. eqb l.id id) c.links) (find (λ l. eqb l.id id) (filter keep c.links))
 ids_find keep c id h = finds_kept _ _ keep c.links (λ x y t r. no_other_number x.id y.id id t r) h.ids
 
--- of filtered links the one above a stream is found as before, or none
+-- among filtered links the one above a stream is found as before, or none
 lowers_find : (keep : Link → Bool) (c : Configuration) (s : StreamId) → IsKeyed c
     → Finds (find (λ l. same_stream l.lower s) c.links) (find (λ l. same_stream l.lower s) (filter keep c.links))
 lowers_find keep c s h = finds_kept _ _ keep c.links
     (λ x y t r. no_other_pair x.lower.driver x.lower.minor y.lower.driver y.lower.minor s.driver s.minor t r) h.lowers
 
--- of filtered bindings the one for a driver and an address is found as before, or none
+-- among filtered bindings the one for a driver and an address is found as before, or none
 pub binds_find : (keep : Binding → Bool) (c : Configuration) (driver addr : ℕ) → IsKeyed c
     → Finds (find (λ b. eqb b.driver driver && eqb b.addr addr) c.binds)
     (find (λ b. eqb b.driver driver && eqb b.addr addr) (filter keep c.binds))
@@ -151,19 +151,19 @@ first_emptied flow goes r = elim (cases_Bool (goes r)) [
       ∙ (ap (λ (ms : List Message). slice_get ms 0) e ∙ sym (front_is flow r)))
 ]
 
--- places that are emptied turn none
+-- emptying places turns no place
 pub turns_emptied : (drivers : List DriverSpec) (c : Configuration) (goes : Place → Bool)
     → TurnsOnly drivers c (without_queues_at c goes) nowhere
 turns_emptied drivers c goes = fewer_turns drivers c (without_queues_at c goes) (search (same_finds, rules))
     (first_emptied c.flow goes)
 
--- links that are removed, with their routes and their lower streams' read sides, turn no place
+-- removing links, with their routes and their lower streams' read sides, turns no place
 pub turns_removed : (drivers : List DriverSpec) (c : Configuration) (goes : Link → Bool) → IsKeyed c
     → TurnsOnly drivers c (without_links c goes) nowhere
 turns_removed drivers c goes h = fewer_turns drivers c (without_links c goes)
     (search (routes_find, ids_find, lowers_find, same_finds, rules)) (first_emptied c.flow _)
 
--- what streams hold that don't exist is taken away and turns no place, where no link leads to such a stream
+-- removing everything that belongs to streams that don't exist turns no place, if no link leads to such a stream
 pub turns_dead : (drivers : List DriverSpec) (c : Configuration) → IsKeyed c
     → ((test : Link → Bool) (l : Link) → find test c.links ≡ Some l → exists drivers c l.lower ≡ true)
     → TurnsOnly drivers c (without_dead_streams drivers c) nowhere
@@ -180,7 +180,7 @@ turns_dead drivers c h lowers = fewer_turns drivers c (without_dead_streams driv
       stays l e k = any_filter (λ t. same_stream t l.lower) (λ s. exists drivers c s) c.hungs
           (λ t s. ap (exists drivers c) (same_stream_is t l.lower s) ∙ e) ∙ k
 
--- where links are removed, each key is still there once
+-- after links are removed, each key still occurs once
 pub keyed_removed : (c : Configuration) (goes : Link → Bool) → IsKeyed c → IsKeyed (without_links c goes)
 keyed_removed c goes h = record {
   routes = later_filter _ _ c.routes h.routes;
@@ -189,12 +189,12 @@ keyed_removed c goes h = record {
   binds = h.binds;
 }
 
--- sound links whose upper drivers are in range
+-- the links are sound, and their upper drivers are in range
 pub record AreRooted (drivers : List DriverSpec) (links : List Link) : Type 0 where
   pub sound : AreLinksSound links
   pub below : AllByRecursion (λ l. l.ctl.driver < length drivers) links
 
--- sound links whose upper drivers are in range stay so when they are filtered
+-- sound links whose upper drivers are in range stay so after a filter
 pub rooted_filter : (drivers : List DriverSpec) (links : List Link) (test : Link → Bool) → AreRooted drivers links
     → AreRooted drivers (filter test links)
 rooted_filter drivers links test h =

@@ -1,4 +1,4 @@
--- Which places the commands free.
+-- The places that commands free.
 use Rattle.std.proofs.Common.{◌≡◌, ℕ, Bool, true, false, ◌+◌, ◌&&◌, not, cond, List, [], filter, None}
 use Rattle.std.proofs.Common.{refl, rules, sym, ap, ◌∙◌, subst, inl, inr}
 use mathlib.Core.Logic.{◌⊎◌}
@@ -34,19 +34,19 @@ use Rattle.smx_model.proofs.TurningCommandLemmas.{at_stream}
 use Rattle.smx_model.proofs.FeederLemmas.{arrived_more, left_keeps}
 use Rattle.smx_model.proofs.SweptLemmas.{leaf_exists}
 
--- ---- what frees which places
+-- ---- the places that a change frees
 
--- nothing is so and is not so
+-- nothing holds and does not hold
 pub never_freed : (b : Bool) → (b && not b) ≡ true → ⊥
 never_freed true h = false≢true h
 never_freed false h = false≢true h
 
--- where the full places are the same, none is freed
+-- if the full places are the same, none is freed
 same_frees : (c d : Configuration) (t : Place → Bool) → d.fulls ≡ c.fulls → FreesOnly c d t
 same_frees c d t e p h = absurd (never_freed (is_full c p)
     (sym (ap (λ (ps : List Place). is_full c p && not (list_any (same_place p) ps)) e) ∙ h))
 
--- where each full place that is none of these stays full, only these are freed
+-- if each full place other than these stays full, only these are freed
 frees_by : (c d : Configuration) (t : Place → Bool)
     → ((p : Place) → t p ≡ false → is_full c p ≡ true → is_full d p ≡ true) → FreesOnly c d t
 frees_by c d t f p h = elim (cases_Bool (t p)) [
@@ -61,24 +61,24 @@ frees_at_arrival : (drivers : List DriverSpec) (c : Configuration) (p : Place) (
 frees_at_arrival drivers c p m n = frees_by c (record (after_arrival drivers c p m) { next_serial = n }) nowhere
     (λ q _ h. arrived_more drivers c p q m h)
 
--- where a message leaves, only its place may stop being full
+-- when a message leaves, only its place may stop being full
 frees_at_leaving : (drivers : List DriverSpec) (c : Configuration) (p : Place)
     → FreesOnly c (after_leaving drivers c p) (same_place p)
 frees_at_leaving drivers c p =
     frees_by c (after_leaving drivers c p) (same_place p) (λ q n h. left_keeps drivers c p q n ∙ h)
 
--- where some places are emptied, only those may stop being full
+-- when some places are emptied, only these may stop being full
 frees_emptied : (c : Configuration) (goes : Place → Bool) → FreesOnly c (without_queues_at c goes) goes
 frees_emptied c goes = frees_by c (without_queues_at c goes) goes (λ q n h. emptied_full c.fulls goes q ∙ rw n h)
 
--- ---- what frees only places that it empties
+-- ---- changes that free only places that they empty
 
--- each place is as full as it was, with the same first message, or it is empty
+-- each place is as full as before, with the same first message, or it is empty
 abbrev pub KeepsOrEmpties : Configuration → Configuration → Type 0
 KeepsOrEmpties c d = (q : Place) → ((is_full d q ≡ is_full c q) × (first_message d.flow q ≡ first_message c.flow q))
     ⊎ (first_message d.flow q ≡ None)
 
--- two changes that each keep or empty each place do so one after the other
+-- two changes that each keep or empty each place do so together
 pub keeps_then : (c d e : Configuration) → KeepsOrEmpties c d → KeepsOrEmpties d e → KeepsOrEmpties c e
 keeps_then c d e f g q = by (f q) (g q) where
   by : ((is_full d q ≡ is_full c q) × (first_message d.flow q ≡ first_message c.flow q))
@@ -91,7 +91,7 @@ keeps_then c d e f g q = by (f q) (g q) where
   by (inl a) (inl b) = inl (b.0 ∙ a.0, b.1 ∙ a.1)
   by (inr z) (inl b) = inr (b.1 ∙ z)
 
--- to empty some places keeps or empties each place
+-- emptying some places keeps or empties each place
 pub emptied_keeps : (c d : Configuration) (goes : Place → Bool) → d.flow ≡ filter (λ h. not (goes h.place)) c.flow
     → d.fulls ≡ filter (λ p. not (goes p)) c.fulls → KeepsOrEmpties c d
 emptied_keeps c d goes e f q = by (goes q) refl where
@@ -112,7 +112,7 @@ emptied_keeps c d goes e f q = by (goes q) refl where
         ∙ (ap (λ (ms : List Message). slice_get ms 0) (queues false g) ∙ sym (front_is c.flow q)),
   )
 
--- to remove links keeps or empties each place
+-- removing links keeps or empties each place
 pub removed_keeps : (c : Configuration) (goes : Link → Bool) → KeepsOrEmpties c (without_links c goes)
 removed_keeps c goes = emptied_keeps c (without_links c goes) (is_read_below (filter goes c.links)) refl refl
 
@@ -124,7 +124,7 @@ swept_keeps drivers c = keeps_then c (without_links c loose) (after_sweep driver
       loose : Link → Bool
       loose l = not (is_persistent l) && not (exists drivers c l.ctl)
 
--- what keeps or empties each place frees only places that are empty then
+-- a change that keeps or empties each place frees only places that are empty afterwards
 frees_empty : (c d : Configuration) → KeepsOrEmpties c d → FreesOnly c d (is_empty_at d)
 frees_empty c d h p freed = elim (h p) [
   | inl k ↦ absurd (never_freed (is_full c p) (sym (ap (λ (b : Bool). is_full c p && not b) k.0) ∙ freed))
@@ -133,13 +133,13 @@ frees_empty c d h p freed = elim (h p) [
 
 -- ---- the rows of the command table
 
--- a change that leaves nothing to sweep frees no more places with its sweep
+-- if a change leaves nothing to sweep, its sweep frees no more places
 frees_done : (drivers : List DriverSpec) (c new : Configuration) (t : Place → Bool) → IsSwept drivers new
     → FreesOnly c new t → IfAccepted (λ d r. FreesOnly c d t) (done_outcome drivers c new)
 frees_done drivers c new t clean h =
     record { holds = subst (λ (d : Configuration). FreesOnly c d t) (sym (swept_idle drivers new clean)) h }
 
--- a change that leaves nothing to sweep, and the same full places, frees none with its sweep
+-- if a change leaves nothing to sweep, and the same full places, it frees none with its sweep
 frees_still : (drivers : List DriverSpec) (c new : Configuration) → IsSwept drivers new → new.fulls ≡ c.fulls
     → IfAccepted (λ d r. FreesOnly c d nowhere) (done_outcome drivers c new)
 frees_still drivers c new clean e = frees_done drivers c new nowhere clean (same_frees c new nowhere e)
@@ -150,7 +150,7 @@ frees_flush : (drivers : List DriverSpec) (c : Configuration) (goes : Place → 
 frees_flush drivers c goes h = frees_done drivers c (without_queues_at c goes) goes (search (all_filter, rules))
     (frees_emptied c goes)
 
--- where descriptors go, only places that are empty after the sweep stop being full
+-- when descriptors are closed, only places that are empty after the sweep stop being full
 frees_closed : (drivers : List DriverSpec) (c : Configuration) (fds : List Descriptor)
     → IfAccepted (λ d r. FreesOnly c d (is_empty_at d)) (done_outcome drivers c (record c { fds = fds }))
 frees_closed drivers c fds = record {
@@ -158,7 +158,7 @@ frees_closed drivers c fds = record {
       (swept_keeps drivers (record c { fds = fds }));
 }
 
--- where links are removed, only places that are empty after the sweep stop being full
+-- when links are removed, only places that are empty after the sweep stop being full
 frees_removed : (drivers : List DriverSpec) (c : Configuration) (goes : Link → Bool)
     → IfAccepted (λ d r. FreesOnly c d (is_empty_at d)) (done_outcome drivers c (without_links c goes))
 frees_removed drivers c goes = record {
@@ -177,12 +177,12 @@ frees_new_link : (c : Configuration) (links : List Link) (next : ℕ)
     → FreesOnly c (record c { links = links; next_id = next }) nowhere
 frees_new_link c links next = same_frees c (record c { links = links; next_id = next }) nowhere refl
 
--- a link that is made frees no place
+-- making a link frees no place
 frees_linked : (drivers : List DriverSpec) (c : Configuration) (process fd arg : ℕ) (k : LinkKind)
     → IfAccepted (λ d r. FreesOnly c d nowhere) (link_outcome drivers c process fd arg k)
 frees_linked drivers c process fd arg k = search (after_ok, after_test, at_ok, frees_new_link, rules) depth 24
 
--- a message that is sent frees no place
+-- sending a message frees no place
 frees_sent : (drivers : List DriverSpec) (c : Configuration) (p : Place) (addr : ℕ) (bytes : List ℕ)
     → IfAccepted (λ d r. FreesOnly c d nowhere) (send_outcome drivers c p addr bytes)
 frees_sent drivers c p addr bytes = search (
@@ -193,12 +193,12 @@ frees_sent drivers c p addr bytes = search (
   rules,
 ) depth 12
 
--- a message that is delivered frees at most its own place
+-- delivering a message frees at most its own place
 frees_received : (drivers : List DriverSpec) (c : Configuration) (p : Place)
     → IfAccepted (λ d r. FreesOnly c d (same_place p)) (receive_outcome drivers c p)
 frees_received drivers c p = search (after_some, at_ok, frees_at_leaving, rules) depth 12
 
--- an accepted command, from a swept configuration, frees no place but those of `freed_by`
+-- an accepted command, from a swept configuration, frees only places of `freed_by`
 pub frees : (drivers : List DriverSpec) (c : Configuration) (process : ℕ) (k : Command) → IsSwept drivers c
     → IfAccepted (λ d r. FreesOnly c d (freed_by drivers c process k d)) (outcome drivers c process k)
 frees drivers c process (command.OpenClone name) h = search (after_ok, at_ok, frees_with_fd drivers, rules) depth 20

@@ -31,7 +31,7 @@ use Rattle.smx_model.proofs.SettlingLemmas.{same_place_is}
 pub record IsFilled (p : Place) (c : Configuration) : Type 0 where
   pub some : is_full c p ≡ true → 0 < length (queue c.flow p)
 
--- where an arrival was, there is a message
+-- after an arrival there is a message
 has_arrived : (flow : List QueuedMessage) (h : QueuedMessage)
     → 0 < length (queue (with_inserted queued_before flow h) h.place)
 has_arrived [] h = rw (same_self h.place) (omega arith)
@@ -41,22 +41,22 @@ has_arrived (k ∷ ks) h = elim (cases_Bool (queued_before h k)) [
       [ inl t ↦ rw t (omega arith) | inr f ↦ rw f (has_arrived ks h) ])
 ]
 
--- messages that have bytes are some
+-- messages with bytes are not an empty list
 some_bytes : (ms : List Message) → 0 < bytes_of ms → 0 < length ms
 some_bytes [] h = absurd (omega (arith, h))
 some_bytes (m ∷ ms) h = omega arith
 
--- a place stays so where its messages are the same, and whether it is full
+-- this holds of a place whose messages and full mark are unchanged
 filled_alike : (p : Place) (c d : Configuration) → IsFilled p c → queue d.flow p ≡ queue c.flow p
     → is_full d p ≡ is_full c p → IsFilled p d
 filled_alike p c d h q m = record { some = λ e. rw q (h.some (sym m ∙ e)) }
 
--- a place stays so where the flow and the full places are the same
+-- this holds of a place if the flow and the full places are unchanged
 filled_same : (p : Place) (c d : Configuration) → IsFilled p c → d.flow ≡ c.flow → d.fulls ≡ c.fulls → IsFilled p d
 filled_same p c d h e f = filled_alike p c d h (ap (λ (hs : List QueuedMessage). queue hs p) e)
     (ap (λ (ps : List Place). list_any (same_place p) ps) f)
 
--- a place stays so where some places are emptied and nothing else of the queues changes
+-- this holds of a place after some places are emptied and nothing else of the queues changes
 filled_emptied : (p : Place) (c d : Configuration) (goes : Place → Bool) → IsFilled p c
     → d.flow ≡ filter (λ h. not (goes h.place)) c.flow → d.fulls ≡ filter (λ p. not (goes p)) c.fulls → IsFilled p d
 filled_emptied p c d goes h e f = by (goes p) refl where
@@ -74,22 +74,22 @@ filled_emptied p c d goes h e f = by (goes p) refl where
       let mark : is_full d p ≡ is_full c p = rw g at marks in
       filled_alike p c d h same mark
 
--- a place stays so when links are removed
+-- this holds of a place after links are removed
 filled_removed : (p : Place) (c : Configuration) (goes : Link → Bool) → IsFilled p c → IsFilled p (without_links c goes)
 filled_removed p c goes h = filled_emptied p c (without_links c goes) _ h refl refl
 
--- a place that is so stays so after the sweep
+-- this holds of a place after the sweep
 filled_done : (drivers : List DriverSpec) (p : Place) (c d : Configuration) → IsFilled p d
     → IfAccepted (λ d r. IsFilled p d) (done_outcome drivers c d)
 filled_done drivers p c d h =
     record { holds = filled_emptied p (without_links d _) _ _ (filled_removed p d _ h) refl refl }
 
--- a place stays so after a sweep of the same flow and the same full places
+-- this holds of a place after a sweep of the same flow and the same full places
 filled_like : (drivers : List DriverSpec) (p : Place) (c d : Configuration) → IsFilled p c → d.flow ≡ c.flow
     → d.fulls ≡ c.fulls → IfAccepted (λ d r. IsFilled p d) (done_outcome drivers c d)
 filled_like drivers p c d h e f = filled_done drivers p c d (filled_same p c d h e f)
 
--- a place stays so when a message arrives somewhere
+-- this holds of a place after a message arrives somewhere
 filled_arrived : (drivers : List DriverSpec) (p : Place) (c : Configuration) (q : Place) (m : Message) → IsFilled p c
     → IsFilled p (after_arrival drivers c q m)
 filled_arrived drivers p c q m h = elim (cases_Bool (same_place q p)) [
@@ -103,7 +103,7 @@ filled_arrived drivers p c q m h = elim (cases_Bool (same_place q p)) [
       (is_full c q || leb (high_of drivers q.stream.driver)
       (bytes_at (with_inserted queued_before c.flow (record { place = q; message = m })) q)) c.fulls in rw f at e
 
--- a place stays so when the first message of some place leaves
+-- this holds of a place after the first message of some place leaves
 filled_left : (drivers : List DriverSpec) (p : Place) (c : Configuration) (q : Place) → IsFilled p c
     → IsFilled p (after_leaving drivers c q)
 filled_left drivers p c q h = elim (cases_Bool (same_place q p)) [
@@ -134,18 +134,18 @@ filled_left drivers p c q h = elim (cases_Bool (same_place q p)) [
 
 -- ---- commands
 
--- a place stays so when a message is taken in under the next serial
+-- this holds of a place after a message is accepted under the next serial
 filled_took : (drivers : List DriverSpec) (p : Place) (c : Configuration) (q : Place) (m : Message) (n : ℕ)
     → IsFilled p c → IsFilled p (record (after_arrival drivers c q m) { next_serial = n })
 filled_took drivers p c q m n h = filled_same p (after_arrival drivers c q m)
     (record (after_arrival drivers c q m) { next_serial = n }) (filled_arrived drivers p c q m h) refl refl
 
--- a place stays so when some places are flushed
+-- this holds of a place after some places are flushed
 filled_flushed : (p : Place) (c : Configuration) (goes : Place → Bool) → IsFilled p c
     → IsFilled p (without_queues_at c goes)
 filled_flushed p c goes h = filled_emptied p c (without_queues_at c goes) goes h refl refl
 
--- a place stays so after an accepted command
+-- this holds of a place after an accepted command
 filled_accepted : (drivers : List DriverSpec) (p : Place) (c : Configuration) (process : ℕ) (k : Command)
     → IsFilled p c → IfAccepted (λ d r. IsFilled p d) (outcome drivers c process k)
 filled_accepted drivers p c process k h = of_rows _ drivers c process k (search (
@@ -159,14 +159,14 @@ filled_accepted drivers p c process k h = of_rows _ drivers c process k (search 
   rules,
 ) depth 24)
 
--- a place stays so in each move
+-- this holds of a place after each move
 filled_moved : (drivers : List DriverSpec) (p : Place) → MovesKeep (IsFilled p) drivers
 filled_moved drivers p = record {
   each = λ c q h. moved_by (IsFilled p) drivers c q h
       (λ r m e. filled_arrived drivers p (after_leaving drivers c q) r m (filled_left drivers p c q h));
 }
 
--- a place stays so after a command
+-- this holds of a place after a command
 filled_step : (drivers : List DriverSpec) (p : Place) (c : Configuration) (process : ℕ) (k : Command) → IsFilled p c
     → IsFilled p (step drivers c process k).0
 filled_step drivers p c process k h = by (outcome drivers c process k) (filled_accepted drivers p c process k h) where
@@ -176,7 +176,7 @@ filled_step drivers p c process k h = by (outcome drivers c process k) (filled_a
 
 -- ---- all places
 
--- what has a first message has messages, and the other way round
+-- a place has a first message exactly if it has messages
 some_first : (flow : List QueuedMessage) (p : Place) → (slice_get (queue flow p) 0 ≡ None → ⊥)
     → 0 < length (queue flow p)
 some_first flow p h = by (queue flow p) h where
@@ -184,11 +184,11 @@ some_first flow p h = by (queue flow p) h where
   by [] f = absurd (f refl)
   by (m ∷ ms) f = omega arith
 
--- there are none in the empty configuration
+-- the empty configuration has no full places
 pub empty_filled : HaveFullPlacesMessages empty
 empty_filled p full = absurd (false≢true full)
 
--- each command keeps it so
+-- each command preserves this of all places
 pub step_filled : (drivers : List DriverSpec) (c : Configuration) (process : ℕ) (k : Command) → HaveFullPlacesMessages c
     → HaveFullPlacesMessages (step drivers c process k).0
 step_filled drivers c process k h p full none = by (queue (step drivers c process k).0.flow p)

@@ -1,5 +1,6 @@
--- Legal histories: their prefixes, that replies are determined, and that they are lawful.
+-- Legal histories: their prefixes, their replies are determined, and they are lawful.
 use Rattle.std.proofs.Common.{◌≡◌, ◌≢◌, ℕ, List, [], ◌∷◌, ◌++◌, length, map, refl, sym, ap, ◌∙◌, subst, arith}
+use Rattle.std.proofs.Common.{append-nil, append_assoc}
 use Rattle.std.specs.List.{AllPairs, range_with_len}
 use Rattle.std.proofs.lemmas.List.FromFn.{get_or-range_with_len, length-range_with_len}
 use Rattle.smx_types.specs.declared.command.Command.{Command}
@@ -10,16 +11,16 @@ use Rattle.smx_model.specs.Commands.{step}
 use Rattle.smx_model.specs.Configuration.{Configuration, empty}
 use Rattle.smx_model.specs.Histories.{after, after_from, call_of, IsLegal, IsLegalFrom}
 use Rattle.smx_model.specs.LawfulHistories.{taken_serials, IsLawful, IsLawfulThroughout}
-use Rattle.smx_model.proofs.ConservationLemmas.{conserving}
+use Rattle.smx_model.proofs.ConservationLemmas.{conserving, numbered_from_one}
 use Rattle.smx_model.proofs.KeptLemmas.{always_is_kept}
 
--- a beginning of entries that are legal from a configuration is legal from it
+-- a prefix of entries that are legal from a configuration is legal from it
 prefix_from : (drivers : List DriverSpec) (c : Configuration) (xs ys : List Entry) → IsLegalFrom drivers c (xs ++ ys)
     → IsLegalFrom drivers c xs
 prefix_from drivers c [] ys h = tt
 prefix_from drivers c (e ∷ xs) ys h = (h.0, prefix_from drivers (step drivers c e.process e.command).0 xs ys h.1)
 
--- a beginning of a legal history is legal
+-- a prefix of a legal history is legal
 pub prefix_legal : (drivers : List DriverSpec) (xs ys : List Entry) → IsLegal drivers (xs ++ ys) → IsLegal drivers xs
 prefix_legal drivers xs ys h = prefix_from drivers empty xs ys h
 
@@ -48,7 +49,7 @@ pub legal_push : (drivers : List DriverSpec) (es : List Entry) (e : Entry)
     → IsLegal drivers (es ++ e ∷ [])
 legal_push drivers es e h r = legal_push_from drivers empty es e h r
 
--- an entry is what was asked, with a reply
+-- an entry is a call with a reply
 abbrev entry_of : ℕ × Command → Reply → Entry
 entry_of asked reply = record { process = asked.0; command = asked.1; reply = reply }
 
@@ -56,7 +57,7 @@ entry_of asked reply = record { process = asked.0; command = asked.1; reply = re
 abbrev step_of : List DriverSpec → Configuration → ℕ × Command → Configuration × Reply
 step_of drivers c asked = step drivers c asked.0 asked.1
 
--- entries that are legal from one configuration are the same if their calls are the same in the same order
+-- entries that are legal from one configuration are equal if their calls are equal, in the same order
 determined_from : (drivers : List DriverSpec) (c : Configuration) (xs ys : List Entry) → IsLegalFrom drivers c xs
     → IsLegalFrom drivers c ys → map call_of xs ≡ map call_of ys → xs ≡ ys
 determined_from drivers c [] [] h k e = refl
@@ -73,7 +74,7 @@ determined_from drivers c (x ∷ xs) (y ∷ ys) h k e =
     let first : x ≡ y = ap (λ (a : ℕ × Command). entry_of a x.reply) asked ∙ ap (entry_of (call_of y)) reply in
     cc
 
--- two legal histories of the same calls in the same order are the same
+-- two legal histories of the same calls in the same order are equal
 pub determined : (drivers : List DriverSpec) (xs ys : List Entry) → IsLegal drivers xs → IsLegal drivers ys
     → map call_of xs ≡ map call_of ys → xs ≡ ys
 determined drivers xs ys h k e = determined_from drivers empty xs ys h k e
@@ -96,12 +97,12 @@ range_apart a n i j d lt within e =
 pub lawful : (drivers : List DriverSpec) (history : List Entry) → IsLegal drivers history → IsLawful drivers history
 lawful drivers history legal =
     let sound = (always_is_kept drivers history).sound.links in
-    let kept = conserving drivers history legal in
     record {
       no_cycle = sound.no_cycle;
       lowers_apart = sound.lowers;
-      taken_once = subst (AllPairs (λ x y. x ≢ y)) (sym kept.numbered) (range_apart 1 (length (taken_serials history)));
-      conserved = kept.conserved;
+      taken_once = subst (AllPairs (λ x y. x ≢ y)) (sym (numbered_from_one drivers history legal))
+          (range_apart 1 (length (taken_serials history)));
+      conserved = conserving drivers history legal;
     }
 
 -- a legal history is lawful after each of its entries
@@ -109,3 +110,14 @@ pub lawful_throughout : (drivers : List DriverSpec) (history : List Entry) → I
     → IsLawfulThroughout drivers history
 lawful_throughout drivers history legal xs ys e =
     lawful drivers xs (prefix_legal drivers xs ys (subst (IsLegal drivers) e legal))
+
+-- a history that is lawful throughout is lawful as a whole
+pub whole_lawful : (drivers : List DriverSpec) (history : List Entry) → IsLawfulThroughout drivers history
+    → IsLawful drivers history
+whole_lawful drivers history h = h history [] (sym (append-nil history))
+
+-- each prefix of a history that is lawful throughout is lawful throughout
+pub prefix_lawful : (drivers : List DriverSpec) (early late : List Entry) → IsLawfulThroughout drivers (early ++ late)
+    → IsLawfulThroughout drivers early
+prefix_lawful drivers early late h xs ys e =
+    h xs (ys ++ late) (ap (λ (es : List Entry). es ++ late) e ∙ append_assoc xs ys late)

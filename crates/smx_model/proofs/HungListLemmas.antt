@@ -1,4 +1,4 @@
--- Lists of hung-up streams, by which streams are in them.
+-- Lists of hung-up streams are determined by their streams.
 use Rattle.std.proofs.Common.{◌≡◌, ℕ, Bool, true, false, ◌&&◌, ◌||◌, eqb, List, [], ◌∷◌, filter, refl, sym, ap, ◌∙◌}
 use Rattle.std.proofs.Common.{arith, inl, inr}
 use Rattle.std.proofs.lemmas.Bool.{both_ways, cases_Bool, false≢true, or_from, or_left}
@@ -13,30 +13,30 @@ use Rattle.smx_model.proofs.SweptLemmas.{stream_self}
 use Rattle.smx_model.proofs.TestLemmas.{any_of_placed}
 use Rattle.smx_model.proofs.TurningLemmas.{same_stream_is}
 
--- where a pair of numbers comes before another, the other isn't that one
+-- if a pair of numbers comes before another, the pairs differ
 later_differs : (a b c d : ℕ) → pair_before a b c d ≡ true → (eqb c a && eqb d b) ≡ false
 later_differs a b c d h = grind (arith, nat_tests)
 
--- two pairs of numbers neither of which comes before the other are the same
+-- two pairs of numbers neither of which comes before the other are equal
 neither_is_same : (a b c d : ℕ) → pair_before a b c d ≡ false → pair_before c d a b ≡ false
     → (eqb a c && eqb b d) ≡ true
 neither_is_same a b c d h k = grind (arith, nat_tests)
 
--- a stream that comes before each of some is none of them
+-- a stream that comes before each of some streams is not among them
 before_none : (s : StreamId) (xs : List StreamId) → ComesBefore stream_before s xs → is_hung xs s ≡ false
 before_none s [] h = refl
 before_none s (x ∷ xs) h = or_from _ _ (later_differs s.driver s.minor x.driver x.minor h.0) (before_none s xs h.1)
 
--- the first of a list of hung-up streams has hung up
+-- the first stream of a list of hung-up streams has hung up
 first_is_hung : (x : StreamId) (xs : List StreamId) → is_hung (x ∷ xs) x ≡ true
 first_is_hung x xs = or_left _ _ (stream_self x)
 
--- where a or b is as a or c, and neither b nor c holds with a, b is as c
+-- if (a or b) equals (a or c), and neither b nor c holds together with a, b equals c
 same_others : (a b c : Bool) → (a || b) ≡ (a || c) → (a ≡ true → b ≡ false) → (a ≡ true → c ≡ false) → b ≡ c
 same_others true b c e m n = m refl ∙ sym (n refl)
 same_others false b c e m n = e
 
--- two rising lists that hold the same streams are the same
+-- two rising lists with the same streams are equal
 pub one_list : (xs ys : List StreamId) → IsRising stream_before xs → IsRising stream_before ys
     → ((s : StreamId) → is_hung xs s ≡ is_hung ys s) → xs ≡ ys
 one_list [] [] h k same = refl
@@ -62,7 +62,7 @@ one_list (x ∷ xs) (y ∷ ys) h k same = elim (cases_Bool (stream_before x y)) 
   ]
 ]
 
--- with one more stream hung up, those have hung up that had before, and this one
+-- after one more stream hangs up, the hung-up streams are those from before and this one
 pub hung_with : (s t : StreamId) (hungs : List StreamId)
     → is_hung (with_hung s hungs) t ≡ (same_stream s t || is_hung hungs t)
 hung_with s t hungs = elim (cases_Bool (is_hung hungs s)) [
@@ -73,7 +73,7 @@ hung_with s t hungs = elim (cases_Bool (is_hung hungs s)) [
   | inr n ↦ rw n (any_of_placed (λ u. same_stream u t) stream_before hungs s)
 ]
 
--- of hung-up streams that are filtered, just those are left that pass
+-- a filter keeps exactly the hung-up streams that pass
 pub hung_kept_by : (keep : StreamId → Bool) (s : StreamId) (hungs : List StreamId)
     → is_hung (filter keep hungs) s ≡ (keep s && is_hung hungs s)
 hung_kept_by keep s [] = by (keep s) where

@@ -1,4 +1,4 @@
--- Which streams have hung up after a command.
+-- The hung-up streams after a command.
 use Rattle.std.proofs.Common.{◌≡◌, ℕ, true, false, List, [], filter, Option, Some, None, Result, Ok, Err, refl}
 use Rattle.std.proofs.Common.{rules, sym, ap, ◌∙◌, subst, inl, inr, ◌*◌, length}
 use mathlib.Core.Logic.{◌⊎◌}
@@ -38,23 +38,23 @@ use Rattle.smx_model.proofs.EachLemmas.{each_of_list_all}
 use Rattle.smx_model.proofs.MemberLemmas.{any_filtered}
 use Rattle.smx_types.specs.declared.reply.Reply.{Reply}
 
--- each command but a hangup leaves those that exist
+-- each command other than a hangup keeps the hung-up streams that exist
 
--- after a command the same streams have hung up, or of these those that exist
+-- after the command the same streams have hung up, or those of them that exist
 record LeavesHungs (drivers : List DriverSpec) (c d : Configuration) : Type 0 where
   either : (d.hungs ≡ c.hungs) ⊎ (d.hungs ≡ filter (λ s. exists drivers d s) c.hungs)
 
--- a configuration with the same hung-up streams leaves all of them
+-- a configuration with the same hung-up streams keeps all of them
 hungs_same : (drivers : List DriverSpec) (c d : Configuration) → d.hungs ≡ c.hungs → LeavesHungs drivers c d
 hungs_same drivers c d e = record { either = inl e }
 
--- the sweep leaves of the hung-up streams those that exist
+-- the sweep keeps the hung-up streams that exist
 hungs_done : (drivers : List DriverSpec) (c d : Configuration) → d.hungs ≡ c.hungs
     → IfAccepted (λ d r. LeavesHungs drivers c d) (done_outcome drivers c d)
 hungs_done drivers c d e =
     record { holds = record { either = inr (ap (filter (λ s. exists drivers (without_links d _) s)) e) } }
 
--- an accepted command that is no hangup leaves of the hung-up streams all, or those that exist
+-- an accepted command other than a hangup keeps all hung-up streams, or those that exist
 hungs_accepted : (drivers : List DriverSpec) (c : Configuration) (process : ℕ) (k : Command) → is_hangup k ≡ false
     → IfAccepted (λ d r. LeavesHungs drivers c d) (outcome drivers c process k)
 hungs_accepted drivers c process k other =
@@ -62,11 +62,11 @@ hungs_accepted drivers c process k other =
       never : (name : List ℕ) (minor : ℕ) → k ≡ command.Hangup name minor → ⊥
       never name minor e = false≢true (sym other ∙ ap is_hangup e)
 
--- of some streams those that exist
+-- the streams of a list that exist
 abbrev existing : List DriverSpec → Configuration → List StreamId → List StreamId
 existing drivers d hungs = filter (λ s. exists drivers d s) hungs
 
--- after an outcome that leaves all hung-up streams, or those that exist, those of them that exist have hung up
+-- after an outcome that keeps all hung-up streams, or those that exist, the ones that exist have hung up
 hungs_finished : (drivers : List DriverSpec) (c : Configuration) (o : Outcome) → IsSwept drivers c
     → IfAccepted (λ d r. IsSwept drivers d) o → IfAccepted (λ d r. LeavesHungs drivers c d) o
     → (after_outcome drivers c o).0.hungs ≡ existing drivers (after_outcome drivers c o).0 c.hungs
@@ -77,7 +77,7 @@ hungs_finished drivers c (Ok x) h swept_ m = let s = settled_alone drivers (leng
       by (inr e) = e
       by (inl e) = sym (keep_all (λ s. exists drivers x.0 s) x.0.hungs swept_.holds.hungs) ∙ ap (existing drivers x.0) e
 
--- after a command that is no hangup the same streams have hung up, but for those that don't exist
+-- after a command other than a hangup the same streams have hung up, except those that don't exist
 pub others_leave_hungs : (drivers : List DriverSpec) (c : Configuration) (process : ℕ) (k : Command) → IsSwept drivers c
     → is_hangup k ≡ false → (step drivers c process k).0.hungs
     ≡ filter (λ s. exists drivers (step drivers c process k).0 s) c.hungs
@@ -86,14 +86,15 @@ others_leave_hungs drivers c process k h other = hungs_finished drivers c (outco
 
 -- a hangup moves nothing
 
--- a next place that is missing or full isn't open later, if it is the same then or missing, and the full places are too
+-- a next place that is missing or full is not open later, if it is then the same or missing, and the full places
+-- are the same
 stays_stuck : (c d : Configuration) (o n : Option Place) → Stays o n → d.fulls ≡ c.fulls → is_some (if_open c o) ≡ false
     → is_some (if_open d n) ≡ false
 stays_stuck c d o n (inr e) f h = rw e refl
 stays_stuck c d None n (inl e) f h = rw e refl
 stays_stuck c d (Some q) n (inl e) f h = rw (e, f) h
 
--- a settled configuration stays so when a stream hangs up
+-- a settled configuration stays settled when a stream hangs up
 hung_settled : (drivers : List DriverSpec) (c : Configuration) (s : StreamId) → IsSettled drivers c
     → IsSettled drivers (record c { hungs = with_hung s c.hungs })
 hung_settled drivers c s h p = let d = record c { hungs = with_hung s c.hungs } in
@@ -115,9 +116,9 @@ hangup_is drivers c process name minor s h e =
       hung : Configuration
       hung = record c { hungs = with_hung s c.hungs }
 
--- what has hung up stays so, and what is opened anew hasn't
+-- a hung-up stream stays hung up, and a stream that is opened anew is not
 
--- to hang up a stream that has hung up changes nothing
+-- hanging up a stream that has hung up changes nothing
 pub hung_kept : (drivers : List DriverSpec) (c : Configuration) (s : StreamId) → is_hung c.hungs s ≡ true
     → (record c { hungs = with_hung s c.hungs }) ≡ c
 hung_kept drivers c s h = rw h refl
@@ -129,7 +130,7 @@ pub hangup_again : (drivers : List DriverSpec) (c : Configuration) (process : �
 hangup_again drivers c process name minor s h e again = hangup_is drivers c process name minor s h e
     ∙ ap (λ (d : Configuration). (d, reply.Done [])) (hung_kept drivers c s again)
 
--- a command is a hangup of a driver's minor
+-- the command is a hangup of a driver's minor
 record IsHangup (k : Command) : Type 0 where
   name : List ℕ
   minor : ℕ
@@ -140,11 +141,11 @@ hangup_of : (k : Command) → is_hangup k ≡ true → IsHangup k
 hangup_of (command.Hangup name minor) h = record { name = name; minor = minor; is = refl }
 hangup_of k h = absurd (false≢true h)
 
--- afterwards the same streams have hung up, or one more that existed before
+-- afterwards the same streams have hung up, or also one that existed before
 record HangsUp (drivers : List DriverSpec) (c d : Configuration) : Type 0 where
   either : (d.hungs ≡ c.hungs) ⊎ ((s : StreamId) × (exists drivers c s ≡ true) × (d.hungs ≡ with_hung s c.hungs))
 
--- after a hangup the same streams have hung up as before, or one more that exists
+-- after a hangup the same streams have hung up as before, or also one that exists
 hangup_leaves : (drivers : List DriverSpec) (c : Configuration) (process : ℕ) (name : List ℕ) (minor : ℕ)
     → IsKept drivers c → HangsUp drivers c (step drivers c process (command.Hangup name minor)).0
 hangup_leaves drivers c process name minor h = by (leaf_stream drivers c name minor) refl where
@@ -166,7 +167,7 @@ hangup_leaves drivers c process name minor h = by (leaf_stream drivers c name mi
             (r >>= (λ s. done_outcome drivers c (record c { hungs = with_hung s c.hungs })))).0.hungs) e);
       }
 
--- a stream that has hung up, and exists after a command, has still hung up after it
+-- a hung-up stream that exists after a command is still hung up after it
 pub hung_stays : (drivers : List DriverSpec) (c : Configuration) (process : ℕ) (k : Command) (s : StreamId)
     → IsKept drivers c → is_hung c.hungs s ≡ true → exists drivers (step drivers c process k).0 s ≡ true
     → is_hung (step drivers c process k).0.hungs s ≡ true
@@ -193,7 +194,7 @@ hung_exists drivers c s h e =
     (each_of_list_all (λ t. exists drivers c t) (λ t. exists drivers c t ≡ true) c.hungs (λ t p. p) h.hungs) e in
     subst (λ (x : StreamId). exists drivers c x ≡ true) (same_stream_is f.one s f.passes) f.has
 
--- a stream that didn't exist before a command has not hung up after it
+-- a stream that didn't exist before a command is not hung up after it
 pub hung_anew : (drivers : List DriverSpec) (c : Configuration) (process : ℕ) (k : Command) (s : StreamId)
     → IsKept drivers c → exists drivers c s ≡ false → is_hung (step drivers c process k).0.hungs s ≡ false
 hung_anew drivers c process k s h gone =

@@ -1,4 +1,4 @@
--- Ids of links that rise.
+-- Rising ids of links.
 use Rattle.std.proofs.Common.{ℕ, ◌<◌, ◌≤◌, ◌+◌, Bool, List, [], ◌∷◌, ◌++◌, filter, arith}
 use Rattle.std.proofs.lemmas.Bool.{lt-ltb}
 use Rattle.std.proofs.lemmas.List.Elements.{All-nil, All-push, All-filter, recursion_from_All}
@@ -6,7 +6,7 @@ use Rattle.smx_types.specs.declared.link.Link.{Link}
 use Rattle.smx_model.specs.SoundLinks.{AreIdsRising}
 use Rattle.smx_model.proofs.EachLemmas.{each_map, later_filter, later_push}
 
--- where there are no links, ids rise below 1 as the next id
+-- without links, ids rise below 1 as the next id
 pub ids_none : AreIdsRising [] 1
 ids_none = record { rise = tt; from_one = All-nil _; below_next = All-nil _; next = omega arith }
 
@@ -21,7 +21,7 @@ ids_push ls l h = record {
   next = omega arith;
 }
 
--- ids of links that are filtered still rise, below the same next one
+-- ids of links still rise after a filter, below the same next one
 pub ids_filter : (ls : List Link) (stays : Link → Bool) (n : ℕ) → AreIdsRising ls n → AreIdsRising (filter stays ls) n
 ids_filter ls stays n h = record {
   rise = later_filter _ stays ls h.rise;

@@ -1,4 +1,4 @@
--- Sweeping what is swept changes nothing.
+-- Sweeping a swept configuration changes nothing.
 use Rattle.std.proofs.Common.{arith, ◌≡◌, Bool, true, false, ◌&&◌, ◌||◌, not, eqb, List, [], filter, refl, ap, ◌∙◌}
 use Rattle.std.specs.List.{list_any, list_all}
 use Rattle.smx_types.specs.declared.link.Binding.{Binding}
@@ -15,19 +15,19 @@ use Rattle.smx_model.specs.Standing.{is_persistent, exists}
 use Rattle.smx_model.specs.Swept.{IsSwept}
 use Rattle.smx_model.proofs.TestLemmas.{keep_all, all_same, all_true, none_kept}
 
--- two tests don't both fail exactly where one of them passes
+-- two tests don't both fail exactly if one of them passes
 not_gone : (a b : Bool) → not (not a && not b) ≡ (a || b)
 not_gone a b = grind arith
 
--- a test that is negated twice is as it was
+-- a test that is negated twice is unchanged
 not_not : (b : Bool) → not (not b) ≡ b
 not_not b = grind arith
 
--- with these lists
+-- the configuration with these lists
 abbrev with_lists : Configuration → List Link → List Route → List QueuedMessage → List Place → Configuration
 with_lists c links routes flow fulls = record c { links = links; routes = routes; flow = flow; fulls = fulls }
 
--- where no link goes, the removal of links changes nothing
+-- if no link is to be removed, the removal of links changes nothing
 removed_none : (c : Configuration) (goes : Link → Bool) → list_all (λ l. not (goes l)) c.links ≡ true
     → without_links c goes ≡ c
 removed_none c goes h = by (filter goes c.links) (none_kept goes c.links h) where
@@ -56,7 +56,7 @@ removed_none c goes h = by (filter goes c.links) (none_kept goes c.links h) wher
       ∙ ap (with_lists c c.links c.routes c.flow)
       (keep_all _ c.fulls (all_true (λ p. not (is_read_below [] p)) c.fulls (λ p. off p.side))))))
 
--- in a swept configuration there is nothing to take away of streams that don't exist
+-- a swept configuration has nothing to remove of streams that don't exist
 dead_none : (drivers : List DriverSpec) (c : Configuration) → IsSwept drivers c → without_dead_streams drivers c ≡ c
 dead_none drivers c h =
     ap (λ (x : List StreamId).
@@ -81,7 +81,7 @@ dead_none drivers c h =
     (keep_all _ c.fulls (all_same _ (λ p. exists drivers c p.stream) c.fulls (λ p. not_not (exists drivers c p.stream))
     ∙ h.fulls))))
 
--- a sweep of a configuration that is swept changes nothing
+-- a sweep of a swept configuration changes nothing
 pub swept_idle : (drivers : List DriverSpec) (c : Configuration) → IsSwept drivers c → after_sweep drivers c ≡ c
 swept_idle drivers c h =
     ap (without_dead_streams drivers)

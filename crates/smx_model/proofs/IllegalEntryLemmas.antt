@@ -1,4 +1,4 @@
--- A history is legal or has one first illegal entry; and which entry of an example that is.
+-- A history is legal or has one first illegal entry; the first illegal entry of an example.
 use Rattle.std.proofs.Common.{◌≡◌, ◌≢◌, ℕ, zero, suc, ◌+◌, ◌<◌, ◌⊎◌, inl, inr, List, [], ◌∷◌, length, take, Some, refl}
 use Rattle.std.proofs.Common.{sym, subst, arith}
 use Rattle.std.specs.Prelude.{slice_get}
@@ -21,14 +21,14 @@ use Rattle.smx_model.specs.Worked.SecondIsIllegal as second
 abbrev reply_to : List DriverSpec → Configuration → Entry → Reply
 reply_to drivers c e = (step drivers c e.process e.command).1
 
--- two replies are the same, or they are not
+-- two replies are equal, or not
 same_or_not : (r s : Reply) → (r ≡ s) ⊎ (r ≢ s)
 same_or_not r s = elim (cases_Bool _) [
   | inl t ↦ inl ((reply_tells r s).0 t)
   | inr f ↦ inr (not_from_Decides _ (reply_tells r s) f)
 ]
 
--- below a number of entries that are legal from a configuration, each entry has the reply that its command gets
+-- each entry of a prefix that is legal from a configuration has the reply that its command gets
 reply_before : (drivers : List DriverSpec) (c : Configuration) (es : List Entry) (m n : ℕ) (e : Entry)
     → m < n → IsLegalFrom drivers c (take n es) → slice_get es m ≡ Some e
     → reply_to drivers (after_from drivers c (take m es)) e ≡ e.reply
@@ -41,13 +41,13 @@ reply_before drivers c (x ∷ es) zero (suc n) e lt legal here =
 reply_before drivers c (x ∷ es) (suc m) (suc n) e lt legal here =
     reply_before drivers (step drivers c x.process x.command).0 es m n e (omega (arith, lt)) legal.1 here
 
--- an entry that is the first illegal one, starting from this configuration
+-- an entry is the first illegal one, starting from this configuration
 abbrev FirstFrom : List DriverSpec → Configuration → List Entry → Type 0
 FirstFrom drivers c es =
     (before : ℕ) × (e : Entry) × (slice_get es before ≡ Some e) × IsLegalFrom drivers c (take before es)
     × (reply_to drivers (after_from drivers c (take before es)) e ≢ e.reply)
 
--- entries are legal from a configuration, or one of them is the first that is illegal
+-- entries are legal from a configuration, or one of them is the first illegal one
 either_from : (drivers : List DriverSpec) (c : Configuration) (es : List Entry)
     → IsLegalFrom drivers c es ⊎ FirstFrom drivers c es
 either_from drivers c [] = inl tt
@@ -59,7 +59,7 @@ either_from drivers c (e ∷ es) = elim (same_or_not (reply_to drivers c e) e.re
   ]
 ]
 
--- a history is legal, or one of its entries is the first that is illegal
+-- a history is legal, or one of its entries is the first illegal one
 pub legal_or_first : (drivers : List DriverSpec) (es : List Entry)
     → IsLegal drivers es ⊎ ((n : ℕ) × IsFirstIllegal drivers es n)
 legal_or_first drivers es = elim (either_from drivers empty es) [
@@ -85,7 +85,7 @@ not_before : (drivers : List DriverSpec) (es : List Entry) (m n : ℕ) → (h : 
 not_before drivers es m n h k lt =
     h.other_reply (reply_before drivers empty es h.before k.before h.entry lt k.legal_before h.here)
 
--- a history has its first illegal entry at one number alone
+-- the number of the first illegal entry of a history is unique
 pub one_number : (drivers : List DriverSpec) (es : List Entry) (m n : ℕ)
     → IsFirstIllegal drivers es m → IsFirstIllegal drivers es n → m ≡ n
 one_number drivers es m n h k = elim (cases_order h.before k.before) [
@@ -94,7 +94,7 @@ one_number drivers es m n h k = elim (cases_order h.before k.before) [
   | inr (inr lt) ↦ absurd (not_before drivers es n m k h lt)
 ]
 
--- the second entry of the example is the first that is illegal
+-- the second entry of the example is the first illegal one
 pub second_is : IsFirstIllegal second.drivers second.history 2
 second_is = record {
   before = 1;

@@ -1,4 +1,4 @@
--- What every configuration is, is kept by each command.
+-- Each command preserves the invariant of configurations.
 use Rattle.std.proofs.Common.{◌≡◌, ◌↔◌, ℕ, zero, suc, ◌+◌, ◌<◌, Ok, Err, true, ◌≤◌, List, [], ◌∷◌}
 use Rattle.std.proofs.Common.{length, get_or, refl, sym, ◌∙◌, subst, arith, inl, inr}
 use Rattle.std.specs.Prelude.{IfOk}
@@ -40,9 +40,9 @@ use Rattle.smx_types.specs.declared.stream.StreamId.{StreamId}
 use Rattle.smx_model.proofs.EachLemmas.{each_both, later_map}
 use Rattle.smx_model.proofs.EachLemmas.{each_map}
 
--- numbers in a list, by index and by how often they are there
+-- numbers in a list, by index and by count
 
--- the number at an index within a list is there at least once
+-- the number at an index within a list has a count of at least one
 times_at : (xs : List ℕ) (j d : ℕ) → j < length xs → 1 ≤ times (get_or xs j d) xs
 times_at [] j d lt = absurd (omega arith)
 times_at (x ∷ xs) zero d lt = rw (eq-eqb x x refl) (omega arith)
@@ -54,7 +54,7 @@ record IsAt (n : ℕ) (xs : List ℕ) : Type 0 where
   within : index < length xs
   is : (d : ℕ) → get_or xs index d ≡ n
 
--- a number that is in a list at least once has an index there
+-- a number with a count of at least one has an index in the list
 at_some : (n : ℕ) (xs : List ℕ) → 1 ≤ times n xs → IsAt n xs
 at_some n [] h = absurd (omega arith)
 at_some n (x ∷ xs) h = elim (cases_eq x n) [
@@ -63,9 +63,9 @@ at_some n (x ∷ xs) h = elim (cases_eq x n) [
       record { index = suc r.index; within = omega (arith, r.within); is = r.is }
 ]
 
--- numbers that differ
+-- numbers without duplicates
 
--- where each number is in a list at most once, no two of its elements are the same
+-- if each number has a count of at most one, no two elements are equal
 once_apart : (xs : List ℕ) → ((n : ℕ) → times n xs ≤ 1) → AllPairs (λ m n. m ≡ n → ⊥) xs
 once_apart [] h i j d lt within e = absurd (omega arith)
 once_apart (x ∷ xs) h zero zero d lt within e = absurd (omega arith)
@@ -78,7 +78,7 @@ once_apart (x ∷ xs) h (suc i) zero d lt within e = absurd (omega (arith, lt))
 once_apart (x ∷ xs) h (suc i) (suc j) d lt within e =
     once_apart xs (λ n. omega (arith, h n)) i j d (omega (arith, lt)) (omega (arith, within)) e
 
--- where no two elements of a list are the same, each number is there at most once
+-- if no two elements of a list are equal, each number has a count of at most one
 apart_once : (xs : List ℕ) → AllPairs (λ m n. m ≡ n → ⊥) xs → (n : ℕ) → times n xs ≤ 1
 apart_once [] h n = omega arith
 apart_once (x ∷ xs) h n =
@@ -92,27 +92,27 @@ apart_once (x ∷ xs) h n =
       | inr ne ↦ rw (ne_eqb x n ne) (omega (arith, rest))
     ]
 
--- where all elements of a list are below a number, none from that on is in it
+-- if all elements of a list are below a number, no number from that on is in the list
 none_from : (xs : List ℕ) (next : ℕ) → All (λ n. n < next) xs → (n : ℕ) → next ≤ n → times n xs ≡ 0
 none_from [] next h n le = refl
 none_from (x ∷ xs) next h n le = rw (ne_eqb x n (λ e. omega (arith, e, le, h 0 0 (omega arith))))
     (omega (arith, none_from xs next (λ k d lt. h (suc k) d (omega (arith, lt))) n le))
 
--- where no number from one on is in a list, all its elements are below that
+-- if no number from one on is in a list, all its elements are below that one
 all_below : (xs : List ℕ) (next : ℕ) → ((n : ℕ) → next ≤ n → times n xs ≡ 0) → All (λ n. n < next) xs
 all_below xs next h k d lt = elim (cases_lt (get_or xs k d) next)
     [ inl below ↦ below | inr le ↦ absurd (omega (arith, h (get_or xs k d) le, times_at xs k d lt)) ]
 
--- from what the laws say to what the lemmas take, and back
+-- from the form of the laws to the form of the lemmas, and back
 
--- where each part has a stream that the drivers have, descriptors and links do
+-- if the drivers have the streams of all parts, they have those of descriptors and links
 named_of : (drivers : List DriverSpec) (c : Configuration) → AreStreamsKnown drivers c → AreNamed drivers c
 named_of drivers c h = record {
   fds = recursion_from_All _ c.fds h.fds;
   links = each_both _ _ c.links (recursion_from_All _ c.links h.controlling) (recursion_from_All _ c.links h.lowers);
 }
 
--- where ids rise and routes are sound, links and routes are as `AreRouted` says
+-- if ids rise and routes are sound, links and routes satisfy `AreRouted`
 routed_of : (drivers : List DriverSpec) (c : Configuration) → AreIdsRising c.links c.next_id → AreRoutesSound drivers c
     → AreRouted drivers c
 routed_of drivers c h k = record {
@@ -122,7 +122,7 @@ routed_of drivers c h k = record {
   routes = each_both _ _ c.routes (recursion_from_All _ c.routes k.mux) (recursion_from_All _ c.routes k.lead);
 }
 
--- what a sound configuration is, as the lemmas take it
+-- the invariant of a sound configuration, in the form of the lemmas
 record Parts (drivers : List DriverSpec) (c : Configuration) : Type 0 where
   links : AreLinksSound c.links
   named : AreNamed drivers c
@@ -162,7 +162,7 @@ of_parts drivers c h = record {
 
 -- each accepted outcome
 
--- an accepted command keeps all parts of `Parts`
+-- an accepted command preserves all parts of `Parts`
 parts_accepted : (drivers : List DriverSpec) (c : Configuration) (process : ℕ) (k : Command) → Parts drivers c
     → IfAccepted (λ d r. Parts drivers d) (outcome drivers c process k)
 parts_accepted drivers c process k h = by (outcome drivers c process k) (sound_accepted drivers c process k h.links)
@@ -184,7 +184,7 @@ parts_accepted drivers c process k h = by (outcome drivers c process k) (sound_a
       }
       by (Err f) e1 e2 e3 e4 e5 e6 = record { holds = tt }
 
--- what an accepted command leaves of a sound configuration, before it is settled, is sound
+-- the outcome of an accepted command on a sound configuration is sound before settling
 pub outcome_sound : (drivers : List DriverSpec) (c : Configuration) (process : ℕ) (k : Command) → IsSound drivers c
     → IfOk (outcome drivers c process k) (λ x. IsSound drivers x.0)
 outcome_sound drivers c process k h = if_ok (Parts drivers) _ (outcome drivers c process k) (of_parts drivers)
@@ -192,7 +192,7 @@ outcome_sound drivers c process k h = if_ok (Parts drivers) _ (outcome drivers c
 
 -- each move
 
--- a move leaves to each queued message a serial of its own, below the next one
+-- after a move queued messages have different serials, below the next one
 numbered_moved : (drivers : List DriverSpec) (c : Configuration) (p : Place) → IsNumbered c
     → IsNumbered (after_move drivers c p)
 numbered_moved drivers c p h = record {
@@ -200,7 +200,7 @@ numbered_moved drivers c p h = record {
   below = λ n le. omega (arith, moved_same n drivers c p, h.below n (omega (arith, moved_next drivers c p, le)));
 }
 
--- a move keeps all parts of `Parts`
+-- a move preserves all parts of `Parts`
 parts_moved : (drivers : List DriverSpec) (c : Configuration) (p : Place) → Parts drivers c
     → Parts drivers (after_move drivers c p)
 parts_moved drivers c p h = record {
@@ -212,14 +212,14 @@ parts_moved drivers c p h = record {
   swept_ = swept_moved drivers c p (record { no_cycle = h.links.no_cycle; named = h.named; swept_ = h.swept_ });
 }
 
--- a move leaves a sound configuration sound
+-- a move keeps a sound configuration sound
 pub moved_sound : (drivers : List DriverSpec) (c : Configuration) (p : Place) → IsSound drivers c
     → IsSound drivers (after_move drivers c p)
 moved_sound drivers c p h = of_parts drivers (after_move drivers c p) (parts_moved drivers c p (parts_of drivers c h))
 
 -- settling
 
--- a sound configuration that is settled stays sound, and no message can move on
+-- settling keeps a sound configuration sound, and afterwards no message can move
 pub settled_kept : (drivers : List DriverSpec) (c : Configuration) → IsSound drivers c
     → IsKept drivers (after_settling drivers c)
 settled_kept drivers c h = let p = parts_of drivers c h in record {
@@ -230,13 +230,13 @@ settled_kept drivers c h = let p = parts_of drivers c h in record {
 
 -- each command
 
--- a command leaves a sound and settled configuration sound and settled, if what it is accepted with is sound
+-- a command keeps a sound and settled configuration so, if its accepted outcome is sound
 finished_kept : (drivers : List DriverSpec) (c : Configuration) (o : Outcome) → IsKept drivers c
     → IfOk o (λ x. IsSound drivers x.0) → IsKept drivers (after_outcome drivers c o).0
 finished_kept drivers c (Ok x) h k = settled_kept drivers x.0 k
 finished_kept drivers c (Err f) h k = h
 
--- a command leaves a sound and settled configuration sound and settled
+-- a command keeps a sound and settled configuration sound and settled
 pub step_keeps : (drivers : List DriverSpec) (c : Configuration) (process : ℕ) (k : Command) → IsKept drivers c
     → IsKept drivers (step drivers c process k).0
 step_keeps drivers c process k h =
@@ -257,7 +257,7 @@ empty_kept drivers = record {
   settled = λ p. refl;
 }
 
--- after any entries a configuration that was sound and settled is so
+-- after any entries a configuration that was sound and settled still is
 after_keeps : (drivers : List DriverSpec) (c : Configuration) (es : List Entry) → IsKept drivers c
     → IsKept drivers (after_from drivers c es)
 after_keeps drivers c [] h = h
@@ -268,9 +268,9 @@ after_keeps drivers c (e ∷ es) h =
 pub always_is_kept : (drivers : List DriverSpec) (history : List Entry) → IsKept drivers (after drivers history)
 always_is_kept drivers history = after_keeps drivers empty history (empty_kept drivers)
 
--- what holds of sound configurations
+-- properties of sound configurations
 
--- without a cycle, and with known controlling streams, a stream exists just where it stands
+-- without a cycle, and with known controlling streams, a stream exists exactly if it does within some climbs
 pub exists_is_stands : (drivers : List DriverSpec) (c : Configuration) (s : StreamId) → AreLinksSound c.links
     → All (λ l. IsKnown drivers l.ctl) c.links → (exists drivers c s ≡ true) ↔ Stands c s
 exists_is_stands drivers c s sound known = (
@@ -280,17 +280,17 @@ exists_is_stands drivers c s sound known = (
       (recursion_from_All _ c.links known)) h,
 )
 
--- after any history a stream exists just where it stands within some number of climbs
+-- after any history a stream exists exactly if it does within some number of climbs
 pub always_exists_is_stands : (drivers : List DriverSpec) (history : List Entry) (s : StreamId)
     → (exists drivers (after drivers history) s ≡ true) ↔ Stands (after drivers history) s
 always_exists_is_stands drivers history s = let k = (always_is_kept drivers history).sound in
     exists_is_stands drivers (after drivers history) s k.links k.known.controlling
 
--- each part of a sound configuration has a stream, and each route a driver, that the drivers have
+-- the drivers of a sound configuration have the stream of each part, and the driver of each route
 known_parts : (drivers : List DriverSpec) (c : Configuration) → IsSound drivers c → EachKnown drivers c
 known_parts drivers c h = let p = parts_of drivers c h in each_known drivers c p.named p.routed p.swept_
 
--- sound configurations over drivers that can be had are the same if their views are
+-- two sound configurations over valid drivers are equal if their views are
 pub view_is_of_one : (drivers : List DriverSpec) (c d : Configuration) → IsDriverList drivers → IsSound drivers c
     → IsSound drivers d → view drivers c ≡ view drivers d → c ≡ d
 view_is_of_one drivers c d h k l e =

@@ -1,4 +1,4 @@
--- Places with messages, and next places, are of streams that the drivers have.
+-- The drivers have the streams of places with messages, and of next places.
 use Rattle.std.proofs.Common.{◌≡◌, ℕ, Bool, ◌&&◌, eqb, List, [], ◌∷◌, find, Option, Some, None, refl, sym, ◌∙◌, subst}
 use Rattle.std.proofs.Common.{inl, inr}
 use Rattle.std.specs.Prelude.{◌≢◌}
@@ -24,7 +24,7 @@ use Rattle.smx_model.specs.RunMarks.{next_of_first, next_of}
 use Rattle.smx_model.proofs.TurningLemmas.{lower_side, down_by, bound_side, up_by}
 use Rattle.smx_model.proofs.LookupLemmas.{live_is_side}
 
--- where all messages are at places of streams that the drivers have, a place with a message is of such a stream
+-- if the drivers have the streams of all messages, they have the stream of a place with a message
 held_by_known : (drivers : List DriverSpec) (hs : List QueuedMessage) (p : Place)
     → AllByRecursion (λ h. IsKnown drivers h.place.stream) hs → first_message hs p ≢ None → IsKnown drivers p.stream
 held_by_known drivers [] p k some = absurd (some refl)
@@ -33,12 +33,12 @@ held_by_known drivers (h ∷ hs) p k some = elim (cases_Bool (is_at p h)) [
   | inr f ↦ held_by_known drivers hs p k.1 (λ e. some (rw f e))
 ]
 
--- a place with a message is one of a stream that the drivers have
+-- the drivers have the stream of a place with a message
 pub held_known : (drivers : List DriverSpec) (c : Configuration) (p : Place) → AreStreamsKnown drivers c
     → first_message c.flow p ≢ None → IsKnown drivers p.stream
 held_known drivers c p k some = held_by_known drivers c.flow p (recursion_from_All _ c.flow k.flow) some
 
--- where a first message goes next is a place of a stream that the drivers have
+-- the drivers have the stream of the next place of a first message
 pub next_known : (drivers : List DriverSpec) (c : Configuration) (p q : Place) → AreStreamsKnown drivers c
     → next_of_first drivers c p ≡ Some q → IsKnown drivers q.stream
 next_known drivers c p q k e = by (first_message c.flow p) e where

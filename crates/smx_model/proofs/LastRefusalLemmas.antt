@@ -21,26 +21,26 @@ use Rattle.smx_model.specs.Paths.{reaches}
 use Rattle.smx_model.specs.Standing.{is_below}
 use Rattle.smx_model.specs.Hangups.{is_hung}
 
--- where two steps are refused for too many links, and the first never is, the second is so after some value of the
--- first
+-- if two steps in turn are refused for too many links, and the first never is, the second is refused so after some
+-- value of the first
 past : {A : Type 0} (r : Result A Fault) (f : A → Outcome) → (r ≡ Err TooManyLinks → ⊥) → (r >>= f) ≡ Err TooManyLinks
     → (x : A) × (f x ≡ Err TooManyLinks)
 past (Ok x) f other e = (x, e)
 past (Err g) f other e = absurd (other cc)
 
--- a refusal with another fault than too many links is none with this one
+-- a refusal with another fault is not a refusal for too many links
 other_refusal : (f : Fault) (b : Bool) → f ≢ TooManyLinks → refuse f b ≡ Err TooManyLinks → ⊥
 other_refusal f true other e = other cc
 other_refusal f false other e = absurd cc
 
--- the lookup of a descriptor's stream is never refused for too many links
+-- the look-up of a descriptor's stream is never refused for too many links
 no_stream : (c : Configuration) (process fd : ℕ) → stream_of c process fd ≡ Err TooManyLinks → ⊥
 no_stream c process fd = by (option_map (λ d. d.stream) (find (is_fd process fd) c.fds)) where
   by : (o : Option StreamId) → or_fault BadDescriptor o ≡ Err TooManyLinks → ⊥
   by None e = absurd cc
   by (Some s) e = absurd cc
 
--- a link is refused for too many links only where there are as many as there can be, or no next id is left
+-- a link is refused for too many links only if the limit of links is reached, or no next id is left
 pub links_room : (drivers : List DriverSpec) (c : Configuration) (process fd arg : ℕ) (k : LinkKind)
     → link_outcome drivers c process fd arg k ≡ Err TooManyLinks
     → (MAX_LINKS ≤ length c.links) ⊎ (NUMBER_END ≤ c.next_id)

@@ -33,6 +33,7 @@ pub mod DescriptorLemmas
 pub mod BindingLemmas
 pub mod RoutingLemmas
 pub mod ReportLemmas
+pub mod UnlawfulLemmas
 pub mod IllegalEntryLemmas
 pub mod IdLemmas
 pub mod WaitingLemmas

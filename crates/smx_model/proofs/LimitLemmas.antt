@@ -1,4 +1,4 @@
--- Limits: few links, few descriptors of each process, and numbers that end.
+-- Limits: of links, of descriptors of each process, and of numbers.
 use Rattle.std.proofs.Common.{◌≡◌, ℕ, ◌+◌, ◌<◌, ◌≤◌, Bool, true, false, ◌||◌, not, leb, eqb, arith, List, []}
 use Rattle.std.proofs.Common.{◌∷◌, ◌++◌, length, filter, Ok, rules, subst, inl}
 use Rattle.std.proofs.Common.{inr}
@@ -28,35 +28,35 @@ use Rattle.smx_model.proofs.LookupLemmas.{there_is}
 use Rattle.smx_model.proofs.RangeLemmas.{range_below}
 use Rattle.smx_model.proofs.OutcomeLemmas.{IfAccepted}
 
--- a configuration keeps to the limits
+-- the configuration is within the limits
 pub record IsWithin (c : Configuration) : Type 0 where
   pub links : length c.links ≤ MAX_LINKS
   pub numbers : AllByRecursion (λ d. d.fd < MAX_DESCRIPTORS) c.fds
   pub ids : c.next_id ≤ NUMBER_END
   pub serials : c.next_serial ≤ NUMBER_END
 
--- a free number of a process is below the most descriptors that it may have
+-- a free number of a process is below the maximum number of its descriptors
 free_below : (c : Configuration) (process fd : ℕ) → free_fd c process ≡ Ok fd → fd < MAX_DESCRIPTORS
 free_below c process fd e =
     range_below (λ n. not (list_any (is_fd process n) c.fds)) 0 MAX_DESCRIPTORS fd (there_is TooManyDescriptors _ fd e)
 
--- links, one more and fewer
+-- one more link, and fewer links
 
--- links that are no more than there may be are so when they are filtered
+-- links within the limit are within it after a filter
 fewer_fit : (test : Link → Bool) (ls : List Link) → length ls ≤ MAX_LINKS → length (filter test ls) ≤ MAX_LINKS
 fewer_fit test ls h = omega (arith, h, length-filter test ls, count_by-le-length test ls)
 
--- where there is room for a link, links with one more are no more than there may be
+-- if there is room for a link, one more link is within the limit
 link_fits : (ls : List Link) (l : Link) (b : Bool) → (leb MAX_LINKS (length ls) || b) ≡ false
     → length (ls ++ l ∷ []) ≤ MAX_LINKS
 link_fits ls l b room =
     omega (arith, length_push ls l, leb-false MAX_LINKS (length ls) (or_parts (leb MAX_LINKS (length ls)) b room).0)
 
--- where a next number is below its end, the one after it is at most the end
+-- if a next number is below its end, the one after it is at most the end
 number_fits : (b : Bool) (n : ℕ) → (b || leb NUMBER_END n) ≡ false → n + 1 ≤ NUMBER_END
 number_fits b n room = omega (arith, leb-false NUMBER_END n (or_parts b (leb NUMBER_END n) room).1)
 
--- an accepted command keeps to the limits
+-- an accepted command keeps the configuration within the limits
 within_accepted : (drivers : List DriverSpec) (c : Configuration) (process : ℕ) (k : Command) → IsWithin c
     → IfAccepted (λ d r. IsWithin d) (outcome drivers c process k)
 within_accepted drivers c process k h = of_rows _ drivers c process k
@@ -64,28 +64,28 @@ within_accepted drivers c process k h = of_rows _ drivers c process k
 
 -- moves, settling, histories
 
--- each move keeps to the limits
+-- each move keeps the configuration within the limits
 within_moved : (drivers : List DriverSpec) → MovesKeep IsWithin drivers
 within_moved drivers = record {
   each = λ c p h. moved_by IsWithin drivers c p h
       (λ q m e. record { links = h.links; numbers = h.numbers; ids = h.ids; serials = h.serials });
 }
 
--- after any history there are no more links, and no higher numbers, ids and serials, than there may be
+-- after any history the links, numbers, ids and serials are within the limits
 pub always_within : (drivers : List DriverSpec) (history : List Entry) → IsWithin (after drivers history)
 always_within drivers history = after_by IsWithin drivers empty history (within_moved drivers)
     (within_accepted drivers) (record { links = omega arith; numbers = tt; ids = omega arith; serials = omega arith })
 
--- of a process there are as many descriptors as numbers
+-- a process has at most as many descriptors as numbers
 
--- a process's descriptors that stand behind one of its own have higher numbers
+-- a process' descriptors after one of its own have higher numbers
 later_numbers : (d : Descriptor) (ds : List Descriptor) → ComesBefore fd_before d ds
     → AllByRecursion (λ e. e.process ≡ d.process → d.fd < e.fd) ds
 later_numbers d ds h = each_map _ _ ds (λ e before same. after d.process d.fd e.process e.fd same before) h where
   after : (a b x y : ℕ) → x ≡ a → pair_before a b x y ≡ true → b < y
   after a b x y same h = grind (arith, nat_tests)
 
--- of a process there are no more descriptors, numbered from a number on, than numbers from there to the limit
+-- a process has at most as many descriptors from a number on as there are numbers from there to the limit
 few_from : (ds : List Descriptor) (process a : ℕ) → IsRising fd_before ds
     → AllByRecursion (λ d. d.process ≡ process → a ≤ d.fd) ds → AllByRecursion (λ d. d.fd < MAX_DESCRIPTORS) ds
     → a ≤ MAX_DESCRIPTORS
@@ -105,7 +105,7 @@ few_from (d ∷ ds) process a r h k le = elim (cases_Bool (eqb d.process process
   | inr f ↦ rw f (few_from ds process a r.1 h.1 k.1 le)
 ]
 
--- after any history a process has no more descriptors than it may have
+-- after any history each process has at most the maximum number of descriptors
 pub always_few : (drivers : List DriverSpec) (history : List Entry) (process : ℕ)
     → count_by (λ d. eqb d.process process) (after drivers history).fds ≤ MAX_DESCRIPTORS
 always_few drivers history process =

@@ -1,4 +1,4 @@
--- A message that moves on alone: how it sets out and passes a place, and where it comes to rest.
+-- A message that moves on alone: how it sets out, passes a place, and comes to rest.
 use Rattle.std.proofs.Common.{◌≡◌, ℕ, zero, suc, ◌-◌, ◌<◌, Bool, true, false, cond, List}
 use Rattle.std.proofs.Common.{Option, Some, None, refl, sym, ap, ◌∙◌, subst, arith}
 use Rattle.std.specs.Option.{is_some}
@@ -29,13 +29,13 @@ use Rattle.smx_model.proofs.LoneWaitingLemmas.{leads_away, leads_on, next_leads,
 
 -- ---- moves, one after another
 
--- a place that a first message may go on to is its next place, and not full
+-- the open next place of a first message is its next place, and not full
 open_first : (drivers : List DriverSpec) (c : Configuration) (p q : Place) → next_open_place drivers c p ≡ Some q
     → (next_of_first drivers c p ≡ Some q) × (is_full c q ≡ false)
 open_first drivers c p q e =
     let w = open_next drivers c p q e in (ap (next_of drivers c p) w.1 ∙ w.2, w.3)
 
--- the next place of a first message, if it is not full, is one that it may go on to
+-- the next place of a first message is open if it is not full
 first_open : (drivers : List DriverSpec) (c : Configuration) (p q : Place) → next_of_first drivers c p ≡ Some q
     → is_full c q ≡ false → next_open_place drivers c p ≡ Some q
 first_open drivers c p q e room = by (first_message c.flow p) e where
@@ -44,12 +44,12 @@ first_open drivers c p q e room = by (first_message c.flow p) e where
   by None h = absurd cc
   by (Some m) h = rw (h, room) refl
 
--- the move of a first message is the move to the place that it may go on to
+-- the move of a first message is the move to its open next place
 moved_on : (drivers : List DriverSpec) (c : Configuration) (p q : Place) → next_open_place drivers c p ≡ Some q
     → after_move drivers c p ≡ after_move_between drivers c p q
 moved_on drivers c p q e = ap (λ (o : Option Place). after_move_to drivers c p o (first_message c.flow p)) e
 
--- one move less, after the move of the least movable place, comes to the same configuration
+-- after the move of the least movable place, one move less reaches the same configuration
 one_less : (drivers : List DriverSpec) (n : ℕ) (c d : Configuration) (p : Place) → 0 < n
     → least_movable drivers c ≡ Some p → after_move drivers c p ≡ d
     → after_settling_within drivers (n - 1) d ≡ after_settling_within drivers n c
@@ -70,14 +70,14 @@ sets_out drivers c p q moves h least next some = let o = open_first drivers c p 
   comes_to = one_less drivers moves c (after_move_between drivers c p q) p some least (moved_on drivers c p q next);
 }
 
--- a place that a move neither takes from nor goes to is as full as it was
+-- a place that a move neither leaves nor goes to is as full as before
 as_full : (drivers : List DriverSpec) (c : Configuration) (p q r : Place) (m : Message)
     → first_message c.flow p ≡ Some m → same_place p r ≡ false → same_place q r ≡ false
     → is_full (after_move_between drivers c p q) r ≡ is_full c r
 as_full drivers c p q r m e f g = rw (moved_is drivers c p q m e)
     (marked_full q r _ (after_leaving drivers c p).fulls ∙ rw g (left_keeps drivers c p r f))
 
--- once a message that was alone has moved to a movable place, that is the least movable one
+-- after a message that was alone has moved to a movable place, that place is the least movable one
 is_next : (drivers : List DriverSpec) (c : Configuration) (run wanted : Place → Bool) (p q : Place) (m : Message)
     → IsInOrder c.flow → IsAlone drivers c run wanted p → first_message c.flow p ≡ Some m → same_place p q ≡ false
     → IsInOrder (after_move_between drivers c p q).flow → is_movable drivers (after_move_between drivers c p q) q ≡ true
@@ -92,7 +92,7 @@ is_next drivers c run wanted p q m o h e apart after movable =
     })
     movable
 
--- a message that goes on from an empty place, which is not full, comes to the next one as if it had gone there at once
+-- a message that goes on from an empty place that is not full reaches the next one as if it had gone there directly
 goes_on : (drivers : List DriverSpec) (c : Configuration) (p q r : Place) (m : Message) → IsInOrder c.flow
     → first_message c.flow p ≡ Some m → same_place p q ≡ false → first_message c.flow q ≡ None → is_full c q ≡ false
     → next_open_place drivers (after_move_between drivers c p q) q ≡ Some r
@@ -106,7 +106,7 @@ goes_on drivers c p q r m o e apart none room next =
     (left_keeps drivers c p q apart ∙ room))
     ∙ sym (moved_is drivers c p r m e)))
 
--- where the moves that are left come to a settled configuration, and a place is movable, some are left
+-- if the remaining moves reach a settled configuration, and a place is movable, at least one is left
 move_left : (drivers : List DriverSpec) (left : ℕ) (c d : Configuration) (q : Place)
     → after_settling_within drivers left d ≡ c → IsSettled drivers c → is_movable drivers d q ≡ true → 0 < left
 move_left drivers zero c d q e settled movable = absurd (both_ways (is_movable drivers d q)
@@ -165,7 +165,7 @@ passes drivers c run wanted p q r m moves left h alone e settled way none next r
   went : after_move drivers d q ≡ after_move_between drivers c p r
   went = goes_on drivers c p q r m h.ordered.flow e apart none way.not_full open_next_place
 
--- where a message that was alone and is under way stays, it has come to what the moves come to
+-- if a message that was alone and is under way stays, the moves have reached their final configuration
 pub rests : (drivers : List DriverSpec) (c : Configuration) (run wanted : Place → Bool) (p q : Place) (m : Message)
     (moves left : ℕ) (waits : Option Place) → IsSound drivers c → IsAlone drivers c run wanted p
     → first_message c.flow p ≡ Some m → IsUnderWay drivers c moves p q left → StaysAt drivers c q m waits
@@ -180,7 +180,7 @@ rests drivers c run wanted p q m moves left waits h alone e way stays =
           (none_marked drivers c run wanted p q m waits h.ordered.flow alone e
           (leads_away c.links p q h.links.no_cycle way.led) stays r refl)
 
--- where a message that was alone and is under way stays, each place waits, with one more wanted mark at the place that
+-- if a message that was alone and is under way stays, each place waits, with one more wanted mark at the place that
 -- the message waits for, if there is one
 pub all_wait : (drivers : List DriverSpec) (c : Configuration) (run wanted : Place → Bool) (p q : Place) (m : Message)
     (moves left : ℕ) (waits : Option Place) → IsSound drivers c → IsAlone drivers c run wanted p
@@ -190,7 +190,7 @@ all_wait drivers c run wanted p q m moves left waits h alone e way stays =
     none_marked drivers c run wanted p q m waits h.ordered.flow alone e
     (leads_away c.links p q h.links.no_cycle way.led) stays
 
--- a message under way is at another place than the one where it set out
+-- a message under way is at another place than the one from which it set out
 pub apart_by_links : (drivers : List DriverSpec) (c : Configuration) (p q : Place) (moves left : ℕ) → IsSound drivers c
     → IsUnderWay drivers c moves p q left → same_place p q ≡ false
 apart_by_links drivers c p q moves left h way = leads_away c.links p q h.links.no_cycle way.led

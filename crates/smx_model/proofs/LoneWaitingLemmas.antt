@@ -1,4 +1,4 @@
--- Where links lead a message that moves alone, and which places wait once it has moved.
+-- The way of a message that moves alone, and the places that wait after it has moved.
 use Rattle.std.proofs.Common.{◌≡◌, ℕ, Bool, true, false, ◌&&◌, eqb, List, [], ◌∷◌}
 use Rattle.std.proofs.Common.{Option, Some, None, refl, sym, ap, ◌∙◌, subst}
 use Rattle.std.proofs.Common.{inl, inr}
@@ -46,7 +46,7 @@ below_reaches (l ∷ ls) d s h = elim (or_cases (same_stream l.lower s && eqb l.
   | inr later ↦ or_left _ _ (below_reaches ls d s later)
 ]
 
--- links lead to where a first message goes next
+-- links lead to the next place of a first message
 pub next_leads : (drivers : List DriverSpec) (c : Configuration) (p q : Place) → IsSound drivers c
     → next_of_first drivers c p ≡ Some q → leads c.links p q ≡ true
 next_leads drivers c p q h e = and_from _ _ near.0 (by p.side q.side near.0 near.1) where
@@ -61,7 +61,7 @@ next_leads drivers c p q h e = and_from _ _ near.0 (by p.side q.side near.0 near
   by side.Write side.Read same t = absurd (false≢true same)
   by side.Read side.Write same t = absurd (false≢true same)
 
--- links that lead from one place to a second and from that to a third lead from the first to the third
+-- links that lead from one place to a second, and from that to a third, lead from the first to the third
 pub leads_on : (links : List Link) (p q r : Place) → leads links p q ≡ true → leads links q r ≡ true
     → leads links p r ≡ true
 leads_on links p q r h k =
@@ -87,10 +87,10 @@ leads_away links p q none h = false_from_ne_true _ (λ t. back p.side
       back side.Write k = none p.stream.driver (reaches_path links p.stream.driver p.stream.driver k)
       back side.Read k = none p.stream.driver (reaches_path links p.stream.driver p.stream.driver k)
 
--- ---- which places wait, once a message that was alone has moved
+-- ---- the places that wait, after a message that was alone has moved
 
--- once a message that was alone has moved, each place waits but the one that it left, and the one that it came to if
--- that was empty
+-- after a message that was alone has moved, each place waits except the one that it left, and the one that it reached
+-- if that was empty
 waits_on : (drivers : List DriverSpec) (c : Configuration) (run wanted more : Place → Bool) (p q r : Place)
     (m : Message)
     → IsInOrder c.flow → IsAlone drivers c run wanted p → first_message c.flow p ≡ Some m → same_place p r ≡ false
@@ -104,12 +104,12 @@ waits_on drivers c run wanted more p q r m o h e apart some fewer =
     and_from _ _ (full_stays drivers c p q s m e h.not_full k.0) (fewer s k.1))
     (h.marked r (false_from_ne_true _ (λ t. both_ways (same_place p r) apart (h.only r t))))
 
--- a place whose first message goes nowhere next waits
+-- a place whose first message has no next place waits
 waits_empty : (drivers : List DriverSpec) (c : Configuration) (wanted : Place → Bool) (p : Place)
     → next_of_first drivers c p ≡ None → is_waiting drivers c wanted p ≡ true
 waits_empty drivers c wanted p e = ap (is_held_up c wanted) e
 
--- once a message that was alone has moved, each place waits but the one that it came to
+-- after a message that was alone has moved, each place waits except the one that it reached
 pub one_marked : (drivers : List DriverSpec) (c : Configuration) (run wanted : Place → Bool) (p q : Place) (m : Message)
     → IsInOrder c.flow → IsAlone drivers c run wanted p → first_message c.flow p ≡ Some m → same_place p q ≡ false
     → AreMarked drivers (after_move_between drivers c p q) (same_place q) wanted
@@ -121,8 +121,8 @@ one_marked drivers c run wanted p q m o h e apart r f = elim (cases_Bool (same_p
       (λ s w. w)
 ]
 
--- once a message that was alone has moved to a place where it stays, each place waits, with one more wanted mark at the
--- place that the message waits for, if there is one
+-- after a message that was alone has moved to a place where it stays, each place waits, with one more wanted mark at
+-- the place that the message waits for, if there is one
 pub none_marked : (drivers : List DriverSpec) (c : Configuration) (run wanted : Place → Bool) (p q : Place)
     (m : Message) (waits : Option Place) → IsInOrder c.flow → IsAlone drivers c run wanted p
     → first_message c.flow p ≡ Some m

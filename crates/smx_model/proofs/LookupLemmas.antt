@@ -1,4 +1,4 @@
--- What a lookup names, where it is not refused.
+-- The result of a look-up that is not refused.
 use Rattle.std.proofs.Common.{◌≡◌, ℕ, Bool, true, false, List, Option, Some, None, Result, Ok, Err, refl, sym, ap, ◌∙◌}
 use Rattle.std.specs.List.{find}
 use Rattle.std.specs.Option.{option_map}
@@ -15,24 +15,24 @@ use Rattle.smx_model.specs.Lookups.{free_stream, leaf_stream, live_leaf, live_st
 use Rattle.smx_model.specs.Outcomes.{◌>>=◌, or_fault, refuse}
 use Rattle.smx_model.specs.Settling.{live_write_side}
 
--- where the want of something would be a fault and there is none, it is there
+-- if a missing value would be a fault and there is no fault, the value exists
 pub there_is : {A : Type 0} (f : Fault) (o : Option A) (x : A) → or_fault f o ≡ Ok x → o ≡ Some x
 there_is f None x e = cc
 there_is f (Some y) x e = let same : y ≡ x = cc in ap Some same
 
--- where two steps are accepted, the first was accepted with some value, and the second with that value
+-- if two steps in turn are accepted, the first was accepted with some value, and the second with that value
 pub looked_up : {A B : Type 0} (r : Result A Fault) (g : A → Result B Fault) (x : B) → (r >>= g) ≡ Ok x
     → (y : A) × (r ≡ Ok y) × (g y ≡ Ok x)
 looked_up (Ok y) g x e = (y, refl, e)
 looked_up (Err f) g x e = cc
 
--- where a refusal and what follows it are accepted, the test of the refusal fails, and what follows is accepted
+-- if a refusal and the steps after it are accepted, the test of the refusal fails, and those steps are accepted
 pub passed : {A : Type 0} (f : Fault) (b : Bool) (g : Unit {0} → Result A Fault) (x : A) → (refuse f b >>= g) ≡ Ok x
     → (b ≡ false) × (g tt ≡ Ok x)
 passed f true g x e = cc
 passed f false g x e = (refl, e)
 
--- a lookup that is tested names what it named, and that passed the test
+-- a look-up followed by a test gives the value of the look-up, which passed the test
 pub tested : (f : Fault) (r : Result StreamId Fault) (t : StreamId → Bool) (x : StreamId)
     → (r >>= (λ y. refuse f (t y) >>= (λ _. Ok y))) ≡ Ok x → (r ≡ Ok x) × (t x ≡ false)
 tested f r t x e =
@@ -54,17 +54,17 @@ descriptor_of c process fd s e = by (find (is_fd process fd) c.fds) (there_is Ba
   by None k = cc
   by (Some d) k = (d, refl, cc)
 
--- a descriptor's stream that is looked up as live is found as one not linked below, and has not hung up
+-- a descriptor's stream found as live is also found as one not linked below, and has not hung up
 pub live_is : (c : Configuration) (process fd : ℕ) (s : StreamId) → live_stream c process fd ≡ Ok s
     → (free_stream c process fd ≡ Ok s) × (is_hung c.hungs s ≡ false)
 live_is c process fd s e = tested HungUp (free_stream c process fd) (is_hung c.hungs) s e
 
--- a device's stream that is looked up as live is found as a leaf driver's, and has not hung up
+-- a device's stream found as live is also found as a leaf driver's, and has not hung up
 pub live_leaf_is : (drivers : List DriverSpec) (c : Configuration) (name : List ℕ) (minor : ℕ) (s : StreamId)
     → live_leaf drivers c name minor ≡ Ok s → (leaf_stream drivers c name minor ≡ Ok s) × (is_hung c.hungs s ≡ false)
 live_leaf_is drivers c name minor s e = tested HungUp (leaf_stream drivers c name minor) (is_hung c.hungs) s e
 
--- a write side that isn't hung up is that of the stream
+-- the write side of a stream that is not hung up is its write side
 pub live_is_side : (hungs : List StreamId) (s : StreamId) (q : Place) → live_write_side hungs s ≡ Some q
     → record { stream = s; side = side.Write } ≡ q
 live_is_side hungs s q e = by (is_hung hungs s) refl e where

@@ -1,4 +1,4 @@
--- What the marks say, and the marks of commands.
+-- The meaning of marks, and the marks of commands.
 use Rattle.std.proofs.Common.{◌≡◌, ℕ, Bool, true, false, ◌&&◌, List, Option, Some, None, Ok, Err, refl, sym, ap, ◌∙◌}
 use Rattle.std.proofs.Common.{subst, inl, inr}
 use Rattle.std.specs.Prelude.{IfOk, ◌↔◌}
@@ -29,7 +29,7 @@ use Rattle.smx_model.proofs.WaitingLemmas.{if_open, movable_by, waiting_stays}
 
 -- ---- the two kinds of marks
 
--- a place that can't move waits, where the full place that holds it up is wanted
+-- a place that can't move waits, if the full place that blocks it is wanted
 held_up_by : (c : Configuration) (wanted : Place → Bool) (o : Option Place) → is_some (if_open c o) ≡ false
     → ((q : Place) → o ≡ Some q → is_full c q ≡ true → wanted q ≡ true) → is_held_up c wanted o ≡ true
 held_up_by c wanted None h f = refl
@@ -38,19 +38,19 @@ held_up_by c wanted (Some q) h f = elim (cases_Bool (is_full c q)) [
   | inr n ↦ let k : true ≡ false = rw n at h in absurd (cc)
 ]
 
--- a place that isn't movable waits, where each place that holds it up is wanted
+-- a place that isn't movable waits, if each place that blocks it is wanted
 waits_where : (drivers : List DriverSpec) (c : Configuration) (wanted : Place → Bool) (p : Place)
     → is_movable drivers c p ≡ false → ((q : Place) → HoldsUp drivers c q p → wanted q ≡ true)
     → is_waiting drivers c wanted p ≡ true
 waits_where drivers c wanted p h f =
     held_up_by c wanted (next_of_first drivers c p) (sym (movable_by drivers c p) ∙ h) (λ q e t. f q (e, t))
 
--- where a place waits and its first message has a next place, that is wanted
+-- if a place waits and its first message has a next place, that place is wanted
 wanted_of : (drivers : List DriverSpec) (c : Configuration) (wanted : Place → Bool) (p q : Place)
     → is_waiting drivers c wanted p ≡ true → next_of_first drivers c p ≡ Some q → wanted q ≡ true
 wanted_of drivers c wanted p q h e = (and_parts (is_full c q) (wanted q) (sym (ap (is_held_up c wanted) e) ∙ h)).1
 
--- each unmarked place waits just where movable ones have run marks and full ones that hold up are wanted
+-- each unmarked place waits exactly if movable places have run marks and full places that block others are wanted
 pub two_kinds : (drivers : List DriverSpec) (c : Configuration) (run wanted : Place → Bool)
     → AreMarked drivers c run wanted ↔ (AreMovableMarked drivers c run × AreHoldingWanted drivers c run wanted)
 two_kinds drivers c run wanted = (to, from) where
@@ -68,14 +68,14 @@ two_kinds drivers c run wanted = (to, from) where
   from h p f =
       waits_where drivers c wanted p (false_from_ne_true _ (λ m. both_ways (run p) f (h.0 p m))) (λ q up. h.1 p q f up)
 
--- between commands each full place that holds up a first message is wanted
+-- between commands each full place that blocks a first message is wanted
 pub rest_is : (drivers : List DriverSpec) (m : MarkedConfiguration) → IsAtRest drivers m → (p q : Place)
     → HoldsUp drivers m.configuration q p → m.wanted q ≡ true
 rest_is drivers m h p q up = wanted_of drivers m.configuration m.wanted p q (h.marks p (h.none p)) up.0
 
 -- ---- commands
 
--- an accepted command, from a sound configuration, keeps the marks, where what it woke gets a run mark
+-- an accepted command, from a sound configuration, keeps the marks valid, if the places that it woke get a run mark
 pub command_keeps_marks : (drivers : List DriverSpec) (old new : MarkedConfiguration) (process : ℕ) (k : Command)
     → IsSound drivers old.configuration → HasItsMarks drivers old
     → IfOk (outcome drivers old.configuration process k) (λ x. new.configuration ≡ x.0
@@ -91,11 +91,11 @@ command_keeps_marks drivers old new process k sound h =
           (turned_by drivers old.configuration process k)) (sym e) t) m
       by (Err f) t = tt
 
--- what a command and its settling by marks come to
+-- the result of a command and its settling by marks
 abbrev Settles : List DriverSpec → Configuration → MarkedConfiguration → Type 0
 Settles drivers c end = (end.configuration ≡ c) × IsAtRest drivers end
 
--- an accepted command that is settled by marks comes to its step, and leaves no run mark
+-- settling by marks after an accepted command gives the result of its step, and leaves no run mark
 pub command_settles : (drivers : List DriverSpec) (old woken end : MarkedConfiguration) (process : ℕ) (k : Command)
     (moves : List Place) → IsSound drivers old.configuration → HasItsMarks drivers old
     → IfOk (outcome drivers old.configuration process k) (λ x. woken.configuration ≡ x.0
@@ -119,14 +119,14 @@ command_settles drivers old woken end process k moves sound h = by (outcome driv
       by (Ok x) s t = λ e m r. settled x.0 s e (t e m) r
       by (Err f) s t = tt
 
--- ---- which places can become movable
+-- ---- the places that can become movable
 
--- where nothing moves, no place needs a run mark, if all are wanted
+-- if no place is movable, none needs a run mark if all are wanted
 all_wait : (drivers : List DriverSpec) (c : Configuration) → IsSettled drivers c
     → AreMarked drivers c nowhere (λ q. true)
 all_wait drivers c s p f = waits_where drivers c (λ q. true) p (s p) (λ q up. refl)
 
--- where no place has a run mark and all are wanted, a change wakes none but those that it turned and those that feed
+-- if no place has a run mark and all are wanted, a change wakes only the places that it turned, and those that feed
 -- one that it freed
 not_woken : (drivers : List DriverSpec) (c d : Configuration) (turned : Place → Bool) (p : Place)
     → either turned (feeds drivers d (is_freed c d)) p ≡ false
@@ -137,7 +137,7 @@ not_woken drivers c d turned p f = let a = or_parts (turned p) (feeds drivers d 
       by None e = refl
       by (Some q) e = rw e refl
 
--- after a change from a settled configuration a movable place was turned, or feeds one that was freed
+-- after a change of a settled configuration a movable place was turned, or feeds one that was freed
 few_woken : (drivers : List DriverSpec) (c d : Configuration) (turned : Place → Bool) (p : Place) → IsSettled drivers c
     → TurnsOnly drivers c d turned → is_movable drivers d p ≡ true
     → either turned (feeds drivers d (is_freed c d)) p ≡ true
@@ -149,7 +149,7 @@ few_woken drivers c d turned p s t m = elim (cases_Bool (either turned (feeds dr
       (wakes drivers c d nowhere (λ q. true) turned (all_wait drivers c s) t p (not_woken drivers c d turned p n))) m)
 ]
 
--- after a command from a settled configuration only what it turned, or what feeds a place that it freed, is movable
+-- after a command on a settled configuration only a place that it turned, or one that feeds a freed place, is movable
 pub few_movable : (drivers : List DriverSpec) (c : Configuration) (process : ℕ) (k : Command) (p : Place)
     → IsKept drivers c
     → IfOk (outcome drivers c process k) (λ x. is_movable drivers x.0 p ≡ true
@@ -161,9 +161,9 @@ few_movable drivers c process k p h = by (outcome drivers c process k) (outcomes
   by (Ok x) t = few_woken drivers c x.0 (turned_by drivers c process k) p h.settled t
   by (Err f) t = tt
 
--- ---- which places a command frees
+-- ---- the places that a command frees
 
--- an accepted command, from a sound configuration, frees no place but those of `freed_by`
+-- an accepted command, from a sound configuration, frees only places of `freed_by`
 pub few_freed : (drivers : List DriverSpec) (c : Configuration) (process : ℕ) (k : Command) → IsSound drivers c
     → IfOk (outcome drivers c process k) (λ x. FreesOnly c x.0 (freed_by drivers c process k x.0))
 few_freed drivers c process k h = if_ok (λ d. FreesOnly c d (freed_by drivers c process k d)) _

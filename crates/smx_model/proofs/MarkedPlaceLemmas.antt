@@ -1,4 +1,4 @@
--- Settling by marks can come to its end, where finitely many places have run marks.
+-- Settling by marks has an end, if only finitely many places have run marks.
 use Rattle.std.proofs.Common.{◌≡◌, ℕ, zero, suc, ◌*◌, Bool, true, false, ◌&&◌, not, List, [], ◌∷◌, length, Option, Some}
 use Rattle.std.proofs.Common.{arith, None, refl, sym, ap, ◌∙◌, subst, inl, inr}
 use mathlib.Core.Logic.{◌⊎◌}
@@ -32,11 +32,11 @@ use Rattle.smx_model.proofs.WaitingLemmas.{cleared}
 
 -- ---- marks at the places of some messages in order
 
--- each run mark stands at the place of one of them
+-- each run mark is at the place of one of these messages
 abbrev AreWithin : List QueuedMessage → (Place → Bool) → Type 0
 AreWithin hs run = (p : Place) → run p ≡ true → list_any (is_at p) hs ≡ true
 
--- a place before the first one is none of theirs
+-- a place before the first one is not among theirs
 not_there : (h : QueuedMessage) (hs : List QueuedMessage) (q : Place)
     → AllByRecursion (λ j. queued_before j h ≡ false) hs → place_before q h.place ≡ true
     → list_any (is_at q) hs ≡ true → ⊥
@@ -47,8 +47,8 @@ not_there h (g ∷ hs) q n b k = elim (or_cases (is_at q g) (list_any (is_at q) 
   | inr later ↦ not_there h hs q n.1 b later
 ]
 
--- where messages are in order and the run marks stand at their places, the first message's place is the least marked
--- one, if it has a mark
+-- if messages are in order and the run marks are at their places, the first message's place is the least marked one,
+-- if it has a mark
 least_there : (h : QueuedMessage) (hs : List QueuedMessage) (run : Place → Bool) → IsInOrder (h ∷ hs)
     → AreWithin (h ∷ hs) run → run h.place ≡ true → IsLeastMarked run h.place
 least_there h hs run o w t = record {
@@ -61,7 +61,7 @@ least_there h hs run o w t = record {
       (subst (λ (x : Place). place_before q x ≡ true) (same_place_is h.place q e) b)
   none q b (inr k) = not_there h hs q o.0 b k
 
--- where the first message's place has no run mark, the run marks stand at the places of the others
+-- if the first message's place has no run mark, the run marks are at the places of the others
 within_rest : (h : QueuedMessage) (hs : List QueuedMessage) (run : Place → Bool) → AreWithin (h ∷ hs) run
     → run h.place ≡ false → AreWithin hs run
 within_rest h hs run w f p t = elim (or_cases (is_at p h) (list_any (is_at p) hs) (w p t)) [
@@ -69,7 +69,7 @@ within_rest h hs run w f p t = elim (or_cases (is_at p h) (list_any (is_at p) hs
   | inr k ↦ k
 ]
 
--- once the run mark of the first message's place is cleared, the run marks stand at the places of the others
+-- after the run mark of the first message's place is cleared, the run marks are at the places of the others
 within_cleared : (h : QueuedMessage) (hs : List QueuedMessage) (run : Place → Bool) → AreWithin (h ∷ hs) run
     → AreWithin hs (all_but run h.place)
 within_cleared h hs run w p t = let a = and_parts (run p) (not (same_place h.place p)) t in
@@ -80,14 +80,14 @@ within_cleared h hs run w p t = let a = and_parts (run p) (not (same_place h.pla
 
 -- ---- all marks before the first movable place are cleared
 
--- from any marks over the configuration, the move of the least marked place goes on to the end
+-- for any marks over the configuration, after the move of the least marked place there is an end
 abbrev MovesGoOn : List DriverSpec → Configuration → Type 0
 MovesGoOn drivers c = (hs : List QueuedMessage) (run wanted : Place → Bool) (p : Place) → IsInOrder hs
     → AreWithin hs run → AreMarked drivers c run wanted → IsLeastMarked run p → is_movable drivers c p ≡ true
     → CanSettleByMarks drivers (record { configuration = c; run = run; wanted = wanted })
 
--- settling by marks can end from run marks at the places of messages in order, if it goes on to the end from each move
--- of the least marked place
+-- settling by marks has an end from run marks at the places of messages in order, if it has one after each move of
+-- the least marked place
 looks_end : (drivers : List DriverSpec) (c : Configuration) → MovesGoOn drivers c
     → (hs : List QueuedMessage) (run wanted : Place → Bool) → IsInOrder hs → AreWithin hs run
     → AreMarked drivers c run wanted
@@ -130,17 +130,17 @@ looks_end drivers c go (h ∷ hs) run wanted o w a = elim (cases_Bool (run h.pla
 
 -- ---- marks after a move
 
--- the messages of both, in order
+-- the messages of both flows, in order
 abbrev joined : List QueuedMessage → List QueuedMessage → List QueuedMessage
 joined [] hs = hs
 joined (g ∷ gs) hs = with_inserted queued_before (joined gs hs) g
 
--- messages that are joined to messages in order are in order with them
+-- joining messages to messages in order gives messages in order
 joined_in_order : (gs hs : List QueuedMessage) → IsInOrder hs → IsInOrder (joined gs hs)
 joined_in_order [] hs o = o
 joined_in_order (g ∷ gs) hs o = order_placed (joined gs hs) g (joined_in_order gs hs o)
 
--- where some message of either list passes a test, some message of both joined does
+-- if some message of either list passes a test, so does some message of both joined
 in_either : (t : QueuedMessage → Bool) (gs hs : List QueuedMessage) → (list_any t gs ≡ true) ⊎ (list_any t hs ≡ true)
     → list_any t (joined gs hs) ≡ true
 in_either t [] hs (inl k) = absurd (false≢true k)
@@ -151,7 +151,7 @@ in_either t (g ∷ gs) hs (inl k) = any_of_placed t queued_before (joined gs hs)
 in_either t (g ∷ gs) hs (inr k) =
     any_of_placed t queued_before (joined gs hs) g ∙ or_right _ _ (in_either t gs hs (inr k))
 
--- a place at which no message is has no first one
+-- a place without messages has no first one
 none_first : (hs : List QueuedMessage) (p : Place) → list_any (is_at p) hs ≡ false → first_message hs p ≡ None
 none_first [] p e = refl
 none_first (h ∷ hs) p e = let a = or_parts (is_at p h) (list_any (is_at p) hs) e in rw a.0 (none_first hs p a.1)
@@ -166,7 +166,7 @@ feeds_there drivers c places p k = elim (cases_Bool (list_any (is_at p) c.flow))
       (sym (ap (λ (o : Option Message). is_one_of places (next_of drivers c p o)) (none_first c.flow p f)) ∙ k))
 ]
 
--- a place that was empty when a move brought its message there has a message after the move
+-- a place that was empty when a message moved there has a message after the move
 arrives_there : (drivers : List DriverSpec) (c : Configuration) (p r : Place)
     → is_first_there drivers c p (next_open_place drivers c p) r ≡ true
     → list_any (is_at r) (after_move drivers c p).flow ≡ true
@@ -192,8 +192,8 @@ marked_move drivers m p = record {
   wanted = wanted_after m.configuration (after_move drivers m.configuration p) m.wanted;
 }
 
--- where run marks stand at the places of some messages, after a move of a marked place they stand at those and at
--- places of the flow
+-- if run marks are at the places of some messages, after a move of a marked place they are at those and at places
+-- of the flow
 within_moved : (drivers : List DriverSpec) (m : MarkedConfiguration) (p : Place) (hs : List QueuedMessage)
     → AreWithin hs m.run → m.run p ≡ true
     → AreWithin (joined hs (after_move drivers m.configuration p).flow) (marked_move drivers m p).run
@@ -211,13 +211,13 @@ within_moved drivers m p hs w marked r t =
 
 -- ---- to the end
 
--- from any marks over a configuration that so many moves settle, it comes to the end
+-- for any marks over a configuration that n moves settle, there is an end
 abbrev EndsWithin : List DriverSpec → ℕ → Type 0
 EndsWithin drivers n = (m : MarkedConfiguration) (hs : List QueuedMessage) → IsInOrder m.configuration.flow
     → HasItsMarks drivers m → IsSettled drivers (after_settling_within drivers n m.configuration)
     → IsInOrder hs → AreWithin hs m.run → CanSettleByMarks drivers m
 
--- settling by marks can end where it can after the move of the least marked place
+-- settling by marks has an end if it has one after the move of the least marked place
 moves_then : (drivers : List DriverSpec) (old : MarkedConfiguration) (p : Place) → IsLeastMarked old.run p
     → is_movable drivers old.configuration p ≡ true → CanSettleByMarks drivers (marked_move drivers old p)
     → CanSettleByMarks drivers old
@@ -229,8 +229,8 @@ moves_then drivers old p l t rest = record {
       rest.settles;
 }
 
--- where one move more than always leads to the end settles a configuration, the move of the least marked place goes on
--- to the end
+-- if n moves always lead to an end, and one move more settles a configuration, there is an end after the move of the
+-- least marked place
 moves_go_on : (drivers : List DriverSpec) (n : ℕ) (c : Configuration) → IsInOrder c.flow
     → IsSettled drivers (after_settling_within drivers (suc n) c) → EndsWithin drivers n → MovesGoOn drivers c
 moves_go_on drivers n c o s later hs run wanted p ordered within a l t = moves_then drivers old p l t
@@ -243,7 +243,7 @@ moves_go_on drivers n c o s later hs run wanted p ordered within a l t = moves_t
       old : MarkedConfiguration
       old = record { configuration = c; run = run; wanted = wanted }
 
--- from any marks over a configuration that so many moves settle, settling by marks can end
+-- for any marks over a configuration that n moves settle, settling by marks has an end
 ends_within : (drivers : List DriverSpec) (n : ℕ) → EndsWithin drivers n
 ends_within drivers zero m hs o h s ordered w = looks_end drivers m.configuration
     (λ gs run wanted p _ _ _ _ t. absurd (both_ways (is_movable drivers m.configuration p) (s p) t)) hs m.run m.wanted
@@ -257,12 +257,12 @@ messages_at [] = []
 messages_at (p ∷ ps) = with_inserted queued_before (messages_at ps)
     (record { place = p; message = record { serial = 0; addr = 0; bytes = [] } })
 
--- the messages that stand for some places are in order
+-- the messages made for some places are in order
 messages_in_order : (ps : List Place) → IsInOrder (messages_at ps)
 messages_in_order [] = tt
 messages_in_order (p ∷ ps) = order_placed (messages_at ps) _ (messages_in_order ps)
 
--- at each of the places there is one of the messages that stand for them
+-- each of the places has one of the messages made for them
 message_there : (p : Place) (ps : List Place) → Contains ps p → list_any (is_at p) (messages_at ps) ≡ true
 message_there p [] h = absurd (in_none p h)
 message_there p (q ∷ ps) h = any_of_placed (is_at p) queued_before (messages_at ps) _ ∙ elim (first_or_later p q ps h) [
@@ -270,7 +270,7 @@ message_there p (q ∷ ps) h = any_of_placed (is_at p) queued_before (messages_a
   | inr k ↦ or_right _ _ (message_there p ps k)
 ]
 
--- settling by marks can come to its end, where all run marks stand at the places of a list
+-- settling by marks has an end, if all run marks are at the places of a list
 pub settling_ends : (drivers : List DriverSpec) (m : MarkedConfiguration) (places : List Place)
     → IsSound drivers m.configuration → HasItsMarks drivers m → ((p : Place) → m.run p ≡ true → Contains places p)
     → CanSettleByMarks drivers m
@@ -278,15 +278,15 @@ settling_ends drivers m places sound h w = ends_within drivers (length m.configu
     (messages_at places) sound.ordered.flow h (settled_kept drivers m.configuration sound).settled
     (messages_in_order places) (λ p t. message_there p places (w p t))
 
--- ---- the least that is asked for
+-- ---- the fewest marks required
 
--- where the least marked place is movable, its move, with a run mark at what it woke, is one of settling by marks
+-- if the least marked place is movable, its move, with a run mark at the woken places, is a step of settling by marks
 pub least_move : (drivers : List DriverSpec) (p : Place) (m : MarkedConfiguration) → IsLeastMarked m.run p
     → is_movable drivers m.configuration p ≡ true → IsMovedOn drivers p m (marked_move drivers m p)
 least_move drivers p m l t =
     record { least = l; movable = t; moved = refl; marks = record { run = λ q _ k. k; wanted = λ q k. k } }
 
--- where the least marked place isn't movable, it is cleared: its run mark goes, and its next place is wanted
+-- if the least marked place isn't movable, it is cleared: its run mark is removed, and its next place is wanted
 pub least_clear : (drivers : List DriverSpec) (p : Place) (m : MarkedConfiguration) → IsLeastMarked m.run p
     → is_movable drivers m.configuration p ≡ false
     → IsCleared drivers p m
@@ -305,7 +305,7 @@ and_true b = grind arith
 and_false : (b : Bool) → (b && false) ≡ false
 and_false b = grind arith
 
--- to clear takes away the run mark of the least marked place, and no other
+-- clearing removes only the run mark of the least marked place
 pub one_mark : (drivers : List DriverSpec) (p : Place) (old new : MarkedConfiguration) → IsCleared drivers p old new
     → IsLeastMarked old.run p × (new.run p ≡ false) × ((q : Place) → same_place p q ≡ false → new.run q ≡ old.run q)
 one_mark drivers p old new k = (

@@ -1,4 +1,4 @@
--- What is in a list after an insertion or a filter.
+-- The elements of a list after an insertion or a filter.
 use Rattle.std.proofs.Common.{◌≡◌, ◌⊎◌, ℕ, zero, suc, ◌<◌, Bool, true, false, ◌||◌, not, arith, List, [], ◌∷◌, length}
 use Rattle.std.proofs.Common.{get_or, filter, refl, sym, ap, ◌∙◌, subst, inl, inr}
 use Rattle.std.specs.List.{All, Contains, list_all, list_any}
@@ -12,11 +12,11 @@ use Rattle.smx_model.specs.Ordered.{with_inserted}
 pub is_first : {X : Type 0} (x : X) (xs : List X) → Contains (x ∷ xs) x
 is_first x xs = (0, omega arith, refl)
 
--- what is in a list is in it with one more element in front
+-- an element of a list is in it with one more at the front
 pub is_later : {X : Type 0} (x y : X) (ys : List X) → Contains ys x → Contains (y ∷ ys) x
 is_later x y ys h = let lt = h.1 in (suc h.0, omega arith, h.2)
 
--- what is in a list is its first element, or is among the others
+-- an element of a list is the first one, or is among the others
 pub first_or_later : {X : Type 0} (x y : X) (ys : List X) → Contains (y ∷ ys) x → (y ≡ x) ⊎ Contains ys x
 first_or_later x y ys h = by h.0 h.1 h.2 where
   by : (k : ℕ) → k < length (y ∷ ys) → get_or (y ∷ ys) k x ≡ x → (y ≡ x) ⊎ Contains ys x
@@ -27,7 +27,7 @@ first_or_later x y ys h = by h.0 h.1 h.2 where
 pub in_none : {X : Type 0} (x : X) → Contains [] x → ⊥
 in_none x h = let lt = h.1 in omega arith
 
--- what is in a list and passes a test is left by a filter
+-- an element that passes a test is still there after a filter by it
 pub in_filtered : {X : Type 0} (test : X → Bool) (xs : List X) (x : X) → Contains xs x → test x ≡ true
     → Contains (filter test xs) x
 in_filtered test [] x h t = absurd (in_none x h)
@@ -40,23 +40,23 @@ in_filtered test (y ∷ ys) x h t = elim (first_or_later x y ys h) [
   ]
 ]
 
--- what a filter leaves was in the list
+-- an element that a filter keeps was in the list
 pub of_filtered : {X : Type 0} (test : X → Bool) (xs : List X) (x : X) → Contains (filter test xs) x → Contains xs x
 of_filtered test xs x h =
     All-contains (Contains xs) (filter test xs) x (All-filter test (Contains xs) xs (All-contains_itself xs)) h
 
--- what a filter leaves passes the test
+-- an element that a filter keeps passes the test
 pub filtered_passes : {X : Type 0} (test : X → Bool) (xs : List X) (x : X) → Contains (filter test xs) x → test x ≡ true
 filtered_passes test xs x h = All-contains (λ y. test y ≡ true) (filter test xs) x (filter_passes test xs) h
 
--- what is in a list all of whose elements pass, passes
+-- if all elements of a list pass a test, an element of it passes
 pub in_all : {X : Type 0} (test : X → Bool) (xs : List X) (x : X) → list_all test xs ≡ true → Contains xs x
     → test x ≡ true
 in_all test [] x e h = absurd (in_none x h)
 in_all test (y ∷ ys) x e h = let p = and_parts (test y) (list_all test ys) e in
     elim (first_or_later x y ys h) [ inl same ↦ ap test (sym same) ∙ p.0 | inr k ↦ in_all test ys x p.1 k ]
 
--- what is in a list is in it with one more inserted
+-- an element of a list is in it after one more is inserted
 pub in_placed : {X : Type 0} (before : X → X → Bool) (xs : List X) (x y : X) → Contains xs x
     → Contains (with_inserted before xs y) x
 in_placed before [] x y h = absurd (in_none x h)
@@ -70,18 +70,18 @@ in_placed before (z ∷ zs) x y h = elim (cases_Bool (before y z)) [
       ])
 ]
 
--- what holds of all that is in a list holds of each element by index
+-- a property of everything in a list holds of each element by index
 pub all_in : {X : Type 0} (P : X → Type 0) (xs : List X) → ((x : X) → Contains xs x → P x) → All P xs
 all_in P xs f k d lt = f (get_or xs k d) (Contains-get_or xs k d lt)
 
--- where no element of a list passes a test, what is in it doesn't
+-- if no element of a list passes a test, an element of it does not
 pub none_in : {X : Type 0} (t : X → Bool) (xs : List X) → list_any t xs ≡ false → (x : X) → Contains xs x → t x ≡ false
 none_in t xs e x h = not-true (t x) (in_all (λ y. not (t y)) xs x (all_not xs e) h) where
   all_not : (ys : List _) → list_any t ys ≡ false → list_all (λ y. not (t y)) ys ≡ true
   all_not [] e = refl
   all_not (y ∷ ys) e = let p = or_parts (t y) (list_any t ys) e in rw p.0 (all_not ys p.1)
 
--- where some element that a filter leaves passes a test, some element of the list does
+-- if some element that a filter keeps passes a test, some element of the list does
 pub any_filtered : {X : Type 0} (t keep : X → Bool) (xs : List X) → list_any t (filter keep xs) ≡ true
     → list_any t xs ≡ true
 any_filtered t keep [] h = h

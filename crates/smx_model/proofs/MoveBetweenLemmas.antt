@@ -1,4 +1,4 @@
--- What a move from one place to another changes, and that an empty place which is passed stays as it was.
+-- The effect of a move from one place to another; an empty place that a message passes doesn't change.
 use Rattle.std.proofs.Common.{◌≡◌, ℕ, Bool, true, false, ◌&&◌, not, List, [], ◌∷◌}
 use Rattle.std.proofs.Common.{length, filter, drop, Option, Some, None, refl, sym, ap, ◌∙◌, subst, arith}
 use Rattle.std.proofs.Common.{inl, inr}
@@ -32,15 +32,15 @@ use Rattle.smx_model.proofs.FeederLemmas.{arrived_more, left_keeps}
 use Rattle.smx_model.proofs.WaitingLemmas.{first_arrived, first_left, next_of_same}
 use Rattle.smx_model.proofs.EachLemmas.{later_without_first}
 
--- ---- what a move leaves, and where its message is
+-- ---- the result of a move, and the place of its message
 
--- after a move to any place the first message has left the one place, and has arrived at the other
+-- after a move the first message has left the one place, and has arrived at the other
 pub moved_is : (drivers : List DriverSpec) (c : Configuration) (p q : Place) (m : Message)
     → first_message c.flow p ≡ Some m
     → after_move_between drivers c p q ≡ after_arrival drivers (after_leaving drivers c p) q m
 moved_is drivers c p q m e = ap (after_move_to drivers c p (Some q)) e
 
--- a queue whose first message isn't there is empty
+-- a queue without a first message is empty
 no_first : (ms : List Message) → slice_get ms 0 ≡ None → ms ≡ []
 no_first [] e = refl
 no_first (m ∷ ms) e = cc
@@ -55,8 +55,8 @@ dropped_one [] e = absurd (omega (arith, e))
 dropped_one (m ∷ []) e = refl
 dropped_one (m ∷ n ∷ ms) e = absurd (omega (arith, e))
 
--- a move changes the first message of no place but the one that it takes from, and the one that it goes to if that was
--- empty
+-- a move changes only the first message of the place that the message leaves, and that of the place that it goes to
+-- if that was empty
 other_first : (drivers : List DriverSpec) (c : Configuration) (p q r : Place) (m : Message) → IsInOrder c.flow
     → first_message c.flow p ≡ Some m → same_place p r ≡ false
     → (same_place q r ≡ true → first_message c.flow q ≢ None)
@@ -76,7 +76,7 @@ other_first drivers c p q r m o e apart some = rw (moved_is drivers c p q m e)
           (sym (first_left c.flow p q
           (subst (λ (x : Place). same_place p x ≡ false) (sym (same_place_is q r t)) apart)) ∙ none)))
 
--- a message that comes to an empty place is the first one there
+-- a message that moves to an empty place is the first one there
 pub first_there : (drivers : List DriverSpec) (c : Configuration) (p q : Place) (m : Message) → IsInOrder c.flow
     → first_message c.flow p ≡ Some m → same_place p q ≡ false → first_message c.flow q ≡ None
     → first_message (after_move_between drivers c p q).flow q ≡ Some m
@@ -102,7 +102,7 @@ none_there drivers c p q m o e apart one = rw (moved_is drivers c p q m e)
       gone = arrived_queue (after_leaving drivers c p).flow q p m (later_without_first _ (is_at p) c.flow o)
           ∙ rw (apart, left_queue c.flow p p, same_self p, dropped_one (queue c.flow p) one) refl
 
--- a full place stays full, where the one that is left is not full
+-- a full place stays full, if the place that the message leaves is not full
 pub full_stays : (drivers : List DriverSpec) (c : Configuration) (p q r : Place) (m : Message)
     → first_message c.flow p ≡ Some m → is_full c p ≡ false → is_full c r ≡ true
     → is_full (after_move_between drivers c p q) r ≡ true
@@ -113,8 +113,8 @@ full_stays drivers c p q r m e room full = rw (moved_is drivers c p q m e)
 
 -- ---- where first messages go next
 
--- a move changes no first message's next place but that of the place that it takes from, and that of the one that it
--- goes to if that was empty
+-- a move changes only the next place of the first message at the place that the message leaves, and at the place that
+-- it goes to if that was empty
 pub other_next : (drivers : List DriverSpec) (c : Configuration) (p q r : Place) (m : Message) → IsInOrder c.flow
     → first_message c.flow p ≡ Some m → same_place p r ≡ false
     → (same_place q r ≡ true → first_message c.flow q ≢ None)
@@ -130,7 +130,7 @@ pub left_next : (drivers : List DriverSpec) (c : Configuration) (p q : Place) (m
 left_next drivers c p q m o e apart one = ap (next_of drivers (after_move_between drivers c p q) p)
     (none_there drivers c p q m o e (not_same_turned p q apart) one)
 
--- where a message of an address goes next from a place is not changed by moves
+-- moves don't change the next place of a message from a place, by its address
 same_next : (drivers : List DriverSpec) (c : Configuration) (p q r : Place) (m : Message) (addr : ℕ)
     → first_message c.flow p ≡ Some m
     → next_place drivers (after_move_between drivers c p q) r addr ≡ next_place drivers c r addr
@@ -140,7 +140,7 @@ same_next drivers c p q r m addr e = rw (moved_is drivers c p q m e) (by r.side 
   by side.Write h = rw h refl
   by side.Read h = rw h refl
 
--- an empty place that a message comes to has for its next place the one for that message
+-- after a message moves to an empty place, the next place of that place is the one for that message
 pub first_next : (drivers : List DriverSpec) (c : Configuration) (p q : Place) (m : Message) → IsInOrder c.flow
     → first_message c.flow p ≡ Some m → same_place p q ≡ false → first_message c.flow q ≡ None
     → next_of_first drivers (after_move_between drivers c p q) q ≡ next_place drivers c q m.addr
@@ -148,9 +148,9 @@ first_next drivers c p q m o e apart none =
     ap (next_of drivers (after_move_between drivers c p q) q) (first_there drivers c p q m o e apart none)
     ∙ same_next drivers c p q q m m.addr e
 
--- ---- an empty place that is passed stays as it was
+-- ---- an empty place that a message passes doesn't change
 
--- of a flow without a message at the place, what is put there can be taken again
+-- a message put at a place without messages can be taken again, leaving the flow as before
 taken_again : (flow : List QueuedMessage) (q : Place) (m : Message) → first_message flow q ≡ None
     → without_first (is_at q) (with_inserted queued_before flow (record { place = q; message = m })) ≡ flow
 taken_again [] q m none = rw (same_self q) refl
@@ -162,7 +162,7 @@ taken_again (k ∷ ks) q m none = elim (cases_Bool (is_at q k)) [
   ]
 ]
 
--- places among which this one is not are as they were without it
+-- removing a place that is not in the list leaves the list unchanged
 without_other : (q : Place) (ps : List Place) → list_any (same_place q) ps ≡ false
     → filter (λ r. not (same_place q r)) ps ≡ ps
 without_other q [] none = refl
@@ -171,7 +171,7 @@ without_other q (p ∷ ps) none = elim (cases_Bool (same_place q p)) [
   | inr f ↦ rw f (ap (λ (rs : List Place). p ∷ rs) (without_other q ps (rw f at none)))
 ]
 
--- a place that is inserted where it was not, and taken away, leaves the others as they were
+-- inserting a place that was not in the list, and removing it again, leaves the others unchanged
 inserted_goes : (q : Place) (ps : List Place) → list_any (same_place q) ps ≡ false
     → filter (λ r. not (same_place q r)) (with_inserted place_before ps q) ≡ ps
 inserted_goes q [] none = rw (same_self q) refl
@@ -183,7 +183,7 @@ inserted_goes q (p ∷ ps) none = elim (cases_Bool (same_place q p)) [
   ]
 ]
 
--- the mark of a place that was not full, set or not and then taken away, leaves the others as they were
+-- setting or not setting the mark of a place that was not full, and clearing it again, leaves the others unchanged
 unmarked_again : (q : Place) (full : Bool) (ps : List Place) → list_any (same_place q) ps ≡ false
     → with_mark q false (with_mark q full ps) ≡ ps
 unmarked_again q true ps none = ap
@@ -197,7 +197,7 @@ unmarked_again q false ps none =
 none_below : (n : ℕ) → nat_lt n 0 ≡ false
 none_below n = grind (arith, nat_tests)
 
--- a message that comes to an empty place, which is not full, and leaves it again changes nothing
+-- a message that comes to an empty place that is not full, and leaves it again, changes nothing
 pub passed : (drivers : List DriverSpec) (x : Configuration) (q : Place) (m : Message) → first_message x.flow q ≡ None
     → is_full x q ≡ false → after_leaving drivers (after_arrival drivers x q m) q ≡ x
 passed drivers x q m none room = rw (taken_again x.flow q m none, empty, unmarked) refl where

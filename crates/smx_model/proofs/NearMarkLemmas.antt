@@ -1,4 +1,4 @@
--- Marks that are enough after a change.
+-- Marks that suffice after a change.
 use Rattle.std.proofs.Common.{◌≡◌, Bool, true, false, ◌&&◌, List, Option, Some, None, refl, sym, ap, ◌∙◌, subst, inl}
 use Rattle.std.proofs.Common.{inr}
 use Rattle.std.specs.Prelude.{◌≢◌}
@@ -19,13 +19,13 @@ use Rattle.smx_model.proofs.SettlingLemmas.{same_place_is}
 use Rattle.smx_model.proofs.TurningCommandLemmas.{keyed}
 use Rattle.smx_model.proofs.FeederLemmas.{feeders}
 
--- what feeds a freed place had a run mark, was turned, or may wait for it
+-- each place that feeds a freed place had a run mark, was turned, or may wait for it
 abbrev WaitsNear : List DriverSpec → (Place → Bool) → (Place → Place → Bool) → MarkedConfiguration → MarkedConfiguration
     → Type 0
 WaitsNear drivers turned may_wait old new = (p q : Place) → old.run p ≡ false → turned p ≡ false
     → next_of_first drivers new.configuration p ≡ Some q → may_wait q p ≡ true
 
--- marks near what a change turned and freed are enough, where all that feeds a freed place may wait for it
+-- marks near the turned and freed places suffice, if all places that feed a freed place may wait for it
 near_is_enough : (drivers : List DriverSpec) (turned freed : Place → Bool) (may_wait : Place → Place → Bool)
     (old new : MarkedConfiguration) → WaitsNear drivers turned may_wait old new
     → FreesOnly old.configuration new.configuration freed
@@ -49,9 +49,9 @@ near_is_enough drivers turned freed may_wait old new waits frees m = record { ru
     ]
   ]
 
--- what can feed a place
+-- the places that can feed a place
 
--- run marks at what a change turned, and at all that can feed what it freed, are enough
+-- run marks at the turned places, and at all places that can feed the freed places, suffice
 pub feeders_enough : (drivers : List DriverSpec) (turned freed : Place → Bool) (old new : MarkedConfiguration)
     → IsSound drivers new.configuration → FreesOnly old.configuration new.configuration freed
     → IsMarkedNear turned freed (can_feed new.configuration) old new → IsMarkedAfter drivers turned old new
@@ -60,9 +60,9 @@ feeders_enough drivers turned freed old new sound frees m =
     (λ p q r t e. feeders drivers new.configuration q p sound.routes (keyed drivers new.configuration sound)
     (ap (is_one_of (same_place q)) e ∙ same_self q)) frees m
 
--- what is known to wait for a place
+-- the places known to wait for a place
 
--- of a place that had no run mark and wasn't turned, it was known before where its first message goes next
+-- for a place that had no run mark and wasn't turned, the next place of its first message was known before
 known_before : (drivers : List DriverSpec) (turned : Place → Bool) (awaited : Place → Option Place)
     (old new : MarkedConfiguration) → TurnsOnly drivers old.configuration new.configuration turned
     → AreAwaitedKnown drivers old awaited
@@ -74,7 +74,7 @@ known_before drivers turned awaited old new turns known p q r t e = by (turns p 
   by (inl same) = known p q r (sym same ∙ e)
   by (inr none) = let k : None ≡ Some q = sym none ∙ e in absurd (cc)
 
--- run marks at what a change turned, and at all that is known to wait for what it freed, are enough
+-- run marks at the turned places, and at all places known to wait for the freed places, suffice
 pub waiters_enough : (drivers : List DriverSpec) (turned freed : Place → Bool) (awaited : Place → Option Place)
     (old new : MarkedConfiguration) → TurnsOnly drivers old.configuration new.configuration turned
     → FreesOnly old.configuration new.configuration freed
@@ -85,12 +85,12 @@ waiters_enough drivers turned freed awaited old new turns frees known m =
     (λ p q r t e. ap (is_one_of (same_place q)) (known_before drivers turned awaited old new turns known p q r t e)
     ∙ same_self q) frees m
 
--- a place from which something goes next has a first message
+-- a place whose first message has a next place has a first message
 has_first : (drivers : List DriverSpec) (m : MarkedConfiguration) (p q : Place)
     → next_of_first drivers m.configuration p ≡ Some q → first_message m.configuration.flow p ≢ None
 has_first drivers m p q e none = let k : None ≡ Some q = sym (ap (next_of drivers m.configuration p) none) ∙ e in cc
 
--- after a change with such marks it is still known for which place each place without a run mark waits
+-- after a change with such marks the place that each place without a run mark waits for is still known
 pub known_still : (drivers : List DriverSpec) (turned freed : Place → Bool) (awaited : Place → Option Place)
     (old new : MarkedConfiguration) → TurnsOnly drivers old.configuration new.configuration turned
     → AreAwaitedKnown drivers old awaited → IsMarkedNear turned freed (awaits awaited) old new
@@ -102,7 +102,7 @@ known_still drivers turned freed awaited old new turns known m p q f e =
     (false_from_ne_true _ (λ k. both_ways (new.run p) f (m.turned_ones p some k)))
     e
 
--- after a mark is cleared it is known for which place each waits, if that of the cleared one is noted
+-- after a mark is cleared the place that each place waits for is known, if that of the cleared one is noted
 pub cleared_known : (drivers : List DriverSpec) (p : Place) (old new : MarkedConfiguration)
     (awaited known : Place → Option Place) → AreAwaitedKnown drivers old awaited → IsCleared drivers p old new
     → known p ≡ next_of_first drivers old.configuration p → ((r : Place) → same_place p r ≡ false → known r ≡ awaited r)
@@ -120,12 +120,12 @@ cleared_known drivers p old new awaited known before k here others r q f e = eli
   unmarked true h = h
   unmarked false h = refl
 
--- in the empty configuration it need not be known for which place any waits
+-- in the empty configuration nothing needs to be known
 pub none_known : (drivers : List DriverSpec) (awaited : Place → Option Place)
     → AreAwaitedKnown drivers (record { configuration = empty; run = nowhere; wanted = nowhere }) awaited
 none_known drivers awaited p q f e = let k : None ≡ Some q = e in absurd (cc)
 
--- marks at what had one, at what was turned and at what is known to wait for a freed wanted place are near enough
+-- marks at places that had one, that were turned, or that are known to wait for a freed wanted place, suffice
 pub least_near : (turned freed : Place → Bool) (awaited : Place → Option Place) (old : MarkedConfiguration)
     (c : Configuration) → IsMarkedNear turned freed (awaits awaited) old (record {
       configuration = c;

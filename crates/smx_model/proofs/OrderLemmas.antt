@@ -1,4 +1,4 @@
--- A flow in order is what its queues are.
+-- The queues of a flow in order determine it.
 use Rattle.std.proofs.Common.{◌≡◌, true, false, List, [], ◌∷◌, ◌++◌, refl, sym}
 use Rattle.std.proofs.Common.{ap, ◌∙◌, subst, arith, inl, inr}
 use Rattle.std.specs.List.{AllByRecursion}
@@ -16,15 +16,15 @@ use Rattle.smx_model.proofs.EachLemmas.{each_of_every, later_placed, later_witho
 use Rattle.smx_model.proofs.SettledLemmas.{moved_by}
 use Rattle.smx_model.proofs.SettlingLemmas.{same_place_is}
 
--- of two places that differ, one comes before the other
+-- of two different places, one comes before the other
 pub place_either : (p q : Place) → same_place p q ≡ false → place_before p q ≡ false → place_before q p ≡ true
 place_either p q h k = grind (arith, nat_tests)
 
--- where a place comes before another, one that doesn't come before that other isn't the first
+-- if p comes before q, and r doesn't come before q, r differs from p
 place_differs : (p q r : Place) → place_before p q ≡ true → place_before r q ≡ false → same_place r p ≡ false
 place_differs p q r h k = grind (arith, nat_tests)
 
--- where a place comes before another, one that doesn't come before that other doesn't come before the first
+-- if p comes before q, and r doesn't come before q, r doesn't come before p
 place_not_before : (p q r : Place) → place_before p q ≡ true → place_before r q ≡ false → place_before r p ≡ false
 place_not_before p q r h k = grind (arith, nat_tests)
 
@@ -57,22 +57,22 @@ same_not_before p = grind (arith, nat_tests)
 abbrev queued_at : Place → Message → QueuedMessage
 queued_at p m = record { place = p; message = m }
 
--- a list with a first message isn't empty
+-- a list with a first message is not empty
 not_empty : (m : Message) (ms : List Message) → m ∷ ms ≡ [] → ⊥
 not_empty m ms e = cc
 
 -- order is kept
 
--- a flow in order stays so when a message is inserted by its place
+-- a flow in order stays in order after a message is inserted by its place
 pub order_placed : (hs : List QueuedMessage) (h : QueuedMessage) → IsInOrder hs
     → IsInOrder (with_inserted queued_before hs h)
 order_placed hs h o = later_placed (λ k j. queued_before j k ≡ false) queued_before h
     (λ k t. place_not_after h.place k.place t) (λ k j t n. place_not_before h.place k.place j.place t n) hs
     (each_of_every (λ k. queued_before h k ≡ false → queued_before h k ≡ false) hs (λ k f. f)) o
 
--- what arrives goes to the end of its queue, and no other changes
+-- an arriving message goes to the end of its queue, and no other queue changes
 
--- nothing is queued at a place that comes before the first place of a flow in order
+-- nothing is queued at a place before the first place of a flow in order
 none_queued : (h : QueuedMessage) (hs : List QueuedMessage) (k : QueuedMessage) → queued_before h k ≡ true
     → AllByRecursion (λ j. queued_before j k ≡ false) hs → queue hs h.place ≡ []
 none_queued h [] k lt n = refl
@@ -92,7 +92,7 @@ queue_placed (k ∷ hs) h o = elim (cases_Bool (queued_before h k)) [
   ]
 ]
 
--- a message that is inserted by its place leaves each other queue as it was
+-- a message that is inserted by its place leaves each other queue unchanged
 pub queue_elsewhere : (hs : List QueuedMessage) (h : QueuedMessage) (q : Place) → same_place h.place q ≡ false
     → queue (with_inserted queued_before hs h) q ≡ queue hs q
 queue_elsewhere [] h q apart_ = rw apart_ refl
@@ -106,15 +106,15 @@ queue_elsewhere (k ∷ hs) h q apart_ = elim (cases_Bool (queued_before h k)) [
 
 -- one flow for given queues
 
--- where two lists of messages are the same, they are so without their first messages
+-- if two lists of messages are equal, they are equal without their first messages
 same_tails : (m n : Message) (xs ys : List Message) → m ∷ xs ≡ n ∷ ys → xs ≡ ys
 same_tails m n xs ys e = cc
 
--- two queued messages with the same place and the same message are the same
+-- two queued messages with the same place and the same message are equal
 queued_is : (h k : QueuedMessage) → h.place ≡ k.place → h.message ≡ k.message → h ≡ k
 queued_is h k e f = ap (λ (p : Place). queued_at p h.message) e ∙ ap (queued_at k.place) f
 
--- two flows in order that have the same queue at each place are the same
+-- two flows in order with the same queue at each place are equal
 pub one_flow : (xs ys : List QueuedMessage) → IsInOrder xs → IsInOrder ys → ((p : Place) → queue xs p ≡ queue ys p)
     → xs ≡ ys
 one_flow [] [] o u same = refl

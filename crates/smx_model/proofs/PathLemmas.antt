@@ -13,35 +13,35 @@ use Rattle.smx_model.proofs.MemberLemmas.{is_first, is_later}
 abbrev comes : List Link → ℕ → ℕ → Bool
 comes links a b = eqb a b || reaches links a b
 
--- links that lead from driver a to driver b, or none where they are the same
+-- links that lead from driver a to driver b; none if the drivers are the same
 record Walk (links : List Link) (a b : ℕ) : Type 0 where
   path : List Link
   leads : IsPath links a path b
 
--- links that lead from driver a to b, and others that lead from b to c, together lead from a to c
+-- links from driver a to b followed by links from b to c lead from a to c
 walk_join : (links : List Link) (a : ℕ) (p : List Link) (b : ℕ) (q : List Link) (c : ℕ) → IsPath links a p b
     → IsPath links b q c → IsPath links a (p ++ q) c
 walk_join links a [] b q c h k = subst (λ (x : ℕ). IsPath links x q c) (sym h) k
 walk_join links a (l ∷ p) b q c h k = (h.0, h.1, walk_join links l.lower.driver p b q c h.2 k)
 
--- links that lead over some links lead so over any list that has them all
+-- links that lead over some links also lead over any list that contains all of these
 walk_more : (xs ys : List Link) → ((l : Link) → Contains xs l → Contains ys l) → (a : ℕ) (p : List Link) (b : ℕ)
     → IsPath xs a p b → IsPath ys a p b
 walk_more xs ys more a [] b h = h
 walk_more xs ys more a (l ∷ p) b h = (more l h.0, h.1, walk_more xs ys more l.lower.driver p b h.2)
 
--- a path over some links is one over any list that has them all
+-- a path over some links is a path over any list that contains all of these
 pub path_more : (xs ys : List Link) → ((l : Link) → Contains xs l → Contains ys l) → (a b : ℕ) → Path xs a b
     → Path ys a b
 path_more xs ys more a b h = record { path = h.path; some = h.some; leads = walk_more xs ys more a h.path b h.leads }
 
--- where driver a is driver b, or reaches it, links lead from a to b
+-- if driver a is driver b, or reaches it, links lead from a to b
 comes_walk : (links : List Link) (a b : ℕ) → (reaches links a b ≡ true → Path links a b) → comes links a b ≡ true
     → Walk links a b
 comes_walk links a b f h = elim (or_cases (eqb a b) (reaches links a b) h)
     [ inl e ↦ record { path = []; leads = eqb-true a b e } | inr r ↦ record { path = (f r).path; leads = (f r).leads } ]
 
--- links to the upper driver of a link, the link, and links from its lower driver make a path
+-- links to the upper driver of a link, the link, and links from its lower driver form a path
 path_over : (l : Link) (ls : List Link) (a b : ℕ) → Walk ls a l.ctl.driver → Walk ls l.lower.driver b
     → Path (l ∷ ls) a b
 path_over l ls a b h k = record {
@@ -52,7 +52,7 @@ path_over l ls a b h k = record {
       (is_first l ls, refl, walk_more ls (l ∷ ls) (λ k. is_later k l ls) l.lower.driver k.path b k.leads);
 }
 
--- where the test says that a driver reaches another, a path leads from it to that
+-- if the test says that one driver reaches another, a path leads from the first to the second
 pub reaches_path : (links : List Link) (a b : ℕ) → reaches links a b ≡ true → Path links a b
 reaches_path [] a b h = absurd (false≢true h)
 reaches_path (l ∷ ls) a b h = elim (or_cases (reaches ls a b) _ h) [
@@ -62,21 +62,21 @@ reaches_path (l ∷ ls) a b h = elim (or_cases (reaches ls a b) _ h) [
       (comes_walk ls l.lower.driver b (reaches_path ls l.lower.driver b) v.1)
 ]
 
--- a driver that reaches another reaches what that one is or reaches
+-- a driver that reaches a second one reaches every driver that the second is or reaches
 reaches_comes : (links : List Link) (a b c : ℕ)
     → ((x y z : ℕ) → reaches links x y ≡ true → reaches links y z ≡ true → reaches links x z ≡ true)
     → reaches links a b ≡ true → comes links b c ≡ true → reaches links a c ≡ true
 reaches_comes links a b c trans h k = elim (or_cases (eqb b c) (reaches links b c) k)
     [ inl e ↦ subst (λ (x : ℕ). reaches links a x ≡ true) (eqb-true b c e) h | inr r ↦ trans a b c h r ]
 
--- a driver that is another, or reaches it, reaches what that one reaches
+-- a driver that is or reaches a second one reaches every driver that the second reaches
 comes_reaches : (links : List Link) (a b c : ℕ)
     → ((x y z : ℕ) → reaches links x y ≡ true → reaches links y z ≡ true → reaches links x z ≡ true)
     → comes links a b ≡ true → reaches links b c ≡ true → reaches links a c ≡ true
 comes_reaches links a b c trans h k = elim (or_cases (eqb a b) (reaches links a b) h)
     [ inl e ↦ subst (λ (x : ℕ). reaches links x c ≡ true) (sym (eqb-true a b e)) k | inr r ↦ trans a b c r k ]
 
--- a driver that reaches another reaches all that this one reaches
+-- a driver that reaches a second one reaches every driver that the second reaches
 pub reaches_trans : (links : List Link) (a b c : ℕ) → reaches links a b ≡ true → reaches links b c ≡ true
     → reaches links a c ≡ true
 reaches_trans [] a b c h k = h
@@ -106,7 +106,7 @@ reaches_at (m ∷ ls) zero l lt e = subst (λ (x : Link). reaches (x ∷ ls) l.c
     (or_left _ _ (eq-eqb l.lower.driver l.lower.driver refl))))
 reaches_at (m ∷ ls) (suc k) l lt e = or_left _ _ (reaches_at ls k l (omega arith) e)
 
--- where links that begin with one lead from a driver to another, the test says that it reaches that
+-- if links that begin with a given one lead from one driver to another, the test says that it reaches the other
 walk_reaches : (links : List Link) (a : ℕ) (l : Link) (p : List Link) (b : ℕ) → IsPath links a (l ∷ p) b
     → reaches links a b ≡ true
 walk_reaches links a l [] b h = subst (λ (x : ℕ). reaches links x b ≡ true) h.1
@@ -115,22 +115,23 @@ walk_reaches links a l (m ∷ p) b h = subst (λ (x : ℕ). reaches links x b �
     (reaches_trans links l.ctl.driver l.lower.driver b (reaches_at links h.0.0 l h.0.1 h.0.2)
     (walk_reaches links l.lower.driver m p b h.2))
 
--- where a nonempty list of links leads from a driver to another, the test says that it reaches that
+-- if a nonempty list of links leads from one driver to another, the test says that it reaches the other
 nonempty_reaches : (links : List Link) (a : ℕ) (p : List Link) (b : ℕ) → 0 < length p → IsPath links a p b
     → reaches links a b ≡ true
 nonempty_reaches links a [] b some h = absurd (omega arith)
 nonempty_reaches links a (l ∷ p) b some h = walk_reaches links a l p b h
 
--- where a path leads from a driver to another, the test says that it reaches that
+-- if a path leads from one driver to another, the test says that it reaches the other
 pub path_reaches : (links : List Link) (a b : ℕ) → Path links a b → reaches links a b ≡ true
 path_reaches links a b h = nonempty_reaches links a h.path b h.some h.leads
 
--- what is among some links with one more at the end is among them with that one at the head
+-- an element of links with one more at the end is one of them with that one at the head
 end_to_head : (ls : List Link) (l k : Link) → Contains (ls ++ l ∷ []) k → Contains (l ∷ ls) k
 end_to_head ls l k h = elim (Contains-append_cases ls (l ∷ []) k h)
     [ inl c ↦ is_later k l ls c | inr c ↦ Contains-append_left (l ∷ []) ls k c ]
 
--- links without a cycle have none with one more, where its lower driver is not its upper one and doesn't reach it
+-- links without a cycle have none with one more link, if its drivers differ and its lower one doesn't reach
+-- its upper one
 pub no_cycle_push : (ls : List Link) (l : Link) → HasNoCycle ls → comes ls l.lower.driver l.ctl.driver ≡ false
     → HasNoCycle (ls ++ l ∷ [])
 no_cycle_push ls l none back d h =
@@ -147,7 +148,7 @@ no_cycle_push ls l none back d h =
         | inr r ↦ or_right _ _ (reaches_comes links a b c (reaches_trans links) r k)
       ]
 
--- links that are all among links without a cycle have none either
+-- links that are all among links without a cycle have no cycle either
 pub no_cycle_fewer : (xs ys : List Link) → ((l : Link) → Contains ys l → Contains xs l) → HasNoCycle xs → HasNoCycle ys
 no_cycle_fewer xs ys less none d h = none d (path_more ys xs less d d h)
 
@@ -160,12 +161,12 @@ reaches_link (m ∷ ls) test l e = elim (cases_Bool (test m)) [
   | inr f ↦ or_left _ _ (reaches_link ls test l (rw f at e))
 ]
 
--- what is among some links with one more at the head is among them with that one at the end
+-- an element of links with one more at the head is one of them with that one at the end
 head_to_end : (ls : List Link) (l k : Link) → Contains (l ∷ ls) k → Contains (ls ++ l ∷ []) k
 head_to_end ls l k h = elim (Contains-append_cases (l ∷ []) ls k h)
     [ inl c ↦ Contains-append_right ls (l ∷ []) k c | inr c ↦ Contains-append_left ls (l ∷ []) k c ]
 
--- what is reached over links is the same with one more at the end or at the head
+-- paths are the same with one more link at the end or at the head
 pub reaches_push : (links : List Link) (l : Link) (a b : ℕ) → reaches (links ++ l ∷ []) a b ≡ reaches (l ∷ links) a b
 reaches_push links l a b = elim (cases_Bool (reaches (l ∷ links) a b)) [
   | inl t ↦ path_reaches (links ++ l ∷ []) a b

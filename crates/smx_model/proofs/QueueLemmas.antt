@@ -1,4 +1,4 @@
--- How single queues and full marks change, which place is the least movable one, and which serials are dropped.
+-- Changes of single queues and full marks, the least movable place, and the dropped serials.
 use Rattle.std.proofs.Common.{◌≡◌, ℕ, Bool, true, false, ◌||◌, not, cond, eqb, List, [], ◌∷◌, ◌++◌}
 use Rattle.std.proofs.Common.{filter, find, drop, Option, Some, None, refl, sym, ap, ◌∙◌, subst, inl}
 use Rattle.std.proofs.Common.{inr}
@@ -22,21 +22,21 @@ use Rattle.smx_model.proofs.TestLemmas.{find_passes, any_of_placed}
 use Rattle.std.specs.List.{AllByRecursion}
 use Rattle.smx_model.specs.Ordered.{AllLater}
 
--- where places are the same, either may stand for the other
+-- equal places have the same equalities with a third
 same_places : (p q r : Place) → same_place p q ≡ true → same_place p r ≡ same_place q r
 same_places p q r h = ap (λ (x : Place). same_place x r) (same_place_is p q h)
 
--- two places that are the same are so the other way round
+-- equality of places is symmetric
 same_turned : (p q : Place) → same_place p q ≡ true → same_place q p ≡ true
 same_turned p q h = subst (λ (x : Place). same_place x p ≡ true) (same_place_is p q h) (same_self p)
 
--- two places that differ do so the other way round
+-- inequality of places is symmetric
 pub not_same_turned : (p q : Place) → same_place p q ≡ false → same_place q p ≡ false
 not_same_turned p q h = false_from_ne_true _ (λ t. both_ways (same_place p q) h (same_turned q p t))
 
 -- a message arrives
 
--- an arrival puts its message at the end of the queue of its place, and leaves each other queue
+-- an arriving message goes to the end of the queue of its place, and each other queue is unchanged
 pub arrived_queue : (flow : List QueuedMessage) (p q : Place) (m : Message) → IsInOrder flow
     → queue (with_inserted queued_before flow (record { place = p; message = m })) q
     ≡ cond (same_place p q) (queue flow q ++ m ∷ []) (queue flow q)
@@ -49,7 +49,7 @@ arrived_queue flow p q m o = elim (cases_Bool (same_place p q)) [
 
 -- the first message leaves
 
--- a leaving takes the first message from the queue of its place, and leaves each other queue
+-- the first message leaves the queue of its place, and each other queue is unchanged
 pub left_queue : (flow : List QueuedMessage) (p q : Place)
     → queue (without_first (is_at p) flow) q ≡ cond (same_place p q) (drop 1 (queue flow q)) (queue flow q)
 left_queue [] p q = elim (cases_Bool (same_place p q)) [ inl t ↦ rw t refl | inr f ↦ rw f refl ]
@@ -76,7 +76,7 @@ front_is (k ∷ ks) p = elim (cases_Bool (is_at p k)) [ inl t ↦ rw t refl | in
 
 -- places are emptied
 
--- the queues of emptied places are empty, and each other queue is as it was
+-- the queues of emptied places are empty, and each other queue is unchanged
 pub emptied_queue : (flow : List QueuedMessage) (goes : Place → Bool) (q : Place)
     → queue (filter (λ h. not (goes h.place)) flow) q ≡ cond (goes q) [] (queue flow q)
 emptied_queue [] goes q = elim (cases_Bool (goes q)) [ inl t ↦ rw t refl | inr f ↦ rw f refl ]
@@ -95,7 +95,7 @@ emptied_queue (k ∷ ks) goes q = elim (cases_Bool (same_place k.place q)) [
 
 -- full marks
 
--- once the mark of a place is taken away that is not full, and each other place is as it was
+-- after the mark of a place is cleared that place is not full, and each other place is as full as before
 any_unmarked : (p q : Place) (ps : List Place) → list_any (same_place q) (filter (λ r. not (same_place p r)) ps)
     ≡ cond (same_place p q) false (list_any (same_place q) ps)
 any_unmarked p q [] = elim (cases_Bool (same_place p q)) [ inl t ↦ rw t refl | inr f ↦ rw f refl ]
@@ -113,7 +113,7 @@ any_unmarked p q (r ∷ rs) = let i = any_unmarked p q rs in elim (cases_Bool (s
       ]
 ]
 
--- a place whose mark is set or taken away is full or not by that, and each other one is as it was
+-- setting or clearing the mark of a place decides whether it is full, and each other place is as full as before
 pub marked_full : (p q : Place) (full : Bool) (ps : List Place)
     → list_any (same_place q) (with_mark p full ps) ≡ cond (same_place p q) full (list_any (same_place q) ps)
 marked_full p q true ps =
@@ -129,7 +129,7 @@ marked_full p q true ps =
       ]
 marked_full p q false ps = any_unmarked p q ps
 
--- emptied places are not full, and each other one is as full as it was
+-- emptied places are not full, and each other place is as full as before
 pub emptied_full : (ps : List Place) (goes : Place → Bool) (q : Place)
     → list_any (same_place q) (filter (λ p. not (goes p)) ps) ≡ cond (goes q) false (list_any (same_place q) ps)
 emptied_full [] goes q = elim (cases_Bool (goes q)) [ inl t ↦ rw t refl | inr f ↦ rw f refl ]
@@ -143,7 +143,7 @@ emptied_full (r ∷ rs) goes q = let i = emptied_full rs goes q in elim (cases_B
 
 -- the least movable place
 
--- where no message has a place before that of a given one, no place before that has a message
+-- if no message has a place before that of a given one, no place before that place has a message
 no_front_before : (k : QueuedMessage) (hs : List QueuedMessage) (q : Place)
     → AllByRecursion (λ j. queued_before j k ≡ false) hs
     → place_before q k.place ≡ true → first_message hs q ≡ None
@@ -155,8 +155,7 @@ no_front_before k (j ∷ hs) q n h = elim (cases_Bool (is_at q j)) [
   | inr f ↦ rw f (no_front_before k hs q n.1 h)
 ]
 
--- where a message is the first of a flow in order whose place passes a test, no place before its own that has a message
--- passes
+-- if a message is the first of a flow in order whose place passes a test, no place with a message before its own passes
 first_is_least : (t : Place → Bool) (hs : List QueuedMessage) (h : QueuedMessage) (q : Place) (m : Message)
     → IsInOrder hs → find (λ h. t h.place) hs ≡ Some h → place_before q h.place ≡ true → first_message hs q ≡ Some m
     → t q ≡ false
@@ -200,7 +199,7 @@ least_is drivers c o = by (least_movable drivers c) refl where
 
 -- the serials that are dropped
 
--- a serial that differs from all is not kept
+-- a serial that differs from all kept ones is not kept
 not_kept : (n : ℕ) (keep : QueuedMessage → Bool) (hs : List QueuedMessage)
     → AllByRecursion (λ m. eqb n m ≡ false) (serials hs)
     → list_any (λ m. eqb n m) (serials (filter keep hs)) ≡ false
@@ -208,11 +207,11 @@ not_kept n keep [] h = refl
 not_kept n keep (k ∷ ks) h =
     elim (cases_Bool (keep k)) [ inl t ↦ rw (t, h.0) (not_kept n keep ks h.1) | inr f ↦ rw f (not_kept n keep ks h.1) ]
 
--- two numbers that differ do so the other way round
+-- inequality of numbers is symmetric
 turned_eqb : (m n : ℕ) → eqb m n ≡ false → eqb n m ≡ false
 turned_eqb m n h = false_from_ne_true _ (λ t. both_ways (eqb m n) h (eq-eqb m n (sym (eqb-true n m t))))
 
--- a serial is kept exactly where its message is
+-- a serial is kept exactly if its message is
 kept_or_not : (keep : QueuedMessage → Bool) (hs : List QueuedMessage) → AllLater (λ m n. eqb m n ≡ false) (serials hs)
     → AllByRecursion (λ h. list_any (λ m. eqb h.message.serial m) (serials (filter keep hs)) ≡ keep h) hs
 kept_or_not keep [] a = tt
@@ -233,8 +232,8 @@ kept_or_not keep (k ∷ ks) a = elim (cases_Bool (keep k)) [
   rest_not f [] e = tt
   rest_not f (h ∷ hs) e = (rw f e.0, rest_not f hs e.1)
 
--- where the new serials are those of the messages that are kept, the old serials that are no new ones are those of the
--- others
+-- if the new serials are those of the messages that are kept, the old serials that are not among them are those of
+-- the other messages
 those_gone : (keep : QueuedMessage → Bool) (new : List ℕ) (hs : List QueuedMessage)
     → AllByRecursion (λ h. list_any (λ m. eqb h.message.serial m) new ≡ keep h) hs
     → filter (λ n. not (list_any (λ m. eqb n m) new)) (serials hs) ≡ serials (filter (λ h. not (keep h)) hs)

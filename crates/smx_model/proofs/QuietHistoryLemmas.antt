@@ -1,4 +1,4 @@
--- A history without a hangup tells of none.
+-- A history without a hangup reports none.
 use Rattle.std.proofs.Common.{◌≡◌, ℕ, zero, suc, Bool, true, false, ◌&&◌, ◌||◌, not, eqb, ltb, List, [], ◌∷◌, length}
 use Rattle.std.proofs.Common.{filter, Option, Some, None, Result, Ok, Err, refl, rules, sym, ap, ◌∙◌, inl, inr}
 use Rattle.std.specs.Prelude.{slice_index_or, if◌then◌else◌}
@@ -41,14 +41,14 @@ use Rattle.smx_model.specs.Standing.{exists}
 use Rattle.smx_model.proofs.HungStreamLemmas.{others_leave_hungs}
 use Rattle.smx_model.proofs.KeptLemmas.{empty_kept, step_keeps}
 
--- ---- where no stream has hung up, a command that is no hangup tells of none
+-- ---- without hung-up streams, a command other than a hangup reports none
 
--- calm by a test: what is accepted doesn't pass it, and what is refused is refused for another reason than a hangup
+-- calm by a test: an accepted value fails the test, and a refusal is not for a hangup
 abbrev calm_of : {A : Type 0} → (A → Bool) → Result A Fault → Type 0
 calm_of tells (Ok x) = tells x ≡ false
 calm_of tells (Err f) = is_hung_up f ≡ false
 
--- what `calm_of` says, as a record, so that search finds the parts of the outcome
+-- the same as `calm_of`, as a record, so that a search finds the parts of the outcome
 record IsCalm {A : Type 0} (tells : A → Bool) (r : Result A Fault) : Type 0 where
   told : calm_of tells r
 
@@ -56,72 +56,72 @@ record IsCalm {A : Type 0} (tells : A → Bool) (r : Result A Fault) : Type 0 wh
 calm_ok : {A : Type 0} (tells : A → Bool) (x : A) → tells x ≡ false → IsCalm tells (Ok x)
 calm_ok tells x h = record { told = h }
 
--- what may be missing is calm, where the fault for its want is not that of a hangup
+-- an optional value is calm, if the fault for its absence is not that of a hangup
 calm_some : {A : Type 0} (g : Fault) (o : Option A) → is_hung_up g ≡ false → IsCalm (λ x. false) (or_fault g o)
 calm_some g (Some x) h = record { told = refl }
 calm_some g None h = record { told = h }
 
--- a refusal that is not for a hangup, with what is calm behind it, is calm
+-- a refusal that is not for a hangup, followed by a calm result, is calm
 calm_test : {A : Type 0} (tells : A → Bool) (g : Fault) (b : Bool) (f : Unit {0} → Result A Fault)
     → is_hung_up g ≡ false → IsCalm tells (f tt) → IsCalm tells (refuse g b >>= f)
 calm_test tells g false f h k = k
 calm_test tells g true f h k = record { told = h }
 
--- where no stream has hung up, the refusal for a hangup, with what is calm behind it, is calm
+-- without hung-up streams, the refusal for a hangup, followed by a calm result, is calm
 calm_hung : {A : Type 0} (tells : A → Bool) (c : Configuration) (s : StreamId) (f : Unit {0} → Result A Fault)
     → c.hungs ≡ [] → IsCalm tells (f tt) → IsCalm tells (refuse fault.HungUp (is_hung c.hungs s) >>= f)
 calm_hung tells c s f none k = rw none k
 
--- two steps are calm, where the first is refused for no hangup, and the second is calm whatever the first gives
+-- two steps are calm, if the first is not refused for a hangup, and the second is calm for each value of the first
 calm_then : {A B : Type 0} (tells : B → Bool) (r : Result A Fault) (f : A → Result B Fault) → IsCalm (λ x. false) r
     → ((x : A) → IsCalm tells (f x)) → IsCalm tells (r >>= f)
 calm_then tells (Ok x) f h k = k x
 calm_then tells (Err g) f h k = record { told = h.told }
 
--- the lookup of a descriptor's stream that is not linked below is refused for no hangup
+-- the look-up of a descriptor's stream that is not linked below is not refused for a hangup
 calm_free : (c : Configuration) (process fd : ℕ) → IsCalm (λ s. false) (free_stream c process fd)
 calm_free c process fd = search (calm_then, calm_test, calm_some, calm_ok, rules) depth 12
 
--- where no stream has hung up, the lookup of a descriptor's stream that has not is refused for no hangup
+-- without hung-up streams, the look-up of a descriptor's live stream is not refused for a hangup
 calm_live : (c : Configuration) (process fd : ℕ) → c.hungs ≡ [] → IsCalm (λ s. false) (live_stream c process fd)
 calm_live c process fd none = search (calm_then, calm_free, calm_hung, calm_ok, rules) depth 12
 
--- the lookup of a descriptor's stream of a multiplexing driver is refused for no hangup
+-- the look-up of a descriptor's stream of a multiplexer is not refused for a hangup
 calm_mux : (drivers : List DriverSpec) (c : Configuration) (process fd : ℕ)
     → IsCalm (λ s. false) (mux_stream drivers c process fd)
 calm_mux drivers c process fd = search (calm_then, calm_free, calm_test, calm_ok, rules) depth 12
 
--- where no stream has hung up, the lookup of a leaf driver's stream that has not is refused for no hangup
+-- without hung-up streams, the look-up of a leaf driver's live stream is not refused for a hangup
 calm_live_leaf : (drivers : List DriverSpec) (c : Configuration) (name : List ℕ) (minor : ℕ) → c.hungs ≡ []
     → IsCalm (λ s. false) (live_leaf drivers c name minor)
 calm_live_leaf drivers c name minor none =
     search (calm_then, calm_hung, calm_test, calm_some, calm_ok, rules) depth 16
 
--- neither the reply of an accepted command nor the fault of a refused one tells of a hangup
+-- neither the reply of an accepted command nor the fault of a refused one reports a hangup
 abbrev IsQuiet : Outcome → Type 0
 IsQuiet o = IsCalm (λ x. tells_of_hangup x.1) o
 
--- what is done tells of no hangup
+-- a command that is done reports no hangup
 quiet_done : (drivers : List DriverSpec) (c d : Configuration) → IsQuiet (done_outcome drivers c d)
 quiet_done drivers c d = record { told = refl }
 
--- where no stream has hung up, linking tells of no hangup
+-- without hung-up streams, linking reports no hangup
 quiet_linked : (drivers : List DriverSpec) (c : Configuration) (process fd arg : ℕ) (k : LinkKind) → c.hungs ≡ []
     → IsQuiet (link_outcome drivers c process fd arg k)
 quiet_linked drivers c process fd arg k none =
     search (calm_then, calm_hung, calm_test, calm_some, calm_ok, rules) depth 30
 
--- unlinking tells of no hangup
+-- unlinking reports no hangup
 quiet_unlinked : (drivers : List DriverSpec) (c : Configuration) (w : Which) (mine : Link → Bool)
     → IsQuiet (unlink_outcome drivers c w mine)
 quiet_unlinked drivers c which.All mine = quiet_done drivers c (without_links c mine)
 quiet_unlinked drivers c (which.Id id) mine = search (calm_test, quiet_done, rules) depth 12
 
--- the delivery of a place's first message tells of no hangup, and neither does the want of one
+-- delivering a place's first message reports no hangup, and neither does the absence of one
 quiet_received : (drivers : List DriverSpec) (c : Configuration) (p : Place) → IsQuiet (receive_outcome drivers c p)
 quiet_received drivers c p = search (calm_then, calm_some, calm_ok, rules) depth 12
 
--- where no stream has hung up, a read tells of no hangup
+-- without hung-up streams, a read reports no hangup
 quiet_read : (drivers : List DriverSpec) (c : Configuration) (s : StreamId) → c.hungs ≡ []
     → IsQuiet (read_outcome drivers c s)
 quiet_read drivers c s none = by (is_hung c.hungs s) (ap (λ (hs : List StreamId). is_hung hs s) none) where
@@ -133,7 +133,7 @@ quiet_read drivers c s none = by (is_hung c.hungs s) (ap (λ (hs : List StreamId
   by true e = absurd (false≢true (sym e))
   by false e = quiet_received drivers c p
 
--- where no stream has hung up, the outcome of a command that is no hangup tells of none
+-- without hung-up streams, the outcome of a command other than a hangup reports none
 quiet_accepted : (drivers : List DriverSpec) (c : Configuration) (process : ℕ) (k : Command) → c.hungs ≡ []
     → is_hangup k ≡ false → IsQuiet (outcome drivers c process k)
 quiet_accepted drivers c process (command.OpenClone name) none other =
@@ -170,7 +170,7 @@ quiet_accepted drivers c process (command.Transmit name minor) none other =
     search (calm_then, calm_live_leaf, quiet_received, rules) depth 20
 quiet_accepted drivers c process (command.Hangup name minor) none other = absurd (false≢true (sym other))
 
--- where no stream has hung up, the reply to a command that is no hangup tells of none
+-- without hung-up streams, the reply to a command other than a hangup reports none
 quiet_step : (drivers : List DriverSpec) (c : Configuration) (process : ℕ) (k : Command) → c.hungs ≡ []
     → is_hangup k ≡ false → tells_of_hangup (step drivers c process k).1 ≡ false
 quiet_step drivers c process k none other =
@@ -179,7 +179,7 @@ quiet_step drivers c process k none other =
       by (Ok x) h = h.told
       by (Err f) h = h.told
 
--- where no stream of a sound and settled configuration has hung up, none has after a command that is no hangup
+-- if no stream of a sound and settled configuration has hung up, none has after a command other than a hangup
 none_left : (drivers : List DriverSpec) (c : Configuration) (process : ℕ) (k : Command) → IsKept drivers c
     → c.hungs ≡ [] → is_hangup k ≡ false → (step drivers c process k).0.hungs ≡ []
 none_left drivers c process k h none other = others_leave_hungs drivers c process k h.sound.swept other
@@ -187,8 +187,8 @@ none_left drivers c process k h none other = others_leave_hungs drivers c proces
 
 -- ---- a history without a hangup
 
--- entries without a hangup that are legal from a sound and settled configuration, in which no stream has hung up, are
--- none that only version 2 has
+-- entries without a hangup that are legal from a sound and settled configuration without hung-up streams are not
+-- among those that only version 2 has
 quiet_from : (drivers : List DriverSpec) (c : Configuration) (es : List Entry) → IsKept drivers c → c.hungs ≡ []
     → IsLegalFrom drivers c es → list_any (λ e. is_hangup e.command) es ≡ false → list_any is_of_hangup es ≡ false
 quiet_from drivers c [] h none legal other = refl
@@ -203,7 +203,7 @@ pub quiet_replies : (drivers : List DriverSpec) (history : List Entry) → IsLeg
     → list_any (λ e. is_hangup e.command) history ≡ false → list_any is_of_hangup history ≡ false
 quiet_replies drivers history legal other = quiet_from drivers empty history (empty_kept drivers) refl legal other
 
--- after entries without a hangup, from a sound and settled configuration in which no stream has hung up, none has
+-- after entries without a hangup, from a sound and settled configuration without hung-up streams, no stream has hung up
 hungs_from : (drivers : List DriverSpec) (c : Configuration) (es : List Entry) → IsKept drivers c → c.hungs ≡ []
     → list_any (λ e. is_hangup e.command) es ≡ false → (after_from drivers c es).hungs ≡ []
 hungs_from drivers c [] h none other = none
@@ -219,7 +219,7 @@ quiet_streams drivers history other = hungs_from drivers empty history (empty_ke
 
 -- ---- a report of programs without a hangup
 
--- where one of a process's entries is a hangup, one of its commands is
+-- if one of a process' entries is a hangup, one of its commands is
 of_process : (p : ℕ) (es : List Entry) → list_any (λ e. eqb e.process p && is_hangup e.command) es ≡ true
     → list_any is_hangup (commands_of p es) ≡ true
 of_process p [] h = h
@@ -232,12 +232,12 @@ of_process p (e ∷ es) h = elim (cases_Bool (eqb e.process p)) [
       rw f (of_process p es k)
 ]
 
--- a process that has an entry which is a hangup
+-- a process with an entry that is a hangup
 record OfSome (es : List Entry) : Type 0 where
   process : ℕ
   hangs : list_any (λ e. eqb e.process process && is_hangup e.command) es ≡ true
 
--- where some entry is a hangup, it is one of some process
+-- if some entry is a hangup, it is one of some process
 of_some : (es : List Entry) → list_any (λ e. is_hangup e.command) es ≡ true → OfSome es
 of_some [] h = absurd (false≢true h)
 of_some (e ∷ es) h = elim (or_cases (is_hangup e.command) (list_any (λ e. is_hangup e.command) es) h) [
@@ -245,7 +245,7 @@ of_some (e ∷ es) h = elim (or_cases (is_hangup e.command) (list_any (λ e. is_
   | inr b ↦ let r = of_some es b in record { process = r.process; hangs = or_right _ _ r.hangs }
 ]
 
--- where a process's program has a hangup, some program of the list has one
+-- if a process' program has a hangup, some program of the list has one
 in_program : (programs : List (List Command)) (p : ℕ) → list_any is_hangup (slice_index_or programs p []) ≡ true
     → list_any (list_any is_hangup) programs ≡ true
 in_program [] p h = absurd (false≢true h)
@@ -259,12 +259,12 @@ none_held history programs holds none = false_from_ne_true _ (λ h. let r = of_s
     both_ways _ none (in_program programs r.process
     (ap (list_any is_hangup) (sym (holds r.process)) ∙ of_process r.process history r.hangs)))
 
--- where the first version that can tell something is version 1, nothing needs version 2
+-- if the earliest version for something is version 1, nothing needs version 2
 needs_none : (b : Bool) → version_2_where b ≡ V1 → b ≡ false
 needs_none true e = absurd cc
 needs_none false e = refl
 
--- a report for programs that version 1 can tell is a transcript that version 1 can tell
+-- version 1 can express a report for programs that it can express
 pub report_is_quiet : (programs : ProgramLists) (report : Transcript) → IsReportOf programs report
     → least_of_programs programs.drivers programs.programs ≡ V1 → least_of_transcript report ≡ V1
 report_is_quiet programs report h least =

@@ -1,4 +1,4 @@
--- Descriptors and links name streams that the drivers have.
+-- The drivers have the streams of descriptors and links.
 use Rattle.std.proofs.Common.{◌≡◌, ℕ, zero, suc, ◌+◌, ◌<◌, Bool, false, not, leb, arith, List, [], ◌∷◌, length}
 use Rattle.std.proofs.Common.{find, Some, Ok, rules, subst, inl, inr}
 use Rattle.std.specs.Prelude.{position}
@@ -26,12 +26,12 @@ use Rattle.smx_model.proofs.LookupLemmas.{descriptor_of, there_is}
 use Rattle.smx_model.proofs.OutcomeLemmas.{IfAccepted}
 use Rattle.smx_model.proofs.EachLemmas.{each_filter, each_placed, each_push, each_find, each_map}
 
--- each descriptor has a stream, and each link a controlling and a lower one, that the drivers have
+-- the drivers have the stream of each descriptor, and the controlling and the lower stream of each link
 pub record AreNamed (drivers : List DriverSpec) (c : Configuration) : Type 0 where
   pub fds : AllByRecursion (λ d. IsKnown drivers d.stream) c.fds
   pub links : AllByRecursion (λ l. IsKnown drivers l.ctl × IsKnown drivers l.lower) c.links
 
--- where links have streams that the drivers have, both drivers of each link are in range
+-- if the drivers have the streams of links, both drivers of each link are in range
 pub links_below : (drivers : List DriverSpec) (links : List Link)
     → AllByRecursion (λ l. IsKnown drivers l.ctl × IsKnown drivers l.lower) links
     → AllByRecursion (λ l. (l.ctl.driver < length drivers) × (l.lower.driver < length drivers)) links
@@ -43,11 +43,11 @@ position_below : (drivers : List DriverSpec) (test : DriverSpec → Bool) (k : �
 position_below [] test k e = cc
 position_below (d ∷ ds) test k e = (position-Some test (d ∷ ds) k d e).0
 
--- the number of a driver that is found by its name is in range
+-- the number of a driver found by its name is in range
 driver_below : (drivers : List DriverSpec) (name : List ℕ) (n : ℕ) → driver_of drivers name ≡ Ok n → n < length drivers
 driver_below drivers name n e = position_below drivers (λ d. bytes_eq d.name name) n (there_is NoDriver _ n e)
 
--- what is found in a range is below its end
+-- a number found in a range is below its end
 pub range_below : (test : ℕ → Bool) (a n m : ℕ) → find test (range_with_len a n) ≡ Some m → m < a + n
 range_below test a zero m e = cc
 range_below test a (suc n) m e = elim (cases_Bool (test a)) [
@@ -65,23 +65,23 @@ minor_free drivers c n m e =
           (there_is NoMinor _ m e),
     )
 
--- a minor that is not past those of its driver is one of them
+-- a minor below the number of minors of its driver is one of them
 minor_in : (drivers : List DriverSpec) (n m : ℕ) → leb (minors_of drivers n) m ≡ false → m < minors_of drivers n
 minor_in drivers n m e = leb-false (minors_of drivers n) m e
 
--- a driver in range and one of its minors make a stream that the drivers have
+-- a driver in range and one of its minors form a stream that the drivers have
 known_made : (drivers : List DriverSpec) (n m : ℕ) → n < length drivers → m < minors_of drivers n
     → IsKnown drivers (record { driver = n; minor = m })
 known_made drivers n m lt lt2 = (lt, lt2)
 
--- where descriptors have streams that the drivers have, the stream of a process's descriptor is one of them
+-- if the drivers have the streams of descriptors, they have the stream of a process' descriptor
 stream_known : (drivers : List DriverSpec) (c : Configuration) (process fd : ℕ) (s : StreamId) → AreNamed drivers c
     → stream_of c process fd ≡ Ok s → IsKnown drivers s
 stream_known drivers c process fd s h e =
     let d = descriptor_of c process fd s e in
     subst (IsKnown drivers) d.2 (each_find (λ d. IsKnown drivers d.stream) (is_fd process fd) c.fds d.0 d.1 h.fds)
 
--- an accepted command leaves descriptors and links with streams that the drivers have
+-- after an accepted command the drivers have the streams of descriptors and links
 pub named_accepted : (drivers : List DriverSpec) (c : Configuration) (process : ℕ) (k : Command) → AreNamed drivers c
     → IfAccepted (λ d r. AreNamed drivers d) (outcome drivers c process k)
 named_accepted drivers c process k h = of_rows _ drivers c process k (search (
@@ -96,7 +96,7 @@ named_accepted drivers c process k h = of_rows _ drivers c process k (search (
   rules,
 ) depth 24)
 
--- a move leaves descriptors and links with streams that the drivers have
+-- after a move the drivers have the streams of descriptors and links
 pub named_moved : (drivers : List DriverSpec) (c : Configuration) (p : Place) → AreNamed drivers c
     → AreNamed drivers (after_move drivers c p)
 named_moved drivers c p h =

@@ -1,4 +1,4 @@
--- No accepted outcome replies a fault.
+-- No accepted outcome has a fault as its reply.
 use Rattle.std.proofs.Common.{◌≡◌, ◌↔◌, ℕ, Bool, true, false, List, Ok, Err, refl, rules, sym, ap, ◌∙◌}
 use Rattle.std.proofs.lemmas.Bool.{false≢true}
 use Rattle.smx_types.specs.declared.command.Command.{Command}
@@ -22,15 +22,15 @@ is_fault (reply.Done gone) = false
 is_fault reply.Eof = false
 is_fault (reply.Fault fault) = true
 
--- if it is accepted, its reply is no fault
+-- if the outcome is accepted, its reply is not a fault
 abbrev IsAnswered : Outcome → Type 0
 IsAnswered o = IfAccepted (λ d r. is_fault r ≡ false) o
 
--- what is done replies no fault
+-- a command that is done does not reply with a fault
 done_answers : (drivers : List DriverSpec) (c d : Configuration) → IsAnswered (done_outcome drivers c d)
 done_answers drivers c d = record { holds = refl }
 
--- an accepted command replies no fault
+-- an accepted command does not reply with a fault
 answers_accepted : (drivers : List DriverSpec) (c : Configuration) (process : ℕ) (k : Command)
     → IsAnswered (outcome drivers c process k)
 answers_accepted drivers c process k = search (of_rows, done_answers, rules) depth 24
@@ -45,7 +45,7 @@ refused_same drivers c process k f e = by (outcome drivers c process k) (answers
   by (Ok x) h e = absurd (false≢true (sym h.holds ∙ ap is_fault e))
   by (Err g) h e = refl
 
--- the reply to a command is a fault exactly where the command is refused with that fault
+-- the reply to a command is a fault exactly if the command is refused with that fault
 pub fault_is_refusal : (drivers : List DriverSpec) (c : Configuration) (process : ℕ) (k : Command) (f : Fault)
     → ((step drivers c process k).1 ≡ reply.Fault f ↔ outcome drivers c process k ≡ Err f)
 fault_is_refusal drivers c process k f = by (outcome drivers c process k) (answers_accepted drivers c process k) where

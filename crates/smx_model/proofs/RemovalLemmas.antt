@@ -1,4 +1,4 @@
--- Which links a command removes, and which it leaves.
+-- The links that a command removes, and those that it keeps.
 use Rattle.std.proofs.Common.{◌≡◌, ◌↔◌, ◌⊎◌, ℕ, zero, suc, Bool, true, false, ◌&&◌, ◌||◌, not, eqb, List, [], ◌∷◌}
 use Rattle.std.proofs.Common.{arith, ◌++◌, length, filter, Result, Ok, Err, refl, rules, sym, ap, subst, inl, inr}
 use Rattle.std.specs.List.{All, Contains, list_any}
@@ -33,9 +33,9 @@ use Rattle.smx_model.proofs.SettledLemmas.{settled_alone}
 use Rattle.smx_model.proofs.StandingLemmas.{swept_is}
 use Rattle.smx_model.proofs.TestLemmas.{any_more}
 
--- streams that stand with fewer links
+-- streams that exist with fewer links
 
--- a stream that stands within some climbs over some of the links does so over all of them
+-- a stream that exists within some climbs over some of the links does so over all of them
 stands_fewer : (fds : List Descriptor) (links : List Link) (keep : Link → Bool) (n : ℕ) (s : StreamId)
     → stands_within fds (filter keep links) n s ≡ true → stands_within fds links n s ≡ true
 stands_fewer fds links keep zero s h =
@@ -55,7 +55,7 @@ stands_fewer fds links keep (suc n) s h =
       deeper a b d e f h =
           let p = and_parts a (b && d) h in let q = and_parts b d p.1 in and_from _ _ p.0 (and_from _ _ q.0 (f q.1))
 
--- a link that is persistent, or whose controlling stream exists after it, a sweep leaves
+-- a sweep keeps a link that is persistent, or whose controlling stream exists after it
 spared : (drivers : List DriverSpec) (d : Configuration) (l : Link) → Contains d.links l
     → (is_persistent l || exists drivers (after_sweep drivers d) l.ctl) ≡ true
     → Contains (after_sweep drivers d).links l
@@ -65,15 +65,15 @@ spared drivers d l h e = in_filtered _ d.links l h
       alive : (a b d : Bool) → (d ≡ true → b ≡ true) → (a || d) ≡ true → not (not a && not b) ≡ true
       alive a b d f e = grind arith
 
--- links that a command leaves
+-- links that a command keeps
 
--- of the old links just those are left that aren't taken, and that are persistent or whose controlling stream exists
+-- of the old links exactly those remain that aren't removed, and that are persistent or whose controlling stream exists
 record LeavesJust (drivers : List DriverSpec) (c : Configuration) (taken : Link → Bool)
     (d : Configuration) : Type 0 where
   each : (l : Link) → Contains c.links l → Contains d.links l
       ↔ ((not (taken l) && (is_persistent l || exists drivers d l.ctl)) ≡ true)
 
--- where the links that are taken are removed, a sweep leaves just those of the others that are persistent or whose
+-- if the links to be removed are removed, a sweep keeps exactly those of the others that are persistent or whose
 -- controlling stream exists
 just_removed : (drivers : List DriverSpec) (c : Configuration) (taken : Link → Bool)
     → LeavesJust drivers c taken (after_sweep drivers (without_links c taken))
@@ -86,7 +86,7 @@ just_removed drivers c taken = record {
   );
 }
 
--- where the links are as they were, a sweep leaves just those that are persistent or whose controlling stream exists
+-- if the links are unchanged, a sweep keeps exactly those that are persistent or whose controlling stream exists
 just_done : (drivers : List DriverSpec) (c d : Configuration) → d.links ≡ c.links
     → LeavesJust drivers c (λ l. false) (after_sweep drivers d)
 just_done drivers c d same =
@@ -97,15 +97,15 @@ just_done drivers c d same =
       );
     }
 
--- where nothing changes in a swept configuration, and none of its links is taken, just those are left that are
+-- if nothing changes in a swept configuration, and none of its links is to be removed, exactly those remain that are
 -- persistent or whose controlling stream exists
 just_refused : (drivers : List DriverSpec) (c : Configuration) (taken : Link → Bool) → IsSwept drivers c
     → ((l : Link) → Contains c.links l → taken l ≡ false) → LeavesJust drivers c taken c
 just_refused drivers c taken h none =
     record { each = λ l k. (λ m. and_from _ _ (rw (none l k) refl) (in_all _ c.links l h.links k), λ e. k) }
 
--- where just those links are left that aren't taken, and that are persistent or whose controlling stream exists, moves
--- change nothing in that
+-- if exactly those links remain that aren't removed, and that are persistent or whose controlling stream exists,
+-- moves change nothing about that
 just_settled : (drivers : List DriverSpec) (c : Configuration) (taken : Link → Bool) (n : ℕ) (d : Configuration)
     → LeavesJust drivers c taken d → LeavesJust drivers c taken (after_settling_within drivers n d)
 just_settled drivers c taken n d h =
@@ -113,7 +113,8 @@ just_settled drivers c taken n d h =
 
 -- each unlinking
 
--- an unlinking leaves just those links that it doesn't mean and that are persistent or controlled by what exists then
+-- an unlinking keeps exactly the links that it doesn't mean and that are persistent or have an
+-- existing controlling stream
 just_unlinked : (drivers : List DriverSpec) (c : Configuration) (w : Which) (mine : Link → Bool) → IsSwept drivers c
     → LeavesJust drivers c (λ l. is_meant w l && mine l) (after_outcome drivers c (unlink_outcome drivers c w mine)).0
 just_unlinked drivers c which.All mine h =
@@ -128,7 +129,7 @@ just_unlinked drivers c (which.Id id) mine h = by (list_any (λ l. eqb l.id id &
       (just_removed drivers c (λ l. eqb l.id id && mine l))
   by false e = just_refused drivers c (λ l. eqb l.id id && mine l) h (none_in (λ l. eqb l.id id && mine l) c.links e)
 
--- unlink leaves just those links that it doesn't mean and that are persistent or controlled by what exists then
+-- unlink keeps exactly the links that it doesn't mean and that are persistent or have an existing controlling stream
 pub unlink_just : (drivers : List DriverSpec) (c : Configuration) (process fd : ℕ) (w : Which) (s : StreamId)
     → IsSwept drivers c → mux_stream drivers c process fd ≡ Ok s
     → All (λ l. Contains (step drivers c process (command.Unlink fd w)).0.links l
@@ -141,7 +142,7 @@ unlink_just drivers c process fd w s h e = all_in _ c.links
     (r >>= (λ s. unlink_outcome drivers c w (λ l. not (is_persistent l) && same_stream l.ctl s)))).0) (sym e)
     (just_unlinked drivers c w (λ l. not (is_persistent l) && same_stream l.ctl s) h)).each
 
--- punlink leaves just those links that it doesn't mean and that are persistent or controlled by what exists then
+-- punlink keeps exactly the links that it doesn't mean and that are persistent or have an existing controlling stream
 pub punlink_just : (drivers : List DriverSpec) (c : Configuration) (process fd : ℕ) (w : Which) (s : StreamId)
     → IsSwept drivers c → mux_stream drivers c process fd ≡ Ok s
     → All (λ l. Contains (step drivers c process (command.Punlink fd w)).0.links l
@@ -156,7 +157,7 @@ punlink_just drivers c process fd w s h e = all_in _ c.links
 
 -- closing
 
--- close takes just those links that are ordinary and whose controlling stream doesn't exist after it
+-- close removes exactly the ordinary links whose controlling stream doesn't exist after it
 close_just : (drivers : List DriverSpec) (c : Configuration) (process fd : ℕ) → IsSwept drivers c
     → LeavesJust drivers c (λ l. false) (step drivers c process (command.Close fd)).0
 close_just drivers c process fd h = by (stream_of c process fd) where
@@ -168,7 +169,7 @@ close_just drivers c process fd h = by (stream_of c process fd) where
   by (Ok s) = just_settled drivers c (λ l. false) _ (after_sweep drivers fewer) (just_done drivers c fewer refl)
   by (Err f) = just_refused drivers c (λ l. false) h (λ l k. refl)
 
--- exit takes just those links that are ordinary and whose controlling stream doesn't exist after it
+-- exit removes exactly the ordinary links whose controlling stream doesn't exist after it
 exit_just : (drivers : List DriverSpec) (c : Configuration) (process : ℕ)
     → LeavesJust drivers c (λ l. false) (step drivers c process command.CloseAll).0
 exit_just drivers c process =
@@ -176,34 +177,34 @@ exit_just drivers c process =
       fewer : Configuration
       fewer = record c { fds = filter (λ d. not (eqb d.process process)) c.fds }
 
--- close leaves just those links that are persistent or whose controlling stream exists after it
+-- close keeps exactly the links that are persistent or whose controlling stream exists after it
 pub close_takes : (drivers : List DriverSpec) (c : Configuration) (process fd : ℕ) → IsSwept drivers c
     → All (λ l. Contains (step drivers c process (command.Close fd)).0.links l
     ↔ ((is_persistent l || exists drivers (step drivers c process (command.Close fd)).0 l.ctl) ≡ true)) c.links
 close_takes drivers c process fd h = all_in _ c.links (close_just drivers c process fd h).each
 
--- exit leaves just those links that are persistent or whose controlling stream exists after it
+-- exit keeps exactly the links that are persistent or whose controlling stream exists after it
 pub exit_takes : (drivers : List DriverSpec) (c : Configuration) (process : ℕ) → IsSwept drivers c
     → All (λ l. Contains (step drivers c process command.CloseAll).0.links l
     ↔ ((is_persistent l || exists drivers (step drivers c process command.CloseAll).0 l.ctl) ≡ true)) c.links
 exit_takes drivers c process h = all_in _ c.links (exit_just drivers c process).each
 
--- each other command leaves every link
+-- each other command keeps every link
 
--- all of the old links are left
+-- all old links remain
 record KeepsLinks (c d : Configuration) : Type 0 where
   each : (l : Link) → Contains c.links l → Contains d.links l
 
--- where the links are as they were, all old ones are left
+-- if the links are unchanged, all old ones remain
 keeps_same : (c d : Configuration) → d.links ≡ c.links → KeepsLinks c d
 keeps_same c d e = record { each = λ l h. subst (λ (ls : List Link). Contains ls l) (sym e) h }
 
--- where one more link is put at the end, all old ones are left
+-- if one more link is put at the end, all old ones remain
 keeps_push : (c : Configuration) (l : Link) (next : ℕ)
     → KeepsLinks c (record c { links = c.links ++ l ∷ []; next_id = next })
 keeps_push c l next = record { each = λ k h. Contains-append_left c.links (l ∷ []) k h }
 
--- a command that is done with the links and descriptors of a swept configuration leaves all links
+-- a command that is done with the links and descriptors of a swept configuration keeps all links
 keeps_done : (drivers : List DriverSpec) (c d : Configuration) → IsSwept drivers c → d.links ≡ c.links → d.fds ≡ c.fds
     → IfAccepted (λ d r. KeepsLinks c d) (done_outcome drivers c d)
 keeps_done drivers c d h e f = record {
@@ -215,14 +216,14 @@ keeps_done drivers c d h e f = record {
   alive : (a b : Bool) → (a || b) ≡ true → not (not a && not b) ≡ true
   alive a b h = grind arith
 
--- the command is neither close, exit, unlink nor punlink
+-- the command is not close, exit, unlink or punlink
 record IsOther (k : Command) : Type 0 where
   close : (fd : ℕ) → k ≡ command.Close fd → ⊥
   exit : k ≡ command.CloseAll → ⊥
   unlink : (fd : ℕ) (w : Which) → k ≡ command.Unlink fd w → ⊥
   punlink : (fd : ℕ) (w : Which) → k ≡ command.Punlink fd w → ⊥
 
--- an accepted command that is neither close, exit, unlink nor punlink leaves all links of a swept configuration
+-- an accepted command other than close, exit, unlink and punlink keeps all links of a swept configuration
 keeps_accepted : (drivers : List DriverSpec) (c : Configuration) (process : ℕ) (k : Command) → IsOther k
     → IsSwept drivers c → IfAccepted (λ d r. KeepsLinks c d) (outcome drivers c process k)
 keeps_accepted drivers c process k other h = search (
@@ -238,19 +239,19 @@ keeps_accepted drivers c process k other h = search (
   rules,
 ) depth 24
 
--- a command leaves all links, if they are left by what it is accepted with
+-- a command keeps all links, if its accepted outcome does
 keeps_finished : (drivers : List DriverSpec) (c : Configuration) (o : Outcome) → IfAccepted (λ d r. KeepsLinks c d) o
     → KeepsLinks c (after_outcome drivers c o).0
 keeps_finished drivers c (Ok x) h = record { each = λ l k. rw ((settled_alone drivers _ x.0).links) (h.holds.each l k) }
 keeps_finished drivers c (Err f) h = record { each = λ l k. k }
 
--- the step of a command that is neither close, exit, unlink nor punlink leaves all links of a swept configuration
+-- the step of a command other than close, exit, unlink and punlink keeps all links of a swept configuration
 keeps_step : (drivers : List DriverSpec) (c : Configuration) (process : ℕ) (k : Command) → IsOther k → IsSwept drivers c
     → KeepsLinks c (step drivers c process k).0
 keeps_step drivers c process k other h =
     keeps_finished drivers c (outcome drivers c process k) (keeps_accepted drivers c process k other h)
 
--- a command that is neither close, exit, unlink nor punlink leaves all links
+-- a command other than close, exit, unlink and punlink keeps all links
 pub others_keep : (drivers : List DriverSpec) (c : Configuration) (process : ℕ) (k : Command) → IsSwept drivers c
     → ((fd : ℕ) → k ≡ command.Close fd → ⊥) → (k ≡ command.CloseAll → ⊥)
     → ((fd : ℕ) (w : Which) → k ≡ command.Unlink fd w → ⊥) → ((fd : ℕ) (w : Which) → k ≡ command.Punlink fd w → ⊥)
@@ -258,13 +259,13 @@ pub others_keep : (drivers : List DriverSpec) (c : Configuration) (process : ℕ
 others_keep drivers c process k h a b d e =
     all_in _ c.links (keeps_step drivers c process k (record { close = a; exit = b; unlink = d; punlink = e }) h).each
 
--- a persistent link goes by punlink alone
+-- only punlink removes a persistent link
 
--- where a test passes, tests of which one is its negation don't all pass
+-- if a test passes, tests one of which is its negation don't all pass
 not_ordinary : (a p b : Bool) → p ≡ true → not (a && (not p && b)) ≡ true
 not_ordinary a p b e = grind arith
 
--- a command that is no punlink leaves all persistent links
+-- a command other than punlink keeps all persistent links
 pub persistent_stays : (drivers : List DriverSpec) (c : Configuration) (process : ℕ) (k : Command) → IsSwept drivers c
     → ((fd : ℕ) (w : Which) → k ≡ command.Punlink fd w → ⊥)
     → All (λ l. is_persistent l ≡ true → Contains (step drivers c process k).0.links l) c.links
@@ -290,17 +291,17 @@ persistent_stays drivers c process k h never = all_in _ c.links (by k never) whe
   by (command.Punlink fd w) n = absurd (n fd w refl)
   by k n = others k (record { close = λ fd e. cc; exit = λ e. cc; unlink = λ fd w e. cc; punlink = n })
 
--- a link that stands after a command stood before it, or was made by it
+-- a link after a command existed before it, or the command made it
 
 -- each new link is an old one, or has the id of the reply
 record HasCome (c d : Configuration) (r : Reply) : Type 0 where
   each : (l : Link) → Contains d.links l → Contains c.links l ⊎ (r ≡ reply.Id l.id)
 
--- where the links are as they were, each is an old one
+-- if the links are unchanged, each is an old one
 came_same : (c d : Configuration) (r : Reply) → d.links ≡ c.links → HasCome c d r
 came_same c d r e = record { each = λ l h. inl (subst (λ (ls : List Link). Contains ls l) e h) }
 
--- where one more link is put at the end, and its id is the reply, each other link is an old one
+-- if one more link is put at the end, and its id is the reply, each other link is an old one
 came_link : (c : Configuration) (l : Link) (next : ℕ)
     → HasCome c (record c { links = c.links ++ l ∷ []; next_id = next }) (reply.Id l.id)
 came_link c l next = record {
@@ -308,28 +309,28 @@ came_link c l next = record {
       elim (Contains-push_cases c.links l k h) [ inl m ↦ inl m | inr e ↦ inr (ap (λ (x : Link). reply.Id x.id) e) ];
 }
 
--- where each link is an old one before the sweep, each is one after it
+-- if each link is an old one before the sweep, each is one after it
 came_done : (drivers : List DriverSpec) (c d : Configuration) → ((l : Link) → Contains d.links l → Contains c.links l)
     → IfAccepted (HasCome c) (done_outcome drivers c d)
 came_done drivers c d f = record { holds = record { each = λ l h. inl (f l (of_filtered _ d.links l h)) } }
 
--- where links are removed, each that is left after the sweep is an old one
+-- if links are removed, each that remains after the sweep is an old one
 came_removed : (drivers : List DriverSpec) (c : Configuration) (goes : Link → Bool)
     → IfAccepted (HasCome c) (done_outcome drivers c (without_links c goes))
 came_removed drivers c goes = came_done drivers c (without_links c goes) (λ l h. of_filtered _ c.links l h)
 
--- where the links are as they were before the sweep, each that is left after it is an old one
+-- if the links are unchanged before the sweep, each that remains after it is an old one
 came_like : (drivers : List DriverSpec) (c d : Configuration) → d.links ≡ c.links
     → IfAccepted (HasCome c) (done_outcome drivers c d)
 came_like drivers c d e = came_done drivers c d (λ l h. subst (λ (ls : List Link). Contains ls l) e h)
 
--- each link that an accepted command leaves is an old one, or has the id that is its reply
+-- each link after an accepted command is an old one, or has the id that is its reply
 came_accepted : (drivers : List DriverSpec) (c : Configuration) (process : ℕ) (k : Command)
     → IfAccepted (HasCome c) (outcome drivers c process k)
 came_accepted drivers c process k =
     search (of_rows, came_same, came_link, came_removed, came_like, rules) depth 24
 
--- each link that a command leaves is an old one, or has the id of the reply, if so is each one that it is accepted with
+-- each link after a command is an old one, or has the id of the reply, if this holds of its accepted outcome
 came_finished : (drivers : List DriverSpec) (c : Configuration) (o : Outcome) → IfAccepted (HasCome c) o
     → HasCome c (after_outcome drivers c o).0 (after_outcome drivers c o).1
 came_finished drivers c (Ok x) h = record {
@@ -338,7 +339,7 @@ came_finished drivers c (Ok x) h = record {
 }
 came_finished drivers c (Err f) h = record { each = λ l k. inl k }
 
--- a link that stands after a command stood before it, or has the id that is its reply
+-- a link after a command existed before it, or has the id that is its reply
 pub links_came : (drivers : List DriverSpec) (c : Configuration) (process : ℕ) (k : Command)
     → All (λ l. Contains c.links l ⊎ ((step drivers c process k).1 ≡ reply.Id l.id)) (step drivers c process k).0.links
 links_came drivers c process k =

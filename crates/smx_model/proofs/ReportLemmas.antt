@@ -1,4 +1,4 @@
--- Reports of the same programs in the same order are the same; and the example, and what is none.
+-- Reports of the same programs in the same order are equal; the example, and transcripts that are not reports.
 use Rattle.std.proofs.Common.{◌≡◌, zero, suc, false, List, [], ◌∷◌, map, refl, sym, ap, ◌∙◌, length, arith}
 use Rattle.std.specs.Prelude.{◌==◌, Ok}
 use Rattle.std.proofs.lemmas.Bool.Decides.{nat_tests}
@@ -25,12 +25,12 @@ use Rattle.smx_types.specs.declared.version.Version.{Version}
 abbrev transcript : Version → List DriverSpec → List Entry → ConfigView → Transcript
 transcript version drivers entries v = record { version = version; drivers = drivers; entries = entries; view = v }
 
--- transcripts of one version with the same drivers, entries and view are the same
+-- transcripts of one version with the same drivers, entries and view are equal
 transcript_of : (n : Version) (ds ds2 : List DriverSpec) (es es2 : List Entry) (v v2 : ConfigView) → ds ≡ ds2 → es ≡ es2
     → v ≡ v2 → transcript n ds es v ≡ transcript n ds2 es2 v2
 transcript_of n ds ds2 es es2 v v2 e f g = cc
 
--- the drivers, the history and the view of a report follow from the calls
+-- the calls determine the drivers, the history and the view of a report
 pub one_report : (programs : ProgramLists) (r s : Transcript) → IsReportOf programs r → IsReportOf programs s
     → map call_of r.entries ≡ map call_of s.entries → r ≡ record s { version = r.version }
 one_report programs r s h k e =
@@ -38,7 +38,7 @@ one_report programs r s h k e =
     transcript_of r.version r.drivers s.drivers r.entries s.entries r.view s.view (h.drivers ∙ sym k.drivers) same
     (h.shown ∙ (ap (λ (es : List Entry). view programs.drivers (after programs.drivers es)) same ∙ sym k.shown))
 
--- what a report needs is enough
+-- the first parts of a report suffice for all
 pub report_of : (programs : ProgramLists) (r : Transcript) → r.drivers ≡ programs.drivers
     → IsDriverList programs.drivers → IsLegal programs.drivers r.entries → HoldsPrograms r.entries programs.programs
     → r.view ≡ view programs.drivers (after programs.drivers r.entries) → IsReportOf programs r
@@ -63,7 +63,7 @@ example_holds (suc (suc p)) =
     let not_second : (1 == suc (suc p)) ≡ false = grind (arith, nat_tests) in
     rw (not_first, not_second) refl
 
--- a configuration can have the drivers of the example
+-- the drivers of the example are valid
 example_drivers : IsDriverList drivers
 example_drivers = record {
   few = omega arith;
@@ -76,32 +76,32 @@ pub is_report : IsReportOf programs (report_with (opened ∷ exited ∷ copied �
 is_report = report_of programs (report_with (opened ∷ exited ∷ copied ∷ []) two) refl example_drivers
     (refl, (refl, (refl, tt))) example_holds refl
 
--- what is none
+-- transcripts that are not reports
 
 -- the program of process 0 in the example, an open and a dup
 abbrev both : List Command
 both = OpenClone ip ∷ Dup 0 ∷ []
 
--- the example without the dup of process 0 is no report
+-- the example without the dup of process 0 is not a report
 pub left_out : IsReportOf programs (report_with (opened ∷ exited ∷ []) one) → ⊥
 left_out h = let e : OpenClone ip ∷ [] ≡ both = h.holds 0 in absurd cc
 
--- the example with a second dup of process 0 is no report
+-- the example with a second dup of process 0 is not a report
 pub done_twice : IsReportOf programs (report_with (opened ∷ copied ∷ once_more ∷ exited ∷ []) three) → ⊥
 done_twice h = let e : OpenClone ip ∷ Dup 0 ∷ Dup 0 ∷ [] ≡ both = h.holds 0 in absurd cc
 
--- the example with the dup of process 0 before its open is no report
+-- the example with the dup of process 0 before its open is not a report
 pub exchanged : IsReportOf programs (report_with (too_early ∷ opened ∷ exited ∷ []) one) → ⊥
 exchanged h = let e : Dup 0 ∷ OpenClone ip ∷ [] ≡ both = h.holds 0 in absurd cc
 
--- the example with the exit of a process without a program, in place of the other's, is no report
+-- the example with the exit of a process without a program, in place of the other's, is not a report
 pub of_another : IsReportOf programs (report_with (opened ∷ copied ∷ another_exited ∷ []) two) → ⊥
 of_another h = let e : CloseAll ∷ [] ≡ [] = h.holds 7 in absurd cc
 
--- the example with another reply to the dup is no report
+-- the example with another reply to the dup is not a report
 pub another_reply : IsReportOf programs (report_with (opened ∷ too_early ∷ exited ∷ []) one) → ⊥
 another_reply h = let e : Fd 1 0 ≡ Fault BadDescriptor = h.legal.1.0 in absurd cc
 
--- the example with a view of one descriptor, where there are two, is no report
+-- the example with a view of one descriptor, where there are two, is not a report
 pub another_view : IsReportOf programs (report_with (opened ∷ copied ∷ exited ∷ []) one) → ⊥
 another_view h = let e : 1 ≡ 2 = ap (λ (v : ConfigView). length v.fds) h.shown in absurd (omega (arith, e))

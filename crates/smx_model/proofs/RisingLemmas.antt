@@ -30,13 +30,13 @@ use Rattle.smx_model.proofs.OutcomeLemmas.{IfAccepted}
 use Rattle.smx_model.proofs.EachLemmas.{kept_passes, later_filter, later_placed, later_without_first, none_passes}
 use Rattle.smx_model.proofs.TestLemmas.{find_passes}
 
--- one more, and fewer
+-- one more element, and fewer
 
--- an order is transitive: what comes before one that comes before another comes before that one too
+-- an order is transitive: an element before a second one comes before everything that the second comes before
 abbrev pub IsTransitive : {X : Type 0} → (X → X → Bool) → Type 0
 IsTransitive {X} before = (x y z : X) → before x y ≡ true → before y z ≡ true → before x z ≡ true
 
--- a list that rises does so once one more is inserted that comes before or after each of its elements
+-- a rising list still rises after one more element is inserted that comes before or after each of its elements
 pub rising_placed : {X : Type 0} (before : X → X → Bool) → IsTransitive before → (x : X) (xs : List X)
     → AllByRecursion (λ y. before x y ≡ false → before y x ≡ true) xs → IsRising before xs
     → IsRising before (with_inserted before xs x)
@@ -49,7 +49,7 @@ rising_placed before trans x xs other h =
 pair_trans : (a b c d e f : ℕ) → pair_before a b c d ≡ true → pair_before c d e f ≡ true → pair_before a b e f ≡ true
 pair_trans a b c d e f h k = grind (arith, nat_tests)
 
--- of two pairs that differ, the one that doesn't come before the other comes after it
+-- of two different pairs, one that doesn't come before the other comes after it
 pair_after : (a b c d : ℕ) → (eqb c a && eqb d b) ≡ false → pair_before a b c d ≡ false → pair_before c d a b ≡ true
 pair_after a b c d h k = grind (arith, nat_tests)
 
@@ -69,27 +69,27 @@ route_trans x y z h k = pair_trans x.driver x.addr y.driver y.addr z.driver z.ad
 pub stream_trans : IsTransitive stream_before
 stream_trans x y z h k = pair_trans x.driver x.minor y.driver y.minor z.driver z.minor h k
 
--- where a driver's address and stream are both free, no binding has that address
+-- if a driver's address and stream are both free, no binding has that address
 pub bind_other : (a b c d e m : ℕ) → (eqb c a && (eqb d b || eqb e m)) ≡ false → (eqb c a && eqb d b) ≡ false
 bind_other a b c d e m h = grind (arith, nat_tests)
 
--- of each accepted outcome
+-- for each accepted outcome
 
--- a free number of a process is none of its descriptors
+-- a free number of a process is not the number of one of its descriptors
 free_number_is_new : (c : Configuration) (process fd : ℕ) → free_fd c process ≡ Ok fd
     → list_any (is_fd process fd) c.fds ≡ false
 free_number_is_new c process fd e =
     not-true _ (find_passes (λ n. not (list_any (is_fd process n) c.fds)) (range_with_len 0 MAX_DESCRIPTORS) fd
     (there_is TooManyDescriptors _ fd e))
 
--- descriptors that rise do so with one more under a free number
+-- rising descriptors still rise with one more under a free number
 fds_rise : (c : Configuration) (process fd : ℕ) (s : StreamId) → AreListsOrdered c → free_fd c process ≡ Ok fd
     → IsRising fd_before (with_fd c process fd s).fds
 fds_rise c process fd s h e = rising_placed fd_before fd_trans (record { process = process; fd = fd; stream = s }) c.fds
     (none_passes (is_fd process fd) _ c.fds (λ d f k. pair_after process fd d.process d.fd f k)
     (free_number_is_new c process fd e)) h.fds
 
--- bindings that rise do so with one more, where neither its address nor its stream is bound
+-- rising bindings still rise with one more, if neither its address nor its stream is bound
 binds_rise : (c : Configuration) (driver addr minor : ℕ) → AreListsOrdered c
     → list_any (λ b. eqb b.driver driver && (eqb b.addr addr || eqb b.minor minor)) c.binds ≡ false
     → IsRising bind_before
@@ -100,7 +100,7 @@ binds_rise c driver addr minor h e =
     (λ b f k. pair_after driver addr b.driver b.addr (bind_other driver addr b.driver b.addr b.minor minor f) k) e)
     h.binds
 
--- routes that rise do so with one more in place of that of its driver and address
+-- rising routes still rise with one more in place of that of its driver and address
 routes_rise : (c : Configuration) (driver addr id : ℕ) → AreListsOrdered c
     → IsRising route_before
     (with_inserted route_before (filter (λ r. not (eqb r.driver driver && eqb r.addr addr)) c.routes)
@@ -110,7 +110,7 @@ routes_rise c driver addr id h =
     (kept_passes (λ r. not (eqb r.driver driver && eqb r.addr addr)) _ c.routes
     (λ r t k. pair_after driver addr r.driver r.addr (not-true _ t) k)) (later_filter _ _ c.routes h.routes)
 
--- hung-up streams that rise do so with one more
+-- rising hung-up streams still rise with one more
 pub rising_with_hung : (s : StreamId) (hungs : List StreamId) → IsRising stream_before hungs
     → IsRising stream_before (with_hung s hungs)
 rising_with_hung s hungs h = by (is_hung hungs s) refl where
@@ -119,7 +119,7 @@ rising_with_hung s hungs h = by (is_hung hungs s) refl where
   by false e = rw e (rising_placed stream_before stream_trans s hungs
       (none_passes (λ t. same_stream t s) _ hungs (λ t f k. pair_after s.driver s.minor t.driver t.minor f k) e) h)
 
--- full places that rise do so with one more, and without one
+-- rising full places still rise with one more, and without one
 rising_marked : (p : Place) (b : Bool) (ps : List Place) → IsRising place_before ps
     → IsRising place_before (with_mark p b ps)
 rising_marked p true ps h = rising_placed place_before place_before_trans p _

@@ -38,7 +38,7 @@ Rising links = AllLater (λ l k. l.id < k.id) links
 abbrev pub leads_from : List Link → ℕ → ℕ → Bool
 leads_from links id driver = list_any (λ l. eqb l.id id && eqb l.ctl.driver driver) links
 
--- ids of links rise from 1 to below the next one; each route has a multiplexing driver, and names a link of its own
+-- ids rise from 1 to below the next one; each route has a multiplexer, and names a link of its own driver
 pub record AreRouted (drivers : List DriverSpec) (c : Configuration) : Type 0 where
   pub rise : Rising c.links
   pub ids : AllByRecursion (λ l. (1 ≤ l.id) × (l.id < c.next_id)) c.links
@@ -48,7 +48,7 @@ pub record AreRouted (drivers : List DriverSpec) (c : Configuration) : Type 0 wh
 
 -- an id names one link
 
--- a number that is below the id of each link is below an id that one of them has
+-- a number below the id of each link is below the id of one of them
 below_found : (links : List Link) (i id driver : ℕ) → AllByRecursion (λ k. i < k.id) links
     → leads_from links id driver ≡ true
     → i < id
@@ -59,13 +59,13 @@ below_found (l ∷ ls) i id driver h e =
       | inr k ↦ below_found ls i id driver h.1 k
     ]
 
--- where an id is below that of each link, no link of that id has another upper driver
+-- if an id is below that of each link, no link with that id has another upper driver
 none_above : (links : List Link) (id driver : ℕ) → AllByRecursion (λ k. id < k.id) links
     → AllByRecursion (λ l. l.id ≡ id → l.ctl.driver ≡ driver) links
 none_above [] id driver h = tt
 none_above (l ∷ ls) id driver h = (λ e. absurd (omega (arith, e, h.0)), none_above ls id driver h.1)
 
--- where ids rise, all links of an id have the upper driver that one of them has
+-- if ids rise, all links with an id have the upper driver of one of them
 pub one_driver : (links : List Link) (id driver : ℕ) → Rising links → leads_from links id driver ≡ true
     → AllByRecursion (λ l. l.id ≡ id → l.ctl.driver ≡ driver) links
 one_driver [] id driver h e = tt
@@ -81,21 +81,21 @@ one_driver (l ∷ ls) id driver h e =
       )
     ]
 
--- each route's id is that of links of its own driver alone
+-- only links of a route's own driver have its id
 pub routes_lead : (drivers : List DriverSpec) (c : Configuration) → AreRouted drivers c
     → AllByRecursion (λ r. AllByRecursion (λ l. l.id ≡ r.id → l.ctl.driver ≡ r.driver) c.links) c.routes
 routes_lead drivers c h = each_map _ _ c.routes (λ r p. one_driver c.links r.id r.driver h.rise p.1) h.routes
 
--- the lists as they change
+-- the lists after changes
 
--- an id that is that of a link with this upper driver is so with one more link at the end
+-- the id of a link with this upper driver is still one with one more link at the end
 leads_push : (ls : List Link) (l : Link) (id driver : ℕ) → leads_from ls id driver ≡ true
     → leads_from (ls ++ l ∷ []) id driver ≡ true
 leads_push [] l id driver e = absurd (false≢true e)
 leads_push (k ∷ ls) l id driver e = elim (or_cases (eqb k.id id && eqb k.ctl.driver driver) (leads_from ls id driver) e)
     [ inl t ↦ or_left _ _ t | inr t ↦ or_right _ _ (leads_push ls l id driver t) ]
 
--- where no link of an id goes, an id of a link with this upper driver is so among the links that stay
+-- if no link with an id is removed, the id of a link with this upper driver is still one among the remaining links
 leads_kept : (goes : Link → Bool) (ls : List Link) (id driver : ℕ) → leads_from ls id driver ≡ true
     → not (list_any (λ l. eqb l.id id) (filter goes ls)) ≡ true
     → leads_from (filter (λ l. not (goes l)) ls) id driver ≡ true
@@ -115,7 +115,7 @@ leads_kept goes (l ∷ ls) id driver e h = elim (cases_Bool (goes l)) [
   not_either true b h = absurd (false≢true h)
   not_either false b h = (refl, h)
 
--- of each accepted outcome
+-- for each accepted outcome
 
 -- without some links and the routes to them, ids still rise, and each route names a link of its own driver
 routed_removed : (drivers : List DriverSpec) (c : Configuration) (goes : Link → Bool) → AreRouted drivers c
@@ -138,13 +138,13 @@ routed_removed drivers c goes h = record {
         rw f (kept rs k.1)
   ]
 
--- where ids rise and each route names a link of its own driver, so it is after the sweep
+-- if ids rise and each route names a link of its own driver, this also holds after the sweep
 routed_done : (drivers : List DriverSpec) (c d : Configuration) → AreRouted drivers d
     → IfAccepted (λ d r. AreRouted drivers d) (done_outcome drivers c d)
 routed_done drivers c d h = let k = routed_removed drivers d _ h in
     record { holds = record { rise = k.rise; ids = k.ids; start = k.start; routes = k.routes } }
 
--- with one more link under the next id, ids still rise, and each route names a link of its own driver
+-- after one more link under the next id, ids still rise, and each route names a link of its own driver
 routed_link : (drivers : List DriverSpec) (c : Configuration) (ctl lower : StreamId) (k : LinkKind)
     → AreRouted drivers c
     → AreRouted drivers
@@ -161,7 +161,7 @@ routed_link drivers c ctl lower k h = record {
   l : Link
   l = record { id = c.next_id; ctl = ctl; lower = lower; kind = k }
 
--- with one more route to a link of its own driver, which is a multiplexing one, each route names one of its own
+-- after one more route of a multiplexer to one of its links, each route names a link of its own driver
 routed_route : (drivers : List DriverSpec) (c : Configuration) (test : Route → Bool) (driver addr id : ℕ)
     → AreRouted drivers c → is_mux drivers driver ≡ true → not (leads_from c.links id driver) ≡ false
     → AreRouted drivers
@@ -177,19 +177,19 @@ routed_route drivers c test driver addr id h mux there = record {
       (mux, not-false _ there) (each_filter _ test c.routes h.routes);
 }
 
--- a stream that is looked up as that of a multiplexing driver has one
+-- the driver of a stream found as that of a multiplexer is one
 mux_is : (drivers : List DriverSpec) (c : Configuration) (process fd : ℕ) (s : StreamId)
     → mux_stream drivers c process fd ≡ Ok s → is_mux drivers s.driver ≡ true
 mux_is drivers c process fd s e =
     not-false _ (tested NotMux (free_stream c process fd) (λ t. not (is_mux drivers t.driver)) s e).1
 
--- an accepted command keeps ids of links rising, and each route with a link of its own driver
+-- an accepted command keeps ids rising, and each route with a link of its own driver
 pub routed_accepted : (drivers : List DriverSpec) (c : Configuration) (process : ℕ) (k : Command) → AreRouted drivers c
     → IfAccepted (λ d r. AreRouted drivers d) (outcome drivers c process k)
 routed_accepted drivers c process k h = of_rows _ drivers c process k
     (search (routed_link, routed_done, routed_removed, routed_route, mux_is, each_filter, rules) depth 24)
 
--- a move keeps ids of links rising, and each route with a link of its own driver
+-- a move keeps ids rising, and each route with a link of its own driver
 pub routed_moved : (drivers : List DriverSpec) (c : Configuration) (p : Place) → AreRouted drivers c
     → AreRouted drivers (after_move drivers c p)
 routed_moved drivers c p h = moved_by (AreRouted drivers) drivers c p h
@@ -199,9 +199,9 @@ routed_moved drivers c p h = moved_by (AreRouted drivers) drivers c p h
 pub routed_empty : (drivers : List DriverSpec) → AreRouted drivers empty
 routed_empty drivers = record { rise = tt; ids = tt; start = omega arith; routes = tt }
 
--- as the laws say it
+-- in the form of the laws
 
--- ids of links that rise by recursion are what `AreIdsRising` says of them
+-- ids that rise by recursion satisfy `AreIdsRising`
 pub rising_ids : (drivers : List DriverSpec) (c : Configuration) → AreRouted drivers c → AreIdsRising c.links c.next_id
 rising_ids drivers c h = record {
   rise = later_map _ _ c.links (λ l k. lt-ltb l.id k.id) h.rise;
@@ -210,7 +210,7 @@ rising_ids drivers c h = record {
   next = h.start;
 }
 
--- routes with links of their own drivers, by recursion, are what `AreRoutesSound` says of them
+-- routes with links of their own drivers, by recursion, satisfy `AreRoutesSound`
 pub sound_routes : (drivers : List DriverSpec) (c : Configuration) → AreRouted drivers c → AreRoutesSound drivers c
 sound_routes drivers c h = record {
   mux = All-from_recursion _ c.routes (each_map _ _ c.routes (λ r p. p.0) h.routes);

@@ -1,4 +1,4 @@
--- Which routes a command takes away.
+-- The routes that a command removes.
 use Rattle.std.proofs.Common.{◌≡◌, ◌↔◌, ℕ, ◌<◌, Bool, true, false, ◌&&◌, ◌||◌, not, eqb, ltb, arith, List, [], ◌∷◌}
 use Rattle.std.proofs.Common.{filter, Ok, Err, refl, rules, sym, subst, inl, inr}
 use Rattle.std.specs.List.{All, Contains, list_any}
@@ -35,21 +35,21 @@ use Rattle.smx_model.proofs.TestLemmas.{any_more}
 
 -- unroute and route
 
--- of the old routes just those are left that don't go
+-- of the old routes exactly those remain that the test does not remove
 record LosesRoutes (c d : Configuration) (goes : Route → Bool) : Type 0 where
   each : (r : Route) → Contains c.routes r → Contains d.routes r ↔ (not (goes r) ≡ true)
 
--- the old routes that don't go are left
+-- the old routes that the test does not remove remain
 record LeavesRoutes (c d : Configuration) (goes : Route → Bool) : Type 0 where
   each : (r : Route) → Contains c.routes r → not (goes r) ≡ true → Contains d.routes r
 
--- where only the routes of a swept configuration change, a command that is done sweeps nothing and names no message
+-- if only the routes of a swept configuration change, a command that is done sweeps nothing and names no message
 idle : (drivers : List DriverSpec) (c : Configuration) (routes : List Route) → IsSwept drivers c
     → done_outcome drivers c (record c { routes = routes }) ≡ Ok (record c { routes = routes }, reply.Done [])
 idle drivers c routes h = done_idle drivers c (record c { routes = routes })
     (record { links = h.links; binds = h.binds; flow = h.flow; fulls = h.fulls; hungs = h.hungs }) refl
 
--- where a command that is done takes nothing but routes from a swept configuration, just those are left that don't go
+-- if a command that is done removes only routes from a swept configuration, exactly the others remain
 fewer_routes : (drivers : List DriverSpec) (c : Configuration) (goes : Route → Bool) → IsSwept drivers c
     → LosesRoutes c
     (after_outcome drivers c (done_outcome drivers c (record c { routes = filter (λ r. not (goes r)) c.routes }))).0
@@ -60,7 +60,7 @@ fewer_routes drivers c goes h = subst (λ (o : Outcome). LosesRoutes c (after_ou
           (λ m. filtered_passes (λ r. not (goes r)) c.routes r m, λ e. in_filtered (λ r. not (goes r)) c.routes r k e);
     })
 
--- where a command that is done puts a route in place of some routes of a swept configuration, all others are left
+-- if a command that is done puts a route in place of some routes of a swept configuration, all others remain
 new_route : (drivers : List DriverSpec) (c : Configuration) (goes : Route → Bool) (x : Route) → IsSwept drivers c
     → LeavesRoutes c
     (after_outcome drivers c
@@ -75,7 +75,7 @@ new_route drivers c goes x h = subst (λ (o : Outcome). LeavesRoutes c (after_ou
           (in_filtered (λ r. not (goes r)) c.routes r k t));
     })
 
--- unroute takes away its driver's routes for the address, and leaves all others
+-- unroute removes its driver's routes for the address, and keeps all others
 pub unroute_takes : (drivers : List DriverSpec) (c : Configuration) (process fd addr : ℕ) (s : StreamId)
     → IsSwept drivers c → mux_stream drivers c process fd ≡ Ok s
     → All (λ r. Contains (step drivers c process (command.Unroute fd addr)).0.routes r
@@ -90,7 +90,7 @@ unroute_takes drivers c process fd addr s h e = all_in _ c.routes left.each wher
       (λ f. record { each = λ r k. (λ m. rw (none_in mine c.routes (not-true _ f) r k) refl, λ t. k) })
       (λ f. fewer_routes drivers c mine h))
 
--- route leaves all routes but its driver's for the address
+-- route keeps all routes except its driver's for the address
 pub route_leaves : (drivers : List DriverSpec) (c : Configuration) (process fd addr id : ℕ) (s : StreamId)
     → IsSwept drivers c → mux_stream drivers c process fd ≡ Ok s
     → All (λ r. not (eqb r.driver s.driver && eqb r.addr addr) ≡ true
@@ -115,7 +115,7 @@ above x [] i h e = absurd (false≢true e)
 above x (l ∷ ls) i h e = elim (or_cases (eqb l.id i) (list_any (λ l. eqb l.id i) ls) e)
     [ inl t ↦ omega (arith, ltb-true x.id l.id h.0, eqb-true l.id i t) | inr k ↦ above x ls i h.1 k ]
 
--- where a link of this id is left, none of this id has gone
+-- if a link with this id remains, no link with this id was removed
 none_gone : (goes : Link → Bool) (ls : List Link) (i : ℕ) → IsRising (λ l k. ltb l.id k.id) ls
     → list_any (λ l. eqb l.id i) (filter (λ l. not (goes l)) ls) ≡ true
     → list_any (λ l. eqb l.id i) (filter goes ls) ≡ false
@@ -133,9 +133,9 @@ none_gone goes (l ∷ ls) i h e = elim (cases_Bool (goes l)) [
       ])
 ]
 
--- each other command leaves the routes whose links stand
+-- each other command keeps the routes whose links exist
 
--- the old routes whose links stand are left
+-- the old routes whose links exist remain
 record KeepsRoutes (c d : Configuration) : Type 0 where
   each : (r : Route) → Contains c.routes r → list_any (λ l. eqb l.id r.id) d.links ≡ true → Contains d.routes r
 
@@ -143,11 +143,11 @@ record KeepsRoutes (c d : Configuration) : Type 0 where
 record AreApart (c : Configuration) : Type 0 where
   rise : IsRising (λ l k. ltb l.id k.id) c.links
 
--- where the routes are as they were, the old ones whose links stand are left
+-- if the routes are unchanged, the old ones whose links exist remain
 led_same : (c d : Configuration) → d.routes ≡ c.routes → KeepsRoutes c d
 led_same c d e = record { each = λ r h t. subst (λ (rs : List Route). Contains rs r) (sym e) h }
 
--- where links are removed whose ids rise, the old routes whose links stand are left, if they were before
+-- if links with rising ids are removed, the old routes whose links exist remain, if they did before
 led_removed : (c d : Configuration) (goes : Link → Bool) → AreApart d → KeepsRoutes c d
     → KeepsRoutes c (without_links d goes)
 led_removed c d goes a h =
@@ -157,37 +157,37 @@ led_removed c d goes a h =
           (rw (none_gone goes d.links r.id a.rise t) refl);
     }
 
--- where the ids of the links rise, a sweep leaves the old routes whose links stand, if they were left before it
+-- if the ids of the links rise, a sweep keeps the old routes whose links exist, if they remained before it
 led_done : (drivers : List DriverSpec) (c d : Configuration) → AreApart d → KeepsRoutes c d
     → IfAccepted (λ d r. KeepsRoutes c d) (done_outcome drivers c d)
 led_done drivers c d a h = let m = led_removed c d _ a h in record { holds = record { each = m.each } }
 
--- where the ids of the links rise, and routes and links are as they were before the sweep, the old routes whose links
--- stand are left after it
+-- if the ids of the links rise, and routes and links are unchanged before the sweep, the old routes whose links exist
+-- remain after it
 led_like : (drivers : List DriverSpec) (c d : Configuration) → AreApart c → d.routes ≡ c.routes → d.links ≡ c.links
     → IfAccepted (λ d r. KeepsRoutes c d) (done_outcome drivers c d)
 led_like drivers c d a e f = led_done drivers c d (record { rise = rw f a.rise }) (led_same c d e)
 
--- where links are removed whose ids rise, the sweep leaves the old routes whose links stand
+-- if links with rising ids are removed, the sweep keeps the old routes whose links exist
 led_gone : (drivers : List DriverSpec) (c : Configuration) (goes : Link → Bool) → AreApart c
     → IfAccepted (λ d r. KeepsRoutes c d) (done_outcome drivers c (without_links c goes))
 led_gone drivers c goes a = led_done drivers c (without_links c goes)
     (record { rise = later_filter _ _ c.links a.rise }) (led_removed c c goes a (led_same c c refl))
 
--- an accepted command that is neither route nor unroute leaves the old routes whose links stand, where ids rise
+-- an accepted command other than route and unroute keeps the old routes whose links exist, if ids rise
 led_accepted : (drivers : List DriverSpec) (c : Configuration) (process : ℕ) (k : Command) → AreApart c
     → ((fd addr id : ℕ) → k ≡ command.Route fd addr id → ⊥) → ((fd addr : ℕ) → k ≡ command.Unroute fd addr → ⊥)
     → IfAccepted (λ d r. KeepsRoutes c d) (outcome drivers c process k)
 led_accepted drivers c process k a no_route no_unroute =
     search (of_rows, led_same, led_like, led_gone, at_none, no_route, no_unroute, rules) depth 24
 
--- no old routes whose links don't stand are left
+-- no old routes whose links don't exist remain
 
--- of the old routes just those are left whose links stand
+-- of the old routes exactly those remain whose links exist
 record JustRouted (c d : Configuration) : Type 0 where
   each : (r : Route) → Contains c.routes r → Contains d.routes r ↔ (list_any (λ l. eqb l.id r.id) d.links ≡ true)
 
--- where of the old routes just those are left whose links stand, moves change nothing in that
+-- if of the old routes exactly those remain whose links exist, moves change nothing about that
 just_settled : (drivers : List DriverSpec) (c : Configuration) (n : ℕ) (d : Configuration) → JustRouted c d
     → JustRouted c (after_settling_within drivers n d)
 just_settled drivers c n d h =
@@ -201,7 +201,7 @@ leads drivers d r h there = any_more (λ l. eqb l.id r.id && eqb l.ctl.driver r.
     (All-contains (λ r. list_any (λ l. eqb l.id r.id && eqb l.ctl.driver r.driver) d.links ≡ true) d.routes r
     h.routes.lead there)
 
--- of a sound configuration's routes a command leaves just those whose links stand, if what it is accepted with is sound
+-- a command keeps exactly the routes of a sound configuration whose links exist, if its accepted outcome is sound
 -- and has these
 just_finished : (drivers : List DriverSpec) (c : Configuration) (o : Outcome) → IsSound drivers c
     → IfOk o (λ x. IsSound drivers x.0) → IfAccepted (λ d r. KeepsRoutes c d) o
@@ -210,7 +210,7 @@ just_finished drivers c (Ok x) h sound m = just_settled drivers c _ x.0
     (record { each = λ r k. (λ there. leads drivers x.0 r sound there, λ t. m.holds.each r k t) })
 just_finished drivers c (Err f) h sound m = record { each = λ r k. (λ there. leads drivers c r h there, λ t. k) }
 
--- a command that is neither route nor unroute leaves just those of the old routes whose links stand
+-- a command other than route and unroute keeps exactly the old routes whose links exist
 pub others_keep_led : (drivers : List DriverSpec) (c : Configuration) (process : ℕ) (k : Command) → IsSound drivers c
     → ((fd addr id : ℕ) → k ≡ command.Route fd addr id → ⊥) → ((fd addr : ℕ) → k ≡ command.Unroute fd addr → ⊥)
     → All (λ r. Contains (step drivers c process k).0.routes r

@@ -1,4 +1,4 @@
--- What moves and settling keep, and what they leave as it was.
+-- Properties that moves and settling preserve, and parts that they don't change.
 use Rattle.std.proofs.Common.{◌≡◌, ℕ, zero, suc, List, [], ◌∷◌, Option, Some, None, Ok, Err, refl, ◌∙◌}
 use Rattle.std.proofs.Common.{Bool, true, false, Result, subst, sym}
 use Rattle.smx_types.specs.declared.command.Command.{Command}
@@ -15,7 +15,8 @@ use Rattle.smx_model.specs.Outcomes.{Outcome, ◌>>=◌, refuse}
 use Rattle.smx_model.specs.Settling.{after_move, after_move_to, after_settling_within, least_movable, next_open_place}
 use Rattle.smx_model.proofs.OutcomeLemmas.{IfAccepted}
 
--- what holds before a move, and once a first message has left and arrived at another place, holds after the move
+-- a property that holds before a move, and after a first message left and arrived at another place, holds
+-- after the move
 pub moved_by : (P : Configuration → Type 0) (drivers : List DriverSpec) (c : Configuration) (p : Place) → P c
     → ((q : Place) (m : Message) → first_message c.flow p ≡ Some m
     → P (after_arrival drivers (after_leaving drivers c p) q m)) → P (after_move drivers c p)
@@ -25,11 +26,11 @@ moved_by P drivers c p h f = by (next_open_place drivers c p) (first_message c.f
   by (Some q) None e = h
   by None m e = h
 
--- each move keeps what P says of a configuration
+-- each move preserves the property P of configurations
 pub record MovesKeep (P : Configuration → Type 0) (drivers : List DriverSpec) : Type 0 where
   pub each : (c : Configuration) (p : Place) → P c → P (after_move drivers c p)
 
--- what each move keeps, settling keeps
+-- if each move preserves a property, settling preserves it
 pub settled_by : (P : Configuration → Type 0) (drivers : List DriverSpec) (n : ℕ) (c : Configuration)
     → MovesKeep P drivers → P c → P (after_settling_within drivers n c)
 settled_by P drivers zero c k h = h
@@ -38,7 +39,7 @@ settled_by P drivers (suc n) c k h = elim (least_movable drivers c) as
     [ None ↦ c | Some p ↦ after_settling_within drivers n (after_move drivers c p) ]))
     [ None ↦ h | Some p ↦ settled_by P drivers n (after_move drivers c p) k (k.each c p h) ]
 
--- what each accepted outcome and each move keep, a history keeps
+-- if each accepted outcome and each move preserve a property, a history preserves it
 pub after_by : (P : Configuration → Type 0) (drivers : List DriverSpec) (c : Configuration) (es : List Entry)
     → MovesKeep P drivers
     → ((c : Configuration) (process : ℕ) (k : Command) → P c → IfAccepted (λ d r. P d) (outcome drivers c process k))
@@ -50,14 +51,14 @@ after_by P drivers c (e ∷ es) k f h = after_by P drivers (step drivers c e.pro
       by (Ok x) m = settled_by P drivers _ x.0 k m.holds
       by (Err g) m = h
 
--- P holds after a lookup that finds something, if it holds after what is done with that
+-- P holds after a look-up that finds a value, if it holds after the steps with that value
 pub after_found : {A : Type 0} (P : Configuration → Type 0) (drivers : List DriverSpec) (c : Configuration)
     (r : Result A Fault) (x : A) (f : A → Outcome) → r ≡ Ok x → P (after_outcome drivers c (f x)).0
     → P (after_outcome drivers c (r >>= f)).0
 after_found {A} P drivers c r x f e h =
     subst (λ (r : Result A Fault). P (after_outcome drivers c (r >>= f)).0) (sym e) h
 
--- P holds after a refusal by a test, if it holds before it where that passes, and behind it where that fails
+-- P holds after a refusal by a test, if it holds before it when the test passes, and after it when the test fails
 pub after_refusal : (P : Configuration → Type 0) (drivers : List DriverSpec) (c : Configuration) (g : Fault) (b : Bool)
     (f : Unit {0} → Outcome) → (b ≡ true → P c) → (b ≡ false → P (after_outcome drivers c (f tt)).0)
     → P (after_outcome drivers c (refuse g b >>= f)).0

@@ -29,13 +29,13 @@ use Rattle.smx_model.proofs.WaitingLemmas.{cleared, keeps_by, waiting_stays}
 
 -- ---- marks after a change
 
--- a place that waits does so where more places are wanted
+-- a place that waits still waits if more places are wanted
 more_wanted : (drivers : List DriverSpec) (c : Configuration) (v w : Place → Bool) (p : Place)
     → ((q : Place) → v q ≡ true → w q ≡ true) → is_waiting drivers c v p ≡ true → is_waiting drivers c w p ≡ true
 more_wanted drivers c v w p f h = keeps_by c c v w (next_of_first drivers c p) (next_of_first drivers c p) (inl refl)
     (λ q e g. let a = and_parts (is_full c q) (v q) g in and_from _ _ a.0 (f q a.1)) h
 
--- a change that turns these places keeps the marks, where what it wakes is marked
+-- a change that turns these places keeps the marks valid, if the places that it wakes are marked
 pub marks_kept : (drivers : List DriverSpec) (turned : Place → Bool) (old new : MarkedConfiguration)
     → HasItsMarks drivers old → TurnsOnly drivers old.configuration new.configuration turned
     → IsMarkedAfter drivers turned old new → HasItsMarks drivers new
@@ -55,7 +55,7 @@ not_moved : (drivers : List DriverSpec) (c : Configuration) (p : Place) → next
     → after_move drivers c p ≡ c
 not_moved drivers c p e = ap (λ (w : Option Place). after_move_to drivers c p w (first_message c.flow p)) e
 
--- a move turns no place but those of `turned_by_move`
+-- a move turns only the places of `turned_by_move`
 pub turns_moved_on : (drivers : List DriverSpec) (c : Configuration) (p : Place) → IsInOrder c.flow
     → TurnsOnly drivers c (after_move drivers c p) (turned_by_move drivers c p)
 turns_moved_on drivers c p o = by (next_open_place drivers c p) refl where
@@ -66,7 +66,7 @@ turns_moved_on drivers c p o = by (next_open_place drivers c p) refl where
   by (Some q) e = subst (λ (w : Option Place). TurnsOnly drivers c (after_move drivers c p)
       (either (same_place p) (is_first_there drivers c p w))) (sym e) (turns_moved drivers c p q o e)
 
--- a move keeps the marks, where what it woke gets a run mark
+-- a move keeps the marks valid, if the places that it woke get a run mark
 pub move_keeps_marks : (drivers : List DriverSpec) (p : Place) (old new : MarkedConfiguration)
     → IsInOrder old.configuration.flow → HasItsMarks drivers old
     → new.configuration ≡ after_move drivers old.configuration p
@@ -77,7 +77,7 @@ move_keeps_marks drivers p old new o h e m = marks_kept drivers (turned_by_move 
 
 -- ---- a cleared mark
 
--- to clear the mark of a place that isn't movable keeps the marks
+-- clearing the mark of a place that isn't movable keeps the marks valid
 pub clearing_keeps_marks : (drivers : List DriverSpec) (p : Place) (old new : MarkedConfiguration)
     → HasItsMarks drivers old → IsCleared drivers p old new → HasItsMarks drivers new
 clearing_keeps_marks drivers p old new h k r unmarked =
@@ -87,7 +87,7 @@ clearing_keeps_marks drivers p old new h k r unmarked =
 
 -- ---- the least marked place
 
--- the least place with a run mark, where it is movable, is the least movable place
+-- the least place with a run mark, if it is movable, is the least movable place
 pub marked_is_least : (drivers : List DriverSpec) (c : Configuration) (run wanted : Place → Bool) (p : Place)
     → IsInOrder c.flow → AreMarked drivers c run wanted → IsLeastMarked run p → is_movable drivers c p ≡ true
     → least_movable drivers c ≡ Some p
@@ -103,7 +103,7 @@ marked_is_least drivers c run wanted p o h l m = by (least_movable drivers c) (l
     ]
   ]
 
--- a search by place finds no message where no place passes the test
+-- a search by place finds no message if no place passes the test
 none_found : (t : Place → Bool) (flow : List QueuedMessage) → ((p : Place) → t p ≡ false)
     → find (λ h. t h.place) flow ≡ None
 none_found t [] f = refl
@@ -117,14 +117,14 @@ none_is_least drivers c s =
 
 -- ---- one move of settling, or none
 
--- settling within one move more moves from the least movable place, if there is one, and then settles
+-- settling within one move more is the move from the least movable place, if there is one, and then settling
 settling_round : (drivers : List DriverSpec) (n : ℕ) (c : Configuration) (o : Option Place)
     → least_movable drivers c ≡ o → after_settling_within drivers (suc n) c ≡ elim o as (λ _. Configuration)
     [ None ↦ c | Some p ↦ after_settling_within drivers n (after_move drivers c p) ]
 settling_round drivers n c o e = ap (λ (x : Option Place).
     elim x as (λ _. Configuration) [ None ↦ c | Some p ↦ after_settling_within drivers n (after_move drivers c p) ]) e
 
--- settling, where there is no least movable place, changes nothing
+-- settling changes nothing if there is no least movable place
 pub settling_stays : (drivers : List DriverSpec) (n : ℕ) (c : Configuration) → least_movable drivers c ≡ None
     → after_settling_within drivers n c ≡ c
 settling_stays drivers zero c e = refl
@@ -143,7 +143,7 @@ moves_round : (drivers : List DriverSpec) (n : ℕ) (c : Configuration) (o : Opt
 moves_round drivers n c o e = ap (λ (x : Option Place).
     elim x as (λ _. List Place) [ None ↦ [] | Some p ↦ p ∷ moves_within drivers n (after_move drivers c p) ]) e
 
--- where there is no least movable place, settling takes from no place
+-- if there is no least movable place, no place is moved from
 no_moves : (drivers : List DriverSpec) (n : ℕ) (c : Configuration) → least_movable drivers c ≡ None
     → moves_within drivers n c ≡ []
 no_moves drivers zero c e = refl
@@ -151,14 +151,14 @@ no_moves drivers (suc n) c e = moves_round drivers n c None e
 
 -- ---- settling by marks
 
--- the end is that of settling within so many moves, by the same moves, and no place of it has a run mark
+-- the end is that of settling within n moves, by the same moves, and no place of it has a run mark
 pub record ComesTo (drivers : List DriverSpec) (n : ℕ) (c : Configuration) (ps : List Place)
     (end : MarkedConfiguration) : Type 0 where
   pub configuration : end.configuration ≡ after_settling_within drivers n c
   pub moves : ps ≡ moves_within drivers n c
   pub rest : IsAtRest drivers end
 
--- where no place has a run mark and all wait, settling has come to its end
+-- if no place has a run mark and all wait, settling has reached its end
 comes_to_end : (drivers : List DriverSpec) (m : MarkedConfiguration) (n : ℕ) → HasItsMarks drivers m
     → HasNoRunMark m.run → ComesTo drivers n m.configuration [] m
 comes_to_end drivers m n h none = let e = none_is_least drivers m.configuration
@@ -169,7 +169,7 @@ comes_to_end drivers m n h none = let e = none_is_least drivers m.configuration
       rest = record { marks = h; none = none };
     }
 
--- what settling comes to after a move from the least movable place, it comes to within one move more
+-- the result of settling after a move from the least movable place is its result within one move more
 comes_by_move : (drivers : List DriverSpec) (old new end : MarkedConfiguration) (p : Place) (ps : List Place) (n : ℕ)
     → least_movable drivers old.configuration ≡ Some p → new.configuration ≡ after_move drivers old.configuration p
     → ComesTo drivers n new.configuration ps end → ComesTo drivers (suc n) old.configuration (p ∷ ps) end
@@ -181,7 +181,7 @@ comes_by_move drivers old new end p ps n e moved h = record {
   rest = h.rest;
 }
 
--- settling by marks comes to what settling within so many moves comes to, where that is settled
+-- settling by marks reaches the result of settling within n moves, if that is settled
 comes_to : (drivers : List DriverSpec) (old : MarkedConfiguration) (ps : List Place) (end : MarkedConfiguration)
     → SettlesByMarks drivers old ps end → (n : ℕ) → IsInOrder old.configuration.flow → HasItsMarks drivers old
     → IsSettled drivers (after_settling_within drivers n old.configuration) → ComesTo drivers n old.configuration ps end
@@ -202,7 +202,7 @@ comes_to drivers old ps end (clears_mark _ new _ p _ step later) n o h s =
     (clearing_keeps_marks drivers p old new h step)
     (subst (λ (c : Configuration). IsSettled drivers (after_settling_within drivers n c)) (sym step.same) s))
 
--- settling by marks comes to what settling comes to
+-- settling by marks reaches the result of settling
 pub comes_to_settled : (drivers : List DriverSpec) (old end : MarkedConfiguration) (ps : List Place)
     → IsSound drivers old.configuration → HasItsMarks drivers old → SettlesByMarks drivers old ps end
     → ComesTo drivers (length old.configuration.flow * length drivers) old.configuration ps end

@@ -31,18 +31,18 @@ use Rattle.smx_model.proofs.RouteLemmas.{AreRouted, routes_lead, routed_moved}
 use Rattle.smx_model.proofs.EachLemmas.{each_find}
 use Rattle.smx_model.proofs.TestLemmas.{find_passes}
 
--- how many numbers below n pass
+-- the number of numbers below n that pass
 abbrev pub count : (ℕ → Bool) → ℕ → ℕ
 count f zero = 0
 count f (suc n) = cond (f n) 1 0 + count f n
 
--- no more than n of the numbers below n pass
+-- at most n of the numbers below n pass
 pub count_le : (f : ℕ → Bool) (n : ℕ) → count f n ≤ n
 count_le f zero = omega arith
 count_le f (suc n) =
     elim (cases_Bool (f n)) [ inl t ↦ rw t (omega (arith, count_le f n)) | inr u ↦ rw u (omega (arith, count_le f n)) ]
 
--- where all numbers that pass a test pass another, of those below n no more pass the one than the other
+-- if all numbers that pass one test pass another, at most as many numbers below n pass the first as the second
 count_more : (f g : ℕ → Bool) (n : ℕ) → ((x : ℕ) → f x ≡ true → g x ≡ true) → count f n ≤ count g n
 count_more f g zero h = omega arith
 count_more f g (suc n) h = elim (cases_Bool (f n)) [
@@ -54,8 +54,8 @@ count_more f g (suc n) h = elim (cases_Bool (f n)) [
   ]
 ]
 
--- where all numbers that pass a test pass another, and one below n passes the other alone, of those below n fewer pass
--- the one
+-- if all numbers that pass one test pass another, and one number below n passes only the second, fewer numbers below
+-- n pass the first
 count_less : (f g : ℕ → Bool) (n b : ℕ) → ((x : ℕ) → f x ≡ true → g x ≡ true) → b < n → f b ≡ false → g b ≡ true
     → count f n < count g n
 count_less f g zero b h lt u v = absurd (omega arith)
@@ -67,16 +67,16 @@ count_less f g (suc n) b h lt u v = elim (cases_eq n b) [
   ]
 ]
 
--- how many of n drivers a side of a driver's stream may lead to
+-- the number of the n drivers that a side of a driver's stream may lead to
 abbrev rank_by : List Link → ℕ → ℕ → Side → ℕ
 rank_by links n d side.Write = count (λ x. reaches links d x) n
 rank_by links n d side.Read = count (λ x. reaches links x d) n
 
--- how many of n drivers a place may lead to
+-- the number of the n drivers that a place may lead to
 abbrev rank : List Link → ℕ → Place → ℕ
 rank links n p = rank_by links n p.stream.driver p.side
 
--- a side of a driver's stream may lead to no more than n of n drivers
+-- a side of a driver's stream may lead to at most n of n drivers
 rank_le : (links : List Link) (n d : ℕ) (s : Side) → rank_by links n d s ≤ n
 rank_le links n d side.Write = count_le _ n
 rank_le links n d side.Read = count_le _ n
@@ -97,14 +97,14 @@ up_less links n a b none r lt = count_less (λ x. reaches links x a) (λ x. reac
 abbrev AreBelow : ℕ → List Link → Type 0
 AreBelow n links = AllByRecursion (λ l. (l.ctl.driver < n) × (l.lower.driver < n)) links
 
--- links without a cycle, whose drivers are in range and whose ids rise, and routes that name them, are what settling
--- needs
+-- the requirements of settling: links without a cycle, whose drivers are in range and whose ids rise, and routes
+-- that name them
 record CanSettle (drivers : List DriverSpec) (c : Configuration) : Type 0 where
   no_cycle : HasNoCycle c.links
   below : AreBelow (length drivers) c.links
   routed : AreRouted drivers c
 
--- where two steps come to something, the first came to something, and the second to that from there
+-- if two steps give a value, the first gave a value, and the second gave the result from it
 pub bound : {A B : Type 0} (o : Option A) (f : A → Option B) (y : B) → (o >>= f) ≡ Some y
     → (x : A) × (o ≡ Some x) × (f x ≡ Some y)
 bound None f y e = cc
@@ -198,26 +198,26 @@ open_next drivers c p q e =
       room r true f e = absurd cc
       room r false f e = (cc, f)
 
--- how much the places of all messages count together
+-- the sum of the weights of the places of all messages
 abbrev weight : (Place → ℕ) → List QueuedMessage → ℕ
 weight f [] = 0
 weight f (h ∷ hs) = f h.place + weight f hs
 
--- where no place counts more than n, a flow weighs at most n times its messages
+-- if no place weighs more than n, a flow weighs at most n times the number of its messages
 weight_le : (f : Place → ℕ) (n : ℕ) (hs : List QueuedMessage) → ((p : Place) → f p ≤ n) → weight f hs ≤ length hs * n
 weight_le f n [] h = omega arith
 weight_le f n (k ∷ hs) h = rw (mul_suc (length hs) n) (omega (arith, weight_le f n hs h, h k.place)) where
   mul_suc : (m n : ℕ) → suc m * n ≡ n + m * n
   mul_suc m n = grind arith
 
--- with one more message a flow weighs as much more as the place of that counts
+-- one more message makes a flow heavier by the weight of its place
 weight_placed : (f : Place → ℕ) (hs : List QueuedMessage) (h : QueuedMessage)
     → weight f (with_inserted queued_before hs h) ≡ f h.place + weight f hs
 weight_placed f [] h = refl
 weight_placed f (k ∷ hs) h =
     elim (cases_Bool (queued_before h k)) [ inl t ↦ rw t refl | inr u ↦ rw u (omega (arith, weight_placed f hs h)) ]
 
--- sides that the test says are the same are equal
+-- sides that pass the test for equality are equal
 same_side_is : (s t : Side) → same_side s t ≡ true → s ≡ t
 same_side_is side.Write side.Write h = refl
 same_side_is side.Write side.Read h = absurd (false≢true h)
@@ -228,12 +228,12 @@ same_side_is side.Read side.Read h = refl
 abbrev at_place : ℕ → ℕ → Side → Place
 at_place d m s = record { stream = record { driver = d; minor = m }; side = s }
 
--- places with the same driver, minor and side are the same
+-- places with the same driver, minor and side are equal
 made : (a b : ℕ) (s : Side) (c d : ℕ) (t : Side) → a ≡ c → b ≡ d → s ≡ t → at_place a b s ≡ at_place c d t
 made a b s c d t e f g =
     ap (λ (x : ℕ). at_place x b s) e ∙ (ap (λ (x : ℕ). at_place c x s) f ∙ ap (λ (x : Side). at_place c d x) g)
 
--- places that the test says are the same are equal
+-- places that pass the test for equality are equal
 pub same_place_is : (p q : Place) → same_place p q ≡ true → p ≡ q
 same_place_is p q h =
     let a = and_parts (same_stream p.stream q.stream) (same_side p.side q.side) h in
@@ -242,7 +242,7 @@ same_place_is p q h =
     (eqb-true p.stream.driver q.stream.driver b.0) (eqb-true p.stream.minor q.stream.minor b.1)
     (same_side_is p.side q.side a.1)
 
--- without the first message of a place a flow weighs as much less as the place counts
+-- without the first message of a place a flow is lighter by the weight of that place
 weight_front : (f : Place → ℕ) (hs : List QueuedMessage) (p : Place) (m : Message) → first_message hs p ≡ Some m
     → weight f hs ≡ f p + weight f (without_first (is_at p) hs)
 weight_front f [] p m e = cc
@@ -251,7 +251,7 @@ weight_front f (h ∷ hs) p m e = elim (cases_Bool (is_at p h)) [
   | inr u ↦ rw u (omega (arith, weight_front f hs p m (rw u at e)))
 ]
 
--- the move of a first message that may go on makes the weight of the flow less
+-- the move of a first message makes the flow lighter
 moved_weight : (drivers : List DriverSpec) (c : Configuration) (p : Place) → CanSettle drivers c → (q : Place)
     → next_open_place drivers c p ≡ Some q
     → weight (rank c.links (length drivers)) (after_move drivers c p).flow
@@ -269,7 +269,7 @@ moved_weight drivers c p h q e =
           (record { place = q; message = l.0 }),
     ))
 
--- where no message's place passes a test, no place with a first message does
+-- if the place of no message passes a test, no place with a first message does
 none_of : (t : Place → Bool) (hs : List QueuedMessage) (p : Place) (m : Message) → find (λ h. t h.place) hs ≡ None
     → first_message hs p ≡ Some m → t p ≡ false
 none_of t [] p m e f = cc
@@ -281,19 +281,19 @@ none_of t (h ∷ hs) p m e f = elim (cases_Bool (t h.place)) [
   ]
 ]
 
--- where no message of the flow is at a movable place, no place is movable
+-- if no message of the flow is at a movable place, no place is movable
 pub no_front : (drivers : List DriverSpec) (c : Configuration) (p : Place) (o : Option Message)
     → first_message c.flow p ≡ o → find (λ h. is_movable drivers c h.place) c.flow ≡ None
     → is_movable drivers c p ≡ false
 no_front drivers c p None e none = rw e refl
 no_front drivers c p (Some m) e none = none_of (is_movable drivers c) c.flow p m none e
 
--- where there is no place of a message that was looked for, no message was found
+-- if the message that was searched for has no place, no message was found
 pub none_least : (o : Option QueuedMessage) → option_map (λ h. h.place) o ≡ None → o ≡ None
 none_least None e = refl
 none_least (Some h) e = cc
 
--- a place of a message that was looked for is that of the message that was found
+-- the place of the message that was searched for is that of the message that was found
 pub some_least : (o : Option QueuedMessage) (p : Place) → option_map (λ h. h.place) o ≡ Some p
     → (h : QueuedMessage) × (o ≡ Some h) × (h.place ≡ p)
 some_least None p e = cc
@@ -304,7 +304,7 @@ movable_way : (o : Option Place) → is_some o ≡ true → (q : Place) × (o �
 movable_way None e = absurd (false≢true e)
 movable_way (Some q) e = (q, refl)
 
--- the first message of the least movable place may go on to some place
+-- the first message of the least movable place has an open next place
 least_way : (drivers : List DriverSpec) (c : Configuration) (p : Place) → least_movable drivers c ≡ Some p
     → (q : Place) × (next_open_place drivers c p ≡ Some q)
 least_way drivers c p e =
@@ -317,7 +317,7 @@ least_way drivers c p e =
 pub moved_links : (drivers : List DriverSpec) (c : Configuration) (p : Place) → (after_move drivers c p).links ≡ c.links
 moved_links drivers c p = moved_by (λ d. d.links ≡ c.links) drivers c p refl (λ q m e. refl)
 
--- a move keeps what settling needs
+-- a move preserves the requirements of settling
 can_move : (drivers : List DriverSpec) (c : Configuration) (p : Place) → CanSettle drivers c
     → CanSettle drivers (after_move drivers c p)
 can_move drivers c p h = record {
@@ -330,7 +330,7 @@ can_move drivers c p h = record {
 abbrev weight_of : List DriverSpec → Configuration → ℕ
 weight_of drivers c = weight (rank c.links (length drivers)) c.flow
 
--- the move of the least movable place makes the weight of the configuration less
+-- the move of the least movable place makes the configuration lighter
 less_weight : (drivers : List DriverSpec) (c : Configuration) (p : Place) → CanSettle drivers c
     → least_movable drivers c ≡ Some p → weight_of drivers (after_move drivers c p) < weight_of drivers c
 less_weight drivers c p h e = let w = least_way drivers c p e in

@@ -22,14 +22,14 @@ use Rattle.smx_model.proofs.OutcomeLemmas.{IfAccepted}
 use Rattle.smx_model.proofs.PathLemmas.{path_reaches, no_cycle_push, no_cycle_fewer}
 use Rattle.smx_types.specs.declared.stream.Place.{Place}
 
--- sound links stay so when they are filtered
+-- sound links stay sound after a filter
 pub sound_filter : (test : Link → Bool) (ls : List Link) → AreLinksSound ls → AreLinksSound (filter test ls)
 sound_filter test ls h = record {
   no_cycle = no_cycle_fewer ls (filter test ls) (of_filtered test ls) h.no_cycle;
   lowers = AllPairs-filter (λ l k. same_stream l.lower k.lower ≡ false) test ls h.lowers;
 }
 
--- sound links stay so with one more, which makes no cycle and whose lower stream is below no other
+-- sound links stay sound with one more, if it closes no cycle and its lower stream is below no other
 pub sound_push : (ls : List Link) (l : Link) → AreLinksSound ls → is_below ls l.lower ≡ false
     → (eqb l.lower.driver l.ctl.driver || reaches ls l.lower.driver l.ctl.driver) ≡ false → AreLinksSound (ls ++ l ∷ [])
 sound_push ls l h free apart = record {
@@ -39,22 +39,22 @@ sound_push ls l h free apart = record {
       (λ t. both_ways _ free (list_any_at (λ m. same_stream m.lower l.lower) ls k d lt t)));
 }
 
--- the links are sound, whatever the reply is
+-- the links are sound, whatever the reply
 abbrev Sound : Configuration → Reply → Type 0
 Sound d r = AreLinksSound d.links
 
--- an accepted command leaves sound links sound
+-- an accepted command keeps sound links sound
 pub sound_accepted : (drivers : List DriverSpec) (c : Configuration) (process : ℕ) (k : Command) → AreLinksSound c.links
     → IfAccepted Sound (outcome drivers c process k)
 sound_accepted drivers c process k h =
     search (of_rows, sound_filter, sound_push, rules) depth 24
 
--- a move leaves sound links sound
+-- a move keeps sound links sound
 pub sound_moved : (drivers : List DriverSpec) (c : Configuration) (p : Place) → AreLinksSound c.links
     → AreLinksSound (after_move drivers c p).links
 sound_moved drivers c p h = moved_by (λ d. AreLinksSound d.links) drivers c p h (λ q m e. h)
 
--- where there are no links, they are sound
+-- the empty list of links is sound
 pub sound_empty : AreLinksSound []
 sound_empty =
     record { no_cycle = λ d h. false≢true (path_reaches [] d d h); lowers = λ i j d lt lt2. absurd (omega arith) }

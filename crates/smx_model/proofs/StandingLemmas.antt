@@ -1,4 +1,4 @@
--- What stands, and what a sweep leaves.
+-- The streams that exist within some climbs, and the result of a sweep.
 use Rattle.std.proofs.Common.{◌≡◌, ℕ, zero, suc, ◌<◌, ◌≤◌, Bool, true, ◌&&◌, ◌||◌, not, eqb, List, length}
 use Rattle.std.proofs.Common.{filter, refl, sym, ap, ◌∙◌, subst, arith, inl, inr}
 use Rattle.std.specs.List.{list_any}
@@ -19,7 +19,7 @@ use Rattle.smx_model.proofs.TestLemmas.{any_same, any_filter, all_passes, any_fo
 
 -- more climbs
 
--- a stream that stands within some climbs stands within any greater number of them
+-- a stream that exists within some climbs exists within any greater number of them
 pub stands_more : (fds : List Descriptor) (links : List Link) (n m : ℕ) (s : StreamId) → n ≤ m
     → stands_within fds links n s ≡ true → stands_within fds links m s ≡ true
 stands_more fds links n zero s le h =
@@ -29,10 +29,10 @@ stands_more fds links n (suc m) s le h = elim (cases_lt m n) [
   | inr ge ↦ or_left _ _ (stands_more fds links n m s ge h)
 ]
 
--- without links whose controlling stream doesn't stand
+-- without links whose controlling stream doesn't exist
 
--- without the ordinary links whose controlling stream doesn't stand within m climbs, the same streams stand within any
--- climbs up to m
+-- without the ordinary links whose controlling stream doesn't exist within m climbs, the same streams exist within
+-- any number of climbs up to m
 stands_filter : (fds : List Descriptor) (links : List Link) (m n : ℕ) (s : StreamId) → n ≤ m
     → stands_within fds (filter (λ l. not (not (is_persistent l) && not (stands_within fds links m l.ctl))) links) n s
     ≡ stands_within fds links n s
@@ -59,7 +59,7 @@ swept_exists : (drivers : List DriverSpec) (c : Configuration) (s : StreamId)
     → exists drivers (after_sweep drivers c) s ≡ exists drivers c s
 swept_exists drivers c s = stands_filter c.fds c.links (length drivers) (length drivers) s (omega arith)
 
--- what a sweep leaves is swept
+-- after a sweep the configuration is swept
 pub swept_is : (drivers : List DriverSpec) (c : Configuration) → IsSwept drivers (after_sweep drivers c)
 swept_is drivers c = record {
   links = all_passes _ _ c.links
@@ -75,9 +75,9 @@ swept_is drivers c = record {
   alive : (a b d : Bool) → b ≡ d → not (not a && not b) ≡ true → (a || d) ≡ true
   alive a b d e h = grind arith
 
--- how many climbs are enough
+-- the number of climbs that suffices
 
--- how many drivers reach a driver
+-- the number of drivers that reach a driver
 abbrev height : List DriverSpec → List Link → ℕ → ℕ
 height drivers links d = count (λ x. reaches links x d) (length drivers)
 
@@ -96,7 +96,7 @@ link_rises drivers links l s none h same =
     up_less links (length drivers) l.ctl.driver s.driver none
     (subst (λ (x : ℕ). reaches links l.ctl.driver x ≡ true) d h.leads) h.ctl
 
--- without a cycle a stream that stands within any climbs stands within as many as there are drivers that reach its own
+-- without a cycle a stream that exists within any climbs does so within the number of drivers that reach its driver
 enough_climbs : (drivers : List DriverSpec) (fds : List Descriptor) (links : List Link) (n : ℕ) (s : StreamId)
     → HasNoCycle links → AllByRecursion (IsLinkIn drivers links) links
     → stands_within fds links n s ≡ true → stands_within fds links (height drivers links s.driver) s ≡ true
@@ -134,7 +134,7 @@ enough_climbs drivers fds links (suc n) s none below
           (and_from _ _ b.0 (stands_more fds links (height drivers links l.ctl.driver) r l.ctl
           (omega (arith, e, link_rises drivers links l s none in_ b.0)) (up l.ctl b.1)))) k)
 
--- without a cycle a stream that stands within any climbs stands within as many as there are drivers
+-- without a cycle a stream that exists within any climbs does so within as many as there are drivers
 pub climbs_suffice : (drivers : List DriverSpec) (fds : List Descriptor) (links : List Link) (n : ℕ) (s : StreamId)
     → HasNoCycle links → AllByRecursion (IsLinkIn drivers links) links
     → stands_within fds links n s ≡ true → stands_within fds links (length drivers) s ≡ true

@@ -44,9 +44,9 @@ use Rattle.smx_model.proofs.TestLemmas.{any_more, all_more, all_push, all_placed
 use Rattle.smx_model.proofs.TestLemmas.{any_push, found_any, found_all}
 use Rattle.std.specs.List.{AllByRecursion}
 
--- with more descriptors or links more streams stand
+-- with more descriptors or links more streams exist
 
--- a stream that stands within some climbs does so with more descriptors and links
+-- a stream that exists within some climbs also exists with more descriptors and links
 stands_grow : (fds fds2 : List Descriptor) (links links2 : List Link)
     → ((t : Descriptor → Bool) → list_any t fds ≡ true → list_any t fds2 ≡ true)
     → ((t : Link → Bool) → list_any t links ≡ true → list_any t links2 ≡ true)
@@ -76,8 +76,8 @@ stands_grow fds fds2 links links2 f g (suc n) s
           let b = and_parts (same_stream l.lower s) (stands_within fds links n l.ctl) a.1 in
           and_from _ _ a.0 (and_from _ _ b.0 (up l.ctl b.1))
 
--- a configuration is swept where all streams that exist in a swept one exist, its links pass the sweep, and all else
--- that is swept is the same
+-- a configuration is swept if all streams that exist in a swept one exist in it, its links pass the sweep, and all
+-- else that is swept is the same
 grown : (drivers : List DriverSpec) (c d : Configuration) → IsSwept drivers c
     → ((s : StreamId) → exists drivers c s ≡ true → exists drivers d s ≡ true)
     → list_all (λ l. is_persistent l || exists drivers d l.ctl) d.links ≡ true → d.binds ≡ c.binds → d.flow ≡ c.flow
@@ -90,7 +90,7 @@ grown drivers c d h more links b f u g = record {
   hungs = rw g (all_more _ _ c.hungs (λ x. more x) h.hungs);
 }
 
--- where one of two tests passes, one of them still does with another in place of the second that passes where that does
+-- if one of two tests passes, so does one of them with the second replaced by a test that passes whenever it does
 link_more : (a b d : Bool) → (b ≡ true → d ≡ true) → (a || b) ≡ true → (a || d) ≡ true
 link_more true b d f h = refl
 link_more false b d f h = f h
@@ -121,7 +121,7 @@ swept_link drivers c l next h e = grown drivers c (record c { links = c.links ++
 pub stream_self : (t : StreamId) → same_stream t t ≡ true
 stream_self t = and_from _ _ (eq-eqb t.driver t.driver refl) (eq-eqb t.minor t.minor refl)
 
--- the stream of a process's descriptor exists
+-- the stream of a process' descriptor exists
 stream_exists : (drivers : List DriverSpec) (c : Configuration) (process fd : ℕ) (s : StreamId)
     → stream_of c process fd ≡ Ok s → exists drivers c s ≡ true
 stream_exists drivers c process fd s e =
@@ -158,18 +158,18 @@ live_leaf_exists : (drivers : List DriverSpec) (c : Configuration) (name : List 
     → live_leaf drivers c name minor ≡ Ok s → exists drivers c s ≡ true
 live_leaf_exists drivers c name minor s e = leaf_exists drivers c name minor s (live_leaf_is drivers c name minor s e).0
 
--- where all full places pass a test, they do once a place that passes it is marked as full or not
+-- if all full places pass a test, they still do after a place that passes it is marked as full or not
 all_marked : (t : Place → Bool) (p : Place) (b : Bool) (ps : List Place) → t p ≡ true → list_all t ps ≡ true
     → list_all t (with_mark p b ps) ≡ true
 all_marked t p true ps h e = all_placed t place_before _ p h (all_filter t _ ps e)
 all_marked t p false ps h e = all_filter t _ ps e
 
--- what is done is swept
+-- the result of a command that is done is swept
 swept_done : (drivers : List DriverSpec) (c d : Configuration)
     → IfAccepted (λ d r. IsSwept drivers d) (done_outcome drivers c d)
 swept_done drivers c d = record { holds = swept_is drivers d }
 
--- an accepted command leaves a swept configuration swept
+-- an accepted command keeps a swept configuration swept
 pub swept_accepted : (drivers : List DriverSpec) (c : Configuration) (process : ℕ) (k : Command) → IsSwept drivers c
     → IfAccepted (λ d r. IsSwept drivers d) (outcome drivers c process k)
 swept_accepted drivers c process k h = of_rows _ drivers c process k (search (
@@ -188,7 +188,7 @@ swept_accepted drivers c process k h = of_rows _ drivers c process k (search (
 
 -- a move goes to a stream that exists
 
--- where the drivers of all controlling streams are there, each link leads from such a driver to its lower one
+-- if the drivers of all controlling streams exist, each link leads from an existing driver to its lower one
 pub links_in : (drivers : List DriverSpec) (links : List Link)
     → AllByRecursion (λ l. l.ctl.driver < length drivers) links
     → AllByRecursion (IsLinkIn drivers links) links
@@ -199,14 +199,14 @@ links_in drivers (l ∷ ls) h = (
       (λ k i. record { ctl = i.ctl; leads = or_left _ _ i.leads }) (links_in drivers ls h.1),
 )
 
--- a swept configuration without a cycle, whose descriptors and links have streams that the drivers have
+-- a swept configuration without a cycle, whose drivers have the streams of its descriptors and links
 pub record IsWhole (drivers : List DriverSpec) (c : Configuration) : Type 0 where
   pub no_cycle : HasNoCycle c.links
   pub named : AreNamed drivers c
   pub swept_ : IsSwept drivers c
 
--- links without a cycle, whose upper drivers are in range and which are persistent or have controlling streams that
--- exist
+-- links without a cycle, whose upper drivers are in range, and which are persistent or have controlling
+-- streams that exist
 pub record AreKeepingLowers (drivers : List DriverSpec) (c : Configuration) : Type 0 where
   pub no_cycle : HasNoCycle c.links
   pub below : AllByRecursion (λ l. l.ctl.driver < length drivers) c.links
@@ -229,14 +229,14 @@ lower_exists drivers c test l h e = elim (cases_Bool (is_persistent l)) [
       (and_from _ _ (rw o refl) (and_from _ _ (stream_self l.lower) up))))
 ]
 
--- a swept configuration without a cycle, whose descriptors and links have known streams, has links that keep their
--- lower streams
+-- a swept configuration without a cycle, whose descriptors and links have known streams, has links that keep
+-- their lower streams
 whole_keeps : (drivers : List DriverSpec) (c : Configuration) → IsWhole drivers c → AreKeepingLowers drivers c
 whole_keeps drivers c h =
     record { no_cycle = h.no_cycle; below = each_map _ _ c.links (λ l p. p.0.0) h.named.links; alive = h.swept_.links }
 
--- in a swept configuration without a cycle, whose descriptors and links have known streams, the next place is of a
--- stream that exists
+-- in a swept configuration without a cycle, whose descriptors and links have known streams, the stream of the
+-- next place exists
 next_exists : (drivers : List DriverSpec) (c : Configuration) (s : StreamId) (addr : ℕ) (which_side : Side) (q : Place)
     → IsWhole drivers c → next_place drivers c (record { stream = s; side = which_side }) addr ≡ Some q
     → exists drivers c q.stream ≡ true
@@ -252,7 +252,7 @@ next_exists drivers c s addr side.Read q h e =
     (found_all (λ b. eqb b.driver w.0.ctl.driver && eqb b.addr addr)
     (λ b. exists drivers c (record { driver = b.driver; minor = b.minor })) c.binds w.2 w.3 h.swept_.binds)
 
--- where the places of all messages pass a test, a place with a first message does
+-- if the places of all messages pass a test, so does a place with a first message
 front_exists : (t : Place → Bool) (hs : List QueuedMessage) (p : Place) (m : Message) → first_message hs p ≡ Some m
     → list_all (λ h. t h.place) hs ≡ true → t p ≡ true
 front_exists t [] p m e h = cc
@@ -260,7 +260,7 @@ front_exists t (k ∷ hs) p m e h =
     let a = and_parts (t k.place) (list_all (λ h. t h.place) hs) h in elim (cases_Bool (is_at p k))
     [ inl y ↦ ap t (sym (same_place_is k.place p y)) ∙ a.0 | inr n ↦ front_exists t hs p m (rw n at e) a.1 ]
 
--- a move leaves a swept configuration without a cycle swept
+-- a move keeps a swept configuration without a cycle swept
 pub swept_moved : (drivers : List DriverSpec) (c : Configuration) (p : Place) → IsWhole drivers c
     → IsSwept drivers (after_move drivers c p)
 swept_moved drivers c p h = by (next_open_place drivers c p) (first_message c.flow p) refl refl where
@@ -280,13 +280,13 @@ swept_moved drivers c p h = by (next_open_place drivers c p) (first_message c.fl
   by (Some q) None e f = h.swept_
   by None m e f = h.swept_
 
--- a stream that stands within some number of climbs exists
+-- a stream that exists within some number of climbs exists within as many as there are drivers
 pub stands_exists : (drivers : List DriverSpec) (c : Configuration) (s : StreamId) → HasNoCycle c.links
     → AllByRecursion (λ l. l.ctl.driver < length drivers) c.links → Stands c s → exists drivers c s ≡ true
 stands_exists drivers c s none below h =
     climbs_suffice drivers c.fds c.links h.climbs s none (links_in drivers c.links below) h.within
 
--- what an accepted command leaves needs no further sweep
+-- the outcome of an accepted command needs no further sweep
 pub swept_once : (drivers : List DriverSpec) (c : Configuration) (process : ℕ) (k : Command) → IsSwept drivers c
     → IfOk (outcome drivers c process k) (λ x. after_sweep drivers x.0 ≡ x.0)
 swept_once drivers c process k h = if_ok (IsSwept drivers) _ (outcome drivers c process k) (swept_idle drivers)

@@ -1,4 +1,4 @@
--- Tests over lists: some element passes, each does, the first that does.
+-- Tests over lists: some element passes, all elements pass, the first element that passes.
 use Rattle.std.proofs.Common.{◌≡◌, Bool, true, false, ◌||◌, not, List, [], ◌∷◌, filter, refl, sym, ap, ◌∙◌, inl, inr}
 use Rattle.std.proofs.Common.{arith, ◌++◌, find, Some}
 use Rattle.std.specs.List.{list_any, list_all}
@@ -8,12 +8,12 @@ use Rattle.std.proofs.lemmas.List.Folds.{list_all-append, list_any-append}
 use Rattle.std.specs.List.{AllByRecursion}
 use Rattle.smx_model.specs.Ordered.{with_inserted, without_first}
 
--- where two tests agree on all, some element passes the one just where some passes the other
+-- if two tests agree on all values, some element passes the one exactly if some element passes the other
 pub any_same : {X : Type 0} (t u : X → Bool) (xs : List X) → ((x : X) → t x ≡ u x) → list_any t xs ≡ list_any u xs
 any_same t u [] h = refl
 any_same t u (x ∷ xs) h = rw (h x, any_same t u xs h) refl
 
--- where all that passes a test is left by a filter, some element passes it after that just where some did before
+-- if a filter keeps all elements that pass a test, some element passes it afterwards exactly if some did before
 pub any_filter : {X : Type 0} (t keep : X → Bool) (xs : List X) → ((x : X) → t x ≡ true → keep x ≡ true)
     → list_any t (filter keep xs) ≡ list_any t xs
 any_filter t keep [] h = refl
@@ -23,7 +23,7 @@ any_filter t keep (x ∷ xs) h = elim (cases_Bool (keep x)) [
       rw (k, f) (any_filter t keep xs h)
 ]
 
--- where what passes a test passes another, each element that a filter by the one leaves passes the other
+-- if values that pass one test pass another, each element that a filter by the first keeps passes the second
 pub all_passes : {X : Type 0} (t u : X → Bool) (xs : List X) → ((x : X) → t x ≡ true → u x ≡ true)
     → list_all u (filter t xs) ≡ true
 all_passes t u [] h = refl
@@ -36,7 +36,7 @@ pub record Found {X : Type 0} (t : X → Bool) (P : X → Type 0) (xs : List X) 
   pub passes : t one ≡ true
   pub has : P one
 
--- where P holds of each element, and some element passes a test, there is one that passes and has P
+-- if P holds of all elements, and some element passes a test, some element passes and has P
 pub any_found : {X : Type 0} (t : X → Bool) (P : X → Type 0) (xs : List X) → AllByRecursion P xs → list_any t xs ≡ true
     → Found t P xs
 any_found t P [] h e = absurd (false≢true e)
@@ -45,53 +45,54 @@ any_found t P (x ∷ xs) h e = elim (or_cases (t x) (list_any t xs) e) [
   | inr k ↦ let f = any_found t P xs h.1 k in record { one = f.one; passes = f.passes; has = f.has }
 ]
 
--- where what passes a test passes another, and some element passes the one, some passes the other
+-- if values that pass one test pass another, and some element passes the first, some element passes the second
 pub any_more : {X : Type 0} (t u : X → Bool) (xs : List X) → ((x : X) → t x ≡ true → u x ≡ true) → list_any t xs ≡ true
     → list_any u xs ≡ true
 any_more t u [] h e = e
 any_more t u (x ∷ xs) h e =
     elim (or_cases (t x) (list_any t xs) e) [ inl k ↦ or_left _ _ (h x k) | inr k ↦ or_right _ _ (any_more t u xs h k) ]
 
--- where P holds of each, and what has P and passes a test passes another, some passes that if some passes the one
+-- if P holds of all elements, and values with P that pass one test pass another, some element passing the first
+-- passes the second
 pub any_more_each : {X : Type 0} (P : X → Type 0) (t u : X → Bool) (xs : List X) → AllByRecursion P xs
     → ((x : X) → P x → t x ≡ true → u x ≡ true) → list_any t xs ≡ true → list_any u xs ≡ true
 any_more_each P t u [] h f e = e
 any_more_each P t u (x ∷ xs) h f e = elim (or_cases (t x) (list_any t xs) e)
     [ inl k ↦ or_left _ _ (f x h.0 k) | inr k ↦ or_right _ _ (any_more_each P t u xs h.1 f k) ]
 
--- where what passes a test passes another, and each element passes the one, each passes the other
+-- if values that pass one test pass another, and all elements pass the first, all pass the second
 pub all_more : {X : Type 0} (t u : X → Bool) (xs : List X) → ((x : X) → t x ≡ true → u x ≡ true) → list_all t xs ≡ true
     → list_all u xs ≡ true
 all_more t u [] h e = e
 all_more t u (x ∷ xs) h e = let p = and_parts (t x) (list_all t xs) e in and_from _ _ (h x p.0) (all_more t u xs h p.1)
 
--- where each element passes, and one more does, each does with that one at the end
+-- if all elements pass, and one more does, all pass with that one at the end
 pub all_push : {X : Type 0} (t : X → Bool) (xs : List X) (x : X) → t x ≡ true → list_all t xs ≡ true
     → list_all t (xs ++ x ∷ []) ≡ true
 all_push t xs x h e = list_all-append t xs (x ∷ []) ∙ and_from _ _ e (and_from _ _ h refl)
 
--- where each element passes, and one more does, each does once that is inserted
+-- if all elements pass, and one more does, all pass after it is inserted
 pub all_placed : {X : Type 0} (t : X → Bool) (before : X → X → Bool) (xs : List X) (x : X) → t x ≡ true
     → list_all t xs ≡ true → list_all t (with_inserted before xs x) ≡ true
 all_placed t before [] x h e = and_from _ _ h refl
 all_placed t before (y ∷ ys) x h e = let p = and_parts (t y) (list_all t ys) e in elim (cases_Bool (before x y))
     [ inl a ↦ rw a (and_from _ _ h e) | inr b ↦ rw b (and_from _ _ p.0 (all_placed t before ys x h p.1)) ]
 
--- where each element passes, each that a filter leaves does
+-- if all elements pass, all that a filter keeps pass
 pub all_filter : {X : Type 0} (t keep : X → Bool) (xs : List X) → list_all t xs ≡ true
     → list_all t (filter keep xs) ≡ true
 all_filter t keep [] e = e
 all_filter t keep (x ∷ xs) e = let p = and_parts (t x) (list_all t xs) e in elim (cases_Bool (keep x))
     [ inl a ↦ rw a (and_from _ _ p.0 (all_filter t keep xs p.1)) | inr b ↦ rw b (all_filter t keep xs p.1) ]
 
--- where each element passes, each does without the first that passes another test
+-- if all elements pass, all pass without the first that passes another test
 pub all_without : {X : Type 0} (t test : X → Bool) (xs : List X) → list_all t xs ≡ true
     → list_all t (without_first test xs) ≡ true
 all_without t test [] e = e
 all_without t test (x ∷ xs) e = let p = and_parts (t x) (list_all t xs) e in elim (cases_Bool (test x))
     [ inl a ↦ rw a p.1 | inr b ↦ rw b (and_from _ _ p.0 (all_without t test xs p.1)) ]
 
--- where some element passes, some does once one more is inserted
+-- if some element passes, some element passes after one more is inserted
 pub any_placed : {X : Type 0} (t : X → Bool) (before : X → X → Bool) (xs : List X) (x : X) → list_any t xs ≡ true
     → list_any t (with_inserted before xs x) ≡ true
 any_placed t before [] x e = absurd (false≢true e)
@@ -102,12 +103,12 @@ any_placed t before (y ∷ ys) x e = elim (cases_Bool (before x y)) [
       [ inl k ↦ or_left _ _ k | inr k ↦ or_right _ _ (any_placed t before ys x k) ])
 ]
 
--- where some element passes, some does with one more at the end
+-- if some element passes, some element passes with one more at the end
 pub any_push : {X : Type 0} (t : X → Bool) (xs : List X) (x : X) → list_any t xs ≡ true
     → list_any t (xs ++ x ∷ []) ≡ true
 any_push t xs x e = list_any-append t xs (x ∷ []) ∙ or_left _ _ e
 
--- where the element that a search finds passes another test, some element passes that
+-- if the element that a search finds passes another test, some element passes that test
 pub found_any : {X : Type 0} (test t : X → Bool) (xs : List X) (x : X) → find test xs ≡ Some x → t x ≡ true
     → list_any t xs ≡ true
 found_any test t [] x e h = cc
@@ -116,7 +117,7 @@ found_any test t (y ∷ ys) x e h = elim (cases_Bool (test y)) [
   | inr b ↦ or_right _ _ (found_any test t ys x (rw b at e) h)
 ]
 
--- where each element passes a test, the one that a search by another finds passes it
+-- if all elements pass a test, the one that a search by another test finds passes it
 pub found_all : {X : Type 0} (test t : X → Bool) (xs : List X) (x : X) → find test xs ≡ Some x → list_all t xs ≡ true
     → t x ≡ true
 found_all test t [] x e h = cc
@@ -125,13 +126,13 @@ found_all test t (y ∷ ys) x e h = let p = and_parts (t y) (list_all t ys) h in
   | inr b ↦ found_all test t ys x (rw b at e) p.1
 ]
 
--- a filter by a test that each element passes leaves the list as it is
+-- a filter by a test that all elements pass keeps the whole list
 pub keep_all : {X : Type 0} (t : X → Bool) (xs : List X) → list_all t xs ≡ true → filter t xs ≡ xs
 keep_all t [] h = refl
 keep_all t (x ∷ xs) h =
     let p = and_parts (t x) (list_all t xs) h in rw p.0 (ap (λ (ys : List _). x ∷ ys) (keep_all t xs p.1))
 
--- where two tests agree on all, each element passes the one just where each passes the other
+-- if two tests agree on all values, all elements pass the one exactly if all pass the other
 pub all_same : {X : Type 0} (t u : X → Bool) (xs : List X) → ((x : X) → t x ≡ u x) → list_all t xs ≡ list_all u xs
 all_same t u [] h = refl
 all_same t u (x ∷ xs) h = rw (h x, all_same t u xs h) refl
@@ -141,7 +142,7 @@ pub all_true : {X : Type 0} (t : X → Bool) (xs : List X) → ((x : X) → t x 
 all_true t [] h = refl
 all_true t (x ∷ xs) h = rw (h x, all_true t xs h) refl
 
--- a filter by a test that no element passes leaves nothing
+-- a filter by a test that no element passes keeps nothing
 pub none_kept : {X : Type 0} (t : X → Bool) (xs : List X) → list_all (λ x. not (t x)) xs ≡ true → filter t xs ≡ []
 none_kept t [] h = refl
 none_kept t (x ∷ xs) h = let p = and_parts (not (t x)) (list_all (λ x. not (t x)) xs) h in elim (cases_Bool (t x))
@@ -155,7 +156,7 @@ find_passes test (y ∷ ys) x e = elim (cases_Bool (test y)) [
   | inr f ↦ find_passes test ys x (rw f at e)
 ]
 
--- once an element is inserted, some element passes just where it does or some did before
+-- after an element is inserted, some element passes exactly if it does or some did before
 pub any_of_placed : {X : Type 0} (t : X → Bool) (before : X → X → Bool) (xs : List X) (x : X)
     → list_any t (with_inserted before xs x) ≡ (t x || list_any t xs)
 any_of_placed t before [] x = refl

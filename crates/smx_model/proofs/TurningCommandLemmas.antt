@@ -1,4 +1,4 @@
--- Which places the commands turn.
+-- The places that commands turn.
 use Rattle.std.proofs.Common.{◌≡◌, ℕ, ◌+◌, Bool, true, false, ◌&&◌, ◌||◌, not, eqb, List, [], ◌∷◌, ◌++◌}
 use Rattle.std.proofs.Common.{filter, Result, Ok, Err, refl, rules, ◌∙◌, inl, inr, arith}
 use Rattle.std.specs.Prelude.{nat_lt, IfOk}
@@ -47,17 +47,17 @@ use Rattle.smx_model.proofs.RisingLemmas.{bind_other}
 use Rattle.smx_model.specs.KnownStreams.{IsKnown}
 use Rattle.smx_model.specs.Ordered.{AllLater}
 
--- ---- each key is there once
+-- ---- each key occurs once
 
--- a number that is less than another isn't that one
+-- a number less than another differs from it
 less_differs : (a b : ℕ) → nat_lt a b ≡ true → eqb a b ≡ false
 less_differs a b h = grind (arith, nat_tests)
 
--- a pair of numbers that comes before another isn't that one
+-- a pair of numbers that comes before another differs from it
 pair_differs : (a b c d : ℕ) → pair_before a b c d ≡ true → (eqb a c && eqb b d) ≡ false
 pair_differs a b c d h = grind (arith, nat_tests)
 
--- in a sound configuration each key of a route, a link or a binding is there once
+-- in a sound configuration each key of a route, a link or a binding occurs once
 pub keyed : (drivers : List DriverSpec) (c : Configuration) → IsSound drivers c → IsKeyed c
 keyed drivers c h = record {
   routes = later_map _ _ c.routes (λ r s. pair_differs r.driver r.addr s.driver s.addr) h.ordered.routes;
@@ -66,7 +66,7 @@ keyed drivers c h = record {
   binds = later_map _ _ c.binds (λ b e. pair_differs b.driver b.addr e.driver e.addr) h.ordered.binds;
 }
 
--- the links of a sound configuration are sound, and their upper drivers are there
+-- the links of a sound configuration are sound, and their upper drivers exist
 pub rooted : (drivers : List DriverSpec) (c : Configuration) → IsSound drivers c → AreRooted drivers c.links
 rooted drivers c h = record {
   sound = h.links;
@@ -74,8 +74,8 @@ rooted drivers c h = record {
       (recursion_from_All _ c.links h.known.controlling);
 }
 
--- where a relation goes both ways, and each element is related so to all later ones and to one more, it is so with that
--- one inserted
+-- if a relation is symmetric, and each element is related to all later ones and to one more, this also holds after
+-- that one is inserted
 related_placed : {X : Type 0} (R : X → X → Type 0) (before : X → X → Bool) → ((x y : X) → R x y → R y x)
     → (x : X) (xs : List X) → AllByRecursion (R x) xs → AllLater R xs → AllLater R (with_inserted before xs x)
 related_placed R before s x [] e h = (tt, tt)
@@ -84,7 +84,7 @@ related_placed R before s x (y ∷ ys) e h = elim (cases_Bool (before x y)) [
   | inr f ↦ rw f (each_placed (R y) before ys x (s x y e.0) h.0, related_placed R before s x ys e.1 h.1)
 ]
 
--- with a route in place of that of its driver and address, each key is still there once
+-- after a route in place of that of its driver and address, each key still occurs once
 keyed_routed : (c : Configuration) (driver addr id : ℕ) → IsKeyed c → IsKeyed (routed c driver addr id)
 keyed_routed c driver addr id h = record {
   routes = related_placed (λ r s. (eqb r.driver s.driver && eqb r.addr s.addr) ≡ false) route_before
@@ -98,7 +98,7 @@ keyed_routed c driver addr id h = record {
   binds = h.binds;
 }
 
--- with a binding of an address and a stream that were free, each key is still there once
+-- after a binding of an address and a stream that were free, each key still occurs once
 keyed_bound : (c : Configuration) (driver addr minor : ℕ)
     → list_any (λ b. eqb b.driver driver && (eqb b.addr addr || eqb b.minor minor)) c.binds ≡ false → IsKeyed c
     → IsKeyed (bound c driver addr minor)
@@ -124,7 +124,7 @@ turns_done : (drivers : List DriverSpec) (c new : Configuration) (t : Place → 
 turns_done drivers c new t h k r = at_ok _ (after_sweep drivers new) _
     (turns_then drivers c new (after_sweep drivers new) t h (turns_swept drivers new k r))
 
--- a message that arrives under the next serial turns no place but its own, and that only if it was empty
+-- a message that arrives under the next serial turns only its own place, and only if it was empty
 arrived_turns : (drivers : List DriverSpec) (c : Configuration) (p : Place) (m : Message) (n : ℕ) → IsSound drivers c
     → TurnsOnly drivers c (record (after_arrival drivers c p m) { next_serial = n }) (is_first_at c p)
 arrived_turns drivers c p m n h = turns_then drivers c (after_arrival drivers c p m)
@@ -133,7 +133,7 @@ arrived_turns drivers c p m n h = turns_then drivers c (after_arrival drivers c 
     (turns_unchanged drivers (after_arrival drivers c p m)
     (record (after_arrival drivers c p m) { next_serial = n }) refl refl refl refl refl)
 
--- a message that is sent turns no place but the one to which it is sent, and that only if it was empty
+-- a message that is sent turns only the place to which it is sent, and only if it was empty
 turns_sent : (drivers : List DriverSpec) (c : Configuration) (p : Place) (addr : ℕ) (bytes : List ℕ) → IsSound drivers c
     → IfAccepted (λ d r. TurnsOnly drivers c d (is_first_at c p)) (send_outcome drivers c p addr bytes)
 turns_sent drivers c p addr bytes h = search (
@@ -144,7 +144,7 @@ turns_sent drivers c p addr bytes h = search (
   rules,
 ) depth 12
 
--- a message that is delivered turns no place but its own
+-- a message that is delivered turns only its own place
 turns_received : (drivers : List DriverSpec) (c : Configuration) (p : Place)
     → IfAccepted (λ d r. TurnsOnly drivers c d (same_place p)) (receive_outcome drivers c p)
 turns_received drivers c p = search (after_some, at_ok, turns_left, rules) depth 12
@@ -176,14 +176,14 @@ turns_unrouted : (drivers : List DriverSpec) (c : Configuration) (keep : Route �
 turns_unrouted drivers c keep k = fewer_turns drivers c (record c { routes = filter keep c.routes })
     (search (routes_find, same_finds, rules)) (λ r. inl refl)
 
--- a route that is made turns no place but write sides of its driver whose first message has its address
+-- making a route turns only write sides of its driver whose first message has its address
 turns_route : (drivers : List DriverSpec) (c : Configuration) (driver addr id : ℕ) → IsKeyed c
     → AreRooted drivers c.links → IfAccepted (λ d r. TurnsOnly drivers c d (asks_down c driver addr))
     (done_outcome drivers c (routed c driver addr id))
 turns_route drivers c driver addr id k x = turns_done drivers c (routed c driver addr id) (asks_down c driver addr)
     (turns_routed drivers c driver addr id) (keyed_routed c driver addr id k) x
 
--- a binding that is made turns no place but read sides below its driver whose first message has its address
+-- making a binding turns only read sides below its driver whose first message has its address
 turns_bind : (drivers : List DriverSpec) (c : Configuration) (driver addr minor : ℕ) → IsKeyed c
     → AreRooted drivers c.links → list_any (λ b. eqb b.driver driver && (eqb b.addr addr || eqb b.minor minor)) c.binds
     ≡ false
@@ -192,7 +192,7 @@ turns_bind : (drivers : List DriverSpec) (c : Configuration) (driver addr minor 
 turns_bind drivers c driver addr minor k x free = turns_done drivers c (bound c driver addr minor)
     (asks_up c driver addr) (turns_bound drivers c driver addr minor) (keyed_bound c driver addr minor free k) x
 
--- a stream that has hung up has done so once one more stream hangs up
+-- a stream that has hung up still has after one more stream hangs up
 pub hung_more : (s t : StreamId) (hungs : List StreamId) → is_hung hungs t ≡ true → is_hung (with_hung s hungs) t ≡ true
 hung_more s t hungs h = hung_with s t hungs ∙ or_right (same_stream s t) _ h
 
@@ -202,11 +202,11 @@ pub more_hung_turn_none : (drivers : List DriverSpec) (c : Configuration) (s : S
 more_hung_turn_none drivers c s = fewer_turns drivers c (record c { hungs = with_hung s c.hungs })
     (search (hung_more, same_finds, rules)) (λ r. inl refl)
 
--- where nothing changes, no place is turned
+-- if nothing changes, no place is turned
 turns_none : (drivers : List DriverSpec) (c : Configuration) (t : Place → Bool) → TurnsOnly drivers c c t
 turns_none drivers c t r f = inl refl
 
--- one more link turns no place but the read side of its lower stream
+-- one more link turns only the read side of its lower stream
 turns_new_link : (drivers : List DriverSpec) (c : Configuration) (upper lower : StreamId) (k : LinkKind)
     → IsSound drivers c
     → TurnsOnly drivers c
@@ -217,14 +217,14 @@ turns_new_link : (drivers : List DriverSpec) (c : Configuration) (upper lower : 
 turns_new_link drivers c upper lower k h =
     turns_linked drivers c (record { id = c.next_id; ctl = upper; lower = lower; kind = k }) (c.next_id + 1) h.routes
 
--- what is so of places by a stream, whatever the stream, is so of places by the stream that a lookup names
+-- a property of places by a stream, for any stream, holds of places by the stream that a look-up names
 pub at_stream : (P : Configuration → (Place → Bool) → Type 0) (named : Result StreamId Fault)
     (t : StreamId → Place → Bool) (f : StreamId → Outcome) → ((s : StreamId) → IfAccepted (λ d r. P d (t s)) (f s))
     → IfAccepted (λ d r. P d (of_stream named t)) (named >>= f)
 at_stream P (Ok s) t f h = h s
 at_stream P (Err e) t f h = record { holds = tt }
 
--- a link that is made turns no place but the read side of its lower stream
+-- making a link turns only the read side of its lower stream
 turns_link : (drivers : List DriverSpec) (c : Configuration) (process fd arg : ℕ) (k : LinkKind) → IsSound drivers c
     → IfAccepted (λ d r. TurnsOnly drivers c d (of_stream (stream_of c process arg) (λ s. same_place (read_side s))))
     (link_outcome drivers c process fd arg k)
@@ -237,7 +237,7 @@ turns_link drivers c process fd arg k h = search (
   rules,
 ) depth 24
 
--- an accepted command, from a sound configuration, turns no place but those of `turned_by`
+-- an accepted command, from a sound configuration, turns only places of `turned_by`
 pub turns : (drivers : List DriverSpec) (c : Configuration) (process : ℕ) (k : Command) → IsSound drivers c
     → IfAccepted (λ d r. TurnsOnly drivers c d (turned_by drivers c process k)) (outcome drivers c process k)
 turns drivers c process (command.OpenClone name) h = search (after_ok, at_ok, turns_with_fd, rules) depth 20
@@ -301,7 +301,7 @@ turns drivers c process (command.Transmit name minor) h = search (
 turns drivers c process (command.Hangup name minor) h = let k = keyed drivers c h in let x = rooted drivers c h in
     search (after_ok, turns_still, more_hung_turn_none, rules) depth 20
 
--- of an outcome that is accepted, no place is turned but those of `turned_by`
+-- an accepted outcome turns only places of `turned_by`
 pub outcomes_turn : (drivers : List DriverSpec) (c : Configuration) (process : ℕ) (k : Command) → IsSound drivers c
     → IfOk (outcome drivers c process k) (λ x. TurnsOnly drivers c x.0 (turned_by drivers c process k))
 outcomes_turn drivers c process k h = if_ok (λ d. TurnsOnly drivers c d (turned_by drivers c process k)) _

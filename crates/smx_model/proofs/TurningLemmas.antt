@@ -1,4 +1,4 @@
--- Which changes turn which places.
+-- The places that changes turn.
 use Rattle.std.proofs.Common.{◌≡◌, ℕ, Bool, true, false, ◌&&◌, not, eqb, List, [], ◌∷◌, ◌++◌, filter, find, Option}
 use Rattle.std.proofs.Common.{Some, None, refl, sym, ap, ◌∙◌, subst, inl, inr}
 use Rattle.std.specs.List.{list_any}
@@ -35,8 +35,8 @@ use Rattle.std.specs.List.{AllByRecursion}
 use Rattle.std.proofs.lemmas.List.Elements.{recursion_from_All}
 use Rattle.smx_model.proofs.EachLemmas.{later_without_first}
 
--- a change that turns only these places keeps the marks, if what it wakes gets a run mark and what it frees is wanted
--- no longer
+-- a change that turns only these places keeps the marks valid, if the places that it wakes get a run mark and those
+-- that it frees are no longer wanted
 pub wakes : (drivers : List DriverSpec) (c d : Configuration) (run v turned : Place → Bool) → AreMarked drivers c run v
     → TurnsOnly drivers c d turned
     → AreMarked drivers d (either run (woken_by drivers c d v turned)) (wanted_after c d v)
@@ -79,7 +79,7 @@ bound_side o = o >>= (λ b. Some (record { stream = record { driver = b.driver; 
 abbrev pub up_by : List Binding → ℕ → Option Link → Option Place
 up_by binds addr o = o >>= (λ l. bound_side (find (λ b. eqb b.driver l.ctl.driver && eqb b.addr addr) binds))
 
--- where the next place by its side stays or is none, so does the next place
+-- if the next place by its side stays or is none, so does the next place
 pub stays_by : (drivers : List DriverSpec) (c d : Configuration) (p : Place) (addr : ℕ)
     → Stays (next_by drivers c p.stream addr p.side) (next_by drivers d p.stream addr p.side)
     → Stays (next_place drivers c p addr) (next_place drivers d p addr)
@@ -87,13 +87,13 @@ stays_by drivers c d p addr h =
     subst (λ o. Stays o (next_place drivers d p addr)) (sym (next_is drivers c p addr))
     (subst (λ n. Stays (next_by drivers c p.stream addr p.side) n) (sym (next_is drivers d p addr)) h)
 
--- ---- streams that are the same
+-- ---- equal streams
 
 -- the stream of a driver's minor
 abbrev stream_of_parts : ℕ → ℕ → StreamId
 stream_of_parts driver minor = record { driver = driver; minor = minor }
 
--- streams that the test says are the same are equal
+-- streams that pass the test for equality are equal
 pub same_stream_is : (s t : StreamId) → same_stream s t ≡ true → s ≡ t
 same_stream_is s t e =
     let p = and_parts (eqb s.driver t.driver) (eqb s.minor t.minor) e in
@@ -102,19 +102,19 @@ same_stream_is s t e =
 
 -- ---- one change after another
 
--- two changes, one after the other, turn no place but those that one of them turns
+-- two changes, one after the other, turn only places that one of them turns
 turns_both : (drivers : List DriverSpec) (c d e : Configuration) (s t : Place → Bool) → TurnsOnly drivers c d s
     → TurnsOnly drivers d e t → TurnsOnly drivers c e (either s t)
 turns_both drivers c d e s t h k r n = let o = or_parts (s r) (t r) n in finds_then _ _ _ (h r o.0) (k r o.1)
 
--- a change that turns some places, and then one that turns none, together turn no others
+-- a change that turns some places, followed by one that turns none, turns no others
 pub turns_then : (drivers : List DriverSpec) (c d e : Configuration) (t : Place → Bool) → TurnsOnly drivers c d t
     → TurnsOnly drivers d e nowhere → TurnsOnly drivers c e t
 turns_then drivers c d e t h k r n = turns_both drivers c d e t nowhere h k r (or_from _ _ n refl)
 
--- ---- changes that turn none
+-- ---- changes that turn no place
 
--- where links, routes, bindings, hung-up streams and the flow are as before, no place is turned
+-- if links, routes, bindings, hung-up streams and the flow are unchanged, no place is turned
 pub turns_unchanged : (drivers : List DriverSpec) (c d : Configuration) → d.links ≡ c.links → d.routes ≡ c.routes
     → d.binds ≡ c.binds → d.hungs ≡ c.hungs → d.flow ≡ c.flow → TurnsOnly drivers c d nowhere
 turns_unchanged drivers c d l r b u f p n =
@@ -122,13 +122,13 @@ turns_unchanged drivers c d l r b u f p n =
 
 -- ---- a message arrives, the first one leaves
 
--- a first message that leaves turns no place but its own
+-- a first message that leaves turns only its own place
 pub turns_left : (drivers : List DriverSpec) (c : Configuration) (p : Place)
     → TurnsOnly drivers c (after_leaving drivers c p) (same_place p)
 turns_left drivers c p r f =
     inl (next_of_same drivers c (after_leaving drivers c p) r refl refl refl refl (first_left c.flow p r f))
 
--- a message that arrives turns no place but its own, and that only if it was empty
+-- a message that arrives turns only its own place, and only if it was empty
 pub turns_arrived : (drivers : List DriverSpec) (c : Configuration) (q : Place) (m : Message) → IsInOrder c.flow
     → TurnsOnly drivers c (after_arrival drivers c q m) (is_first_at c q)
 turns_arrived drivers c q m o r f =
@@ -136,7 +136,7 @@ turns_arrived drivers c q m o r f =
 
 -- ---- a route
 
--- with a route of the driver for the address, which names this link, in place of the one that it had
+-- with a route of the driver for the address, which names this link, in place of the old one
 abbrev pub routed : Configuration → ℕ → ℕ → ℕ → Configuration
 routed c driver addr id =
     record c {
@@ -157,7 +157,7 @@ find_routed c driver addr id d a h = find_placed (λ r. eqb r.driver d && eqb r.
       apart r t =
           let p = and_parts (eqb r.driver d) (eqb r.addr a) t in rw (eqb-true r.driver d p.0, eqb-true r.addr a p.1) h
 
--- a route turns no place but the driver's write sides whose first message has its address
+-- a route turns only the driver's write sides whose first message has its address
 pub turns_routed : (drivers : List DriverSpec) (c : Configuration) (driver addr id : ℕ)
     → TurnsOnly drivers c (routed c driver addr id) (asks_down c driver addr)
 turns_routed drivers c driver addr id r f = by (first_message c.flow r) f where
@@ -178,7 +178,7 @@ abbrev pub bound : Configuration → ℕ → ℕ → ℕ → Configuration
 bound c driver addr minor =
     record c { binds = with_inserted bind_before c.binds (record { driver = driver; addr = addr; minor = minor }) }
 
--- a binding turns no place but the read sides below its driver whose first message has its address
+-- a binding turns only the read sides below its driver whose first message has its address
 pub turns_bound : (drivers : List DriverSpec) (c : Configuration) (driver addr minor : ℕ)
     → TurnsOnly drivers c (bound c driver addr minor) (asks_up c driver addr)
 turns_bound drivers c driver addr minor r f = by (first_message c.flow r) f where
@@ -212,7 +212,7 @@ turns_bound drivers c driver addr minor r f = by (first_message c.flow r) f wher
 
 -- ---- a link
 
--- a link turns no place but the read side of its lower stream
+-- a link turns only the read side of its lower stream
 pub turns_linked : (drivers : List DriverSpec) (c : Configuration) (l : Link) (next : ℕ) → AreRoutesSound drivers c
     → TurnsOnly drivers c (record c { links = c.links ++ l ∷ []; next_id = next })
     (same_place (record { stream = l.lower; side = side.Read }))
@@ -247,7 +247,7 @@ turns_linked drivers c l next sound r f = by (first_message c.flow r) where
 
 -- ---- a move
 
--- a move turns no place but the one that it takes from, and the one that it goes to, if that was empty
+-- a move turns only the place that the message leaves, and the place that it goes to, if that was empty
 pub turns_moved : (drivers : List DriverSpec) (c : Configuration) (p q : Place) → IsInOrder c.flow
     → next_open_place drivers c p ≡ Some q
     → TurnsOnly drivers c (after_move drivers c p) (either (same_place p) (is_first_at (after_leaving drivers c p) q))

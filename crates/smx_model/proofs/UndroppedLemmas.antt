@@ -25,19 +25,19 @@ use Rattle.smx_model.proofs.FreedPlaceLemmas.{swept_keeps}
 use Rattle.smx_model.proofs.OutcomeLemmas.{IfAccepted, if_accepted}
 use Rattle.smx_model.proofs.QueueLemmas.{gone_is}
 
--- ---- a flow from which no serial left
+-- ---- a flow that no serial has left
 
--- the flow is what some test leaves of the other one
+-- the new flow is a filtered old one
 record IsPart (old new : List QueuedMessage) : Type 0 where
   keep : QueuedMessage → Bool
   is : new ≡ filter keep old
 
--- a test that all pass leaves each
+-- a test that all messages pass keeps all
 all_left : (hs : List QueuedMessage) → filter (λ h. true) hs ≡ hs
 all_left [] = refl
 all_left (h ∷ hs) = ap (λ (ks : List QueuedMessage). h ∷ ks) (all_left hs)
 
--- two tests one after the other leave what both leave together
+-- two filters in turn are one filter by both tests
 two_left : (f g : QueuedMessage → Bool) (hs : List QueuedMessage)
     → filter g (filter f hs) ≡ filter (λ h. f h && g h) hs
 two_left f g [] = refl
@@ -49,7 +49,7 @@ two_left f g (h ∷ hs) = elim (cases_Bool (f h)) [
   | inr n ↦ rw n (two_left f g hs)
 ]
 
--- a flow that is as it was is a part of itself
+-- an unchanged flow is a part of itself
 same_part : (old new : List QueuedMessage) → new ≡ old → IsPart old new
 same_part old new e = record { keep = λ h. true; is = e ∙ sym (all_left old) }
 
@@ -61,7 +61,7 @@ part_of_part old mid new g h e = record {
   is = e ∙ (ap (filter g) h.is ∙ two_left h.keep g old);
 }
 
--- where none is left of those that don't pass, all pass
+-- if no message fails the test, all messages pass it
 none_out : (keep : QueuedMessage → Bool) (hs : List QueuedMessage) → filter (λ h. not (keep h)) hs ≡ []
     → filter keep hs ≡ hs
 none_out keep [] e = refl
@@ -71,7 +71,7 @@ none_out keep (h ∷ hs) e = elim (cases_Bool (keep h)) [
   | inr f ↦ let some : ◌≡◌ {A = List QueuedMessage} (h ∷ filter (λ h. not (keep h)) hs) [] = rw f at e in absurd cc
 ]
 
--- numbers of which there are none in rising order are none
+-- if sorting gives no numbers, there are none
 none_rising : (ns : List ℕ) → in_rising_order ns ≡ [] → ns ≡ []
 none_rising [] e = refl
 none_rising (n ∷ ns) e =
@@ -84,7 +84,7 @@ no_serials : (hs : List QueuedMessage) → serials hs ≡ [] → hs ≡ []
 no_serials [] e = refl
 no_serials (h ∷ hs) e = absurd cc
 
--- where no serial left, and each is there once, a part is the whole
+-- if no serial left, and each occurs once, a part is the whole
 whole : (old new : List QueuedMessage) → AllPairs (λ m n. m ≡ n → ⊥) (serials old) → IsPart old new
     → serials_that_left old new ≡ [] → new ≡ old
 whole old new apart h none =
@@ -95,21 +95,21 @@ whole old new apart h none =
 
 -- ---- the rows of the command table
 
--- a sweep leaves a part
+-- a sweep gives a part of the flow
 swept_part : (drivers : List DriverSpec) (old : List QueuedMessage) (c : Configuration) → IsPart old c.flow
     → IsPart old (after_sweep drivers c).flow
 swept_part drivers old c h = part_of_part old (without_links c _).flow (after_sweep drivers c).flow _
     (part_of_part old c.flow (without_links c _).flow _ h refl) refl
 
--- what names no message that was dropped frees none
+-- a command that names no dropped message frees no place
 abbrev FreesUndropped : Configuration → Configuration → Reply → Type 0
 FreesUndropped c d r = r ≡ reply.Done [] → FreesOnly c d nowhere
 
--- another reply than that it is done names no message
+-- a reply other than `done` names no message
 other_reply : (c d : Configuration) (r : Reply) → (r ≡ reply.Done [] → ⊥) → FreesUndropped c d r
 other_reply c d r never e = absurd (never e)
 
--- where the flow is as it was, and each place is as full as it was or is empty, no place that had messages is freed
+-- if the flow is unchanged, and each place is as full as before or empty, no place that had messages is freed
 none_freed : (c d : Configuration) → HaveFullPlacesMessages c → KeepsOrEmpties c d → d.flow ≡ c.flow
     → FreesOnly c d nowhere
 none_freed c d some h same p freed = absurd (elim (h p) [
@@ -118,7 +118,7 @@ none_freed c d some h same p freed = absurd (elim (h p) [
       (ap (λ (hs : List QueuedMessage). first_message hs p) (sym same) ∙ e)
 ])
 
--- a change that leaves a part of the messages, and keeps or empties each place, frees none if none was dropped
+-- a change that keeps a part of the messages, and keeps or empties each place, frees no place if none was dropped
 done_undropped : (drivers : List DriverSpec) (c new : Configuration) → AreSerialsSound c → HaveFullPlacesMessages c
     → IsPart c.flow new.flow → KeepsOrEmpties c new
     → IfAccepted (FreesUndropped c) (done_outcome drivers c new)
@@ -130,7 +130,7 @@ done_undropped drivers c new sound some part keeps = record {
   named : (ns : List ℕ) → reply.Done ns ≡ reply.Done [] → ns ≡ []
   named ns e = cc
 
--- a change that keeps the messages and the full marks
+-- a change that keeps the messages and the full marks frees no place
 still_undropped : (drivers : List DriverSpec) (c new : Configuration) → AreSerialsSound c → HaveFullPlacesMessages c
     → new.flow ≡ c.flow → new.fulls ≡ c.fulls → IfAccepted (FreesUndropped c) (done_outcome drivers c new)
 still_undropped drivers c new sound some flow fulls = done_undropped drivers c new sound some
@@ -139,13 +139,13 @@ still_undropped drivers c new sound some flow fulls = done_undropped drivers c n
       ap (λ (hs : List QueuedMessage). first_message hs q) flow,
     ))
 
--- links that are removed
+-- the same of the removal of links
 removed_undropped : (drivers : List DriverSpec) (c : Configuration) (goes : Link → Bool) → AreSerialsSound c
     → HaveFullPlacesMessages c → IfAccepted (FreesUndropped c) (done_outcome drivers c (without_links c goes))
 removed_undropped drivers c goes sound some = done_undropped drivers c (without_links c goes) sound some
     (record { keep = _; is = refl }) (removed_keeps c goes)
 
--- places that are flushed
+-- the same of a flush of places
 flushed_undropped : (drivers : List DriverSpec) (c : Configuration) (goes : Place → Bool) → AreSerialsSound c
     → HaveFullPlacesMessages c → IfAccepted (FreesUndropped c) (done_outcome drivers c (without_queues_at c goes))
 flushed_undropped drivers c goes sound some = done_undropped drivers c (without_queues_at c goes) sound some
@@ -176,7 +176,7 @@ undropped drivers c process k sound some = of_rows (FreesUndropped c) drivers c 
   hangup = λ name minor is s a. still_undropped drivers c _ sound some refl refl;
 }
 
--- the same, where the outcome is accepted
+-- the same of an accepted outcome
 pub undropped_if : (drivers : List DriverSpec) (c : Configuration) (process : ℕ) (k : Command) → AreSerialsSound c
     → HaveFullPlacesMessages c
     → IfOk (outcome drivers c process k) (λ x. x.1 ≡ reply.Done [] → FreesOnly c x.0 nowhere)

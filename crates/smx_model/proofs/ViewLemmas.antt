@@ -1,4 +1,4 @@
--- Each part of a configuration names a stream that its drivers have, and so the view determines the configuration.
+-- The drivers have the stream of each part of a configuration, so the view determines the configuration.
 use Rattle.std.proofs.Common.{◌≡◌, ℕ, zero, suc, ◌<◌, Bool, true, false, ◌&&◌, not, eqb, slice_index_or, List, [], ◌∷◌}
 use Rattle.std.proofs.Common.{length, map, Option, refl, sym, ap, ◌∙◌, subst, arith, inl, inr}
 use Rattle.std.specs.List.{list_any}
@@ -37,9 +37,9 @@ use Rattle.smx_model.proofs.RangeLemmas.{AreNamed}
 use Rattle.smx_model.proofs.RouteLemmas.{AreRouted}
 use Rattle.smx_model.proofs.EachLemmas.{each_map, each_of_list_all}
 
--- ---- a stream that exists is one that its driver has
+-- ---- the drivers have each stream that exists
 
--- a stream that the test says is the same as one that the drivers have is one that they have
+-- a stream that equals one that the drivers have is one that they have
 same_known : (drivers : List DriverSpec) (s t : StreamId) → IsKnown drivers s → same_stream s t ≡ true
     → IsKnown drivers t
 same_known drivers s t h e = let p = and_parts (eqb s.driver t.driver) (eqb s.minor t.minor) e in
@@ -49,15 +49,15 @@ same_known drivers s t h e = let p = and_parts (eqb s.driver t.driver) (eqb s.mi
       known_at d m d2 m2 e f k = subst (λ (x : ℕ). (d2 < length drivers) × (x < minors_of drivers d2)) f
           (subst (λ (x : ℕ). (x < length drivers) × (m < minors_of drivers x)) e k)
 
--- where descriptors have streams that the drivers have, a stream that one of them names is one that they have
+-- if the drivers have the streams of descriptors, they have each stream that a descriptor names
 named_known : (drivers : List DriverSpec) (fds : List Descriptor) (s : StreamId)
     → AllByRecursion (λ d. IsKnown drivers d.stream) fds → is_named fds s ≡ true → IsKnown drivers s
 named_known drivers [] s h e = absurd (false≢true e)
 named_known drivers (d ∷ ds) s h e = elim (or_cases (same_stream d.stream s) (is_named ds s) e)
     [ inl k ↦ same_known drivers d.stream s h.0 k | inr k ↦ named_known drivers ds s h.1 k ]
 
--- where links have streams that the drivers have, the lower stream of all links that pass a test is one that they have,
--- if some link passes
+-- if the drivers have the streams of links, and some link passes a test, they have a lower stream common to all
+-- links that pass
 lower_known : (drivers : List DriverSpec) (test : Link → Bool) (links : List Link) (s : StreamId)
     → AllByRecursion (λ l. IsKnown drivers l.ctl × IsKnown drivers l.lower) links
     → ((l : Link) → test l ≡ true → same_stream l.lower s ≡ true) → list_any test links ≡ true → IsKnown drivers s
@@ -65,8 +65,7 @@ lower_known drivers test [] s h f e = absurd (false≢true e)
 lower_known drivers test (l ∷ ls) s h f e = elim (or_cases (test l) (list_any test ls) e)
     [ inl k ↦ same_known drivers l.lower s h.0.1 (f l k) | inr k ↦ lower_known drivers test ls s h.1 f k ]
 
--- where descriptors and links have streams that the drivers have, each stream that stands within some climbs is one
--- that they have
+-- if the drivers have the streams of descriptors and links, they have each stream that exists within some climbs
 standing_known : (drivers : List DriverSpec) (c : Configuration) (n : ℕ) (s : StreamId) → AreNamed drivers c
     → stands_within c.fds c.links n s ≡ true → IsKnown drivers s
 standing_known drivers c zero s h e =
@@ -87,16 +86,16 @@ standing_known drivers c (suc n) s h
           (and_parts (not (is_persistent l)) (same_stream l.lower s && stands_within c.fds c.links n l.ctl) p).1).0) k
     ]
 
--- ---- each part of a swept configuration names a stream that its drivers have
+-- ---- the drivers have the stream of each part of a swept configuration
 
--- the number of a multiplexing driver is below the number of drivers
+-- the number of a multiplexer is below the number of drivers
 mux_below : (drivers : List DriverSpec) (n : ℕ) → is_mux drivers n ≡ true → n < length drivers
 mux_below drivers n e = elim (cases_lt n (length drivers)) [
   | inl lt ↦ lt
   | inr le ↦ let past = slice_get_past drivers n le in let k : false ≡ true = rw past at e in absurd (false≢true k)
 ]
 
--- each part of a configuration has a stream, and each route a driver, that the drivers have
+-- the drivers have the stream of each part of a configuration, and the driver of each route
 pub record EachKnown (drivers : List DriverSpec) (c : Configuration) : Type 0 where
   pub fds : AllByRecursion (λ d. IsKnown drivers d.stream) c.fds
   pub links : AllByRecursion (λ l. IsKnown drivers l.ctl × IsKnown drivers l.lower) c.links
@@ -106,7 +105,7 @@ pub record EachKnown (drivers : List DriverSpec) (c : Configuration) : Type 0 wh
   pub fulls : AllByRecursion (λ p. IsKnown drivers p.stream) c.fulls
   pub hungs : AllByRecursion (λ s. IsKnown drivers s) c.hungs
 
--- in a swept configuration, where descriptors, links and routes have known streams and drivers, so has each part
+-- in a swept configuration whose descriptors, links and routes have known streams and drivers, so has each part
 pub each_known : (drivers : List DriverSpec) (c : Configuration) → AreNamed drivers c → AreRouted drivers c
     → IsSwept drivers c → EachKnown drivers c
 each_known drivers c named routed swept_ = record {
@@ -122,7 +121,7 @@ each_known drivers c named routed swept_ = record {
   hungs = each_of_list_all _ _ c.hungs (λ s e. standing_known drivers c (length drivers) s named e) swept_.hungs;
 }
 
--- what `EachKnown` says of each part by recursion, `AreStreamsKnown` says of it by index
+-- if `EachKnown` holds of each part by recursion, `AreStreamsKnown` holds by index
 pub known_of_each : (drivers : List DriverSpec) (c : Configuration) → EachKnown drivers c → AreStreamsKnown drivers c
 known_of_each drivers c h = record {
   fds = All-from_recursion _ c.fds h.fds;
@@ -135,19 +134,19 @@ known_of_each drivers c h = record {
   hungs = All-from_recursion _ c.hungs h.hungs;
 }
 
--- ---- a name is that of one driver
+-- ---- a name determines its driver
 
--- a driver for lookups that need one where none is found
+-- a driver for look-ups that need a default
 some_driver : DriverSpec
 some_driver = record { name = []; kind = Leaf; minors = 0; high = 0; low = 0; max = 0 }
 
--- the name by a number that is in range is that of the driver at that index
+-- the name at a number in range is that of the driver at that index
 name_at : (drivers : List DriverSpec) (n : ℕ) → n < length drivers
     → name_of drivers n ≡ (slice_index_or drivers n some_driver).name
 name_at drivers n lt =
     ap (λ (o : Option DriverSpec). option_map_or (λ d. d.name) o []) (slice_get-get_or drivers n some_driver lt)
 
--- numbers in range whose drivers have one name are the same, under drivers that can be had
+-- among valid drivers, numbers in range whose drivers have the same name are equal
 one_number : (drivers : List DriverSpec) (a b : ℕ) → IsDriverList drivers → a < length drivers → b < length drivers
     → name_of drivers a ≡ name_of drivers b → a ≡ b
 one_number drivers a b h lt_a lt_b e =
@@ -161,9 +160,9 @@ one_number drivers a b h lt_a lt_b e =
       ]
     ]
 
--- ---- a line of the view is that of one part
+-- ---- a line of the view determines its part
 
--- where a function tells elements with P apart, lists of such elements are the same if its values along them are
+-- if a function is injective on elements with P, it is injective on lists of such elements
 map_one : {X Y : Type 0} (f : X → Y) (P : X → Type 0) (xs ys : List X) → ((x y : X) → P x → P y → f x ≡ f y → x ≡ y)
     → AllByRecursion P xs → AllByRecursion P ys → map f xs ≡ map f ys → xs ≡ ys
 map_one f P [] [] one h k e = refl
@@ -179,18 +178,18 @@ map_one f P (x ∷ xs) (y ∷ ys) one h k e =
 
 -- equal fields make equal parts
 
--- two values of one type are the same
+-- two values of one type are equal
 abbrev Same : (X : Type 0) → X → X → Type 0
 Same X x y = x ≡ y
 
--- descriptors with the same process, number, driver and minor are the same
+-- descriptors with the same process, number, driver and minor are equal
 fd_made : (process fd driver minor process2 fd2 driver2 minor2 : ℕ) → process ≡ process2 → fd ≡ fd2 → driver ≡ driver2
     → minor ≡ minor2
     → Same Descriptor (record { process = process; fd = fd; stream = record { driver = driver; minor = minor } })
     (record { process = process2; fd = fd2; stream = record { driver = driver2; minor = minor2 } })
 fd_made process fd driver minor process2 fd2 driver2 minor2 e f g h = cc
 
--- links with the same id, drivers, minors and kind are the same
+-- links with the same id, drivers, minors and kind are equal
 link_made : (id upper ctl lower below : ℕ) (k : LinkKind) (id2 upper2 ctl2 lower2 below2 : ℕ) (k2 : LinkKind) → id ≡ id2
     → upper ≡ upper2 → ctl ≡ ctl2 → lower ≡ lower2 → below ≡ below2 → k ≡ k2
     → Same Link
@@ -208,25 +207,25 @@ link_made : (id upper ctl lower below : ℕ) (k : LinkKind) (id2 upper2 ctl2 low
     })
 link_made id upper ctl lower below k id2 upper2 ctl2 lower2 below2 k2 e1 e2 e3 e4 e5 e6 = cc
 
--- bindings with the same driver, address and minor are the same
+-- bindings with the same driver, address and minor are equal
 bind_made : (driver addr minor driver2 addr2 minor2 : ℕ) → driver ≡ driver2 → addr ≡ addr2 → minor ≡ minor2
     → Same Binding (record { driver = driver; addr = addr; minor = minor })
     (record { driver = driver2; addr = addr2; minor = minor2 })
 bind_made driver addr minor driver2 addr2 minor2 e f g = cc
 
--- routes with the same driver, address and id are the same
+-- routes with the same driver, address and id are equal
 route_made : (driver addr id driver2 addr2 id2 : ℕ) → driver ≡ driver2 → addr ≡ addr2 → id ≡ id2
     → Same Route (record { driver = driver; addr = addr; id = id })
     (record { driver = driver2; addr = addr2; id = id2 })
 route_made driver addr id driver2 addr2 id2 e f g = cc
 
--- places with the same driver, minor and side are the same
+-- places with the same driver, minor and side are equal
 place_made : (driver minor : ℕ) (s : Side) (driver2 minor2 : ℕ) (s2 : Side) → driver ≡ driver2 → minor ≡ minor2 → s ≡ s2
     → Same Place (record { stream = record { driver = driver; minor = minor }; side = s })
     (record { stream = record { driver = driver2; minor = minor2 }; side = s2 })
 place_made driver minor s driver2 minor2 s2 e f g = cc
 
--- queued messages with the same place and message are the same
+-- queued messages with the same place and message are equal
 held_made : (p : Place) (m : Message) (p2 : Place) (m2 : Message) → p ≡ p2 → m ≡ m2
     → Same QueuedMessage (record { place = p; message = m }) (record { place = p2; message = m2 })
 held_made p m p2 m2 e f = cc
@@ -246,7 +245,7 @@ configuration fds links id binds routes flow fulls serial hungs = record {
   hungs = hungs;
 }
 
--- configurations with the same lists and numbers are the same
+-- configurations with the same lists and numbers are equal
 configuration_made : (fds fds2 : List Descriptor) (links links2 : List Link) (id id2 : ℕ) (binds binds2 : List Binding)
     (routes routes2 : List Route) (flow flow2 : List QueuedMessage) (fulls fulls2 : List Place) (serial serial2 : ℕ)
     (hungs hungs2 : List StreamId)
@@ -257,7 +256,7 @@ configuration_made : (fds fds2 : List Descriptor) (links links2 : List Link) (id
 configuration_made fds fds2 links links2 id id2 binds binds2 routes routes2 flow flow2 fulls fulls2 serial serial2 hungs
     hungs2 e1 e2 e3 e4 e5 e6 e7 e8 e9 = cc
 
--- descriptors of streams that the drivers have are the same if their lines are, under drivers that can be had
+-- descriptors of streams that valid drivers have are equal if their lines are
 one_fd : (drivers : List DriverSpec) → IsDriverList drivers → (d e : Descriptor) → IsKnown drivers d.stream
     → IsKnown drivers e.stream → view_of_fd drivers d ≡ view_of_fd drivers e → d ≡ e
 one_fd drivers h d e lt lt2 k =
@@ -266,7 +265,7 @@ one_fd drivers h d e lt lt2 k =
     (one_number drivers d.stream.driver e.stream.driver h lt.0 lt2.0 (ap (λ (l : DescriptorLine). l.driver) k))
     (ap (λ (l : DescriptorLine). l.minor) k)
 
--- links of streams that the drivers have are the same if their lines are, under drivers that can be had
+-- links of streams that valid drivers have are equal if their lines are
 one_link : (drivers : List DriverSpec) → IsDriverList drivers → (l m : Link)
     → IsKnown drivers l.ctl × IsKnown drivers l.lower → IsKnown drivers m.ctl × IsKnown drivers m.lower
     → view_of_link drivers l ≡ view_of_link drivers m → l ≡ m
@@ -279,7 +278,7 @@ one_link drivers h l m lt lt2 k = link_made l.id l.ctl.driver l.ctl.minor l.lowe
     (ap (λ (x : LinkLine). x.lower_minor) k)
     (ap (λ (x : LinkLine). x.kind) k)
 
--- bindings of streams that the drivers have are the same if their lines are, under drivers that can be had
+-- bindings of streams that valid drivers have are equal if their lines are
 one_bind : (drivers : List DriverSpec) → IsDriverList drivers → (b c : Binding)
     → IsKnown drivers (record { driver = b.driver; minor = b.minor })
     → IsKnown drivers (record { driver = c.driver; minor = c.minor }) → view_of_bind drivers b ≡ view_of_bind drivers c
@@ -288,33 +287,33 @@ one_bind drivers h b c lt lt2 k = bind_made b.driver b.addr b.minor c.driver c.a
     (one_number drivers b.driver c.driver h lt.0 lt2.0 (ap (λ (l : BindingLine). l.driver) k))
     (ap (λ (l : BindingLine). l.addr) k) (ap (λ (l : BindingLine). l.minor) k)
 
--- routes of drivers in range are the same if their lines are, under drivers that can be had
+-- routes of valid drivers in range are equal if their lines are
 one_route : (drivers : List DriverSpec) → IsDriverList drivers → (r s : Route) → r.driver < length drivers
     → s.driver < length drivers → view_of_route drivers r ≡ view_of_route drivers s → r ≡ s
 one_route drivers h r s lt lt2 k = route_made r.driver r.addr r.id s.driver s.addr s.id
     (one_number drivers r.driver s.driver h lt lt2 (ap (λ (l : RouteLine). l.driver) k))
     (ap (λ (l : RouteLine). l.addr) k) (ap (λ (l : RouteLine). l.id) k)
 
--- full places of streams that the drivers have are the same if their lines are, under drivers that can be had
+-- full places of streams that valid drivers have are equal if their lines are
 one_full : (drivers : List DriverSpec) → IsDriverList drivers → (p q : Place) → IsKnown drivers p.stream
     → IsKnown drivers q.stream → view_of_full drivers p ≡ view_of_full drivers q → p ≡ q
 one_full drivers h p q lt lt2 k = place_made p.stream.driver p.stream.minor p.side q.stream.driver q.stream.minor q.side
     (one_number drivers p.stream.driver q.stream.driver h lt.0 lt2.0 (ap (λ (l : FullLine). l.driver) k))
     (ap (λ (l : FullLine). l.minor) k) (ap (λ (l : FullLine). l.side) k)
 
--- streams with the same driver and minor are the same
+-- streams with the same driver and minor are equal
 stream_made : (driver minor driver2 minor2 : ℕ) → driver ≡ driver2 → minor ≡ minor2
     → Same StreamId (record { driver = driver; minor = minor }) (record { driver = driver2; minor = minor2 })
 stream_made driver minor driver2 minor2 e f = cc
 
--- hung-up streams that the drivers have are the same if their lines are, under drivers that can be had
+-- hung-up streams that valid drivers have are equal if their lines are
 one_hung : (drivers : List DriverSpec) → IsDriverList drivers → (s t : StreamId) → IsKnown drivers s → IsKnown drivers t
     → view_of_hung drivers s ≡ view_of_hung drivers t → s ≡ t
 one_hung drivers h s t lt lt2 k = stream_made s.driver s.minor t.driver t.minor
     (one_number drivers s.driver t.driver h lt.0 lt2.0 (ap (λ (l : HungLine). l.driver) k))
     (ap (λ (l : HungLine). l.minor) k)
 
--- queued messages at streams that the drivers have are the same if their lines are, under drivers that can be had
+-- queued messages at streams that valid drivers have are equal if their lines are
 one_held : (drivers : List DriverSpec) → IsDriverList drivers → (x y : QueuedMessage) → IsKnown drivers x.place.stream
     → IsKnown drivers y.place.stream → view_of_message drivers x ≡ view_of_message drivers y → x ≡ y
 one_held drivers h x y lt lt2 k = held_made x.place x.message y.place y.message
@@ -324,9 +323,9 @@ one_held drivers h x y lt lt2 k = held_made x.place x.message y.place y.message
     (ap (λ (l : MessageLine). l.minor) k) (ap (λ (l : MessageLine). l.side) k))
     (ap (λ (l : MessageLine). l.message) k)
 
--- ---- a view is that of one configuration
+-- ---- a view determines its configuration
 
--- configurations of known streams that have one view, over drivers that can be had, are the same
+-- two configurations of known streams with the same view, over valid drivers, are equal
 pub one_configuration : (drivers : List DriverSpec) (c d : Configuration) → IsDriverList drivers → EachKnown drivers c
     → EachKnown drivers d → view drivers c ≡ view drivers d → c ≡ d
 one_configuration drivers c d h kc kd e = configuration_made c.fds d.fds c.links d.links c.next_id d.next_id c.binds

@@ -1,4 +1,4 @@
--- Waiting, and what keeps a place waiting.
+-- Waiting places, and changes that keep a place waiting.
 use Rattle.std.proofs.Common.{◌≡◌, ℕ, Bool, true, false, ◌&&◌, ◌||◌, not, List, [], ◌∷◌, ◌++◌, Option, Some, None, refl}
 use Rattle.std.proofs.Common.{sym, ap, ◌∙◌, subst, inl, inr}
 use mathlib.Core.Logic.{◌⊎◌}
@@ -39,7 +39,7 @@ next_is drivers c p addr = by p.side refl
     by side.Write e = rw e refl
     by side.Read e = rw e refl
 
--- what waits goes on to wait, where it goes next to the same place or nowhere, and that stays full and wanted
+-- a message that waits still waits, if its next place is the same or none, and that place stays full and wanted
 pub keeps_by : (c d : Configuration) (v w : Place → Bool) (o n : Option Place) → (n ≡ o) ⊎ (n ≡ None)
     → ((q : Place) → o ≡ Some q → (is_full c q && v q) ≡ true → (is_full d q && w q) ≡ true) → is_held_up c v o ≡ true
     → is_held_up d w n ≡ true
@@ -71,7 +71,7 @@ next_of_same drivers c d p l r b u f = rw f (by (first_message c.flow p))
 abbrev pub if_open : Configuration → Option Place → Option Place
 if_open c o = o >>= (λ q. if is_full c q then None else Some q)
 
--- a message whose next place is missing or full is held up once that place is wanted
+-- a message whose next place is missing or full is blocked once that place is wanted
 waits_now : (c : Configuration) (wanted : Place → Bool) (o : Option Place) → is_some (if_open c o) ≡ false
     → is_held_up c (either wanted (λ q. is_one_of (λ x. same_place x q) o)) o ≡ true
 waits_now c wanted None h = refl
@@ -84,7 +84,7 @@ waits_now c wanted (Some q) h = elim (cases_Bool (is_full c q)) [
     by true = refl
     by false = refl
 
--- a place is movable just where its first message has a next place that isn't full
+-- a place is movable exactly if its first message has a next place that isn't full
 pub movable_by : (drivers : List DriverSpec) (c : Configuration) (p : Place)
     → is_movable drivers c p ≡ is_some (if_open c (next_of_first drivers c p))
 movable_by drivers c p = by (first_message c.flow p) refl
@@ -94,7 +94,7 @@ movable_by drivers c p = by (first_message c.flow p) refl
     by None e = rw e refl
     by (Some m) e = rw e refl
 
--- where a message is held up, its next place isn't open
+-- if a message is blocked, its next place isn't open
 waits_not_open : (c : Configuration) (wanted : Place → Bool) (o : Option Place) → is_held_up c wanted o ≡ true
     → is_some (if_open c o) ≡ false
 waits_not_open c wanted None h = refl
@@ -105,7 +105,7 @@ pub waiting_stays : (drivers : List DriverSpec) (c : Configuration) (wanted : Pl
     → is_waiting drivers c wanted p ≡ true → is_movable drivers c p ≡ false
 waiting_stays drivers c wanted p h = movable_by drivers c p ∙ waits_not_open c wanted (next_of_first drivers c p) h
 
--- the run mark of a place that isn't movable may be cleared, where its next place is then wanted
+-- the run mark of a place that isn't movable can be cleared, if its next place is then wanted
 pub cleared : (drivers : List DriverSpec) (c : Configuration) (run wanted : Place → Bool) (p : Place)
     → AreMarked drivers c run wanted → is_movable drivers c p ≡ false
     → AreMarked drivers c (all_but run p) (either wanted (is_next_of_first drivers c p))
@@ -123,20 +123,20 @@ cleared drivers c run wanted p h stuck r unmarked = elim (cases_Bool (same_place
     by true e = e
     by false e = refl
 
--- where the first message leaves a place, that of another place stays
+-- when the first message leaves a place, that of another place stays
 pub first_left : (flow : List QueuedMessage) (p r : Place) → same_place p r ≡ false
     → first_message (without_first (is_at p) flow) r ≡ first_message flow r
 first_left flow p r f =
     front_is (without_first (is_at p) flow) r
     ∙ (ap (λ (ms : List Message). slice_get ms 0) (left_queue flow p r ∙ rw f refl) ∙ sym (front_is flow r))
 
--- where there are messages, the first of them is the first with one more at the end
+-- if there are messages, the first of them is the first with one more at the end
 first_stays : (ms : List Message) (m : Message) → is_some (slice_get ms 0) ≡ true
     → slice_get (ms ++ m ∷ []) 0 ≡ slice_get ms 0
 first_stays [] m h = absurd (false≢true h)
 first_stays (k ∷ ks) m h = refl
 
--- a message that arrives leaves each first message as it was, except at its own place where that was empty
+-- an arriving message keeps each first message, except at its own place if that was empty
 pub first_arrived : (flow : List QueuedMessage) (q r : Place) (m : Message) → IsInOrder flow
     → (same_place q r && not (is_some (first_message flow q))) ≡ false
     → first_message (with_inserted queued_before flow (record { place = q; message = m })) r ≡ first_message flow r

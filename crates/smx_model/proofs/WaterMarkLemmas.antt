@@ -1,4 +1,4 @@
--- A full place has more bytes than its low water mark, and one that is not full fewer than its high one.
+-- A full place has more bytes than its low water mark, and a place that is not full has fewer than its high one.
 use Rattle.std.proofs.Common.{◌≡◌, ℕ, zero, suc, ◌<◌, ◌≤◌, Bool, true, false, ◌&&◌, ◌||◌, not, cond, leb, ltb, arith}
 use Rattle.std.proofs.Common.{List, [], ◌∷◌, drop, length, filter, Result, Ok, Err, refl, rules}
 use Rattle.std.proofs.Common.{sym, ap, ◌∙◌, subst, inl, inr}
@@ -59,14 +59,14 @@ more_arrive (k ∷ ks) h p = elim (cases_Bool (queued_before h k)) [
   ])
 ]
 
--- messages have no more bytes without the first of them
+-- messages without the first of them have at most as many bytes
 fewer_left : (ms : List Message) → bytes_of (drop 1 ms) ≤ bytes_of ms
 fewer_left [] = omega arith
 fewer_left (m ∷ ms) = omega (arith, sum_by-cons (λ m. length m.bytes) m ms)
 
 -- the marks of one place
 
--- a place keeps to its water marks: full it has more bytes than the low one, and else fewer than the high one
+-- a place is within its water marks: full, it has more bytes than the low one; otherwise fewer than the high one
 pub record IsMarked (drivers : List DriverSpec) (p : Place) (c : Configuration) : Type 0 where
   pub full : is_full c p ≡ true → low_of drivers p.stream.driver < bytes_at c.flow p
   pub free : is_full c p ≡ false → bytes_at c.flow p < high_of drivers p.stream.driver
@@ -75,7 +75,7 @@ pub record IsMarked (drivers : List DriverSpec) (p : Place) (c : Configuration) 
 record IsApart (drivers : List DriverSpec) (p : Place) : Type 0 where
   lt : low_of drivers p.stream.driver < high_of drivers p.stream.driver
 
--- a place keeps to its water marks where its messages are the same, and whether it is full
+-- a place stays within its water marks if its messages and its full mark are unchanged
 marked_alike : (drivers : List DriverSpec) (p : Place) (c d : Configuration) → IsMarked drivers p c
     → queue d.flow p ≡ queue c.flow p → is_full d p ≡ is_full c p → IsMarked drivers p d
 marked_alike drivers p c d h q m = record {
@@ -83,13 +83,13 @@ marked_alike drivers p c d h q m = record {
   free = λ e. rw q (h.free (sym m ∙ e));
 }
 
--- a place keeps to its water marks where the flow and the full places are the same
+-- a place stays within its water marks if the flow and the full places are unchanged
 marked_same : (drivers : List DriverSpec) (p : Place) (c d : Configuration) → IsMarked drivers p c → d.flow ≡ c.flow
     → d.fulls ≡ c.fulls → IsMarked drivers p d
 marked_same drivers p c d h e f = marked_alike drivers p c d h (ap (λ (hs : List QueuedMessage). queue hs p) e)
     (ap (λ (ps : List Place). list_any (same_place p) ps) f)
 
--- a place keeps to its water marks where some places are emptied and nothing else of the queues changes
+-- a place stays within its water marks if some places are emptied and nothing else of the queues changes
 marked_emptied : (drivers : List DriverSpec) (p : Place) (c d : Configuration) (goes : Place → Bool) → IsApart drivers p
     → IsMarked drivers p c
     → d.flow ≡ filter (λ h. not (goes h.place)) c.flow → d.fulls ≡ filter (λ p. not (goes p)) c.fulls
@@ -111,25 +111,25 @@ marked_emptied drivers p c d goes a h e f = by (goes p) refl where
       let mark : is_full d p ≡ is_full c p = rw g at marks in
       marked_alike drivers p c d h same mark
 
--- a place keeps to its water marks when links are removed
+-- a place stays within its water marks when links are removed
 marked_removed : (drivers : List DriverSpec) (p : Place) (c : Configuration) (goes : Link → Bool) → IsApart drivers p
     → IsMarked drivers p c → IsMarked drivers p (without_links c goes)
 marked_removed drivers p c goes a h = marked_emptied drivers p c (without_links c goes) _ a h refl refl
 
--- a place that keeps to its water marks does so after the sweep
+-- a place within its water marks is within them after the sweep
 marked_done : (drivers : List DriverSpec) (p : Place) (c d : Configuration) → IsApart drivers p → IsMarked drivers p d
     → IfAccepted (λ d r. IsMarked drivers p d) (done_outcome drivers c d)
 marked_done drivers p c d a h =
     record { holds = marked_emptied drivers p (without_links d _) _ _ a (marked_removed drivers p d _ a h) refl refl }
 
--- a place keeps to its water marks after a sweep of the same flow and the same full places
+-- a place stays within its water marks after a sweep of the same flow and the same full places
 marked_like : (drivers : List DriverSpec) (p : Place) (c d : Configuration) → IsApart drivers p → IsMarked drivers p c
     → d.flow ≡ c.flow → d.fulls ≡ c.fulls → IfAccepted (λ d r. IsMarked drivers p d) (done_outcome drivers c d)
 marked_like drivers p c d a h e f = marked_done drivers p c d a (marked_same drivers p c d h e f)
 
 -- a message arrives or leaves
 
--- a place keeps to its water marks when a message arrives somewhere
+-- a place stays within its water marks when a message arrives somewhere
 marked_arrived : (drivers : List DriverSpec) (p : Place) (c : Configuration) (q : Place) (m : Message)
     → IsApart drivers p → IsMarked drivers p c → IsMarked drivers p (after_arrival drivers c q m)
 marked_arrived drivers p c q m a h = elim (cases_Bool (same_place q p)) [
@@ -160,7 +160,7 @@ marked_arrived drivers p c q m a h = elim (cases_Bool (same_place q p)) [
         (or_parts (is_full c p) (leb (high_of drivers p.stream.driver) (bytes_at now p)) (sym mark ∙ t)).1;
   }
 
--- a place keeps to its water marks when the first message of some place leaves
+-- a place stays within its water marks when the first message of some place leaves
 marked_left : (drivers : List DriverSpec) (p : Place) (c : Configuration) (q : Place) → IsApart drivers p
     → IsMarked drivers p c → IsMarked drivers p (after_leaving drivers c q)
 marked_left drivers p c q a h = elim (cases_Bool (same_place q p)) [
@@ -196,21 +196,21 @@ marked_left drivers p c q a h = elim (cases_Bool (same_place q p)) [
     ];
   }
 
--- of each accepted outcome
+-- for each accepted outcome
 
--- a place keeps to its water marks when a message is taken in under the next serial
+-- a place stays within its water marks when a message is accepted under the next serial
 marked_took : (drivers : List DriverSpec) (p : Place) (c : Configuration) (q : Place) (m : Message) (n : ℕ)
     → IsApart drivers p → IsMarked drivers p c
     → IsMarked drivers p (record (after_arrival drivers c q m) { next_serial = n })
 marked_took drivers p c q m n a h = marked_same drivers p (after_arrival drivers c q m)
     (record (after_arrival drivers c q m) { next_serial = n }) (marked_arrived drivers p c q m a h) refl refl
 
--- a place keeps to its water marks when some places are flushed
+-- a place stays within its water marks when some places are flushed
 marked_flushed : (drivers : List DriverSpec) (p : Place) (c : Configuration) (goes : Place → Bool) → IsApart drivers p
     → IsMarked drivers p c → IsMarked drivers p (without_queues_at c goes)
 marked_flushed drivers p c goes a h = marked_emptied drivers p c (without_queues_at c goes) goes a h refl refl
 
--- a place keeps to its water marks after an accepted command
+-- a place stays within its water marks after an accepted command
 marked_accepted : (drivers : List DriverSpec) (p : Place) (c : Configuration) (process : ℕ) (k : Command)
     → IsApart drivers p → IsMarked drivers p c → IfAccepted (λ d r. IsMarked drivers p d) (outcome drivers c process k)
 marked_accepted drivers p c process k a h = of_rows _ drivers c process k (search (
@@ -226,26 +226,26 @@ marked_accepted drivers p c process k a h = of_rows _ drivers c process k (searc
 
 -- moves, settling, histories
 
--- a place keeps to its water marks in each move
+-- a place stays within its water marks in each move
 marked_moved : (drivers : List DriverSpec) (p : Place) → IsApart drivers p → MovesKeep (IsMarked drivers p) drivers
 marked_moved drivers p a = record {
   each = λ c q h. moved_by (IsMarked drivers p) drivers c q h
       (λ r m e. marked_arrived drivers p (after_leaving drivers c q) r m a (marked_left drivers p c q a h));
 }
 
--- a place that keeps to its water marks does so after any further history
+-- a place within its water marks is within them after any further history
 marked_from : (drivers : List DriverSpec) (p : Place) (c : Configuration) (es : List Entry) → IsApart drivers p
     → IsMarked drivers p c → IsMarked drivers p (after_from drivers c es)
 marked_from drivers p c es a h = after_by (IsMarked drivers p) drivers c es (marked_moved drivers p a)
     (λ d process k. marked_accepted drivers p d process k a) h
 
--- drivers that can be had
+-- valid drivers
 
--- what is wrong with a driver first: its minors, its marks or its largest message
+-- the first fault of a driver: its minors, its marks or its longest message
 abbrev first_fault : Bool → Bool → Bool → Result (Unit {0}) SpecFault
 first_fault a b c = cond a (Err BadMinors) (cond b (Err BadMarks) (cond c (Err BadMax) (Ok tt)))
 
--- a driver that can be had has its low mark below its high one
+-- a valid driver has its low mark below its high one
 low_below_high : (d : DriverSpec) → spec_check d ≡ Ok tt → d.low < d.high
 low_below_high d e =
     by (ltb d.minors 1 || ltb MAX_MINORS d.minors) (ltb MAX_HIGH d.high || leb d.high d.low) refl e where
@@ -255,14 +255,14 @@ low_below_high d e =
       by false true f k = cc
       by false false f k = leb-false d.high d.low (or_parts (ltb MAX_HIGH d.high) (leb d.high d.low) f).1
 
--- each driver of a list whose drivers can be had has its low mark below its high one
+-- each driver of a valid list has its low mark below its high one
 apart_at : (ds : List DriverSpec) (n : ℕ) → AllByRecursion (λ d. spec_check d ≡ Ok tt) ds → n < length ds
     → low_of ds n < high_of ds n
 apart_at [] n h lt = absurd (omega (arith, lt))
 apart_at (d ∷ ds) zero h lt = low_below_high d h.0
 apart_at (d ∷ ds) (suc n) h lt = apart_at ds n h.1 (omega (arith, lt))
 
--- after any history each place of a driver keeps to its water marks, where the drivers can be had
+-- after any history each place of a driver is within its water marks, if the drivers are valid
 always_marked : (drivers : List DriverSpec) (history : List Entry) (p : Place) → IsDriverList drivers
     → p.stream.driver < length drivers → IsMarked drivers p (after drivers history)
 always_marked drivers history p list known =

@@ -1,4 +1,4 @@
--- The command table: for each command its refusals in order, a line each, and what it does if accepted.
+-- The command table: for each command its refusals in order, one per line, and its effect if it is accepted.
 use Rattle.std.specs.Prelude.{ℕ, ◌+◌, Bool, true, ◌&&◌, ◌||◌, not, ◌==◌, nat_lt, nat_le, if◌then◌else◌, List, [], ◌∷◌}
 use Rattle.std.specs.Prelude.{◌++◌, length, filter, Ok, Err}
 use Rattle.std.specs.List.{list_any}
@@ -42,13 +42,13 @@ abbrev pub with_fd : Configuration → ℕ → ℕ → StreamId → Configuratio
 with_fd c process fd s =
     record c { fds = with_inserted fd_before c.fds (record { process = process; fd = fd; stream = s }) }
 
--- done: the new configuration is swept, and the reply names the serials that left
+-- `done`: the new configuration is swept, and the reply names the serials that left the flow
 abbrev pub done_outcome : List DriverSpec → Configuration → Configuration → Outcome
 done_outcome drivers c new = with_serials (after_sweep drivers new) where
   with_serials : Configuration → Outcome
   with_serials d = Ok (d, reply.Done (serials_that_left c.flow d.flow))
 
--- the stream of arg below the driver of fd, under the next id (streamio(7), I_LINK and I_PLINK)
+-- links the stream of `arg` below the driver of `fd`, under the next id (streamio(7), I_LINK and I_PLINK)
 abbrev pub link_outcome : List DriverSpec → Configuration → ℕ → ℕ → ℕ → LinkKind → Outcome
 link_outcome drivers c process fd arg k = do
   upper ← stream_of c process fd
@@ -67,14 +67,15 @@ link_outcome drivers c process fd arg k = do
     reply.Id c.next_id,
   )
 
--- one of my links, or each of them, removed (streamio(7), I_UNLINK and I_PUNLINK, MUXID_ALL)
+-- removes the link with an id, if `mine` accepts it, or all links that `mine` accepts (streamio(7), I_UNLINK and
+-- I_PUNLINK, MUXID_ALL)
 abbrev pub unlink_outcome : List DriverSpec → Configuration → Which → (Link → Bool) → Outcome
 unlink_outcome drivers c which.All mine = done_outcome drivers c (without_links c mine)
 unlink_outcome drivers c (which.Id id) mine = do
   there ← refuse NoLink (not (list_any (λ l. (l.id == id) && mine l) c.links))
   done_outcome drivers c (without_links c (λ l. (l.id == id) && mine l))
 
--- a message arrives under the next serial
+-- a message arrives at a place and gets the next serial
 abbrev pub send_outcome : List DriverSpec → Configuration → Place → ℕ → List ℕ → Outcome
 send_outcome drivers c p addr bytes = do
   size ← refuse BadSize ((length bytes == 0) || nat_lt (max_of drivers p.stream.driver) (length bytes))
@@ -86,13 +87,13 @@ send_outcome drivers c p addr bytes = do
     reply.Took c.next_serial,
   )
 
--- the first message of a place is delivered
+-- delivers the first message of a place
 abbrev pub receive_outcome : List DriverSpec → Configuration → Place → Outcome
 receive_outcome drivers c p = do
   m ← or_fault Empty (first_message c.flow p)
   Ok (after_leaving drivers c p, reply.Got m.serial m.addr m.bytes)
 
--- the first message of a stream's read side is delivered; with none it is the end of file once the device has hung up
+-- delivers the first message of a stream's read side; without one, reports end of file if the device has hung up
 -- (STREAMS guide, M_HANGUP; read(2))
 abbrev pub read_outcome : List DriverSpec → Configuration → StreamId → Outcome
 read_outcome drivers c s = at (read_side s) where
@@ -100,13 +101,13 @@ read_outcome drivers c s = at (read_side s) where
   at p = if is_hung c.hungs s && not (is_some (first_message c.flow p)) then Ok (c, reply.Eof)
       else receive_outcome drivers c p
 
--- one of the sides that are named (streamio(7), I_FLUSH)
+-- the side is one of those that the command names (streamio(7), I_FLUSH)
 abbrev pub is_side : Sides → Side → Bool
 is_side sides.R s = same_side s side.Read
 is_side sides.W s = same_side s side.Write
 is_side sides.RW s = true
 
--- each command: its refusals in order, and its outcome if none applies; it is not yet settled
+-- each command: its refusals in order, and its outcome if none applies, before settling
 abbrev pub outcome : List DriverSpec → Configuration → ℕ → Command → Outcome
 outcome drivers c process (command.OpenClone name) = do
   n ← driver_of drivers name
@@ -187,6 +188,6 @@ abbrev pub after_outcome : List DriverSpec → Configuration → Outcome → Con
 after_outcome drivers c (Err f) = (c, reply.Fault f)
 after_outcome drivers c (Ok x) = (after_settling drivers x.0, x.1)
 
--- what a command of a process does: the new configuration, and the reply
+-- the effect of a command of a process: the new configuration, and the reply
 abbrev pub step : List DriverSpec → Configuration → ℕ → Command → Configuration × Reply
 step drivers c process command = after_outcome drivers c (outcome drivers c process command)

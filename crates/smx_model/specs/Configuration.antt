@@ -1,4 +1,4 @@
--- What a configuration consists of, and the order in which each of its lists is kept and shown.
+-- The parts of a configuration, and the order in which each of its lists is kept and shown.
 use Rattle.std.specs.Prelude.{ℕ, Bool, ◌&&◌, ◌||◌, ◌==◌, nat_lt, List, []}
 use Rattle.smx_types.specs.declared.link.Binding.{Binding}
 use Rattle.smx_types.specs.declared.link.Link.{Link}
@@ -28,7 +28,7 @@ pub record Configuration : Type 0 where
   pub next_serial : ℕ
   pub hungs : List StreamId
 
--- nothing is open, and both numbers start from 1
+-- nothing is open, and the next id and the next serial are 1
 abbrev pub empty : Configuration
 empty = record {
   fds = [];
@@ -42,7 +42,7 @@ empty = record {
   hungs = [];
 }
 
--- the same driver and minor
+-- both have the same driver and minor
 abbrev pub same_stream : StreamId → StreamId → Bool
 same_stream s t = (s.driver == t.driver) && (s.minor == t.minor)
 
@@ -59,11 +59,11 @@ write_side s = record { stream = s; side = side.Write }
 abbrev pub read_side : StreamId → Place
 read_side s = record { stream = s; side = side.Read }
 
--- both the write side, or both the read side
+-- both are write sides, or both are read sides
 abbrev pub same_side : Side → Side → Bool
 same_side s t = side_number s == side_number t
 
--- the same side of the same stream
+-- both are the same side of the same stream
 abbrev pub same_place : Place → Place → Bool
 same_place p q = same_stream p.stream q.stream && same_side p.side q.side
 
@@ -71,11 +71,11 @@ same_place p q = same_stream p.stream q.stream && same_side p.side q.side
 abbrev pub is_at : Place → QueuedMessage → Bool
 is_at p h = same_place h.place p
 
--- it is the process's descriptor of this number
+-- it is the descriptor of the process with this number
 abbrev pub is_fd : ℕ → ℕ → Descriptor → Bool
 is_fd process fd d = (d.process == process) && (d.fd == fd)
 
--- pairs of numbers in order, by the first of each and then by the second
+-- pairs of numbers in order: by the first number, then by the second
 abbrev pub pair_before : ℕ → ℕ → ℕ → ℕ → Bool
 pair_before a b c d = nat_lt a c || ((a == c) && nat_lt b d)
 

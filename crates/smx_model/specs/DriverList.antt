@@ -1,4 +1,4 @@
--- The drivers of a configuration, by their numbers, and which it can have.
+-- The drivers of a configuration, by number, and the lists of drivers that a configuration can have.
 use Rattle.std.specs.Prelude.{◌≡◌, ◌≢◌, ℕ, ◌≤◌, Bool, true, false, List, [], length, slice_get, Ok}
 use Rattle.std.specs.List.{All, AllPairs}
 use Rattle.std.specs.Option.{option_map_or}
@@ -17,7 +17,7 @@ kind_is_mux driver.Leaf = false
 abbrev pub is_mux : List DriverSpec → ℕ → Bool
 is_mux drivers n = option_map_or (λ d. kind_is_mux d.kind) (slice_get drivers n) false
 
--- how many minors a driver has
+-- the number of minors of a driver
 abbrev pub minors_of : List DriverSpec → ℕ → ℕ
 minors_of drivers n = option_map_or (λ d. d.minors) (slice_get drivers n) 0
 
@@ -29,7 +29,7 @@ high_of drivers n = option_map_or (λ d. d.high) (slice_get drivers n) 0
 abbrev pub low_of : List DriverSpec → ℕ → ℕ
 low_of drivers n = option_map_or (λ d. d.low) (slice_get drivers n) 0
 
--- the most bytes of a message that is written to it
+-- the maximum number of bytes of a message that is written to it
 abbrev pub max_of : List DriverSpec → ℕ → ℕ
 max_of drivers n = option_map_or (λ d. d.max) (slice_get drivers n) 0
 
@@ -37,7 +37,7 @@ max_of drivers n = option_map_or (λ d. d.max) (slice_get drivers n) 0
 abbrev pub name_of : List DriverSpec → ℕ → List ℕ
 name_of drivers n = option_map_or (λ d. d.name) (slice_get drivers n) []
 
--- at most 128, each of which can be had, no two of one name; they are numbered from 0 (this project's own limits)
+-- at most 128 valid drivers with different names, numbered from 0 (limits of this project)
 pub record IsDriverList (drivers : List DriverSpec) : Type 0 where
   pub few : length drivers ≤ MAX_DRIVERS
   pub each : All (λ d. spec_check d ≡ Ok tt) drivers

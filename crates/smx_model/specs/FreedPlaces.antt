@@ -1,4 +1,4 @@
--- Which places a command frees. Only laws of marks, and what `smx_config` keeps of its own, need this.
+-- The places that a command frees. Only laws of marks, and private invariants of `smx_config`, need this.
 use Rattle.std.specs.Prelude.{◌≡◌, ◌≢◌, ℕ, Bool, true, ◌&&◌, not, List, None}
 use Rattle.std.specs.Option.{is_some}
 use Rattle.smx_types.specs.declared.command.Command.{Command}
@@ -14,7 +14,7 @@ use Rattle.smx_model.specs.Queues.{first_message, is_full}
 use Rattle.smx_model.specs.RunMarks.{is_freed, nowhere}
 use Rattle.smx_model.specs.TurnedPlaces.{of_stream}
 
--- but for these places, no full one stops being full
+-- only these places may stop being full
 abbrev pub FreesOnly : Configuration → Configuration → (Place → Bool) → Type 0
 FreesOnly old new freed = (p : Place) → is_freed old new p ≡ true → freed p ≡ true
 
@@ -22,15 +22,15 @@ FreesOnly old new freed = (p : Place) → is_freed old new p ≡ true → freed 
 abbrev pub HaveFullPlacesMessages : Configuration → Type 0
 HaveFullPlacesMessages c = (p : Place) → is_full c p ≡ true → first_message c.flow p ≢ None
 
--- no message is there
+-- no message is at this place
 abbrev pub is_empty_at : Configuration → Place → Bool
 is_empty_at c p = not (is_some (first_message c.flow p))
 
--- one of the sides of the stream that are named
+-- the place is one of the named sides of the stream
 abbrev pub is_side_of : StreamId → Sides → Place → Bool
 is_side_of s w p = same_stream p.stream s && is_side w p.side
 
--- by command, the places that may stop being full by it: those that it empties, and the one that a message leaves
+-- for each command, the places that it may make not full: those that it empties, and the one that a message leaves
 abbrev pub freed_by : List DriverSpec → Configuration → ℕ → Command → Configuration → Place → Bool
 freed_by drivers c process (command.OpenClone name) new = nowhere
 freed_by drivers c process (command.OpenMinor name minor) new = nowhere

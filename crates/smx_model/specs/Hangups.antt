@@ -9,6 +9,6 @@ use Rattle.smx_model.specs.Ordered.{with_inserted}
 abbrev pub is_hung : List StreamId → StreamId → Bool
 is_hung hungs s = list_any (λ t. same_stream t s) hungs
 
--- with the stream hung up; a second time changes nothing (this project's own)
+-- the list with this stream hung up; a second hangup changes nothing (specific to this project)
 abbrev pub with_hung : StreamId → List StreamId → List StreamId
 with_hung s hungs = if is_hung hungs s then hungs else with_inserted stream_before hungs s

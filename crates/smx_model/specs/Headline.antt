@@ -1,4 +1,4 @@
--- The headline: what is promised of every report of a run, whatever programs come.
+-- The main theorem: the properties of every report of a run, for any programs.
 use Rattle.std.specs.Prelude.{◌≡◌}
 use Rattle.smx_types.specs.ProgramLists.{ProgramLists}
 use Rattle.smx_types.specs.declared.transcript.Transcript.{Transcript}
@@ -8,7 +8,7 @@ use Rattle.smx_model.specs.LawfulHistories.{AreDropsAllowed, IsLawfulThroughout}
 use Rattle.smx_model.specs.Views.{view}
 
 -- the report of a run of these programs; `lawful` and `drops` follow from `legal` (`lawful_after_each_entry`,
--- `few_commands_drop`), and stand here for the reader
+-- `few_commands_drop`), and are stated here for the reader
 pub record IsReportOf (programs : ProgramLists) (report : Transcript) : Type 0 where
   -- The drivers are those of the programs, and a configuration can have them.
   pub drivers : report.drivers ≡ programs.drivers

@@ -6,7 +6,7 @@ use Rattle.smx_types.specs.declared.driver.DriverSpec.{DriverSpec}
 use Rattle.smx_model.specs.Commands.{step}
 use Rattle.smx_model.specs.Configuration.{Configuration, empty}
 
--- the configuration that the entries leave, starting from this one
+-- the configuration after the entries, starting from this one
 abbrev pub after_from : List DriverSpec → Configuration → List Entry → Configuration
 after_from drivers c [] = c
 after_from drivers c (e ∷ es) = after_from drivers (step drivers c e.process e.command).0 es
@@ -21,7 +21,7 @@ IsLegalFrom drivers c [] = Unit {0}
 IsLegalFrom drivers c (e ∷ es) =
     ((step drivers c e.process e.command).1 ≡ e.reply) × IsLegalFrom drivers (step drivers c e.process e.command).0 es
 
--- each reply is the one that its command gets, from the empty configuration on
+-- each reply is the one that its command gets, starting from the empty configuration
 abbrev pub IsLegal : List DriverSpec → List Entry → Type 0
 IsLegal drivers history = IsLegalFrom drivers empty history
 
@@ -33,6 +33,6 @@ call_of e = (e.process, e.command)
 abbrev pub commands_of : ℕ → List Entry → List Command
 commands_of process history = map (λ e. e.command) (filter (λ e. e.process == process) history)
 
--- each process's commands are its program, in order, each once; a process past the list has none
+-- the commands of each process are its program, in order, each once; a process past the end of the list has none
 abbrev pub HoldsPrograms : List Entry → List (List Command) → Type 0
 HoldsPrograms history programs = (process : ℕ) → commands_of process history ≡ slice_index_or programs process []

@@ -1,4 +1,4 @@
--- The first entry of a history that is illegal: its reply is not the one that its command gets.
+-- The first illegal entry of a history: its reply is not the one that its command gets.
 use Rattle.std.specs.Prelude.{◌≡◌, ◌≢◌, ℕ, ◌+◌, List, take, Some, slice_get}
 use Rattle.smx_types.specs.declared.command.Entry.{Entry}
 use Rattle.smx_types.specs.declared.driver.DriverSpec.{DriverSpec}
@@ -7,13 +7,13 @@ use Rattle.smx_model.specs.Histories.{IsLegal, after}
 
 -- the first entry that is illegal has this number, counted from 1
 pub record IsFirstIllegal (drivers : List DriverSpec) (entries : List Entry) (number : ℕ) : Type 0 where
-  -- so many entries come before it
+  -- the number of entries before it
   pub before : ℕ
   pub counted : number ≡ before + 1
-  -- it is there
+  -- the illegal entry
   pub entry : Entry
   pub here : slice_get entries before ≡ Some entry
   -- the entries before it are a legal history
   pub legal_before : IsLegal drivers (take before entries)
-  -- after them its command gets another reply
+  -- after them its command gets a different reply
   pub other_reply : (step drivers (after drivers (take before entries)) entry.process entry.command).1 ≢ entry.reply

@@ -1,4 +1,4 @@
--- What every configuration is: the empty one, and that which each command leaves.
+-- The invariant of configurations: it holds of the empty one, and each command preserves it.
 use Rattle.std.specs.Prelude.{◌≢◌, ◌<◌, List}
 use Rattle.std.specs.List.{All, AllPairs}
 use Rattle.smx_types.specs.declared.driver.DriverSpec.{DriverSpec}
@@ -10,29 +10,29 @@ use Rattle.smx_model.specs.Settling.{IsSettled}
 use Rattle.smx_model.specs.SoundLinks.{AreIdsRising, AreLinksSound, AreRoutesSound}
 use Rattle.smx_model.specs.Swept.{IsSwept}
 
--- no two queued messages have one serial, and each serial is below the next one
+-- no two queued messages have the same serial, and each serial is below the next one
 pub record AreSerialsSound (c : Configuration) : Type 0 where
   pub apart : AllPairs (λ m n. m ≢ n) (serials c.flow)
   pub below_next : All (λ n. n < c.next_serial) (serials c.flow)
 
--- what holds before settling too
+-- the part of the invariant that also holds before settling
 pub record IsSound (drivers : List DriverSpec) (c : Configuration) : Type 0 where
   -- the links form no cycle, and no stream is below two of them
   pub links : AreLinksSound c.links
-  -- their ids rise, below the next one
+  -- their ids rise and are below the next one
   pub ids : AreIdsRising c.links c.next_id
   -- each route names a link of its own driver
   pub routes : AreRoutesSound drivers c
-  -- each part names a stream that its drivers have
+  -- each part names streams that its drivers have
   pub known : AreStreamsKnown drivers c
-  -- each list is in its order
+  -- each list is in order
   pub ordered : AreListsOrdered c
-  -- the queued messages have serials of their own
+  -- the queued messages have different serials
   pub serials : AreSerialsSound c
-  -- nothing is left of streams that don't exist
+  -- nothing belongs to streams that don't exist
   pub swept : IsSwept drivers c
 
--- it is sound, and no message can move on
+-- the configuration is sound, and no message can move
 pub record IsKept (drivers : List DriverSpec) (c : Configuration) : Type 0 where
   pub sound : IsSound drivers c
   pub settled : IsSettled drivers c

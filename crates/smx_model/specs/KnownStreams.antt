@@ -1,4 +1,4 @@
--- A configuration all of whose parts name streams that its drivers have.
+-- Configurations whose parts only name streams that the drivers have.
 use Rattle.std.specs.Prelude.{◌<◌, List, length}
 use Rattle.std.specs.List.{All}
 use Rattle.smx_types.specs.declared.driver.DriverSpec.{DriverSpec}
@@ -7,7 +7,7 @@ use Rattle.smx_types.specs.declared.stream.StreamId.{StreamId}
 use Rattle.smx_model.specs.Configuration.{Configuration}
 use Rattle.smx_model.specs.DriverList.{minors_of}
 
--- there is a driver of its number, which has its minor
+-- the driver exists, and it has the minor
 abbrev pub IsKnown : List DriverSpec → StreamId → Type 0
 IsKnown drivers s = (s.driver < length drivers) × (s.minor < minors_of drivers s.driver)
 
@@ -15,7 +15,7 @@ IsKnown drivers s = (s.driver < length drivers) × (s.minor < minors_of drivers 
 abbrev pub AreControllingKnown : List DriverSpec → List Link → Type 0
 AreControllingKnown drivers links = All (λ l. IsKnown drivers l.ctl) links
 
--- the drivers have each stream that a list names, and there is a driver of the number of each route
+-- the drivers have each stream that a list names, and the driver of each route exists
 pub record AreStreamsKnown (drivers : List DriverSpec) (c : Configuration) : Type 0 where
   pub fds : All (λ d. IsKnown drivers d.stream) c.fds
   pub controlling : AreControllingKnown drivers c.links

@@ -1,6 +1,6 @@
--- Lawful histories: what the links and messages of every legal history come to.
-use Rattle.std.specs.Prelude.{◌≡◌, ◌≢◌, ◌⊎◌, ℕ, Bool, true, false, IsTrue, List, [], ◌∷◌, ◌++◌, length}
-use Rattle.std.specs.List.{All, AllPairs, Contains, range_with_len}
+-- Lawful histories: links form no cycle, no stream is below two links, and no message is lost or duplicated.
+use Rattle.std.specs.Prelude.{◌≡◌, ◌≢◌, ◌⊎◌, ℕ, Bool, true, false, IsTrue, List, [], ◌∷◌, ◌++◌}
+use Rattle.std.specs.List.{All, AllPairs, Contains}
 use Rattle.std.specs.List.Sorted.{IsPermutation}
 use Rattle.smx_types.specs.declared.command.Command.{Command}
 use Rattle.smx_types.specs.declared.command.Command.TheVariants as command
@@ -9,11 +9,12 @@ use Rattle.smx_types.specs.declared.driver.DriverSpec.{DriverSpec}
 use Rattle.smx_types.specs.declared.message.Message.{Message}
 use Rattle.smx_types.specs.declared.reply.Reply.{Reply}
 use Rattle.smx_types.specs.declared.reply.Reply.TheVariants as reply
+use Rattle.smx_model.specs.Configuration.{Configuration}
 use Rattle.smx_model.specs.Histories.{after}
 use Rattle.smx_model.specs.Paths.{HasNoCycle, AreLowersApart}
 use Rattle.smx_model.specs.Removal.{serials}
 
--- the serial under which a message was taken in, if one was
+-- the serial of the message that was accepted, if one was
 abbrev pub taken_by : Reply → List ℕ
 taken_by (reply.Fd fd minor) = []
 taken_by (reply.Id id) = []
@@ -69,57 +70,52 @@ may_drop (command.Hangup name minor) = false
 abbrev pub AreDropsAllowed : List Entry → Type 0
 AreDropsAllowed history = All (λ e. dropped_by e.reply ≢ [] → IsTrue (may_drop e.command)) history
 
--- the serials of the messages that were taken in: those of the Took replies, in order
+-- the serials of the accepted messages: those of the `Took` replies, in order
 abbrev pub taken_serials : List Entry → List ℕ
 taken_serials [] = []
 taken_serials (e ∷ es) = taken_by e.reply ++ taken_serials es
 
--- the serials of the messages that were delivered: those of the Got replies, in order
+-- the serials of the delivered messages: those of the `Got` replies, in order
 abbrev pub delivered_serials : List Entry → List ℕ
 delivered_serials [] = []
 delivered_serials (e ∷ es) = delivered_by e.reply ++ delivered_serials es
 
--- the serials that were named as dropped, in the Done replies
+-- the serials of the dropped messages, in the `Done` replies
 abbrev pub dropped_serials : List Entry → List ℕ
 dropped_serials [] = []
 dropped_serials (e ∷ es) = dropped_by e.reply ++ dropped_serials es
-
--- the serials of the messages that are queued at its end
-abbrev pub queued_serials : List DriverSpec → List Entry → List ℕ
-queued_serials drivers history = serials (after drivers history).flow
 
 -- the command writes or injects these bytes to this address
 abbrev pub Sends : Command → ℕ → List ℕ → Type 0
 Sends k addr bytes = ((fd : ℕ) × (k ≡ command.Write fd addr bytes))
     ⊎ ((name : List ℕ) × (minor : ℕ) × (k ≡ command.Inject name minor addr bytes))
 
--- an entry took the message in: it sent its bytes to its address, and was told its serial
+-- an entry accepted the message: its command sent these bytes to this address, and its reply has the serial
 abbrev pub IsTakenIn : List Entry → Message → Type 0
 IsTakenIn history m =
     (took : Entry) × Contains history took × (took.reply ≡ reply.Took m.serial) × Sends took.command m.addr m.bytes
 
--- each message that was taken in was delivered, was dropped or is queued, and just one of these, once
-abbrev pub AreMessagesConserved : List DriverSpec → List Entry → Type 0
-AreMessagesConserved drivers history =
-    IsPermutation (taken_serials history)
-    (delivered_serials history ++ (dropped_serials history ++ queued_serials drivers history))
+-- each message that was accepted was delivered, was dropped or is queued in this configuration, exactly one
+-- of these, once
+abbrev pub AreMessagesConserved : List Entry → Configuration → Type 0
+AreMessagesConserved history c = IsPermutation (taken_serials history)
+    (delivered_serials history ++ (dropped_serials history ++ serials c.flow))
 
--- serials count from 1, and no message is lost or doubled
-pub record IsConserving (drivers : List DriverSpec) (history : List Entry) : Type 0 where
-  pub numbered : taken_serials history ≡ range_with_len 1 (length (taken_serials history))
-  pub conserved : AreMessagesConserved drivers history
-
--- no cycle, no stream below two links, and no message lost or doubled
-pub record IsLawful (drivers : List DriverSpec) (history : List Entry) : Type 0 where
-  -- at its end the links form no cycle
-  pub no_cycle : HasNoCycle (after drivers history).links
+-- a lawful final configuration of a history: no cycle, no stream below two links, and no message lost or duplicated
+pub record IsLawfulEnd (history : List Entry) (c : Configuration) : Type 0 where
+  -- its links form no cycle
+  pub no_cycle : HasNoCycle c.links
   -- no stream is below two links
-  pub lowers_apart : AreLowersApart (after drivers history).links
-  -- no two messages were taken in under one serial
+  pub lowers_apart : AreLowersApart c.links
+  -- no two messages were accepted with the same serial
   pub taken_once : AllPairs (λ m n. m ≢ n) (taken_serials history)
-  -- each message that was taken in was delivered, was dropped or is queued, and just one of these, once
-  pub conserved : AreMessagesConserved drivers history
+  -- each message that was accepted was delivered, was dropped or is queued, exactly one of these, once
+  pub conserved : AreMessagesConserved history c
 
--- after each entry too: each of its prefixes is lawful
+-- the configuration after the history is a lawful end
+abbrev pub IsLawful : List DriverSpec → List Entry → Type 0
+IsLawful drivers history = IsLawfulEnd history (after drivers history)
+
+-- the history is lawful after each entry: each of its prefixes is lawful
 abbrev pub IsLawfulThroughout : List DriverSpec → List Entry → Type 0
 IsLawfulThroughout drivers history = (xs ys : List Entry) → history ≡ xs ++ ys → IsLawful drivers xs

@@ -5,7 +5,7 @@ use Rattle.smx_types.specs.declared.stream.Place.{Place}
 use Rattle.smx_model.specs.Configuration.{Configuration, place_before}
 use Rattle.smx_model.specs.Settling.{is_movable, IsSettled}
 
--- it is movable and none before it is; or there is none, and the configuration is settled
+-- the place is movable and none before it is; or `None`, and the configuration is settled
 abbrev pub IsLeastMovable : List DriverSpec → Configuration → Option Place → Type 0
 IsLeastMovable drivers c None = IsSettled drivers c
 IsLeastMovable drivers c (Some p) =

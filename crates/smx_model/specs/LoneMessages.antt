@@ -1,4 +1,4 @@
--- A message that moves on alone, past the places that are empty. Only the laws of it need this.
+-- A message that moves on alone, through empty places. Only the laws about it need this.
 use Rattle.std.specs.Prelude.{◌≡◌, ◌≢◌, ◌⊎◌, ℕ, Bool, true, false, ◌&&◌, List, length, Option, Some, None}
 use Rattle.smx_types.specs.declared.driver.DriverSpec.{DriverSpec}
 use Rattle.smx_types.specs.declared.link.Link.{Link}
@@ -15,12 +15,12 @@ use Rattle.smx_model.specs.Queues.{first_message, is_full, queue}
 use Rattle.smx_model.specs.RunMarks.{AreMarked}
 use Rattle.smx_model.specs.Settling.{after_move_to, after_settling_within, next_place}
 
--- with the first message of one place at the end of another's queue
+-- the configuration with the first message of one place moved to the end of another's queue
 abbrev pub after_move_between : List DriverSpec → Configuration → Place → Place → Configuration
 after_move_between drivers c p q = after_move_to drivers c p (Some q) (first_message c.flow p)
 
--- each place without a run mark waits, and no place but this one has a run mark; this one has just one message, and is
--- not full, so that none waits for it
+-- each place without a run mark waits, and only this place may have a run mark. It has exactly one message and is not
+-- full, so that no place waits for it
 pub record IsAlone (drivers : List DriverSpec) (c : Configuration) (run wanted : Place → Bool) (p : Place)
     : Type 0 where
   pub marked : AreMarked drivers c run wanted
@@ -37,7 +37,7 @@ lead_on links from to side.Read = reaches links to.driver from.driver
 abbrev pub leads : List Link → Place → Place → Bool
 leads links p q = same_side p.side q.side && lead_on links p.stream q.stream p.side
 
--- the message of the first place has come to the second, and of so many moves some are left
+-- the message of place p has come to place q, and `left` of the moves are left
 pub record IsUnderWay (drivers : List DriverSpec) (c : Configuration) (moves : ℕ) (p q : Place) (left : ℕ)
     : Type 0 where
   pub led : leads c.links p q ≡ true
@@ -47,12 +47,12 @@ pub record IsUnderWay (drivers : List DriverSpec) (c : Configuration) (moves : �
   pub comes_to : after_settling_within drivers left (after_move_between drivers c p q)
       ≡ after_settling_within drivers moves c
 
--- nowhere, or to a full place
+-- no next place, or a full one
 abbrev pub IsClosed : Configuration → Option Place → Type 0
 IsClosed c None = Unit {0}
 IsClosed c (Some q) = is_full c q ≡ true
 
--- a message stays at a place: behind others, or as the first, if it can't go on; and for which place it waits
+-- a message stays at a place: after others, or as the first if it can't move on; `waits` is the place that it waits for
 abbrev pub StaysAt : List DriverSpec → Configuration → Place → Message → Option Place → Type 0
 StaysAt drivers c q m waits =
     ((first_message c.flow q ≢ None) × (waits ≡ None))

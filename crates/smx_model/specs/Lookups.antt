@@ -1,4 +1,4 @@
--- What the words of a command name, and the refusals where they name nothing.
+-- The drivers, streams and numbers that a command names, and the refusals if it names none.
 use Rattle.std.specs.Prelude.{ℕ, not, List, find, position, Result, Ok}
 use Rattle.std.specs.List.{list_any, range_with_len}
 use Rattle.std.specs.Option.{option_map}
@@ -15,47 +15,47 @@ use Rattle.smx_model.specs.Hangups.{is_hung}
 use Rattle.smx_model.specs.Outcomes.{◌>>=◌, or_fault, refuse}
 use Rattle.smx_model.specs.Standing.{is_below, exists}
 
--- the number of the driver of this name
+-- the number of the driver with this name
 abbrev pub driver_of : List DriverSpec → List ℕ → Result ℕ Fault
 driver_of drivers name = or_fault NoDriver (position (λ d. bytes_eq d.name name) drivers)
 
--- the stream of the process's descriptor
+-- the stream of the process' descriptor
 abbrev pub stream_of : Configuration → ℕ → ℕ → Result StreamId Fault
 stream_of c process fd = or_fault BadDescriptor (option_map (λ d. d.stream) (find (is_fd process fd) c.fds))
 
--- the least number that is no descriptor of the process; it has 16 at most
+-- the lowest number that is not a descriptor of the process, which has at most 16
 abbrev pub free_fd : Configuration → ℕ → Result ℕ Fault
 free_fd c process =
     or_fault TooManyDescriptors (find (λ n. not (list_any (is_fd process n) c.fds)) (range_with_len 0 MAX_DESCRIPTORS))
 
--- the least minor of the driver whose stream doesn't exist
+-- the lowest minor of the driver whose stream doesn't exist
 abbrev pub free_minor : List DriverSpec → Configuration → ℕ → Result ℕ Fault
 free_minor drivers c driver = or_fault NoMinor
     (find (λ m. not (exists drivers c (record { driver = driver; minor = m })))
     (range_with_len 0 (minors_of drivers driver)))
 
--- the stream of the process's descriptor, where it is not linked below
+-- the stream of the process' descriptor, if it is not linked below a driver
 abbrev pub free_stream : Configuration → ℕ → ℕ → Result StreamId Fault
 free_stream c process fd = do
   s ← stream_of c process fd
   above ← refuse Below (is_below c.links s)
   Ok s
 
--- the stream of the process's descriptor, where it is not linked below and its device has not hung up
+-- the stream of the process' descriptor, if it is not linked below a driver and its device has not hung up
 abbrev pub live_stream : Configuration → ℕ → ℕ → Result StreamId Fault
 live_stream c process fd = do
   s ← free_stream c process fd
   hung ← refuse HungUp (is_hung c.hungs s)
   Ok s
 
--- the stream of the process's descriptor, where it is not linked below and its driver is a multiplexing one
+-- the stream of the process' descriptor, if it is not linked below a driver and its driver is a multiplexer
 abbrev pub mux_stream : List DriverSpec → Configuration → ℕ → ℕ → Result StreamId Fault
 mux_stream drivers c process fd = do
   s ← free_stream c process fd
   mux ← refuse NotMux (not (is_mux drivers s.driver))
   Ok s
 
--- the stream of a leaf driver and its minor, where it exists
+-- the stream of a leaf driver and its minor, if it exists
 abbrev pub leaf_stream : List DriverSpec → Configuration → List ℕ → ℕ → Result StreamId Fault
 leaf_stream drivers c name minor = do
   n ← driver_of drivers name
@@ -63,7 +63,7 @@ leaf_stream drivers c name minor = do
   there ← refuse NoMinor (not (exists drivers c (record { driver = n; minor = minor })))
   Ok (record { driver = n; minor = minor })
 
--- the stream of a leaf driver and its minor, where it exists and its device has not hung up
+-- the stream of a leaf driver and its minor, if it exists and its device has not hung up
 abbrev pub live_leaf : List DriverSpec → Configuration → List ℕ → ℕ → Result StreamId Fault
 live_leaf drivers c name minor = do
   s ← leaf_stream drivers c name minor

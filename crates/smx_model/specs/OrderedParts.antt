@@ -1,10 +1,10 @@
--- A configuration whose lists are kept in the order in which they are shown.
+-- A configuration whose lists are in the order in which they are shown.
 use Rattle.smx_model.specs.Configuration.{Configuration, fd_before, bind_before, route_before, place_before}
 use Rattle.smx_model.specs.Configuration.{stream_before}
 use Rattle.smx_model.specs.FlowOrder.{IsInOrder}
 use Rattle.smx_model.specs.Ordered.{IsRising}
 
--- descriptors, bindings, routes, full places and hung-up streams rise, so that none is there twice, and the flow is in
+-- descriptors, bindings, routes, full places and hung-up streams rise, so they have no duplicates; the flow is in
 -- order of places
 pub record AreListsOrdered (c : Configuration) : Type 0 where
   pub fds : IsRising fd_before c.fds

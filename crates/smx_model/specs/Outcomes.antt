@@ -1,4 +1,4 @@
--- What a command comes to: a new configuration with a reply, or the first refusal that applies.
+-- The outcome of a command: a new configuration with a reply, or the first refusal that applies.
 use Rattle.std.specs.Prelude.{Bool, true, false, Option, Some, None, Result, Ok, Err}
 use Rattle.smx_types.specs.declared.reply.Fault.{Fault}
 use Rattle.smx_types.specs.declared.reply.Reply.{Reply}
@@ -8,19 +8,19 @@ use Rattle.smx_model.specs.Configuration.{Configuration}
 abbrev pub Outcome : Type 0
 Outcome = Result (Configuration × Reply) Fault
 
--- one after the other, up to the first fault
+-- sequencing, up to the first fault
 infixl 10 ◌>>=◌
--- with what came of the first, unless that was refused
+-- applies a function to a result, unless it is a fault
 abbrev pub ◌>>=◌ : {A B : Type 0} → Result A Fault → (A → Result B Fault) → Result B Fault
 (Ok x) >>= f = f x
 (Err e) >>= f = Err e
 
--- what is there, or else this fault
+-- the value, or this fault if there is none
 abbrev pub or_fault : {A : Type 0} → Fault → Option A → Result A Fault
 or_fault f (Some x) = Ok x
 or_fault f None = Err f
 
--- refused with this fault where the test holds
+-- refuses with this fault if the test holds
 abbrev pub refuse : Fault → Bool → Result (Unit {0}) Fault
 refuse f true = Err f
 refuse f false = Ok tt

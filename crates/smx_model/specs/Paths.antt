@@ -15,7 +15,8 @@ pub record Path (links : List Link) (a b : ℕ) : Type 0 where
   pub some : 0 < length path
   pub leads : IsPath links a path b
 
--- no path leads from a driver to itself (streamio(7), I_LINK; that the driver is the unit is this project's own)
+-- no path leads from a driver to itself (streamio(7), I_LINK; that paths join drivers, and not streams, is specific to
+-- this project)
 abbrev pub HasNoCycle : List Link → Type 0
 HasNoCycle links = (d : ℕ) → Path links d d → ⊥
 
@@ -23,7 +24,7 @@ HasNoCycle links = (d : ℕ) → Path links d d → ⊥
 abbrev pub AreLowersApart : List Link → Type 0
 AreLowersApart links = AllPairs (λ l k. same_stream l.lower k.lower ≡ false) links
 
--- whether a path leads from driver a to driver b: without the first link, or over it once
+-- whether a path leads from driver a to driver b: either without the first link, or over it once
 abbrev pub reaches : List Link → ℕ → ℕ → Bool
 reaches [] a b = false
 reaches (l ∷ ls) a b = reaches ls a b

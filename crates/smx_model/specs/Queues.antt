@@ -1,4 +1,4 @@
--- The messages that are queued at a place, and when its queue is full.
+-- The messages queued at a place, and when its queue is full.
 use Rattle.std.specs.Prelude.{ℕ, Bool, ◌&&◌, ◌||◌, not, nat_lt, nat_le, if◌then◌else◌, List, length, map, filter, find}
 use Rattle.std.specs.Prelude.{Option}
 use Rattle.std.specs.List.{list_any, sum_by}
@@ -14,11 +14,11 @@ use Rattle.smx_model.specs.Ordered.{with_inserted, without_first}
 abbrev pub queue : List QueuedMessage → Place → List Message
 queue flow p = map (λ h. h.message) (filter (is_at p) flow)
 
--- how many bytes some messages have together
+-- the total number of bytes of some messages
 abbrev pub bytes_of : List Message → ℕ
 bytes_of messages = sum_by (λ m. length m.bytes) messages
 
--- how many bytes the messages at a place have together
+-- the total number of bytes of the messages at a place
 abbrev pub bytes_at : List QueuedMessage → Place → ℕ
 bytes_at flow p = bytes_of (queue flow p)
 
@@ -30,17 +30,17 @@ first_message flow p = option_map (λ h. h.message) (find (is_at p) flow)
 abbrev pub is_full : Configuration → Place → Bool
 is_full c p = list_any (same_place p) c.fulls
 
--- after an arrival a place is full if it was, or if it now has as many bytes as its high water mark (STREAMS guide,
--- flow control; the exact reading is this project's own)
+-- after an arrival a place is full if it was, or if it now has at least as many bytes as its high water mark (STREAMS
+-- guide, flow control; the exact rule is specific to this project)
 abbrev pub full_after_arrival : Bool → ℕ → ℕ → Bool
 full_after_arrival was high bytes = was || nat_le high bytes
 
--- after a leaving it is full if it was and still has more bytes than its low water mark (STREAMS guide, flow control;
--- the exact reading is this project's own)
+-- after a message leaves, a place is full if it was and still has more bytes than its low water mark (STREAMS guide,
+-- flow control; the exact rule is specific to this project)
 abbrev pub full_after_leaving : Bool → ℕ → ℕ → Bool
 full_after_leaving was low bytes = was && nat_lt low bytes
 
--- with the place marked as full, or not
+-- the list with the place marked as full, or not
 abbrev pub with_mark : Place → Bool → List Place → List Place
 with_mark p full fulls =
     if full then with_inserted place_before (without_mark p fulls) p else without_mark p fulls where

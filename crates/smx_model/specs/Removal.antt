@@ -1,4 +1,4 @@
--- Links that are removed, and what goes with streams that don't exist any longer.
+-- The removal of links, and of everything that belongs to streams that no longer exist.
 use Rattle.std.specs.Prelude.{ℕ, Bool, ◌&&◌, not, ◌==◌, List, map, filter}
 use Rattle.std.specs.List.{list_any}
 use Rattle.smx_types.specs.declared.driver.DriverSpec.{DriverSpec}
@@ -9,7 +9,7 @@ use Rattle.smx_model.specs.Configuration.{Configuration, QueuedMessage, same_sid
 use Rattle.smx_model.specs.Ordered.{in_rising_order}
 use Rattle.smx_model.specs.Standing.{is_persistent, is_below, exists}
 
--- without the messages and full marks of some places
+-- the configuration without the messages and full marks of some places
 abbrev pub without_queues_at : Configuration → (Place → Bool) → Configuration
 without_queues_at c goes =
     record c { flow = filter (λ h. not (goes h.place)) c.flow; fulls = filter (λ p. not (goes p)) c.fulls }
@@ -18,7 +18,8 @@ without_queues_at c goes =
 abbrev pub is_read_below : List Link → Place → Bool
 is_read_below links p = same_side p.side side.Read && is_below links p.stream
 
--- without some links, the routes to them, and what their lower streams' read sides hold (this project's own)
+-- the configuration without some links, the routes to them, and the messages and full marks of their lower streams'
+-- read sides (specific to this project)
 abbrev pub without_links : Configuration → (Link → Bool) → Configuration
 without_links c goes = without_queues_at
     (record c {
@@ -28,7 +29,7 @@ without_links c goes = without_queues_at
       gone : List Link
       gone = filter goes c.links
 
--- without the messages, full marks, bindings and hangups of streams that don't exist
+-- the configuration without the messages, full marks, bindings and hangups of streams that don't exist
 abbrev pub without_dead_streams : List DriverSpec → Configuration → Configuration
 without_dead_streams drivers c = without_queues_at
     (record c {
@@ -36,8 +37,8 @@ without_dead_streams drivers c = without_queues_at
       hungs = filter (λ s. exists drivers c s) c.hungs;
     }) (λ p. not (exists drivers c p.stream))
 
--- the sweep: without the ordinary links whose controlling stream doesn't exist, and then without what dead streams
--- hold (streamio(7), I_LINK: the last close)
+-- the sweep: removes the ordinary links whose controlling stream doesn't exist, then everything that belongs to
+-- streams that don't exist (streamio(7), I_LINK: the last close)
 abbrev pub after_sweep : List DriverSpec → Configuration → Configuration
 after_sweep drivers c =
     without_dead_streams drivers (without_links c (λ l. not (is_persistent l) && not (exists drivers c l.ctl)))

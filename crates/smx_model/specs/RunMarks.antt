@@ -1,4 +1,4 @@
--- Places whose first messages wait, and marks at those that may not.
+-- Places whose first message waits, and marks for the places whose first message may not.
 use Rattle.std.specs.Prelude.{◌≡◌, ◌⊎◌, ℕ, Bool, true, false, ◌&&◌, ◌||◌, not, ◌==◌, List, Option, Some, None}
 use Rattle.std.specs.List.{list_any}
 use Rattle.std.specs.Option.{is_some}
@@ -12,35 +12,35 @@ use Rattle.smx_model.specs.Configuration.{Configuration, same_place, same_side, 
 use Rattle.smx_model.specs.Queues.{is_full, first_message}
 use Rattle.smx_model.specs.Settling.{next_place}
 
--- where a message at a place goes next, whether that is full or not; nowhere, if there is none
+-- the place that a message goes to next, full or not; `None` if there is no message or no such place
 abbrev pub next_of : List DriverSpec → Configuration → Place → Option Message → Option Place
 next_of drivers c p None = None
 next_of drivers c p (Some m) = next_place drivers c p m.addr
 
--- where the first message of a place goes next
+-- the place that the first message of a place goes to next
 abbrev pub next_of_first : List DriverSpec → Configuration → Place → Option Place
 next_of_first drivers c p = next_of drivers c p (first_message c.flow p)
 
--- one of these places, and not nowhere
+-- there is such a place, and it is one of these
 abbrev pub is_one_of : (Place → Bool) → Option Place → Bool
 is_one_of places None = false
 is_one_of places (Some q) = places q
 
--- the first message of the place goes next to one of these
+-- the first message of the place goes to one of these places next
 abbrev pub feeds : List DriverSpec → Configuration → (Place → Bool) → Place → Bool
 feeds drivers c places p = is_one_of places (next_of_first drivers c p)
 
--- nowhere, or to a full place that has a wanted mark
+-- there is no next place, or the next place is full and has a wanted mark
 abbrev pub is_held_up : Configuration → (Place → Bool) → Option Place → Bool
 is_held_up c wanted None = true
 is_held_up c wanted (Some q) = is_full c q && wanted q
 
--- the place waits: its first message has no next place, or a full one that has a wanted mark
+-- the place waits: its first message has no next place, or a full one with a wanted mark
 abbrev pub is_waiting : List DriverSpec → Configuration → (Place → Bool) → Place → Bool
 is_waiting drivers c wanted p = is_held_up c wanted (next_of_first drivers c p)
 
--- each place without a run mark waits: so movable places have one, and a full place that holds up the first message
--- of a place without one has a wanted mark (STREAMS guide, back-enabling, in kind)
+-- each place without a run mark waits. So each movable place has a run mark, and each full place that blocks the
+-- first message of a place without a run mark has a wanted mark (similar to back-enabling in the STREAMS guide)
 abbrev pub AreMarked : List DriverSpec → Configuration → (Place → Bool) → (Place → Bool) → Type 0
 AreMarked drivers c run wanted = (p : Place) → run p ≡ false → is_waiting drivers c wanted p ≡ true
 
@@ -48,40 +48,40 @@ AreMarked drivers c run wanted = (p : Place) → run p ≡ false → is_waiting 
 abbrev pub nowhere : Place → Bool
 nowhere p = false
 
--- one of these places, or of those
+-- a place of either kind
 abbrev pub either : (Place → Bool) → (Place → Bool) → Place → Bool
 either these those p = these p || those p
 
--- these places but for one
+-- these places except one
 abbrev pub all_but : (Place → Bool) → Place → Place → Bool
 all_but places p q = places q && not (same_place p q)
 
--- it is the place that the first message of another goes to next
+-- the first message of another place goes to this one next
 abbrev pub is_next_of_first : List DriverSpec → Configuration → Place → Place → Bool
 is_next_of_first drivers c p q = feeds drivers c (λ x. same_place x q) p
 
--- the place was full and is no longer
+-- the place was full and is not full any more
 abbrev pub is_freed : Configuration → Configuration → Place → Bool
 is_freed old new p = is_full old p && not (is_full new p)
 
--- a place that is freed is no longer wanted
+-- a place that was freed is no longer wanted
 abbrev pub wanted_after : Configuration → Configuration → (Place → Bool) → Place → Bool
 wanted_after old new wanted p = wanted p && not (is_freed old new p)
 
--- the next place is the one that it was, or there is none
+-- the next place is the same as before, or there is none
 abbrev pub Stays : Option Place → Option Place → Type 0
 Stays was now = (now ≡ was) ⊎ (now ≡ None)
 
--- but for the turned places, the first message of each goes next where the first one went before, or nowhere
+-- except at the turned places, the first message of each place goes where the first one went before, or nowhere
 abbrev pub TurnsOnly : List DriverSpec → Configuration → Configuration → (Place → Bool) → Type 0
 TurnsOnly drivers old new turned =
     (p : Place) → turned p ≡ false → Stays (next_of_first drivers old p) (next_of_first drivers new p)
 
--- what a change wakes: the places that it turned, and those that feed a wanted place that it freed
+-- the places that a change wakes: those that it turned, and those that feed a wanted place that it freed
 abbrev pub woken_by : List DriverSpec → Configuration → Configuration → (Place → Bool) → (Place → Bool) → Place → Bool
 woken_by drivers old new wanted turned = either turned (feeds drivers new (λ q. is_freed old new q && wanted q))
 
--- an arrival at this place gives it a first message
+-- a message that arrives at this place is its first one
 abbrev pub is_first_at : Configuration → Place → Place → Bool
 is_first_at c p q = same_place p q && not (is_some (first_message c.flow p))
 
@@ -104,11 +104,11 @@ abbrev pub asks_up : Configuration → ℕ → ℕ → Place → Bool
 asks_up c driver addr p =
     (same_side p.side side.Read && is_below_driver c driver p.stream) && has_addr addr (first_message c.flow p)
 
--- a write side leads to those of the streams below its driver, a read side to those of the driver above it
+-- a write side leads to those of the streams below its driver, a read side to those of the driver above its stream
 abbrev pub leads_to : Configuration → StreamId → StreamId → Side → Bool
 leads_to c from to side.Write = is_below_driver c from.driver to
 leads_to c from to side.Read = is_below_driver c to.driver from
 
--- the places that can feed one
+-- the places that can feed a place
 abbrev pub can_feed : Configuration → Place → Place → Bool
 can_feed c q p = same_side p.side q.side && leads_to c p.stream q.stream q.side

@@ -1,4 +1,4 @@
--- Settling that looks at the least marked place alone, until no run mark is left. Only the laws of it need this.
+-- Settling that examines only the least marked place, until no run mark is left. Only the laws about it need this.
 use Rattle.std.specs.Prelude.{◌≡◌, ◌≢◌, ℕ, zero, suc, ◌*◌, Bool, true, false, List, [], ◌∷◌, length, Option, Some, None}
 use Rattle.smx_types.specs.declared.driver.DriverSpec.{DriverSpec}
 use Rattle.smx_types.specs.declared.stream.Place.{Place}
@@ -18,15 +18,15 @@ pub record MarkedConfiguration : Type 0 where
 abbrev pub HasItsMarks : List DriverSpec → MarkedConfiguration → Type 0
 HasItsMarks drivers m = AreMarked drivers m.configuration m.run m.wanted
 
--- a run mark stands at each movable place
+-- each movable place has a run mark
 abbrev pub AreMovableMarked : List DriverSpec → Configuration → (Place → Bool) → Type 0
 AreMovableMarked drivers c run = (p : Place) → is_movable drivers c p ≡ true → run p ≡ true
 
--- the first message of the second place waits for the first place: it goes there next, and that is full
+-- the first message of place p waits for the full place: it goes there next
 abbrev pub HoldsUp : List DriverSpec → Configuration → Place → Place → Type 0
 HoldsUp drivers c full p = (next_of_first drivers c p ≡ Some full) × (is_full c full ≡ true)
 
--- a wanted mark stands at each full place that holds up the first message of a place without a run mark
+-- each full place that blocks the first message of a place without a run mark has a wanted mark
 abbrev pub AreHoldingWanted : List DriverSpec → Configuration → (Place → Bool) → (Place → Bool) → Type 0
 AreHoldingWanted drivers c run wanted = (p q : Place) → run p ≡ false → HoldsUp drivers c q p → wanted q ≡ true
 
@@ -44,8 +44,8 @@ pub record IsLeastMarked (run : Place → Bool) (p : Place) : Type 0 where
   pub marked : run p ≡ true
   pub none_before : (q : Place) → place_before q p ≡ true → run q ≡ false
 
--- what has to be marked after a change that turned these places: where there is a message, what had a run mark or was
--- woken has one, and what was wanted and wasn't freed is wanted
+-- the marks required after a change that turned these places. A place with a message has a run mark if it had one or
+-- was woken. A place is wanted if it was and was not freed
 pub record IsMarkedAfter (drivers : List DriverSpec) (turned : Place → Bool) (old new : MarkedConfiguration)
     : Type 0 where
   pub run : (p : Place) → first_message new.configuration.flow p ≢ None
@@ -54,23 +54,23 @@ pub record IsMarkedAfter (drivers : List DriverSpec) (turned : Place → Bool) (
   pub wanted : (p : Place) → wanted_after old.configuration new.configuration old.wanted p ≡ true
       → new.wanted p ≡ true
 
--- what an arrival turns, once the first message left a place: the place where it arrives, if that was empty
+-- after the first message left a place, its arrival turns the place where it arrives, if that was empty
 abbrev pub is_first_there : List DriverSpec → Configuration → Place → Option Place → Place → Bool
 is_first_there drivers c p None = nowhere
 is_first_there drivers c p (Some q) = is_first_at (after_leaving drivers c p) q
 
--- what a move turns: the place that it takes from, and the place that it goes to, if that was empty
+-- a move turns the place that the message leaves, and the place that it goes to, if that was empty
 abbrev pub turned_by_move : List DriverSpec → Configuration → Place → Place → Bool
 turned_by_move drivers c p = either (same_place p) (is_first_there drivers c p (next_open_place drivers c p))
 
--- the least marked place is movable: its first message moves on, and what that wakes is marked
+-- the least marked place is movable: its first message moves on, and the places that this wakes are marked
 pub record IsMovedOn (drivers : List DriverSpec) (p : Place) (old new : MarkedConfiguration) : Type 0 where
   pub least : IsLeastMarked old.run p
   pub movable : is_movable drivers old.configuration p ≡ true
   pub moved : new.configuration ≡ after_move drivers old.configuration p
   pub marks : IsMarkedAfter drivers (turned_by_move drivers old.configuration p) old new
 
--- the least marked place isn't: its mark is cleared, and the full place that it waits for is marked as wanted
+-- the least marked place is not movable: its mark is cleared, and the full place that it waits for is marked as wanted
 pub record IsCleared (drivers : List DriverSpec) (p : Place) (old new : MarkedConfiguration) : Type 0 where
   pub least : IsLeastMarked old.run p
   pub waits : is_movable drivers old.configuration p ≡ false
@@ -79,8 +79,8 @@ pub record IsCleared (drivers : List DriverSpec) (p : Place) (old new : MarkedCo
   pub wanted : (q : Place) → either old.wanted (is_next_of_first drivers old.configuration p) q ≡ true
       → new.wanted q ≡ true
 
--- settling by marks from one to another, by moves from these places in this order: as long as a place has a run mark,
--- the least of them is moved from or cleared
+-- settling by marks, from one marked configuration to another, by moves from these places in this order: as long as a
+-- place has a run mark, the least of them is moved from or cleared
 pub data SettlesByMarks (drivers : List DriverSpec)
     : MarkedConfiguration → List Place → MarkedConfiguration → Type 0 where
   is_settled : (m : MarkedConfiguration) → HasNoRunMark m.run → SettlesByMarks drivers m [] m
@@ -89,7 +89,7 @@ pub data SettlesByMarks (drivers : List DriverSpec)
   clears_mark : (old new end : MarkedConfiguration) (p : Place) (ps : List Place)
       → IsCleared drivers p old new → SettlesByMarks drivers new ps end → SettlesByMarks drivers old ps end
 
--- the places from which at most so many moves take, in order
+-- the places that the first moves of settling leave, in order; at most n moves
 abbrev pub moves_within : List DriverSpec → ℕ → Configuration → List Place
 moves_within drivers zero c = []
 moves_within drivers (suc n) c = elim (least_movable drivers c) [
@@ -97,11 +97,11 @@ moves_within drivers (suc n) c = elim (least_movable drivers c) [
   | Some p ↦ p ∷ moves_within drivers n (after_move drivers c p)
 ]
 
--- the places from which settling takes, in order
+-- the places that the moves of settling leave, in order
 abbrev pub moves_of_settling : List DriverSpec → Configuration → List Place
 moves_of_settling drivers c = moves_within drivers (length c.flow * length drivers) c
 
--- settling by marks can go on to its end
+-- settling by marks has an end
 pub record CanSettleByMarks (drivers : List DriverSpec) (old : MarkedConfiguration) : Type 0 where
   pub moves : List Place
   pub end : MarkedConfiguration

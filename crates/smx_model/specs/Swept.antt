@@ -1,12 +1,12 @@
--- A configuration in which nothing is left of streams that don't exist.
+-- A configuration in which nothing belongs to streams that don't exist.
 use Rattle.std.specs.Prelude.{◌≡◌, true, ◌||◌, List}
 use Rattle.std.specs.List.{list_all}
 use Rattle.smx_types.specs.declared.driver.DriverSpec.{DriverSpec}
 use Rattle.smx_model.specs.Configuration.{Configuration}
 use Rattle.smx_model.specs.Standing.{is_persistent, exists}
 
--- each ordinary link's controlling stream exists, and so does each stream with a binding, a message or a full mark, and
--- each hung-up one
+-- these streams exist: the controlling stream of each ordinary link, each stream with a binding, a message or a full
+-- mark, and each hung-up stream
 pub record IsSwept (drivers : List DriverSpec) (c : Configuration) : Type 0 where
   pub links : list_all (λ l. is_persistent l || exists drivers c l.ctl) c.links ≡ true
   pub binds : list_all (λ b. exists drivers c (record { driver = b.driver; minor = b.minor })) c.binds ≡ true

@@ -1,4 +1,4 @@
--- Which places a command turns. Only the laws of run marks need this.
+-- The places that a command turns. Only the laws of run marks need this.
 use Rattle.std.specs.Prelude.{ℕ, Bool, List, Result, Ok, Err}
 use Rattle.smx_types.specs.declared.command.Command.{Command}
 use Rattle.smx_types.specs.declared.command.Command.TheVariants as command
@@ -10,13 +10,13 @@ use Rattle.smx_model.specs.Configuration.{Configuration, read_side, same_place, 
 use Rattle.smx_model.specs.Lookups.{stream_of, free_stream, live_stream, mux_stream, live_leaf}
 use Rattle.smx_model.specs.RunMarks.{nowhere, is_first_at, asks_up, asks_down}
 
--- places by the stream that is named, or none
+-- the places of the named stream, or no places if the command is refused
 abbrev pub of_stream : Result StreamId Fault → (StreamId → Place → Bool) → Place → Bool
 of_stream (Ok s) places = places s
 of_stream (Err fault) places = nowhere
 
--- by command, the places that get another first message, or whose first message goes elsewhere next: what comes turns
--- some, and of what goes only a message
+-- for each command, the places that get another first message, or whose first message goes elsewhere next: additions
+-- turn some places, and of the removals only that of a message does
 abbrev pub turned_by : List DriverSpec → Configuration → ℕ → Command → Place → Bool
 turned_by drivers c process (command.OpenClone name) = nowhere
 turned_by drivers c process (command.OpenMinor name minor) = nowhere

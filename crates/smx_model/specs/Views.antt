@@ -1,4 +1,4 @@
--- A configuration as it is shown: its drivers by name, its lists in the order in which they are kept.
+-- The view of a configuration: drivers by name, and its lists in the order in which they are kept.
 use Rattle.std.specs.Prelude.{List, map}
 use Rattle.smx_types.specs.declared.driver.DriverSpec.{DriverSpec}
 use Rattle.smx_types.specs.declared.link.Binding.{Binding}
@@ -59,7 +59,7 @@ view_of_full drivers p = record { driver = name_of drivers p.stream.driver; mino
 abbrev pub view_of_hung : List DriverSpec → StreamId → HungLine
 view_of_hung drivers s = record { driver = name_of drivers s.driver; minor = s.minor }
 
--- both numbers, and a line for each element of each list; configurations are compared by it
+-- both numbers, and one line for each element of each list; two configurations are compared by their views
 abbrev pub view : List DriverSpec → Configuration → ConfigView
 view drivers c = record {
   next_id = c.next_id;

@@ -1,4 +1,4 @@
--- Whole histories with their ends, each a theorem by computation.
+-- Whole histories with their final configurations, each a theorem that is proved by computation.
 pub mod Common
 pub mod ALinkedStreamIsBarred
 pub mod AllLinksRemoved
@@ -38,6 +38,8 @@ pub mod TurnedFreedAndMoved
 pub mod CommandsThatDrop
 pub mod Reports
 pub mod SecondIsIllegal
+pub mod Unlawful
+pub mod DriverLists
 pub mod HangupRefusals
 pub mod EndOfFile
 pub mod AHungUpStreamIsPassedBy

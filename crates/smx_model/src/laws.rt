@@ -15,8 +15,8 @@ pub fn prefixes_are_legal()
         → IsLegal drivers early }
 {}
 
-/// With one entry more, the configuration after a history is one step further, and the history stays legal where that
-/// entry has the reply of its command.
+/// After one more entry, the configuration is one step further, and the history stays legal if the entry has the
+/// reply of its command.
 pub fn one_entry_more()
     ensures after { (drivers : List DriverSpec) (history : List Entry) (e : Entry)
         → after drivers (history ++ e ∷ []) ≡ (step drivers (after drivers history) e.process e.command).0 }
@@ -24,25 +24,34 @@ pub fn one_entry_more()
         → (step drivers (after drivers history) e.process e.command).1 ≡ e.reply → IsLegal drivers (history ++ e ∷ []) }
 {}
 
-/// Commands in a given order have one legal history: their replies are determined.
+/// Commands in a given order have only one legal history: they determine their replies.
 pub fn histories_are_determined()
     ensures { (drivers : List DriverSpec) (one other : List Entry) → IsLegal drivers one → IsLegal drivers other
         → map call_of one ≡ map call_of other → one ≡ other }
 {}
 
 /// A legal history is lawful: at its end there is no cycle, no stream is below two links, and each message that was
-/// taken in was delivered, was dropped or is queued, once.
+/// accepted was delivered, was dropped or is queued, once.
 pub fn legal_histories_are_lawful()
     ensures { (drivers : List DriverSpec) (history : List Entry) → IsLegal drivers history → IsLawful drivers history }
 {}
 
-/// So is each of its prefixes: it is lawful after each entry.
+/// Each prefix of a legal history is lawful too, so the history is lawful after each entry.
 pub fn lawful_after_each_entry()
     ensures { (drivers : List DriverSpec) (history : List Entry) → IsLegal drivers history
         → IsLawfulThroughout drivers history }
 {}
 
-/// After any commands the open descriptors are in the order in which they are shown, and so all differ.
+/// If a history is lawful after each entry, it is lawful as a whole, and each of its prefixes is lawful
+/// after each entry.
+pub fn prefixes_are_lawful()
+    ensures whole { (drivers : List DriverSpec) (history : List Entry) → IsLawfulThroughout drivers history
+        → IsLawful drivers history }
+    ensures prefixes { (drivers : List DriverSpec) (early late : List Entry)
+        → IsLawfulThroughout drivers (early ++ late) → IsLawfulThroughout drivers early }
+{}
+
+/// After any commands the open descriptors are in the order in which they are shown, so there are no duplicates.
 pub fn descriptors_rise()
     ensures { (drivers : List DriverSpec) (history : List Entry) → IsRising fd_before (after drivers history).fds }
 {}

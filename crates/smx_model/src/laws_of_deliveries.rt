@@ -1,6 +1,6 @@
-//! Laws of what messages carry, each the contract of a function that does nothing.
+//! Laws of the contents of messages, each the contract of a function that does nothing.
 
-ghost use Rattle.std.specs.Prelude.{◌≡◌, ℕ, List, ◌∷◌, ◌++◌};
+ghost use Rattle.std.specs.Prelude.{◌≡◌, ℕ, List, [], ◌∷◌, ◌++◌};
 ghost use Rattle.std.specs.List.{All};
 ghost use Rattle.std.specs.List.Sorted.{IsPermutation};
 ghost use Rattle.smx_types.specs.declared.command.Command.{Command};
@@ -11,9 +11,11 @@ ghost use Rattle.smx_model.specs.Commands.{step};
 ghost use Rattle.smx_model.specs.Histories.{after, IsLegal};
 ghost use Rattle.smx_model.specs.LawfulHistories.{delivered_by, dropped_by, taken_by, IsTakenIn};
 ghost use Rattle.smx_model.specs.Removal.{serials};
+ghost use Rattle.smx_model.specs.Worked.Unlawful.{opened, wrote};
 
-/// A message arrives whole: what is delivered has the serial, the address and the bytes of an earlier entry, which
-/// wrote or injected just these bytes to that address and was told that serial. So it is with what is still queued.
+/// A message arrives whole: a delivered message has the serial, the address and the bytes of an earlier entry.
+/// That entry's command wrote or injected these bytes to this address, and its reply has this serial. The same
+/// holds of queued messages.
 pub fn messages_arrive_whole()
     ensures delivered { (drivers : List DriverSpec) (early late : List Entry) (e : Entry) (serial addr : ℕ)
         (bytes : List ℕ)
@@ -23,8 +25,18 @@ pub fn messages_arrive_whole()
         → All (λ h. IsTakenIn history h.message) (after drivers history).flow }
 {}
 
-/// A message goes only by a reply that names it: after any commands each message that is queued, or that the next one
-/// takes in, is delivered by its reply, dropped by it or queued after it, and just one of these, once.
+/// No entry of the example accepted a message with another serial, address or bytes than the one that was written, or
+/// accepted it before it was written.
+pub fn others_were_not_taken_in()
+    ensures other_serial { IsTakenIn (opened ∷ wrote ∷ []) (record { serial = 2; addr = 5; bytes = 170 ∷ [] }) → ⊥ }
+    ensures other_address { IsTakenIn (opened ∷ wrote ∷ []) (record { serial = 1; addr = 6; bytes = 170 ∷ [] }) → ⊥ }
+    ensures other_bytes { IsTakenIn (opened ∷ wrote ∷ []) (record { serial = 1; addr = 5; bytes = 187 ∷ [] }) → ⊥ }
+    ensures no_entry { IsTakenIn (opened ∷ []) (record { serial = 1; addr = 5; bytes = 170 ∷ [] }) → ⊥ }
+{}
+
+/// A message leaves only by a reply that names it. After any commands, take each message that is queued or that
+/// the next command accepts: that command's reply delivers it or drops it, or it is queued afterwards, exactly one
+/// of these, once.
 pub fn messages_go_by_name()
     ensures { (drivers : List DriverSpec) (history : List Entry) (process : ℕ) (k : Command)
         → IsPermutation

@@ -22,8 +22,8 @@ ghost use Rattle.smx_model.specs.Lookups.{leaf_stream};
 ghost use Rattle.smx_model.specs.Ordered.{IsRising};
 ghost use Rattle.smx_model.specs.Standing.{exists};
 
-/// A hangup drops nothing and moves nothing: its stream has hung up then, and all else is as it was. A second one
-/// changes nothing at all.
+/// A hangup drops and moves nothing: afterwards its stream has hung up, and everything else is unchanged. A second
+/// hangup of the stream changes nothing at all.
 pub fn hangups_change_nothing_else()
     ensures first { (drivers : List DriverSpec) (c : Configuration) (process : ℕ) (name : List ℕ) (minor : ℕ)
         (s : StreamId) → IsKept drivers c → leaf_stream drivers c name minor ≡ Ok s
@@ -34,15 +34,15 @@ pub fn hangups_change_nothing_else()
         → step drivers c process (command.Hangup name minor) ≡ (c, reply.Done []) }
 {}
 
-/// No other command hangs a stream up, and of those that have hung up it leaves just those that still exist.
+/// No other command hangs up a stream, and of the hung-up streams each command keeps exactly those that still exist.
 pub fn hung_up_streams_go_with_their_end()
     ensures { (drivers : List DriverSpec) (c : Configuration) (process : ℕ) (k : Command) → IsKept drivers c
         → is_hangup k ≡ false → (step drivers c process k).0.hungs
         ≡ filter (λ s. exists drivers (step drivers c process k).0 s) c.hungs }
 {}
 
-/// So a stream that has hung up stays so as long as it exists, whatever the command; and one that didn't exist before
-/// it, as a stream that is opened anew, has not hung up.
+/// So a hung-up stream stays hung up as long as it exists, whatever the command. A stream that did not exist before a
+/// command, such as one that is opened anew, has not hung up.
 pub fn hung_up_streams_stay_so()
     ensures stays { (drivers : List DriverSpec) (c : Configuration) (process : ℕ) (k : Command) (s : StreamId)
         → IsKept drivers c → is_hung c.hungs s ≡ true → exists drivers (step drivers c process k).0 s ≡ true
@@ -52,8 +52,8 @@ pub fn hung_up_streams_stay_so()
         → is_hung (step drivers c process k).0.hungs s ≡ false }
 {}
 
-/// A history without a hangup tells of none: it has no end of file and no refusal for a hangup, and no stream has hung
-/// up at its end.
+/// A history without a hangup reports none: it has no end of file and no refusal after a hangup, and at its end no
+/// stream has hung up.
 pub fn without_a_hangup_none_is_told()
     ensures replies { (drivers : List DriverSpec) (history : List Entry) → IsLegal drivers history
         → list_any (λ e. is_hangup e.command) history ≡ false → list_any is_of_hangup history ≡ false }
@@ -61,14 +61,14 @@ pub fn without_a_hangup_none_is_told()
         → list_any (λ e. is_hangup e.command) history ≡ false → (after drivers history).hungs ≡ [] }
 {}
 
-/// So a report can be told in version 1 where its programs can.
+/// So version 1 can express a report if it can express the programs.
 pub fn reports_need_no_later_version()
     ensures { (programs : ProgramLists) (report : Transcript) → IsReportOf programs report
         → least_of_programs programs.drivers programs.programs ≡ V1 → least_of_transcript report ≡ V1 }
 {}
 
-/// Lists of hung-up streams in their order are the same where the same streams are in them. One more, or fewer, keep
-/// the order, and hold that one more, or those that are kept.
+/// Two ordered lists of hung-up streams are equal if they contain the same streams. Adding a stream and filtering
+/// keep the order, and result in a list of exactly these streams.
 pub fn hung_up_streams_make_the_list()
     ensures same { (xs ys : List StreamId) → IsRising stream_before xs → IsRising stream_before ys
         → ((s : StreamId) → is_hung xs s ≡ is_hung ys s) → xs ≡ ys }

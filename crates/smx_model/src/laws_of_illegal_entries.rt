@@ -7,7 +7,7 @@ ghost use Rattle.smx_model.specs.Histories.{IsLegal};
 ghost use Rattle.smx_model.specs.IllegalEntries.{IsFirstIllegal};
 ghost use Rattle.smx_model.specs.Worked.SecondIsIllegal.{drivers, history};
 
-/// A history is legal, or has a first illegal entry, and not both. That entry has one number.
+/// A history is legal or has a first illegal entry, and not both. The number of that entry is unique.
 pub fn legal_or_first_illegal()
     ensures either { (drivers : List DriverSpec) (entries : List Entry)
         → IsLegal drivers entries ⊎ ((number : ℕ) × IsFirstIllegal drivers entries number) }
@@ -17,7 +17,8 @@ pub fn legal_or_first_illegal()
         → IsFirstIllegal drivers entries n → m ≡ n }
 {}
 
-/// In the example it is the second: the first is right, as is the fourth, and the third is wrong too, but not first.
+/// In the example it is the second entry: the first and the fourth are correct, and the third is wrong too,
+/// but not first.
 pub fn the_second_is_the_first_illegal()
     ensures second { IsFirstIllegal drivers history 2 }
     ensures not_from_0 { IsFirstIllegal drivers history 0 → ⊥ }

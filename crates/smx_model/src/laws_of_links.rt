@@ -17,7 +17,7 @@ pub fn reaches_is_path()
     ensures { (links : List Link) (a b : ℕ) → IsTrue (reaches links a b) ↔ Path links a b }
 {}
 
-/// A new link joins what reaches its upper driver to what its lower driver reaches.
+/// A new link adds paths from every driver that reaches its upper driver to every driver that its lower driver reaches.
 pub fn one_link_more_joins()
     ensures { (links : List Link) (l : Link) (a b : ℕ) → reaches (links ++ l ∷ []) a b
         ≡ (reaches links a b || (((a == l.ctl.driver) || reaches links a l.ctl.driver)
@@ -30,26 +30,26 @@ pub fn paths_join()
         → IsTrue (reaches links a c) }
 {}
 
-/// No links are sound, before the first id.
+/// The empty list of links is sound, before the first id.
 pub fn no_links_are_sound()
     ensures sound { AreLinksSound [] }
     ensures ids { AreIdsRising [] 1 }
 {}
 
-/// A new link keeps links sound, whose lower stream is below none, and from whose lower driver no path leads to its
-/// upper one, which is another.
+/// A new link keeps links sound if its lower stream is below no link, its two drivers differ, and no path leads from
+/// its lower driver to its upper one.
 pub fn linking_keeps_soundness()
     ensures { (links : List Link) (l : Link) → AreLinksSound links → is_below links l.lower ≡ false
         → ((l.lower.driver == l.ctl.driver) || reaches links l.lower.driver l.ctl.driver) ≡ false
         → AreLinksSound (links ++ l ∷ []) }
 {}
 
-/// The next id is a new link's, and the one after it is then the next.
+/// A new link gets the next id, and the id after it is then the next one.
 pub fn linking_takes_the_next_id()
     ensures { (links : List Link) (l : Link) → AreIdsRising links l.id → AreIdsRising (links ++ l ∷ []) (l.id + 1) }
 {}
 
-/// Some of sound links are sound, and their ids rise.
+/// A part of sound links is sound, and their ids rise.
 pub fn fewer_links_stay_sound()
     ensures order { (links : List Link) (stays : Link → Bool) → IsRising (λ l k. nat_lt l.id k.id) links
         → IsRising (λ l k. nat_lt l.id k.id) (filter stays links) }
@@ -64,13 +64,13 @@ pub fn links_stay_sound()
     ensures { (drivers : List DriverSpec) (history : List Entry) → AreLinksSound (after drivers history).links }
 {}
 
-/// After any commands the ids of links rise, from 1 on and below the next one.
+/// After any commands the ids of links rise from 1 on, and are below the next one.
 pub fn ids_rise()
     ensures { (drivers : List DriverSpec) (history : List Entry)
         → AreIdsRising (after drivers history).links (after drivers history).next_id }
 {}
 
-/// After any commands each route names a link of its own driver, which is a multiplexing one.
+/// After any commands each route names a link of its own driver, which is a multiplexer.
 pub fn routes_stay_sound()
     ensures { (drivers : List DriverSpec) (history : List Entry) → AreRoutesSound drivers (after drivers history) }
 {}

@@ -12,15 +12,15 @@ ghost use Rattle.smx_model.specs.RunMarks.{AreMarked, either, is_one_of, next_of
 ghost use Rattle.smx_model.specs.Settling.{IsSettled, after_settling_within, least_movable};
 ghost use Rattle.smx_model.specs.Settling.{next_open_place, next_place};
 
-/// A message that may move on is under way to its next place, with one move less.
+/// A message that can move is under way to its next place, with one move less.
 pub fn lone_messages_set_out()
     ensures { (drivers : List DriverSpec) (c : Configuration) (p q : Place) (moves : ℕ) → IsSound drivers c
         → least_movable drivers c ≡ Some p → next_open_place drivers c p ≡ Some q → 0 < moves
         → IsUnderWay drivers c moves p q (moves - 1) }
 {}
 
-/// A place that it passes stays as it was: where the message would go on from an empty place, it is under way to the
-/// next one. There is a move left for that, where the moves suffice.
+/// A place that it passes doesn't change: if the message would go on from an empty place, it is under way to the next
+/// one. There is a move left for that if the moves suffice for settling.
 pub fn empty_places_are_passed()
     ensures { (drivers : List DriverSpec) (c : Configuration) (run wanted : Place → Bool) (p q r : Place) (m : Message)
         (moves left : ℕ) → IsSound drivers c → IsAlone drivers c run wanted p → first_message c.flow p ≡ Some m
@@ -29,7 +29,8 @@ pub fn empty_places_are_passed()
         → (0 < left) × IsUnderWay drivers c moves p r (left - 1) }
 {}
 
-/// Where it stays, it is settled. No place has a run mark, and what it waits for is wanted.
+/// Once the message stays, the configuration is settled. No place has a run mark, and the place that it waits
+/// for is wanted.
 pub fn lone_messages_come_to_rest()
     ensures settled { (drivers : List DriverSpec) (c : Configuration) (run wanted : Place → Bool) (p q : Place)
         (m : Message) (moves left : ℕ) (waits : Option Place) → IsSound drivers c → IsAlone drivers c run wanted p
@@ -42,8 +43,8 @@ pub fn lone_messages_come_to_rest()
         (either wanted (λ r. is_one_of (same_place r) waits)) }
 {}
 
-/// But for the two ends of its way, each place has the first message that it had; full places stay full. The place that
-/// it left has none, and in an empty place it is the first.
+/// Except at the two ends of its way, each place has the same first message as before, and full places stay full. The
+/// place that it left has no message; at an empty place it is the first one.
 pub fn lone_messages_change_two()
     ensures apart { (drivers : List DriverSpec) (c : Configuration) (p q : Place) (moves left : ℕ) → IsSound drivers c
         → IsUnderWay drivers c moves p q left → same_place p q ≡ false }

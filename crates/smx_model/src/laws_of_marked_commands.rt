@@ -1,4 +1,4 @@
-//! Laws of what commands do to marks, each the contract of a function that does nothing.
+//! Laws of the effect of commands on marks, each the contract of a function that does nothing.
 
 ghost use Rattle.std.specs.Prelude.{◌≡◌, ℕ, true, List, [], IfOk};
 ghost use Rattle.smx_types.specs.declared.command.Command.{Command};
@@ -21,29 +21,30 @@ pub fn empty_needs_no_mark()
         → IsAtRest drivers (record { configuration = empty; run = nowhere; wanted = nowhere }) }
 {}
 
-/// Before an accepted command no message can move on. After it, before it is settled, one can only from a place that it
-/// turned, or from one whose first message goes next to a place that it freed.
+/// Before an accepted command no message can move. After it and before settling, a message can move only from a place
+/// that the command turned, or from one whose first message goes next to a place that it freed.
 pub fn few_become_movable()
     ensures { (drivers : List DriverSpec) (c : Configuration) (process : ℕ) (command : Command) (p : Place)
         → IsKept drivers c → IfOk (outcome drivers c process command) (λ x. is_movable drivers x.0 p ≡ true
         → either (turned_by drivers c process command) (feeds drivers x.0 (is_freed c x.0)) p ≡ true) }
 {}
 
-/// Which places an accepted command frees.
+/// The places that an accepted command frees.
 pub fn commands_free_few()
     ensures { (drivers : List DriverSpec) (c : Configuration) (process : ℕ) (command : Command)
         → IsSound drivers c → IfOk (outcome drivers c process command) (λ x.
         FreesOnly c x.0 (freed_by drivers c process command x.0)) }
 {}
 
-/// Where serials differ and each full place has messages, a command that is done with none dropped frees no place.
+/// If serials differ and each full place has messages, a command whose reply is `done` without dropped messages
+/// frees no place.
 pub fn without_drops_none_is_freed()
     ensures { (drivers : List DriverSpec) (c : Configuration) (process : ℕ) (command : Command) → AreSerialsSound c
         → HaveFullPlacesMessages c → IfOk (outcome drivers c process command) (λ x.
         x.1 ≡ reply.Done [] → FreesOnly c x.0 nowhere) }
 {}
 
-/// An accepted command keeps the marks, where what it woke is marked.
+/// An accepted command keeps the marks valid, if the places that it woke are marked.
 pub fn commands_keep_marks()
     ensures { (drivers : List DriverSpec) (old new : MarkedConfiguration) (process : ℕ) (command : Command)
         → IsSound drivers old.configuration → HasItsMarks drivers old
@@ -52,7 +53,7 @@ pub fn commands_keep_marks()
         → HasItsMarks drivers new) }
 {}
 
-/// Settling by marks after it is the command's step, and leaves no run mark.
+/// Settling by marks after the command gives the result of the command's step, and leaves no run mark.
 pub fn commands_settle_by_marks()
     ensures { (drivers : List DriverSpec) (old woken end : MarkedConfiguration) (process : ℕ) (command : Command)
         (moves : List Place) → IsSound drivers old.configuration → HasItsMarks drivers old

@@ -13,7 +13,7 @@ ghost use Rattle.smx_model.specs.Histories.{after};
 ghost use Rattle.smx_model.specs.Queues.{bytes_at, is_full};
 
 /// After any commands a full place has more bytes than its low water mark, and each other place of the drivers has
-/// fewer than its high one.
+/// fewer than its high water mark.
 pub fn marks_bound_the_bytes()
     ensures full { (drivers : List DriverSpec) (history : List Entry) (p : Place) → IsDriverList drivers
         → IsTrue (is_full (after drivers history) p)
@@ -23,7 +23,7 @@ pub fn marks_bound_the_bytes()
         → bytes_at (after drivers history).flow p < high_of drivers p.stream.driver }
 {}
 
-/// A full place has messages: it is so of the empty configuration, and each command keeps it so.
+/// A full place has messages: this holds of the empty configuration, and each command preserves it.
 pub fn full_places_have_messages()
     ensures empty { HaveFullPlacesMessages empty }
     ensures commands { (drivers : List DriverSpec) (c : Configuration) (process : ℕ) (command : Command)

@@ -1,18 +1,18 @@
 //! Laws of messages, each the contract of a function that does nothing.
 
-ghost use Rattle.std.specs.Prelude.{List};
+ghost use Rattle.std.specs.Prelude.{◌≡◌, List, length};
+ghost use Rattle.std.specs.List.{range_with_len};
 ghost use Rattle.smx_types.specs.declared.command.Entry.{Entry};
 ghost use Rattle.smx_types.specs.declared.driver.DriverSpec.{DriverSpec};
 ghost use Rattle.smx_model.specs.FlowOrder.{IsInOrder};
 ghost use Rattle.smx_model.specs.Histories.{after, IsLegal};
-ghost use Rattle.smx_model.specs.LawfulHistories.{IsConserving, AreDropsAllowed};
+ghost use Rattle.smx_model.specs.LawfulHistories.{taken_serials, AreDropsAllowed};
 ghost use Rattle.smx_model.specs.Settling.{IsSettled};
 
-/// In a legal history serials count from 1, and each message that was taken in was delivered, was dropped or is
-/// queued, once.
-pub fn messages_are_conserved()
+/// In a legal history serials count from 1.
+pub fn serials_count_from_one()
     ensures { (drivers : List DriverSpec) (history : List Entry) → IsLegal drivers history
-        → IsConserving drivers history }
+        → taken_serials history ≡ range_with_len 1 (length (taken_serials history)) }
 {}
 
 /// In a legal history only unlink, punlink, close, exit and flush name dropped messages.
@@ -20,7 +20,7 @@ pub fn few_commands_drop()
     ensures { (drivers : List DriverSpec) (history : List Entry) → IsLegal drivers history → AreDropsAllowed history }
 {}
 
-/// After any commands no message can move on: the moves of settling suffice.
+/// After any commands no message can move: the moves of settling suffice.
 pub fn settling_ends()
     ensures { (drivers : List DriverSpec) (history : List Entry) → IsSettled drivers (after drivers history) }
 {}

@@ -1,4 +1,4 @@
-//! Laws of the marks that are enough after a change, each the contract of a function that does nothing.
+//! Laws of the marks that suffice after a change, each the contract of a function that does nothing.
 
 ghost use Rattle.std.specs.Prelude.{◌≡◌, ◌&&◌, false, Bool, List, Option};
 ghost use Rattle.smx_types.specs.declared.driver.DriverSpec.{DriverSpec};
@@ -11,15 +11,15 @@ ghost use Rattle.smx_model.specs.RunMarks.{TurnsOnly, either, can_feed, is_freed
 ghost use Rattle.smx_model.specs.RunMarks.{wanted_after};
 ghost use Rattle.smx_model.specs.SettlingByMarks.{IsCleared, IsMarkedAfter, MarkedConfiguration};
 
-/// It is enough to mark what a change turned, and all that can feed one of the wanted places that it freed.
+/// It suffices to mark the places that a change turned, and all places that can feed a wanted place that it freed.
 pub fn feeders_are_enough()
     ensures { (drivers : List DriverSpec) (turned freed : Place → Bool) (old new : MarkedConfiguration)
         → IsSound drivers new.configuration → FreesOnly old.configuration new.configuration freed
         → IsMarkedNear turned freed (can_feed new.configuration) old new → IsMarkedAfter drivers turned old new }
 {}
 
-/// Where it is known for which place each one waits, it is enough to mark what a change turned, and those that wait for
-/// one of the wanted places that it freed. What was known is so still.
+/// If the place that each place waits for is known, it suffices to mark the places that a change turned, and those
+/// that wait for a wanted place that it freed. Known places stay known.
 pub fn known_waiters_are_enough()
     ensures marks { (drivers : List DriverSpec) (turned freed : Place → Bool) (awaited : Place → Option Place)
         (old new : MarkedConfiguration) → TurnsOnly drivers old.configuration new.configuration turned
@@ -31,7 +31,7 @@ pub fn known_waiters_are_enough()
         → AreAwaitedKnown drivers new awaited }
 {}
 
-/// A place becomes known when the mark of the one that waits for it is cleared.
+/// A place becomes known when the mark of the place that waits for it is cleared.
 pub fn clearing_makes_known()
     ensures { (drivers : List DriverSpec) (p : Place) (old new : MarkedConfiguration)
         (awaited known : Place → Option Place) → AreAwaitedKnown drivers old awaited → IsCleared drivers p old new
@@ -39,13 +39,13 @@ pub fn clearing_makes_known()
         → ((r : Place) → same_place p r ≡ false → known r ≡ awaited r) → AreAwaitedKnown drivers new known }
 {}
 
-/// Of the empty configuration nothing need be known.
+/// In the empty configuration nothing needs to be known.
 pub fn nothing_is_known_at_first()
     ensures { (drivers : List DriverSpec) (awaited : Place → Option Place)
         → AreAwaitedKnown drivers (record { configuration = empty; run = nowhere; wanted = nowhere }) awaited }
 {}
 
-/// Where it is known for which place each one waits, no more marks are asked for than these.
+/// If the place that each place waits for is known, only these marks are required.
 pub fn few_marks_are_asked_for()
     ensures { (turned freed : Place → Bool) (awaited : Place → Option Place) (old : MarkedConfiguration)
         (c : Configuration) → IsMarkedNear turned freed (awaits awaited) old (record {

@@ -14,27 +14,27 @@ ghost use Rattle.smx_model.specs.Queues.{first_message, with_mark, queue};
 ghost use Rattle.smx_model.specs.Removal.{serials_that_left, serials};
 ghost use Rattle.smx_model.specs.Settling.{least_movable};
 
-/// Flows in order with the same queues are the same.
+/// Two flows in order with the same queues are equal.
 pub fn queues_make_the_flow()
     ensures { (xs ys : List QueuedMessage) → IsInOrder xs → IsInOrder ys
         → ((p : Place) → queue xs p ≡ queue ys p) → xs ≡ ys }
 {}
 
-/// What arrives goes to the end of its queue, and no other queue changes.
+/// An arriving message goes to the end of its queue, and no other queue changes.
 pub fn arrivals_go_to_the_end()
     ensures { (flow : List QueuedMessage) (p q : Place) (m : Message) → IsInOrder flow
         → queue (with_inserted queued_before flow (record { place = p; message = m })) q
         ≡ (if same_place p q then queue flow q ++ m ∷ [] else queue flow q) }
 {}
 
-/// What leaves was the first of its queue, and no other queue changes.
+/// A message that leaves was the first of its queue, and no other queue changes.
 pub fn the_first_leaves()
     ensures queues { (flow : List QueuedMessage) (p q : Place) → queue (without_first (is_at p) flow) q
         ≡ (if same_place p q then drop 1 (queue flow q) else queue flow q) }
     ensures first { (flow : List QueuedMessage) (p : Place) → first_message flow p ≡ slice_get (queue flow p) 0 }
 {}
 
-/// Emptied places have no messages and are not full, and the others stay as they were.
+/// Emptied places have no messages and are not full, and the other places don't change.
 pub fn emptied_places_are_empty()
     ensures queues { (flow : List QueuedMessage) (goes : Place → Bool) (q : Place)
         → queue (filter (λ h. not (goes h.place)) flow) q
@@ -44,19 +44,19 @@ pub fn emptied_places_are_empty()
         ≡ (if goes q then false else list_any (same_place q) fulls) }
 {}
 
-/// A mark that is set or taken away is that of one place.
+/// Setting or clearing a full mark changes the mark of only one place.
 pub fn marks_are_of_one_place()
     ensures { (p q : Place) (full : Bool) (fulls : List Place) → list_any (same_place q) (with_mark p full fulls)
         ≡ (if same_place p q then full else list_any (same_place q) fulls) }
 {}
 
-/// The first movable place of a flow in order is the least one, and where there is none, nothing can move.
+/// The first movable place of a flow in order is the least one. If there is none, no message can move.
 pub fn the_first_is_the_least()
     ensures { (drivers : List DriverSpec) (c : Configuration) → IsInOrder c.flow
         → IsLeastMovable drivers c (least_movable drivers c) }
 {}
 
-/// The dropped serials are those of the messages that are not kept, rising.
+/// The dropped serials are those of the messages that were removed, rising.
 pub fn dropped_are_not_kept()
     ensures { (flow : List QueuedMessage) (keep : QueuedMessage → Bool) → AllPairs (λ m n. m ≢ n) (serials flow)
         → serials_that_left flow (filter keep flow) ≡ in_rising_order (serials (filter (λ h. not (keep h)) flow)) }

@@ -1,4 +1,4 @@
-//! Laws of what removes a descriptor, a link, a binding or a route, each the contract of a function that does nothing.
+//! Laws of the removal of descriptors, links, bindings and routes, each the contract of a function that does nothing.
 
 ghost use Rattle.std.specs.Prelude.{◌≡◌, ◌≢◌, ◌↔◌, ◌⊎◌, ℕ, ◌==◌, ◌&&◌, ◌||◌, not, List, Ok, IsTrue};
 ghost use Rattle.std.specs.List.{All, Contains, list_any};
@@ -16,9 +16,9 @@ ghost use Rattle.smx_model.specs.MeantLinks.{is_meant};
 ghost use Rattle.smx_model.specs.Standing.{exists, is_persistent};
 ghost use Rattle.smx_model.specs.Swept.{IsSwept};
 
-/// Unlink takes the ordinary links that it names and that were made on this very stream, and punlink the persistent
-/// links that it names and whose upper driver is the stream's. After it just those links stand that it doesn't take,
-/// and that are persistent or whose controlling stream exists.
+/// Unlink removes the ordinary links that it names and that were made on this stream. Punlink removes the persistent
+/// links that it names and whose upper driver is the stream's. Of the other links, exactly those remain that are
+/// persistent or whose controlling stream exists.
 pub fn unlinking_takes_exactly()
     ensures unlink { (drivers : List DriverSpec) (c : Configuration) (process fd : ℕ) (w : Which) (s : StreamId)
         → IsSwept drivers c → mux_stream drivers c process fd ≡ Ok s
@@ -32,7 +32,7 @@ pub fn unlinking_takes_exactly()
         && (is_persistent l || exists drivers (step drivers c process (command.Punlink fd w)).0 l.ctl))) c.links }
 {}
 
-/// After close and exit just those links stand that are persistent or whose controlling stream exists.
+/// After close and exit exactly those links remain that are persistent or whose controlling stream exists.
 pub fn closing_takes_exactly()
     ensures close { (drivers : List DriverSpec) (c : Configuration) (process fd : ℕ) → IsSwept drivers c
         → All (λ l. Contains (step drivers c process (command.Close fd)).0.links l
@@ -42,8 +42,8 @@ pub fn closing_takes_exactly()
         ↔ IsTrue (is_persistent l || exists drivers (step drivers c process command.CloseAll).0 l.ctl)) c.links }
 {}
 
-/// No other command removes a link, and a persistent link goes by punlink alone. Each link after a command stood before
-/// it, the same in all its parts, or was made by it, under the id of its reply.
+/// No other command removes a link, and only punlink removes a persistent one. Each link after a command existed
+/// before it, with the same fields, or the command made it, under the id of its reply.
 pub fn links_stay_otherwise()
     ensures others { (drivers : List DriverSpec) (c : Configuration) (process : ℕ) (k : Command) → IsSwept drivers c
         → ((fd : ℕ) → k ≢ command.Close fd) → k ≢ command.CloseAll
@@ -57,7 +57,7 @@ pub fn links_stay_otherwise()
         (step drivers c process k).0.links }
 {}
 
-/// A descriptor goes by close of it alone, or by exit of its process.
+/// Only these remove a descriptor: a close of it, or an exit of its process.
 pub fn descriptors_go_by_close_or_exit()
     ensures close { (drivers : List DriverSpec) (c : Configuration) (process fd : ℕ)
         → All (λ d. Contains (step drivers c process (command.Close fd)).0.fds d
@@ -70,7 +70,7 @@ pub fn descriptors_go_by_close_or_exit()
         → All (Contains (step drivers c process k).0.fds) c.fds }
 {}
 
-/// A binding goes by unbind of its stream, or when its stream exists no longer.
+/// Only these remove a binding: an unbind of its stream, or the end of its stream.
 pub fn bindings_go_by_unbind_or_with_their_stream()
     ensures unbind { (drivers : List DriverSpec) (c : Configuration) (process fd : ℕ) (s : StreamId)
         → IsSwept drivers c → mux_stream drivers c process fd ≡ Ok s
@@ -83,7 +83,7 @@ pub fn bindings_go_by_unbind_or_with_their_stream()
         (record { driver = b.driver; minor = b.minor }))) c.binds }
 {}
 
-/// A route goes by unroute of its driver and address, by a new route of these, or with its link.
+/// Only these remove a route: an unroute of its driver and address, a new route for these, or the end of its link.
 pub fn routes_go_by_name_or_with_their_link()
     ensures unroute { (drivers : List DriverSpec) (c : Configuration) (process fd addr : ℕ) (s : StreamId)
         → IsSwept drivers c → mux_stream drivers c process fd ≡ Ok s

@@ -6,12 +6,14 @@ ghost use Rattle.smx_types.specs.declared.transcript.Transcript.{Transcript};
 ghost use Rattle.smx_model.specs.DriverList.{IsDriverList};
 ghost use Rattle.smx_model.specs.Headline.{IsReportOf};
 ghost use Rattle.smx_model.specs.Histories.{after, call_of, HoldsPrograms, IsLegal};
+ghost use Rattle.smx_model.specs.LawfulHistories.{AreDropsAllowed, IsLawfulThroughout};
 ghost use Rattle.smx_model.specs.Views.{view};
 ghost use Rattle.smx_model.specs.Worked.Reports.{another_exited, copied, exited, once_more, one, opened};
 ghost use Rattle.smx_model.specs.Worked.Reports.{programs, report_with, three, too_early, two};
 
-/// What makes a report: drivers that can be had, a legal history that holds the programs, and the view that it
-/// leaves. All else follows.
+/// A report has the drivers of the programs, which are valid, a legal history that holds the programs, and the view
+/// of the final configuration. These suffice: it follows that the history is lawful after each entry, and that only a
+/// few commands drop messages.
 pub fn reports_are_legal()
     ensures drivers { (programs : ProgramLists) (report : Transcript) → IsReportOf programs report
         → (report.drivers ≡ programs.drivers) × IsDriverList programs.drivers }
@@ -21,6 +23,10 @@ pub fn reports_are_legal()
         → HoldsPrograms report.entries programs.programs }
     ensures shown { (programs : ProgramLists) (report : Transcript) → IsReportOf programs report
         → report.view ≡ view programs.drivers (after programs.drivers report.entries) }
+    ensures lawful { (programs : ProgramLists) (report : Transcript) → IsReportOf programs report
+        → IsLawfulThroughout programs.drivers report.entries }
+    ensures drops { (programs : ProgramLists) (report : Transcript) → IsReportOf programs report
+        → AreDropsAllowed report.entries }
     ensures enough { (programs : ProgramLists) (report : Transcript) → report.drivers ≡ programs.drivers
         → IsDriverList programs.drivers → IsLegal programs.drivers report.entries
         → HoldsPrograms report.entries programs.programs
@@ -28,8 +34,8 @@ pub fn reports_are_legal()
         → IsReportOf programs report }
 {}
 
-/// Programs have at most one report for each order in which their commands were taken, but for the version in which it
-/// is told: its drivers, replies and view follow.
+/// Programs have at most one report for each order of their commands, apart from the version of its text: the order
+/// determines the drivers, replies and view.
 pub fn reports_are_determined()
     ensures { (programs : ProgramLists) (one other : Transcript) → IsReportOf programs one → IsReportOf programs other
         → map call_of one.entries ≡ map call_of other.entries → one ≡ record other { version = one.version } }
@@ -40,8 +46,8 @@ pub fn the_example_is_a_report()
     ensures { IsReportOf programs (report_with (opened ∷ exited ∷ copied ∷ []) two) }
 {}
 
-/// What is wrong in one thing is none: a command left out, done twice, exchanged, of another process, with another
-/// reply, or another view.
+/// A transcript that is wrong in one thing is not a report of the programs: with a command missing, done twice,
+/// exchanged, or of another process, with another reply, or with another view.
 pub fn others_are_none()
     ensures left_out { IsReportOf programs (report_with (opened ∷ exited ∷ []) one) → ⊥ }
     ensures done_twice { IsReportOf programs (report_with (opened ∷ copied ∷ once_more ∷ exited ∷ []) three) → ⊥ }

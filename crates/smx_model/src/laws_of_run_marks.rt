@@ -24,14 +24,14 @@ pub fn movable_places_are_marked()
         → AreMarked drivers c run wanted → is_movable drivers c p ≡ true → run p ≡ true }
 {}
 
-/// A full place that holds up the first message of a place without a run mark has a wanted mark.
+/// A full place that blocks the first message of a place without a run mark has a wanted mark.
 pub fn full_places_are_wanted()
     ensures { (drivers : List DriverSpec) (c : Configuration) (run wanted : Place → Bool) (p q : Place)
         → AreMarked drivers c run wanted → run p ≡ false → next_of_first drivers c p ≡ Some q
         → (is_full c q ≡ true) × (wanted q ≡ true) }
 {}
 
-/// Without a run mark it is settled.
+/// Without run marks the configuration is settled.
 pub fn without_marks_it_is_settled()
     ensures { (drivers : List DriverSpec) (c : Configuration) (run wanted : Place → Bool)
         → AreMarked drivers c run wanted → ((p : Place) → run p ≡ false) → IsSettled drivers c }
@@ -46,14 +46,14 @@ pub fn the_least_marked_is_the_least()
     the_first_is_the_least();
 }
 
-/// The mark of a place that isn't movable can go, once the full place that it waits for is wanted.
+/// The mark of a place that isn't movable can be cleared, once the full place that it waits for is wanted.
 pub fn a_mark_is_cleared()
     ensures { (drivers : List DriverSpec) (c : Configuration) (run wanted : Place → Bool) (p : Place)
         → AreMarked drivers c run wanted → is_movable drivers c p ≡ false
         → AreMarked drivers c (all_but run p) (either wanted (is_next_of_first drivers c p)) }
 {}
 
-/// There may be more marks. Run marks matter only where there is a message.
+/// Additional marks are allowed. Run marks matter only at places with a message.
 pub fn more_marks_do()
     ensures { (drivers : List DriverSpec) (c : Configuration) (run wanted more more_wanted : Place → Bool)
         → AreMarked drivers c run wanted
@@ -61,7 +61,7 @@ pub fn more_marks_do()
         → ((p : Place) → wanted p ≡ true → more_wanted p ≡ true) → AreMarked drivers c more more_wanted }
 {}
 
-/// The one law of changes: it is enough to mark the places that a change turned, and those that feed a wanted place
+/// The law of changes: it suffices to mark the places that a change turned, and those that feed a wanted place
 /// that it freed.
 pub fn a_change_wakes_few()
     ensures { (drivers : List DriverSpec) (old new : Configuration) (run wanted turned : Place → Bool)
@@ -70,14 +70,14 @@ pub fn a_change_wakes_few()
         (wanted_after old new wanted) }
 {}
 
-/// Which places an accepted command turns.
+/// The places that an accepted command turns.
 pub fn commands_turn_few()
     ensures { (drivers : List DriverSpec) (c : Configuration) (process : ℕ) (command : Command)
         → IsSound drivers c → IfOk (outcome drivers c process command) (λ x.
         TurnsOnly drivers c x.0 (turned_by drivers c process command)) }
 {}
 
-/// A move turns the place that it takes from, and the place that it goes to, if that was empty.
+/// A move turns the place that the message leaves, and the place that it goes to, if that was empty.
 pub fn moves_turn_two()
     ensures { (drivers : List DriverSpec) (c : Configuration) (p q : Place) → IsInOrder c.flow
         → next_open_place drivers c p ≡ Some q
@@ -85,19 +85,19 @@ pub fn moves_turn_two()
         (either (same_place p) (is_first_at (after_leaving drivers c p) q)) }
 {}
 
-/// A move frees no other place than the one that it takes from.
+/// A move frees at most the place that the message leaves.
 pub fn moves_free_one()
     ensures { (drivers : List DriverSpec) (c : Configuration) (p q : Place)
         → is_freed c (after_move drivers c p) q ≡ true → same_place p q ≡ true }
 {}
 
-/// What feeds a place is among those that can.
+/// Each place that feeds a place is among those that can feed it.
 pub fn feeders_are_near()
     ensures { (drivers : List DriverSpec) (c : Configuration) (p q : Place) → IsSound drivers c
         → feeds drivers c (same_place q) p ≡ true → can_feed c q p ≡ true }
 {}
 
-/// Places with a message, and the places that messages go to next, are of streams that the drivers have.
+/// The drivers have the streams of all places with a message, and of all next places of messages.
 pub fn places_are_known()
     ensures with_messages { (drivers : List DriverSpec) (c : Configuration) (p : Place) → IsSound drivers c
         → first_message c.flow p ≢ None → IsKnown drivers p.stream }

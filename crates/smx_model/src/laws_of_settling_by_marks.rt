@@ -16,22 +16,22 @@ ghost use Rattle.smx_model.specs.SettlingByMarks.{HoldsUp, IsAtRest, IsCleared, 
 ghost use Rattle.smx_model.specs.SettlingByMarks.{IsMovedOn, MarkedConfiguration};
 ghost use Rattle.smx_model.specs.SettlingByMarks.{SettlesByMarks};
 
-/// That each place without a run mark waits says two things: a run mark stands at each movable place, and a wanted mark
-/// at each full place that holds up the first message of a place without a run mark.
+/// That each place without a run mark waits means two things: each movable place has a run mark, and each full place
+/// that blocks the first message of a place without a run mark has a wanted mark.
 pub fn marks_are_of_two_kinds()
     ensures { (drivers : List DriverSpec) (c : Configuration) (run wanted : Place → Bool)
         → (AreMarked drivers c run wanted
         ↔ (AreMovableMarked drivers c run × AreHoldingWanted drivers c run wanted)) }
 {}
 
-/// Between commands a wanted mark stands at each full place that holds up another place's first message.
+/// Between commands each full place that blocks another place's first message has a wanted mark.
 pub fn what_holds_up_is_wanted()
     ensures { (drivers : List DriverSpec) (m : MarkedConfiguration) → IsAtRest drivers m
         → (p q : Place) → HoldsUp drivers m.configuration q p → m.wanted q ≡ true }
 {}
 
-/// Settling by marks comes to the very configuration that settling comes to, by the same moves in the same order. Each
-/// place then waits, and none has a run mark.
+/// Settling by marks reaches the same configuration as settling, by the same moves in the same order. Each place then
+/// waits, and no place has a run mark.
 pub fn settling_by_marks_is_settling()
     ensures configuration { (drivers : List DriverSpec) (old end : MarkedConfiguration) (moves : List Place)
         → IsSound drivers old.configuration → HasItsMarks drivers old → SettlesByMarks drivers old moves end
@@ -44,14 +44,14 @@ pub fn settling_by_marks_is_settling()
         → IsAtRest drivers end }
 {}
 
-/// Where all run marks are among finitely many places, it can come to its end.
+/// If all run marks are at finitely many places, settling by marks has an end.
 pub fn settling_by_marks_can_end()
     ensures { (drivers : List DriverSpec) (m : MarkedConfiguration) (places : List Place)
         → IsSound drivers m.configuration → HasItsMarks drivers m
         → ((p : Place) → m.run p ≡ true → Contains places p) → CanSettleByMarks drivers m }
 {}
 
-/// A move keeps the marks, where what it woke is marked.
+/// A move keeps the marks valid, if the places that it woke are marked.
 pub fn moves_keep_marks()
     ensures { (drivers : List DriverSpec) (p : Place) (old new : MarkedConfiguration)
         → IsInOrder old.configuration.flow → HasItsMarks drivers old
@@ -59,13 +59,14 @@ pub fn moves_keep_marks()
         → IsMarkedAfter drivers (turned_by_move drivers old.configuration p) old new → HasItsMarks drivers new }
 {}
 
-/// So does a run mark that is cleared, where the full place that is waited for is wanted.
+/// Clearing a run mark keeps the marks valid, if the full place that is waited for is wanted.
 pub fn clearing_keeps_marks()
     ensures { (drivers : List DriverSpec) (p : Place) (old new : MarkedConfiguration)
         → HasItsMarks drivers old → IsCleared drivers p old new → HasItsMarks drivers new }
 {}
 
-/// Settling is a move from the least movable place and the rest of settling, or nothing where there is none.
+/// Settling is a move from the least movable place followed by the rest of settling, or nothing if there is
+/// no such place.
 pub fn settling_goes_on()
     ensures moves { (drivers : List DriverSpec) (n : ℕ) (c : Configuration) (p : Place)
         → least_movable drivers c ≡ Some p
@@ -74,8 +75,8 @@ pub fn settling_goes_on()
         → after_settling_within drivers n c ≡ c }
 {}
 
-/// No more is asked for than this: of the least marked place the message moves on and what that woke is marked, or its
-/// mark is cleared and the place that it waits for is wanted.
+/// These marks suffice: if the least marked place is movable, its message moves on and the places that this woke are
+/// marked; otherwise its mark is cleared and the place that it waits for is wanted.
 pub fn the_least_marks_do()
     ensures moved { (drivers : List DriverSpec) (p : Place) (m : MarkedConfiguration) → IsLeastMarked m.run p
         → is_movable drivers m.configuration p ≡ true → IsMovedOn drivers p m (record {
@@ -92,14 +93,14 @@ pub fn the_least_marks_do()
         }) }
 {}
 
-/// A look that moves nothing is at the least marked place, and takes its mark and no other.
+/// A look that moves nothing is at the least marked place, and clears only its mark.
 pub fn a_look_takes_one_mark()
     ensures { (drivers : List DriverSpec) (p : Place) (old new : MarkedConfiguration) → IsCleared drivers p old new
         → IsLeastMarked old.run p × (new.run p ≡ false)
         × ((q : Place) → same_place p q ≡ false → new.run q ≡ old.run q) }
 {}
 
-/// Where it can come to its end, it comes to the configuration that settling comes to, by the same moves.
+/// If settling by marks has an end, it reaches the configuration that settling reaches, by the same moves.
 pub fn it_comes_to_the_settled_one()
     ensures { (drivers : List DriverSpec) (m : MarkedConfiguration) (c : CanSettleByMarks drivers m)
         → IsSound drivers m.configuration → HasItsMarks drivers m

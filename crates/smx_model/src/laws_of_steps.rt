@@ -19,44 +19,44 @@ ghost use Rattle.smx_model.specs.Removal.{after_sweep};
 ghost use Rattle.smx_model.specs.Settling.{after_move, after_settling};
 ghost use Rattle.smx_model.specs.Swept.{IsSwept};
 
-/// The outcome of a command that is accepted is sound, before it is settled.
+/// The outcome of an accepted command is sound before settling.
 pub fn outcomes_are_sound()
     ensures { (drivers : List DriverSpec) (c : Configuration) (process : ℕ) (command : Command) → IsSound drivers c
         → IfOk (outcome drivers c process command) (λ x. IsSound drivers x.0) }
 {}
 
-/// It needs no further sweep.
+/// The outcome of an accepted command needs no further sweep.
 pub fn outcomes_are_swept()
     ensures { (drivers : List DriverSpec) (c : Configuration) (process : ℕ) (command : Command) → IsSound drivers c
         → IfOk (outcome drivers c process command) (λ x. after_sweep drivers x.0 ≡ x.0) }
 {}
 
-/// A fault is the reply of refused commands alone, and it is the fault that they are refused with.
+/// Only refused commands have a fault as their reply, and it is the fault of the refusal.
 pub fn faults_are_refusals()
     ensures { (drivers : List DriverSpec) (c : Configuration) (process : ℕ) (command : Command) (f : Fault)
         → ((step drivers c process command).1 ≡ reply.Fault f ↔ outcome drivers c process command ≡ Err f) }
 {}
 
-/// They leave the configuration as it was.
+/// Refused commands leave the configuration unchanged.
 pub fn refusals_change_nothing()
     ensures { (drivers : List DriverSpec) (c : Configuration) (process : ℕ) (command : Command) (f : Fault)
         → (step drivers c process command).1 ≡ reply.Fault f → (step drivers c process command).0 ≡ c }
 {}
 
-/// Too many links is the last refusal of a link: there are 1,024 of them, or all ids are used up.
+/// `EAGAIN links` is the last refusal of a link: there are 1,024 links, or all ids are used up.
 pub fn links_have_room()
     ensures { (drivers : List DriverSpec) (c : Configuration) (process fd arg : ℕ) (k : LinkKind)
         → link_outcome drivers c process fd arg k ≡ Err TooManyLinks
         → (MAX_LINKS ≤ length c.links) ⊎ (NUMBER_END ≤ c.next_id) }
 {}
 
-/// Where nothing is left of streams that don't exist, only a command that may drop messages names dropped ones.
+/// If nothing belongs to streams that don't exist, only a command that may drop messages names dropped ones.
 pub fn other_commands_drop_none()
     ensures { (drivers : List DriverSpec) (c : Configuration) (process : ℕ) (command : Command) → IsSwept drivers c
         → dropped_by (step drivers c process command).1 ≢ [] → IsTrue (may_drop command) }
 {}
 
-/// What leaves nothing to sweep, and the flow as it was, is done with no message dropped.
+/// A change that leaves nothing to sweep and keeps the flow is done with no message dropped.
 pub fn idle_changes_drop_none()
     ensures { (drivers : List DriverSpec) (c new : Configuration) → IsSwept drivers new → new.flow ≡ c.flow
         → done_outcome drivers c new ≡ Ok (new, reply.Done []) }
@@ -68,25 +68,25 @@ pub fn moves_keep_soundness()
         → IsSound drivers (after_move drivers c p) }
 {}
 
-/// Settling ends: after as many moves as there are messages times drivers no message can move on.
+/// Settling ends: after as many moves as there are messages times drivers no message can move.
 pub fn settling_suffices()
     ensures { (drivers : List DriverSpec) (c : Configuration) → IsSound drivers c
         → IsKept drivers (after_settling drivers c) }
 {}
 
-/// What every configuration is, each command keeps.
+/// Each command preserves the invariant of configurations.
 pub fn commands_keep()
     ensures { (drivers : List DriverSpec) (c : Configuration) (process : ℕ) (command : Command)
         → IsKept drivers c → IsKept drivers (step drivers c process command).0 }
 {}
 
-/// The empty configuration is as every command leaves one.
+/// The invariant holds of the empty configuration.
 pub fn empty_is_kept()
     ensures { (drivers : List DriverSpec) → IsKept drivers empty }
 {}
 
-/// So after any commands the configuration is sound and settled: there is no cycle, nothing is left of streams that
-/// don't exist, each list is in order, and no message can move on.
+/// So the invariant holds after any commands: there is no cycle, nothing belongs to streams that don't exist, each
+/// list is in order, and no message can move.
 pub fn configurations_are_kept()
     ensures { (drivers : List DriverSpec) (history : List Entry) → IsKept drivers (after drivers history) }
 {}

@@ -1,4 +1,4 @@
-//! Laws of streams and what they hold, each the contract of a function that does nothing.
+//! Laws of streams and their parts, each the contract of a function that does nothing.
 
 ghost use Rattle.std.specs.Prelude.{◌≡◌, ◌↔◌, List, IsTrue};
 ghost use Rattle.smx_types.specs.declared.command.Entry.{Entry};
@@ -12,15 +12,15 @@ ghost use Rattle.smx_model.specs.SoundLinks.{AreLinksSound};
 ghost use Rattle.smx_model.specs.Standing.{exists, Stands};
 ghost use Rattle.smx_model.specs.Swept.{IsSwept};
 
-/// Without a cycle a stream exists exactly where it stands within some number of climbs: as many climbs as there are
-/// drivers suffice. It needs no sweep before.
+/// Without a cycle a stream exists exactly if it does within some number of climbs: as many climbs as there are
+/// drivers suffice. This also holds before a sweep.
 pub fn climbs_suffice()
     ensures { (drivers : List DriverSpec) (c : Configuration) (s : StreamId) → AreLinksSound c.links
         → AreControllingKnown drivers c.links
         → (IsTrue (exists drivers c s) ↔ Stands c s) }
 {}
 
-/// So it is after any commands.
+/// The same holds after any commands.
 pub fn climbs_always_suffice()
     ensures { (drivers : List DriverSpec) (history : List Entry) (s : StreamId)
         → (IsTrue (exists drivers (after drivers history) s) ↔ Stands (after drivers history) s) }
@@ -31,17 +31,17 @@ pub fn streams_are_known()
     ensures { (drivers : List DriverSpec) (history : List Entry) → AreStreamsKnown drivers (after drivers history) }
 {}
 
-/// What a sweep leaves is swept.
+/// After a sweep the configuration is swept.
 pub fn sweeping_is_enough()
     ensures { (drivers : List DriverSpec) (c : Configuration) → IsSwept drivers (after_sweep drivers c) }
 {}
 
-/// Sweeping what is swept changes nothing.
+/// Sweeping a swept configuration changes nothing.
 pub fn sweeping_again_changes_nothing()
     ensures { (drivers : List DriverSpec) (c : Configuration) → IsSwept drivers c → after_sweep drivers c ≡ c }
 {}
 
-/// After any commands nothing is left of streams that don't exist.
+/// After any commands nothing belongs to streams that don't exist.
 pub fn nothing_is_left()
     ensures { (drivers : List DriverSpec) (history : List Entry) → IsSwept drivers (after drivers history) }
 {}

@@ -7,7 +7,7 @@ ghost use Rattle.smx_model.specs.DriverList.{IsDriverList};
 ghost use Rattle.smx_model.specs.KeptConfigurations.{IsSound};
 ghost use Rattle.smx_model.specs.Views.{view};
 
-/// Configurations that are shown in the same way are the same.
+/// Two configurations with the same view are equal.
 pub fn views_tell_configurations_apart()
     ensures { (drivers : List DriverSpec) (c d : Configuration) → IsDriverList drivers
         → IsSound drivers c → IsSound drivers d

@@ -1,8 +1,10 @@
-//! The sequential configuration as lists: all that a contract says of one, and laws about it. No running code.
+//! The sequential configuration as lists: all definitions that contracts use for it, and laws about it.
+//! No running code.
 #![tactic(auto)]
 
 pub mod laws;
 pub mod laws_of_deliveries;
+pub mod laws_of_driver_lists;
 pub mod laws_of_hangups;
 pub mod laws_of_illegal_entries;
 pub mod laws_of_limits;
@@ -19,4 +21,5 @@ pub mod laws_of_run_marks;
 pub mod laws_of_settling_by_marks;
 pub mod laws_of_steps;
 pub mod laws_of_streams;
+pub mod laws_of_unlawful_histories;
 pub mod laws_of_views;

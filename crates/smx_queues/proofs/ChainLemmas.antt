@@ -1,4 +1,4 @@
--- Chains of nodes, and what keeps them.
+-- Chains of nodes, and the changes that leave them as they are.
 use Rattle.std.proofs.Common.{◌≡◌, ◌≢◌, ℕ, suc, ◌+◌, ◌≤◌, nat_eq, cond, List, [], ◌∷◌, ◌++◌, length, Some, refl, sym}
 use Rattle.std.proofs.Common.{ap, ◌∙◌, arith, add-zero}
 use Rattle.std.proofs.lemmas.Bool.Decides.{nat_tests}
@@ -7,11 +7,11 @@ use Rattle.smx_types.specs.declared.message.Message.{Message}
 use Rattle.smx_queues.specs.declared.node.Node.{Node}
 use Rattle.smx_queues.specs.Chains.{IsChain, walk}
 
--- the owners where one key has another
+-- the function `own` with another owner at one key
 abbrev pub owned : (ℕ → ℕ × ℕ) → ℕ → ℕ × ℕ → ℕ → ℕ × ℕ
 owned own key mark x = cond (nat_eq x key) mark (own x)
 
--- a key that was given an owner has this one
+-- a key that was given an owner has this owner
 pub owned-same : (own : ℕ → ℕ × ℕ) (key : ℕ) (mark : ℕ × ℕ) → owned own key mark key ≡ mark
 owned-same own key mark = grind (arith, nat_tests)
 
@@ -19,7 +19,7 @@ owned-same own key mark = grind (arith, nat_tests)
 pub owned-other : (own : ℕ → ℕ × ℕ) (key : ℕ) (mark : ℕ × ℕ) (x : ℕ) → x ≢ key → owned own key mark x ≡ own x
 owned-other own key mark x differs = grind (arith, nat_tests)
 
--- what changes no node of a chain and none of its owners keeps it
+-- a change that affects no node of a chain and none of its owners keeps the chain
 pub frame : (own own' : ℕ → ℕ × ℕ) (s s' : Slab Node) (p rank first : ℕ) (ms : List Message) (last : ℕ)
     → ((x : ℕ) (node : Node) → get s x ≡ Some node → (own x).0 ≡ p → rank ≤ (own x).1
     → (get s' x ≡ get s x) × (own' x ≡ own x)) → IsChain own s p rank first ms last
@@ -38,7 +38,7 @@ frame own own' s s' p rank first (m ∷ m2 ∷ rest) last kept c =
           (λ x node found of above. kept x node found of (omega arith)) c.4,
     )
 
--- the last node is the place's own, and its rank is the last
+-- the last node of a chain belongs to the place, and has the last rank
 pub last_owner : (own : ℕ → ℕ × ℕ) (s : Slab Node) (p rank first : ℕ) (m : Message) (rest : List Message) (last : ℕ)
     → IsChain own s p rank first (m ∷ rest) last
     → ((own last).0 ≡ p) × ((own last).1 ≡ rank + length rest) × ((node : Node) × (get s last ≡ Some node))
@@ -51,7 +51,7 @@ last_owner own s p rank first m (m2 ∷ rest) last c =
     let t = last_owner own s p (suc rank) c.0 m2 rest last c.4 in
     (t.0, omega (arith, t.1), t.2)
 
--- a node that follows the last one is then the last
+-- a chain with one more node after its last one is a chain, and ends at the new node
 pub chain_more : (own own' : ℕ → ℕ × ℕ) (s s' : Slab Node) (p rank first : ℕ) (m : Message) (rest : List Message)
     (last key : ℕ) (node : Node) → IsChain own s p rank first (m ∷ rest) last → (own key).0 ≢ p → get s key ≡ Some node
     → ((x : ℕ) → x ≢ key → own' x ≡ own x) → (own' key).0 ≡ p → (own' key).1 ≡ rank + suc (length rest)

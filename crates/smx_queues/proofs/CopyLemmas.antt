@@ -1,8 +1,8 @@
 -- Messages that are copied one after the other to a place that had none.
-use Rattle.std.proofs.Common.{◌≡◌, ℕ, zero, suc, ◌+◌, add-one, ◌<◌, ◌^◌, Bool, true, List, [], ◌∷◌, ◌++◌, length}
+use Rattle.std.proofs.Common.{◌≡◌, ℕ, zero, suc, ◌+◌, ◌<◌, ◌^◌, Bool, true, List, [], ◌∷◌, ◌++◌, length}
 use Rattle.std.proofs.Common.{get_or, set, Option, Some, None, refl, sym, ap, subst, ◌∙◌, arith, append_assoc}
 use Rattle.std.proofs.Math.Seq.{get_or-append_seam}
-use Rattle.std.specs.List.{All, repeat}
+use Rattle.std.specs.List.{All}
 use Rattle.std.proofs.lemmas.List.{get_or_push, length-append, set-set}
 use Rattle.std.proofs.lemmas.List.Sums.{sum_by-append, sum_by-cons}
 use Rattle.smx_types.specs.declared.message.Message.{Message}
@@ -132,13 +132,3 @@ there_is [] p is = absurd (cc)
 there_is (Some q ∷ queues) zero is = refl
 there_is (None ∷ queues) zero is = absurd (cc)
 there_is (x ∷ queues) (suc p) is = there_is queues p is
-
--- so many more of a thing and one more are one more than so many
-pub repeat_more : {A : Type 0} → (xs : List A) (n : ℕ) (x : A)
-    → (xs ++ repeat n (x ∷ [])) ++ x ∷ [] ≡ xs ++ repeat (n + 1) (x ∷ [])
-repeat_more xs n x = append_assoc xs (repeat n (x ∷ [])) (x ∷ [])
-    ∙ ap (λ ys. xs ++ ys) (one_more n ∙ ap (λ k. repeat k (x ∷ [])) (sym (add-one n)))
-  where
-    one_more : (n : ℕ) → repeat n (x ∷ []) ++ x ∷ [] ≡ repeat (suc n) (x ∷ [])
-    one_more zero = refl
-    one_more (suc n) = ap (λ ys. x ∷ ys) (one_more n)

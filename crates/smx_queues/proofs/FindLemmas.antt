@@ -1,8 +1,11 @@
 -- What the chain of a number says of the slot of that number, and how many messages all chains have.
-use Rattle.std.proofs.Common.{◌≡◌, ℕ, zero, suc, ◌+◌, ◌<◌, ◌≤◌, Bool, false, ◌&&◌, List, [], ◌∷◌, length, map, get_or}
+use Rattle.std.proofs.Common.{◌≡◌, ℕ, zero, suc, ◌+◌, ◌<◌, ◌≤◌, Bool, true, false, ◌&&◌, List, [], ◌∷◌, length, map}
+use Rattle.std.proofs.Common.{get_or}
 use Rattle.std.proofs.Common.{Option, None, refl, sym, ap, ◌∙◌, subst, arith, inl, inr}
 use Rattle.std.specs.List.{sum_by}
+use Rattle.std.specs.Prelude.{nat_lt}
 use Rattle.std.proofs.lemmas.Bool.{cases_Bool, cases_lt}
+use Rattle.std.proofs.lemmas.Bool.Decides.{nat_tests}
 use Rattle.std.proofs.lemmas.List.Sums.{sum_by-cons}
 use Rattle.std.proofs.lemmas.List.{get_or_default}
 use Rattle.slab.specs.Slab.{Slab, slab_len}
@@ -11,7 +14,7 @@ use Rattle.smx_queues.specs.declared.chain.Chain.{Chain}
 use Rattle.smx_queues.specs.declared.node.Node.{Node}
 use Rattle.smx_queues.specs.Chains.{IsQueue, IsSound, no_chain, no_queue, slot_of}
 use Rattle.smx_queues.specs.QueueTable.{Queue}
-use Rattle.smx_queues.specs.Slots.{is_marked, message_total, messages_in}
+use Rattle.smx_queues.specs.Slots.{has_messages, is_marked, message_total, messages_in}
 use Rattle.smx_queues.proofs.SlotLemmas.{slot, slots}
 use Rattle.smx_queues.proofs.SoundLemmas.{view_slots}
 
@@ -57,6 +60,20 @@ slot_at s chains sound view is p chain below read =
       count = rw (e, at) (count_in _ _ _ _ _ l);
       mark = rw (e, at) (mark_in _ _ _ _ _ l);
     }
+
+-- a slot that has no more than 0 messages has none
+pub none_there : (q : Option Queue) → length (messages_in q) ≤ 0 → has_messages q ≡ false
+none_there q le = by (messages_in q) le where
+  by : (ms : List Message) → length ms ≤ 0 → nat_lt 0 (length ms) ≡ false
+  by [] e = refl
+  by (m ∷ ms) e = absurd (omega (arith, e))
+
+-- a slot that has more than 0 messages has some
+pub some_there : (q : Option Queue) → 0 < length (messages_in q) → has_messages q ≡ true
+some_there q lt = by (messages_in q) lt where
+  by : (ms : List Message) → 0 < length ms → nat_lt 0 (length ms) ≡ true
+  by [] e = absurd (omega (arith, e))
+  by (m ∷ ms) e = grind (arith, nat_tests)
 
 -- ---- how many there are
 

@@ -1,4 +1,4 @@
--- The flow and the full places that the queues of rising places make, where one queue changes.
+-- The flow of the queues of places in order, when one queue changes.
 use Rattle.std.proofs.Common.{◌≡◌, ℕ, zero, suc, ◌<◌, Bool, false, not, List, [], ◌∷◌, ◌++◌, length, filter, set}
 use Rattle.std.proofs.Common.{get_or, Option, Some, None, refl, sym, ap, ◌∙◌, subst, arith, append-nil}
 use Rattle.std.specs.Prelude.{slice_get}
@@ -25,7 +25,7 @@ placed p m = record { place = p; message = m }
 
 -- ---- a message arrives
 
--- a message that doesn't come before a place is inserted behind the messages of that place
+-- a message at a place that is not before place r is inserted after the messages of r
 skip_insert : (p r : Place) (m : Message) (ms : List Message) (rest : List QueuedMessage) → place_before p r ≡ false
     → with_inserted queued_before (messages_at r ms ++ rest) (placed p m)
     ≡ messages_at r ms ++ with_inserted queued_before rest (placed p m)
@@ -46,13 +46,13 @@ insert_first p m (r ∷ places) (q ∷ queues) h = by_messages (messages_in q) (
   by_messages [] rest = rest
   by_messages (x ∷ ms) rest = rw h.0 refl
 
--- a message at the end of a place's messages stands before what comes behind them
+-- a message at the end of a place's messages comes before the messages of later places
 one_more : (p : Place) (m : Message) (ms : List Message) (rest : List QueuedMessage)
     → messages_at p (ms ++ m ∷ []) ++ rest ≡ messages_at p ms ++ (placed p m ∷ rest)
 one_more p m [] rest = refl
 one_more p m (x ∷ ms) rest = ap (λ (xs : List QueuedMessage). placed p x ∷ xs) (one_more p m ms rest)
 
--- with a message more at the end of one queue, the flow has it inserted in its order
+-- one more message at the end of a queue is inserted in order into the flow
 pub flow_arrived : (p : Place) (m : Message) (places : List Place) (queues : Queues) (i : ℕ) (q : Queue)
     → IsRising place_before places → slice_get places i ≡ Some p → i < length queues
     → q.messages ≡ messages_in (get_or queues i None) ++ m ∷ []
@@ -74,13 +74,13 @@ flow_arrived p m (r ∷ places) (old ∷ queues) (suc i) q rise at below is =
 
 -- ---- the first message leaves
 
--- what is left out at one place is left out behind the messages of another
+-- removing the first message of one place skips the messages of another place
 skip_without : (p r : Place) (ms : List Message) (rest : List QueuedMessage) → same_place r p ≡ false
     → without_first (is_at p) (messages_at r ms ++ rest) ≡ messages_at r ms ++ without_first (is_at p) rest
 skip_without p r [] rest h = refl
 skip_without p r (x ∷ ms) rest h = rw h (ap (λ (xs : List QueuedMessage). placed r x ∷ xs) (skip_without p r ms rest h))
 
--- without the front of one queue, the flow is without the first message at its place
+-- removing the front of a queue removes the first message at its place from the flow
 pub flow_left : (p : Place) (m : Message) (places : List Place) (queues : Queues) (i : ℕ) (q : Queue)
     → IsRising place_before places → slice_get places i ≡ Some p → i < length queues
     → messages_in (get_or queues i None) ≡ m ∷ q.messages
@@ -102,19 +102,19 @@ flow_left p m (r ∷ places) (old ∷ queues) (suc i) q rise at below is =
 abbrev pub not_at : Place → QueuedMessage → Bool
 not_at p h = not (is_at p h)
 
--- of a place's messages and others, those at other places are among the others
+-- removing the messages of a place removes all of its own messages
 pub drop_same : (p : Place) (ms : List Message) (rest : List QueuedMessage)
     → filter (not_at p) (messages_at p ms ++ rest) ≡ filter (not_at p) rest
 drop_same p [] rest = refl
 drop_same p (x ∷ ms) rest = rw (place_self p) (drop_same p ms rest)
 
--- the messages of one place are kept where those of another are left out
+-- removing the messages of one place keeps those of another place
 pub keep_other : (p r : Place) (ms : List Message) (rest : List QueuedMessage) → same_place r p ≡ false
     → filter (not_at p) (messages_at r ms ++ rest) ≡ messages_at r ms ++ filter (not_at p) rest
 keep_other p r [] rest h = refl
 keep_other p r (x ∷ ms) rest h = rw h (ap (λ (xs : List QueuedMessage). placed r x ∷ xs) (keep_other p r ms rest h))
 
--- where a place comes before all others, their messages are kept where its own are left out
+-- if a place comes before all others, removing its messages keeps theirs
 keep_behind : (p : Place) (places : List Place) (queues : Queues) → ComesBefore place_before p places
     → filter (not_at p) (flow_of places queues) ≡ flow_of places queues
 keep_behind p [] queues h = refl
@@ -123,7 +123,7 @@ keep_behind p (r ∷ places) (q ∷ queues) h =
     keep_other p r (messages_in q) (flow_of places queues) (behind p r h.0)
     ∙ ap (λ (xs : List QueuedMessage). messages_at r (messages_in q) ++ xs) (keep_behind p places queues h.1)
 
--- with one queue emptied, the flow is without the messages at its place
+-- emptying a queue removes the messages at its place from the flow
 pub flow_emptied : (p : Place) (places : List Place) (queues : Queues) (i : ℕ) (q : Queue)
     → IsRising place_before places → slice_get places i ≡ Some p → i < length queues
     → q.messages ≡ [] → flow_of places (set queues i (Some q)) ≡ filter (not_at p) (flow_of places queues)
@@ -138,21 +138,21 @@ flow_emptied p (r ∷ places) (old ∷ queues) (suc i) q rise at below is =
     (flow_emptied p places queues i q rise.1 at (omega arith) is)
     ∙ sym (keep_other p r (messages_in old) (flow_of places queues) (apart r p (first_before r p places i rise.0 at)))
 
--- ---- what is at a place
+-- ---- the messages at a place
 
--- messages of one place are not in the queue of another
+-- the queue of a place has no message of another place
 at_other : (p r : Place) (ms : List Message) (rest : List QueuedMessage) → same_place r p ≡ false
     → queue (messages_at r ms ++ rest) p ≡ queue rest p
 at_other p r [] rest h = refl
 at_other p r (x ∷ ms) rest h = rw h (at_other p r ms rest h)
 
--- messages of a place stand first in its queue
+-- the queue of a place starts with the messages of this place
 at_same : (p : Place) (ms : List Message) (rest : List QueuedMessage)
     → queue (messages_at p ms ++ rest) p ≡ ms ++ queue rest p
 at_same p [] rest = refl
 at_same p (x ∷ ms) rest = rw (place_self p) (ap (λ (xs : List Message). x ∷ xs) (at_same p ms rest))
 
--- a place that comes before all others has no messages among theirs
+-- a place before all others has no message among theirs
 queue_behind : (p : Place) (places : List Place) (queues : Queues) → ComesBefore place_before p places
     → queue (flow_of places queues) p ≡ []
 queue_behind p [] queues h = refl
@@ -160,7 +160,7 @@ queue_behind p (r ∷ places) [] h = refl
 queue_behind p (r ∷ places) (q ∷ queues) h =
     at_other p r (messages_in q) (flow_of places queues) (behind p r h.0) ∙ queue_behind p places queues h.1
 
--- what the flow has at a place is the messages of the queue at its number
+-- the flow's queue at a place has the messages of the queue with the place's number
 pub queue_found : (p : Place) (places : List Place) (queues : Queues) (i : ℕ) → IsRising place_before places
     → slice_get places i ≡ Some p → queue (flow_of places queues) p ≡ messages_in (get_or queues i None)
 queue_found p [] queues i rise at = absurd cc
@@ -175,7 +175,7 @@ queue_found p (r ∷ places) (q ∷ queues) (suc i) rise at =
     at_other p r (messages_in q) (flow_of places queues) (apart r p (first_before r p places i rise.0 at))
     ∙ queue_found p places queues i rise.1 at
 
--- at a place that is none of these the flow has nothing
+-- the flow has no message at a place that is not in the list
 pub queue_none : (p : Place) (places : List Place) (queues : Queues) → list_any (same_place p) places ≡ false
     → queue (flow_of places queues) p ≡ []
 queue_none p [] queues h = refl

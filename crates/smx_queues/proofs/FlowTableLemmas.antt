@@ -15,10 +15,11 @@ use Rattle.smx_model.specs.DriverList.{high_of, low_of}
 use Rattle.smx_model.specs.Queues.{bytes_at, bytes_of, with_mark}
 use Rattle.smx_queues.specs.FlowTables.{AreQueuesOf, FlowLists, IsFlow, after_arrival, after_leaving, flow_of, fulls_of}
 use Rattle.smx_queues.specs.FlowTables.{lists_of, messages_at, without_place}
-use Rattle.smx_queues.specs.PlaceLists.{PlaceList, new_queues}
+use Rattle.smx_queues.specs.PlaceLists.{new_queues, places_of}
 use Rattle.smx_queues.specs.QueueTable.{IsPlace, Queue, queue_at, with_arrival, with_queue, without_front}
 use Rattle.smx_queues.specs.QueueTable.{without_messages}
 use Rattle.smx_queues.specs.Slots.{is_marked, messages_in}
+use Rattle.smx_queues.proofs.PlacesOfLemmas.{places_rise}
 use Rattle.smx_queues.proofs.FlowLemmas.{flow_arrived, flow_emptied, flow_left, keep_other, not_at, queue_found}
 use Rattle.smx_queues.proofs.PlacesWhereLemmas.{where_found, where_set}
 use Rattle.smx_queues.proofs.PlaceLemmas.{numbers_differ, same_turned}
@@ -77,16 +78,16 @@ still_queues drivers (r ∷ places) (Some x ∷ queues) (suc i) q new h at high 
 -- ---- what the tables are after a change, seen as lists
 
 -- these queues are seen as these lists
-pub record IsNow (p : PlaceList) (all : List (Option Queue)) (t : FlowLists) : Type 0 where
-  pub sound : IsFlow p all
-  pub drivers : p.drivers ≡ t.drivers
-  pub flow : flow_of p.places all ≡ t.flow
-  pub fulls : fulls_of p.places all ≡ t.fulls
+pub record IsNow (ds : List DriverSpec) (all : List (Option Queue)) (t : FlowLists) : Type 0 where
+  pub sound : IsFlow ds all
+  pub drivers : ds ≡ t.drivers
+  pub flow : flow_of (places_of ds) all ≡ t.flow
+  pub fulls : fulls_of (places_of ds) all ≡ t.fulls
 
 -- queues that are seen as these lists make them, with their room
-pub seen_now : (p : PlaceList) (all : List (Option Queue)) (t : FlowLists) (n : ℕ) → IsNow p all t
-    → lists_of p all n ≡ record t { spare = n }
-seen_now p all t n h = rw (h.drivers, h.flow, h.fulls) refl
+pub seen_now : (ds : List DriverSpec) (all : List (Option Queue)) (t : FlowLists) (n : ℕ) → IsNow ds all t
+    → lists_of ds all n ≡ record t { spare = n }
+seen_now ds all t n h = rw (h.flow, h.fulls, h.drivers) refl
 
 -- messages of which this is the first are this one and the rest
 pub first_is : (ms : List Message) (m : Message) → slice_get ms 0 ≡ Some m → ms ≡ m ∷ drop 1 ms
@@ -99,74 +100,74 @@ new_slot : (queues : List (Option Queue)) (i : ℕ) (q : Queue) → i < length q
 new_slot queues i q below = rw (get_or-set_same queues i (Some q) None below) refl
 
 -- where a place's number has another queue, the lists are those that it makes
-queue_now : (p : PlaceList) (all : List (Option Queue)) (place : Place) (i : ℕ) (t : FlowLists) → IsFlow p all
-    → slice_get p.places i ≡ Some place → (f : IsFound p.drivers all place i) (new : Queue) → new.high ≡ f.q.high
-    → new.low ≡ f.q.low → p.drivers ≡ t.drivers → flow_of p.places (set all i (Some new)) ≡ t.flow
-    → with_mark place new.full (fulls_of p.places all) ≡ t.fulls → IsNow p (set all i (Some new)) t
-queue_now p all place i t h at f new high low drivers flow fulls = record {
-  sound = record {
-    rising = h.rising;
-    queues = still_queues p.drivers p.places all i f.q new h.queues f.slot high low;
-  };
+queue_now : (ds : List DriverSpec) (all : List (Option Queue)) (place : Place) (i : ℕ) (t : FlowLists) → IsFlow ds all
+    → slice_get (places_of ds) i ≡ Some place → (f : IsFound ds all place i) (new : Queue) → new.high ≡ f.q.high
+    → new.low ≡ f.q.low → ds ≡ t.drivers → flow_of (places_of ds) (set all i (Some new)) ≡ t.flow
+    → with_mark place new.full (fulls_of (places_of ds) all) ≡ t.fulls → IsNow ds (set all i (Some new)) t
+queue_now ds all place i t h at f new high low drivers flow fulls = record {
+  sound = record { queues = still_queues ds (places_of ds) all i f.q new h.queues f.slot high low };
   drivers = drivers;
   flow = flow;
-  fulls = where_set is_marked place p.places all i (Some new) h.rising at f.below ∙ fulls;
+  fulls = where_set is_marked place (places_of ds) all i (Some new) (places_rise ds) at f.below ∙ fulls;
 }
 
 -- where the front left the queue of a place's number, the lists are those without its first message
-pub left_now : (p : PlaceList) (all : List (Option Queue)) (n : ℕ) (place : Place) (i : ℕ) (m : Message) → IsFlow p all
-    → slice_get p.places i ≡ Some place → slice_get (queue_at all i).messages 0 ≡ Some m
-    → IsNow p (with_queue all i (without_front (queue_at all i))) (after_leaving (lists_of p all n) place)
-left_now p all n place i m h at first =
-    let f = found p.drivers p.places all place i h.queues at in
-    let e = found_at p.drivers all place i f in
+pub left_now : (ds : List DriverSpec) (all : List (Option Queue)) (n : ℕ) (place : Place) (i : ℕ) (m : Message)
+    → IsFlow ds all
+    → slice_get (places_of ds) i ≡ Some place → slice_get (queue_at all i).messages 0 ≡ Some m
+    → IsNow ds (with_queue all i (without_front (queue_at all i))) (after_leaving (lists_of ds all n) place)
+left_now ds all n place i m h at first =
+    let f = found ds (places_of ds) all place i h.queues at in
+    let e = found_at ds all place i f in
     rw e (now f (first_is f.q.messages m (subst (λ (q : Queue). slice_get q.messages 0 ≡ Some m) e first))) where
-      now : (f : IsFound p.drivers all place i) → f.q.messages ≡ m ∷ drop 1 f.q.messages
-          → IsNow p (with_queue all i (without_front f.q)) (after_leaving (lists_of p all n) place)
+      now : (f : IsFound ds all place i) → f.q.messages ≡ m ∷ drop 1 f.q.messages
+          → IsNow ds (with_queue all i (without_front f.q)) (after_leaving (lists_of ds all n) place)
       now f some =
-          let flow = flow_left place m p.places all i (without_front f.q) h.rising at f.below
+          let flow = flow_left place m (places_of ds) all i (without_front f.q) (places_rise ds) at f.below
           (ap messages_in f.slot ∙ some) in
-          let here = queue_found place p.places (set all i (Some (without_front f.q))) i h.rising at
+          let here = queue_found place (places_of ds) (set all i (Some (without_front f.q))) i (places_rise ds) at
           ∙ new_slot all i (without_front f.q) f.below in
-          let bytes : bytes_at (flow_of p.places (set all i (Some (without_front f.q)))) place
+          let bytes : bytes_at (flow_of (places_of ds) (set all i (Some (without_front f.q)))) place
           ≡ bytes_of (drop 1 f.q.messages) = ap bytes_of here in
-          let mark = where_found is_marked None refl place p.places all i h.rising at ∙ ap is_marked f.slot in
-          queue_now p all place i _ h at f (without_front f.q) refl refl refl flow
-          (ap (λ (b : Bool). with_mark place b (fulls_of p.places all)) (rw (mark, ← flow, bytes, ← f.low) refl))
+          let mark = where_found is_marked None refl place (places_of ds) all i (places_rise ds) at
+          ∙ ap is_marked f.slot in
+          queue_now ds all place i _ h at f (without_front f.q) refl refl refl flow
+          (ap (λ (b : Bool). with_mark place b (fulls_of (places_of ds) all)) (rw (mark, ← flow, bytes, ← f.low) refl))
 
 -- where a message came to the queue of a place's number, the lists are those with it
-pub arrived_now : (p : PlaceList) (all : List (Option Queue)) (n : ℕ) (place : Place) (i : ℕ) (m : Message)
-    → IsFlow p all → slice_get p.places i ≡ Some place
-    → IsNow p (with_queue all i (with_arrival (queue_at all i) m)) (after_arrival (lists_of p all n) place m)
-arrived_now p all n place i m h at =
-    let f = found p.drivers p.places all place i h.queues at in
-    rw (found_at p.drivers all place i f) (now f) where
-      now : (f : IsFound p.drivers all place i)
-          → IsNow p (with_queue all i (with_arrival f.q m)) (after_arrival (lists_of p all n) place m)
+pub arrived_now : (ds : List DriverSpec) (all : List (Option Queue)) (n : ℕ) (place : Place) (i : ℕ) (m : Message)
+    → IsFlow ds all → slice_get (places_of ds) i ≡ Some place
+    → IsNow ds (with_queue all i (with_arrival (queue_at all i) m)) (after_arrival (lists_of ds all n) place m)
+arrived_now ds all n place i m h at =
+    let f = found ds (places_of ds) all place i h.queues at in
+    rw (found_at ds all place i f) (now f) where
+      now : (f : IsFound ds all place i)
+          → IsNow ds (with_queue all i (with_arrival f.q m)) (after_arrival (lists_of ds all n) place m)
       now f =
-          let flow = flow_arrived place m p.places all i (with_arrival f.q m) h.rising at f.below
+          let flow = flow_arrived place m (places_of ds) all i (with_arrival f.q m) (places_rise ds) at f.below
           (ap (λ (o : Option Queue). messages_in o ++ m ∷ []) (sym f.slot)) in
-          let here = queue_found place p.places (set all i (Some (with_arrival f.q m))) i h.rising at
+          let here = queue_found place (places_of ds) (set all i (Some (with_arrival f.q m))) i (places_rise ds) at
           ∙ new_slot all i (with_arrival f.q m) f.below in
-          let bytes : bytes_at (flow_of p.places (set all i (Some (with_arrival f.q m)))) place
+          let bytes : bytes_at (flow_of (places_of ds) (set all i (Some (with_arrival f.q m)))) place
           ≡ bytes_of (f.q.messages ++ m ∷ []) = ap bytes_of here in
-          let mark = where_found is_marked None refl place p.places all i h.rising at ∙ ap is_marked f.slot in
-          queue_now p all place i _ h at f (with_arrival f.q m) refl refl refl flow
-          (ap (λ (b : Bool). with_mark place b (fulls_of p.places all)) (rw (mark, ← flow, bytes, ← f.high) refl))
+          let mark = where_found is_marked None refl place (places_of ds) all i (places_rise ds) at
+          ∙ ap is_marked f.slot in
+          queue_now ds all place i _ h at f (with_arrival f.q m) refl refl refl flow
+          (ap (λ (b : Bool). with_mark place b (fulls_of (places_of ds) all)) (rw (mark, ← flow, bytes, ← f.high) refl))
 
 -- where the queue of a place's number was without_messages, the lists are those without the place
-pub emptied_now : (p : PlaceList) (all : List (Option Queue)) (n : ℕ) (place : Place) (i : ℕ) → IsFlow p all
-    → slice_get p.places i ≡ Some place
-    → IsNow p (with_queue all i (without_messages (queue_at all i))) (without_place (lists_of p all n) place)
-emptied_now p all n place i h at =
-    let f = found p.drivers p.places all place i h.queues at in
-    rw (found_at p.drivers all place i f) (now f) where
-      now : (f : IsFound p.drivers all place i)
-          → IsNow p (with_queue all i (without_messages f.q)) (without_place (lists_of p all n) place)
-      now f = queue_now p all place i _ h at f (without_messages f.q) refl refl refl
-          (flow_emptied place p.places all i (without_messages f.q) h.rising at f.below refl)
+pub emptied_now : (ds : List DriverSpec) (all : List (Option Queue)) (n : ℕ) (place : Place) (i : ℕ) → IsFlow ds all
+    → slice_get (places_of ds) i ≡ Some place
+    → IsNow ds (with_queue all i (without_messages (queue_at all i))) (without_place (lists_of ds all n) place)
+emptied_now ds all n place i h at =
+    let f = found ds (places_of ds) all place i h.queues at in
+    rw (found_at ds all place i f) (now f) where
+      now : (f : IsFound ds all place i)
+          → IsNow ds (with_queue all i (without_messages f.q)) (without_place (lists_of ds all n) place)
+      now f = queue_now ds all place i _ h at f (without_messages f.q) refl refl refl
+          (flow_emptied place (places_of ds) all i (without_messages f.q) (places_rise ds) at f.below refl)
           (filter_agree (λ q. not (same_place place q)) (λ q. not (same_place q place))
-          (λ q. ap not (same_turned place q)) (fulls_of p.places all))
+          (λ q. ap not (same_turned place q)) (fulls_of (places_of ds) all))
 
 -- ---- a message moves on
 
@@ -176,22 +177,23 @@ other_at : (queues : List (Option Queue)) (i j : ℕ) (q : Queue) → j ≢ i
 other_at queues i j q ne = rw (get_or-set_other queues i j (Some q) None ne) refl
 
 -- where a front went from the queue of one number to another's, the lists are those after both
-pub moved_now : (p : PlaceList) (all : List (Option Queue)) (n : ℕ) (from to : Place) (i j : ℕ) (m : Message)
-    → IsFlow p all → slice_get p.places i ≡ Some from → slice_get p.places j ≡ Some to
+pub moved_now : (ds : List DriverSpec) (all : List (Option Queue)) (n : ℕ) (from to : Place) (i j : ℕ) (m : Message)
+    → IsFlow ds all → slice_get (places_of ds) i ≡ Some from → slice_get (places_of ds) j ≡ Some to
     → same_place from to ≡ false → slice_get (queue_at all i).messages 0 ≡ Some m
-    → IsNow p (with_queue (with_queue all i (without_front (queue_at all i))) j (with_arrival (queue_at all j) m))
-    (after_arrival (after_leaving (lists_of p all n) from) to m)
-moved_now p all n from to i j m h at there differ first =
-    let l = left_now p all n from i m h at first in
-    let a = arrived_now p (with_queue all i (without_front (queue_at all i))) n to j m l.sound there in
-    let e = other_at all i j (without_front (queue_at all i)) (numbers_differ p.places from to i j at there differ) in
-    let t = seen_now p (with_queue all i (without_front (queue_at all i)))
-    (after_leaving (lists_of p all n) from) n l in
+    → IsNow ds (with_queue (with_queue all i (without_front (queue_at all i))) j (with_arrival (queue_at all j) m))
+    (after_arrival (after_leaving (lists_of ds all n) from) to m)
+moved_now ds all n from to i j m h at there differ first =
+    let l = left_now ds all n from i m h at first in
+    let a = arrived_now ds (with_queue all i (without_front (queue_at all i))) n to j m l.sound there in
+    let e = other_at all i j (without_front (queue_at all i))
+    (numbers_differ (places_of ds) from to i j at there differ) in
+    let t = seen_now ds (with_queue all i (without_front (queue_at all i)))
+    (after_leaving (lists_of ds all n) from) n l in
     let b = subst
-    (λ (q : Queue). IsNow p (with_queue (with_queue all i (without_front (queue_at all i))) j (with_arrival q m))
-    (after_arrival (lists_of p (with_queue all i (without_front (queue_at all i))) n) to m)) e a in
+    (λ (q : Queue). IsNow ds (with_queue (with_queue all i (without_front (queue_at all i))) j (with_arrival q m))
+    (after_arrival (lists_of ds (with_queue all i (without_front (queue_at all i))) n) to m)) e a in
     subst (λ (x : FlowLists).
-    IsNow p (with_queue (with_queue all i (without_front (queue_at all i))) j (with_arrival (queue_at all j) m))
+    IsNow ds (with_queue (with_queue all i (without_front (queue_at all i))) j (with_arrival (queue_at all j) m))
     (after_arrival x to m)) t b
 
 -- ---- at first
@@ -239,11 +241,11 @@ fulls_without p (r ∷ places) (q ∷ queues) h =
     ]
 
 -- queues are seen as the lists without a place that the drivers don't have
-pub nothing_now : (p : PlaceList) (all : List (Option Queue)) (n : ℕ) (place : Place) → IsFlow p all
-    → list_any (same_place place) p.places ≡ false → IsNow p all (without_place (lists_of p all n) place)
-nothing_now p all n place h none = record {
+pub nothing_now : (ds : List DriverSpec) (all : List (Option Queue)) (n : ℕ) (place : Place) → IsFlow ds all
+    → list_any (same_place place) (places_of ds) ≡ false → IsNow ds all (without_place (lists_of ds all n) place)
+nothing_now ds all n place h none = record {
   sound = h;
   drivers = refl;
-  flow = flow_without place p.places all none;
-  fulls = fulls_without place p.places all none;
+  flow = flow_without place (places_of ds) all none;
+  fulls = fulls_without place (places_of ds) all none;
 }

@@ -1,4 +1,4 @@
--- The places at whose numbers stands what passes a test, where what stands at one number changes.
+-- The places whose items pass a test, when the item at one number changes.
 use Rattle.std.proofs.Common.{◌≡◌, ℕ, zero, suc, ◌<◌, Bool, true, false, not, cond, List, [], ◌∷◌, length, filter, set}
 use Rattle.std.proofs.Common.{get_or, Some, refl, sym, ap, ◌∙◌, subst, arith, inl, inr}
 use Rattle.std.specs.Prelude.{slice_get}
@@ -12,11 +12,11 @@ use Rattle.smx_model.specs.Queues.{with_mark}
 use Rattle.smx_queues.specs.PlaceLists.{places_where}
 use Rattle.smx_queues.proofs.PlaceLemmas.{apart, behind, first_before, none_behind, not_after, place_self}
 
--- these places without one
+-- these places without one of them
 abbrev others : Place → List Place → List Place
 others p places = filter (λ q. not (same_place p q)) places
 
--- places that come behind one are kept where that one is left out
+-- removing a place from a list of later places changes nothing
 keep_behind : {X : Type 0} (passes : X → Bool) (p : Place) (places : List Place) (xs : List X)
     → ComesBefore place_before p places → others p (places_where passes places xs) ≡ places_where passes places xs
 keep_behind passes p [] xs h = refl
@@ -37,7 +37,7 @@ insert_first passes p (r ∷ places) (x ∷ xs) h = elim (cases_Bool (passes x))
   | inr f ↦ rw f (insert_first passes p places xs h.1)
 ]
 
--- where a place that comes before all others has its mark set, it stands at their front, or not at all
+-- setting the mark of a place before all others puts it at their front, or leaves them as they are
 mark_first : {X : Type 0} (passes : X → Bool) (p : Place) (mark : Bool) (places : List Place) (xs : List X)
     → ComesBefore place_before p places → with_mark p mark (places_where passes places xs)
     ≡ cond mark (p ∷ places_where passes places xs) (places_where passes places xs)
@@ -45,18 +45,18 @@ mark_first passes p true places xs h = ap (λ (ps : List Place). with_inserted p
     (keep_behind passes p places xs h) ∙ insert_first passes p places xs h
 mark_first passes p false places xs h = keep_behind passes p places xs h
 
--- whether a place was marked before its mark is set makes no difference
+-- the result of setting a mark doesn't depend on whether the place was marked before
 mark_again : (p : Place) (mark : Bool) (marked : List Place) → with_mark p mark (p ∷ marked) ≡ with_mark p mark marked
 mark_again p true marked = rw (place_self p) refl
 mark_again p false marked = rw (place_self p) refl
 
--- the mark of a place is set behind a place that comes before it
+-- setting the mark of a place keeps an earlier place in front
 mark_later : (p r : Place) (mark : Bool) (marked : List Place) → place_before r p ≡ true
     → with_mark p mark (r ∷ marked) ≡ r ∷ with_mark p mark marked
 mark_later p r true marked h = rw (behind r p h, not_after r p h) refl
 mark_later p r false marked h = rw (behind r p h) refl
 
--- a place that comes before all others is marked as it is now, however it was before
+-- setting the mark of a place before all others gives its new mark, whatever its old one was
 marked_here : {X : Type 0} (passes : X → Bool) (p : Place) (was mark : Bool) (places : List Place) (xs : List X)
     → ComesBefore place_before p places
     → with_mark p mark (cond was (p ∷ places_where passes places xs) (places_where passes places xs))
@@ -65,13 +65,13 @@ marked_here passes p true mark places xs h =
     mark_again p mark (places_where passes places xs) ∙ mark_first passes p mark places xs h
 marked_here passes p false mark places xs h = mark_first passes p mark places xs h
 
--- the mark of a place is set behind a place that comes before it, marked or not
+-- setting the mark of a place keeps an earlier place in front, whether this is marked or not
 marked_later : (p r : Place) (was mark : Bool) (marked : List Place) → place_before r p ≡ true
     → with_mark p mark (cond was (r ∷ marked) marked) ≡ cond was (r ∷ with_mark p mark marked) (with_mark p mark marked)
 marked_later p r true mark marked h = mark_later p r mark marked h
 marked_later p r false mark marked h = refl
 
--- where another thing stands at one number, its place is marked as that passes, and each other place as before
+-- a new item at one number sets the mark of its place to the item's test, and changes no other mark
 pub where_set : {X : Type 0} (passes : X → Bool) (p : Place) (places : List Place) (xs : List X) (i : ℕ) (x : X)
     → IsRising place_before places → slice_get places i ≡ Some p → i < length xs
     → places_where passes places (set xs i x) ≡ with_mark p (passes x) (places_where passes places xs)
@@ -86,9 +86,9 @@ where_set passes p (r ∷ places) (old ∷ xs) (suc i) x rise at below =
     ∙ sym (marked_later p r (passes old) (passes x) (places_where passes places xs)
     (first_before r p places i rise.0 at))
 
--- ---- whether a place is one of them
+-- ---- whether a place is marked
 
--- a place that is none of the places is none of those at whose numbers the test passes
+-- a place that is not in the list is not marked
 pub where_none : {X : Type 0} (passes : X → Bool) (p : Place) (places : List Place) (xs : List X)
     → list_any (same_place p) places ≡ false → list_any (same_place p) (places_where passes places xs) ≡ false
 where_none passes p [] xs h = refl
@@ -99,19 +99,19 @@ where_none passes p (r ∷ places) (x ∷ xs) h =
       | inr f ↦ rw f (where_none passes p places xs b.1)
     ]
 
--- a place at the front, where no other is it, is found exactly where it was marked
+-- a place at the front, and nowhere else, is found exactly if it is marked
 at_front : (p : Place) (was : Bool) (marked : List Place) → list_any (same_place p) marked ≡ false
     → list_any (same_place p) (cond was (p ∷ marked) marked) ≡ was
 at_front p true marked h = rw (place_self p) refl
 at_front p false marked h = h
 
--- whether a place is found is not changed by another at the front, marked or not
+-- another place at the front, marked or not, doesn't change whether a place is found
 elsewhere : (p r : Place) (was : Bool) (marked : List Place) → same_place p r ≡ false
     → list_any (same_place p) (cond was (r ∷ marked) marked) ≡ list_any (same_place p) marked
 elsewhere p r true marked h = rw h refl
 elsewhere p r false marked h = refl
 
--- where what stands past the end fails the test, a place is one of them exactly where what stands at its number passes
+-- if the default fails the test, a place is marked exactly if the item at its number passes the test
 pub where_found : {X : Type 0} (passes : X → Bool) (past : X) → passes past ≡ false → (p : Place) (places : List Place)
     (xs : List X) (i : ℕ) → IsRising place_before places → slice_get places i ≡ Some p
     → list_any (same_place p) (places_where passes places xs) ≡ passes (get_or xs i past)

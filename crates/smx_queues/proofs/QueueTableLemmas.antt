@@ -1,4 +1,4 @@
--- Queues by their numbers, where one of them changes.
+-- Queues by number, when one of them changes.
 use Rattle.std.proofs.Common.{◌≡◌, ℕ, zero, suc, ◌+◌, ◌<◌, ◌≤◌, nat_lt, not, Bool, true, false, List, [], ◌∷◌, ◌++◌}
 use Rattle.std.proofs.Common.{length, drop, get_or, set, cond, position, Option, Some, None, refl, sym, ap, ◌∙◌, arith}
 use Rattle.std.specs.List.{slice_get, position_or_len}
@@ -15,18 +15,18 @@ use Rattle.smx_queues.specs.QueueTable.{without_messages}
 use Rattle.smx_queues.specs.Chains.{no_chain}
 use Rattle.smx_queues.proofs.SlotLemmas.{slot, slots}
 
--- a place has a number below that of any other to come
+-- the number of a place is below the length of the list
 pub place_below : (queues : List (Option Queue)) (p : ℕ) → IsPlace queues p → p < length queues
 place_below [] p is = absurd (cc)
 place_below (x ∷ queues) zero is = omega arith
 place_below (x ∷ queues) (suc p) is = omega (arith, place_below queues p is)
 
--- the queue that was set at a number is the one there
+-- after setting a queue at a number, this queue is there
 pub set_at : (queues : List (Option Queue)) (p : ℕ) (q : Queue) → p < length queues
     → queue_at (set queues p (Some q)) p ≡ q
 set_at queues p q below = rw (get_or-set_same queues p (Some q) None below) refl
 
--- where a place gets the queue that it has, nothing changes
+-- setting a place's queue to itself changes nothing
 pub set_itself : (queues : List (Option Queue)) (p : ℕ) → IsPlace queues p
     → set queues p (Some (queue_at queues p)) ≡ queues
 set_itself [] p is = absurd (cc)
@@ -34,7 +34,7 @@ set_itself (Some q ∷ queues) zero is = refl
 set_itself (None ∷ queues) zero is = absurd (cc)
 set_itself (x ∷ queues) (suc p) is = ap (λ rest. x ∷ rest) (set_itself queues p is)
 
--- place p has these messages left and this mark, and nothing else has changed
+-- place p has these messages left and this mark; nothing else has changed, and each message that left freed an entry
 pub record IsClearing (old new : QueueTable) (p : ℕ) : Type 0 where
   pub messages : List Message
   pub full : Bool
@@ -42,7 +42,7 @@ pub record IsClearing (old new : QueueTable) (p : ℕ) : Type 0 where
       (Some (record (queue_at old.queues p) { messages = messages; full = full }))
   pub spare : new.spare + length messages ≡ old.spare + length (queue_at old.queues p).messages
 
--- before the first message leaves, a place that is cleared has all its messages and its mark
+-- at the start of a clearing, the place has all its messages and its mark
 pub clearing_starts : (q : QueueTable) (p : ℕ) → IsPlace q.queues p → IsClearing q q p
 clearing_starts q p is =
     record {
@@ -52,22 +52,22 @@ clearing_starts q p is =
       spare = refl;
     }
 
--- a place that is being cleared has the messages and the mark that it has left, and else what it had
+-- the queue of a place that is being cleared has the messages that are left and its mark; the rest is unchanged
 now_at : (old new : QueueTable) (p : ℕ) (c : IsClearing old new p) → p < length old.queues
     → queue_at new.queues p ≡ record (queue_at old.queues p) { messages = c.messages; full = c.full }
 now_at old new p c below = ap (λ qs. queue_at qs p) c.queues ∙ set_at old.queues p _ below
 
--- messages of which there is a first one are not none
+-- a list with a first message is not empty
 first_some : (ms : List Message) (m : Message) → Some m ≡ slice_get ms 0 → 0 < length ms
 first_some [] m e = absurd (cc)
 first_some (x ∷ ms) m e = omega arith
 
--- the same queue set at the same number of the same queues gives the same
+-- setting equal queues at the same number of equal lists gives equal lists
 pub same_set : (queues queues' : List (Option Queue)) (p : ℕ) (q q' : Queue) → queues ≡ queues' → q ≡ q'
     → set queues p (Some q) ≡ set queues' p (Some q')
 same_set queues queues' p q q' e f = rw (e, f) refl
 
--- where one more message has left a place that is being cleared, those behind it are left
+-- after one more message has left a place that is being cleared, the later ones are left
 pub clearing_goes_on : (old mid new : QueueTable) (p : ℕ) (m : Message) → p < length old.queues → IsClearing old mid p
     → Some m ≡ slice_get (queue_at mid.queues p).messages 0
     → new.queues ≡ set mid.queues p (Some (without_front (queue_at mid.queues p))) → new.spare ≡ mid.spare + 1
@@ -82,12 +82,12 @@ clearing_goes_on old mid new p m below c taken gone room =
       spare = omega (arith, room, c.spare, some, length-drop 1 c.messages);
     }
 
--- the number of the first chain whose place is gone is the least that no place has
+-- the number p is the lowest without a place, and setting a queue there adds a place
 pub record IsVacant (chains : List Chain) (queues : List Queue) (p : ℕ) : Type 0 where
   pub least : p ≡ least_vacant (slots chains queues)
   pub added : (q : Queue) → set (slots chains queues) p (Some q) ≡ with_place (slots chains queues) q
 
--- a number whose place is gone, while each lower one is there, is the least without a queue
+-- the number of a chain without a place, if all lower ones have places, is the lowest without a queue
 pub vacant_at : (chains : List Chain) (queues : List Queue) (p : ℕ) → length queues ≡ length chains → p < length chains
     → (get_or chains p no_chain).there ≡ false → ((k : ℕ) → k < p → (get_or chains k no_chain).there ≡ true)
     → IsVacant chains queues p
@@ -108,12 +108,12 @@ vacant_at (chain ∷ chains) (q ∷ queues) (suc p) many below gone others =
       added = λ new. rw here (ap (λ rest. Some q ∷ rest) (r.added new));
     }
 
--- where no place is gone, the next number is the least that no place has
+-- the next number is the lowest without a place, and appending a queue adds a place
 pub record IsFull (chains : List Chain) (queues : List Queue) : Type 0 where
   pub least : length chains ≡ least_vacant (slots chains queues)
   pub added : (q : Queue) → slots chains queues ++ Some q ∷ [] ≡ with_place (slots chains queues) q
 
--- where the place of each chain is there, the next number is the least without a queue
+-- if each chain has a place, the next number is the lowest without a queue
 pub none_vacant : (chains : List Chain) (queues : List Queue) → length queues ≡ length chains
     → ((k : ℕ) → k < length chains → (get_or chains k no_chain).there ≡ true) → IsFull chains queues
 none_vacant [] queues many there = record { least = refl; added = λ q. refl }
@@ -126,11 +126,11 @@ none_vacant (chain ∷ chains) (q ∷ queues) many there =
       added = λ new. rw here (ap (λ rest. Some q ∷ rest) (r.added new));
     }
 
--- the place of the chain is gone
+-- the chain has no place
 abbrev pub goes : Chain → Bool
 goes chain = not chain.there
 
--- where a first chain was found whose place is gone, its number is the least without a queue
+-- if a search finds the first chain without a place, its number is the lowest without a queue
 pub vacant_found : (chains : List Chain) (queues : List Queue) (p : ℕ) → length queues ≡ length chains
     → Some p ≡ position goes chains → (p < length chains) × ((get_or chains p no_chain).there ≡ false)
     × IsVacant chains queues p
@@ -139,7 +139,7 @@ vacant_found chains queues p many found =
     let gone = not-true _ f.1 in
     (f.0, gone, vacant_at chains queues p many f.0 gone (λ k less. not-false _ (f.2 k less)))
 
--- where no chain was found whose place is gone, the next number is the least without a queue
+-- if a search finds no chain without a place, the next number is the lowest without a queue
 pub vacant_not_found : (chains : List Chain) (queues : List Queue) → length queues ≡ length chains
     → None ≡ position goes chains → IsFull chains queues
 vacant_not_found chains queues many none =
@@ -152,7 +152,7 @@ vacant_not_found chains queues many none =
     far true is none = absurd (cc)
     far false is none = grind (arith, nat_tests)
 
--- a place that all messages have left, and whose mark is then taken, has no message and is not full
+-- after all messages have left a place and its mark is removed, it has no message and is not full
 pub cleared_queues : (old mid : QueueTable) (p : ℕ) → IsPlace old.queues p → IsClearing old mid p
     → None ≡ slice_get (queue_at mid.queues p).messages 0
     → set mid.queues p (Some (without_messages (queue_at mid.queues p)))
@@ -161,6 +161,6 @@ cleared_queues old mid p there c none =
     same_set _ _ p _ _ c.queues (ap without_messages (now_at old mid p c (place_below old.queues p there)))
     ∙ set-set old.queues p _ _
 
--- what is set at a number, and then set again, is as if it had been set once
+-- of two settings at the same number, the second one counts
 pub set_again : (queues : List (Option Queue)) (p : ℕ) (a b : Option Queue) → set (set queues p a) p b ≡ set queues p b
 set_again queues p a b = set-set queues p a b

@@ -1,4 +1,4 @@
--- What a contract sees where a message arrives, leaves its place or moves on.
+-- The queues that contracts see after a message arrives, leaves or moves.
 use Rattle.std.proofs.Common.{◌≡◌, ◌≢◌, ℕ, ◌+◌, ◌<◌, ◌^◌, true, List, ◌∷◌}
 use Rattle.std.proofs.Common.{length, map, drop, get_or, set, Option, Some, None, refl, sym, ap, ◌∙◌, arith}
 use Rattle.std.proofs.lemmas.List.{get_or-set_other, length-set}
@@ -15,12 +15,12 @@ use Rattle.smx_queues.proofs.SlotLemmas.{slot, slots, store_slots, slots-set, Is
 use Rattle.smx_queues.proofs.StoreLemmas.{size, left_with, store_insert, store_remove, store_detach, store_attach}
 use Rattle.smx_queues.proofs.SoundLemmas.{IsSeen, first_is, first_of, place_at, read_other, seen_same, set_seen}
 
--- the messages behind the first, with the mark after its leaving, are the queue without its front
+-- the queue without its front: the later messages, and the mark after a departure
 pub front_gone : (q : Queue) (m : Message) (rest : List Message) → q.messages ≡ m ∷ rest
     → left_with q rest ≡ without_front q
 front_gone q m rest was = ap (left_with q) (ap (drop 1) (sym was))
 
--- where a message has come behind the last node of a place, a contract sees its arrival there
+-- after a node is added at the end of a place's chain, contracts see the arrival of its message
 pub seen_put : (s s1 s2 : Slab Node) (chains : List Chain) (sound : IsSound s chains) (view : List (Option Queue))
     → map (slot_of s) chains ≡ view → (p : ℕ) → IsPlace view p → (chain after : Chain) → chain ≡ get_or chains p chain
     → (key : ℕ) (node : Node) → get s key ≡ None → Updates s s1 key (Some node) → slab_len s1 ≡ slab_len s + 1
@@ -39,7 +39,7 @@ seen_put s s1 s2 chains sound view is p there chain after read key node vacant n
     seen_same _ _ _ _ _ _ (rw (followed, a.read) refl) (rw (was_after, are_bytes, a.read) refl)
     (rw (same, t.same) refl) seen
 
--- the first message of a place, its node, and what its leaving comes to while the node is still in the store
+-- the first message of a place, its node, and the store after its departure while the node is still in the store
 record IsLeaving (s : Slab Node) (chains : List Chain) (sound : IsSound s chains) (view : List (Option Queue)) (p : ℕ)
     (chain : Chain) (node : Node) : Type 0 where
   below : p < length chains
@@ -53,7 +53,7 @@ record IsLeaving (s : Slab Node) (chains : List Chain) (sound : IsSound s chains
   store : IsStore own s (set chains p (chain_without_first chain node.next (size node.message)))
       (set sound.queues p (without_front (get_or sound.queues p no_queue))) 1
 
--- where a place has messages, its first one can leave, and its node is in the store still
+-- if a place has messages, its first message can leave, and its node is still in the store
 leaving : (s : Slab Node) (chains : List Chain) (sound : IsSound s chains) (view : List (Option Queue))
     → map (slot_of s) chains ≡ view → (p : ℕ) → IsPlace view p → (chain : Chain) → chain ≡ get_or chains p chain
     → 0 < chain.count → (node : Node) → get s chain.first ≡ Some node → IsLeaving s chains sound view p chain node
@@ -91,7 +91,7 @@ leaving s chains sound view is p there chain read some node found =
         → IsStore own s (set chains p c') (set queues p q') 1
     left_store own s chains queues p c c' q q' e f st = rw (← e, ← f) st
 
--- where the first node of a place has gone, a contract sees that the first message left
+-- after the first node of a place is removed, contracts see the departure of its message
 pub seen_take : (s s2 : Slab Node) (chains : List Chain) (sound : IsSound s chains) (view : List (Option Queue))
     → map (slot_of s) chains ≡ view → (p : ℕ) → IsPlace view p → (chain after : Chain) → chain ≡ get_or chains p chain
     → 0 < chain.count → (node : Node) → get s chain.first ≡ Some node → Updates s s2 chain.first None
@@ -105,7 +105,7 @@ seen_take s s2 chains sound view is p there chain after read some node found new
     let seen = set_seen d.own s2 chains sound.queues p _ _ d.below sound.store.as_many here r in
     seen_same _ _ _ _ _ _ refl (rw (was_after, are_bytes) refl) (rw (d.same, d.here.same) refl) seen
 
--- where the first node of one place has come behind the last one of another, a contract sees that its message moved
+-- after the first node of one place is added at the end of another one's chain, contracts see that its message moved
 pub seen_move : (s s2 : Slab Node) (chains : List Chain) (sound : IsSound s chains) (view : List (Option Queue))
     → map (slot_of s) chains ≡ view → (from to : ℕ) → IsPlace view from → IsPlace view to → from ≢ to
     → (source after target last : Chain) → source ≡ get_or chains from source → 0 < source.count → (node : Node)

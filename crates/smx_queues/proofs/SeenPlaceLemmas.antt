@@ -1,7 +1,6 @@
 -- What a contract sees where a place comes, goes, has another mark or is copied.
-use Rattle.std.proofs.Common.{◌≡◌, ℕ, zero, suc, ◌<◌, ◌≤◌, Bool, true, false, List, [], ◌∷◌, ◌++◌, length, map, get_or}
-use Rattle.std.proofs.Common.{set, Option, Some, None, refl, sym, ap, subst, ◌∙◌, arith, append_assoc, append-nil}
-use Rattle.std.specs.List.{repeat}
+use Rattle.std.proofs.Common.{◌≡◌, ℕ, ◌<◌, ◌≤◌, Bool, true, false, List, [], ◌∷◌, ◌++◌, length, map, get_or}
+use Rattle.std.proofs.Common.{set, Option, Some, None, refl, sym, ap, subst, ◌∙◌, arith}
 use Rattle.std.proofs.lemmas.List.{get_or_default}
 use Rattle.slab.specs.Slab.{Slab}
 use Rattle.smx_types.specs.declared.message.Message.{Message}
@@ -94,19 +93,6 @@ new_is_bare above below high low =
       high_bounded = high;
       low_below = low;
     }
-
--- with so many chains without nodes behind all others, a contract sees as many queues behind the rest
-pub seen_push_all : (s : Slab Node) (chains : List Chain) (sound : IsSound s chains) (view : List (Option Queue))
-    → map (slot_of s) chains ≡ view → (after : Chain) → IsBare after → (n : ℕ)
-    → IsSeen s (chains ++ repeat n (after ∷ [])) (view ++ repeat n (slot after (bare_queue after) ∷ []))
-seen_push_all s chains sound view is after bare zero =
-    seen_same s s _ chains _ view refl (append-nil chains) (append-nil view) (record { sound = sound; is = is })
-seen_push_all s chains sound view is after bare (suc n) =
-    let one = seen_push s chains sound view is after bare in
-    let more = seen_push_all s (chains ++ after ∷ []) one.sound
-    (view ++ slot after (bare_queue after) ∷ []) one.is after bare n in
-    seen_same s s _ _ _ _ refl (sym (append_assoc chains (after ∷ []) (repeat n (after ∷ []))))
-    (sym (append_assoc view (slot after (bare_queue after) ∷ []) (repeat n (slot after (bare_queue after) ∷ [])))) more
 
 -- with another mark, which is no mark only where there are few bytes, a place is seen with that mark
 pub seen_marked : (s : Slab Node) (chains : List Chain) (sound : IsSound s chains) (view : List (Option Queue))

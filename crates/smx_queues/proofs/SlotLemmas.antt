@@ -1,4 +1,4 @@
--- What a contract sees of chains and their queues.
+-- The queues that contracts see for chains.
 use Rattle.std.proofs.Common.{◌≡◌, ℕ, zero, suc, ◌<◌, Bool, true, false, if◌then◌else◌, List, [], ◌∷◌, ◌++◌, length}
 use Rattle.std.proofs.Common.{map, get_or, set, Option, Some, None, IsSome, refl, sym, ap, ◌∙◌, arith}
 use Rattle.std.proofs.lemmas.List.{get_or-map, length-map, ext_get_or}
@@ -10,27 +10,27 @@ use Rattle.smx_queues.specs.QueueTable.{Queue, IsPlace, queue_at}
 use Rattle.smx_queues.specs.Chains.{IsStore, no_chain, no_queue, queue_of, slot_of, walk}
 use Rattle.smx_queues.proofs.ChainLemmas.{walk_chain}
 
--- a queue, where there is such a place
+-- the queue, if there is such a place
 abbrev pub slot : Chain → Queue → Option Queue
 slot chain q = if chain.there then Some q else None
 
--- the queues of those places that are there
+-- the queues of the places that exist
 abbrev pub slots : List Chain → List Queue → List (Option Queue)
 slots [] queues = []
 slots (chain ∷ chains) [] = []
 slots (chain ∷ chains) (q ∷ queues) = slot chain q ∷ slots chains queues
 
--- a queue of these messages, this full mark and these water marks
+-- a queue with these messages, this full mark and these water marks
 abbrev queue_from : List Message → Bool → ℕ → ℕ → Queue
 queue_from ms marked above below = record { messages = ms; full = marked; high = above; low = below }
 
--- queues with the same messages, full mark and water marks are the same
+-- queues with equal messages, full marks and water marks are equal
 pub same_queue : (a b : Queue) → a.messages ≡ b.messages → a.full ≡ b.full → a.high ≡ b.high → a.low ≡ b.low → a ≡ b
 same_queue a b m f h l =
     let made : queue_from a.messages a.full a.high a.low ≡ queue_from b.messages b.full b.high b.low = cc in
     made
 
--- the chains of a store are its queues
+-- the chains of a store make its queues
 pub store_queues : (own : ℕ → ℕ × ℕ) (s : Slab Node) (chains : List Chain) (queues : List Queue) (loose : ℕ)
     → IsStore own s chains queues loose → map (queue_of s) chains ≡ queues
 store_queues own s chains queues loose st =
@@ -41,18 +41,18 @@ store_queues own s chains queues loose st =
     ∙ same_queue _ _ (ap (λ n. walk s n (get_or chains i no_chain).first) l.count
     ∙ walk_chain own s i l.rank _ _ _ l.nodes) l.full l.high l.low)
 
--- what a contract sees of chains is their queues, by those chains that are there
+-- contracts see the queues of the chains whose places exist
 slots_map : (s : Slab Node) (chains : List Chain) → map (slot_of s) chains ≡ slots chains (map (queue_of s) chains)
 slots_map s [] = refl
 slots_map s (chain ∷ chains) = ap (λ rest. slot_of s chain ∷ rest) (slots_map s chains)
 
--- what a contract sees of the chains of a store is the store's queues, by those chains that are there
+-- for the chains of a store, contracts see the store's queues of the places that exist
 pub store_slots : (own : ℕ → ℕ × ℕ) (s : Slab Node) (chains : List Chain) (queues : List Queue) (loose : ℕ)
     → IsStore own s chains queues loose → map (slot_of s) chains ≡ slots chains queues
 store_slots own s chains queues loose st =
     slots_map s chains ∙ ap (slots chains) (store_queues own s chains queues loose st)
 
--- with another chain and queue at a number, what a contract sees changes at that number alone
+-- after setting a chain and its queue at a number, contracts see a change only at this number
 pub slots-set : (chains : List Chain) (queues : List Queue) (p : ℕ) (after : Chain) (q : Queue) → p < length chains
     → length queues ≡ length chains → slots (set chains p after) (set queues p q)
     ≡ set (slots chains queues) p (slot after q)
@@ -62,7 +62,7 @@ slots-set (chain ∷ chains) (x ∷ queues) zero after q within many = refl
 slots-set (chain ∷ chains) (x ∷ queues) (suc p) after q within many =
     ap (λ rest. slot chain x ∷ rest) (slots-set chains queues p after q (omega (arith, within)) (omega (arith, many)))
 
--- with a chain and a queue more at the end, a contract sees what they make behind the rest
+-- after appending a chain and its queue, contracts see the new slot after the others
 pub slots-push : (chains : List Chain) (queues : List Queue) (after : Chain) (q : Queue) → length queues ≡ length chains
     → slots (chains ++ after ∷ []) (queues ++ q ∷ []) ≡ slots chains queues ++ slot after q ∷ []
 slots-push [] [] after q many = refl
@@ -71,13 +71,13 @@ slots-push (chain ∷ chains) [] after q many = absurd (omega (arith, many))
 slots-push (chain ∷ chains) (x ∷ queues) after q many =
     ap (λ rest. slot chain x ∷ rest) (slots-push chains queues after q (omega (arith, many)))
 
--- a place that a contract sees is there
+-- the place p has a chain, and exists
 pub record IsThere (chains : List Chain) (queues : List Queue) (p : ℕ) : Type 0 where
   pub below : p < length chains
   pub there : (get_or chains p no_chain).there ≡ true
   pub same : queue_at (slots chains queues) p ≡ get_or queues p no_queue
 
--- a chain that has a slot is there
+-- a chain with a visible queue has an existing place
 slot_there : (chain : Chain) (q : Queue) → IsSome (slot chain q) → chain.there ≡ true
 slot_there chain q some = by chain.there some
   where
@@ -85,7 +85,7 @@ slot_there chain q some = by chain.there some
     by true some = refl
     by false some = absurd (cc)
 
--- a place that a contract sees has a chain that is there, and its queue
+-- a place that contracts see has a chain, and exists
 pub place_there : (chains : List Chain) (queues : List Queue) (p : ℕ) → IsPlace (slots chains queues) p
     → IsThere chains queues p
 place_there [] queues p is = absurd (cc)
@@ -105,7 +105,7 @@ place_there (chain ∷ chains) (q ∷ queues) (suc p) is =
       same = r.same;
     }
 
--- a contract sees a place that is there
+-- contracts see each place that exists
 pub there_shown : (chains : List Chain) (queues : List Queue) (p : ℕ) → length queues ≡ length chains
     → p < length chains → (get_or chains p no_chain).there ≡ true → IsPlace (slots chains queues) p
 there_shown [] queues p many below there = absurd (omega (arith, below))

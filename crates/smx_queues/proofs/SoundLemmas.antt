@@ -1,4 +1,4 @@
--- What a store and its chains are seen as, and what is read of them.
+-- The value of a store and its chains, and what calls read of them.
 use Rattle.std.proofs.Common.{◌≡◌, ◌≢◌, ℕ, ◌+◌, ◌<◌, ◌≤◌, ◌^◌, true, false, List, [], ◌∷◌}
 use Rattle.std.proofs.Common.{length, map, get_or, set, Option, Some, None, refl, sym, ap, ◌∙◌, arith}
 use Rattle.std.specs.List.{sum_by, slice_get}
@@ -22,11 +22,11 @@ use Rattle.smx_queues.proofs.StoreLemmas.{size, detached_queue, store_grown}
 abbrev pub queues_of : QueueTable → List (Option Queue)
 queues_of t = t.queues
 
--- how many messages can arrive at a table without memory
+-- the number of messages that can arrive at a table without an allocation
 abbrev pub spare_of : QueueTable → ℕ
 spare_of t = t.spare
 
--- a table is seen with as many queues as it has chains
+-- the value of a table has as many queues as the table has chains
 pub as_many : (s : Slab Node) (chains : List Chain) (spare : ℕ) (t : QueueTable)
     → ◌≡◌ {A = QueueTable} (record { queues = map (slot_of s) chains; spare = spare }) t
     → length chains ≡ length t.queues
@@ -36,17 +36,17 @@ as_many s chains spare t is = sym (length-map chains (slot_of s)) ∙ ap (λ (x 
 abbrev pub slots_of : Slab Node → List (Option Node)
 slots_of s = s.slots
 
--- these fields are sound, and are seen as this
+-- the fields are sound, and this is their value
 pub record IsSeen (s : Slab Node) (chains : List Chain) (view : List (Option Queue)) : Type 0 where
   pub sound : IsSound s chains
   pub is : map (slot_of s) chains ≡ view
 
--- fields that are the same as others are seen as the same
+-- equal fields have equal values
 pub seen_same : (s s' : Slab Node) (chains chains' : List Chain) (view view' : List (Option Queue)) → s ≡ s'
     → chains ≡ chains' → view ≡ view' → IsSeen s' chains' view' → IsSeen s chains view
 seen_same s s' chains chains' view view' e f g seen = rw (e, f, g) seen
 
--- a store in which each node is in one chain is sound, and is seen as its queues
+-- a store with each node in one chain is sound, and its value is its queues
 pub seen_store : (own : ℕ → ℕ × ℕ) (s : Slab Node) (chains : List Chain) (queues : List Queue)
     → IsStore own s chains queues 0 → IsSeen s chains (slots chains queues)
 seen_store own s chains queues st =
@@ -55,7 +55,7 @@ seen_store own s chains queues st =
       is = store_slots own s chains queues 0 st;
     }
 
--- a store without slots is sound without chains
+-- a store without slots and without chains is sound
 pub sound_empty : (s : Slab Node) (chains : List Chain) → s.slots ≡ [] → chains ≡ [] → IsSound s chains
 sound_empty s chains none no_chains =
     record {
@@ -68,7 +68,7 @@ sound_empty s chains none no_chains =
       };
     }
 
--- the chain that was read at a number is there, and is the queue that a contract sees
+-- the chain that was read at a number exists there, and is the queue that contracts see
 pub record IsAt (own : ℕ → ℕ × ℕ) (s : Slab Node) (chains : List Chain) (view : List (Option Queue)) (p : ℕ)
     (chain : Chain) : Type 0 where
   pub below : p < length chains
@@ -76,7 +76,7 @@ pub record IsAt (own : ℕ → ℕ × ℕ) (s : Slab Node) (chains : List Chain)
   pub read : chain ≡ get_or chains p no_chain
   pub queue : IsQueue own s p chain (queue_at view p)
 
--- the chain that was read at a place's number is there, and is the queue that a contract sees
+-- the chain that was read at a place's number exists there, and is the queue that contracts see
 pub place_at : (s : Slab Node) (chains : List Chain) (sound : IsSound s chains) (view : List (Option Queue))
     → map (slot_of s) chains ≡ view → (p : ℕ) → IsPlace view p → (chain : Chain) → chain ≡ get_or chains p chain
     → IsAt sound.own s chains view p chain
@@ -91,7 +91,7 @@ place_at s chains sound view is p there chain read =
       queue = rw (e, same, t.same) (sound.store.each p t.below);
     }
 
--- the last node of a chain that has some is in the store
+-- the last node of a chain with nodes is in the store
 pub last_there : (own : ℕ → ℕ × ℕ) (s : Slab Node) (p : ℕ) (chain : Chain) (q : Queue) → IsQueue own s p chain q
     → 0 < chain.count → ContainsKey s chain.last
 last_there own s p chain q l some = by q.messages l.nodes l.count
@@ -103,14 +103,14 @@ last_there own s p chain q l some = by q.messages l.nodes l.count
         let t = last_owner own s p l.rank _ m rest _ c in
         rw t.2.1 refl
 
--- a key that had a node has it after an insert
+-- a key with a node still has a node after an insertion
 pub kept_there : (s s1 : Slab Node) (key other : ℕ) (node : Node) → Updates s s1 key (Some node) → get s key ≡ None
     → ContainsKey s other → ContainsKey s1 other
 kept_there s s1 key other node new vacant there =
     let differs : other ≢ key = λ e. let v = ap (get s) e ∙ vacant in absurd (let w = rw v at there in cc) in
     rw (new.others other differs) there
 
--- a chain has a first node, with the first message of its queue
+-- the chain has a first node, with the first message of its queue
 pub record IsFirst (s : Slab Node) (chain : Chain) (q : Queue) : Type 0 where
   pub message : Message
   pub rest : List Message
@@ -122,7 +122,7 @@ pub record IsFirst (s : Slab Node) (chain : Chain) (q : Queue) : Type 0 where
   pub some : 0 < size message
   pub few : size message < 2 ^ 63
 
--- a chain that has nodes has a first one, with the first message of its queue
+-- a chain with nodes has a first node, with the first message of its queue
 pub first_of : (own : ℕ → ℕ × ℕ) (s : Slab Node) (p : ℕ) (chain : Chain) (q : Queue) → IsQueue own s p chain q
     → 0 < chain.count → IsFirst s chain q
 first_of own s p chain q l some = by q.messages refl
@@ -149,7 +149,7 @@ pub first_is : (s : Slab Node) (chain : Chain) (q : Queue) (node : Node) (f : Is
     → get s chain.first ≡ Some node → node_from f.message f.next ≡ node
 first_is s chain q node f found = same_Some _ _ (sym f.found ∙ found)
 
--- the bytes of the first message are no more than those of its chain
+-- the first message of a chain has at most as many bytes as the chain
 pub first_within : (s : Slab Node) (chain : Chain) (q : Queue) (node : Node) (bytes : List ℕ) → IsFirst s chain q
     → get s chain.first ≡ Some node → bytes ≡ node.message.bytes → length bytes ≤ chain.bytes
 first_within s chain q node bytes f found are =
@@ -160,7 +160,7 @@ first_within s chain q node bytes f found are =
       ap (λ (b : List ℕ). length b) are,
     )
 
--- the first message has fewer bytes than 2 to the 63rd
+-- the first message has fewer than 2 to the 63rd bytes
 pub first_few : (s : Slab Node) (chain : Chain) (q : Queue) (node : Node) (bytes : List ℕ) → IsFirst s chain q
     → get s chain.first ≡ Some node → bytes ≡ node.message.bytes → length bytes < 2 ^ 63
 first_few s chain q node bytes f found are =
@@ -171,33 +171,33 @@ first_few s chain q node bytes f found are =
       ap (λ (b : List ℕ). length b) are,
     )
 
--- the message of a chain's first node is the first of the queue
+-- the message of a chain's first node is the first message of the queue
 pub first_message_is : (s : Slab Node) (chain : Chain) (q : Queue) (node : Node) (f : IsFirst s chain q)
     → get s chain.first ≡ Some node → Some node.message ≡ slice_get q.messages 0
 first_message_is s chain q node f found =
     rw f.was (ap (λ (x : Node). Some x.message) (sym (first_is s chain q node f found)))
 
--- where a queue has messages, its chain has nodes
+-- if a queue has messages, its chain has nodes
 pub filled : (own : ℕ → ℕ × ℕ) (s : Slab Node) (p : ℕ) (chain : Chain) (q : Queue) → IsQueue own s p chain q
     → 0 < length q.messages → 0 < chain.count
 filled own s p chain q l some = omega (arith, l.count)
 
--- where one chain changes, another is read as it was
+-- a change of one chain doesn't change what is read of another one
 pub read_other : (chains : List Chain) (p q : ℕ) (after chain : Chain) → p ≢ q
     → chain ≡ get_or (set chains p after) q chain → chain ≡ get_or chains q chain
 read_other chains p q after chain differ read =
     read ∙ get_or-set_other chains p q after chain (λ e. differ (sym e))
 
--- what is read twice at a place's number is the same
+-- two reads at a place's number give the same chain
 pub read_twice : (chains : List Chain) (p : ℕ) (x y : Chain) → p < length chains → x ≡ get_or chains p x
     → y ≡ get_or chains p y → y ≡ x
 read_twice chains p x y below first second = second ∙ (get_or_default chains p y x below ∙ sym first)
 
--- a place is still there once another chain was replaced
+-- a number of a chain is still one after another chain is replaced
 pub second_below : (chains : List Chain) (p q : ℕ) (after : Chain) → q < length chains → q < length (set chains p after)
 second_below chains p q after below = omega (arith, below, length-set chains p after)
 
--- two chains together have no more nodes than all chains
+-- two chains have at most as many nodes together as all chains
 two_counts : (chains : List Chain) (p q : ℕ) (first second : Chain) → p < length chains → q < length chains → q ≢ p
     → first ≡ get_or chains p no_chain → second ≡ get_or chains q no_chain
     → first.count + second.count ≤ sum_by (λ (chain : Chain). chain.count) chains
@@ -209,7 +209,7 @@ two_counts chains p q first second p_in q_in differ read_first read_second =
     let e = ap count (get_or-set_other chains p q no_chain no_chain differ) in
     omega (arith, a, b, e, ap count read_first, ap count read_second)
 
--- two chains together have no more nodes than the store
+-- two chains have at most as many nodes together as the store
 pub counts_fit : (s : Slab Node) (chains : List Chain) (sound : IsSound s chains) (view : List (Option Queue)) (p q : ℕ)
     (first second : Chain) → IsAt sound.own s chains view p first → IsAt sound.own s chains view q second → p ≢ q
     → first.count + second.count ≤ slab_len s
@@ -221,7 +221,8 @@ counts_fit s chains sound view p q first second a b differ =
           (λ e. differ (sym e)) a.read b.read,
     )
 
--- where a chain that is there and its queue are set, they are seen at that number, and the rest as before
+-- after setting a chain whose place exists and its queue, contracts see this queue at its number, and the others
+-- unchanged
 pub set_seen : (own : ℕ → ℕ × ℕ) (s : Slab Node) (chains : List Chain) (queues : List Queue) (p : ℕ) (after : Chain)
     (q : Queue) → p < length chains → length queues ≡ length chains → after.there ≡ true
     → IsStore own s (set chains p after) (set queues p q) 0
@@ -231,19 +232,19 @@ set_seen own s chains queues p after q below many there st =
     seen_same s s _ _ _ _ refl refl (ap (set (slots chains queues) p) (sym shown)
     ∙ sym (slots-set chains queues p after q below many)) (seen_store own s _ _ st)
 
--- a store of the same slots with other room is seen as before
+-- a store with the same slots and another capacity has the same value
 pub seen_grown : (s s' : Slab Node) (chains : List Chain) (view : List (Option Queue)) → s'.slots ≡ s.slots
     → IsSound s chains → map (slot_of s) chains ≡ view → IsSeen s' chains view
 seen_grown s s' chains view same sound is =
     let seen = seen_store _ s' chains _ (store_grown _ s s' chains _ 0 same sound.store) in
     seen_same s' s' chains chains _ _ refl refl (sym is ∙ store_slots _ _ _ _ _ sound.store) seen
 
--- what a contract sees is the queues of those chains that are there
+-- the value is the queues of the chains whose places exist
 pub view_slots : (s : Slab Node) (chains : List Chain) (sound : IsSound s chains) (view : List (Option Queue))
     → map (slot_of s) chains ≡ view → view ≡ slots chains sound.queues
 view_slots s chains sound view is = sym is ∙ store_slots _ _ _ _ _ sound.store
 
--- the chain of a place's number is there, and is the queue that a contract sees
+-- the chain at a place's number exists, and is the queue that contracts see
 pub there_at : (s : Slab Node) (chains : List Chain) (sound : IsSound s chains) (view : List (Option Queue))
     → map (slot_of s) chains ≡ view → (p : ℕ) → IsPlace view p
     → IsAt sound.own s chains view p (get_or chains p no_chain)
@@ -260,7 +261,7 @@ open_has_few s chains sound view is p there unmarked =
     let l = (there_at s chains sound view is p there).queue in
     omega (arith, l.open_below_high unmarked, l.high_bounded)
 
--- a chain that is there is a place
+-- a chain whose place exists is a place that contracts see
 pub place_is : (s : Slab Node) (chains : List Chain) (sound : IsSound s chains) (view : List (Option Queue))
     → map (slot_of s) chains ≡ view → (p : ℕ) (chain : Chain) → p < length chains → chain ≡ get_or chains p chain
     → chain.there ≡ true → IsPlace view p

@@ -7,14 +7,14 @@ use Rattle.std.proofs.lemmas.Option.{slice_get-get_or}
 use Rattle.smx_types.specs.declared.driver.DriverSpec.{DriverSpec}
 use Rattle.smx_types.specs.declared.stream.Place.{Place}
 use Rattle.smx_model.specs.DriverList.{minors_of}
-use Rattle.smx_queues.specs.PlaceLists.{ArePlaces, sides_of}
+use Rattle.smx_queues.specs.PlaceLists.{ArePlaces, driver_row, sides_of}
 use Rattle.smx_queues.specs.declared.places.DriverRow.{DriverRow}
-use Rattle.smx_queues.proofs.NumberLemmas.{one_driver_more, row_behind}
+use Rattle.smx_queues.proofs.NumberLemmas.{one_driver_more}
 
 -- with both sides of the minors of the next driver of a list, the places are those of one driver more
 pub next_driver : (drivers : List DriverSpec) (i : ℕ) (rows new : List DriverRow) (places more : List Place)
     → i < length drivers → ArePlaces (take i drivers) rows places
-    → new ≡ rows ++ record { first = length places; minors = minors_of drivers i } ∷ []
+    → new ≡ rows ++ driver_row (length places) (minors_of drivers i) ∷ []
     → more ≡ places ++ sides_of i (minors_of drivers i)
     → ArePlaces (take (i + 1) drivers) new more
 next_driver [] i rows new places more lt h e f = absurd (omega arith)
@@ -31,6 +31,7 @@ next_driver (first ∷ rest) i rows new places more lt h e f =
     ∙ ap (λ (ps : List Place). places ++ ps) (sym sides) in
     subst (λ (ds : List DriverSpec). ArePlaces ds new more) (sym (take_more drivers i first lt))
     (subst (λ (rs : List DriverRow). ArePlaces (take i drivers ++ d ∷ []) rs more)
-    (ap (λ (n : ℕ). rows ++ record { first = length places; minors = n } ∷ []) minors ∙ sym e)
-    (subst (λ (ps : List Place). ArePlaces (take i drivers ++ d ∷ []) (rows ++ row_behind places d ∷ []) ps)
+    (ap (λ (n : ℕ). rows ++ driver_row (length places) n ∷ []) minors ∙ sym e)
+    (subst (λ (ps : List Place). ArePlaces (take i drivers ++ d ∷ []) (rows ++ driver_row (length places) d.minors
+    ∷ []) ps)
     (sym places_are) one))

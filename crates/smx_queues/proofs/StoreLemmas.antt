@@ -1,4 +1,4 @@
--- What each change of the store and of a chain keeps.
+-- The properties that each change of the store and of a chain keeps.
 use Rattle.std.proofs.Common.{◌≡◌, ◌≢◌, ℕ, suc, ◌+◌, ◌<◌, ◌≤◌, ◌-◌, ◌^◌, Bool, true, false, nat_eq, nat_lt}
 use Rattle.std.proofs.Common.{◌&&◌, List, [], ◌∷◌, ◌++◌, length, get_or, set, Option, Some, None, is_some}
 use Rattle.std.proofs.Common.{count_by, refl, sym, ap, subst, ◌∙◌, inl, inr, arith, add-zero}
@@ -20,15 +20,15 @@ use Rattle.smx_queues.specs.Chains.{no_chain, no_queue, with_follower}
 use Rattle.smx_queues.proofs.ChainLemmas.{owned, owned-same, owned-other, frame, last_owner, chain_more}
 use Rattle.smx_queues.proofs.FollowLemmas.{node_from, follows_none, follower_updates, follower_kept, follower_counted}
 
--- how many bytes a message has
+-- the number of bytes of a message
 abbrev pub size : Message → ℕ
 size m = length m.bytes
 
--- a queue of which these messages are left
+-- the queue with these messages left
 abbrev pub left_with : Queue → List Message → Queue
 left_with q rest = record q { messages = rest; full = full_after_leaving q.full q.low (bytes_of rest) }
 
--- a change that no node of the place sees keeps its queue
+-- a change that affects no node of a place keeps its queue
 pub queue_kept : (own own' : ℕ → ℕ × ℕ) (s s' : Slab Node) (p : ℕ) (chain : Chain) (q : Queue)
     → ((x : ℕ) (node : Node) → get s x ≡ Some node → (own x).0 ≡ p → (get s' x ≡ get s x) × (own' x ≡ own x))
     → IsQueue own s p chain q → IsQueue own' s' p chain q
@@ -48,7 +48,7 @@ queue_kept own own' s s' p chain q kept l =
       none_if_gone = l.none_if_gone;
     }
 
--- with a new node that is in no chain yet, each chain is its queue still, and one node more is in no chain
+-- after inserting a node that is in no chain yet, each chain still makes its queue, and one node is in no chain
 pub store_insert : (own : ℕ → ℕ × ℕ) (s s' : Slab Node) (chains : List Chain) (queues : List Queue) (key : ℕ)
     (node : Node) → IsStore own s chains queues 0 → get s key ≡ None → Updates s s' key (Some node)
     → slab_len s' ≡ slab_len s + 1 → IsStore (owned own key (length chains, 0)) s' chains queues 1
@@ -61,7 +61,7 @@ store_insert own s s' chains queues key node st vacant new len =
       counted = omega (arith, st.counted);
     }
 
--- where the one node that is in no chain goes, each chain is its queue still, and no node is in no chain
+-- after removing the one node that is in no chain, each chain still makes its queue, and each node is in a chain
 pub store_remove : (own : ℕ → ℕ × ℕ) (s s' : Slab Node) (chains : List Chain) (queues : List Queue) (key : ℕ)
     → IsStore own s chains queues 1 → (own key).0 ≡ length chains → Updates s s' key None → slab_len s' + 1 ≡ slab_len s
     → IsStore own s' chains queues 0
@@ -74,7 +74,7 @@ store_remove own s s' chains queues key st apart new len =
       counted = omega (arith, st.counted);
     }
 
--- where one chain and its queue are set, and each other chain is its queue, all chains are their queues
+-- if a chain makes its queue, and so does each other chain, all chains do after this one and its queue are set
 each_set : (own : ℕ → ℕ × ℕ) (s : Slab Node) (chains : List Chain) (queues : List Queue) (p : ℕ) (chain : Chain)
     (q : Queue) → p < length chains → length queues ≡ length chains → IsQueue own s p chain q
     → ((i : ℕ) → i < length chains → i ≢ p → IsQueue own s i (get_or chains i no_chain) (get_or queues i no_queue))
@@ -93,7 +93,7 @@ each_set own s chains queues p chain q within many new others i below =
       ) (others i (omega (arith, length-set chains p chain)) differs)
     ]
 
--- where the first node leaves its chain and stays in the store, the chain is its queue without the first message
+-- after the first node leaves its chain, but stays in the store, the chain makes its queue without the first message
 pub detached_queue : (own own' : ℕ → ℕ × ℕ) (s : Slab Node) (p : ℕ) (chain : Chain) (q : Queue) (m : Message)
     (rest : List Message) → q.messages ≡ m ∷ rest → IsQueue own s p chain q
     → ((x : ℕ) → x ≢ chain.first → own' x ≡ own x)
@@ -147,7 +147,7 @@ detached_queue own own' s p chain q m rest are l kept =
           (All-tail HasBytesThatFit m (m2 ∷ rest) have),
     )
 
--- where the first node of a chain leaves it and stays in the store, one node more is in no chain
+-- after the first node leaves its chain, but stays in the store, one more node is in no chain
 pub store_detach : (own : ℕ → ℕ × ℕ) (s : Slab Node) (chains : List Chain) (queues : List Queue) (loose p : ℕ)
     (m : Message) (rest : List Message) → IsStore own s chains queues loose → p < length chains
     → (get_or queues p no_queue).messages ≡ m ∷ rest
@@ -179,11 +179,11 @@ store_detach own s chains queues loose p m rest st within are =
       },
     )
 
--- with a message more at the end there are so many bytes more
+-- one more message at the end adds its bytes
 bytes_more : (ms : List Message) (m : Message) → bytes_of (ms ++ m ∷ []) ≡ bytes_of ms + size m
 bytes_more ms m = omega (arith, sum_by-append size ms (m ∷ []), sum_by-cons size m [])
 
--- with a node more behind its last one, a chain holds one message more
+-- with one more node after its last one, a chain has one more message
 attached_chain : (own : ℕ → ℕ × ℕ) (s : Slab Node) (p rank : ℕ) (chain : Chain) (ms : List Message) (key : ℕ)
     (node : Node) → IsChain own s p rank chain.first ms chain.last → chain.count ≡ length ms → get s key ≡ Some node
     → (own key).0 ≢ p → IsChain (owned own key (p, rank + length ms)) (with_follower s chain key) p rank
@@ -209,7 +209,7 @@ attached_chain own s p rank chain (m ∷ rest) key node c count found apart =
     (chain_more own _ s (with_follower s chain key) p rank chain.first m rest chain.last key node c apart found
     (λ x other. owned-other own key _ x other) (ap (λ o. o.0) o) (ap (λ o. o.1) o) u.others changed)
 
--- with a node more behind its last one, a chain is its queue after the arrival of that message
+-- with one more node after its last one, a chain makes its queue after the arrival of this message
 attached_queue : (own : ℕ → ℕ × ℕ) (s : Slab Node) (p : ℕ) (chain : Chain) (q : Queue) (key : ℕ) (node : Node)
     (l : IsQueue own s p chain q) → chain.there ≡ true → get s key ≡ Some node → (own key).0 ≢ p → 0 < size node.message
     → size node.message < 2 ^ 63 → IsQueue (owned own key (p, l.rank + length q.messages)) (with_follower s chain key) p
@@ -232,7 +232,7 @@ attached_queue own s p chain q key node l there found apart some few =
       none_if_gone = λ gone. absurd (let e = sym there ∙ gone in cc);
     }
 
--- where a node of no chain becomes the last of one, that chain is its queue after the arrival of its message
+-- after a node of no chain is added at the end of a chain, this chain makes its queue after the arrival of the message
 pub store_attach : (own : ℕ → ℕ × ℕ) (s : Slab Node) (chains : List Chain) (queues : List Queue) (loose p key : ℕ)
     (node : Node) → IsStore own s chains queues (loose + 1) → p < length chains
     → (get_or chains p no_chain).there ≡ true → get s key ≡ Some node → (own key).0 ≡ length chains
@@ -266,14 +266,14 @@ store_attach own s chains queues loose p key node st within there found apart so
 abbrev pub bare_queue : Chain → Queue
 bare_queue chain = record { messages = []; full = chain.full; high = chain.high; low = chain.low }
 
--- a chain without nodes
+-- the chain has no nodes
 pub record IsBare (chain : Chain) : Type 0 where
   pub count : chain.count ≡ 0
   pub bytes : chain.bytes ≡ 0
   pub high_bounded : chain.high ≤ 4096
   pub low_below : chain.low < chain.high
 
--- a chain without nodes is the queue without messages, with its marks
+-- a chain without nodes makes a queue without messages, with the chain's marks
 pub bare_is : (own : ℕ → ℕ × ℕ) (s : Slab Node) (p : ℕ) (chain : Chain) → IsBare chain
     → IsQueue own s p chain (bare_queue chain)
 bare_is own s p chain bare =
@@ -292,7 +292,7 @@ bare_is own s p chain bare =
       none_if_gone = λ _. refl;
     }
 
--- where a chain without nodes takes the place of one without messages, all chains are their queues
+-- after a chain without messages is replaced by one without nodes, all chains make their queues
 pub store_reset : (own : ℕ → ℕ × ℕ) (s : Slab Node) (chains : List Chain) (queues : List Queue) (loose p : ℕ)
     (after : Chain) → IsStore own s chains queues loose → p < length chains → (get_or queues p no_queue).messages ≡ []
     → IsBare after → IsStore own s (set chains p after) (set queues p (bare_queue after)) loose
@@ -312,7 +312,7 @@ store_reset own s chains queues loose p after st within none bare =
       );
     }
 
--- with a chain without nodes behind all others, all chains are their queues
+-- after appending a chain without nodes, all chains make their queues
 pub store_push : (own : ℕ → ℕ × ℕ) (s : Slab Node) (chains : List Chain) (queues : List Queue) (loose : ℕ)
     (after : Chain) → IsStore own s chains queues loose → IsBare after
     → IsStore own s (chains ++ after ∷ []) (queues ++ bare_queue after ∷ []) loose
@@ -336,7 +336,7 @@ store_push own s chains queues loose after st bare =
       counted = omega (arith, st.counted, bare.count, sum_by_push (λ (chain : Chain). chain.count) chains after);
     }
 
--- a store of the same slots with other room has the same chains and queues
+-- a store with the same slots and another capacity has the same chains and queues
 pub store_grown : (own : ℕ → ℕ × ℕ) (s s' : Slab Node) (chains : List Chain) (queues : List Queue) (loose : ℕ)
     → s'.slots ≡ s.slots → IsStore own s chains queues loose → IsStore own s' chains queues loose
 store_grown own s s' chains queues loose same st =
@@ -347,7 +347,8 @@ store_grown own s s' chains queues loose same st =
       counted = ap (λ (slots : List (Option Node)). count_by is_some slots) same ∙ st.counted;
     }
 
--- with another mark, which is no mark only where there are few bytes, a chain is its queue with that mark
+-- with another full mark, a chain makes its queue with this mark, if a queue without the mark has fewer bytes than its
+-- high water mark
 pub store_marked : (own : ℕ → ℕ × ℕ) (s : Slab Node) (chains : List Chain) (queues : List Queue) (loose p : ℕ)
     (full : Bool) → IsStore own s chains queues loose → p < length chains
     → (full ≡ false → bytes_of (get_or queues p no_queue).messages < (get_or queues p no_queue).high)

@@ -23,11 +23,11 @@ pub walk_len : (own : ℕ → ℕ × ℕ) (s : Slab Node) (p : ℕ) (chain : Cha
     → length (walk s chain.count chain.first) ≡ chain.count
 walk_len own s p chain q l = ap (λ (ms : List Message). length ms) (walk_all own s p chain q l) ∙ sym l.count
 
--- lists that are the same have the same first element and the same rest
+-- equal lists have equal first items and equal rests
 heads_same : (a b : Message) (xs ys : List Message) → a ∷ xs ≡ b ∷ ys → (a ≡ b) × (xs ≡ ys)
 heads_same a b xs ys e = (cc, cc)
 
--- the node that a walk is at, where it has a message to come
+-- the node at which a walk is, if a message is left
 pub record Step (s : Slab Node) (key k : ℕ) (ms : List Message) : Type 0 where
   pub node : Node
   pub found : get s key ≡ Some node
@@ -35,7 +35,7 @@ pub record Step (s : Slab Node) (key k : ℕ) (ms : List Message) : Type 0 where
   pub is : slice_get ms k ≡ Some node.message
   pub later : walk s (length ms - (k + 1)) node.next ≡ drop (k + 1) ms
 
--- where a walk has met k messages and there are more, it is at a node with the next one
+-- after k messages of a walk, if more are left, the walk is at a node with the next one
 pub walk_step : (s : Slab Node) (key k : ℕ) (ms : List Message) (count : ℕ) → count ≡ length ms → k < count
     → walk s (count - k) key ≡ drop k ms → Step s key k ms
 walk_step s key k ms count many more walked = by (get s key) refl
@@ -64,20 +64,20 @@ walk_step s key k ms count many more walked = by (get s key) refl
               later = same.1;
             }
 
--- a walk begins at the first node, with all messages to come
+-- a walk starts at the first node, with all messages left
 pub walk_start : (own : ℕ → ℕ × ℕ) (s : Slab Node) (p : ℕ) (chain : Chain) (q : Queue) → IsQueue own s p chain q
     → walk s (length q.messages - 0) chain.first ≡ drop 0 q.messages
 walk_start own s p chain q l =
     let same : length q.messages - 0 ≡ length q.messages = omega arith in
     ap (λ n. walk s n chain.first) same ∙ walk_chain own s p l.rank _ _ _ l.nodes
 
--- behind the node that a walk is at, the walk meets the later messages
+-- from the node after the current one, the walk meets the later messages
 pub step_next : (s : Slab Node) (key k : ℕ) (ms : List Message) (node : Node) → Step s key k ms → get s key ≡ Some node
     → walk s (length ms - (k + 1)) node.next ≡ drop (k + 1) ms
 step_next s key k ms node step found =
     ap (λ (x : Node). walk s (length ms - (k + 1)) x.next) (same_Some _ _ (sym found ∙ step.found)) ∙ step.later
 
--- the message of the node that a walk is at is the next of the queue
+-- the message of the current node is the next one of the queue
 pub step_is : (s : Slab Node) (key k i : ℕ) (ms : List Message) (node : Node) → Step s key k ms → get s key ≡ Some node
     → k ≡ i → Some node.message ≡ slice_get ms i
 step_is s key k i ms node step found same =

@@ -9,17 +9,17 @@ use Rattle.smx_queues.specs.declared.node.Node.{Node}
 use Rattle.smx_model.specs.Queues.{bytes_of, full_after_arrival, full_after_leaving}
 use Rattle.smx_queues.specs.QueueTable.{Queue, empty_queue}
 
--- the message of a node, and what is found from the next key on
+-- the message of a node, and those from the next key on
 abbrev pub walk_on : (ℕ → List Message) → Option Node → List Message
 walk_on later None = []
 walk_on later (Some node) = node.message ∷ later node.next
 
--- so many messages, from the node of this key on
+-- at most n messages, from the node with this key on
 abbrev pub walk : Slab Node → ℕ → ℕ → List Message
 walk s zero key = []
 walk s (suc n) key = walk_on (walk s n) (get s key)
 
--- the queue that a chain is
+-- the queue that a chain makes
 abbrev pub queue_of : Slab Node → Chain → Queue
 queue_of s chain = record {
   messages = walk s chain.count chain.first;
@@ -28,11 +28,11 @@ queue_of s chain = record {
   low = chain.low;
 }
 
--- the queue of a place that is there
+-- the queue of the chain's place, if the place exists
 abbrev pub slot_of : Slab Node → Chain → Option Queue
 slot_of s chain = if chain.there then Some (queue_of s chain) else None
 
--- a place without messages
+-- the chain of a new place without messages
 abbrev pub new_chain : ℕ → ℕ → Chain
 new_chain above below = record {
   there = true;
@@ -45,7 +45,7 @@ new_chain above below = record {
   low = below;
 }
 
--- without nodes, and full, so that no arrival of a copied message changes its mark
+-- the chain without nodes, and marked as full, so that the arrival of a copied message doesn't change the mark
 abbrev pub chain_to_fill : Chain → Chain
 chain_to_fill chain = record {
   there = chain.there;
@@ -58,7 +58,7 @@ chain_to_fill chain = record {
   low = chain.low;
 }
 
--- with one node more at the end, whose message has so many bytes
+-- the chain with one more node at the end, whose message has this number of bytes
 abbrev pub chain_with_last : Chain → ℕ → ℕ → Chain
 chain_with_last chain key size = record {
   there = chain.there;
@@ -71,7 +71,7 @@ chain_with_last chain key size = record {
   low = chain.low;
 }
 
--- without the first node, whose message had so many bytes, and behind which another stands
+-- the chain without its first node, whose message had this number of bytes; the next node is now the first
 abbrev pub chain_without_first : Chain → ℕ → ℕ → Chain
 chain_without_first chain next size = record {
   there = chain.there;
@@ -84,19 +84,19 @@ chain_without_first chain next size = record {
   low = chain.low;
 }
 
--- the store where the node of this key names another one behind it
+-- the store after the node with this key gets this successor
 abbrev pub with_next : Slab Node → ℕ → ℕ → Slab Node
 with_next s at key = named (get s at) where
   named : Option Node → Slab Node
   named None = s
   named (Some node) = with_value s at (record node { next = key })
 
--- the store where the last node of a chain, if there is one, names this one behind it
+-- the store after the last node of a chain, if there is one, gets this successor
 abbrev pub with_follower : Slab Node → Chain → ℕ → Slab Node
 with_follower s chain key = if chain.count == 0 then s else with_next s chain.last key
 
--- the nodes of place p from the key `first` to the key `last` hold these messages. `own` says of each of their keys its
--- place and its rank, which rises by one from node to node: so no node is in two chains or twice in one
+-- the nodes of place p from key `first` to key `last` hold these messages. For each of their keys, `own` gives the
+-- place and the rank. The rank rises by one from node to node, so no node is in two chains or twice in one
 abbrev pub IsChain : (ℕ → ℕ × ℕ) → Slab Node → ℕ → ℕ → ℕ → List Message → ℕ → Type 0
 IsChain own s p rank first [] last = Unit {0}
 IsChain own s p rank first (m ∷ []) last =
@@ -112,11 +112,11 @@ IsChain own s p rank first (m ∷ m2 ∷ rest) last =
     × ((own first).1 ≡ rank)
     × IsChain own s p (suc rank) next (m2 ∷ rest) last
 
--- the message has a byte, and no more than fit in memory
+-- the message has at least one byte, and fewer than 2 to the 63rd
 abbrev pub HasBytesThatFit : Message → Type 0
 HasBytesThatFit m = (0 < length m.bytes) × (length m.bytes < 2 ^ 63)
 
--- the chain of place p is this queue
+-- the chain of place p makes this queue
 pub record IsQueue (own : ℕ → ℕ × ℕ) (s : Slab Node) (p : ℕ) (chain : Chain) (q : Queue) : Type 0 where
   pub rank : ℕ
   pub nodes : IsChain own s p rank chain.first q.messages chain.last
@@ -137,18 +137,18 @@ no_chain = new_chain 0 0
 abbrev pub no_queue : Queue
 no_queue = empty_queue 0 0
 
--- the chain of this number
+-- the chain with this number
 abbrev pub chain_at : List Chain → ℕ → Chain
 chain_at chains p = slice_index_or chains p no_chain
 
--- the chains are these queues, and the store has their nodes and so many others
+-- the chains make these queues; the store has their nodes, and this number of others
 pub record IsStore (own : ℕ → ℕ × ℕ) (s : Slab Node) (chains : List Chain) (queues : List Queue)
     (loose : ℕ) : Type 0 where
   pub as_many : length queues ≡ length chains
   pub each : (p : ℕ) → p < length chains → IsQueue own s p (chain_at chains p) (slice_index_or queues p no_queue)
   pub counted : slab_len s ≡ sum_by (λ (chain : Chain). chain.count) chains + loose
 
--- every node is in one chain
+-- each node is in one chain
 pub record IsSound (s : Slab Node) (chains : List Chain) : Type 0 where
   pub own : ℕ → ℕ × ℕ
   pub queues : List Queue

@@ -5,5 +5,5 @@ pub mod PlaceLists
 pub mod WorkedPlaces
 pub mod FlowTables
 pub mod QueuedMessages
-pub mod PlaceMarks
-pub mod Waiters
+pub mod Bits
+pub mod Rings

@@ -1,13 +1,13 @@
--- A message where it stands in a queue.
+-- Queued messages, and messages that leave a queue, as values of the model.
 use Rattle.smx_types.specs.declared.message.Message.{Message}
 use Rattle.smx_types.specs.declared.stream.Place.{Place}
 use Rattle.smx_model.specs.Configuration.{QueuedMessage}
 use Rattle.smx_queues.specs.declared.queued.Queued.{Queued}
 
--- as the model has it
+-- the queued message
 abbrev pub queued_message : Queued → QueuedMessage
 queued_message q = record { place = q.place; message = q.message.now }
 
--- a message that leaves its place, as the model has it
+-- the message that leaves its place
 abbrev pub leaving_message : Place × Message → QueuedMessage
 leaving_message m = record { place = m.0; message = m.1 }

@@ -1,15 +1,12 @@
-//! Where the nodes of a place begin and end, and what they hold together.
+//! The first and the last node of a place's queue, and the queue's totals and marks.
 
-ghost use Rattle.std.specs.Prelude.{◌≡◌, ◌+◌, ◌<◌, ◌≤◌, ◌^◌, ◌++◌, ◌∷◌, [], not, position, OnOk, OnErr};
-ghost use Rattle.std.specs.List.{repeat};
+ghost use Rattle.std.specs.Prelude.{◌≡◌, ◌+◌, ◌<◌, ◌≤◌, ◌^◌, not, position};
 ghost use Rattle.smx_queues.specs.Chains.{chain_to_fill, chain_with_last, chain_without_first, new_chain};
-
-use smx_types::NoMemory;
 
 /// The nodes of a place, from the first to the last, and its marks.
 #[derive(Clone, Copy, Debug, Drop)]
 pub struct Chain {
-    /// Whether there is such a place.
+    /// Whether the place exists.
     pub there: bool,
     pub full: bool,
     pub first: usize,
@@ -21,7 +18,7 @@ pub struct Chain {
 }
 
 impl Chain {
-    // A place without messages.
+    // Makes the chain of a new place without messages.
     pub fn new(high: usize, low: usize) -> Chain
         ensures { result ≡ new_chain high low }
     {
@@ -37,7 +34,8 @@ impl Chain {
         }
     }
 
-    // Without nodes, and full, so that no arrival of a copied message changes its mark.
+    // Returns the chain without nodes, and marked as full, so that the arrival of a copied message doesn't change the
+    // mark.
     pub fn to_fill(self) -> Chain
         ensures { result ≡ chain_to_fill self }
     {
@@ -53,7 +51,7 @@ impl Chain {
         }
     }
 
-    // One node more at the end, whose message has so many bytes.
+    // Adds a node at the end, whose message has `size` bytes.
     pub fn add_last(&mut self, key: usize, size: usize)
         requires count { self.old.count + 1 < 2 ^ 64 }
         requires bytes { self.old.bytes + size < 2 ^ 64 }
@@ -68,7 +66,7 @@ impl Chain {
         self.full = self.full || self.high <= self.bytes;
     }
 
-    // The first node leaves, whose message had so many bytes, and behind which this one stands.
+    // Removes the first node, whose message has `size` bytes. The node with key `next` is then the first.
     pub fn drop_first(&mut self, next: usize, size: usize)
         requires count { 0 < self.old.count }
         requires bytes { size ≤ self.old.bytes }
@@ -81,21 +79,9 @@ impl Chain {
     }
 }
 
-// The number of the first place that is gone.
+// Returns the number of the first chain whose place doesn't exist.
 pub fn first_gone(chains: &[Chain]) -> Option<usize>
     ensures { result ≡ position (λ c. not c.there) chains.now }
 {
     chains.iter().position(|c| !c.there)
-}
-
-// So many chains more, at the end.
-pub fn push_all(chains: &mut Vec<Chain>, count: usize, chain: Chain) -> Result<(), NoMemory>
-    ensures ok { OnOk result (chains.new.items ≡ chains.old.items ++ repeat count (chain ∷ [])) }
-    ensures err { OnErr result (chains.new.items ≡ chains.old.items) }
-{
-    chains.reserve(count)?;
-    for _i in 0..count {
-        chains.push_reserved(chain);
-    }
-    Ok(())
 }

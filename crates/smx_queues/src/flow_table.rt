@@ -1,8 +1,8 @@
 //! The queued messages and full marks of all places, by place.
 
-ghost use Rattle.std.specs.Prelude.{◌≡◌, ◌+◌, ◌<◌, ◌≤◌, ◌++◌, [], false, true, length, map, vec_capacity};
-ghost use Rattle.std.specs.Prelude.{None, Some, ◌==◌, ◌&&◌, not, option_copied, IfOk, IfNone, IsSome, OnOk, OnSome};
-ghost use Rattle.std.specs.List.{All, list_any};
+ghost use Rattle.std.specs.Prelude.{◌≡◌, ◌≢◌, ◌+◌, ◌<◌, ◌≤◌, ◌^◌, ◌++◌, [], false, true, length, map, slice_get};
+ghost use Rattle.std.specs.Prelude.{vec_capacity, Some, option_copied, IfOk, IfNone, IfSome, IsSome, OnOk, OnSome};
+ghost use Rattle.std.specs.List.{list_any};
 ghost use Rattle.std.specs.Option.{is_some};
 ghost use Rattle.smx_types.specs.declared.message.Message.{Message};
 ghost use Rattle.smx_types.specs.declared.stream.Place.{Place as PlaceValue};
@@ -10,16 +10,15 @@ ghost use Rattle.smx_model.specs.Configuration.{same_place};
 ghost use Rattle.smx_model.specs.DriverList.{IsDriverList};
 ghost use Rattle.smx_model.specs.KnownStreams.{IsKnown};
 ghost use Rattle.smx_model.specs.Queues.{first_message, queue};
-ghost use Rattle.smx_model.specs.RunMarks.{has_addr};
-ghost use Rattle.smx_queues.specs.FlowTables.{after_arrival, after_leaving, fronts_for, without_place};
+ghost use Rattle.smx_queues.specs.FlowTables.{after_arrival, after_leaving, without_place};
+ghost use Rattle.smx_queues.specs.PlaceLists.{places_of};
 
-use crate::busy_queues::BusyQueues;
-use crate::first_messages::FirstMessages;
 use crate::full_places::FullPlaces;
 use crate::leaving_messages::LeavingMessages;
 use crate::places::Places;
 use crate::queued_messages::QueuedMessages;
-use smx_types::{Bytes, DriverSpec, Message, NoMemory, Place};
+use crate::queues::Queues;
+use smx_types::{DriverSpec, Message, NoMemory, Place};
 use std::alloc::Global;
 use std::marker::Model;
 
@@ -27,7 +26,7 @@ use std::marker::Model;
 #[derive(Debug)]
 pub struct FlowTable {
     places: Places,
-    queues: BusyQueues,
+    queues: Queues,
 }
 
 impl Drop for FlowTable {
@@ -42,13 +41,14 @@ impl Drop for FlowTable {
 
 impl Model for FlowTable {
     ghost use Rattle.smx_queues.specs.FlowTables.{FlowLists, flow_of, fulls_of, IsFlow};
+    ghost use Rattle.smx_queues.specs.PlaceLists.{places_of};
 
     ghost Value = { FlowLists };
 
     ghost view = { λ t. record {
-      drivers = t.places.drivers;
-      flow = flow_of t.places.places t.queues.queues;
-      fulls = fulls_of t.places.places t.queues.queues;
+      drivers = t.places;
+      flow = flow_of (places_of t.places) t.queues.queues;
+      fulls = fulls_of (places_of t.places) t.queues.queues;
       spare = t.queues.spare;
     } };
 
@@ -64,7 +64,6 @@ impl FlowTable {
         ensures open { IfOk result (λ t. t.fulls ≡ []) }
     {
         let places = Places::new(alloc, drivers)?;
-        places.rise();
         let queues = places.new_queues(alloc)?;
         Ok(FlowTable { places, queues })
     }
@@ -73,7 +72,58 @@ impl FlowTable {
     pub fn len(&self) -> usize
         ensures { result ≡ length self.now.flow }
     {
-        self.queues.queues().len()
+        self.queues.len()
+    }
+
+    /// How many places there are. Takes no memory.
+    pub fn place_count(&self) -> usize
+        ensures count { result ≡ length (places_of self.now.drivers) }
+        ensures few { result < 2 ^ 63 }
+    {
+        self.places.len()
+    }
+
+    /// The number of the place, if the drivers have it. Takes no memory.
+    pub fn number(&self, place: Place) -> Option<usize>
+        ensures found { IfSome result (λ n. slice_get (places_of self.now.drivers) n ≡ Some place) }
+        ensures known { IsKnown self.now.drivers place.stream → IsSome result }
+    {
+        self.places.number(place)
+    }
+
+    /// The place of a number. Takes no memory.
+    pub fn place_at(&self, n: usize) -> Place
+        requires { n < length (places_of self.now.drivers) }
+        ensures { slice_get (places_of self.now.drivers) n ≡ Some result }
+    {
+        self.places.at(n)
+    }
+
+    /// Whether the place of a number is marked as full. Takes no memory.
+    pub fn is_full_at(&self, n: usize) -> bool
+        requires { n < length (places_of self.now.drivers) }
+        ensures { (p : PlaceValue) → slice_get (places_of self.now.drivers) n ≡ Some p
+            → result ≡ list_any (same_place p) self.now.fulls }
+    {
+        self.queues.is_full(n)
+    }
+
+    /// Whether there is a message at the place of a number. Takes no memory.
+    pub fn has_messages_at(&self, n: usize) -> bool
+        requires { n < length (places_of self.now.drivers) }
+        ensures { (p : PlaceValue) → slice_get (places_of self.now.drivers) n ≡ Some p
+            → result ≡ is_some (first_message self.now.flow p) }
+    {
+        self.queues.message_count(n) > 0
+    }
+
+    /// The first message at the place of a number, if there is one. Takes no memory.
+    pub fn front_at(&self, n: usize) -> Option<&Message>
+        requires { n < length (places_of self.now.drivers) }
+        ensures { (p : PlaceValue) → slice_get (places_of self.now.drivers) n ≡ Some p
+            → option_copied result ≡ first_message self.now.flow p }
+    {
+        self.queues.front(n)
     }
 
     /// Whether the place is marked as full. Takes no memory.
@@ -81,7 +131,7 @@ impl FlowTable {
         ensures { result ≡ list_any (same_place place) self.now.fulls }
     {
         match self.places.number(place) {
-            Some(p) => self.queues.queues().is_full(p),
+            Some(p) => self.queues.is_full(p),
             None => false,
         }
     }
@@ -91,18 +141,7 @@ impl FlowTable {
         ensures { result ≡ is_some (first_message self.now.flow place) }
     {
         match self.places.number(place) {
-            Some(p) => self.queues.has_messages(p),
-            None => false,
-        }
-    }
-
-    /// Whether there is just one message at the place, and the place is not full. Takes no memory.
-    pub fn has_lone_message(&self, place: Place) -> bool
-        ensures { result
-            ≡ ((length (queue self.now.flow place) == 1) && not (list_any (same_place place) self.now.fulls)) }
-    {
-        match self.places.number(place) {
-            Some(p) => self.queues.has_lone_message(p),
+            Some(p) => self.queues.message_count(p) > 0,
             None => false,
         }
     }
@@ -112,7 +151,7 @@ impl FlowTable {
         ensures { option_copied result ≡ first_message self.now.flow place }
     {
         match self.places.number(place) {
-            Some(p) => self.queues.queues().front(p),
+            Some(p) => self.queues.front(p),
             None => None,
         }
     }
@@ -123,23 +162,6 @@ impl FlowTable {
         ensures unchanged { self.new ≡ record self.old { spare = self.new.spare } }
     {
         self.queues.reserve_one()
-    }
-
-    /// These bytes for a message, in the memory of one that has gone where any is kept. Fails only for want of memory.
-    pub fn copied_bytes(&mut self, bytes: &[u8]) -> Result<Bytes, NoMemory>
-        ensures bytes { IfOk result (λ b. b ≡ bytes.now) }
-        ensures unchanged { self.new ≡ self.old }
-    {
-        self.queues.copied_bytes(bytes)
-    }
-
-    /// Keeps the memory of these bytes for a later message, where it is that of a short one. Neither messages nor marks
-    /// change. Takes no memory.
-    #[inline(always)]
-    pub fn keep_bytes(&mut self, bytes: Bytes)
-        ensures { self.new ≡ self.old }
-    {
-        self.queues.keep_bytes(bytes);
     }
 
     /// A message arrives at a place that is not full. Takes no memory.
@@ -166,19 +188,22 @@ impl FlowTable {
         }
     }
 
-    /// The first message of one place leaves it and arrives at another, which is not full. Takes no memory.
+    /// The first message leaves the place of one number and arrives at that of another, which is not full. Takes no
+    /// memory.
     #[inline(always)]
-    pub fn move_front(&mut self, from: Place, to: Place)
-        requires known { IsKnown self.old.drivers to.stream }
-        requires differ { same_place from to ≡ false }
-        requires some { IsSome (first_message self.old.flow from) }
-        requires open { list_any (same_place to) self.old.fulls ≡ false }
-        ensures { (m : Message) → first_message self.old.flow from ≡ Some m
-            → self.new ≡ after_arrival (after_leaving self.old from) to m }
+    pub fn move_front_at(&mut self, from: usize, to: usize)
+        requires from { from < length (places_of self.old.drivers) }
+        requires to { to < length (places_of self.old.drivers) }
+        requires differ { from ≢ to }
+        requires some { (p : PlaceValue) → slice_get (places_of self.old.drivers) from ≡ Some p
+            → IsSome (first_message self.old.flow p) }
+        requires open { (q : PlaceValue) → slice_get (places_of self.old.drivers) to ≡ Some q
+            → list_any (same_place q) self.old.fulls ≡ false }
+        ensures { (p q : PlaceValue) (m : Message) → slice_get (places_of self.old.drivers) from ≡ Some p
+            → slice_get (places_of self.old.drivers) to ≡ Some q → first_message self.old.flow p ≡ Some m
+            → self.new ≡ after_arrival (after_leaving self.old p) q m }
     {
-        let p = self.places.number(from).unwrap();
-        let q = self.places.number(to).unwrap();
-        self.queues.move_front(p, q);
+        self.queues.move_front(from, to);
     }
 
     /// The messages at the place are dropped, and it is not full. Their serials come behind those of a list that has
@@ -190,22 +215,9 @@ impl FlowTable {
         ensures capacity { vec_capacity dropped.new ≡ vec_capacity dropped.old }
     {
         if let Some(p) = self.places.number(place) {
-            self.queues.queues().add_serials(p, dropped);
+            self.queues.add_serials(p, dropped);
             self.queues.clear(p);
         }
-    }
-
-    /// The first messages with this address at places of the driver, in order of place. It looks at no place of another
-    /// driver, and only at first messages whose address differs by a multiple of 128, or not at all. Takes no memory.
-    pub fn fronts_for(&self, driver: u8, addr: u32) -> FirstMessages<'_>
-        ensures fronts { result ≡ fronts_for driver addr self.now.flow }
-        ensures first { All (λ h. first_message self.now.flow h.place ≡ Some h.message)
-            (fronts_for driver addr self.now.flow) }
-        ensures all { (p : PlaceValue) → has_addr addr (first_message self.now.flow p) ≡ true
-            → p.stream.driver ≡ driver
-            → list_any (λ h. same_place h.place p) (fronts_for driver addr self.now.flow) ≡ true }
-    {
-        FirstMessages::new(&self.places, &self.queues, driver, addr)
     }
 
     /// All messages, in order of place. Takes no memory.

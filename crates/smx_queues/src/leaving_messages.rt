@@ -3,10 +3,11 @@
 ghost use Rattle.std.specs.Prelude.{◌≡◌};
 ghost use Rattle.std.specs.Iterator.{YieldsFirstBy};
 ghost use Rattle.smx_queues.specs.QueuedMessages.{leaving_message};
+ghost use Rattle.smx_queues.specs.PlaceLists.{places_of};
 ghost use Rattle.smx_queues.specs.FlowTables.{flow_of, IsFlow};
 
-use crate::busy_queues::BusyQueues;
 use crate::places::Places;
+use crate::queues::Queues;
 use smx_types::{Message, Place};
 use std::marker::Model;
 
@@ -15,7 +16,7 @@ use std::marker::Model;
 #[derive(Drop)]
 pub struct LeavingMessages {
     places: Places,
-    queues: BusyQueues,
+    queues: Queues,
     // The number of a place before which none has messages.
     next: usize,
 }
@@ -23,19 +24,20 @@ pub struct LeavingMessages {
 impl Model for LeavingMessages {
     ghost use Rattle.std.specs.Prelude.{List, drop};
     ghost use Rattle.smx_model.specs.Configuration.{QueuedMessage};
+    ghost use Rattle.smx_queues.specs.PlaceLists.{places_of};
     ghost use Rattle.smx_queues.specs.FlowTables.{flow_of, IsFlow};
 
     ghost Value = { List QueuedMessage };
 
-    ghost view = { λ it. flow_of (drop it.next it.places.places) (drop it.next it.queues.queues) };
+    ghost view = { λ it. flow_of (drop it.next (places_of it.places)) (drop it.next it.queues.queues) };
 
     ghost invariant = { λ it. IsFlow it.places it.queues.queues };
 }
 
 impl LeavingMessages {
-    pub(crate) fn new(places: Places, queues: BusyQueues) -> LeavingMessages
+    pub(crate) fn new(places: Places, queues: Queues) -> LeavingMessages
         requires { IsFlow places queues.queues }
-        ensures { result ≡ flow_of places.places queues.queues }
+        ensures { result ≡ flow_of (places_of places) queues.queues }
     {
         LeavingMessages {
             places,

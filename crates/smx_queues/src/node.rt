@@ -8,14 +8,14 @@ use crate::chain::Chain;
 use slab::Slab;
 use smx_types::{Bytes, Message};
 
-/// A queued message, and the key of the node behind it. At the last node of a chain that key means nothing.
+/// A queued message, and the key of the next node. The key has no meaning at the last node of a chain.
 #[derive(Debug, Drop)]
 pub struct Node {
     pub message: Message,
     pub next: usize,
 }
 
-// The last node of a chain, if there is one, now names this one as the node behind it.
+// Makes `key` the successor of the last node of a chain, if the chain has a node.
 pub fn follow(nodes: &mut Slab<Node>, chain: Chain, key: usize)
     requires { 0 < chain.count → ContainsKey nodes.old chain.last }
     ensures { nodes.new ≡ with_follower nodes.old chain key }
@@ -25,7 +25,7 @@ pub fn follow(nodes: &mut Slab<Node>, chain: Chain, key: usize)
     }
 }
 
-// A message and how many bytes it has, which are as few as a vector can have.
+// Returns a message and its number of bytes, which is below 2 to the 63rd, like the length of any vector.
 pub fn sized(message: Message) -> (Message, usize)
     ensures same { result.0 ≡ message }
     ensures size { result.1 ≡ length message.bytes }

@@ -1,4 +1,4 @@
-//! The messages of a place, one after the other.
+//! An iterator over the messages of a place.
 
 ghost use Rattle.std.specs.Prelude.{◌≡◌};
 ghost use Rattle.std.specs.Iterator.{YieldsFirstBy, item_count};
@@ -8,11 +8,11 @@ use slab::Slab;
 use smx_types::Message;
 use std::marker::Model;
 
-/// The messages of a place from the front on, seen as the list of those that are left. Takes no memory.
+/// The messages of a place, from the front on. Contracts see the list of those that are left. Does not allocate.
 #[derive(Drop)]
 pub struct PlaceMessages<'a> {
     pub(crate) nodes: &'a Slab<Node>,
-    // The key of the first of those that are left.
+    // The key of the node of the next message.
     pub(crate) key: usize,
     pub(crate) left: usize,
 }

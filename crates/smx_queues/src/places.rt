@@ -3,14 +3,12 @@
 ghost use Rattle.std.specs.Prelude.{◌≡◌, ◌≤◌, ◌++◌, ◌<◌, ◌+◌, ◌^◌, false, Some, IfOk, OnOk, IfSome, IsSome, IfNone};
 ghost use Rattle.std.specs.Prelude.{length, slice_get};
 ghost use Rattle.std.specs.List.{list_any};
-ghost use Rattle.smx_model.specs.Configuration.{place_before, same_place, side_number};
+ghost use Rattle.smx_model.specs.Configuration.{same_place, side_number};
 ghost use Rattle.smx_model.specs.DriverList.{high_of, low_of, minors_of, IsDriverList};
 ghost use Rattle.smx_model.specs.KnownStreams.{IsKnown};
-ghost use Rattle.smx_model.specs.Ordered.{IsRising};
-ghost use Rattle.smx_queues.specs.PlaceLists.{new_queues, sides_of, IsSpanOf};
+ghost use Rattle.smx_queues.specs.PlaceLists.{new_queues, places_of, sides_of};
 
-use crate::busy_queues::BusyQueues;
-use crate::span::Span;
+use crate::queues::Queues;
 use smx_types::{DriverSpec, NoMemory, Place, Side, StreamId};
 use std::alloc::Global;
 use std::marker::Model;
@@ -23,7 +21,7 @@ pub struct DriverRow {
     pub minors: usize,
 }
 
-/// Drivers, and both sides of each stream that they have, numbered in order. A contract sees two lists.
+/// Drivers, and both sides of each stream that they have, numbered in order. A contract sees the drivers.
 #[derive(Debug, Drop)]
 pub struct Places {
     drivers: Vec<DriverSpec>,
@@ -32,11 +30,13 @@ pub struct Places {
 }
 
 impl Model for Places {
-    ghost use Rattle.smx_queues.specs.PlaceLists.{PlaceList, ArePlaces};
+    ghost use Rattle.std.specs.Prelude.{List};
+    ghost use Rattle.smx_types.specs.declared.driver.DriverSpec.{DriverSpec};
+    ghost use Rattle.smx_queues.specs.PlaceLists.{ArePlaces};
 
-    ghost Value = { PlaceList };
+    ghost Value = { List DriverSpec };
 
-    ghost view = { λ p. record { drivers = p.drivers.items; places = p.places.items } };
+    ghost view = { λ p. p.drivers.items };
 
     ghost invariant = { λ p. ArePlaces p.drivers.items p.rows.items p.places.items };
 }
@@ -101,7 +101,7 @@ impl Places {
     /// The places of these drivers. Fails only for want of memory.
     pub fn new(alloc: Global, drivers: &[DriverSpec]) -> Result<Places, NoMemory>
         requires { IsDriverList drivers.now }
-        ensures { IfOk result (λ p. p.drivers ≡ drivers.now) }
+        ensures { IfOk result (λ p. p ≡ drivers.now) }
     {
         let mut rows = Vec::with_capacity(alloc, drivers.len())?;
         let mut places = Vec::new(alloc);
@@ -123,16 +123,17 @@ impl Places {
 
     /// How many places there are.
     pub fn len(&self) -> usize
-        ensures { result ≡ length self.now.places }
+        ensures many { result ≡ length (places_of self.now) }
+        ensures few { result < 2 ^ 63 }
     {
         self.places.len()
     }
 
     /// The number of the place, if its driver has such a stream.
     pub fn number(&self, place: Place) -> Option<usize>
-        ensures found { IfSome result (λ i. slice_get self.now.places i ≡ Some place) }
-        ensures none { IfNone result (list_any (same_place place) self.now.places ≡ false) }
-        ensures known { IsKnown self.now.drivers place.stream → IsSome result }
+        ensures found { IfSome result (λ i. slice_get (places_of self.now) i ≡ Some place) }
+        ensures none { IfNone result (list_any (same_place place) (places_of self.now) ≡ false) }
+        ensures known { IsKnown self.now place.stream → IsSome result }
     {
         let StreamId { driver, minor } = place.stream;
         let row = row_at(&self.rows, driver)?;
@@ -146,50 +147,26 @@ impl Places {
         Some(row.first + 2 * minor + side_number(place.side))
     }
 
-    /// The numbers of the driver's places, which stand together; none where there is no such driver.
-    pub fn span_of(&self, driver: u8) -> Span
-        ensures { IsSpanOf driver self.now.places result }
-    {
-        let places: &[Place] = &self.places;
-        // For the proof, as in `number`.
-        let _count = places.len();
-        match row_at(&self.rows, driver) {
-            Some(row) => Span {
-                first: row.first,
-                end: row.first + 2 * row.minors,
-            },
-            None => Span::NONE,
-        }
-    }
-
     /// The place of a number; the next number is less than 2^64.
     pub fn at(&self, number: usize) -> Place
-        requires { number < length self.now.places }
-        ensures place { slice_get self.now.places number ≡ Some result }
+        requires { number < length (places_of self.now) }
+        ensures place { slice_get (places_of self.now) number ≡ Some result }
         ensures few { number + 1 < 2 ^ 64 }
     {
         self.places[number]
     }
 
     /// A queue for each place, without messages, with the water marks of its driver. Fails only for want of memory.
-    pub fn new_queues(&self, alloc: Global) -> Result<BusyQueues, NoMemory>
-        requires { IsDriverList self.now.drivers }
-        ensures { IfOk result (λ q. q.queues ≡ new_queues self.now.drivers self.now.places) }
+    pub fn new_queues(&self, alloc: Global) -> Result<Queues, NoMemory>
+        requires { IsDriverList self.now }
+        ensures { IfOk result (λ q. q.queues ≡ new_queues self.now (places_of self.now)) }
     {
-        let mut made = BusyQueues::new(alloc);
+        let mut made = Queues::new(alloc);
         for place in &self.places {
             let (high, low) = marks_of(&self.drivers, place.stream.driver);
-            made.add_place(high, low)?;
+            made.push_place(high, low)?;
         }
         Ok(made)
-    }
-
-    // The places rise, so that none is there twice. It does nothing.
-    pub fn rise(&self)
-        ensures { IsRising place_before self.now.places }
-    {
-        // Opens the invariant.
-        let _places = &self.places;
     }
 
     /// The same places again. Fails only for want of memory.

@@ -1,8 +1,8 @@
-//! A message where it stands in a queue.
+//! Messages in queues.
 
 use smx_types::{Message, Place};
 
-/// A queued message, and its place.
+/// A queued message and its place.
 #[derive(Clone, Copy, Debug)]
 pub struct Queued<'a> {
     pub place: Place,

@@ -3,12 +3,13 @@
 ghost use Rattle.std.specs.Prelude.{◌≡◌};
 ghost use Rattle.std.specs.Iterator.{YieldsFirstBy};
 ghost use Rattle.smx_queues.specs.QueuedMessages.{queued_message};
+ghost use Rattle.smx_queues.specs.PlaceLists.{places_of};
 ghost use Rattle.smx_queues.specs.FlowTables.{flow_of, IsFlow};
 
-use crate::busy_queues::BusyQueues;
 use crate::place_messages::PlaceMessages;
 use crate::places::Places;
 use crate::queued::Queued;
+use crate::queues::Queues;
 use smx_types::{Place, Side, StreamId};
 use std::marker::Model;
 
@@ -16,7 +17,7 @@ use std::marker::Model;
 #[derive(Drop)]
 pub struct QueuedMessages<'a> {
     places: &'a Places,
-    queues: &'a BusyQueues,
+    queues: &'a Queues,
     // The place that is looked at, and what is left there.
     place: Place,
     left: PlaceMessages<'a>,
@@ -27,20 +28,21 @@ pub struct QueuedMessages<'a> {
 impl<'a> Model for QueuedMessages<'a> {
     ghost use Rattle.std.specs.Prelude.{List, ◌++◌, drop};
     ghost use Rattle.smx_model.specs.Configuration.{QueuedMessage};
+    ghost use Rattle.smx_queues.specs.PlaceLists.{places_of};
     ghost use Rattle.smx_queues.specs.FlowTables.{flow_of, messages_at, IsFlow};
 
     ghost Value = { List QueuedMessage };
 
     ghost view = { λ it. messages_at it.place it.left
-        ++ flow_of (drop it.next it.places.now.places) (drop it.next it.queues.now.queues) };
+        ++ flow_of (drop it.next (places_of it.places.now)) (drop it.next it.queues.now.queues) };
 
     ghost invariant = { λ it. IsFlow it.places.now it.queues.now.queues };
 }
 
 impl<'a> QueuedMessages<'a> {
-    pub(crate) fn new(places: &'a Places, queues: &'a BusyQueues) -> QueuedMessages<'a>
+    pub(crate) fn new(places: &'a Places, queues: &'a Queues) -> QueuedMessages<'a>
         requires { IsFlow places.now queues.now.queues }
-        ensures { result ≡ flow_of places.now.places queues.now.queues }
+        ensures { result ≡ flow_of (places_of places.now) queues.now.queues }
     {
         let stream = StreamId {
             driver: 0,
@@ -53,7 +55,7 @@ impl<'a> QueuedMessages<'a> {
                 stream,
                 side: Side::Write,
             },
-            left: queues.queues().no_messages(),
+            left: queues.no_messages(),
             next: 0,
         }
     }
@@ -72,7 +74,7 @@ impl<'a> QueuedMessages<'a> {
         }
         let p = self.queues.filled_from(self.next)?;
         self.place = self.places.at(p);
-        self.left = self.queues.queues().messages(p);
+        self.left = self.queues.messages(p);
         self.next = p + 1;
         let message = self.left.next()?;
         Some(Queued {

@@ -7,31 +7,28 @@ mod reading;
 ghost use Rattle.std.specs.Prelude.{◌≡◌, ◌≢◌, ◌↔◌, ◌+◌, ◌-◌, ◌<◌, ◌≤◌, ◌^◌, [], ◌∷◌, ◌++◌, length, map, Some};
 ghost use Rattle.std.specs.Prelude.{None, false, OnOk, OnErr, OnSome, IfOk, IfNone, IsTrue, slice_get};
 ghost use Rattle.std.specs.Prelude.{slice_set, Option};
-ghost use Rattle.std.specs.List.{repeat};
 ghost use Rattle.smx_types.specs.declared.message.Message.{Message};
 ghost use Rattle.smx_model.specs.Queues.{bytes_of};
 ghost use Rattle.smx_queues.specs.QueueTable.{queue_at, IsPlace, empty_queue, least_vacant, with_place};
 ghost use Rattle.smx_queues.specs.QueueTable.{with_queue, with_arrival, without_front, without_messages};
 
-use crate::chain::{Chain, first_gone, push_all};
+use crate::chain::{Chain, first_gone};
 use crate::node::{Node, follow, sized};
-use crate::spare_bytes::SpareBytes;
 use slab::Slab;
-use smx_types::{Bytes, Message, NoMemory};
+use smx_types::{Message, NoMemory};
 use std::alloc::Global;
 use std::marker::Model;
 
 /// The number of a place, from 0 on.
 pub type PlaceId = usize;
 
-/// Places with a queue each: its messages in order of arrival, its full mark and its water marks. A contract sees the
-/// queue of each place. All messages stand in one store, so a message that moves on stays where it is.
+/// Places with one queue each: the messages in order of arrival, the full mark and the water marks. Contracts see the
+/// queue of each place. One store has all messages, so a message stays where it is in memory when it moves on.
 #[derive(Debug, Drop)]
 pub struct Queues {
     alloc: Global,
     nodes: Slab<Node>,
     chains: Vec<Chain>,
-    spare_bytes: SpareBytes,
 }
 
 impl Model for Queues {
@@ -52,7 +49,7 @@ impl Model for Queues {
 }
 
 impl Queues {
-    /// No place yet. It keeps the allocator for all that it makes, and takes no memory.
+    /// Makes a table without places, which keeps the allocator for all that it allocates later. Does not allocate.
     pub fn new(alloc: Global) -> Queues
         ensures { result.queues ≡ [] }
     {
@@ -60,11 +57,11 @@ impl Queues {
             alloc,
             nodes: Slab::new(alloc),
             chains: Vec::new(alloc),
-            spare_bytes: SpareBytes::new(alloc),
         }
     }
 
-    /// A place more, which has no message and is not full. Its number is the least that no place has.
+    /// Adds a place without messages that is not full. Its number is the lowest free one. If an allocation fails,
+    /// nothing has changed.
     pub fn add_place(&mut self, high: usize, low: usize) -> Result<PlaceId, NoMemory>
         requires low { low < high }
         requires high { high ≤ 4096 }
@@ -83,28 +80,24 @@ impl Queues {
         Ok(p)
     }
 
-    /// So many places more behind all others, with the same marks and without messages: where there are n of them
-    /// before, and none was dropped, the first of these has the number n.
-    pub fn add_places(&mut self, count: usize, high: usize, low: usize) -> Result<(), NoMemory>
+    // Appends a place without messages that is not full.
+    pub(crate) fn push_place(&mut self, high: usize, low: usize) -> Result<(), NoMemory>
         requires low { low < high }
         requires high { high ≤ 4096 }
-        ensures added { OnOk result (self.new.queues
-            ≡ self.old.queues ++ repeat count (Some (empty_queue high low) ∷ [])) }
-        ensures err { OnErr result (self.new.queues ≡ self.old.queues) }
-        ensures spare { self.new.spare ≡ self.old.spare }
+        ensures { OnOk result (self.new.queues ≡ self.old.queues ++ Some (empty_queue high low) ∷ []) }
     {
-        push_all(&mut self.chains, count, Chain::new(high, low))?;
+        self.chains.push(Chain::new(high, low))?;
         Ok(())
     }
 
-    /// Whether there is a place of this number. Takes no memory.
+    /// Returns whether there is a place with this number. Does not allocate.
     pub fn has_place(&self, p: PlaceId) -> bool
         ensures { IsTrue result ↔ IsPlace self.now.queues p }
     {
         p < self.chains.len() && self.chains[p].there
     }
 
-    /// The place goes with its messages, where there is one of this number. Takes no memory.
+    /// Removes the place with its messages. Does nothing if there is no place with this number. Does not allocate.
     #[tactic(auto, using(crate::proofs::QueueTableLemmas::set_again))]
     pub fn drop_place(&mut self, p: PlaceId)
         ensures gone { self.new.queues ≡ slice_set self.old.queues p None }
@@ -116,7 +109,7 @@ impl Queues {
         }
     }
 
-    // A place without messages goes.
+    // Removes a place without messages.
     fn drop_empty(&mut self, p: PlaceId)
         requires place { IsPlace self.old.queues p }
         requires none { (queue_at self.old.queues p).messages ≡ [] }
@@ -126,7 +119,7 @@ impl Queues {
         self.chains[p].there = false;
     }
 
-    /// Room for one message more. Fails only for want of memory.
+    /// Reserves an entry for one more message. Fails only if out of memory.
     pub fn reserve_one(&mut self) -> Result<(), NoMemory>
         ensures room { OnOk result (0 < self.new.spare) }
         ensures kept { self.old.spare ≤ self.new.spare }
@@ -136,31 +129,14 @@ impl Queues {
         Ok(())
     }
 
-    /// Whether a message can arrive without memory. Takes none.
+    /// Returns whether a message can arrive without an allocation. Does not allocate.
     pub fn has_spare(&self) -> bool
         ensures { IsTrue result ↔ (0 < self.now.spare) }
     {
         self.nodes.len() < self.nodes.capacity()
     }
 
-    /// These bytes for a message, in the memory of one that has gone where any is kept. Fails only for want of memory.
-    pub fn copied_bytes(&mut self, bytes: &[u8]) -> Result<Bytes, NoMemory>
-        ensures bytes { IfOk result (λ b. b ≡ bytes.now) }
-        ensures unchanged { self.new ≡ self.old }
-    {
-        self.spare_bytes.copied(self.alloc, bytes)
-    }
-
-    /// Keeps the memory of these bytes for a later message, where it is that of a short one. No place changes. Takes no
-    /// memory.
-    #[inline(always)]
-    pub fn keep_bytes(&mut self, bytes: Bytes)
-        ensures { self.new ≡ self.old }
-    {
-        self.spare_bytes.keep(bytes);
-    }
-
-    /// A message arrives at a place that is not full. Takes no memory.
+    /// Adds a message at the end of the queue of a place that is not full. Uses a reserved entry. Does not allocate.
     pub fn put(&mut self, p: PlaceId, message: Message)
         requires place { IsPlace self.old.queues p }
         requires open { (queue_at self.old.queues p).full ≡ false }
@@ -170,13 +146,13 @@ impl Queues {
             ≡ with_queue self.old.queues p (with_arrival (queue_at self.old.queues p) message) }
         ensures spare { self.old.spare ≡ self.new.spare + 1 }
     {
-        // Opens the invariant: a place that is open has few bytes.
+        // Opens the invariant: a place that is not full has few bytes.
         let _chains = &self.chains;
         let (message, size) = sized(message);
         self.append(p, message, size);
     }
 
-    // A message of so many bytes arrives, also at a place that is full.
+    // Adds a message of `size` bytes at the end of a queue, even if the place is full.
     fn append(&mut self, p: PlaceId, message: Message, size: usize)
         requires place { IsPlace self.old.queues p }
         requires size { size ≡ length message.bytes }
@@ -190,13 +166,13 @@ impl Queues {
     {
         let chain = self.chains[p];
         let key = self.nodes.insert_reserved(Node { message, next: 0 });
-        // No place has more messages.
+        // No place has more messages than this.
         let _count = self.nodes.len();
         follow(&mut self.nodes, chain, key);
         self.chains[p].add_last(key, size);
     }
 
-    /// The message at the front leaves, if there is one. Takes no memory.
+    /// Removes the message at the front and returns it. Returns `None` if there is no message. Does not allocate.
     pub fn take(&mut self, p: PlaceId) -> Option<Message>
         requires { IsPlace self.old.queues p }
         ensures taken { result ≡ slice_get (queue_at self.old.queues p).messages 0 }
@@ -215,8 +191,8 @@ impl Queues {
         Some(node.message)
     }
 
-    /// The message at the front of one place leaves it and arrives at another, which is not full. Takes no memory: its
-    /// node stays where it is.
+    /// Moves the message at the front of one place to the end of another place, which is not full. The node of the
+    /// message stays where it is. Does not allocate.
     pub fn move_front(&mut self, from: PlaceId, to: PlaceId)
         requires from { IsPlace self.old.queues from }
         requires to { IsPlace self.old.queues to }
@@ -233,7 +209,7 @@ impl Queues {
         let node = &self.nodes[source.first];
         let size = node.message.bytes.as_slice().len();
         let next = node.next;
-        // No place has more messages.
+        // No place has more messages than this.
         let _count = self.nodes.len();
         self.chains[from].drop_first(next, size);
         let target = self.chains[to];
@@ -241,20 +217,18 @@ impl Queues {
         self.chains[to].add_last(source.first, size);
     }
 
-    /// All messages of the place are dropped, and it is not full. Takes no memory, and keeps that of short messages.
+    /// Drops all messages of the place, and its full mark. Does not allocate.
     pub fn clear(&mut self, p: PlaceId)
         requires { IsPlace self.old.queues p }
         ensures cleared { self.new.queues
             ≡ with_queue self.old.queues p (without_messages (queue_at self.old.queues p)) }
         ensures spare { self.new.spare ≡ self.old.spare + length (queue_at self.old.queues p).messages }
     {
-        while let Some(message) = self.take(p) {
-            self.keep_bytes(message.bytes);
-        }
+        while let Some(_message) = self.take(p) {}
         self.unmark(p);
     }
 
-    // A place without messages is not full.
+    // Removes the full mark of a place without messages.
     fn unmark(&mut self, p: PlaceId)
         requires place { IsPlace self.old.queues p }
         requires none { (queue_at self.old.queues p).messages ≡ [] }

@@ -13,37 +13,38 @@ use Rattle.smx_types.specs.declared.transcript.Transcript.{Transcript}
 use Rattle.smx_types.specs.declared.version.Version.TheVariants.{V1}
 use Rattle.smx_model.specs.Histories.{after, call_of, IsLegal}
 use Rattle.smx_text.specs.TranscriptText.{IsAllowed, IsSpellable}
+use Rattle.smx_text.proofs.TranscriptWholeLemmas.{allowed_spellable, spellable_allowed}
 use Rattle.smx_text.proofs.LeastVersionLemmas.{is_first}
 use Rattle.smx_replay.specs.Replays.{IsReplayOf}
 
 -- ---- what the laws of hangups say of a history without one
 
--- a legal history in which no command is a hangup has no entry of a hangup
+-- a legal history without hangup commands has no entry of a hangup
 abbrev TellsOfNone : Type 0
 TellsOfNone = (drivers : List DriverSpec) (history : List Entry) → IsLegal drivers history
     → list_any (λ e. is_hangup e.command) history ≡ false → list_any is_of_hangup history ≡ false
 
--- a history in which no command is a hangup leaves no stream that has hung up
+-- a history without hangup commands leaves no stream hung up
 abbrev LeavesNone : Type 0
 LeavesNone = (drivers : List DriverSpec) (history : List Entry)
     → list_any (λ e. is_hangup e.command) history ≡ false → (after drivers history).hungs ≡ []
 
 -- ---- the replay
 
--- where no entry is of a hangup, no command is one
+-- if no entry is of a hangup, no command is one
 no_command : (es : List Entry) → list_any is_of_hangup es ≡ false → list_any (λ e. is_hangup e.command) es ≡ false
 no_command [] h = refl
 no_command (e ∷ es) h =
     let p = or_parts (is_of_hangup e) (list_any is_of_hangup es) h in
     or_from (is_hangup e.command) _ (or_parts (is_hangup e.command) (tells_of_hangup e.reply) p.0).0 (no_command es p.1)
 
--- whether some command of a history is a hangup is told by its calls
+-- the calls of a history determine whether one of its commands is a hangup
 by_calls : (es : List Entry) → list_any (λ e. is_hangup e.command) es
     ≡ list_any (λ (call : ℕ × Command). is_hangup call.1) (map call_of es)
 by_calls [] = refl
 by_calls (e ∷ es) = ap (λ (b : Bool). is_hangup e.command || b) (by_calls es)
 
--- what version 1 can tell has a replay that it can tell
+-- the replay of a transcript that version 1 allows is one that version 1 allows
 quiet : TellsOfNone → LeavesNone → (t r : Transcript) → IsReplayOf t r → least_of_transcript t ≡ V1
     → least_of_transcript r ≡ V1
 quiet tells leaves t r h least =
@@ -57,16 +58,13 @@ quiet tells leaves t r h least =
     let shown : nat_lt 0 (length r.view.hungs) ≡ false = rw (h.shown, hung) refl in
     ap version_2_where (or_from _ _ few (or_from _ _ (tells t.drivers r.entries h.legal none) shown))
 
--- a replay of an allowed transcript that can be spelled is allowed in its version
+-- a replay of an allowed transcript is allowed in its version, if it can be spelled
 pub can_be_told : TellsOfNone → LeavesNone → (t r : Transcript) → IsAllowed t.version t → IsReplayOf t r → IsSpellable r
     → IsAllowed r.version r
 can_be_told tells leaves t r allowed h spellable =
     let as_many : length (map call_of r.entries)
     ≡ length (map call_of t.entries) = ap (λ (calls : List (ℕ × Command)). length calls) h.calls in
-    record {
-      version_is = refl;
-      drivers = rw (h.version, h.drivers) allowed.drivers;
-      entries = omega (arith, as_many, length-map r.entries call_of, length-map t.entries call_of, allowed.entries);
-      spellable = spellable;
-      told = λ first. quiet tells leaves t r h (allowed.told (sym h.version ∙ first));
-    }
+    let was = (allowed_spellable t.version t allowed).1 in
+    spellable_allowed r.version r refl (rw (h.version, h.drivers) allowed.drivers)
+    (omega (arith, as_many, length-map r.entries call_of, length-map t.entries call_of, allowed.entries)) spellable
+    (λ first. quiet tells leaves t r h (was (sym h.version ∙ first)))

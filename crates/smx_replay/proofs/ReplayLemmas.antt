@@ -1,4 +1,4 @@
--- The replay of a transcript: there is one, and what was written of it.
+-- The replay of a transcript: there is exactly one, and this is its text.
 use Rattle.std.proofs.Common.{◌≡◌, ℕ, List, [], ◌∷◌, ◌++◌, map, refl, sym, ap, subst, ◌∙◌}
 use Rattle.smx_types.specs.declared.command.Command.{Command}
 use Rattle.smx_types.specs.declared.command.Entry.{Entry}
@@ -13,17 +13,13 @@ use Rattle.smx_model.specs.DriverList.{IsDriverList}
 use Rattle.smx_model.specs.Histories.{after, after_from, call_of, IsLegal, IsLegalFrom}
 use Rattle.smx_model.specs.Views.{view}
 use Rattle.smx_config.specs.Machine.{Machine}
-use Rattle.smx_text.specs.GrowingTranscripts.{BeginsTranscript, transcript_with}
+use Rattle.smx_text.specs.GrowingTranscripts.{transcript_with, AreEntryLines}
 use Rattle.smx_text.specs.TranscriptText.{IsSpellable, transcript_text}
+use Rattle.smx_model.proofs.HistoryLemmas.{after_push}
 use Rattle.smx_replay.specs.Answers.{answered, answers_from, answers, HasCome}
 use Rattle.smx_replay.specs.Replays.{IsReplayOf, IsReplayText}
 
 -- ---- what the laws of histories say
-
--- a history with one entry more leads where the command of that entry leads
-abbrev OneStepFurther : Type 0
-OneStepFurther = (drivers : List DriverSpec) (history : List Entry) (e : Entry)
-    → after drivers (history ++ e ∷ []) ≡ (step drivers (after drivers history) e.process e.command).0
 
 -- two legal histories of the same calls are the same
 abbrev AreDetermined : Type 0
@@ -38,7 +34,7 @@ legal_from : (drivers : List DriverSpec) (c : Configuration) (es : List Entry)
 legal_from drivers c [] = tt
 legal_from drivers c (e ∷ es) = (refl, legal_from drivers (step drivers c e.process e.command).0 es)
 
--- the entries of a replay are of the same calls as those that are replayed
+-- the entries of a replay are of the same calls as the replayed ones
 calls_from : (drivers : List DriverSpec) (c : Configuration) (es : List Entry)
     → map call_of (answers_from drivers c es) ≡ map call_of es
 calls_from drivers c [] = refl
@@ -46,13 +42,13 @@ calls_from drivers c (e ∷ es) =
     ap (λ (calls : List (ℕ × Command)). call_of e ∷ calls)
     (calls_from drivers (step drivers c e.process e.command).0 es)
 
--- the entries of a replay lead where those that are replayed lead: their replies play no part in it
+-- the entries of a replay lead to the same configuration as the replayed ones, whatever their replies
 led_from : (drivers : List DriverSpec) (c : Configuration) (es : List Entry)
     → after_from drivers c (answers_from drivers c es) ≡ after_from drivers c es
 led_from drivers c [] = refl
 led_from drivers c (e ∷ es) = led_from drivers (step drivers c e.process e.command).0 es
 
--- one entry more is answered by the configuration after those before it
+-- one more entry is answered by the configuration after the earlier ones
 more_from : (drivers : List DriverSpec) (c : Configuration) (es : List Entry) (e : Entry)
     → answers_from drivers c (es ++ e ∷ []) ≡ answers_from drivers c es ++ answered drivers (after_from drivers c es) e
     ∷ []
@@ -75,7 +71,7 @@ replayed t shown can is = record {
   shown = is ∙ ap (view t.drivers) (sym (led_from t.drivers empty t.entries));
 }
 
--- a transcript whose drivers can be had has a replay
+-- a transcript with valid drivers has a replay
 pub always : (t : Transcript) → IsDriverList t.drivers → (r : Transcript) × IsReplayOf t r
 always t can =
     let shown = view t.drivers (after t.drivers t.entries) in
@@ -113,48 +109,44 @@ calls_alone t u r version drivers calls h = record {
 
 -- ---- what was written
 
--- before its first entry a replay has come as far as no entry
-pub begun : (version : Version) (drivers : List DriverSpec) (m : Machine) (bytes : List ℕ)
-    → m.drivers ≡ drivers → m.configuration ≡ empty → BeginsTranscript version drivers [] bytes
-    → HasCome version drivers [] m bytes
-begun version drivers m bytes same now written = record { same = same; now = now; written = written }
+-- before its first entry, a replay is up to no entries
+pub begun : (drivers : List DriverSpec) (m : Machine) → m.drivers ≡ drivers → m.configuration ≡ empty
+    → HasCome drivers [] m []
+begun drivers m same now = record { same = same; now = now; written = record { written = refl; fit = tt } }
 
--- a replay that answers one entry more has come as far as that entry
-pub one_more : OneStepFurther → (version : Version) (drivers : List DriverSpec) (asked : List Entry) (e : Entry)
-    (old new : Machine) (bytes more : List ℕ)
-    → HasCome version drivers asked old bytes → new.drivers ≡ old.drivers
-    → new.configuration ≡ (step old.drivers old.configuration e.process e.command).0
-    → ((v : Version) (ds : List DriverSpec) (es : List Entry) → BeginsTranscript v ds es bytes
-    → BeginsTranscript v ds (es ++ answered old.drivers old.configuration e ∷ []) more)
-    → HasCome version drivers (asked ++ e ∷ []) new more
-one_more further version drivers asked e old new bytes more h same next tells =
-    let here : step old.drivers old.configuration e.process e.command
-    ≡ step drivers (after drivers asked) e.process e.command =
-    rw (h.same, h.now) refl in
-    let behind : answers drivers asked ++ answered old.drivers old.configuration e ∷ []
-    ≡ answers drivers (asked ++ e ∷ []) =
-    rw (h.same, h.now) (sym (more_from drivers empty asked e)) in
+-- a replay that answers one more entry is up to that entry
+pub one_more : (drivers : List DriverSpec) (asked : List Entry) (e : Entry) (old new : Machine) (reply : Reply)
+    (lines more : List ℕ)
+    → HasCome drivers asked old lines → new.drivers ≡ old.drivers
+    → step old.drivers old.configuration e.process e.command ≡ (new.configuration, reply)
+    → ((es : List Entry) → AreEntryLines es lines → AreEntryLines (es ++ record e { reply = reply } ∷ []) more)
+    → HasCome drivers (asked ++ e ∷ []) new more
+one_more drivers asked e old new reply lines more h same gets tells =
+    let here : step drivers (after drivers asked) e.process e.command ≡ (new.configuration, reply) =
+    rw (h.same, h.now) at gets in
+    let told : answered drivers (after drivers asked) e ≡ record e { reply = reply } =
+    ap (λ (x : Configuration × Reply). record e { reply = x.1 }) here in
+    let behind : answers drivers asked ++ record e { reply = reply } ∷ [] ≡ answers drivers (asked ++ e ∷ []) =
+    ap (λ (last : Entry). answers drivers asked ++ last ∷ []) (sym told) ∙ sym (more_from drivers empty asked e) in
     record {
       same = same ∙ h.same;
-      now = next ∙ ap (λ (x : Configuration × Reply). x.0) here ∙ sym (further drivers asked e);
-      written = subst (λ (es : List Entry). BeginsTranscript version drivers es more) behind
-          (tells version drivers (answers drivers asked) h.written);
+      now = sym (ap (λ (x : Configuration × Reply). x.0) here) ∙ sym (after_push drivers asked e);
+      written = subst (λ (es : List Entry). AreEntryLines es more) behind (tells (answers drivers asked) h.written);
     }
 
--- what a replay has written, with the view at its end, is the text of a replay
-pub whole : (t : Transcript) (m : Machine) (bytes output : List ℕ) (shown : ConfigView) → IsDriverList t.drivers
-    → HasCome t.version t.drivers t.entries m bytes → shown ≡ view m.drivers m.configuration
-    → ((v : Version) (ds : List DriverSpec) (es : List Entry) → BeginsTranscript v ds es bytes
-    → output ≡ transcript_text (transcript_with v ds es shown))
-    → ((v : Version) (ds : List DriverSpec) (es : List Entry) → BeginsTranscript v ds es bytes
-    → IsSpellable (transcript_with v ds es shown))
+-- the lines that a replay has written, with the view at its end, make the text of a replay
+pub whole : (t : Transcript) (m : Machine) (lines output : List ℕ) (shown : ConfigView) → IsDriverList t.drivers
+    → HasCome t.drivers t.entries m lines → shown ≡ view m.drivers m.configuration
+    → ((es : List Entry) → AreEntryLines es lines
+    → output ≡ transcript_text (transcript_with t.version t.drivers es shown))
+    → ((es : List Entry) → AreEntryLines es lines → IsSpellable (transcript_with t.version t.drivers es shown))
     → IsReplayText t output
-whole t m bytes output shown can h is text spelled =
+whole t m lines output shown can h is text spelled =
     let at_the_end : shown ≡ view t.drivers (after t.drivers t.entries) =
     is ∙ ap (λ (ds : List DriverSpec). view ds m.configuration) h.same ∙ ap (view t.drivers) h.now in
     record {
       replay = transcript_with t.version t.drivers (answers t.drivers t.entries) shown;
       replays = replayed t shown can at_the_end;
-      written = text t.version t.drivers (answers t.drivers t.entries) h.written;
-      spellable = spelled t.version t.drivers (answers t.drivers t.entries) h.written;
+      written = text (answers t.drivers t.entries) h.written;
+      spellable = spelled (answers t.drivers t.entries) h.written;
     }

@@ -1,4 +1,4 @@
--- The replay of a transcript: what its commands give in its order, whatever replies it had.
+-- The replay of a transcript: the entries that its commands give in its order, whatever replies it had.
 use Rattle.std.specs.Prelude.{◌≡◌, ℕ, List, map}
 use Rattle.smx_types.specs.declared.transcript.Transcript.{Transcript}
 use Rattle.smx_model.specs.DriverList.{IsDriverList}
@@ -6,9 +6,9 @@ use Rattle.smx_model.specs.Histories.{IsLegal, after, call_of}
 use Rattle.smx_model.specs.Views.{view}
 use Rattle.smx_text.specs.TranscriptText.{IsSpellable, transcript_text}
 
--- the replay of a transcript, of which only the version, the drivers and the calls play a part
+-- the replay of a transcript; it depends only on the version, the drivers and the calls
 pub record IsReplayOf (t replay : Transcript) : Type 0 where
-  -- Version and drivers are those of the transcript, and a configuration can have these drivers.
+  -- Version and drivers are those of the transcript, and the drivers are valid.
   pub version : replay.version ≡ t.version
   pub drivers : replay.drivers ≡ t.drivers
   pub can_be_had : IsDriverList t.drivers

@@ -1,4 +1,4 @@
--- A transcript with a wrong reply and a wrong view, its replay, and what is none.
+-- A transcript with a wrong reply and a wrong view, its replay, and transcripts that are not its replay.
 use Rattle.std.specs.Prelude.{List, [], ◌∷◌}
 use Rattle.smx_types.specs.declared.transcript.Transcript.{Transcript}
 use Rattle.smx_types.specs.declared.version.Version.TheVariants.{V1}
@@ -10,7 +10,7 @@ use Rattle.smx_model.specs.Worked.SecondIsIllegal.{drivers, history}
 abbrev pub told : List Entry → ConfigView → Transcript
 told entries shown = record { version = V1; drivers = drivers; entries = entries; view = shown }
 
--- what is claimed: minor 2 in place of 1, descriptor 2 in place of 1, and nothing open at the end
+-- the transcript claims minor 2 in place of 1, descriptor 2 in place of 1, and nothing open at the end
 abbrev pub claimed : Transcript
 claimed = told history (no_lines 7 9)
 
@@ -22,7 +22,7 @@ opened = 0 does OpenClone ip gets Fd 0 0
 abbrev pub another : Entry
 another = 1 does OpenClone ip gets Fd 0 1
 
--- process 0 has its descriptor once more
+-- process 0 duplicates its descriptor
 abbrev pub copied : Entry
 copied = 0 does Dup 0 gets Fd 1 0
 

@@ -15,8 +15,8 @@ use smx_model::laws::{histories_are_determined, lawful_after_each_entry};
 use smx_model::laws_of_hangups::without_a_hangup_none_is_told;
 use smx_model::laws_of_messages::few_commands_drop;
 
-/// Over drivers that can be had a transcript has one replay. Transcripts with the same calls have the same one,
-/// whatever their replies and their views.
+/// A transcript with valid drivers has exactly one replay. Transcripts with the same version, drivers and calls have
+/// the same one, whatever their replies and their views.
 pub fn a_transcript_has_one_replay()
     ensures always { (t : Transcript) → IsDriverList t.drivers → (r : Transcript) × IsReplayOf t r }
     ensures one { (t r s : Transcript) → IsReplayOf t r → IsReplayOf t s → r ≡ s }
@@ -26,14 +26,14 @@ pub fn a_transcript_has_one_replay()
     histories_are_determined();
 }
 
-/// A transcript that is judged legal is its own replay, and every replay is judged so.
+/// A transcript whose verdict is legal is its own replay, and the verdict on every replay is legal.
 pub fn replays_are_the_legal_transcripts()
     ensures own { (t : Transcript) → IsDriverList t.drivers → IsVerdict t.drivers t.entries t.view Legal
         → IsReplayOf t t }
     ensures legal { (t r : Transcript) → IsReplayOf t r → IsVerdict r.drivers r.entries r.view Legal }
 {}
 
-/// So a replay is lawful after each entry, and few commands of it drop messages.
+/// A replay is lawful after each entry, and few of its commands drop messages.
 pub fn replays_are_lawful()
     ensures lawful { (t r : Transcript) → IsReplayOf t r → IsLawfulThroughout r.drivers r.entries }
     ensures drops { (t r : Transcript) → IsReplayOf t r → AreDropsAllowed r.entries }
@@ -42,16 +42,16 @@ pub fn replays_are_lawful()
     few_commands_drop();
 }
 
-/// A replay is within the limits of its transcript, and needs no later version: where no device hangs up, none of its
-/// replies and no line of its view tells of a hangup.
+/// A replay is within the limits of its transcript and needs no later version. If no device hangs up, no reply of the
+/// replay and no line of its view reports a hangup.
 pub fn replays_can_be_told()
     ensures { (t r : Transcript) → IsAllowed t.version t → IsReplayOf t r → IsSpellable r → IsAllowed r.version r }
 {
     without_a_hangup_none_is_told();
 }
 
-/// The worked history whose second entry is illegal is put right from there on. It is no replay of itself, and neither
-/// is what leaves an entry out, or takes two of them in another order.
+/// The replay of the worked history corrects it from its second entry on, which is illegal. The history is not its
+/// own replay. Nor is one that leaves out an entry, or one that exchanges two of them.
 pub fn the_second_is_put_right()
     ensures right { IsReplayOf claimed put_right }
     ensures not_itself { IsReplayOf claimed claimed → ⊥ }

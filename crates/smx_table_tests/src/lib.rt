@@ -1,4 +1,4 @@
-//! Tests that go by the public calls of the libraries alone.
+//! Tests through the public calls of the libraries only.
 #![tactic(auto)]
 
 #[cfg(test)]

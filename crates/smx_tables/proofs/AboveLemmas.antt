@@ -12,19 +12,19 @@ use Rattle.smx_model.specs.Configuration.{same_stream}
 use Rattle.smx_model.specs.Ordered.{ComesBefore, IsRising}
 use Rattle.smx_model.specs.Paths.{AreLowersApart}
 use Rattle.smx_streams.proofs.NameLemmas.{same_sym}
--- streams that pass as the same are one, and each is the same as itself
+-- streams that pass the test `same_stream` are equal, and each stream passes it with itself
 pub use Rattle.smx_streams.proofs.GridLemmas.{same_is as stream_is, same_self as stream_self}
 
--- whether two numbers are equal is told in either order
+-- the test whether two numbers are equal is symmetric
 pub eqb_swap : (x y : ℕ) → eqb x y ≡ eqb y x
 eqb_swap x y = grind (arith, nat_tests)
 
--- no two links pass the test
+-- at most one link passes the test
 abbrev pub IsOnce : (Link → Bool) → List Link → Type 0
 IsOnce key [] = Unit {0}
 IsOnce key (l ∷ ls) = (key l ≡ true → list_any key ls ≡ false) × IsOnce key ls
 
--- where no link passes a test, none passes it and another one
+-- if no link passes a test, no link passes both it and another test
 none_also : (key t u : Link → Bool) (ls : List Link) → ((l : Link) → u l ≡ (key l && t l)) → list_any key ls ≡ false
     → list_any u ls ≡ false
 none_also key t u [] e h = refl
@@ -33,7 +33,8 @@ none_also key t u (l ∷ ls) e h = elim (cases_Bool (key l)) [
   | inr k ↦ rw (e l, k) (none_also key t u ls e (rw k at h))
 ]
 
--- where one link at most passes a test, some link passes it and another just where the one that is found passes that
+-- if at most one link passes a test, some link passes both it and another one exactly if the link that the first test
+-- finds passes the other
 pub any_once : (key t u : Link → Bool) (ls : List Link) → IsOnce key ls → ((l : Link) → u l ≡ (key l && t l))
     → list_any u ls ≡ option_map_or t (find key ls) false
 any_once key t u [] o e = refl
@@ -45,9 +46,9 @@ any_once key t u (l ∷ ls) o e = elim (cases_Bool (key l)) [
   | inr k ↦ rw (e l, k) (any_once key t u ls o.1 e)
 ]
 
--- ---- streams below links are apart
+-- ---- no stream is below two links
 
--- where a stream differs from the lower stream of each link, it is below none
+-- a stream that differs from the lower stream of each link is below no link
 none_below : (s : StreamId) (ls : List Link)
     → ((j : ℕ) (d : Link) → j < length ls → same_stream s (get_or ls j d).lower ≡ false)
     → list_any (λ l. same_stream l.lower s) ls ≡ false
@@ -55,7 +56,7 @@ none_below s [] h = refl
 none_below s (l ∷ ls) h =
     rw (same_sym s l.lower (h 0 l (omega arith))) (none_below s ls (λ j d lt. h (suc j) d (omega arith)))
 
--- where no stream is below two links, at most one link is above a stream
+-- if no stream is below two links, at most one link is above a stream
 pub once_below : (s : StreamId) (ls : List Link) → AreLowersApart ls → IsOnce (λ l. same_stream l.lower s) ls
 once_below s [] h = tt
 once_below s (l ∷ ls) h = (
@@ -64,7 +65,7 @@ once_below s (l ∷ ls) h = (
   once_below s ls (λ i j d lt in_range. h (suc i) (suc j) d (omega arith) (omega arith)),
 )
 
--- ids rise
+-- if the id of a link is below those of the later links, no later link has it
 none_later : (l : Link) (ls : List Link) → ComesBefore (λ l k. nat_lt l.id k.id) l ls
     → list_any (λ k. eqb k.id l.id) ls ≡ false
 none_later l [] h = refl
@@ -72,7 +73,7 @@ none_later l (k ∷ ls) h =
     let f : eqb k.id l.id ≡ false = grind (arith, nat_tests, h.0) in
     rw f (none_later l ls h.1)
 
--- where the ids of links rise, at most one link has an id
+-- if the ids of links rise, at most one link has a given id
 pub once_id : (id : ℕ) (ls : List Link) → IsRising (λ l k. nat_lt l.id k.id) ls → IsOnce (λ l. eqb l.id id) ls
 once_id id [] h = tt
 once_id id (l ∷ ls) h = (
@@ -80,22 +81,22 @@ once_id id (l ∷ ls) h = (
   once_id id ls h.1,
 )
 
--- a further test of the link with the id
+-- if ids rise, some link with an id passes a test exactly if the link that is found by this id passes it
 pub any_with_id : (t : Link → Bool) (id : ℕ) (ls : List Link) → IsRising (λ l k. nat_lt l.id k.id) ls
     → list_any (λ l. eqb l.id id && t l) ls ≡ option_map_or t (find (λ l. eqb l.id id) ls) false
 any_with_id t id ls h = any_once (λ l. eqb l.id id) t (λ l. eqb l.id id && t l) ls (once_id id ls h) (λ l. refl)
 
--- the link that is found by an id passes a test exactly where some link with the id does
+-- the link that is found by an id passes a test exactly if some link with this id passes it
 pub some_with_id : (t : Link → Bool) (id : ℕ) (ls : List Link) (l : Link) → IsRising (λ l k. nat_lt l.id k.id) ls
     → Some l ≡ find (λ l. eqb l.id id) ls → t l ≡ list_any (λ l. eqb l.id id && t l) ls
 some_with_id t id ls l h e = sym (any_with_id t id ls h ∙ rw (sym e) refl)
 
--- where no link has an id, none with that id passes a test
+-- if no link is found by an id, no link with this id passes a test
 pub none_with_id : (t : Link → Bool) (id : ℕ) (ls : List Link) → IsRising (λ l k. nat_lt l.id k.id) ls
     → None ≡ find (λ l. eqb l.id id) ls → false ≡ list_any (λ l. eqb l.id id && t l) ls
 none_with_id t id ls h e = sym (any_with_id t id ls h ∙ rw (sym e) refl)
 
--- where no link has an id, none is left by a test for this id and another one
+-- if no link has an id, a filter for this id and another test keeps nothing
 none_kept : (t : Link → Bool) (id : ℕ) (ls : List Link) → list_any (λ l. eqb l.id id) ls ≡ false
     → filter (λ l. eqb l.id id && t l) ls ≡ []
 none_kept t id [] h = refl
@@ -104,7 +105,8 @@ none_kept t id (l ∷ ls) h = elim (cases_Bool (eqb l.id id)) [
   | inr k ↦ rw k (none_kept t id ls (rw k at h))
 ]
 
--- where a link with the id passes a further test, the id is all that there is of such links
+-- if at most one link has an id, and a link with this id passes a further test, the ids of all such links are this one
+-- id
 ids_of_one : (t : Link → Bool) (id : ℕ) (ls : List Link) → IsOnce (λ l. eqb l.id id) ls
     → list_any (λ l. eqb l.id id && t l) ls ≡ true → map (λ l. l.id) (filter (λ l. eqb l.id id && t l) ls) ≡ id ∷ []
 ids_of_one t id [] o h = absurd (false≢true h)
@@ -119,7 +121,7 @@ ids_of_one t id (l ∷ ls) o h = elim (cases_Bool (eqb l.id id)) [
   | inr k ↦ rw k (ids_of_one t id ls o.1 (rw k at h))
 ]
 
--- where a link with an id passes a test, the ids of all links with both are this one alone
+-- if ids rise and a link with an id passes a test, the ids of all links with both are this one id
 pub target_of_id : (t : Link → Bool) (id : ℕ) (ls : List Link) → IsRising (λ l k. nat_lt l.id k.id) ls
     → list_any (λ l. eqb l.id id && t l) ls ≡ true → map (λ l. l.id) (filter (λ l. eqb l.id id && t l) ls) ≡ id ∷ []
 target_of_id t id ls rise h = ids_of_one t id ls (once_id id ls rise) h

@@ -17,11 +17,12 @@ module _ {X Y : Type 0} (driver addr value : X → ℕ) (line : List ℕ → ℕ
   abbrev view : List DriverSpec → X → Y
   view drivers x = line (name_of drivers (driver x)) (addr x) (value x)
 
-  -- there is a driver of its number
+  -- the item's driver exists
   abbrev IsWithin : List DriverSpec → X → Type 0
   IsWithin drivers x = driver x < length drivers
 
-  -- what the law of tables says: as many in order, each of which is found, are the whole list
+  -- the statement of the law of tables: a list of items in order, all found and as many as the table has, is the whole
+  -- table
   abbrev pub LookUpsTell : Type 0
   LookUpsTell = (xs ys : List X) → IsRising (address_before driver addr value) xs
       → IsRising (address_before driver addr value) ys → length xs ≡ length ys
@@ -30,7 +31,7 @@ module _ {X Y : Type 0} (driver addr value : X → ℕ) (line : List ℕ → ℕ
   module _ (drivers : List DriverSpec) (xs : List X) (shown : Y → Option X)
       (shows : (name : List ℕ) (a v : ℕ) → shown (line name a v) ≡ shown_by driver addr value drivers xs name a v)
       (whole : (y : Y) → (name : List ℕ) × (a : ℕ) × (v : ℕ) × (y ≡ line name a v)) where
-    -- what a line shows has its words, and is found under its own address
+    -- the item that a line shows has the words of this line, and is found under its own address
     line_is : (y : Y) (x : X) → shown y ≡ Some x → (y ≡ view drivers x) × IsUnder driver addr value xs x
     line_is y x e =
         let w = whole y in
@@ -38,7 +39,7 @@ module _ {X Y : Type 0} (driver addr value : X → ℕ) (line : List ℕ → ℕ
         (sym (shows w.0 w.1 w.2) ∙ (ap shown (sym w.3) ∙ e)) in
         (w.3 ∙ sym (λ i. line (is.named i) (is.at i) (is.has i)), is.under)
 
-    -- each item is shown by its line
+    -- the line of each item shows the item
     lines_again : (some : List X) → IsDriverList drivers → AllByRecursion (IsWithin drivers) some
         → AllByRecursion (IsUnder driver addr value xs) some
         → AllByRecursion (λ x. shown (view drivers x) ≡ Some x) some
@@ -48,7 +49,7 @@ module _ {X Y : Type 0} (driver addr value : X → ℕ) (line : List ℕ → ℕ
       lines_again some h known.1 under.1,
     )
 
-    -- as many lines as items show them exactly where each shows one, in order
+    -- if there are as many lines as items, they are the lines of the items exactly if each line shows an item, in order
     pub address_lines_tell : (lines : List Y) (r : Bool)
         → are_shown_in_order shown (address_before driver addr value) None lines ≡ r → LookUpsTell
         → IsDriverList drivers → All (IsWithin drivers) xs → IsRising (address_before driver addr value) xs

@@ -1,4 +1,4 @@
--- A stream that goes alone, since its driver is above no link.
+-- A stream that ceases to exist alone, since its driver is above no link.
 use Rattle.std.proofs.Common.{◌≡◌, Bool, true, false, ◌||◌, eqb, List, [], ◌∷◌, filter, length, map, refl}
 use Rattle.std.proofs.Common.{arith, sym, ap}
 use Rattle.std.specs.List.{list_all}
@@ -17,7 +17,7 @@ use Rattle.smx_tables.specs.ListedLinks.{is_orphaned}
 use Rattle.smx_tables.specs.TouchedStreams.{is_there_or_touched}
 use Rattle.smx_tables.proofs.RemovalLemmas.{ids_in_order, ids_of, nothing_removed}
 
--- where this stream's driver is above no link, each ordinary link's controlling stream is there without it
+-- if the driver of the touched stream is above no link, the controlling stream of each ordinary link is in the table
 pub linked_alone : (t : StreamTable) (s : StreamId) (links : List Link)
     → list_all (λ l. is_persistent l || is_there_or_touched t (s ∷ []) l.ctl) links ≡ true
     → is_upper links s.driver ≡ false → list_all (λ l. is_persistent l || is_there t l.ctl) links ≡ true
@@ -28,7 +28,7 @@ linked_alone t s (l ∷ ls) h lower =
     and_from (is_persistent l || is_there t l.ctl) _ (grind (arith, nat_tests, here.0, apart.0))
     (linked_alone t s ls here.1 apart.1)
 
--- where the controlling stream of each ordinary link is there, none is orphaned
+-- if the controlling stream of each ordinary link is in the table, no link is orphaned
 none_orphaned : (drivers : List DriverSpec) (c : Configuration) (t : StreamTable) (links : List Link)
     → TellsExisting drivers c t → list_all (λ l. is_persistent l || is_there t l.ctl) links ≡ true
     → filter (is_orphaned c.fds c.links (length drivers)) links ≡ []
@@ -39,7 +39,7 @@ none_orphaned drivers c t (l ∷ ls) told h =
     rw (← told l.ctl) (grind (arith, nat_tests, here.0)) in
     rw stays (none_orphaned drivers c t ls told here.1)
 
--- where the controlling stream of each ordinary link is there, a sweep takes away only what dead streams hold
+-- if the controlling stream of each ordinary link is in the table, a sweep removes only what belongs to dead streams
 pub swept_alone : (drivers : List DriverSpec) (c : Configuration) (t : StreamTable) → TellsExisting drivers c t
     → list_all (λ l. is_persistent l || is_there t l.ctl) c.links ≡ true
     → without_dead_streams drivers c ≡ after_sweep drivers c

@@ -1,4 +1,4 @@
--- What the read sides below listed links hold goes, link by link.
+-- Emptying the read sides below listed links, link by link.
 use Rattle.std.proofs.Common.{◌≡◌, ℕ, Bool, true, false, ◌&&◌, ◌||◌, not, eqb, List, [], ◌∷◌, ◌++◌, filter, find}
 use Rattle.std.proofs.Common.{arith, Option, Some, None, refl, sym, ap, ◌∙◌, inl, inr}
 use Rattle.std.proofs.Math.Bool.{and-false, or-false}
@@ -25,11 +25,11 @@ use Rattle.smx_tables.proofs.DropLemmas.{filter_twice}
 use Rattle.smx_tables.proofs.ReleasedIdLemmas.{IsFoundBy, found_by, listed_one_more}
 use Rattle.smx_tables.proofs.RemovalLemmas.{IsIdsRising}
 
--- the link above a stream is listed
+-- the id of the link above the stream is listed
 abbrev at_link : List ℕ → List Link → StreamId → Bool
 at_link ids links x = option_map_or (λ l. is_listed ids l.id) (find (λ l. same_stream l.lower x) links) false
 
--- one id more lists the link above one stream more
+-- one more id lists the link above one more stream
 link_more : (ids : List ℕ) (id : ℕ) (s x : StreamId) (links : List Link) → AllByRecursion (IsFoundBy id s) links
     → at_link (ids ++ id ∷ []) links x ≡ (at_link ids links x || (is_below links x && same_stream x s))
 link_more ids id s x [] h = refl
@@ -51,12 +51,12 @@ below_found id (k ∷ ks) l e = elim (cases_Bool (eqb k.id id)) [
   | inr f ↦ or_right (same_stream k.lower l.lower) _ (below_found id ks l (rw f at e))
 ]
 
--- beside a test from which another one follows, that other one need not be asked
+-- a test that follows from another test is redundant beside it
 asked_once : (r old b v : Bool) → (v ≡ true → b ≡ true) → (r && (old || (b && v))) ≡ ((r && old) || (v && r))
 asked_once r old b true h = let below = h refl in grind (arith, nat_tests)
 asked_once r old b false h = grind (arith, nat_tests)
 
--- one id more takes one place more
+-- one more id adds one place
 pub read_more : (links : List Link) (ids : List ℕ) (id : ℕ) (l : Link) → AreLowersApart links → IsIdsRising links
     → find (λ k. eqb k.id id) links ≡ Some l → (p : Place)
     → is_read_below_listed links (ids ++ id ∷ []) p
@@ -69,7 +69,7 @@ read_more links ids id l apart rise found p =
     (same_stream p.stream l.lower)
     (λ t. ap (is_below links) (stream_is p.stream l.lower t) ∙ below_found id links l found)
 
--- an id that no link has takes none
+-- an id that no link has adds no place
 pub read_none : (links : List Link) (ids : List ℕ) (id : ℕ) → find (λ k. eqb k.id id) links ≡ None → (p : Place)
     → is_read_below_listed links (ids ++ id ∷ []) p ≡ is_read_below_listed links ids p
 read_none links ids id none p = ap (λ (b : Bool). same_side p.side side.Read && b) (same links none) where
@@ -86,7 +86,7 @@ read_none links ids id none p = ap (λ (b : Bool). same_side p.side side.Read &&
     ]
   ]
 
--- no id takes none
+-- an empty list of ids removes nothing
 pub none_listed_yet : {X : Type 0} (place : X → Place) (links : List Link) (xs : List X)
     → xs ≡ filter (λ x. not (is_read_below_listed links [] (place x))) xs
 none_listed_yet place links [] = refl
@@ -100,13 +100,13 @@ none_listed_yet place links (x ∷ xs) =
       none p = ap (λ (b : Bool). same_side p.side side.Read && b) (by (find (λ l. same_stream l.lower p.stream) links))
           ∙ and-false (same_side p.side side.Read)
 
--- ---- lists without them
+-- ---- lists after two removals
 
--- neither of two tests is passed just where it is not so that one of them is
+-- two tests both fail exactly if the test for either of them fails
 not_either : (a b : Bool) → (not a && not b) ≡ not (a || b)
 not_either a b = grind (arith, nat_tests)
 
--- without what passes one test more
+-- removing the items of one test and then those of another removes the items of either
 pub tests_less : {X : Type 0} (goes one more : X → Bool) (xs ys zs : List X) → ((x : X) → more x ≡ (goes x || one x))
     → ys ≡ filter (λ x. not (goes x)) xs → zs ≡ filter (λ x. not (one x)) ys → zs ≡ filter (λ x. not (more x)) xs
 tests_less goes one more xs ys zs h e f =
@@ -115,7 +115,7 @@ tests_less goes one more xs ys zs h e f =
     ∙ filter_agree (λ x. not (goes x) && not (one x)) (λ x. not (more x))
     (λ x. not_either (goes x) (one x) ∙ ap not (sym (h x))) xs))
 
--- first the places of one test are emptied, and then those of another: they are those of one that both make
+-- emptying the places of one test and then those of another empties the places of either
 pub empties_more : {A : Type 0} (goes one more : Place → Bool) (old mid new : FlowLists) (first then last : Vec ℕ A)
     → ((p : Place) → more p ≡ (goes p || one p)) → EmptiesPlaces goes old first mid then
     → EmptiesPlaces one mid then new last → EmptiesPlaces more old first new last
@@ -128,7 +128,7 @@ empties_more goes one more old mid new first then last h a b = record {
   room = b.room;
 }
 
--- two tests that take the same places empty the same
+-- two tests that pass the same places empty the same places
 pub empties_alike : {A : Type 0} (goes more : Place → Bool) (old new : FlowLists) (first last : Vec ℕ A)
     → ((p : Place) → more p ≡ goes p) → EmptiesPlaces goes old first new last → EmptiesPlaces more old first new last
 empties_alike goes more old new first last h a = record {
@@ -140,7 +140,7 @@ empties_alike goes more old new first last h a = record {
   room = a.room;
 }
 
--- a test that takes no place of a message and none that is full empties none
+-- a test that passes no place with a message and no full place empties nothing
 pub empties_none : {A : Type 0} (goes : Place → Bool) (t : FlowLists) (dropped : Vec ℕ A)
     → t.flow ≡ filter (λ h. not (goes h.place)) t.flow → t.fulls ≡ filter (λ p. not (goes p)) t.fulls
     → HasRoom dropped t.flow → EmptiesPlaces goes t dropped t dropped

@@ -1,4 +1,4 @@
--- What dead streams hold goes, stream by stream.
+-- Removing what belongs to dead streams, stream by stream.
 use Rattle.std.proofs.Common.{◌≡◌, ℕ, ◌+◌, Bool, true, false, ◌&&◌, ◌||◌, not, List, [], ◌∷◌, ◌++◌, filter, take, refl}
 use Rattle.std.proofs.Common.{arith, sym, ap, ◌∙◌, inl, inr}
 use Rattle.std.proofs.Math.Bool.{and-false}
@@ -16,7 +16,7 @@ use Rattle.smx_tables.proofs.WatchLemmas.{listed_more}
 
 -- ---- one stream
 
--- a stream that is not there goes, by whichever test finds it
+-- what belongs to a stream that is not in the table is removed, by any test that passes exactly this stream
 pub one_dead : {X : Type 0} (stream : X → StreamId) (test : X → Bool) (t : StreamTable) (s : StreamId) (xs ys : List X)
     → is_there t s ≡ false → ((x : X) → test x ≡ same_stream (stream x) s) → ys ≡ filter (λ x. not (test x)) xs
     → ys ≡ filter (λ x. not (is_dead t (s ∷ []) (stream x))) xs
@@ -29,7 +29,7 @@ one_dead stream test t s xs ys gone finds e =
         | inr other ↦ rw other (sym (and-false (not (is_there t x))))
       ]
 
--- one that is there stays
+-- what belongs to a stream in the table stays
 pub none_of_one : {X : Type 0} (stream : X → StreamId) (t : StreamTable) (s : StreamId) (xs : List X)
     → is_there t s ≡ true → xs ≡ filter (λ x. not (is_dead t (s ∷ []) (stream x))) xs
 none_of_one stream t s [] there = refl
@@ -45,7 +45,7 @@ none_of_one stream t s
 
 -- ---- one stream more
 
--- without those that are dead of one more
+-- what is left after one more stream, if the lists were right for those before it
 pub stream_less : {X : Type 0} (stream : X → StreamId) (t : StreamTable) (seen : List StreamId) (i : ℕ) (s : StreamId)
     (xs ys zs : List X) → take (i + 1) seen ≡ take i seen ++ s ∷ []
     → ys ≡ filter (λ x. not (is_dead t (take i seen) (stream x))) xs
@@ -59,21 +59,21 @@ stream_less stream t seen i s xs ys zs taken_one e f =
           ∙ (ap (λ (b : Bool). not (is_there t x) && b) (listed_more x (take i seen) s)
           ∙ grind (arith, nat_tests))
 
--- none at first
+-- no stream has been examined, so nothing is removed
 pub none_dead : {X : Type 0} (stream : X → StreamId) (t : StreamTable) (xs : List X)
     → xs ≡ filter (λ x. not (is_dead t [] (stream x))) xs
 none_dead stream t [] = refl
 none_dead stream t (x ∷ xs) =
     rw (and-false (not (is_there t (stream x)))) (ap (λ (ys : List _). x ∷ ys) (none_dead stream t xs))
 
--- ---- all that went were seen
+-- ---- all streams that ceased to exist were seen
 
--- a stream that is there or was seen is a dead one of those seen just where it is not there
+-- a stream that is in the table or was seen is dead exactly if it is not in the table
 dead_is_gone : (t : StreamTable) (seen : List StreamId) (s : StreamId) → is_there_or_touched t seen s ≡ true
     → is_dead t seen s ≡ not (is_there t s)
 dead_is_gone t seen s h = grind (arith, nat_tests)
 
--- where each stream is there or was seen, leaving out the dead ones seen leaves out all that are not there
+-- if each stream is in the table or was seen, removing the dead ones seen removes all that are not in the table
 pub dead_are_gone : {X : Type 0} (stream : X → StreamId) (t : StreamTable) (seen : List StreamId) (xs : List X)
     → list_all (λ x. is_there_or_touched t seen (stream x)) xs ≡ true
     → filter (λ x. not (is_dead t seen (stream x))) xs ≡ filter (λ x. not (not (is_there t (stream x)))) xs

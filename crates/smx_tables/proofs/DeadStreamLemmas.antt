@@ -1,4 +1,4 @@
--- What dead streams hold goes with them, stream by stream.
+-- Removing what belongs to dead streams from a configuration, stream by stream.
 use Rattle.std.proofs.Common.{◌≡◌, ℕ, ◌+◌, Bool, true, false, ◌&&◌, not, eqb, List, [], ◌∷◌, ◌++◌, filter, take, refl}
 use Rattle.std.proofs.Common.{sym, ap, ◌∙◌}
 use Rattle.std.proofs.Math.Bool.{and-true, not-not}
@@ -17,17 +17,17 @@ use Rattle.smx_tables.specs.TouchedStreams.{is_dead, without_streams, IsTouched}
 use Rattle.smx_tables.proofs.DeadLemmas.{dead_are_gone, none_dead, none_of_one, one_dead, stream_less}
 use Rattle.smx_tables.proofs.HungLemmas.{all_pass}
 
--- ---- the streams of each list
+-- ---- the stream of each item
 
 -- the stream of a binding
 abbrev bound : Binding → StreamId
 bound b = record { driver = b.driver; minor = b.minor }
 
--- the stream at one of whose sides a message is queued
+-- the stream at which a message is queued
 abbrev queued : QueuedMessage → StreamId
 queued h = h.place.stream
 
--- the stream of a place that is marked as full
+-- the stream of a full place
 abbrev marked : Place → StreamId
 marked p = p.stream
 
@@ -42,7 +42,7 @@ same_parts : (c : Configuration) (xs bs : List Binding) (hs gs : List QueuedMess
     → xs ≡ bs → hs ≡ gs → ps ≡ qs → parts c xs hs ps ≡ parts c bs gs qs
 same_parts c xs bs hs gs ps qs a b d = cc
 
--- a stream that is not there goes, with its binding and both its sides
+-- a stream that is not in the table loses its binding, and the messages and full marks of both its sides
 pub one_gone : (c : Configuration) (t : StreamTable) (s : StreamId)
     (binds : List Binding) (flow : List QueuedMessage) (fulls : List Place)
     → is_there t s ≡ false → binds ≡ filter (λ b. not (eqb b.driver s.driver && eqb b.minor s.minor)) c.binds
@@ -56,18 +56,18 @@ one_gone c t s binds flow fulls gone no_bind no_message no_mark = same_parts c _
     (one_dead marked (λ p. same_stream (marked p) s && true) t s c.fulls fulls gone
     (λ p. and-true (same_stream (marked p) s)) no_mark)
 
--- one that is there stays, with all that it has
+-- a stream in the table loses nothing
 pub none_gone : (c : Configuration) (t : StreamTable) (s : StreamId) → is_there t s ≡ true
     → c ≡ without_streams c (is_dead t (s ∷ []))
 none_gone c t s there = same_parts c c.binds _ c.flow _ c.fulls _
     (none_of_one bound t s c.binds there) (none_of_one queued t s c.flow there) (none_of_one marked t s c.fulls there)
 
--- none goes at first
+-- no stream has been examined, so nothing is removed
 pub none_gone_yet : (c : Configuration) (t : StreamTable) → c ≡ without_streams c (is_dead t [])
 none_gone_yet c t = same_parts c c.binds _ c.flow _ c.fulls _
     (none_dead bound t c.binds) (none_dead queued t c.flow) (none_dead marked t c.fulls)
 
--- one stream more
+-- what is left after one more stream
 pub one_more_gone : (old c new : Configuration) (t u : StreamTable) (seen : List StreamId) (i : ℕ) (s : StreamId)
     → u ≡ t → take (i + 1) seen ≡ take i seen ++ s ∷ [] → c ≡ without_streams old (is_dead t (take i seen))
     → new ≡ without_streams c (is_dead u (s ∷ [])) → new ≡ without_streams old (is_dead t (take (i + 1) seen))
@@ -78,7 +78,7 @@ one_more_gone old c new t u seen i s here taken_one e f =
     (stream_less queued t seen i s old.flow _ _ taken_one refl refl)
     (stream_less marked t seen i s old.fulls _ _ taken_one refl refl)
 
--- where all that went were seen, what is not there goes with what does not exist
+-- if all streams that ceased to exist were seen, what belongs to streams that don't exist is removed
 pub all_gone : (drivers : List DriverSpec) (c : Configuration) (t : StreamTable) (seen : List StreamId)
     → TellsExisting drivers c t → IsTouched t seen c → ((x : StreamId) → is_hung c.hungs x ≡ true → is_there t x ≡ true)
     → without_streams c (is_dead t seen) ≡ without_dead_streams drivers c

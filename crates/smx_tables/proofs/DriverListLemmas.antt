@@ -1,4 +1,4 @@
--- A list of drivers that a configuration can have, driver by driver.
+-- Lists of drivers that are valid for a configuration, driver by driver.
 use Rattle.std.proofs.Common.{◌≡◌, ◌≢◌, ℕ, ◌+◌, ◌<◌, ◌≤◌, ltb, ◌||◌, List, [], ◌∷◌, ◌++◌, length, get_or, take, Ok, sym}
 use Rattle.std.proofs.Common.{ap, subst, ◌∙◌, arith, inl, inr, length-append}
 use Rattle.std.specs.Prelude.{Any}
@@ -13,7 +13,7 @@ use Rattle.smx_types.specs.declared.driver.DriverSpec.{DriverSpec}
 use Rattle.smx_types.specs.declared.limits.TheConstants.{MAX_DRIVERS, MAX_MINORS}
 use Rattle.smx_model.specs.DriverList.{IsDriverList}
 
--- one more, of a name that none has yet
+-- a valid list with one more valid driver, whose name is new, is valid
 one_more : (ds : List DriverSpec) (d : DriverSpec) → length ds < MAX_DRIVERS → IsDriverList ds → spec_check d ≡ Ok tt
     → (Any (λ e. e.name ≡ d.name) ds → ⊥) → IsDriverList (ds ++ d ∷ [])
 one_more ds d few h can new = record {
@@ -23,7 +23,7 @@ one_more ds d few h can new = record {
       (λ k e lt same. new (k, get_or ds k e, lt, get_or_default ds k (get_or ds k e) e lt, same));
 }
 
--- the first drivers of a list can be had with the next one, if it can be had and its name is new among them
+-- if the first drivers of a list are valid, they stay so with the next one, if it is valid and its name is new
 pub next_driver : (ds : List DriverSpec) (i : ℕ) (d : DriverSpec) → i < length ds → length ds ≤ MAX_DRIVERS
     → d ≡ get_or ds i d
     → IsDriverList (take i ds) → spec_check d ≡ Ok tt → (Any (λ e. e.name ≡ d.name) (take i ds) → ⊥)
@@ -33,7 +33,7 @@ next_driver ds i d lt few here h can new =
     ∙ ap (λ (e : DriverSpec). take i ds ++ e ∷ []) (sym here) in
     subst IsDriverList (sym next) (one_more (take i ds) d (omega (arith, length-take-le i ds (omega arith))) h can new)
 
--- a name that an earlier driver has spoils the list
+-- a list with a driver that has the name of an earlier one is invalid
 pub taken_name : (ds : List DriverSpec) (i : ℕ) (d : DriverSpec) → i < length ds → d ≡ get_or ds i d
     → Any (λ e. e.name ≡ d.name) (take i ds) → IsDriverList ds → ⊥
 taken_name ds i d lt here (k, e, before, at, same) h =
@@ -42,21 +42,21 @@ taken_name ds i d lt here (k, e, before, at, same) h =
     let e_is : e ≡ get_or ds k d = sym at ∙ get_or-take i ds k e earlier ∙ get_or_default ds k e d (omega arith) in
     h.names k i d earlier lt (ap (λ (x : DriverSpec). x.name) (sym e_is) ∙ same ∙ ap (λ (x : DriverSpec). x.name) here)
 
--- ---- what a list of drivers says of their minors
+-- ---- the minors of the drivers of a valid list
 
--- a driver that passes the check has no more minors than a driver may
+-- a driver that passes the check has at most as many minors as allowed
 few_minors : (d : DriverSpec) → spec_check d ≡ Ok tt → d.minors ≤ MAX_MINORS
 few_minors d can = elim (cases_Bool (ltb d.minors 1 || ltb MAX_MINORS d.minors)) [
   | inl t ↦ let bad = rw t at can in absurd cc
   | inr f ↦ grind (arith, nat_tests)
 ]
 
--- where each driver passes the check, none has more minors than a driver may
+-- if each driver passes the check, each has at most as many minors as allowed
 all_few : (ds : List DriverSpec) → AllByRecursion (λ d. spec_check d ≡ Ok tt) ds
     → AllByRecursion (λ d. d.minors ≤ MAX_MINORS) ds
 all_few [] h = tt
 all_few (d ∷ ds) h = (few_minors d h.0, all_few ds h.1)
 
--- no driver of a list that can be had has more minors than a driver may
+-- each driver of a valid list has at most as many minors as allowed
 pub minors_within : (ds : List DriverSpec) → IsDriverList ds → AllByRecursion (λ d. d.minors ≤ MAX_MINORS) ds
 minors_within ds h = all_few ds (recursion_from_All (λ d. spec_check d ≡ Ok tt) ds h.each)

@@ -1,4 +1,4 @@
--- Drivers by their names.
+-- Drivers by name.
 use Rattle.std.proofs.Common.{◌≡◌, ℕ, ◌<◌, true, false, cond, List, [], length, get_or, Option, Some}
 use Rattle.std.proofs.Common.{None, sym, ap, subst, ◌∙◌, arith}
 use Rattle.std.specs.Prelude.{position, nat_lt}
@@ -13,21 +13,21 @@ use Rattle.smx_types.specs.declared.driver.DriverKind.TheVariants.{Leaf}
 use Rattle.smx_types.specs.declared.driver.DriverSpec.{DriverSpec}
 use Rattle.smx_model.specs.DriverList.{IsDriverList, name_of}
 
--- a driver that stands where a list of drivers has none
+-- the default for look-ups in a list of drivers
 pub some_driver : DriverSpec
 some_driver = record { name = []; kind = Leaf; minors = 0; high = 0; low = 0; max = 0 }
 
--- the name of a driver that there is
+-- the name of a driver that exists
 pub name_at : (drivers : List DriverSpec) (n : ℕ) → n < length drivers
     → name_of drivers n ≡ (get_or drivers n some_driver).name
 name_at drivers n lt =
     ap (λ (o : Option DriverSpec). option_map_or (λ d. d.name) o []) (slice_get-get_or drivers n some_driver lt)
 
--- the number of the driver of this name
+-- the number of the driver with this name
 abbrev pub number_of : List DriverSpec → List ℕ → Option ℕ
 number_of drivers name = position (λ d. bytes_eq d.name name) drivers
 
--- the driver that is found by a name has it
+-- the driver that is found by a name has this name
 pub named_at : (drivers : List DriverSpec) (name : List ℕ) (n : ℕ) → number_of drivers name ≡ Some n
     → name_of drivers n ≡ name
 named_at drivers name n e =
@@ -47,7 +47,7 @@ found_by_name drivers n h lt =
     ap (λ m. cond (nat_lt m (length drivers)) (Some m) None) first
     ∙ ap (λ b. cond b (Some n) None) (lt-ltb n (length drivers) lt)
 
--- the driver of this number is found by this name, if it has it
+-- if the driver with this number has this name, this number is found by the name
 pub found_by_its_name : (drivers : List DriverSpec) (n : ℕ) (d : DriverSpec) (name : List ℕ) → IsDriverList drivers
     → n < length drivers → d ≡ get_or drivers n some_driver → bytes_eq d.name name ≡ true
     → number_of drivers name ≡ Some n

@@ -1,4 +1,4 @@
--- What is dropped at a place, and the serials that were dropped, in order.
+-- The messages that are dropped at a place, and the serials of dropped messages in order.
 use Rattle.std.proofs.Common.{◌≡◌, ◌≢◌, ℕ, suc, ◌+◌, ◌≤◌, Bool, true, false, ◌&&◌, ◌||◌, not, cond, eqb, ltb, List, []}
 use Rattle.std.proofs.Common.{◌∷◌, ◌++◌, length, map, filter, get_or, refl, sym, ap, ◌∙◌, subst, arith, inl, inr}
 use Rattle.std.specs.List.{AllPairs, list_any, sum_by}
@@ -26,16 +26,16 @@ use Rattle.smx_model.proofs.CountLemmas.{times, times_rising}
 use Rattle.smx_model.proofs.QueueLemmas.{gone_is}
 use Rattle.smx_queues.proofs.PlaceLemmas.{same_turned}
 use Rattle.smx_tables.specs.DroppedMessages.{AreDropped, is_flushed_at}
--- two tests in turn are both at once
+-- filtering by two tests in turn is filtering by both at once
 pub use Rattle.smx_streams.proofs.ListLemmas.{filter_twice}
 
 -- a side of a stream
 abbrev at : StreamId → Side → Place
 at s x = record { stream = s; side = x }
 
--- ---- one place more is emptied
+-- ---- one more place is emptied
 
--- what goes by either of two tests is what goes by the first, and then by the second of what is left
+-- the items that fail one of two tests: those that fail the first, and the others that fail the second, in some order
 split : {X : Type 0} (t u : X → Bool) (xs : List X)
     → IsPermutation (filter (λ x. not (t x && not (u x))) xs) (filter (λ x. not (t x)) xs ++ filter u (filter t xs))
 split t u [] = IsPermutation-refl []
@@ -56,7 +56,7 @@ serials_at [] p = refl
 serials_at (h ∷ hs) p = elim (cases_Bool (is_at p h))
     [ inl t ↦ rw t (ap (λ (ns : List ℕ). h.message.serial ∷ ns) (serials_at hs p)) | inr f ↦ rw f (serials_at hs p) ]
 
--- where one more place is emptied, the serials of its messages are dropped too
+-- if one more place is emptied, the serials of its messages are dropped too
 pub dropped_more : (old flow new : List QueuedMessage) (p : Place) (dropped more : List ℕ)
     → new ≡ filter (λ h. not (is_at p h)) flow → more ≡ dropped ++ map (λ m. m.serial) (queue flow p)
     → AreDropped old flow dropped → AreDropped old new more
@@ -82,16 +82,16 @@ dropped_more old flow new p dropped more fewer longer h =
           parts all) first);
     }
 
--- a test that all pass leaves all, and takes none away
+-- a test that all items pass keeps all, and its negation none
 none_kept : {X : Type 0} (xs : List X) → (filter (λ x. true) xs ≡ xs) × (filter (λ x. not true) xs ≡ [])
 none_kept [] = (refl, refl)
 none_kept (x ∷ xs) = let r = none_kept xs in (ap (λ (ys : List _). x ∷ ys) r.0, r.1)
 
--- all stay
+-- filtering by a test that all items pass changes nothing
 pub all_stay : {X : Type 0} (xs : List X) → xs ≡ filter (λ x. true) xs
 all_stay xs = sym (none_kept xs).0
 
--- nothing is dropped yet
+-- at first nothing is dropped
 pub none_dropped : (flow : List QueuedMessage) (dropped : List ℕ) → dropped ≡ [] → AreDropped flow flow dropped
 none_dropped flow dropped none = record {
   keep = λ x. true;
@@ -101,9 +101,9 @@ none_dropped flow dropped none = record {
       (IsPermutation-refl []));
 }
 
--- ---- where there is nothing to drop
+-- ---- nothing to drop
 
--- of a place without a message none goes
+-- emptying a place without messages changes no message
 pub no_message_goes : (flow : List QueuedMessage) (p : Place) → is_some (first_message flow p) ≡ false
     → flow ≡ filter (λ h. not (is_at p h)) flow
 no_message_goes [] p none = refl
@@ -112,7 +112,7 @@ no_message_goes (h ∷ hs) p none = elim (cases_Bool (is_at p h)) [
   | inr f ↦ rw f (ap (λ (xs : List QueuedMessage). h ∷ xs) (no_message_goes hs p (rw f at none)))
 ]
 
--- of a place without a full mark none goes
+-- emptying a place without a full mark changes no mark
 pub no_mark_goes : (fulls : List Place) (p : Place) → list_any (same_place p) fulls ≡ false
     → fulls ≡ filter (λ q. not (same_place q p)) fulls
 no_mark_goes [] p none = refl
@@ -121,16 +121,16 @@ no_mark_goes (q ∷ qs) p none = elim (cases_Bool (same_place q p)) [
   | inr f ↦ rw f (ap (λ (xs : List Place). q ∷ xs) (no_mark_goes qs p (rw (same_turned p q, f) at none)))
 ]
 
--- ---- how many messages are left, and at a place
+-- ---- the number of messages
 
--- the messages at a place and those at other places are as many as the flow has
+-- the messages at a place and those at other places are together as many as the flow has
 pub place_and_rest : (flow : List QueuedMessage) (p : Place)
     → length (queue flow p) + length (filter (λ h. not (is_at p h)) flow) ≡ length flow
 place_and_rest [] p = refl
 place_and_rest (h ∷ hs) p = elim (cases_Bool (is_at p h))
     [ inl t ↦ rw t (omega (arith, place_and_rest hs p)) | inr f ↦ rw f (omega (arith, place_and_rest hs p)) ]
 
--- both sides of a stream, where they are named
+-- a place on a named side of the stream is on its write side or its read side
 pub on_both_sides : (stream : StreamId) (sides : Sides) (s : StreamId) (x : Side)
     → (same_stream s stream && is_side sides x)
     ≡ (is_flushed_at stream sides side.Write (at s x) || is_flushed_at stream sides side.Read (at s x))
@@ -139,28 +139,28 @@ on_both_sides stream sides s side.Read = grind (arith, nat_tests)
 
 -- ---- sorted numbers
 
--- no number of the list is below this one
+-- no number of the list is below this number
 abbrev AllFrom : ℕ → List ℕ → Type 0
 AllFrom n [] = Unit {0}
 AllFrom n (m ∷ ms) = (n ≤ m) × AllFrom n ms
 
--- no number of the list is below one before it
+-- no number of the list is below an earlier one
 abbrev IsUp : List ℕ → Type 0
 IsUp [] = Unit {0}
 IsUp (n ∷ ns) = AllFrom n ns × IsUp ns
 
--- numbers of which none is below one number are not below a smaller one
+-- if no number of a list is below m, and n ≤ m, none is below n
 all_from_less : (n m : ℕ) (ns : List ℕ) → n ≤ m → AllFrom m ns → AllFrom n ns
 all_from_less n m [] le h = tt
 all_from_less n m (k ∷ ns) le h = (omega (arith, h.0), all_from_less n m ns le h.1)
 
--- numbers that are not below one number still aren't with one more such number inserted
+-- if no number of a list is below n, that stays so with one more number that isn't below n
 from_placed : (n m : ℕ) (ns : List ℕ) → n ≤ m → AllFrom n ns → AllFrom n (with_inserted ltb ns m)
 from_placed n m [] le h = (le, tt)
 from_placed n m (k ∷ ns) le h =
     elim (cases_Bool (ltb m k)) [ inl t ↦ rw t (le, h) | inr f ↦ rw f (h.0, from_placed n m ns le h.1) ]
 
--- a number that is inserted in its order leaves no number below one before it
+-- inserting a number in order keeps a list in order
 up_placed : (ns : List ℕ) (n : ℕ) → IsUp ns → IsUp (with_inserted ltb ns n)
 up_placed [] n h = (tt, tt)
 up_placed (k ∷ ns) n h = elim (cases_Bool (ltb n k)) [
@@ -168,18 +168,18 @@ up_placed (k ∷ ns) n h = elim (cases_Bool (ltb n k)) [
   | inr f ↦ let more = ltb-false n k f in rw f (from_placed k n ns more h.0, up_placed ns n h.1)
 ]
 
--- in rising order no number is below one before it
+-- the function `in_rising_order` puts a list in order
 rising_up : (ns : List ℕ) → IsUp (in_rising_order ns)
 rising_up [] = tt
 rising_up (n ∷ ns) = up_placed (in_rising_order ns) n (rising_up ns)
 
--- how often a number is in a list is the sum of a one for each place that has it
+-- the number of times that a number is in a list, as a sum over the list
 times_sum : (k : ℕ) (ns : List ℕ) → times k ns ≡ sum_by (λ m. cond (eqb m k) 1 0) ns
 times_sum k [] = refl
 times_sum k (n ∷ ns) =
     ap (λ (m : ℕ). cond (eqb n k) 1 0 + m) (times_sum k ns) ∙ sym (sum_by-cons (λ (m : ℕ). cond (eqb m k) 1 0) n ns)
 
--- a number is as often in another order
+-- a permutation has each number as often
 pub times_permuted : (k : ℕ) (ns ms : List ℕ) → IsPermutation ns ms → times k ms ≡ times k ns
 times_permuted k ns ms h =
     times_sum k ms ∙ (sum_by-IsPermutation (λ m. cond (eqb m k) 1 0) ns ms h ∙ sym (times_sum k ns))
@@ -188,13 +188,13 @@ times_permuted k ns ms h =
 here_once : (n : ℕ) (ns : List ℕ) → times n (n ∷ ns) ≡ suc (times n ns)
 here_once n ns = rw (eq-eqb n n refl) (omega arith)
 
--- a number that is below all others is none of them
+-- a number below all numbers of a list is not in it
 low_is_none : (n m : ℕ) (ns : List ℕ) → AllFrom m ns → suc n ≤ m → times n ns ≡ 0
 low_is_none n m [] h lt = refl
 low_is_none n m (k ∷ ns) h lt =
     rw (ne_eqb k n (λ e. let j = h.0 in omega arith)) (omega (arith, low_is_none n m ns h.1 lt))
 
--- two lists of rising numbers are equal where each number is in both as often
+-- two lists in order are equal if each number is in both equally often
 one_up : (ns ms : List ℕ) → IsUp ns → IsUp ms → ((k : ℕ) → times k ns ≡ times k ms) → ns ≡ ms
 one_up [] [] h g same = refl
 one_up [] (m ∷ ms) h g same = absurd (omega (arith, same m, here_once m ms))
@@ -225,7 +225,7 @@ one_up (n ∷ ns) (m ∷ ms) h g same = elim (cases_eq n m) [
         let z : times m (n ∷ ns) ≡ 0 = rw not_n (omega (arith, none)) in omega (arith, s, z)
   ]
 
--- in a list that doesn't decrease no number is below one before it
+-- a list that doesn't decrease is in order
 from_sorted : (ns : List ℕ) → IsNonDecreasing ns → IsUp ns
 from_sorted [] h = tt
 from_sorted (n ∷ ns) h = (
@@ -236,13 +236,13 @@ from_sorted (n ∷ ns) h = (
   all_from k [] f = tt
   all_from k (m ∷ ms) f = (f 0 m (omega arith), all_from k ms (λ j d lt. f (suc j) d (omega arith)))
 
--- the same numbers in another order that doesn't fall are those numbers in rising order
+-- a permutation that doesn't decrease is the list in rising order
 pub sorted_is : (ns ms out : List ℕ) → IsPermutation ns ms → IsPermutation ms out → IsNonDecreasing out
     → out ≡ in_rising_order ns
 sorted_is ns ms out h k up = one_up out (in_rising_order ns) (from_sorted out up) (rising_up ns)
     (λ n. times_permuted n ms out k ∙ (times_permuted n ns ms h ∙ sym (times_rising n ns)))
 
--- serials that were dropped, once they are in order, are those that left the flow
+-- the dropped serials, once they are sorted, are those that left the flow
 pub left_in_order : (old new : List QueuedMessage) (dropped out : List ℕ)
     → AllPairs (λ m n. m ≢ n) (serials old) → AreDropped old new dropped → IsPermutation dropped out
     → IsNonDecreasing out
@@ -251,7 +251,7 @@ left_in_order old new dropped out apart h sorted up =
     sorted_is (serials (filter (λ x. not (h.keep x)) old)) dropped out h.gone sorted up
     ∙ (sym (gone_is old h.keep apart) ∙ ap (serials_that_left old) (sym h.left))
 
--- where no serial was dropped, none left the flow
+-- if no serial was dropped, none left the flow
 pub none_left : (old new : List QueuedMessage) (dropped : List ℕ)
     → AllPairs (λ m n. m ≢ n) (serials old) → AreDropped old new dropped → length dropped ≡ 0
     → [] ≡ serials_that_left old new

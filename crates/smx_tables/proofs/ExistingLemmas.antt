@@ -1,4 +1,4 @@
--- Which streams exist, by the table of streams: those that a descriptor names, and those that are held.
+-- The streams that exist are those in the table of streams: named by a descriptor, or held.
 use Rattle.std.proofs.Common.{◌≡◌, ℕ, zero, suc, ◌+◌, ◌<◌, ◌≤◌, Bool, true, false, ◌&&◌, ◌||◌, not, List, [], ◌∷◌}
 use Rattle.std.proofs.Common.{length, find, get_or, Option, Some, None, Ok, Err, ◌++◌, if◌then◌else◌, refl, sym}
 use Rattle.std.proofs.Common.{ap, subst, ◌∙◌, arith, inl, inr}
@@ -34,27 +34,27 @@ use Rattle.smx_links.specs.LinkLists.{LinkList, IsLinked, refusal, with_link}
 use Rattle.smx_links.specs.declared.link_fault.LinkFault.TheVariants as link_fault
 use Rattle.smx_tables.proofs.AboveLemmas.{stream_is, stream_self}
 use Rattle.smx_tables.proofs.ClimbLemmas.{named_stands}
--- one, or all, that pass a test pass any test that follows from it; and fewer items pass what all did
+-- all items, or any, that pass a test pass each weaker one; and if all items pass, all items of a filtered list do
 pub use Rattle.smx_model.proofs.TestLemmas.{all_filter as all_fewer, all_more as all_weaker, any_more as any_weaker}
 
 -- ---- tests
 
--- where the controlling stream of each ordinary link passes a test, it passes any test that follows from it
+-- if the controlling stream of each ordinary link passes a test, it passes each weaker test
 pub linked_weaker : (f g : StreamId → Bool) (ls : List Link) → ((s : StreamId) → f s ≡ true → g s ≡ true)
     → list_all (λ l. is_persistent l || f l.ctl) ls ≡ true → list_all (λ l. is_persistent l || g l.ctl) ls ≡ true
 linked_weaker f g ls on = all_weaker (λ l. is_persistent l || f l.ctl) (λ l. is_persistent l || g l.ctl) ls
     (λ l e. elim (or_cases (is_persistent l) (f l.ctl) e)
     [ inl p ↦ or_left _ _ p | inr o ↦ or_right _ _ (on l.ctl o) ])
 
--- two tests that follow from one another
+-- two tests that imply each other are equal
 pub same_test : (a b : Bool) → (a ≡ true → b ≡ true) → (b ≡ true → a ≡ true) → a ≡ b
 same_test true b f g = sym (f refl)
 same_test false true f g = g refl
 same_test false false f g = refl
 
--- ---- what stands is named, or below a link
+-- ---- a stream that exists is named, or below a link
 
--- the stream of a descriptor exists
+-- a descriptor names the stream that a look-up of it returns
 pub named_stream : (process fd : ℕ) (fds : List Descriptor) (s : StreamId)
     → option_map (λ (d : Descriptor). d.stream) (find (is_fd process fd) fds) ≡ Some s → is_named fds s ≡ true
 named_stream process fd [] s h = absurd cc
@@ -63,7 +63,7 @@ named_stream process fd (d ∷ ds) s h = elim (cases_Bool (is_fd process fd d)) 
   | inr f ↦ or_right _ _ (named_stream process fd ds s (rw f at h))
 ]
 
--- a stream that stands is named by a descriptor, or is below a link
+-- a stream that exists within n climbs is named by a descriptor, or is below a link
 pub stands_there : (fds : List Descriptor) (links : List Link) (n : ℕ) (s : StreamId)
     → stands_within fds links n s ≡ true → (is_named fds s || is_below links s) ≡ true
 stands_there fds links zero s h =
@@ -85,9 +85,9 @@ stands_there fds links (suc n) s
           (and_parts (not (is_persistent l)) (same_stream l.lower s && stands_within fds links n l.ctl) t).1).0) b)
     ]
 
--- ---- a climb comes to a driver that fewer drivers lead to
+-- ---- a climb reaches a driver to which fewer drivers lead
 
--- how many of the drivers lead to this one
+-- the number of drivers that lead to this driver
 abbrev height : List DriverSpec → List Link → ℕ → ℕ
 height drivers links d = count (λ x. reaches links x d) (length drivers)
 
@@ -95,7 +95,7 @@ height drivers links d = count (λ x. reaches links x d) (length drivers)
 abbrev ClimbsToFewer : List DriverSpec → List Link → Link → Type 0
 ClimbsToFewer drivers links l = height drivers links l.ctl.driver < height drivers links l.lower.driver
 
--- where there is no cycle, fewer drivers lead to each link's upper driver than to its lower one
+-- if there is no cycle, fewer drivers lead to the upper driver of each link than to its lower one
 climbs_to_fewer : (drivers : List DriverSpec) (links : List Link) → HasNoCycle links
     → All (λ l. IsKnown drivers l.ctl) links → All (ClimbsToFewer drivers links) links
 climbs_to_fewer drivers links none known = λ i d lt.
@@ -103,15 +103,16 @@ climbs_to_fewer drivers links none known = λ i d lt.
     up_less links (length drivers) l.ctl.driver l.lower.driver none
     (reaches_at links i l lt (get_or_default links i l d lt)) (known i d lt).0
 
--- ---- what is there stands
+-- ---- a stream in the table exists
 
--- a persistent link above a stream holds it, however few the climbs
+-- a stream below a persistent link exists within any number of climbs
 persistent_stands : (fds : List Descriptor) (links : List Link) (n : ℕ) (s : StreamId)
     → list_any (λ l. is_persistent l && same_stream l.lower s) links ≡ true → stands_within fds links n s ≡ true
 persistent_stands fds links zero s h = or_right _ _ h
 persistent_stands fds links (suc n) s h = or_left _ _ (persistent_stands fds links n s h)
 
--- one of the links above is persistent, or the controlling stream of one stands
+-- if a stream is below a link, and t holds for the ordinary links above it, then a link above it is persistent, or is
+-- ordinary and t holds for it
 by_link : (t : Link → Bool) (s : StreamId) (ls : List Link)
     → AllByRecursion (λ l. same_stream l.lower s ≡ true → is_persistent l ≡ false → t l ≡ true) ls
     → is_below ls s ≡ true
@@ -126,15 +127,16 @@ by_link t s (l ∷ ls) h b = elim (cases_Bool (same_stream l.lower s)) [
   | inr other ↦ let rest = by_link t s ls h.1 (rw other at b) in rw other (grind (arith, nat_tests))
 ]
 
--- the controlling stream of each ordinary link that holds its lower stream is there
+-- if the lower stream of the link is held and the link is ordinary, its controlling stream is in the table
 abbrev pub IsTight : StreamTable → Link → Type 0
 IsTight t l = is_held t l ≡ true → is_persistent l ≡ false → is_there t l.ctl ≡ true
 
--- what is held is below a link
+-- each held stream is below a link
 abbrev pub IsHeldBelow : List Link → StreamTable → Type 0
 IsHeldBelow links t = (s : StreamId) → nat_lt 0 (number_at t.holds s) ≡ true → is_below links s ≡ true
 
--- where what fewer drivers lead to stands, so do the controlling streams of the links above a held stream
+-- if the streams in the table at drivers of height n or less exist within n climbs, the controlling streams of the
+-- ordinary links above a held stream of height n + 1 or less do so too
 mutual_step : (drivers : List DriverSpec) (links : List Link) (t : StreamTable) (n : ℕ) (s : StreamId) (ls : List Link)
     → nat_lt 0 (number_at t.holds s) ≡ true → height drivers links s.driver ≤ suc n
     → ((x : StreamId) → height drivers links x.driver ≤ n → is_there t x ≡ true → stands_within t.fds links n x ≡ true)
@@ -153,7 +155,7 @@ mutual_step drivers links t n s (l ∷ ls) up few ih h r = (
   mutual_step drivers links t n s ls up few ih h.1 r.1,
 )
 
--- a stream whose driver no driver leads to is below no link
+-- a stream of a driver to which no driver leads is below no link
 none_lower : (drivers : List DriverSpec) (links : List Link) (s : StreamId) (ls : List Link)
     → height drivers links s.driver ≤ 0 → AllByRecursion (ClimbsToFewer drivers links) ls → is_below ls s ≡ false
 none_lower drivers links s [] few r = refl
@@ -166,7 +168,7 @@ none_lower drivers links s (l ∷ ls) few r = elim (cases_Bool (same_stream l.lo
   | inr other ↦ rw other (none_lower drivers links s ls few r.1)
 ]
 
--- what is there stands within as many climbs as drivers lead to its driver
+-- a stream in the table exists within n climbs, if n is at least the number of drivers that lead to its driver
 there_stands_within : (drivers : List DriverSpec) (links : List Link) (t : StreamTable) (n : ℕ) (s : StreamId)
     → IsHeldBelow links t → AllByRecursion (IsTight t) links → AllByRecursion (ClimbsToFewer drivers links) links
     → height drivers links s.driver ≤ n → is_there t s ≡ true → stands_within t.fds links n s ≡ true
@@ -189,7 +191,7 @@ there_stands_within drivers links t (suc n) s up h r few there =
           ]
     ]
 
--- what is there exists
+-- a stream in the table exists
 pub there_exists : (drivers : List DriverSpec) (c : Configuration) (t : StreamTable) (s : StreamId)
     → AreLinksSound c.links → All (λ l. IsKnown drivers l.ctl) c.links
     → t.fds ≡ c.fds → IsHeldBelow c.links t → AllByRecursion (IsTight t) c.links → is_there t s ≡ true
@@ -205,19 +207,19 @@ there_exists drivers c t s sound known same up h there =
       within = subst (λ (fds : List Descriptor). stands_within fds c.links n s ≡ true) same within;
     })
 
--- ---- the table, where each stream below a link is held
+-- ---- the table, if each stream below a link is held
 
--- a stream is held exactly where it is below a link
+-- a stream is held exactly if it is below a link
 pub held_is_below : (links : List Link) (t : StreamTable) (s : StreamId) → AreHeld links t
     → nat_lt 0 (number_at t.holds s) ≡ is_below links s
 held_is_below links t s h = rw (h s) (grind (arith, nat_tests))
 
--- where each stream below a link has a hold, a stream is there if a descriptor names it or a link is above it
+-- a stream is in the table exactly if a descriptor names it or it is below a link
 pub there_is : (links : List Link) (t : StreamTable) (s : StreamId) → AreHeld links t
     → is_there t s ≡ (is_named t.fds s || is_below links s)
 there_is links t s h = ap (λ (b : Bool). is_named t.fds s || b) (held_is_below links t s h)
 
--- where no ordinary link lacks its controlling stream, no link that holds its lower stream does
+-- if the controlling stream of each ordinary link is in the table, so is that of each one whose lower stream is held
 all_linked : (t : StreamTable) (ls : List Link) → list_all (λ l. is_persistent l || is_there t l.ctl) ls ≡ true
     → AllByRecursion (IsTight t) ls
 all_linked t [] h = tt
@@ -228,7 +230,8 @@ all_linked t (l ∷ ls) h =
       all_linked t ls p.1,
     )
 
--- where no ordinary link lacks its controlling stream, and streams below links are held, the table tells which exist
+-- if the controlling stream of each ordinary link is in the table, and each stream below a link is held, the streams in
+-- the table are those that exist
 pub tells_existing : (drivers : List DriverSpec) (c : Configuration) (t : StreamTable)
     → AreLinksSound c.links → All (λ l. IsKnown drivers l.ctl) c.links
     → t.fds ≡ c.fds → AreHeld c.links t → list_all (λ l. is_persistent l || is_there t l.ctl) c.links ≡ true
@@ -240,7 +243,7 @@ tells_existing drivers c t sound known same held linked = λ s.
     (λ e. there_is c.links t s held ∙ subst (λ (fds : List Descriptor). (is_named fds s || is_below c.links s) ≡ true)
     (sym same) (stands_there c.fds c.links (length drivers) s e))
 
--- in what is swept the controlling stream of each ordinary link is there
+-- if the controlling stream of each ordinary link exists, it is in the table
 pub swept_is_linked : (drivers : List DriverSpec) (c : Configuration) (t : StreamTable) → t.fds ≡ c.fds
     → AreHeld c.links t → list_all (λ l. is_persistent l || exists drivers c l.ctl) c.links ≡ true
     → list_all (λ l. is_persistent l || is_there t l.ctl) c.links ≡ true
@@ -250,25 +253,26 @@ swept_is_linked drivers c t same held h =
     ∙ subst (λ (fds : List Descriptor). (is_named fds s || is_below c.links s) ≡ true) (sym same)
     (stands_there c.fds c.links (length drivers) s o)) h
 
--- ---- one link more
+-- ---- one more link
 
--- a stream has one hold at most
+-- a stream has at most one hold
 pub holds_few : (links : List Link) (s : StreamId) → holds_of links s ≤ 1
 holds_few links s = grind (arith, nat_tests)
 
--- with one link more, below a link is what was so, and the lower stream of that link
+-- with one more link, its lower stream is below a link too, and no other stream changes
 below_more : (links : List Link) (l : Link) (s : StreamId)
     → is_below (links ++ l ∷ []) s ≡ (is_below links s || same_stream l.lower s)
 below_more links l s = list_any-append (λ k. same_stream k.lower s) links (l ∷ [])
     ∙ ap (λ (b : Bool). is_below links s || b) (or-false (same_stream l.lower s))
 
--- a link is refused above a stream that is below one
+-- a new link is refused if its lower stream is below a link already
 pub not_below_yet : (t : LinkList) (ctl lower : StreamId) (id : ℕ) → IsLinked (refusal t ctl lower) t (Ok id)
     → is_below t.links lower ≡ false
 not_below_yet t ctl lower id h =
     false_from_ne_true _ (λ b. let k : Ok id ≡ Err link_fault.Already = rw b at h in absurd cc)
 
--- with a link above a stream that was below none, and one more hold of it, all below links have one hold
+-- if a link is added above a stream that was below none, and this stream gets one more hold, all streams below links
+-- are held
 pub held_by_one_more : (old : LinkList) (new : LinkList) (ctl lower : StreamId) (kind : LinkKind) (t u : StreamTable)
     → is_below old.links lower ≡ false → new ≡ with_link old ctl lower kind
     → AreHeld old.links t → HasHolds t lower (number_at t.holds lower + 1) u → AreHeld new.links u
@@ -289,7 +293,7 @@ held_by_one_more old new ctl lower kind t u free is held h = λ s.
       by s true = ap (λ (n : ℕ). n + 1) none ∙ grind (arith, nat_tests)
       by s false = held s ∙ grind (arith, nat_tests)
 
--- the stream of a descriptor is there
+-- the stream of a descriptor is in the table
 pub fd_is_there : (t : StreamTable) (process fd : ℕ) (s : StreamId)
     → or_fault BadDescriptor (stream_at t.fds process fd) ≡ Ok s → is_there t s ≡ true
 fd_is_there t process fd s h = or_left _ _ (named_stream process fd t.fds s (some (stream_at t.fds process fd) h)) where

@@ -1,8 +1,8 @@
--- What is found passes the test that it was looked for by.
+-- Results of look-ups.
 
--- what is answered by way of something was answered for that
+-- a result that was computed from another result, together with that other one
 pub use Rattle.smx_model.proofs.SettlingLemmas.{bound}
--- what is found in a list passes
+-- the item that is found passes the test
 pub use Rattle.smx_model.proofs.TestLemmas.{find_passes as found_passes}
--- two things that are there are the same where their options are
+-- two items are equal if their options are
 pub use Rattle.std.proofs.lemmas.Option.{same_Some as some_is}

@@ -11,7 +11,7 @@ use Rattle.smx_model.specs.Paths.{AreLowersApart}
 use Rattle.smx_model.specs.Standing.{is_below}
 use Rattle.smx_tables.proofs.AboveLemmas.{IsOnce, once_below, stream_self}
 
--- where one link at most passes, each that passes is the one that is found
+-- if at most one link passes a test, each link that passes it is the one that is found
 pub found_itself : (test : Link → Bool) (ls : List Link) (i : ℕ) (d : Link) → IsOnce test ls → i < length ls
     → test (get_or ls i d) ≡ true → find test ls ≡ Some (get_or ls i d)
 found_itself test [] i d o lt h = absurd (omega arith)
@@ -21,7 +21,7 @@ found_itself test (l ∷ ls) (suc i) d o lt h = elim (cases_Bool (test l)) [
   | inr f ↦ rw f (found_itself test ls i d o.1 (omega arith) h)
 ]
 
--- what holds of each element holds of the one that is found
+-- the item that is found passes the test, and has every property that all items have
 pub found_has : {X : Type 0} (P : X → Type 0) (test : X → Bool) (xs : List X) (x : X) → AllByRecursion P xs
     → find test xs ≡ Some x → (test x ≡ true) × P x
 found_has P test [] x h e = absurd cc
@@ -35,7 +35,7 @@ pub below_at : (ls : List Link) (i : ℕ) (d : Link) → i < length ls → is_be
 below_at ls i d lt =
     list_any_at (λ l. same_stream l.lower (get_or ls i d).lower) ls i d lt (stream_self (get_or ls i d).lower)
 
--- two links with one lower stream are one
+-- two links with the same lower stream are equal
 pub one_link : (ls : List Link) (i j : ℕ) (d : Link) → AreLowersApart ls → i < length ls → j < length ls
     → same_stream (get_or ls j d).lower (get_or ls i d).lower ≡ true → get_or ls j d ≡ get_or ls i d
 one_link ls i j d apart lt in_range same =

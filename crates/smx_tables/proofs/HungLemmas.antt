@@ -1,4 +1,4 @@
--- What is left of the hung-up streams where streams go.
+-- The hung-up streams that are left when streams cease to exist.
 use Rattle.std.proofs.Common.{◌≡◌, ℕ, ◌≤◌, Bool, true, false, List, [], ◌∷◌, filter, refl, sym, ap, ◌∙◌, arith, inl}
 use Rattle.std.proofs.Common.{inr}
 use Rattle.std.specs.Prelude.{nat_lt}
@@ -13,12 +13,12 @@ use Rattle.smx_model.specs.Standing.{is_named}
 use Rattle.smx_streams.specs.StreamTables.{StreamTable, AreHungsSound, HasHolds, LeavesHungs, number_at}
 use Rattle.smx_streams.specs.StreamTables.{exists as is_there}
 use Rattle.smx_tables.proofs.AboveLemmas.{stream_is, stream_self}
--- a test that each passes keeps all, and a stricter test after another keeps what it keeps alone
+-- a test that all items pass keeps all; and a stricter test keeps the same after a weaker one as alone
 pub use Rattle.smx_streams.proofs.HungLemmas.{all_pass, twice as stricter}
 
 -- ---- tests of streams
 
--- where each stream that has hung up passes a test, the whole list does
+-- a test that each hung-up stream passes is passed by the whole list
 pub pass_all : (p : StreamId → Bool) (xs : List StreamId) → ((x : StreamId) → is_hung xs x ≡ true → p x ≡ true)
     → list_all p xs ≡ true
 pass_all p [] h = refl
@@ -27,16 +27,16 @@ pass_all p (x ∷ xs) h =
 
 -- ---- tables of streams
 
--- where nothing changes, none goes
+-- if nothing changes, no hung-up stream is lost
 pub none_went : (t : StreamTable) → AreHungsSound t → LeavesHungs t t
 none_went t sound = all_pass (is_there t) t.hungs sound.exist
 
--- after two changes those are left that exist then
+-- after two changes, the hung-up streams that are in the last table are left
 pub left_twice : (a b c : StreamTable) → LeavesHungs a b → LeavesHungs b c
     → ((x : StreamId) → is_there c x ≡ true → is_there b x ≡ true) → LeavesHungs a c
 left_twice a b c first second h = second ∙ ap (filter (is_there c)) first ∙ stricter (is_there c) (is_there b) a.hungs h
 
--- what is there with fewer holds was there
+-- a stream that is in the table with fewer holds was in it before
 pub there_before : (t u : StreamTable) (s x : StreamId) (n : ℕ) → HasHolds t s n u → n ≤ number_at t.holds s
     → is_there u x ≡ true → is_there t x ≡ true
 there_before t u s x n h few there = elim (or_cases (is_named u.fds x) (nat_lt 0 (number_at u.holds x)) there) [

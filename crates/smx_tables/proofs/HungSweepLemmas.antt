@@ -1,4 +1,4 @@
--- A sweep of what is left of the hung-up streams is the sweep of all of them.
+-- A sweep gives the same result whether or not the table of streams has removed hung-up streams before it.
 use Rattle.std.proofs.Common.{◌≡◌, Bool, true, ◌&&◌, ◌||◌, not, List, length, filter, sym, ap, subst, ◌∙◌, inl, inr}
 use Rattle.std.proofs.lemmas.Bool.{and_parts, or_cases, or_left, or_right}
 use Rattle.smx_types.specs.declared.driver.DriverSpec.{DriverSpec}
@@ -14,7 +14,8 @@ use Rattle.smx_tables.proofs.ExistingLemmas.{any_weaker, stands_there, there_is}
 use Rattle.smx_tables.proofs.HungLemmas.{stricter}
 use Rattle.smx_tables.proofs.RemovalLemmas.{any_kept}
 
--- where a table tells which streams exist, and of the hung-up ones it has left those
+-- if the table has exactly the streams that exist, removing dead streams gives the same result after the table has
+-- removed the hung-up streams that are not in it
 pub dead_of_left : (drivers : List DriverSpec) (c : Configuration) (t : StreamTable) (hungs : List StreamId)
     → TellsExisting drivers c t → hungs ≡ filter (is_there t) c.hungs
     → without_dead_streams drivers (record c { hungs = hungs }) ≡ without_dead_streams drivers c
@@ -23,7 +24,7 @@ dead_of_left drivers c t hungs told left =
     ∙ ap (λ (hs : List StreamId). record (without_dead_streams drivers c) { hungs = hs })
     (stricter (exists drivers c) (is_there t) c.hungs (λ x up. told x ∙ up))
 
--- what exists once some links are removed is there as long as they are held
+-- a stream that exists after some links are removed is in the table, while the streams below all links are held
 exists_there : (drivers : List DriverSpec) (c : Configuration) (t : StreamTable) (goes : Link → Bool) (x : StreamId)
     → AreHeld c.links t → t.fds ≡ c.fds → exists drivers (without_links c goes) x ≡ true → is_there t x ≡ true
 exists_there drivers c t goes x held same up =
@@ -39,7 +40,7 @@ exists_there drivers c t goes x held same up =
           (λ l h. (and_parts (same_stream l.lower x) (not (goes l)) h).0)
           (sym (any_kept (λ l. same_stream l.lower x) (λ l. not (goes l)) ls) ∙ b)
 
--- where a table has left those hung-up streams that are there
+-- a sweep gives the same result after the table has removed the hung-up streams that are not in it
 pub sweep_of_left : (drivers : List DriverSpec) (c : Configuration) (t : StreamTable) (hungs : List StreamId)
     → AreHeld c.links t → t.fds ≡ c.fds → c.hungs ≡ filter (is_there t) hungs
     → after_sweep drivers c ≡ after_sweep drivers (record c { hungs = hungs })

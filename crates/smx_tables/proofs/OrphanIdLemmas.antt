@@ -1,4 +1,4 @@
--- The ids of links are collected while the links' lower streams are released.
+-- Collecting the ids of links whose lower streams are released.
 use Rattle.std.proofs.Common.{◌≡◌, ℕ, ◌-◌, ◌<◌, ◌≤◌, Bool, true, false, ◌&&◌, ◌||◌, not, eqb, List, [], ◌∷◌, ◌++◌}
 use Rattle.std.proofs.Common.{length, length-append, find, Some, if◌then◌else◌, refl, sym, ap, subst, ◌∙◌, arith}
 use Rattle.std.specs.Prelude.{nat_lt, slice_get}
@@ -9,7 +9,6 @@ use Rattle.smx_types.specs.declared.link.Link.{Link}
 use Rattle.smx_types.specs.declared.stream.StreamId.{StreamId}
 use Rattle.smx_model.specs.Configuration.{same_stream}
 use Rattle.smx_model.specs.Paths.{AreLowersApart}
-use Rattle.smx_links.specs.LinkLists.{ordinary_of}
 use Rattle.smx_streams.specs.StreamTables.{StreamTable, HasHolds, number_at}
 use Rattle.smx_tables.specs.ExistingStreams.{AreHeld, IsReleasing, holds_below, is_held, is_loose}
 use Rattle.smx_tables.specs.ListedLinks.{is_listed, AreIdsOf}
@@ -22,20 +21,20 @@ use Rattle.smx_tables.proofs.ReleasedIdLemmas.{listed_one_more, released_once}
 use Rattle.smx_tables.proofs.RemovalLemmas.{any_kept}
 use Rattle.smx_tables.proofs.TouchLemmas.{few_below, none_free}
 
--- ---- at first, where each stream below a link is held
+-- ---- at first: each stream below a link is held
 
--- where each stream below a link has a hold, no stream was released, and no id is collected
+-- while each stream below a link is held, an empty list has the ids of the released links
 pub none_released_yet : (links : List Link) (t : StreamTable) (ids : List ℕ) (room : ℕ) → AreHeld links t → ids ≡ []
-    → length (ordinary_of links) ≤ room → AreReleased links t ids room
+    → length links ≤ room → AreReleased links t ids room
 none_released_yet links t ids room held none enough = record {
   same = λ id. ap (λ (xs : List ℕ). is_listed xs id) none
       ∙ sym (ap (list_any (λ (l : Link). eqb l.id id)) (none_free links t held));
-  enough = omega (arith, ap length none, few_below links t held (ordinary_of links), enough);
+  enough = omega (arith, ap length none, few_below links t held links, enough);
 }
 
--- ---- one more
+-- ---- one more link
 
--- the link at a place is the one above its lower stream
+-- the link at an index is the one that is found by its lower stream
 found_at : (links : List Link) (i : ℕ) (l : Link) → AreLowersApart links → Some l ≡ slice_get links i
     → find (λ k. same_stream k.lower l.lower) links ≡ Some l
 found_at links i l apart at =
@@ -45,7 +44,8 @@ found_at links i l apart at =
     (ap (λ (k : Link). same_stream k.lower l.lower) here ∙ stream_self l.lower)
     ∙ ap Some here
 
--- no other link is below the same stream, so its id alone is one more
+-- only the link at the index is above its lower stream, so an id is that of a link above it exactly if it is the link's
+-- own
 own_id : (links : List Link) (i : ℕ) (l : Link) (id : ℕ) → AreLowersApart links → Some l ≡ slice_get links i
     → list_any (λ k. same_stream k.lower l.lower && eqb k.id id) links ≡ eqb l.id id
 own_id links i l id apart at =
@@ -53,7 +53,7 @@ own_id links i l id apart at =
     (λ k. same_stream k.lower l.lower && eqb k.id id) links (once_below l.lower links apart) (λ k. refl)
     ∙ rw (found_at links i l apart at) refl
 
--- a link whose lower stream was held, or is the one that is released
+-- after the release of a stream, a link's lower stream is free if it was free before, or is this stream
 held_less : (t new : StreamTable) (s : StreamId) (k : Link) → HasHolds t s 0 new
     → not (is_held new k) ≡ (not (is_held t k) || same_stream k.lower s)
 held_less t new s k h = by (same_stream k.lower s) (h.holds k.lower) where
@@ -62,7 +62,7 @@ held_less t new s k h = by (same_stream k.lower s) (h.holds k.lower) where
   by true e = ap (λ (n : ℕ). not (nat_lt 0 n)) e ∙ grind (arith, nat_tests)
   by false e = ap (λ (n : ℕ). not (nat_lt 0 n)) e ∙ grind (arith, nat_tests)
 
--- ids of either kind
+-- the ids of links with free lower streams are those from before the release, and those of links above the stream
 either_id : (t new : StreamTable) (s : StreamId) (id : ℕ) (ls : List Link) → HasHolds t s 0 new
     → list_any (λ k. eqb k.id id && not (is_held new k)) ls
     ≡ (list_any (λ k. eqb k.id id && not (is_held t k)) ls || list_any (λ k. same_stream k.lower s && eqb k.id id) ls)
@@ -72,7 +72,7 @@ either_id t new s id (k ∷ ks) h = ap (λ (b : Bool). (eqb k.id id && b)
     ∙ ap (λ (b : Bool). (eqb k.id id && (not (is_held t k) || same_stream k.lower s)) || b) (either_id t new s id ks h)
     ∙ grind (arith, nat_tests)
 
--- where one more lower stream is released, the ids of the released links have one more, that of its link
+-- if one more lower stream is released, the ids of the released links have one more, the id of its link
 id_more : (links : List Link) (t new : StreamTable) (ids : List ℕ) (i : ℕ) (l : Link) → AreLowersApart links
     → Some l ≡ slice_get links i → HasHolds t l.lower 0 new
     → AreIdsOf (λ k. not (is_held t k)) links ids → AreIdsOf (λ k. not (is_held new k)) links (ids ++ l.id ∷ [])
@@ -83,11 +83,11 @@ id_more links t new ids i l apart at h was id =
     (eqb_swap id l.id ∙ sym (own_id links i l id apart at))
     ∙ sym (any_kept (λ k. eqb k.id id) (λ k. not (is_held new k)) links ∙ either_id t new l.lower id links h)
 
--- a loose link more, whose lower stream is released
+-- the ids after one more loose link, whose lower stream is released
 pub one_released : (links : List Link) (i room : ℕ) (l : Link) (t new : StreamTable) (ids more : List ℕ)
     → AreLowersApart links → Some l ≡ slice_get links i → is_loose t l ≡ true
     → IsReleasing links 0 t → HasHolds t l.lower (number_at t.holds l.lower - 1) new → more ≡ ids ++ l.id ∷ []
-    → holds_below (ordinary_of links) new < holds_below (ordinary_of links) t → AreReleased links t ids room
+    → holds_below links new < holds_below links t → AreReleased links t ids room
     → AreReleased links new more room
 one_released links i room l t new ids more apart at loose releasing h longer less was =
     let few : number_at t.holds l.lower ≤ 1 = omega (arith, releasing.once l.lower, holds_few links l.lower) in

@@ -1,5 +1,5 @@
--- Once no link is loose, the links whose lower streams are not held are those that are orphaned.
-use Rattle.std.proofs.Common.{◌≡◌, ℕ, true, false, ◌&&◌, ◌||◌, not, List, [], ◌∷◌, length, filter}
+-- If no link is loose, the links whose lower streams are not held are the orphaned ones.
+use Rattle.std.proofs.Common.{◌≡◌, ℕ, Bool, true, false, ◌&&◌, ◌||◌, not, List, [], ◌∷◌, length, filter}
 use Rattle.std.proofs.Common.{refl, sym, ap, subst, ◌∙◌, arith, inl, inr}
 use Rattle.std.proofs.Math.Bool.{not-not}
 use Rattle.std.specs.Prelude.{nat_lt}
@@ -23,19 +23,27 @@ use Rattle.smx_tables.proofs.AboveLemmas.{stream_is}
 use Rattle.smx_tables.proofs.ExistingLemmas.{IsTight, there_exists}
 use Rattle.smx_tables.proofs.RemovalLemmas.{IsIdsRising, any_kept, links_stay, listed_any}
 
--- where no link is loose, the controlling stream of each ordinary link that holds its lower one is there
+-- two tests that agree on each link keep the same links
+pub kept_alike : (p q : Link → Bool) (ls : List Link) → AllByRecursion (λ k. p k ≡ q k) ls → filter p ls ≡ filter q ls
+kept_alike p q [] h = refl
+kept_alike p q (k ∷ ks) h = elim (cases_Bool (q k)) [
+  | inl t ↦ rw (h.0, t) (ap (λ (xs : List Link). k ∷ xs) (kept_alike p q ks h.1))
+  | inr f ↦ rw (h.0, f) (kept_alike p q ks h.1)
+]
+
+-- if no link is loose, the controlling stream of each ordinary link whose lower stream is held is in the table
 all_tight : (t : StreamTable) (ls : List Link) → list_any (is_loose t) ls ≡ false → AllByRecursion (IsTight t) ls
 all_tight t [] h = tt
 all_tight t (l ∷ ls) h =
     let p = or_parts (is_loose t l) (list_any (is_loose t) ls) h in
     ((λ held o. grind (arith, nat_tests, p.0)), all_tight t ls p.1)
 
--- while links are released, what is held is below a link
+-- while links are released, a held stream is below a link
 held_below : (links : List Link) (n : ℕ) (t : StreamTable) (s : StreamId) → IsReleasing links n t
     → nat_lt 0 (number_at t.holds s) ≡ true → is_below links s ≡ true
 held_below links n t s h up = grind (arith, nat_tests, h.once s)
 
--- the links whose lower streams were released are those that are orphaned
+-- the links whose lower streams were released are the orphaned ones
 pub released_are_orphaned : (drivers : List DriverSpec) (c : Configuration) (t : StreamTable)
     → AreLinksSound c.links → All (λ l. IsKnown drivers l.ctl) c.links
     → t.fds ≡ c.fds → IsReleasing c.links (length drivers) t → list_any (is_loose t) c.links ≡ false
@@ -66,7 +74,7 @@ released_are_orphaned drivers c t sound known same h none =
         each ls a.1 b.1,
       )
 
--- below the links that are held
+-- a stream is below a link with a held lower stream exactly if it is below a link and held
 below_held : (t : StreamTable) (s : StreamId) (ls : List Link)
     → is_below (filter (is_held t) ls) s ≡ (is_below ls s && nat_lt 0 (number_at t.holds s))
 below_held t s ls = any_kept (λ l. same_stream l.lower s) (is_held t) ls ∙ both ls where
@@ -81,12 +89,12 @@ below_held t s ls = any_kept (λ l. same_stream l.lower s) (is_held t) ls ∙ bo
     | inr other ↦ rw other (both ks)
   ]
 
--- what is left is held
+-- each stream below the links that are left is held
 pub held_is_left : (links : List Link) (n : ℕ) (t : StreamTable) → IsReleasing links n t
     → AreHeld (filter (is_held t) links) t
 held_is_left links n t h = λ s. rw (below_held t s links) (grind (arith, nat_tests, h.once s))
 
--- where no link is loose, no link that holds its lower stream lacks its controlling stream
+-- if no link is loose, the controlling stream of each ordinary link that is left is in the table
 pub left_is_linked : (t : StreamTable) (ls : List Link) → list_any (is_loose t) ls ≡ false
     → list_all (λ l. is_persistent l || is_there t l.ctl) (filter (is_held t) ls) ≡ true
 left_is_linked t [] h = refl

@@ -1,4 +1,4 @@
--- The lower streams of loose links are released.
+-- Releasing the lower streams of loose links.
 use Rattle.std.proofs.Common.{◌≡◌, ℕ, zero, suc, ◌-◌, ◌<◌, ◌≤◌, Bool, true, false, not, List, [], ◌∷◌, length}
 use Rattle.std.proofs.Common.{get_or, find, Option, Some, None, if◌then◌else◌, refl, sym, ap, subst, ◌∙◌, arith, inl}
 use Rattle.std.proofs.Common.{inr}
@@ -21,9 +21,9 @@ use Rattle.smx_tables.proofs.ClimbLemmas.{one_climb_more, stands_by, stands_is}
 use Rattle.smx_tables.proofs.ExistingLemmas.{held_is_below}
 use Rattle.smx_tables.proofs.FoundLinkLemmas.{below_at, found_has, one_link}
 
--- ---- at first, where each stream below a link is held
+-- ---- at first: each stream below a link is held
 
--- where each stream below a link has its hold, streams may begin to be released
+-- while each stream below a link is held, the conditions for releasing streams hold
 pub starts : (links : List Link) (climbs : ℕ) (t : StreamTable) → AreHeld links t → IsReleasing links climbs t
 starts links climbs t h = record {
   once = λ s. omega (arith, h s);
@@ -31,9 +31,10 @@ starts links climbs t h = record {
       absurd (false≢true (sym free ∙ held_is_below links t (get_or links i d).lower h ∙ below_at links i d lt));
 }
 
--- ---- one loose link more
+-- ---- one more loose link
 
--- a stream that is not there doesn't stand, as long as what is released was orphaned
+-- while only streams below orphaned links were released, a stream that is not in the table doesn't exist within n
+-- climbs
 gone_stands_not : (links : List Link) (n : ℕ) (t : StreamTable) (s : StreamId) → AreLowersApart links
     → IsReleasing links n t → is_there t s ≡ false → stands_within t.fds links n s ≡ false
 gone_stands_not links n t s apart h gone =
@@ -66,29 +67,29 @@ loose_orphaned links n t l apart h loose =
     and_from (not (is_persistent l)) _ (grind (arith, nat_tests))
     (ap not (gone_stands_not links n t l.ctl apart h (grind (arith, nat_tests))))
 
--- one less, or as many
+-- one less, or the same
 less_held : (a : Bool) (x y z : ℕ) → z ≡ (if a then x - 1 else y) → (a ≡ true → x ≡ y) → z ≤ y
 less_held true x y z e same = let k = same refl in let one_less : z ≡ x - 1 = e in omega (arith, one_less, k)
 less_held false x y z e same = let as_many : z ≡ y = e in omega (arith, as_many)
 
--- no stream is held more than before
+-- no stream has more holds than before the release
 pub not_more_held : (t new : StreamTable) (s x : StreamId) → HasHolds t s (number_at t.holds s - 1) new
     → number_at new.holds x ≤ number_at t.holds x
 not_more_held t new s x h = less_held (same_stream x s) (number_at t.holds s) (number_at t.holds x)
     (number_at new.holds x) (h.holds x) (λ same. ap (number_at t.holds) (sym (stream_is x s same)))
 
--- where one stream is released, each other has the holds that it had
+-- the release of a stream changes the holds of no other stream
 pub other_held : (t new : StreamTable) (s x : StreamId) → HasHolds t s (number_at t.holds s - 1) new
     → same_stream x s ≡ false → number_at new.holds x ≡ number_at t.holds x
 other_held t new s x h other = h.holds x ∙ rw other refl
 
--- where no stream has more holds, the streams below links have no more together
+-- if no stream has more holds, the streams below links have not more holds in total
 not_more_below : (ls : List Link) (t new : StreamTable) → ((x : StreamId) → number_at new.holds x ≤ number_at t.holds x)
     → holds_below ls new ≤ holds_below ls t
 not_more_below [] t new h = omega arith
 not_more_below (l ∷ ls) t new h = let a = h l.lower in let b = not_more_below ls t new h in omega (arith, a, b)
 
--- where no stream has more holds, and the one below the link at an index has fewer, all below links have fewer
+-- if no stream has more holds, and the one below the link at an index has fewer, the total below links is smaller
 less_at : (ls : List Link) (i : ℕ) (d : Link) (t new : StreamTable)
     → ((x : StreamId) → number_at new.holds x ≤ number_at t.holds x) → i < length ls
     → number_at new.holds (get_or ls i d).lower < number_at t.holds (get_or ls i d).lower
@@ -98,15 +99,15 @@ less_at (l ∷ ls) zero d t new h lt less = let b = not_more_below ls t new h in
 less_at (l ∷ ls) (suc i) d t new h lt less =
     let a = h l.lower in let b = less_at ls i d t new h (omega arith) less in omega (arith, a, b)
 
--- a loose link's lower stream is held
+-- the lower stream of a loose link is held
 pub loose_held : (t : StreamTable) (l : Link) → is_loose t l ≡ true → 0 < number_at t.holds l.lower
 loose_held t l loose = grind (arith, nat_tests)
 
--- the link that was got at an index is the one there
+-- the link that was read at an index is the one there
 pub this_one : (ls : List Link) (i : ℕ) (l : Link) → Some l ≡ slice_get ls i → get_or ls i l ≡ l
 this_one ls i l e = get_or_from_slice_get ls i l l (sym e)
 
--- releasing the lower stream of a loose link keeps what is so while streams are released
+-- after the lower stream of a loose link is released, the conditions for releasing streams still hold
 pub releases_this : (links : List Link) (n i : ℕ) (l : Link) (t new : StreamTable) → AreLowersApart links
     → Some l ≡ slice_get links i → is_loose t l ≡ true
     → HasHolds t l.lower (number_at t.holds l.lower - 1) new → IsReleasing links n t → IsReleasing links n new
@@ -124,7 +125,7 @@ releases_this links n i l t new apart at loose h was = record {
       ]);
 }
 
--- where the lower stream of the loose link at an index is released, those below the links have fewer holds
+-- after the lower stream of the loose link at an index is released, the streams below links have fewer holds in total
 pub less_this : (links : List Link) (i : ℕ) (l : Link) (t new : StreamTable) → Some l ≡ slice_get links i
     → is_loose t l ≡ true
     → HasHolds t l.lower (number_at t.holds l.lower - 1) new → holds_below links new < holds_below links t

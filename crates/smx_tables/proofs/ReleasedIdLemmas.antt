@@ -1,4 +1,4 @@
--- The lower streams of links are released by the links' ids.
+-- Releasing the lower streams of links by the ids of the links.
 use Rattle.std.proofs.Common.{◌≡◌, ℕ, ◌-◌, ◌<◌, ◌≤◌, Bool, true, false, ◌&&◌, ◌||◌, not, eqb, List, [], ◌∷◌, ◌++◌}
 use Rattle.std.proofs.Common.{get_or, find, Some, None, if◌then◌else◌, refl, sym, ap, subst, ◌∙◌, arith}
 use Rattle.std.proofs.Common.{inl, inr}
@@ -25,15 +25,15 @@ use Rattle.smx_tables.proofs.HungLemmas.{none_went}
 use Rattle.smx_tables.proofs.RemovalLemmas.{IsIdsRising, any_kept}
 use Rattle.smx_tables.proofs.FoundLinkLemmas.{found_has, found_itself}
 
--- ---- a stream that is held once at most is released
+-- ---- releasing a stream that has at most one hold
 
--- a stream with one hold has none once it is released
+-- a stream with one hold has none after it is released
 pub released_once : (t new : StreamTable) (s : StreamId) → number_at t.holds s ≤ 1 → 0 < number_at t.holds s
     → HasHolds t s (number_at t.holds s - 1) new → HasHolds t s 0 new
 released_once t new s few some h =
     let none : number_at t.holds s - 1 ≡ 0 = omega (arith, few, some) in subst (λ (n : ℕ). HasHolds t s n new) none h
 
--- a stream without a hold has none, and need not be released
+-- a stream without a hold need not be released
 pub released_already : (t : StreamTable) (s : StreamId) → AreHungsSound t → number_at t.holds s ≤ 0 → HasHolds t s 0 t
 released_already t s sound none =
     record { minors = refl; fds = refl; holds = λ x. by x (same_stream x s) refl; hungs = none_went t sound } where
@@ -47,16 +47,16 @@ released_already t s sound none =
 
 -- ---- the lower streams of links by their ids
 
--- with one id more, just that one is listed beside those that were
+-- an id is in a list with one more id exactly if it was there before or is this one
 pub listed_one_more : (ids : List ℕ) (id x : ℕ) → is_listed (ids ++ id ∷ []) x ≡ (is_listed ids x || eqb x id)
 listed_one_more ids id x = list_any-append (λ i. eqb x i) ids (id ∷ [])
     ∙ ap (λ (b : Bool). is_listed ids x || b) (or-false (eqb x id))
 
--- by id and by lower stream the same link is found
+-- the id and the lower stream find the same link
 abbrev pub IsFoundBy : ℕ → StreamId → Link → Type 0
 IsFoundBy id s l = eqb l.id id ≡ same_stream l.lower s
 
--- below the links that are left by one id more is what was so, but for that link's lower stream
+-- after one more id, the streams below the remaining links are the same ones except that link's lower stream
 below_one_less : (ids : List ℕ) (id : ℕ) (s x : StreamId) (ls : List Link) → AllByRecursion (IsFoundBy id s) ls
     → is_below (others_of (ids ++ id ∷ []) ls) x ≡ (is_below (others_of ids ls) x && not (same_stream x s))
 below_one_less ids id s x ls h =
@@ -75,7 +75,7 @@ below_one_less ids id s x ls h =
         | inr other ↦ rw other (each ks k.1)
       ]
 
--- a link that is found by its id, in links whose ids rise and whose lower streams are apart
+-- if ids rise and no stream is below two links, an id and the lower stream of its link find the same link
 pub found_by : (links : List Link) (id : ℕ) (l : Link) → AreLowersApart links → IsIdsRising links
     → find (λ k. eqb k.id id) links ≡ Some l → All (IsFoundBy id l.lower) links
 found_by links id l apart rise found = λ i d lt.
@@ -94,7 +94,7 @@ found_by links id l apart rise found = λ i d lt.
     (sym (found_itself (λ n. same_stream n.lower l.lower) links i d (once_below l.lower links apart) lt t) ∙ has.1))
     ∙ has.0)
 
--- one id more, whose link's lower stream is released
+-- one more id, of a link whose lower stream is released
 pub released_more : (links : List Link) (ids : List ℕ) (id : ℕ) (l : Link) (t new : StreamTable) → AreLowersApart links
     → IsIdsRising links → find (λ k. eqb k.id id) links ≡ Some l
     → AreHeld (others_of ids links) t → HasHolds t l.lower 0 new → AreHeld (others_of (ids ++ id ∷ []) links) new
@@ -107,7 +107,7 @@ released_more links ids id l t new apart rise found held h = λ x.
       by x true = grind (arith, nat_tests)
       by x false = held x ∙ grind (arith, nat_tests)
 
--- one id more, which no link has
+-- one more id that no link has
 pub released_none : (links : List Link) (ids : List ℕ) (id : ℕ) (t : StreamTable) → find (λ k. eqb k.id id) links ≡ None
     → AreHeld (others_of ids links) t → AreHeld (others_of (ids ++ id ∷ []) links) t
 released_none links ids id t none held = subst (λ (ls : List Link). AreHeld ls t) (sym (same links none)) held where
@@ -121,6 +121,6 @@ released_none links ids id t none held = subst (λ (ls : List Link). AreHeld ls 
     ]
   ]
 
--- none yet
+-- before the first id
 pub released_at_first : (links : List Link) (t : StreamTable) → AreHeld links t → AreHeld (others_of [] links) t
 released_at_first links t h = subst (λ (ls : List Link). AreHeld ls t) (sym (none_of_none links)) h

@@ -1,4 +1,4 @@
--- Removing links by their ids removes those that pass the test by which the ids were listed.
+-- Removing links by their ids removes the links that pass the test by which the ids were listed.
 use Rattle.std.proofs.Common.{◌≡◌, ℕ, ◌≤◌, Bool, true, false, ◌&&◌, ◌||◌, not, eqb, List, [], ◌∷◌, length, map, filter}
 use Rattle.std.proofs.Common.{find, refl, sym, ap, subst, ◌∙◌, arith, inl, inr}
 use Rattle.std.proofs.Math.Bool.{and-false, and-true}
@@ -20,13 +20,10 @@ use Rattle.smx_model.specs.Paths.{AreLowersApart}
 use Rattle.smx_model.specs.Removal.{without_links, is_read_below}
 use Rattle.smx_model.specs.Standing.{is_below}
 use Rattle.smx_links.specs.LinkLists.{is_one_of}
-use Rattle.smx_links.proofs.CountLemmas.{fewer}
-use Rattle.smx_links.proofs.IdLemmas.{filters_swap}
-use Rattle.smx_streams.proofs.HungLemmas.{twice as stricter}
 use Rattle.smx_tables.specs.ListedLinks.{is_listed, is_read_below_listed, AreIdsOf}
 use Rattle.smx_tables.proofs.AboveLemmas.{any_once, eqb_swap, once_below}
 
--- the ids of those links that go
+-- the ids of the links that go
 abbrev pub ids_of : (Link → Bool) → List Link → List ℕ
 ids_of goes ls = map (λ l. l.id) (filter goes ls)
 
@@ -34,7 +31,7 @@ ids_of goes ls = map (λ l. l.id) (filter goes ls)
 abbrev pub IsIdsRising : List Link → Type 0
 IsIdsRising ls = IsRising (λ l k. nat_lt l.id k.id) ls
 
--- an id that comes before all others is none of them
+-- an id that comes before all others is not among them
 not_later : (goes : Link → Bool) (l : Link) (ls : List Link) → ComesBefore (λ l k. nat_lt l.id k.id) l ls
     → is_listed (ids_of goes ls) l.id ≡ false
 not_later goes l [] h = refl
@@ -42,11 +39,11 @@ not_later goes l (k ∷ ls) h =
     let f : eqb l.id k.id ≡ false = grind (arith, nat_tests, h.0) in
     elim (cases_Bool (goes k)) [ inl t ↦ rw (t, f) (not_later goes l ls h.1) | inr n ↦ rw n (not_later goes l ls h.1) ]
 
--- the ids list those links that go, and no others
+-- the ids list the links that go, and no others
 abbrev pub IsListOf : (Link → Bool) → List ℕ → List Link → Type 0
 IsListOf goes ids ls = AllByRecursion (λ l. is_listed ids l.id ≡ goes l) ls
 
--- an id that comes before those of all links makes no difference to which of them are listed
+-- one more id, below those of all links, doesn't change which of the links are listed
 list_more : (goes : Link → Bool) (l : Link) (ids : List ℕ) (ls : List Link) → ComesBefore (λ l k. nat_lt l.id k.id) l ls
     → IsListOf goes ids ls → IsListOf goes (l.id ∷ ids) ls
 list_more goes l ids [] h a = tt
@@ -54,16 +51,16 @@ list_more goes l ids (k ∷ ls) h a =
     let f : eqb k.id l.id ≡ false = grind (arith, nat_tests, h.0) in
     (rw f a.0, list_more goes l ids ls h.1 a.1)
 
--- where the first link goes, its id is in front of those of the others that go
+-- if the first link goes, its id is in front of those of the others that go
 goes_first : (goes : Link → Bool) (l : Link) (ls : List Link) → goes l ≡ true
     → ids_of goes (l ∷ ls) ≡ l.id ∷ ids_of goes ls
 goes_first goes l ls h = rw h refl
 
--- where the first link stays, the ids of those that go are those of the others
+-- if the first link stays, the ids of the links that go are those of the others
 stays_first : (goes : Link → Bool) (l : Link) (ls : List Link) → goes l ≡ false → ids_of goes (l ∷ ls) ≡ ids_of goes ls
 stays_first goes l ls h = rw h refl
 
--- where ids rise, the ids of those links that go list these links and no others
+-- if ids rise, the ids of the links that go list these links and no others
 pub listed : (goes : Link → Bool) (ls : List Link) → IsIdsRising ls → IsListOf goes (ids_of goes ls) ls
 listed goes [] h = tt
 listed goes (l ∷ ls) h = elim (cases_Bool (goes l)) [
@@ -78,7 +75,7 @@ listed goes (l ∷ ls) h = elim (cases_Bool (goes l)) [
   )
 ]
 
--- where two tests tell of each link the same, the same links stay by both
+-- two tests that agree on each link leave the same links
 pub links_stay : (f g : Link → Bool) (ls : List Link) → AllByRecursion (λ l. f l ≡ g l) ls
     → filter (λ l. not (f l)) ls ≡ filter (λ l. not (g l)) ls
 links_stay f g [] h = refl
@@ -87,19 +84,19 @@ links_stay f g (l ∷ ls) h = elim (cases_Bool (g l)) [
   | inr n ↦ rw (h.0, n) (ap (λ (zs : List Link). l ∷ zs) (links_stay f g ls h.1))
 ]
 
--- routes
+-- the list of the ids of some links contains an id exactly if one of the links has it
 route_listed : (ls : List Link) (id : ℕ) → is_listed (map (λ l. l.id) ls) id ≡ list_any (λ l. eqb l.id id) ls
 route_listed [] id = refl
 route_listed (l ∷ ls) id = rw (eqb_swap id l.id, route_listed ls id) refl
 
--- places
+-- if two tests agree on each link, they agree on the link that is found
 found_same : (f g key : Link → Bool) (ls : List Link) → AllByRecursion (λ l. f l ≡ g l) ls
     → option_map_or f (find key ls) false ≡ option_map_or g (find key ls) false
 found_same f g key [] h = refl
 found_same f g key (l ∷ ls) h =
     elim (cases_Bool (key l)) [ inl t ↦ rw t (h.0) | inr n ↦ rw n (found_same f g key ls h.1) ]
 
--- some link that is kept passes a test exactly where some link is kept and passes it
+-- some link that is kept passes a test exactly if some link passes both tests
 pub any_kept : (key goes : Link → Bool) (ls : List Link)
     → list_any key (filter goes ls) ≡ list_any (λ l. key l && goes l) ls
 any_kept key goes [] = refl
@@ -108,7 +105,7 @@ any_kept key goes (l ∷ ls) = elim (cases_Bool (goes l)) [
   | inr n ↦ rw (n, and-false (key l)) (any_kept key goes ls)
 ]
 
--- the link above a stream is listed just where the stream is below a link that goes
+-- the link above a stream is listed exactly if the stream is below a link that goes
 below_listed : (goes : Link → Bool) (ids : List ℕ) (ls : List Link) (s : StreamId) → AreLowersApart ls
     → IsListOf goes ids ls
     → option_map_or (λ l. is_listed ids l.id) (find (λ l. same_stream l.lower s) ls) false ≡ is_below (filter goes ls) s
@@ -118,22 +115,22 @@ below_listed goes ids ls s apart h =
     (λ l. refl))
     ∙ sym (any_kept (λ l. same_stream l.lower s) goes ls)
 
--- a place is a read side below a listed link just where it is one below a link that goes
+-- a place is a read side below a listed link exactly if it is one below a link that goes
 read_listed : (goes : Link → Bool) (ids : List ℕ) (ls : List Link) (p : Place) → AreLowersApart ls
     → IsListOf goes ids ls → is_read_below_listed ls ids p ≡ is_read_below (filter goes ls) p
 read_listed goes ids ls p apart h =
     ap (λ (x : Bool). same_side p.side side.Read && x) (below_listed goes ids ls p.stream apart h)
 
--- two tests that agree on each element take the same ones away
+-- two tests that agree on each item remove the same items
 same_kept : {X : Type 0} (f g : X → Bool) (xs : List X) → ((x : X) → f x ≡ g x)
     → filter (λ x. not (f x)) xs ≡ filter (λ x. not (g x)) xs
 same_kept f g xs h = filter_agree (λ x. not (f x)) (λ x. not (g x)) (λ x. ap not (h x)) xs
 
--- the ids of the links that go, in their order, are theirs
+-- the ids of the links that go, in order, are the ids of these links
 pub ids_in_order : (goes : Link → Bool) (ls : List Link) (ids : List ℕ) → ids ≡ ids_of goes ls → AreIdsOf goes ls ids
 ids_in_order goes ls ids e id = ap (λ (xs : List ℕ). is_listed xs id) e ∙ route_listed (filter goes ls) id
 
--- ids of the links that go list those and no others
+-- the ids of the links that go list these links and no others, in any order
 pub listed_any : (goes : Link → Bool) (ls : List Link) (ids : List ℕ) → IsIdsRising ls → AreIdsOf goes ls ids
     → IsListOf goes ids ls
 listed_any goes ls ids rise h = each ls (listed goes ls rise) where
@@ -141,7 +138,8 @@ listed_any goes ls ids rise h = each ls (listed goes ls rise) where
   each [] a = tt
   each (k ∷ ks) a = (h k.id ∙ sym (route_listed (filter goes ls) k.id) ∙ a.0, each ks a.1)
 
--- without the links with these ids, the routes to them, and what their lower streams' read sides hold
+-- the configuration without the links with these ids, the routes to them, and the messages and full marks of their
+-- lower streams' read sides
 abbrev pub without_listed : Configuration → List ℕ → Configuration
 without_listed c ids = record c {
   links = filter (λ l. not (is_one_of ids l)) c.links;
@@ -159,7 +157,7 @@ same_parts : (c : Configuration) (ls ks : List Link) (rs ss : List Route) (hs gs
     (ps qs : List Place) → ls ≡ ks → rs ≡ ss → hs ≡ gs → ps ≡ qs → parts c ls rs hs ps ≡ parts c ks ss gs qs
 same_parts c ls ks rs ss hs gs ps qs a b d e = cc
 
--- removing links by a list of their ids is removing those that go
+-- removing links by a list of their ids removes the links that go
 pub removed_is : (c : Configuration) (ids : List ℕ) → AreLowersApart c.links → IsIdsRising c.links
     → (goes : Link → Bool) → AreIdsOf goes c.links ids → without_listed c ids ≡ without_links c goes
 removed_is c ids apart rise goes h =
@@ -172,18 +170,18 @@ removed_is c ids apart rise goes h =
     (same_kept (is_read_below_listed c.links ids) (is_read_below gone) c.fulls
     (λ p. read_listed goes ids c.links p apart here))
 
--- where no link goes, all stays
+-- a list of length 0 is empty
 pub is_nothing : (ids : List ℕ) → eqb (length ids) 0 ≡ true → ids ≡ []
 is_nothing ids h = nil_from_length ids (eqb-true (length ids) 0 h)
 
--- where an empty list has the ids of the links that go, none goes
+-- if the ids of the links that go are an empty list, no link goes
 none_goes : (goes : Link → Bool) (ls : List Link) → AreIdsOf goes ls [] → filter goes ls ≡ []
 none_goes goes ls h = no_ids (filter goes ls) h where
   no_ids : (ks : List Link) → ((id : ℕ) → is_listed [] id ≡ list_any (λ l. eqb l.id id) ks) → ks ≡ []
   no_ids [] f = refl
   no_ids (k ∷ ks) f = let e : false ≡ true = f k.id ∙ rw (eq-eqb k.id k.id refl) refl in absurd cc
 
--- where no link goes, all of them stay
+-- if no link goes, all links stay
 all_stay : (goes : Link → Bool) (ls : List Link) → filter goes ls ≡ [] → filter (λ l. not (goes l)) ls ≡ ls
 all_stay goes [] h = refl
 all_stay goes (l ∷ ls) h = elim (cases_Bool (goes l)) [
@@ -192,30 +190,20 @@ all_stay goes (l ∷ ls) h = elim (cases_Bool (goes l)) [
   | inr f ↦ rw f (ap (λ (zs : List Link). l ∷ zs) (all_stay goes ls (rw f at h)))
 ]
 
--- where nothing passes a test, nothing is taken away by it
+-- a test that no item passes removes nothing
 none_passes : {X : Type 0} (t : X → Bool) (xs : List X) → ((x : X) → t x ≡ false) → filter (λ x. not (t x)) xs ≡ xs
 none_passes {X = X} t [] h = refl
 none_passes {X = X} t (x ∷ xs) h = rw (h x) (ap (λ (zs : List X). x ∷ zs) (none_passes t xs h))
 
--- some less are no more of those that pass a test
-pub few_kept : {X : Type 0} (t u : X → Bool) (xs : List X) → length (filter t (filter u xs)) ≤ length (filter t xs)
-few_kept t u xs = rw (filters_swap t u xs) (fewer u (filter t xs))
-
--- those that pass a test are among those that pass a wider one
-pub kept_among : {X : Type 0} (t u : X → Bool) (xs : List X) → ((x : X) → u x ≡ false → t x ≡ false)
-    → filter t (filter u xs) ≡ filter t xs
-kept_among t u xs h =
-    stricter t u xs (λ x e. true_from_ne_false (u x) (λ f. false≢true (sym (h x f) ∙ e)))
-
--- no ids list no link
+-- an empty list of ids removes no link
 pub none_listed : (ids : List ℕ) (ls : List Link) → ids ≡ [] → ls ≡ filter (λ l. not (is_one_of ids l)) ls
 none_listed ids ls none = sym (none_passes (is_one_of ids) ls (λ l. ap (λ (xs : List ℕ). is_one_of xs l) none))
 
--- below no link there is no read side
+-- without links, no place is a read side below a link
 no_read : (p : Place) → is_read_below [] p ≡ false
 no_read p = and-false (same_side p.side side.Read)
 
--- where the list of ids is empty, removing those that go changes nothing
+-- if the list of ids is empty, removing the links that go changes nothing
 pub nothing_removed : (c : Configuration) (ids : List ℕ) → ids ≡ [] → (goes : Link → Bool) → AreIdsOf goes c.links ids
     → c ≡ without_links c goes
 nothing_removed c ids none goes h =

@@ -1,4 +1,4 @@
--- An item that a line shows by the name of a driver, an address and a value.
+-- The item that a line shows by the name of a driver, an address and a value.
 use Rattle.std.proofs.Common.{◌≡◌, ℕ, ◌<◌, Bool, true, false, ◌&&◌, cond, eqb, List, [], ◌∷◌, length, find}
 use Rattle.std.proofs.Common.{Option, Some, None, refl, ap, subst, ◌∙◌, arith}
 use Rattle.std.specs.List.{AllByRecursion}
@@ -16,7 +16,7 @@ use Rattle.smx_tables.proofs.FoundLemmas.{bound, found_passes}
 -- ---- an item of a list by its driver, its address and its value
 
 module _ {X : Type 0} (driver addr value : X → ℕ) where
-  -- the item under a driver and an address
+  -- the item with this driver and address
   abbrev item_at : List X → ℕ → ℕ → Option X
   item_at xs n a = find (λ x. eqb (driver x) n && eqb (addr x) a) xs
 
@@ -28,18 +28,18 @@ module _ {X : Type 0} (driver addr value : X → ℕ) where
   abbrev pub shown_by : List DriverSpec → List X → List ℕ → ℕ → ℕ → Option X
   shown_by drivers xs name a v = number_of drivers name >>= (λ n. item_at xs n a >>= with_value v)
 
-  -- it is found under its own address
+  -- the item is found under its own address
   abbrev pub IsUnder : List X → X → Type 0
   IsUnder xs x = item_at xs (driver x) (addr x) ≡ Some x
 
-  -- it has the words of the line, and is found under its own address
+  -- the item has the words of the line, and is found under its own address
   pub record IsShown (drivers : List DriverSpec) (xs : List X) (name : List ℕ) (a v : ℕ) (x : X) : Type 0 where
     pub named : name_of drivers (driver x) ≡ name
     pub at : addr x ≡ a
     pub has : value x ≡ v
     pub under : IsUnder xs x
 
-  -- an item that a line shows has the words of that line, and is found under its own address
+  -- the item that a line shows has the words of that line, and is found under its own address
   pub shown_is : (drivers : List DriverSpec) (xs : List X) (name : List ℕ) (a v : ℕ) (x : X)
       → shown_by drivers xs name a v ≡ Some x → IsShown drivers xs name a v x
   shown_is drivers xs name a v x e =
@@ -56,7 +56,7 @@ module _ {X : Type 0} (driver addr value : X → ℕ) where
         under = ap (λ k. item_at xs k (addr y.0)) own ∙ (ap (item_at xs n.0) at ∙ y.1);
       })
 
-  -- a line with the words of an item that is found shows it
+  -- the line of an item that is found shows this item
   pub shown_again : (drivers : List DriverSpec) (xs : List X) (x : X) → IsDriverList drivers → driver x < length drivers
       → IsUnder xs x → shown_by drivers xs (name_of drivers (driver x)) (addr x) (value x) ≡ Some x
   shown_again drivers xs x h lt under =
@@ -65,25 +65,25 @@ module _ {X : Type 0} (driver addr value : X → ℕ) where
       ∙ (ap (λ (o : Option X). o >>= with_value (value x)) under
       ∙ ap (λ b. cond b (Some x) None) (eq-eqb (value x) (value x) refl))
 
-  -- by driver and address
+  -- the order by driver, and then by address
   abbrev pub address_before : X → X → Bool
   address_before x y = pair_before (driver x) (addr x) (driver y) (addr y)
 
-  -- what comes before another has another address
+  -- an item that comes before another one has another address
   other : (x y : X) → address_before x y ≡ true → (eqb (driver x) (driver y) && eqb (addr x) (addr y)) ≡ false
   other x y h = grind (arith, nat_tests)
 
-  -- what comes before two in turn
+  -- the order is transitive
   pub before_on : (p q r : X) → address_before p q ≡ true → address_before q r ≡ true → address_before p r ≡ true
   before_on p q r h k = grind (arith, nat_tests)
 
-  -- one more in front is not in the way
+  -- items are still found with one earlier item in front
   still_under : (y : X) (ys zs : List X) → ComesBefore address_before y zs → AllByRecursion (IsUnder ys) zs
       → AllByRecursion (IsUnder (y ∷ ys)) zs
   still_under y ys [] b h = tt
   still_under y ys (z ∷ zs) b h = (rw (other y z b.0) h.0, still_under y ys zs b.1 h.1)
 
-  -- the first is found under its address
+  -- the first item is found under its address
   first_under : (x : X) (xs : List X) → IsUnder (x ∷ xs) x
   first_under x xs = rw (and_from _ _ (eq-eqb (driver x) (driver x) refl) (eq-eqb (addr x) (addr x) refl)) refl
 

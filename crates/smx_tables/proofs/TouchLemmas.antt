@@ -1,4 +1,4 @@
--- Streams that a change touches: which went, and what is left of them.
+-- The streams that a change touches: those that ceased to exist, and what is left of the others.
 use Rattle.std.proofs.Common.{◌≡◌, ℕ, suc, ◌+◌, ◌≤◌, Bool, true, ◌||◌, not, List, [], ◌∷◌, ◌++◌, length, map}
 use Rattle.std.proofs.Common.{filter, get_or, refl, sym, ap, ◌∙◌, arith, inl, inr}
 use Rattle.std.specs.List.{All, list_any, list_all}
@@ -15,7 +15,6 @@ use Rattle.smx_model.specs.Hangups.{is_hung}
 use Rattle.smx_model.specs.Removal.{without_links, without_queues_at}
 use Rattle.smx_model.specs.Standing.{exists, is_persistent}
 use Rattle.smx_model.specs.Swept.{IsSwept}
-use Rattle.smx_links.specs.LinkLists.{ordinary_of}
 use Rattle.smx_streams.specs.StreamTables.{StreamTable, HasHolds, exists as is_there}
 use Rattle.smx_tables.specs.ExistingStreams.{AreHeld, TellsExisting, holds_below, is_held}
 use Rattle.smx_tables.specs.TouchedStreams.{IsCascade, IsTouched, is_there_or_touched, is_watched}
@@ -27,9 +26,9 @@ use Rattle.smx_tables.proofs.LengthLemmas.{not_more}
 use Rattle.smx_tables.proofs.ReleaseLemmas.{starts}
 use Rattle.smx_tables.proofs.WatchLemmas.{listed_more, there_same}
 
--- ---- where all that were touched are there
+-- ---- all touched streams are in the table
 
--- a stream that was touched is there too
+-- a stream that is in the table or touched is in the table
 pub touched_there : (t : StreamTable) (ss : List StreamId) (s : StreamId) → list_all (is_there t) ss ≡ true
     → is_there_or_touched t ss s ≡ true → is_there t s ≡ true
 touched_there t ss s all h =
@@ -42,7 +41,7 @@ touched_there t ss s all h =
           elim (or_cases (same_stream s v) (list_any (same_stream s) vs) b)
           [ inl e ↦ ap (is_there t) (stream_is s v e) ∙ p.0 | inr k ↦ one vs p.1 k ]
 
--- the controlling stream of each ordinary link is there
+-- the controlling stream of each ordinary link is in the table
 pub linked_still : (t : StreamTable) (ss : List StreamId) (c : Configuration) → list_all (is_there t) ss ≡ true
     → IsTouched t ss c → list_all (λ l. is_persistent l || is_there t l.ctl) c.links ≡ true
 linked_still t ss c all h =
@@ -62,9 +61,10 @@ swept_still drivers c t ss told all h hung = record {
   there : (s : StreamId) → is_there_or_touched t ss s ≡ true → exists drivers c s ≡ true
   there s o = sym (told s) ∙ touched_there t ss s all o
 
--- ---- what was there is there or touched
+-- ---- streams that were in the table are in it or touched
 
--- where each stream that was there is there or touched, so is each that a swept configuration has something of
+-- if each stream that was in the table is in it or touched, so is each stream to which something in a swept
+-- configuration belongs
 pub touched_by : (drivers : List DriverSpec) (c : Configuration) (t u : StreamTable) (ss : List StreamId)
     → TellsExisting drivers c t → IsSwept drivers c
     → ((s : StreamId) → is_there t s ≡ true → is_there_or_touched u ss s ≡ true) → IsTouched u ss c
@@ -77,17 +77,17 @@ touched_by drivers c t u ss told h stays = record {
   now : (s : StreamId) → exists drivers c s ≡ true → is_there_or_touched u ss s ≡ true
   now s e = stays s (told s ∙ e)
 
--- with other descriptors, with other hung-up streams, and without some links
+-- other descriptors don't change which streams must be in the table or touched
 pub touched_fds : (t : StreamTable) (ss : List StreamId) (c : Configuration) (fds : List Descriptor) → IsTouched t ss c
     → IsTouched t ss (record c { fds = fds })
 touched_fds t ss c fds h = record { links = h.links; binds = h.binds; flow = h.flow; fulls = h.fulls }
 
--- with other hung-up streams, what belongs to streams that are there or touched still does
+-- other hung-up streams don't change which streams must be in the table or touched
 pub touched_hungs : (t : StreamTable) (ss : List StreamId) (c : Configuration) (hungs : List StreamId)
     → IsTouched t ss c → IsTouched t ss (record c { hungs = hungs })
 touched_hungs t ss c hungs h = record { links = h.links; binds = h.binds; flow = h.flow; fulls = h.fulls }
 
--- without some links, what belongs to streams that are there or touched still does
+-- after links are removed, each stream with something is still in the table or touched
 pub touched_without : (t : StreamTable) (ss : List StreamId) (c : Configuration) (goes : Link → Bool) → IsTouched t ss c
     → IsTouched t ss (without_links c goes)
 touched_without t ss c goes h = record {
@@ -97,7 +97,7 @@ touched_without t ss c goes h = record {
   fulls = all_fewer _ _ c.fulls h.fulls;
 }
 
--- without the messages of some places, all that may have gone is still among the touched streams
+-- after places are emptied, each stream with something is still in the table or touched
 pub touched_emptied : (t : StreamTable) (ss : List StreamId) (c : Configuration) (goes : Place → Bool)
     → IsTouched t ss c → IsTouched t ss (without_queues_at c goes)
 touched_emptied t ss c goes h = record {
@@ -107,7 +107,7 @@ touched_emptied t ss c goes h = record {
   fulls = all_fewer _ _ c.fulls h.fulls;
 }
 
--- what was there or touched still is
+-- if each stream in one table or touched there is in another one or touched there, the condition carries over
 pub touched_on : (t u : StreamTable) (ss vs : List StreamId) (c : Configuration) → IsTouched t ss c
     → ((s : StreamId) → is_there_or_touched t ss s ≡ true → is_there_or_touched u vs s ≡ true) → IsTouched u vs c
 touched_on t u ss vs c h on = record {
@@ -117,7 +117,7 @@ touched_on t u ss vs c h on = record {
   fulls = all_weaker _ _ c.fulls (λ p. on p.stream) h.fulls;
 }
 
--- where one stream more is released and touched, what was there or touched still is
+-- if one stream is released and touched, each stream that was in the table or touched still is
 pub still_touched : (u v : StreamTable) (ss : List StreamId) (s : StreamId) (n : ℕ) → HasHolds u s n v
     → (x : StreamId) → is_there_or_touched u ss x ≡ true → is_there_or_touched v (ss ++ s ∷ []) x ≡ true
 still_touched u v ss s n h x there = elim (cases_Bool (same_stream x s)) [
@@ -125,7 +125,7 @@ still_touched u v ss s n h x there = elim (cases_Bool (same_stream x s)) [
   | inr other ↦ rw (there_same u v s x n h other) (grind (arith, nat_tests, listed_more x ss s))
 ]
 
--- a stream that may have gone is put to those that were seen
+-- after one touched stream has been examined, each stream that was in the table, touched or seen still is
 pub seen_more : (u v : StreamTable) (left rest now seen : List StreamId) (s x : StreamId) → left ≡ rest ++ s ∷ []
     → ((y : StreamId) → is_there_or_touched u rest y ≡ true → is_there_or_touched v now y ≡ true)
     → (is_there_or_touched u left x || list_any (same_stream x) seen) ≡ true
@@ -135,33 +135,34 @@ seen_more u v left rest now seen s x last on h = elim (cases_Bool (is_there_or_t
   | inr f ↦ let was = rw last at h in grind (arith, nat_tests, listed_more x rest s, listed_more x seen s)
 ]
 
--- in the end all of them were seen
+-- when no touched stream is left, each stream is in the table or was seen
 pub all_seen : (u : StreamTable) (left seen : List StreamId) (x : StreamId) → left ≡ []
     → (is_there_or_touched u left x || list_any (same_stream x) seen) ≡ true → is_there_or_touched u seen x ≡ true
 all_seen u left seen x none h = let k = rw none at h in grind (arith, nat_tests)
 
--- ---- the cascade at first
+-- ---- before the cascade
 
--- where each stream below a link has a hold, there are no more holds than links
+-- if each stream below a link is held, there are at most as many holds below links as links
 pub few_below : (links : List Link) (t : StreamTable) → AreHeld links t → (ls : List Link)
     → holds_below ls t ≤ length ls
 few_below links t held [] = omega arith
 few_below links t held (l ∷ ls) = let one = holds_few links l.lower in let here = held l.lower in
     let rest = few_below links t held ls in omega (arith, one, here, rest)
 
--- where each ordinary link's controlling stream is there or touched, and there is room, a cascade may begin
+-- if the controlling stream of each ordinary link is in the table or touched, and there is room, the conditions of the
+-- cascade hold
 pub cascade_at_first : (links : List Link) (t : StreamTable) (ss : List StreamId) (room : ℕ) → AreHeld links t
     → list_all (λ l. is_persistent l || is_there_or_touched t ss l.ctl) links ≡ true
-    → length ss + length (ordinary_of links) ≤ room → IsCascade links t ss room
+    → length ss + length links ≤ room → IsCascade links t ss room
 cascade_at_first links t ss room held h enough = record {
   releasing = λ n. starts links n t held;
   watched = all_weaker (λ l. is_persistent l || is_there_or_touched t ss l.ctl) (is_watched t ss) links watch h;
-  enough = let few = few_below links t held (ordinary_of links) in omega (arith, few, enough);
+  enough = let few = few_below links t held links in omega (arith, few, enough);
 } where
   watch : (l : Link) → (is_persistent l || is_there_or_touched t ss l.ctl) ≡ true → is_watched t ss l ≡ true
   watch l e = grind (arith, nat_tests)
 
--- where each stream below a link is held, no link's lower stream is free
+-- if each stream below a link is held, no link's lower stream is free
 pub none_free : (links : List Link) (t : StreamTable) → AreHeld links t → filter (λ l. not (is_held t l)) links ≡ []
 none_free links t held =
     none links (λ i d lt. held_is_below links t (get_or links i d).lower held ∙ below_at links i d lt) where
@@ -169,7 +170,7 @@ none_free links t held =
       none [] h = refl
       none (l ∷ ls) h = rw (h 0 l (omega arith)) (none ls (λ i d lt. h (suc i) d (omega (arith, lt))))
 
--- no more ids than links
+-- there are at most as many ids of links that pass a test as links
 pub few_ids : (t : Link → Bool) (ls : List Link) (ids : List ℕ) → ids ≡ map (λ l. l.id) (filter t ls)
     → length ids ≤ length ls
 few_ids t ls ids e =

@@ -1,4 +1,4 @@
--- Loose links, and the streams that may have gone.
+-- Loose links, and the streams that may have ceased to exist.
 use Rattle.std.proofs.Common.{◌≡◌, ℕ, zero, suc, ◌+◌, ◌-◌, ◌<◌, ◌≤◌, Bool, true, false, ◌&&◌, ◌||◌, not, eqb, List, []}
 use Rattle.std.proofs.Common.{◌∷◌, ◌++◌, length, take, get_or, Some, refl, sym, ap, subst, ◌∙◌, arith, inl, inr}
 use Rattle.std.proofs.Math.Bool.{or-false}
@@ -15,7 +15,7 @@ use Rattle.smx_types.specs.declared.stream.StreamId.{StreamId}
 use Rattle.smx_model.specs.Configuration.{same_stream}
 use Rattle.smx_model.specs.Standing.{is_named, is_persistent}
 use Rattle.smx_model.proofs.TestLemmas.{all_push}
-use Rattle.smx_links.specs.LinkLists.{is_upper, ordinary_of}
+use Rattle.smx_links.specs.LinkLists.{is_upper}
 use Rattle.smx_streams.specs.StreamTables.{StreamTable, HasHolds, number_at, exists as is_there}
 use Rattle.smx_tables.specs.ExistingStreams.{holds_of, is_held, is_loose}
 use Rattle.smx_tables.specs.TouchedStreams.{is_watched}
@@ -26,50 +26,50 @@ use Rattle.smx_tables.proofs.LinkWalkLemmas.{take_one_more}
 
 -- ---- streams in a list
 
--- with one stream more, just that one is listed beside those that were
+-- a stream is in a list with one more stream exactly if it was there before or is this one
 pub listed_more : (x : StreamId) (ss : List StreamId) (s : StreamId)
     → list_any (same_stream x) (ss ++ s ∷ []) ≡ (list_any (same_stream x) ss || same_stream x s)
 listed_more x ss s = list_any-append (same_stream x) ss (s ∷ [])
     ∙ ap (λ (b : Bool). list_any (same_stream x) ss || b) (or-false (same_stream x s))
 
--- with one stream more before the last one, each that was listed still is
+-- inserting a stream before the last one keeps each stream in the list
 pub still_listed_before : (x : StreamId) (ss : List StreamId) (s last : StreamId)
     → list_any (same_stream x) (ss ++ last ∷ []) ≡ true → list_any (same_stream x) ((ss ++ s ∷ []) ++ last ∷ []) ≡ true
 still_listed_before x ss s last h =
     grind (arith, nat_tests, listed_more x (ss ++ s ∷ []) last, listed_more x ss last, listed_more x ss s)
 
--- the last stream of a list is listed
+-- the last stream of a list is in the list
 pub listed_last : (ss : List StreamId) (s : StreamId) → list_any (same_stream s) (ss ++ s ∷ []) ≡ true
 listed_last ss s = listed_more s ss s ∙ or_right _ _ (stream_self s)
 
--- ---- tests of the links up to one
+-- ---- tests of the links before an index
 
--- where all links pass a test, each that is got by an index does
+-- if all links pass a test, the link that is read at an index passes it
 all_get : (test : Link → Bool) (ls : List Link) (i : ℕ) (d : Link) → i < length ls → list_all test ls ≡ true
     → test (get_or ls i d) ≡ true
 all_get test [] i d lt h = absurd (omega arith)
 all_get test (l ∷ ls) zero d lt h = (and_parts (test l) (list_all test ls) h).0
 all_get test (l ∷ ls) (suc i) d lt h = all_get test ls i d (omega arith) (and_parts (test l) (list_all test ls) h).1
 
--- where all links pass a test, the one at an index does
+-- if all links pass a test, the link at an index passes it
 pub all_at : (test : Link → Bool) (ls : List Link) (i : ℕ) (l : Link) → Some l ≡ slice_get ls i
     → list_all test ls ≡ true → test l ≡ true
 all_at test ls i l at h =
     subst (λ (k : Link). test k ≡ true) (this_one ls i l at) (all_get test ls i l (slice_get_within ls i l (sym at)) h)
 
--- where the links before an index pass a test, and the one there does, all up to it do
+-- if the links before an index and the link there pass a test, all links before the next index do
 pub all_more : (test : Link → Bool) (ls : List Link) (i : ℕ) (l : Link) → Some l ≡ slice_get ls i
     → list_all test (take i ls) ≡ true → test l ≡ true → list_all test (take (i + 1) ls) ≡ true
 all_more test ls i l at h t = ap (list_all test) (take_one_more ls i l at) ∙ all_push test (take i ls) l t h
 
--- where the links before an index pass a test, and no link is behind it, all links do
+-- if the links before an index pass a test, and no link is at it or after it, all links do
 pub all_in_all : (test : Link → Bool) (ls : List Link) (i : ℕ) → length ls ≤ i → list_all test (take i ls) ≡ true
     → list_all test ls ≡ true
 all_in_all test ls i past h = ap (list_all test) (sym (take_all i ls past)) ∙ h
 
--- ---- a stream that is released
+-- ---- releasing a stream
 
--- another stream is there as before
+-- another stream is in the table exactly if it was before
 pub there_same : (t u : StreamTable) (s x : StreamId) (n : ℕ) → HasHolds t s n u → same_stream x s ≡ false
     → is_there u x ≡ is_there t x
 there_same t u s x n h other =
@@ -77,19 +77,19 @@ there_same t u s x n h other =
     ap (λ (fds : List Descriptor). is_named fds x || nat_lt 0 (number_at u.holds x)) h.fds
     ∙ ap (λ (m : ℕ). is_named t.fds x || nat_lt 0 m) as_many
 
--- where one stream is released, no other one went
+-- only the stream that is released can have ceased to exist
 went_is_released : (t u : StreamTable) (s x : StreamId) (n : ℕ) → HasHolds t s n u → is_there t x ≡ true
     → is_there u x ≡ false → same_stream x s ≡ true
 went_is_released t u s x n h there gone = elim (cases_Bool (same_stream x s))
     [ inl e ↦ e | inr f ↦ absurd (false≢true (sym gone ∙ there_same t u s x n h f ∙ there)) ]
 
--- what is held was held
+-- a stream that is held after the release was held before
 held_before : (t u : StreamTable) (s : StreamId) (l : Link) → HasHolds t s (number_at t.holds s - 1) u
     → is_held u l ≡ true → is_held t l ≡ true
 held_before t u s l h up = let few = not_more_held t u s l.lower h in
     grind (arith, nat_tests)
 
--- a link is watched further, where the stream that is released is one of those that may have gone
+-- a watched link stays watched, if the stream that is released is among those that may have ceased to exist
 pub watch_on : (t u : StreamTable) (s : StreamId) (ss vs : List StreamId) (l : Link)
     → HasHolds t s (number_at t.holds s - 1) u
     → ((x : StreamId) → list_any (same_stream x) ss ≡ true → list_any (same_stream x) vs ≡ true)
@@ -108,7 +108,7 @@ watch_on t u s ss vs l h further last was = elim (cases_Bool (is_loose u l))
             | inr one ↦ further l.ctl one
           ]
 
--- where a stream is released that is among those that may have gone, each link is watched as before
+-- all watched links stay watched, if the stream that is released is among those that may have ceased to exist
 pub all_watch_on : (t u : StreamTable) (s : StreamId) (ss vs : List StreamId) (ls : List Link)
     → HasHolds t s (number_at t.holds s - 1) u
     → ((x : StreamId) → list_any (same_stream x) ss ≡ true → list_any (same_stream x) vs ≡ true)
@@ -117,7 +117,7 @@ pub all_watch_on : (t u : StreamTable) (s : StreamId) (ss vs : List StreamId) (l
 all_watch_on t u s ss vs ls h further last was =
     all_weaker (is_watched t ss) (is_watched u vs) ls (λ l w. watch_on t u s ss vs l h further last w) was
 
--- the link whose lower stream is released isn't loose any longer
+-- a link whose lower stream is released is not loose
 pub released_is_watched : (links : List Link) (t u : StreamTable) (vs : List StreamId) (l : Link)
     → ((s : StreamId) → number_at t.holds s ≤ holds_of links s) → HasHolds t l.lower (number_at t.holds l.lower - 1) u
     → is_watched u vs l ≡ true
@@ -129,19 +129,19 @@ released_is_watched links t u vs l once h =
     let none : number_at u.holds l.lower ≡ 0 = omega (arith, few, one, here) in
     or_left (not (is_loose u l)) _ (grind (arith, nat_tests))
 
--- ---- one stream less that may have gone
+-- ---- one stream less that may have ceased to exist
 
--- where the link isn't loose by it
+-- a link that is not loose through a stream is watched without it
 pub watched_less : (t : StreamTable) (ss : List StreamId) (ctl : StreamId) (l : Link)
     → (same_stream l.ctl ctl && is_loose t l) ≡ false → is_watched t (ss ++ ctl ∷ []) l ≡ true
     → is_watched t ss l ≡ true
 watched_less t ss ctl l other was = grind (arith, nat_tests, listed_more l.ctl ss ctl)
 
--- the controlling stream of a loose link is not there
+-- the controlling stream of a loose link is not in the table
 loose_gone : (t : StreamTable) (l : Link) → is_loose t l ≡ true → not (is_there t l.ctl) ≡ true
 loose_gone t l loose = grind (arith, nat_tests)
 
--- no link is loose by a stream that is there, or whose driver has no links
+-- no link is loose through a stream that is in the table, or whose driver is above no link
 pub none_by : (t : StreamTable) (ss : List StreamId) (ctl : StreamId) (ls : List Link)
     → (not (is_there t ctl) && is_upper ls ctl.driver) ≡ false → list_all (is_watched t (ss ++ ctl ∷ [])) ls ≡ true
     → list_all (is_watched t ss) ls ≡ true
@@ -161,19 +161,7 @@ none_by t ss ctl (l ∷ ls) none h =
       not_by true false a b = refl
       not_by false loose a b = refl
 
--- where each ordinary link is watched, each link is
-pub watched_in_all : (t : StreamTable) (ss : List StreamId) (ls : List Link)
-    → list_all (is_watched t ss) (ordinary_of ls) ≡ true → list_all (is_watched t ss) ls ≡ true
-watched_in_all t ss [] h = refl
-watched_in_all t ss (l ∷ ls) h = elim (cases_Bool (is_persistent l)) [
-  | inl p ↦ and_from _ _ (by_kind p) (watched_in_all t ss ls (rw p at h))
-  | inr o ↦ let b = and_parts (is_watched t ss l) (list_all (is_watched t ss) (ordinary_of ls)) (rw o at h) in
-      and_from _ _ b.0 (watched_in_all t ss ls b.1)
-] where
-  by_kind : is_persistent l ≡ true → is_watched t ss l ≡ true
-  by_kind p = rw p refl
-
--- none is loose once no stream may have gone
+-- if no stream may have ceased to exist, no link is loose
 pub none_loose : (t : StreamTable) (ls : List Link) → list_all (is_watched t []) ls ≡ true
     → list_any (is_loose t) ls ≡ false
 none_loose t [] h = refl

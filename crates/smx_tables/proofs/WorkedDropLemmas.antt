@@ -1,4 +1,4 @@
--- How often a serial is dropped or left, and what is dropped of three messages.
+-- How often a serial is dropped or left, and examples of dropping from three messages.
 use Rattle.std.proofs.Common.{◌≡◌, ◌==◌, ℕ, ◌+◌, Bool, not, List, [], ◌∷◌, length, filter, refl, ap}
 use Rattle.std.proofs.Common.{◌∙◌, arith, inl, inr}
 use Rattle.std.specs.List.Sorted.{IsPermutation}
@@ -14,9 +14,9 @@ use Rattle.smx_tables.specs.DroppedMessages.{AreDropped}
 use Rattle.smx_tables.specs.WorkedDrops.{at, first, second, three}
 use Rattle.smx_tables.proofs.DropLemmas.{dropped_more, times_permuted}
 
--- ---- all are left or gone
+-- ---- each message is left or dropped
 
--- as many are left or dropped as there were
+-- as many messages are left or dropped as there were
 pub as_many : (old new : List QueuedMessage) (dropped : List ℕ) → AreDropped old new dropped
     → length new + length dropped ≡ length old
 as_many old new dropped h =
@@ -25,7 +25,7 @@ as_many old new dropped h =
     let all = length-filter_both h.keep (λ x. not (h.keep x)) (λ x. refl) old in
     omega (arith, ap length h.left, told, all)
 
--- a serial is as often among what is kept and what goes together as it was before
+-- a serial is as often among the kept and the other messages together as it was before
 parts : (n : ℕ) (keep : QueuedMessage → Bool) (old : List QueuedMessage)
     → times n (serials (filter keep old)) + times n (serials (filter (λ x. not (keep x)) old)) ≡ times n (serials old)
 parts n keep [] = refl
@@ -43,18 +43,18 @@ as_often old new dropped h n =
       parts n h.keep old,
     )
 
--- ---- of the three
+-- ---- the three messages
 
--- their serials in the other order
+-- the two serials in the other order
 pub turned : IsPermutation {X = ℕ} (3 ∷ 1 ∷ []) (1 ∷ 3 ∷ [])
 turned = IsPermutation-swap (3 ∷ 1 ∷ []) (1 ∷ 3 ∷ []) 0 1 (omega arith) (omega arith) refl
 
--- the third is dropped
+-- the third message is dropped
 pub third_dropped : AreDropped three (first ∷ second ∷ []) (3 ∷ [])
 third_dropped =
     record { keep = λ h. not (h.message.serial == 3); left = refl; gone = IsPermutation-refl (3 ∷ []) }
 
--- the first is dropped behind it
+-- the first message is dropped after it
 pub first_dropped : (old : List QueuedMessage) → AreDropped old (first ∷ second ∷ []) (3 ∷ [])
     → AreDropped old (second ∷ []) (3 ∷ 1 ∷ [])
 first_dropped old =

@@ -4,7 +4,7 @@ use Rattle.smx_types.specs.declared.driver.DriverSpec.{DriverSpec}
 use Rattle.smx_tables.specs.declared.lists.Lists.{Lists}
 use Rattle.smx_model.specs.Configuration.{Configuration}
 
--- the configuration that the lists make
+-- the model's configuration with the values of these tables
 abbrev pub configuration_of : Lists → Configuration
 configuration_of l = record {
   fds = l.streams.fds;
@@ -18,7 +18,7 @@ configuration_of l = record {
   hungs = l.streams.hungs;
 }
 
--- over how many drivers the links are, how many minors each driver has, and over which drivers the queues are: no
--- command changes them
+-- the number of drivers of the table of links, the number of minors of each driver, and the drivers of the table of
+-- queues: no command changes them
 abbrev pub sizes_of : Lists → ℕ × List ℕ × List DriverSpec
 sizes_of l = (l.links.drivers, l.streams.minors, l.queues.drivers)

@@ -1,4 +1,4 @@
--- Three messages of one driver, and what is left of them once places are emptied, for what is told of dropped ones.
+-- Examples of dropped messages: three messages of one driver, and what is left after a place is emptied.
 use Rattle.std.specs.Prelude.{ℕ, List, [], ◌∷◌}
 use Rattle.smx_types.specs.declared.stream.Place.{Place}
 use Rattle.smx_types.specs.declared.stream.Side.{Side}
@@ -12,15 +12,15 @@ use Rattle.smx_queues.specs.FlowTables.{FlowLists}
 abbrev pub stream : ℕ → StreamId
 stream minor = record { driver = 0; minor = minor }
 
--- a side of it
+-- a side of such a stream
 abbrev pub at : ℕ → Side → Place
 at minor s = record { stream = stream minor; side = s }
 
--- a message of this serial there
+-- a message with this serial at a place
 abbrev pub message : ℕ → Place → QueuedMessage
 message serial p = record { place = p; message = record { serial = serial; addr = 5; bytes = [] } }
 
--- one on each side of one stream, and one on another; the serials don't rise
+-- one message on each side of one stream, and one on another stream; the serials don't rise
 abbrev pub third : QueuedMessage
 third = message 3 (at 0 side.Write)
 
@@ -33,7 +33,7 @@ second = message 2 (at 1 side.Write)
 abbrev pub three : List QueuedMessage
 three = third ∷ first ∷ second ∷ []
 
--- the three, where both sides of their first stream are full
+-- the three messages, with both sides of the first stream full
 abbrev pub three_queued : FlowLists
 three_queued = record {
   drivers = ip_over_eth;
@@ -42,7 +42,7 @@ three_queued = record {
   spare = 0;
 }
 
--- the same without the place of the third message
+-- the same table after the place of the third message is emptied
 abbrev pub two_left : FlowLists
 two_left = record {
   drivers = ip_over_eth;

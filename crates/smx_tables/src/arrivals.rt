@@ -11,7 +11,7 @@ ghost use Rattle.smx_tables.specs.ModelOfLists.{configuration_of, sizes_of};
 use crate::lists::Lists;
 use smx_types::{Message, Place};
 
-/// The first message leaves the place, where there is one.
+/// Removes the first message of the place and returns it. Returns `None` if the place has no message.
 pub fn leave(lists: &mut Lists, place: Place) -> Option<Message>
     requires { KeepsHolds lists.old }
     ensures first { result ≡ first_message lists.old.queues.flow place }
@@ -24,7 +24,7 @@ pub fn leave(lists: &mut Lists, place: Place) -> Option<Message>
     lists.queues.take(place)
 }
 
-/// A message arrives at the place, for which there is room.
+/// Adds a message at the end of the queue of a place that is not full. The table of queues has a reserved entry for it.
 pub fn arrive(lists: &mut Lists, place: Place, message: Message)
     requires kept { KeepsHolds lists.old }
     requires known { IsKnown lists.old.queues.drivers place.stream }

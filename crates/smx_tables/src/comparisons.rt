@@ -1,4 +1,4 @@
-//! Whether streams, sides and places are the same, and which comes first.
+//! Comparisons of streams, sides and places, and the order of bindings and routes.
 
 ghost use Rattle.std.specs.Prelude.{◌≡◌};
 ghost use Rattle.smx_model.specs.Configuration.{same_place, same_stream, same_side, bind_before};
@@ -6,35 +6,35 @@ ghost use Rattle.smx_model.specs.Configuration.{route_before};
 
 use smx_types::{Binding, Place, Route, Side, StreamId};
 
-/// Whether they have the same driver and minor.
+/// Returns whether both have the same driver and the same minor.
 pub fn same_stream(s: StreamId, t: StreamId) -> bool
     ensures { result ≡ same_stream s t }
 {
     s.driver == t.driver && s.minor == t.minor
 }
 
-/// Whether both are the write side, or both the read side.
+/// Returns whether both are the write side, or both the read side.
 pub fn same_side(a: Side, b: Side) -> bool
     ensures { result ≡ same_side a b }
 {
     a == b
 }
 
-/// Whether they are the same side of the same stream.
+/// Returns whether both are the same side of the same stream.
 pub fn same_place(p: Place, q: Place) -> bool
     ensures { result ≡ same_place p q }
 {
     same_stream(p.stream, q.stream) && same_side(p.side, q.side)
 }
 
-/// Whether the first binding comes before the second: by driver, and then by address.
+/// Returns whether the first binding comes before the second: by driver, and then by address.
 pub fn bind_before(b: &Binding, c: &Binding) -> bool
     ensures { result ≡ bind_before b.now c.now }
 {
     b.driver < c.driver || (b.driver == c.driver && b.addr < c.addr)
 }
 
-/// Whether the first route comes before the second: by driver, and then by address.
+/// Returns whether the first route comes before the second: by driver, and then by address.
 pub fn route_before(r: &Route, s: &Route) -> bool
     ensures { result ≡ route_before r.now s.now }
 {

@@ -1,4 +1,4 @@
-//! Empty tables, and the same tables again.
+//! Empty tables, and copies of tables.
 
 ghost use Rattle.std.specs.Prelude.{◌≡◌, length, map, IfOk};
 ghost use Rattle.smx_model.specs.Configuration.{empty};
@@ -14,7 +14,7 @@ use smx_streams::Streams;
 use smx_types::{DriverSpec, NoMemory};
 use std::alloc::Global;
 
-/// The same tables again. Fails only for want of memory.
+/// Copies the tables into memory from this allocator. Fails only if out of memory.
 #[tactic(auto, using(crate::proofs::KeptLemmas::held_again))]
 pub fn copy_lists(alloc: Global, lists: &Lists) -> Result<Lists, NoMemory>
     requires { KeepsHolds lists.now }
@@ -25,16 +25,16 @@ pub fn copy_lists(alloc: Global, lists: &Lists) -> Result<Lists, NoMemory>
     ensures room { IfOk result KeepsHolds }
 {
     Ok(Lists {
-        streams: lists.streams.copy()?,
-        links: lists.links.copy()?,
+        streams: lists.streams.copy(alloc)?,
+        links: lists.links.copy(alloc)?,
         queues: lists.queues.copy(alloc)?,
-        binds: lists.binds.copy()?,
-        routes: lists.routes.copy()?,
+        binds: lists.binds.copy(alloc)?,
+        routes: lists.routes.copy(alloc)?,
         next_serial: lists.next_serial,
     })
 }
 
-// How many minors each driver has.
+// Returns the number of minors of each driver.
 #[tactic(auto, using(crate::proofs::DriverListLemmas::minors_within))]
 fn minors_of_each(alloc: Global, drivers: &[DriverSpec]) -> Result<Vec<u8>, NoMemory>
     requires { IsDriverList drivers.now }
@@ -47,7 +47,7 @@ fn minors_of_each(alloc: Global, drivers: &[DriverSpec]) -> Result<Vec<u8>, NoMe
     Ok(minors)
 }
 
-/// Empty tables, for these drivers. Fails only for want of memory.
+/// Makes empty tables for these drivers. Fails only if out of memory.
 #[tactic(auto, using(crate::proofs::KeptLemmas::held_at_first))]
 pub fn empty_lists(alloc: Global, drivers: &[DriverSpec]) -> Result<Lists, NoMemory>
     requires { IsDriverList drivers.now }

@@ -1,16 +1,16 @@
-//! Where a driver may stand: a look by its name, before a search.
+//! Hints for finding a driver by its name without a search.
 
 use smx_types::{DriverSpec, Name};
 
-/// By a short hash of its name, the number of the last driver that has this hash, or 0. A hint, which has to be
-/// compared: no clause says that it is right.
+/// For each short hash, the number of the last driver whose name has this hash, or 0. A caller has to compare the
+/// driver's name: no clause says that a hint is right.
 #[derive(Clone, Copy, Debug)]
 pub struct DriverHints {
     numbers: [u8; 256],
 }
 
 impl DriverHints {
-    /// The hints for these drivers. Takes no memory.
+    /// Makes the hints for these drivers. Does not allocate.
     pub fn new(drivers: &[DriverSpec]) -> DriverHints {
         let mut numbers = [0u8; 256];
         let mut number = 0u8;
@@ -21,7 +21,7 @@ impl DriverHints {
         DriverHints { numbers }
     }
 
-    /// The hint for this name. Takes no memory.
+    /// Returns the hint for this name. Does not allocate.
     #[inline(always)]
     pub fn of(&self, name: &Name) -> u8 {
         self.numbers[name.short_hash() as usize]

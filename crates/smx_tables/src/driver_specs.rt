@@ -1,4 +1,4 @@
-//! What drivers are like, by their numbers.
+//! The properties of drivers, by number.
 
 ghost use Rattle.std.specs.Prelude.{◌≡◌, ◌<◌, position, length, IfOk, IsTrue, Ok};
 ghost use Rattle.std.specs.Str.{bytes_eq};
@@ -14,7 +14,7 @@ fn position_of(drivers: &[DriverSpec], name: &Name) -> Option<usize>
     drivers.iter().position(|d| d.name == *name)
 }
 
-/// The number of the driver of this name.
+/// Returns the number of the driver with this name. Fails if there is no such driver.
 pub fn driver_of(drivers: &[DriverSpec], name: &Name) -> Result<usize, Fault>
     ensures found { result ≡ driver_of drivers.now name.now }
     ensures in_range { IfOk result (λ n. n < length drivers.now) }
@@ -25,7 +25,7 @@ pub fn driver_of(drivers: &[DriverSpec], name: &Name) -> Result<usize, Fault>
     }
 }
 
-/// Whether the driver of this number has this name.
+/// Returns whether the driver with this number has this name. Returns false if there is no such driver.
 #[inline(always)]
 pub fn is_driver_named(drivers: &[DriverSpec], driver: usize, name: &Name) -> bool
     requires { IsDriverList drivers.now }
@@ -46,7 +46,7 @@ fn kind_is_mux(kind: DriverKind) -> bool
     }
 }
 
-/// Whether the driver of this number is a multiplexing driver.
+/// Returns whether the driver with this number is a multiplexing driver.
 pub fn is_mux(drivers: &[DriverSpec], driver: usize) -> bool
     ensures { result ≡ is_mux drivers.now driver }
 {
@@ -56,7 +56,7 @@ pub fn is_mux(drivers: &[DriverSpec], driver: usize) -> bool
     }
 }
 
-/// How many minors the driver has; 0 where there is no such driver.
+/// Returns the number of minors of the driver, or 0 if there is no such driver.
 pub fn minors_of(drivers: &[DriverSpec], driver: usize) -> u32
     ensures { result ≡ minors_of drivers.now driver }
 {
@@ -66,7 +66,7 @@ pub fn minors_of(drivers: &[DriverSpec], driver: usize) -> u32
     }
 }
 
-/// The bytes of the driver's longest message; 0 where there is no such driver.
+/// Returns the size in bytes of the driver's longest message, or 0 if there is no such driver.
 pub fn max_of(drivers: &[DriverSpec], driver: usize) -> u32
     ensures { result ≡ max_of drivers.now driver }
 {

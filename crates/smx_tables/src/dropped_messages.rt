@@ -12,7 +12,7 @@ use smx_queues::FlowTable;
 use smx_types::{Place, Reply, Serials, Side, Sides, StreamId};
 use std::mem::replace;
 
-// What `drop_at` does where there is something to drop. Apart, so that the test before it is inlined.
+// Does the work of `drop_at` if there is something to drop.
 #[inline(always)]
 fn drop_all_at(queues: &mut FlowTable, place: Place, dropped: &mut Vec<u32>)
     requires { HasRoom dropped.old queues.old.flow }
@@ -21,8 +21,8 @@ fn drop_all_at(queues: &mut FlowTable, place: Place, dropped: &mut Vec<u32>)
     queues.drop_at(place, dropped);
 }
 
-/// Drops the messages at a place, and its full mark. Their serials come to a list that has room for those of all. Quick
-/// where there are none.
+/// Drops the messages at a place, and its full mark. Adds their serials to a list that has room for the serials of all
+/// messages. Returns early if there is nothing to drop.
 #[inline(always)]
 pub fn drop_at(queues: &mut FlowTable, place: Place, dropped: &mut Vec<u32>)
     requires { HasRoom dropped.old queues.old.flow }
@@ -43,7 +43,7 @@ fn is_side(sides: Sides, side: Side) -> bool
     }
 }
 
-// Drops the messages on one side of a stream, where that side is named.
+// Drops the messages and the full mark on one side of a stream, if this side is named.
 fn drop_side(
     queues: &mut FlowTable,
     stream: StreamId,
@@ -59,7 +59,7 @@ fn drop_side(
     }
 }
 
-/// Drops the messages on the sides of a stream that are named.
+/// Drops the messages and the full marks on the named sides of a stream.
 #[inline(always)]
 pub fn drop_sides(queues: &mut FlowTable, stream: StreamId, sides: Sides, dropped: &mut Vec<u32>)
     requires { HasRoom dropped.old queues.old.flow }
@@ -70,7 +70,7 @@ pub fn drop_sides(queues: &mut FlowTable, stream: StreamId, sides: Sides, droppe
     drop_side(queues, stream, sides, Side::Read, dropped);
 }
 
-// The serials of dropped messages, rising.
+// Sorts the serials of dropped messages.
 fn rising(dropped: Vec<u32>) -> Vec<u32>
     ensures { (old new : List QueuedMessage) → AllPairs (λ m n. m ≢ n) (serials old)
         → AreDropped old new dropped.items → result.items ≡ serials_that_left old new }
@@ -80,8 +80,8 @@ fn rising(dropped: Vec<u32>) -> Vec<u32>
     sorted
 }
 
-/// Done, with the serials of dropped messages, rising. The reply takes the list away; where there are none, it has one
-/// that takes no memory, and the list stays.
+/// Returns `Reply::Done` with the serials of dropped messages, in rising order. The reply takes the list. If the list
+/// is empty, it stays with the caller, and the reply has another empty list, which takes no memory.
 #[inline(always)]
 pub fn name_dropped(dropped: &mut Vec<u32>) -> Reply
     ensures { (left : List QueuedMessage) → NamesDropped left dropped.old.items left result }

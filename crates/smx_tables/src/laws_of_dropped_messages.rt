@@ -1,4 +1,5 @@
-//! Laws of dropped messages, each the contract of a function that does nothing: an example of each, and what is none.
+//! Laws of dropped messages, as contracts of functions that do nothing. Each one gives examples of a definition, and
+//! cases that it excludes.
 
 ghost use Rattle.std.specs.Global.{Global};
 ghost use Rattle.std.specs.Prelude.{◌≡◌, ℕ, ◌+◌, List, [], ◌∷◌, length, vec_capacity, Vec, true, false};
@@ -11,8 +12,8 @@ ghost use Rattle.smx_tables.specs.DroppedMessages.{is_flushed_at, AreDropped, Dr
 ghost use Rattle.smx_tables.specs.DroppedMessages.{NamesDropped};
 ghost use Rattle.smx_tables.specs.WorkedDrops.{at, first, message, second, stream, three, three_queued, two_left};
 
-/// Of some messages others are left, in their order, and the serials of those that are gone are told, in any order:
-/// each once, none that is left, and none that there wasn't.
+/// Some messages are left, in their order. The list names the serials of the others, in any order and each once. It
+/// names no serial of a message that is left, and none that no message had.
 pub fn what_is_dropped()
     ensures two { AreDropped three (second ∷ []) (3 ∷ 1 ∷ []) }
     ensures in_any_order { AreDropped three (second ∷ []) (1 ∷ 3 ∷ []) }
@@ -27,7 +28,8 @@ pub fn what_is_dropped()
         → AreDropped old new dropped → length new + length dropped ≡ length old }
 {}
 
-/// Where more is dropped it is told too, and nothing that was dropped before is forgotten or comes back.
+/// If more messages are dropped, the list names them too. It still names what was dropped before, and no dropped
+/// message comes back.
 pub fn what_is_dropped_more()
     ensures one { DropsMore (first ∷ second ∷ []) (3 ∷ []) (second ∷ []) (3 ∷ 1 ∷ []) }
     ensures none { (flow : List QueuedMessage) (dropped : List ℕ) → DropsMore flow dropped flow dropped }
@@ -36,7 +38,8 @@ pub fn what_is_dropped_more()
     ensures not_back { DropsMore (second ∷ []) (1 ∷ []) (first ∷ second ∷ []) [] → ⊥ }
 {}
 
-/// A list of one serial that can have three has room for those of two messages, and one that can have two has not.
+/// A list of one serial with a capacity of three has room for the serials of two messages; with a capacity of two it
+/// does not.
 pub fn what_has_room()
     ensures room { (dropped : Vec ℕ Global) → dropped.items ≡ 3 ∷ [] → vec_capacity dropped ≡ 3
         → HasRoom dropped (first ∷ second ∷ []) }
@@ -44,8 +47,8 @@ pub fn what_has_room()
         → HasRoom dropped (first ∷ second ∷ []) → ⊥ }
 {}
 
-/// A place is emptied of its messages and of its full mark, and no other place is. The drivers stay, the list names
-/// what is gone, and it has room for what is left.
+/// A place loses its messages and its full mark, and no other place does. The drivers stay. The list names the dropped
+/// messages, and it has room for the serials of those that are left.
 pub fn what_is_emptied()
     ensures emptied { (before after : Vec ℕ Global) → before.items ≡ [] → after.items ≡ 3 ∷ []
         → vec_capacity after ≡ 3
@@ -72,8 +75,8 @@ pub fn what_is_emptied()
         → EmptiesPlaces (λ p. same_place p (at 0 side.Write)) three_queued before two_left after → ⊥ }
 {}
 
-/// A reply names what was dropped before and since, in rising order, where no two messages had one serial; of messages
-/// of which two had one it says nothing.
+/// A reply names the messages that were dropped before and since, in rising order, if no two messages had the same
+/// serial. If two had the same serial, the definition says nothing about the reply.
 pub fn what_a_reply_names()
     ensures both { NamesDropped (first ∷ second ∷ []) (3 ∷ []) (second ∷ []) (Done (1 ∷ 3 ∷ [])) }
     ensures none { NamesDropped three [] three (Done []) }
@@ -84,7 +87,7 @@ pub fn what_a_reply_names()
     ensures nothing_of_one_serial_twice { NamesDropped (second ∷ []) (2 ∷ []) (second ∷ []) (Done (7 ∷ [])) }
 {}
 
-/// A side of a stream is flushed where it is that side, of that stream, and named.
+/// A place is flushed if it is this side of this stream, and the side is named.
 pub fn what_is_flushed()
     ensures named { is_flushed_at (stream 0) sides.W side.Write (at 0 side.Write) ≡ true }
     ensures named_with_the_other { is_flushed_at (stream 0) sides.RW side.Read (at 0 side.Read) ≡ true }

@@ -1,4 +1,5 @@
-//! The tables of a configuration as one: what is shown of them, and what goes with a link or a stream.
+//! The tables of a configuration together: the lines that show them, and the removal of all that belongs to links and
+//! streams that go.
 #![tactic(auto)]
 
 pub mod arrivals;

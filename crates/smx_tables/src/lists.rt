@@ -7,8 +7,8 @@ use smx_links::LinkTable;
 use smx_queues::FlowTable;
 use smx_streams::Streams;
 
-/// All of a configuration: the tables of streams with their descriptors, of links, bindings, routes and queues.
-/// A contract sees each as the lists of the model, in the order in which they are shown.
+/// A whole configuration: the tables of streams with their descriptors, of links, of bindings, of routes and of queues.
+/// Contracts see each table as a list of the model, in the order in which the table is shown.
 #[derive(Debug)]
 pub struct Lists {
     pub streams: Streams,
@@ -20,7 +20,8 @@ pub struct Lists {
 }
 
 impl Drop for Lists {
-    // One call in each body that has them, however many ways it ends, in place of a drop for each field of each table.
+    // Written by hand: a body then drops the tables with one call, however many exits it has, instead of one drop for
+    // each field of each table.
     fn drop(self) {
         let Lists {
             streams: _streams,
@@ -34,7 +35,7 @@ impl Drop for Lists {
 }
 
 impl Lists {
-    /// The table of queues; the others are not needed any more.
+    /// Returns the table of queues, and drops the other tables.
     pub fn into_queues(self) -> FlowTable
         ensures { result ≡ self.queues }
     {

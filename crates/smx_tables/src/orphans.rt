@@ -1,11 +1,11 @@
-//! Links whose controlling stream is gone: their lower streams are released, until no more go.
+//! Releasing the lower streams of links whose controlling stream no longer exists.
 
 ghost use Rattle.std.specs.Prelude.{◌≡◌, ℕ, ◌+◌, ◌≤◌, ◌++◌, ◌∷◌, [], ◌&&◌, not, false, true, length, vec_capacity};
 ghost use Rattle.std.specs.List.{list_any};
 ghost use Rattle.smx_types.specs.declared.stream.StreamId.{StreamId};
 ghost use Rattle.smx_model.specs.Configuration.{same_stream};
 ghost use Rattle.smx_streams.specs.StreamTables.{LeavesHungs, exists as is_there};
-ghost use Rattle.smx_links.specs.LinkLists.{is_upper, ordinary_of};
+ghost use Rattle.smx_links.specs.LinkLists.{is_upper};
 ghost use Rattle.smx_tables.specs.ExistingStreams.{is_held, is_loose, holds_below, IsReleasing};
 ghost use Rattle.smx_tables.specs.TouchedStreams.{is_there_or_touched, AreReleased, IsCascade};
 
@@ -27,22 +27,23 @@ fn is_loose(streams: &Streams, link: &Link) -> bool
     !is_persistent(link) && is_held(streams, link) && !streams.exists(link.ctl)
 }
 
-// Whether it is loose, by this controlling stream.
+// Returns whether the link is loose and this is its controlling stream.
 fn is_loose_by(streams: &Streams, ctl: StreamId, link: &Link) -> bool
     ensures { result ≡ (same_stream link.now.ctl ctl && is_loose streams.now link.now) }
 {
     same_stream(link.ctl, ctl) && is_loose(streams, link)
 }
 
-// Whether a link may be loose by this controlling stream: it is gone, and its driver has links.
+// Returns whether a link may be loose through this controlling stream: the stream is not in the table, and its driver
+// is above a link.
 fn may_have_loose(streams: &Streams, links: &LinkTable, ctl: StreamId) -> bool
     ensures { result ≡ (not (is_there streams.now ctl) && is_upper links.now.links ctl.driver) }
 {
     !streams.exists(ctl) && links.is_upper(ctl.driver)
 }
 
-// Releases the lower streams of the links that are loose by this controlling stream, and puts them to those that may
-// have gone, and the links' ids to those that were released.
+// Releases the lower streams of the links that are loose through this controlling stream. Adds these streams to
+// `touched`, and the ids of the links to `gone`.
 fn release_below(
     streams: &mut Streams,
     links: &LinkTable,
@@ -58,8 +59,8 @@ fn release_below(
     ensures hungs { LeavesHungs streams.old streams.new }
     ensures there { (s : StreamId) → is_there streams.new s ≡ true → is_there streams.old s ≡ true }
     ensures cascade { IsCascade links.now.links streams.new touched.new.items (vec_capacity touched.new) }
-    ensures less { length touched.new.items + holds_below (ordinary_of links.now.links) streams.new
-        ≤ length touched.old.items + holds_below (ordinary_of links.now.links) streams.old }
+    ensures less { length touched.new.items + holds_below links.now.links streams.new
+        ≤ length touched.old.items + holds_below links.now.links streams.old }
     ensures touched { (s : StreamId) → is_there_or_touched streams.old touched.old.items s ≡ true
         → is_there_or_touched streams.new touched.new.items s ≡ true }
     ensures gone { AreReleased links.now.links streams.new gone.new.items (vec_capacity gone.new) }
@@ -69,7 +70,7 @@ fn release_below(
     if !may_have_loose(streams, links, ctl) {
         return;
     }
-    for link in links.ordinary() {
+    for link in links.links() {
         if is_loose_by(streams, ctl, link) {
             let _gone = streams.release(link.lower);
             touched.push_reserved(link.lower);
@@ -78,7 +79,8 @@ fn release_below(
     }
 }
 
-// The same for each stream that may have gone, until no link is loose. Those are put to a list that has room for them.
+// Does the same for each touched stream, until no link is loose. Moves each stream that it examines to `seen`, which
+// has room for all of them.
 pub fn release_orphans(
     streams: &mut Streams,
     links: &LinkTable,
@@ -88,7 +90,7 @@ pub fn release_orphans(
 )
     requires cascade { IsCascade links.now.links streams.old touched.old.items (vec_capacity touched.old) }
     requires room { length seen.old.items
-        + (length touched.old.items + holds_below (ordinary_of links.now.links) streams.old)
+        + (length touched.old.items + holds_below links.now.links streams.old)
         ≤ vec_capacity seen.old }
     requires gone { AreReleased links.now.links streams.old gone.old.items (vec_capacity gone.old) }
     ensures fds { streams.new.fds ≡ streams.old.fds }

@@ -1,10 +1,10 @@
-//! Links that are removed, and what goes with them.
+//! Removing links, and what goes with them.
 
 ghost use Rattle.std.specs.Prelude.{◌≡◌, ◌+◌, ◌≤◌, Bool, true, map, filter, length, vec_capacity};
 ghost use Rattle.smx_types.specs.declared.link.Link.{Link};
 ghost use Rattle.smx_types.specs.declared.stream.StreamId.{StreamId};
 ghost use Rattle.smx_model.specs.Removal.{without_links};
-ghost use Rattle.smx_links.specs.LinkLists.{ordinary_of, others_of};
+ghost use Rattle.smx_links.specs.LinkLists.{others_of};
 ghost use Rattle.smx_streams.specs.StreamTables.{HasHolds, LeavesHungs, exists as is_there, number_at};
 ghost use Rattle.smx_tables.specs.DroppedMessages.{DropsMore, EmptiesPlaces, HasRoom};
 ghost use Rattle.smx_tables.specs.ExistingStreams.{AreHeld};
@@ -20,7 +20,7 @@ use smx_queues::FlowTable;
 use smx_streams::Streams;
 use smx_types::{Place, Side, StreamId};
 
-// Drops what the read sides of the streams below the links with these ids hold.
+// Drops the messages and full marks on the read sides of the streams below the links with these ids.
 fn drop_below(queues: &mut FlowTable, links: &LinkTable, gone: &[u32], dropped: &mut Vec<u32>)
     requires { HasRoom dropped.old queues.old.flow }
     ensures { EmptiesPlaces (is_read_below_listed links.now.links gone.now)
@@ -38,7 +38,7 @@ fn drop_below(queues: &mut FlowTable, links: &LinkTable, gone: &[u32], dropped: 
     }
 }
 
-// Releases the stream, where it is held.
+// Releases the stream, if it is held.
 fn release_held(streams: &mut Streams, stream: StreamId)
     requires { number_at streams.old.holds stream ≤ 1 }
     ensures { HasHolds streams.old stream 0 streams.new }
@@ -49,7 +49,7 @@ fn release_held(streams: &mut Streams, stream: StreamId)
     }
 }
 
-// Releases the lower streams of the links with these ids, and puts them to those that may have gone.
+// Releases the lower streams of the links with these ids, and adds these streams to `touched`.
 fn release_each(streams: &mut Streams, links: &LinkTable, gone: &[u32], touched: &mut Vec<StreamId>)
     requires held { AreHeld links.now.links streams.old }
     requires room { length touched.old.items + length gone.now ≤ vec_capacity touched.old }
@@ -72,8 +72,8 @@ fn release_each(streams: &mut Streams, links: &LinkTable, gone: &[u32], touched:
     }
 }
 
-/// Removes the links with these ids, the routes to them, and what their lower streams' read sides hold, once those are
-/// released.
+/// Removes the links with these ids, the routes to them, and the messages and full marks on the read sides of their
+/// lower streams. Doesn't release these streams: the caller does so first.
 pub fn drop_links(lists: &mut Lists, gone: &[u32], dropped: &mut Vec<u32>)
     requires { HasRoom dropped.old lists.old.queues.flow }
     ensures value { (goes : Link → Bool) → AreIdsOf goes lists.old.links.links gone.now
@@ -93,7 +93,8 @@ pub fn drop_links(lists: &mut Lists, gone: &[u32], dropped: &mut Vec<u32>)
     lists.links.remove_each(gone);
 }
 
-/// Removes the links with these ids, and releases their lower streams, which are put to those that may have gone.
+/// Removes the links with these ids, as `drop_links` does. Also releases their lower streams, and adds these to
+/// `touched`.
 pub fn remove_links(
     lists: &mut Lists,
     gone: &[u32],
@@ -111,7 +112,7 @@ pub fn remove_links(
     ensures room { HasRoom dropped.new lists.new.queues.flow }
     ensures kept { KeepsHolds lists.new }
     ensures drivers { sizes_of lists.new ≡ sizes_of lists.old }
-    ensures fewer { length (ordinary_of lists.new.links.links) ≤ length (ordinary_of lists.old.links.links) }
+    ensures fewer { length lists.new.links.links ≤ length lists.old.links.links }
     ensures touched { (s : StreamId) → is_there lists.old.streams s ≡ true
         → is_there_or_touched lists.new.streams touched.new.items s ≡ true }
     ensures few { length touched.new.items ≤ length touched.old.items + length gone.now }

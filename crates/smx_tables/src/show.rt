@@ -1,4 +1,4 @@
-//! A configuration as it is shown.
+//! The lines that show a configuration.
 
 ghost use Rattle.std.specs.Prelude.{◌≡◌, ◌<◌, length, map, IfOk};
 ghost use Rattle.std.specs.List.{All};
@@ -16,7 +16,7 @@ use smx_types::{
 };
 use std::alloc::Global;
 
-/// The name of a driver.
+/// Returns the name of a driver.
 pub fn name_of(drivers: &[DriverSpec], driver: u8) -> Name
     requires { driver < length drivers.now }
     ensures { result ≡ name_of drivers.now driver }
@@ -24,7 +24,7 @@ pub fn name_of(drivers: &[DriverSpec], driver: u8) -> Name
     drivers[driver as usize].name
 }
 
-/// The line of a descriptor.
+/// Returns the line of a descriptor.
 pub fn descriptor_line(drivers: &[DriverSpec], d: &Descriptor) -> DescriptorLine
     requires { d.now.stream.driver < length drivers.now }
     ensures { result ≡ view_of_fd drivers.now d.now }
@@ -37,7 +37,7 @@ pub fn descriptor_line(drivers: &[DriverSpec], d: &Descriptor) -> DescriptorLine
     }
 }
 
-/// The line of a link.
+/// Returns the line of a link.
 pub fn link_line(drivers: &[DriverSpec], l: &Link) -> LinkLine
     requires ctl { l.now.ctl.driver < length drivers.now }
     requires lower { l.now.lower.driver < length drivers.now }
@@ -53,7 +53,7 @@ pub fn link_line(drivers: &[DriverSpec], l: &Link) -> LinkLine
     }
 }
 
-/// The line of a binding.
+/// Returns the line of a binding.
 pub fn binding_line(drivers: &[DriverSpec], b: &Binding) -> BindingLine
     requires { b.now.driver < length drivers.now }
     ensures { result ≡ view_of_bind drivers.now b.now }
@@ -65,7 +65,7 @@ pub fn binding_line(drivers: &[DriverSpec], b: &Binding) -> BindingLine
     }
 }
 
-/// The line of a route.
+/// Returns the line of a route.
 pub fn route_line(drivers: &[DriverSpec], r: &Route) -> RouteLine
     requires { r.now.driver < length drivers.now }
     ensures { result ≡ view_of_route drivers.now r.now }
@@ -77,7 +77,7 @@ pub fn route_line(drivers: &[DriverSpec], r: &Route) -> RouteLine
     }
 }
 
-// The line of a message at a place.
+// Returns the line of a message at a place.
 fn message_line(drivers: &[DriverSpec], place: Place, message: Message) -> MessageLine
     requires { place.stream.driver < length drivers.now }
     ensures { result ≡ view_of_message drivers.now (record { place = place; message = message }) }
@@ -90,7 +90,7 @@ fn message_line(drivers: &[DriverSpec], place: Place, message: Message) -> Messa
     }
 }
 
-/// The line of a full place.
+/// Returns the line of a full place.
 pub fn full_line(drivers: &[DriverSpec], p: &Place) -> FullLine
     requires { p.now.stream.driver < length drivers.now }
     ensures { result ≡ view_of_full drivers.now p.now }
@@ -102,7 +102,7 @@ pub fn full_line(drivers: &[DriverSpec], p: &Place) -> FullLine
     }
 }
 
-/// The line of a stream that has hung up.
+/// Returns the line of a hung-up stream.
 pub fn hung_line(drivers: &[DriverSpec], stream: StreamId) -> HungLine
     requires { stream.driver < length drivers.now }
     ensures { result ≡ view_of_hung drivers.now stream }
@@ -113,7 +113,7 @@ pub fn hung_line(drivers: &[DriverSpec], stream: StreamId) -> HungLine
     }
 }
 
-/// The lines of all descriptors, by rising process and number. Fails only for want of memory.
+/// Returns the lines of all descriptors, by rising process and number. Fails only if out of memory.
 #[tactic(auto, using(crate::proofs::WalkLemmas::walk_of_fds))]
 pub fn descriptor_lines(
     alloc: Global,
@@ -132,7 +132,7 @@ pub fn descriptor_lines(
     Ok(lines)
 }
 
-/// The lines of all links, by rising id. Fails only for want of memory.
+/// Returns the lines of all links, by rising id. Fails only if out of memory.
 pub fn link_lines(
     alloc: Global,
     drivers: &[DriverSpec],
@@ -150,7 +150,7 @@ pub fn link_lines(
     Ok(lines)
 }
 
-/// The lines of all bindings, by rising driver and address. Fails only for want of memory.
+/// Returns the lines of all bindings, by rising driver and address. Fails only if out of memory.
 pub fn binding_lines(
     alloc: Global,
     drivers: &[DriverSpec],
@@ -167,7 +167,7 @@ pub fn binding_lines(
     Ok(lines)
 }
 
-/// The lines of all routes, by rising driver and address. Fails only for want of memory.
+/// Returns the lines of all routes, by rising driver and address. Fails only if out of memory.
 pub fn route_lines(
     alloc: Global,
     drivers: &[DriverSpec],
@@ -184,7 +184,7 @@ pub fn route_lines(
     Ok(lines)
 }
 
-/// The lines of all queued messages, by rising place and in order of arrival. Fails only for want of memory.
+/// Returns the lines of all queued messages, by rising place and in order of arrival. Fails only if out of memory.
 pub fn message_lines(
     alloc: Global,
     drivers: &[DriverSpec],
@@ -202,8 +202,8 @@ pub fn message_lines(
     Ok(lines)
 }
 
-/// The same lines, with the messages of tables that nobody needs any more: none is copied. Fails only for want of
-/// memory.
+/// Returns the same lines as `message_lines`, for a table that is no longer needed: moves the messages out of it
+/// instead of copying them. Fails only if out of memory.
 pub fn leaving_message_lines(
     alloc: Global,
     drivers: &[DriverSpec],
@@ -220,7 +220,7 @@ pub fn leaving_message_lines(
     Ok(lines)
 }
 
-/// The lines of all full places, by rising place. Fails only for want of memory.
+/// Returns the lines of all full places, by rising place. Fails only if out of memory.
 pub fn full_lines(
     alloc: Global,
     drivers: &[DriverSpec],
@@ -237,7 +237,7 @@ pub fn full_lines(
     Ok(lines)
 }
 
-/// The lines of all streams that have hung up, by rising stream. Fails only for want of memory.
+/// Returns the lines of all hung-up streams, by rising stream. Fails only if out of memory.
 pub fn hung_lines(
     alloc: Global,
     drivers: &[DriverSpec],

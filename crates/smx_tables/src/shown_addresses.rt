@@ -1,4 +1,4 @@
-//! Whether lines show the bindings and the routes of tables. Each line is looked up, so that it takes no memory.
+//! Comparing lines with the bindings and the routes of tables. Each line is looked up; nothing is allocated.
 
 ghost use Rattle.std.specs.Prelude.{◌≡◌, ◌↔◌, ◌<◌, ◌≤◌, true, length, map, IsTrue};
 ghost use Rattle.std.specs.List.{All};
@@ -15,7 +15,7 @@ use smx_addresses::laws::{look_ups_tell_bindings, look_ups_tell_routes};
 use smx_addresses::{Bindings, Routes};
 use smx_types::{Binding, BindingLine, DriverSpec, Route, RouteLine};
 
-// The binding that the line shows, where there is one.
+// Returns the binding that the line shows, if there is one.
 fn shown_binding(drivers: &[DriverSpec], binds: &Bindings, line: &BindingLine) -> Option<Binding>
     requires { length drivers.now ≤ MAX_DRIVERS }
     ensures { result ≡ shown_binding drivers.now binds.now line.now }
@@ -31,7 +31,7 @@ fn shown_binding(drivers: &[DriverSpec], binds: &Bindings, line: &BindingLine) -
     }
 }
 
-// Whether it comes after the last one, where there is one.
+// Returns whether the binding comes after the last one, or there is no last one.
 fn comes_after_binding(last: Option<Binding>, binding: &Binding) -> bool
     ensures { result ≡ option_map_or (λ b. bind_before b binding.now) last true }
 {
@@ -41,7 +41,7 @@ fn comes_after_binding(last: Option<Binding>, binding: &Binding) -> bool
     }
 }
 
-/// Whether there is a line for each binding of a table, in order, and no other.
+/// Returns whether the lines are those of all bindings of a table, in order. Does not allocate.
 pub fn are_bindings_shown(drivers: &[DriverSpec], binds: &Bindings, lines: &[BindingLine]) -> bool
     requires drivers { IsDriverList drivers.now }
     requires known { All (λ b. b.driver < length drivers.now) binds.now }
@@ -65,7 +65,7 @@ pub fn are_bindings_shown(drivers: &[DriverSpec], binds: &Bindings, lines: &[Bin
     true
 }
 
-// The route that the line shows, where there is one.
+// Returns the route that the line shows, if there is one.
 fn shown_route(drivers: &[DriverSpec], routes: &Routes, line: &RouteLine) -> Option<Route>
     requires { length drivers.now ≤ MAX_DRIVERS }
     ensures { result ≡ shown_route drivers.now routes.now line.now }
@@ -81,7 +81,7 @@ fn shown_route(drivers: &[DriverSpec], routes: &Routes, line: &RouteLine) -> Opt
     }
 }
 
-// Whether it comes after the last one, where there is one.
+// Returns whether the route comes after the last one, or there is no last one.
 fn comes_after_route(last: Option<Route>, route: &Route) -> bool
     ensures { result ≡ option_map_or (λ r. route_before r route.now) last true }
 {
@@ -91,7 +91,7 @@ fn comes_after_route(last: Option<Route>, route: &Route) -> bool
     }
 }
 
-/// The same of the routes of a table.
+/// Returns whether the lines are those of all routes of a table, in order. Does not allocate.
 pub fn are_routes_shown(drivers: &[DriverSpec], routes: &Routes, lines: &[RouteLine]) -> bool
     requires drivers { IsDriverList drivers.now }
     requires known { All (λ r. r.driver < length drivers.now) routes.now }

@@ -1,4 +1,4 @@
-//! Whether lines show the lists of a configuration. They are compared where they stand.
+//! Comparing lines with the lists of a configuration, in place.
 
 ghost use Rattle.std.specs.Prelude.{◌≡◌, ◌↔◌, ◌<◌, length, map, IsTrue};
 ghost use Rattle.std.specs.List.{All};
@@ -21,7 +21,7 @@ fn is_link_shown(drivers: &[DriverSpec], link: &Link, line: &LinkLine) -> bool
     link_line(drivers, link) == *line
 }
 
-/// Whether there is a line for each link of a table, in order, and no other.
+/// Returns whether the lines are those of all links of a table, in order. Does not allocate.
 pub fn are_links_shown(drivers: &[DriverSpec], links: &LinkTable, lines: &[LinkLine]) -> bool
     requires ctl { All (λ l. l.ctl.driver < length drivers.now) links.now.links }
     requires lower { All (λ l. l.lower.driver < length drivers.now) links.now.links }
@@ -46,7 +46,7 @@ fn is_fd_shown(drivers: &[DriverSpec], d: &Descriptor, line: &DescriptorLine) ->
     descriptor_line(drivers, d) == *line
 }
 
-/// Whether there is a line for each descriptor of a table, in order, and no other.
+/// Returns whether the lines are those of all descriptors of a table, in order. Does not allocate.
 pub fn are_fds_shown(drivers: &[DriverSpec], streams: &Streams, lines: &[DescriptorLine]) -> bool
     requires { All (λ d. d.stream.driver < length drivers.now) streams.now.fds }
     ensures { IsTrue result ↔ (lines.now ≡ map (view_of_fd drivers.now) streams.now.fds) }
@@ -76,7 +76,7 @@ fn is_message_shown(drivers: &[DriverSpec], queued: Queued<'_>, line: &MessageLi
         && line.message == *queued.message
 }
 
-/// Whether there is a line for each message of a table, in order, and no other.
+/// Returns whether the lines are those of all messages of a table, in order. Does not allocate.
 pub fn are_messages_shown(drivers: &[DriverSpec], queues: &FlowTable, lines: &[MessageLine]) -> bool
     requires { All (λ h. h.place.stream.driver < length drivers.now) queues.now.flow }
     ensures { IsTrue result ↔ (lines.now ≡ map (view_of_message drivers.now) queues.now.flow) }
@@ -100,7 +100,7 @@ fn is_full_shown(drivers: &[DriverSpec], place: Place, line: &FullLine) -> bool
     full_line(drivers, &place) == *line
 }
 
-/// Whether there is a line for each full place of a table, in order, and no other.
+/// Returns whether the lines are those of all full places of a table, in order. Does not allocate.
 pub fn are_fulls_shown(drivers: &[DriverSpec], queues: &FlowTable, lines: &[FullLine]) -> bool
     requires { All (λ p. p.stream.driver < length drivers.now) queues.now.fulls }
     ensures { IsTrue result ↔ (lines.now ≡ map (view_of_full drivers.now) queues.now.fulls) }
@@ -124,7 +124,7 @@ fn is_hung_shown(drivers: &[DriverSpec], stream: StreamId, line: &HungLine) -> b
     hung_line(drivers, stream) == *line
 }
 
-/// Whether there is a line for each stream of a table that has hung up, in order, and no other.
+/// Returns whether the lines are those of all hung-up streams of a table, in order. Does not allocate.
 pub fn are_hungs_shown(drivers: &[DriverSpec], streams: &Streams, lines: &[HungLine]) -> bool
     requires { All (λ s. s.driver < length drivers.now) streams.now.hungs }
     ensures { IsTrue result ↔ (lines.now ≡ map (view_of_hung drivers.now) streams.now.hungs) }

@@ -1,4 +1,4 @@
-//! Which streams exist.
+//! The streams that exist.
 
 ghost use Rattle.std.specs.Prelude.{◌≡◌, true, ◌||◌};
 ghost use Rattle.std.specs.List.{list_all};
@@ -11,7 +11,7 @@ ghost use Rattle.smx_tables.specs.ModelOfLists.{configuration_of};
 use crate::lists::Lists;
 use smx_types::{DriverSpec, Link, LinkKind};
 
-/// Whether the link outlives the stream that made it.
+/// Returns whether the link outlives the stream that made it.
 pub fn is_persistent(link: &Link) -> bool
     ensures { result ≡ is_persistent link.now }
 {
@@ -21,8 +21,8 @@ pub fn is_persistent(link: &Link) -> bool
     }
 }
 
-/// The table of streams has a stream exactly where it exists, once each ordinary link's controlling stream is there. It
-/// does nothing: a caller who needs this calls it.
+/// Ensures that the table of streams has exactly the streams that exist, if each stream below a link is held and the
+/// controlling stream of each ordinary link is in the table. Does nothing at run time.
 pub fn tells_existing(drivers: &[DriverSpec], lists: &Lists)
     requires held { AreHeld lists.now.links.links lists.now.streams }
     requires known { AreControllingKnown drivers.now lists.now.links.links }

@@ -1,4 +1,4 @@
-//! The sweep: what goes with streams that don't exist any longer, and the reply that names it.
+//! The sweep: removes what belongs to streams that no longer exist, and replies with the dropped messages.
 
 ghost use Rattle.std.specs.Prelude.{◌≡◌, ◌≤◌, true, false, not, filter, length, OnOk, List, [], ◌∷◌};
 ghost use Rattle.std.specs.List.{list_all};
@@ -28,7 +28,7 @@ use smx_streams::Streams;
 use smx_types::{DriverSpec, Reply, Sides, StreamId};
 use std::alloc::{AllocError, Global};
 
-// Takes away the binding of the stream, if it has one. Where nothing is bound, none is looked for.
+// Removes the binding of the stream, if it has one. Skips the look-up if there are no bindings.
 fn unbind(binds: &mut Bindings, stream: StreamId)
     ensures { binds.new ≡ filter (λ b. not (is_binding_of stream b)) binds.old }
 {
@@ -37,7 +37,7 @@ fn unbind(binds: &mut Bindings, stream: StreamId)
     }
 }
 
-// Takes away the binding, the messages and the full marks of the stream, unless it exists.
+// Removes the binding, the messages and the full marks of the stream, unless the stream is in the table.
 #[inline(always)]
 fn drop_if_dead(lists: &mut Lists, stream: StreamId, dropped: &mut Vec<u32>)
     requires { HasRoom dropped.old lists.old.queues.flow }
@@ -54,7 +54,7 @@ fn drop_if_dead(lists: &mut Lists, stream: StreamId, dropped: &mut Vec<u32>)
     }
 }
 
-// Takes away the bindings, messages and full marks of streams that don't exist, all of which are among these.
+// Removes the bindings, messages and full marks of streams that don't exist. All such streams are in `seen`.
 #[inline(always)]
 fn drop_dead(lists: &mut Lists, seen: &[StreamId], dropped: &mut Vec<u32>)
     requires kept { KeepsHolds lists.old }
@@ -72,16 +72,20 @@ fn drop_dead(lists: &mut Lists, seen: &[StreamId], dropped: &mut Vec<u32>)
     }
 }
 
-// Whether each of the streams is there.
+// Returns whether each of the streams is in the table.
 fn are_there(streams: &Streams, touched: &[StreamId]) -> bool
     ensures { result ≡ list_all (is_there streams.now) touched.now }
 {
     touched.iter().all(|s| streams.exists(*s))
 }
 
-/// Lists for a sweep: of the streams that a change touches, and of those that may go with them; of the same streams
-/// again, as they are looked at; of the ids of ordinary links that go; and of the serials of dropped messages. What is
-/// left in them by one sweep counts for nothing in the next: they are kept for their memory.
+/// The lists that a sweep fills. `reserve_for_sweep` clears them; they are kept from one sweep to the next only for
+/// their memory.
+///
+/// - `touched`: the streams that the change touches, and those that may cease to exist with them;
+/// - `seen`: the same streams, once they are examined;
+/// - `orphaned`: the ids of the ordinary links that go;
+/// - `dropped`: the serials of dropped messages.
 #[derive(Debug, Drop)]
 pub struct SweepReserve {
     pub touched: Vec<StreamId>,
@@ -91,7 +95,7 @@ pub struct SweepReserve {
 }
 
 impl SweepReserve {
-    /// Empty lists. Takes no memory.
+    /// Makes empty lists. Does not allocate.
     pub fn new(alloc: Global) -> SweepReserve {
         SweepReserve {
             touched: Vec::new(alloc),
@@ -102,8 +106,8 @@ impl SweepReserve {
     }
 }
 
-// Removes the ordinary links whose controlling stream doesn't exist, which is one of those that were touched. Each
-// stream that may have gone is then among those seen.
+// Removes the ordinary links whose controlling stream doesn't exist. Each such stream was touched, or ceases to exist
+// with a link that goes. Afterwards each stream that may have ceased to exist is in `seen`.
 fn drop_orphans(drivers: &[DriverSpec], lists: &mut Lists, room: &mut SweepReserve)
     requires kept { KeepsHolds lists.old }
     requires known { AreControllingKnown drivers.now lists.old.links.links }
@@ -134,8 +138,9 @@ fn drop_orphans(drivers: &[DriverSpec], lists: &mut Lists, room: &mut SweepReser
     tells_existing(drivers, lists);
 }
 
-// Removes the ordinary links whose controlling stream doesn't exist, and then what dead streams hold. Only streams that
-// were touched may have gone. The serials of what was dropped since room was made are in its list then.
+// Removes the ordinary links whose controlling stream doesn't exist, and then what belongs to dead streams. Only
+// touched streams may have ceased to exist. Afterwards the list of serials names all messages that were dropped since
+// room was reserved.
 fn sweep(drivers: &[DriverSpec], lists: &mut Lists, room: &mut SweepReserve)
     requires kept { KeepsHolds lists.old }
     requires known { AreControllingKnown drivers.now lists.old.links.links }
@@ -157,7 +162,7 @@ fn sweep(drivers: &[DriverSpec], lists: &mut Lists, room: &mut SweepReserve)
     drop_dead(lists, &room.seen, &mut room.dropped);
 }
 
-/// Makes room for the serials of all messages, in a list that is cleared first. Fails only for want of memory.
+/// Clears the list, and reserves room in it for the serials of all messages. Fails only if out of memory.
 #[tactic(auto, using(crate::proofs::DropLemmas::none_dropped))]
 pub fn reserve_for_dropped(dropped: &mut Vec<u32>, lists: &Lists) -> Result<(), AllocError>
     ensures room { OnOk result (HasRoom dropped.new lists.now.queues.flow) }
@@ -167,8 +172,8 @@ pub fn reserve_for_dropped(dropped: &mut Vec<u32>, lists: &Lists) -> Result<(), 
     dropped.reserve(lists.queues.len())
 }
 
-/// Makes room for the sweep after a change that touches so many streams, in lists that are cleared first. Fails only
-/// for want of memory.
+/// Clears the lists, and reserves room in them for the sweep after a change that touches at most `streams` streams.
+/// Fails only if out of memory.
 #[inline(always)]
 pub fn reserve_for_sweep(
     room: &mut SweepReserve,
@@ -180,17 +185,17 @@ pub fn reserve_for_sweep(
     ensures none { OnOk result (AreDropped lists.now.queues.flow lists.now.queues.flow room.new.dropped.items) }
 {
     lists.links.is_sound();
-    let ordinary = lists.links.ordinary().len();
+    let links = lists.links.len();
     room.touched.clear();
-    room.touched.reserve(streams + ordinary)?;
+    room.touched.reserve(streams + links)?;
     room.seen.clear();
-    room.seen.reserve(streams + ordinary)?;
+    room.seen.reserve(streams + links)?;
     room.orphaned.clear();
-    room.orphaned.reserve(ordinary)?;
+    room.orphaned.reserve(links)?;
     reserve_for_dropped(&mut room.dropped, lists)
 }
 
-/// Sweeps after a change, and names the messages that were dropped since room was made.
+/// Sweeps after a change. Replies with the messages that were dropped since room was reserved.
 #[inline(always)]
 pub fn sweep_and_reply(drivers: &[DriverSpec], lists: &mut Lists, room: &mut SweepReserve) -> Reply
     requires kept { KeepsHolds lists.old }
@@ -206,8 +211,8 @@ pub fn sweep_and_reply(drivers: &[DriverSpec], lists: &mut Lists, room: &mut Swe
     name_dropped(&mut room.dropped)
 }
 
-/// The same where the change touched this stream alone, whose driver is above no link: nothing goes but the stream,
-/// with what it holds. There is room for the serials of all messages.
+/// Does the same after a change that touched only this stream, whose driver is above no link. Only the stream can cease
+/// to exist, with what belongs to it. The list has room for the serials of all messages.
 pub fn sweep_alone_and_reply(
     drivers: &[DriverSpec],
     lists: &mut Lists,
@@ -229,7 +234,7 @@ pub fn sweep_alone_and_reply(
     name_dropped(dropped)
 }
 
-/// The same where the change touched no stream: nothing is to be swept.
+/// Returns the same reply after a change that touched no stream, so that there is nothing to sweep.
 pub fn sweep_nothing_and_reply(
     drivers: &[DriverSpec],
     lists: &Lists,

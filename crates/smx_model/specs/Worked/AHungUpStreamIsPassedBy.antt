@@ -1,5 +1,5 @@
--- Messages towards a hung-up stream wait, those that came in from it still move up, and it stays hung up while a link
--- keeps it; the streams beside it are as before.
+-- Messages towards a hung-up stream wait, messages that came in from it still move up, and it stays hung up while a
+-- link holds it. The streams beside it don't change.
 use Rattle.std.specs.Prelude.{◌≡◌, List, [], ◌∷◌, ◌++◌, refl}
 use Rattle.smx_types.specs.declared.command.Which.TheVariants as which
 use Rattle.smx_types.specs.declared.stream.Side.TheVariants as side

@@ -1,5 +1,5 @@
--- A stream below a driver takes no read, write or bind; its descriptor can be closed, and another used after the
--- unlink.
+-- A stream below a driver refuses read, write and bind. Its descriptor can be closed, and another descriptor used
+-- after the unlink.
 use Rattle.std.specs.Prelude.{◌≡◌, List, [], ◌∷◌, ◌++◌, refl}
 use Rattle.smx_types.specs.declared.command.Which.TheVariants as which
 use Rattle.smx_types.specs.declared.stream.Side.TheVariants as side

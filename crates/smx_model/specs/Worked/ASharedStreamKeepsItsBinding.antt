@@ -1,4 +1,4 @@
--- A binding stays as long as its stream.
+-- A binding exists as long as its stream.
 use Rattle.std.specs.Prelude.{◌≡◌, List, [], ◌∷◌, refl}
 use Rattle.smx_model.specs.Worked.Common.{OpenClone, OpenMinor, CloseAll, Bind, Unbind, Fd, Done, Fault, AddressInUse}
 use Rattle.smx_model.specs.Worked.Common.{Entry, ConfigView, IsLegal, after, view, legal, ◌does◌gets◌, ip, no_lines}

@@ -1,4 +1,4 @@
--- Bindings, routes and persistent links are those of one driver, and of none beside it.
+-- Bindings, routes and persistent links belong to one driver, and not to its neighbours.
 use Rattle.std.specs.Prelude.{◌≡◌, List, [], ◌∷◌, refl}
 use Rattle.smx_types.specs.declared.command.Which.TheVariants as which
 use Rattle.smx_model.specs.Worked.Common.{OpenClone, Link, Plink, Unlink, Punlink, Bind, Unbind, Route, Unroute, Fd, Id}

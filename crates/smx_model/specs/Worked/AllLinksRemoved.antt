@@ -1,4 +1,4 @@
--- All ordinary links that are removed are those of one stream, all persistent ones those of the driver.
+-- Removing all ordinary links removes those of one stream; removing all persistent links removes those of the driver.
 use Rattle.std.specs.Prelude.{◌≡◌, List, [], ◌∷◌, ◌++◌, refl}
 use Rattle.smx_types.specs.declared.command.Which.TheVariants as which
 use Rattle.smx_model.specs.Worked.Common.{Link, Plink, Unlink, Punlink, Id, Done, Fault, AlreadyBelow, Ordinary, Entry}

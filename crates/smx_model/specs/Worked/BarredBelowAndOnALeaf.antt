@@ -1,4 +1,4 @@
--- Each command of a multiplexer is barred on a stream below, and then on a leaf.
+-- Each command of a multiplexer is refused on a linked stream, and then on a leaf.
 use Rattle.std.specs.Prelude.{◌≡◌, List, [], ◌∷◌, ◌++◌, refl}
 use Rattle.smx_types.specs.declared.command.Which.TheVariants as which
 use Rattle.smx_model.specs.Worked.Common.{Link, Unlink, Punlink, Bind, Unbind, Route, Unroute, Id, Fault, Below, NotMux}

@@ -1,4 +1,4 @@
--- An address is bound once, a stream has one address, and an unbound message waits.
+-- An address is bound once, a stream has one address, and a message for an unbound address waits.
 use Rattle.std.specs.Prelude.{◌≡◌, List, [], ◌∷◌, ◌++◌, refl}
 use Rattle.smx_model.specs.Worked.Common.{Plink, Bind, Unbind, Route, Read, Flush, Inject, Id, Took, Done, Fault}
 use Rattle.smx_model.specs.Worked.Common.{NotMux, NoLink, AddressInUse, Unbound, Empty, R, Persistent, Entry}

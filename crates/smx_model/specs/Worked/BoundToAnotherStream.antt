@@ -1,4 +1,4 @@
--- A message goes up to the stream that is bound, not to the one that controls the link, and moves whole.
+-- A message goes up to the bound stream, not to the one that controls the link, and arrives whole.
 use Rattle.std.specs.Prelude.{◌≡◌, List, [], ◌∷◌, ◌++◌, refl}
 use Rattle.smx_model.specs.Worked.Common.{Plink, Bind, Route, Write, Read, Inject, Transmit, Id, Took, Got, Done, Fault}
 use Rattle.smx_model.specs.Worked.Common.{Empty, Persistent, Entry, ConfigView, DriverSpec, IsLegal, after, view, legal}

@@ -1,4 +1,4 @@
--- Of all commands these five may drop messages.
+-- The five commands that may drop messages.
 use Rattle.std.specs.Prelude.{◌≡◌, List, [], ◌∷◌, filter, refl}
 use Rattle.smx_types.specs.declared.command.Command.{Command}
 use Rattle.smx_types.specs.declared.command.Which.TheVariants as which

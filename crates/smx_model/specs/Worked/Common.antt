@@ -1,4 +1,4 @@
--- What the worked histories share: the words in which they are written, drivers, and openings.
+-- The parts that the worked histories share: their notation, drivers, and openings.
 use Rattle.std.specs.Prelude.{◌≡◌, ℕ, List, [], ◌∷◌, map, codes}
 pub use Rattle.smx_types.specs.declared.command.Command.TheVariants.{OpenClone, OpenMinor, Dup, Close, CloseAll, Link}
 pub use Rattle.smx_types.specs.declared.command.Command.TheVariants.{Plink, Unlink, Punlink, Bind, Unbind, Route}
@@ -42,7 +42,7 @@ replies_from drivers c [] = []
 replies_from drivers c (e ∷ es) =
     (step drivers c e.process e.command).1 ∷ replies_from drivers (step drivers c e.process e.command).0 es
 
--- where they are those of the history, it is legal
+-- a history whose entries have these replies is legal
 pub legal_from : (drivers : List DriverSpec) (c : Configuration) (es : List Entry)
     → replies_from drivers c es ≡ map (λ e. e.reply) es → IsLegalFrom drivers c es
 legal_from drivers c [] same = tt
@@ -77,7 +77,7 @@ top = codes "top"
 abbrev pub mid : List ℕ
 mid = codes "mid"
 
--- a multiplexer and a leaf: a queue is full from 8 bytes on down to 3, and a message has up to 16
+-- a multiplexer and a leaf: a queue becomes full at 8 bytes and stops at 3, and a message has at most 16
 abbrev pub mux : List ℕ → ℕ → DriverSpec
 mux name minors = record { name = name; kind = driver.Mux; minors = minors; high = 8; low = 3; max = 16 }
 
@@ -145,7 +145,7 @@ no_lines next_id next_serial = record {
   hungs = [];
 }
 
--- process 0 opens streams of these drivers, one after the other; and their descriptors
+-- process 0 opens streams of these drivers, one after the other; and the descriptors of these streams
 abbrev pub opened_ip_eth : List Entry
 opened_ip_eth = 0 does OpenClone ip gets Fd 0 0
     ∷ 0 does OpenClone eth gets Fd 1 0

@@ -1,4 +1,4 @@
--- A driver may be over one before it; drivers, minors and processes are numbered apart.
+-- A driver may be above one with a lower number; drivers, minors and processes are numbered independently.
 use Rattle.std.specs.Prelude.{◌≡◌, List, [], ◌∷◌, refl}
 use Rattle.smx_model.specs.Worked.Common.{OpenClone, OpenMinor, Link, Fd, Id, Fault, Below, Cycle, Ordinary, Entry}
 use Rattle.smx_model.specs.Worked.Common.{ConfigView, DriverSpec, IsLegal, after, view, legal, ◌does◌gets◌, a, b, mux}

@@ -1,4 +1,4 @@
--- A message that waits goes on once it has a route, a binding or a link.
+-- A waiting message moves on once it has a route, a binding or a link.
 use Rattle.std.specs.Prelude.{◌≡◌, List, [], ◌∷◌, ◌++◌, refl}
 use Rattle.smx_types.specs.declared.command.Which.TheVariants as which
 use Rattle.smx_model.specs.Worked.Common.{Link, Plink, Unlink, Bind, Route, Write, Read, Inject, Transmit, Id, Took}

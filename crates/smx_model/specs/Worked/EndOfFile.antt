@@ -1,5 +1,5 @@
--- What came in before a hangup is read, and then it is the end of file; a second hangup changes nothing, and a hung-up
--- stream can be linked below.
+-- After a hangup, messages that came in before it are read, and then end of file. A second hangup changes nothing,
+-- and a hung-up stream can be linked below a driver.
 use Rattle.std.specs.Prelude.{◌≡◌, List, [], ◌∷◌, refl}
 use Rattle.smx_model.specs.Worked.Common.{OpenClone, Plink, Read, Inject, Hangup, Fd, Id, Took, Got, Done, Eof, Fault}
 use Rattle.smx_model.specs.Worked.Common.{Below, Persistent, Entry, ConfigView, IsLegal, after, view, legal}

@@ -1,4 +1,4 @@
--- Exit closes all descriptors at once, so that nothing moves between.
+-- Exit closes all descriptors at once, so that no message moves in between.
 use Rattle.std.specs.Prelude.{◌≡◌, List, [], ◌∷◌, ◌++◌, refl}
 use Rattle.smx_types.specs.declared.stream.Side.TheVariants as side
 use Rattle.smx_model.specs.Worked.Common.{CloseAll, Link, Plink, Bind, Inject, Transmit, Id, Took, Done, Fault, Empty}

@@ -1,4 +1,4 @@
--- What is refused for a hangup, and where that stands among the other refusals; a stream opened anew is not hung up.
+-- The refusals after a hangup, and their place among the other refusals; a stream that is opened anew is not hung up.
 use Rattle.std.specs.Prelude.{◌≡◌, List, [], ◌∷◌, ◌++◌, refl}
 use Rattle.smx_types.specs.declared.command.Which.TheVariants as which
 use Rattle.smx_types.specs.declared.stream.Side.TheVariants as side

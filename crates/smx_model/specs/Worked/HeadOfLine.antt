@@ -1,4 +1,4 @@
--- A message without a route waits at the head and holds those behind it.
+-- A message without a route waits at the head of its queue and blocks those after it.
 use Rattle.std.specs.Prelude.{◌≡◌, List, [], ◌∷◌, ◌++◌, refl}
 use Rattle.smx_model.specs.Worked.Common.{Link, Route, Unroute, Write, Transmit, Id, Took, Got, Done, Fault, Unrouted}
 use Rattle.smx_model.specs.Worked.Common.{Empty, Ordinary, Entry, ConfigView, IsLegal, after, view, legal, ◌does◌gets◌}

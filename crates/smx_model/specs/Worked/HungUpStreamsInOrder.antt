@@ -1,4 +1,4 @@
--- Hung-up streams are shown by driver and minor, each once; on one the unlinking commands are refused as on any leaf.
+-- Hung-up streams are shown by driver and minor, each once; the unlinking commands are refused on one as on any leaf.
 use Rattle.std.specs.Prelude.{◌≡◌, List, [], ◌∷◌, refl}
 use Rattle.smx_types.specs.declared.command.Which.TheVariants as which
 use Rattle.smx_model.specs.Worked.Common.{OpenClone, Dup, Close, Plink, Unlink, Bind, Route, Flush, Read, Hangup, Fd}

@@ -1,4 +1,4 @@
--- Unlink removes ordinary links of its own stream alone, punlink persistent ones of the driver alone.
+-- Unlink only removes ordinary links of its own stream, punlink only persistent links of its driver.
 use Rattle.std.specs.Prelude.{◌≡◌, List, [], ◌∷◌, ◌++◌, refl}
 use Rattle.smx_types.specs.declared.command.Which.TheVariants as which
 use Rattle.smx_model.specs.Worked.Common.{Link, Plink, Unlink, Punlink, Id, Done, Fault, NotMux, NoLink, Entry}

@@ -1,4 +1,4 @@
--- A queue that is full stays so down to its low water mark, and then messages move on through the multiplexer.
+-- A full queue stays full until its low water mark, and then messages move on through the multiplexer.
 use Rattle.std.specs.Prelude.{◌≡◌, List, [], ◌∷◌, ◌++◌, refl}
 use Rattle.smx_types.specs.declared.stream.Side.TheVariants as side
 use Rattle.smx_model.specs.Worked.Common.{Link, Route, Write, Transmit, Id, Took, Got, Done, Fault, Full, Ordinary}

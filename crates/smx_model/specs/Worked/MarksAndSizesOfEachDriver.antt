@@ -1,4 +1,4 @@
--- Each driver has its own marks and longest message, each side its own queue.
+-- Each driver has its own water marks and longest message, and each side its own queue.
 use Rattle.std.specs.Prelude.{◌≡◌, List, [], ◌∷◌, ◌++◌, refl}
 use Rattle.smx_types.specs.declared.stream.Side.TheVariants as side
 use Rattle.smx_model.specs.Worked.Common.{Write, Read, Inject, Transmit, Took, Got, Fault, NoDriver, Full, BadSize}

@@ -1,4 +1,4 @@
--- Bindings are shown by address, serve one driver and one address each, and go one at a time.
+-- Bindings are shown by address, serve one driver and one address each, and are removed one at a time.
 use Rattle.std.specs.Prelude.{◌≡◌, List, [], ◌∷◌, refl}
 use Rattle.smx_types.specs.declared.stream.Side.TheVariants as side
 use Rattle.smx_model.specs.Worked.Common.{OpenClone, Plink, Bind, Unbind, Inject, Fd, Id, Took, Done, Fault, Unbound}

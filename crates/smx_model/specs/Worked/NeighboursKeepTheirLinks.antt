@@ -1,4 +1,4 @@
--- The end of one link leaves those before and behind it, and their routes.
+-- Removing one link keeps those before and after it, and their routes.
 use Rattle.std.specs.Prelude.{◌≡◌, List, [], ◌∷◌, ◌++◌, refl}
 use Rattle.smx_types.specs.declared.command.Which.TheVariants as which
 use Rattle.smx_model.specs.Worked.Common.{OpenClone, Link, Plink, Unlink, Punlink, Route, Fd, Id, Done, Ordinary}

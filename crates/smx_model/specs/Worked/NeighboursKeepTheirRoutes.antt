@@ -1,4 +1,4 @@
--- Routes are shown by address, serve one driver and one address each, and go one at a time.
+-- Routes are shown by address, serve one driver and one address each, and are removed one at a time.
 use Rattle.std.specs.Prelude.{◌≡◌, List, [], ◌∷◌, refl}
 use Rattle.smx_types.specs.declared.stream.Side.TheVariants as side
 use Rattle.smx_model.specs.Worked.Common.{OpenClone, Link, Route, Unroute, Write, Fd, Id, Took, Done, Fault, Cycle}

@@ -1,4 +1,4 @@
--- A closed descriptor is opened again, and a stream that nothing names is gone.
+-- A closed descriptor is opened again, and a stream that nothing names ceases to exist.
 use Rattle.std.specs.Prelude.{◌≡◌, List, [], ◌∷◌, refl}
 use Rattle.smx_model.specs.Worked.Common.{OpenClone, Close, Fd, Done, Entry, ConfigView, IsLegal, after, view, legal}
 use Rattle.smx_model.specs.Worked.Common.{◌does◌gets◌, ip, no_lines, fd_of, ip_over_eth}

@@ -1,4 +1,4 @@
--- The refusals of link and unlink come in the order of the table.
+-- The refusals of link and unlink are in the order of the table.
 use Rattle.std.specs.Prelude.{◌≡◌, List, [], ◌∷◌, ◌++◌, refl}
 use Rattle.smx_types.specs.declared.command.Which.TheVariants as which
 use Rattle.smx_model.specs.Worked.Common.{OpenClone, Link, Plink, Unlink, Fd, Id, Fault, BadDescriptor, Below, NotMux}

@@ -1,4 +1,4 @@
--- Ordinary links keep a chain of streams while its top is open, close no cycle, and go all at once.
+-- Ordinary links keep a chain of streams while its top is open, close no cycle, and are removed all at once.
 use Rattle.std.specs.Prelude.{◌≡◌, List, [], ◌∷◌, refl}
 use Rattle.smx_model.specs.Worked.Common.{OpenClone, Close, CloseAll, Link, Transmit, Fd, Id, Done, Fault, NoMinor}
 use Rattle.smx_model.specs.Worked.Common.{Cycle, Empty, Entry, ConfigView, DriverSpec, IsLegal, after, view, legal}

@@ -1,4 +1,4 @@
--- A persistent link stays when its maker closes all, and takes its queued message with it when it is removed.
+-- A persistent link stays when its maker closes everything; its removal drops its queued message.
 use Rattle.std.specs.Prelude.{◌≡◌, List, [], ◌∷◌, ◌++◌, refl}
 use Rattle.smx_types.specs.declared.command.Which.TheVariants as which
 use Rattle.smx_model.specs.Worked.Common.{OpenClone, CloseAll, Plink, Punlink, Route, Inject, Transmit, Fd, Id, Took}

@@ -1,4 +1,4 @@
--- Places go by stream and then by side, dropped serials rise, and full marks stay where no queue was emptied.
+-- Places are ordered by stream and then by side, dropped serials rise, and full marks stay unless a queue was emptied.
 use Rattle.std.specs.Prelude.{◌≡◌, List, [], ◌∷◌, ◌++◌, refl}
 use Rattle.smx_types.specs.declared.stream.Side.TheVariants as side
 use Rattle.smx_model.specs.Worked.Common.{OpenClone, CloseAll, Write, Flush, Inject, Transmit, Fd, Took, Got, Done}

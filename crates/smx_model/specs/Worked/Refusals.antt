@@ -1,5 +1,5 @@
--- With two processes: an open without its driver or a minor is refused, and so is a dup or close without its
--- descriptor; a shared stream stays until its last close.
+-- Two processes: an open without its driver or minor is refused, and so is a dup or close without its descriptor. A
+-- shared stream exists until its last close.
 use Rattle.std.specs.Prelude.{◌≡◌, List, [], ◌∷◌, refl}
 use Rattle.smx_model.specs.Worked.Common.{OpenClone, OpenMinor, Dup, Close, CloseAll, Fd, Done, Fault, BadDescriptor}
 use Rattle.smx_model.specs.Worked.Common.{NoDriver, NoMinor, Entry, ConfigView, IsLegal, after, view, legal}

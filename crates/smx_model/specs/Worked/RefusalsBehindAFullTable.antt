@@ -1,4 +1,4 @@
--- Behind a full descriptor table the other refusals of an open still come first.
+-- With a full descriptor table, the other refusals of an open still come first.
 use Rattle.std.specs.Prelude.{◌≡◌, List, [], ◌∷◌, ◌++◌, refl}
 use Rattle.smx_model.specs.Worked.Common.{OpenClone, OpenMinor, Dup, Link, Fd, Id, Fault, BadDescriptor, Below}
 use Rattle.smx_model.specs.Worked.Common.{NoDriver, NoMinor, TooManyDescriptors, Ordinary, Entry, ConfigView}

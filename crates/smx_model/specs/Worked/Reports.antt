@@ -1,4 +1,4 @@
--- The programs of two processes, their report, and what reports that are wrong in one thing consist of.
+-- The programs of two processes, their report, and the parts of reports that are each wrong in one thing.
 use Rattle.std.specs.Prelude.{List, [], ◌∷◌}
 use Rattle.smx_types.specs.ProgramLists.{ProgramLists}
 use Rattle.smx_types.specs.declared.transcript.Transcript.{Transcript}
@@ -9,7 +9,7 @@ use Rattle.smx_model.specs.Worked.Common.{DriverSpec, ◌does◌gets◌, ip, mux
 abbrev pub drivers : List DriverSpec
 drivers = mux ip 4 ∷ []
 
--- process 0 opens a stream and copies its descriptor; process 1 exits
+-- process 0 opens a stream and duplicates its descriptor; process 1 exits
 abbrev pub programs : ProgramLists
 programs = record { version = V1; drivers = drivers; programs = (OpenClone ip ∷ Dup 0 ∷ []) ∷ (CloseAll ∷ []) ∷ [] }
 
@@ -19,7 +19,7 @@ opened = 0 does OpenClone ip gets Fd 0 0
 abbrev pub copied : Entry
 copied = 0 does Dup 0 gets Fd 1 0
 
--- the same before the open, and once more
+-- the duplication before the open, and a second duplication
 abbrev pub too_early : Entry
 too_early = 0 does Dup 0 gets Fault BadDescriptor
 
@@ -29,7 +29,7 @@ once_more = 0 does Dup 0 gets Fd 2 0
 abbrev pub exited : Entry
 exited = 1 does CloseAll gets Done []
 
--- the same by a process without a program
+-- an exit of a process without a program
 abbrev pub another_exited : Entry
 another_exited = 7 does CloseAll gets Done []
 

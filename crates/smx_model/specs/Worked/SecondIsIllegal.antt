@@ -1,4 +1,4 @@
--- A history of four entries, of which the second is the first illegal one.
+-- A history of four entries whose second entry is the first illegal one.
 use Rattle.std.specs.Prelude.{List, [], ◌∷◌}
 use Rattle.smx_model.specs.Worked.Common.{OpenClone, Dup, CloseAll, Fd, Done, Entry, DriverSpec, ◌does◌gets◌, ip, mux}
 
@@ -9,7 +9,7 @@ drivers = mux ip 4 ∷ []
 abbrev pub illegal : Entry
 illegal = 1 does OpenClone ip gets Fd 0 2
 
--- the copy gets descriptor 1; the first reply and the last are right
+-- the duplicate gets descriptor 1; the first reply and the last are correct
 abbrev pub history : List Entry
 history = 0 does OpenClone ip gets Fd 0 0
     ∷ illegal

@@ -1,4 +1,4 @@
--- Messages of no bytes or too many, and the ends of minors, queues and numbers.
+-- Messages without bytes or with too many, and the limits of minors, queues and numbers.
 use Rattle.std.specs.Prelude.{◌≡◌, List, [], ◌∷◌, refl}
 use Rattle.smx_types.specs.declared.stream.Side.TheVariants as side
 use Rattle.smx_model.specs.Worked.Common.{OpenClone, OpenMinor, Write, Read, Flush, Inject, Fd, Took, Got, Done, Fault}

@@ -1,4 +1,4 @@
--- The end of a link empties the read side below it, which is then not full.
+-- Removing a link empties the read side below it, which then is not full.
 use Rattle.std.specs.Prelude.{◌≡◌, List, [], ◌∷◌, ◌++◌, refl}
 use Rattle.smx_types.specs.declared.command.Which.TheVariants as which
 use Rattle.smx_model.specs.Worked.Common.{Close, Link, Unlink, Read, Inject, Id, Took, Got, Done, Fault, Full, Entry}

@@ -1,4 +1,4 @@
--- From a configuration whose numbers are almost used up: the last id and the last serial are given, and then none.
+-- A configuration whose numbers are almost used up: the last id and the last serial are given, and then none.
 use Rattle.std.specs.Prelude.{List, [], ◌∷◌, ◌++◌, refl}
 use Rattle.smx_types.specs.declared.command.Which.TheVariants as which
 use Rattle.smx_model.specs.Configuration.{Configuration, empty}
@@ -6,7 +6,7 @@ use Rattle.smx_model.specs.Worked.Common.{Link, Plink, Unlink, Write, Inject, Id
 use Rattle.smx_model.specs.Worked.Common.{Cycle, TooManyLinks, Full, BadSize, Entry, IsLegalFrom, legal_from}
 use Rattle.smx_model.specs.Worked.Common.{◌does◌gets◌, eth, ip_over_eth, opened_ip_eth_eth}
 
--- nothing is open, and one id and one serial are left
+-- nothing is open, and only one id and one serial are left
 abbrev pub nearly_used_up : Configuration
 nearly_used_up = record empty { next_id = 4294967294; next_serial = 4294967294 }
 

@@ -1,4 +1,4 @@
--- Unlinking, the end of a link with its controlling stream and the last close each name what they drop.
+-- Unlinking, the end of a link with its controlling stream, and the last close: each names the messages that it drops.
 use Rattle.std.specs.Prelude.{◌≡◌, List, [], ◌∷◌, ◌++◌, refl}
 use Rattle.smx_types.specs.declared.command.Which.TheVariants as which
 use Rattle.smx_model.specs.Worked.Common.{Close, Link, Unlink, Route, Write, Inject, Id, Took, Done, Entry, ConfigView}

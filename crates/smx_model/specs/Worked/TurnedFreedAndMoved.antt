@@ -1,4 +1,4 @@
--- Which places some commands of worked histories turn and free, and the moves of settling that come of it.
+-- The places that some commands of worked histories turn and free, and the moves of settling that result.
 use Rattle.std.specs.Prelude.{◌≡◌, ℕ, Bool, true, false, List, [], ◌∷◌, Option, Some, None, filter, if◌then◌else◌, map}
 use Rattle.std.specs.Prelude.{refl, take}
 use Rattle.std.specs.List.{list_all}
@@ -49,12 +49,12 @@ abbrev pub is_empty : List Place → Bool
 is_empty [] = true
 is_empty (p ∷ ps) = false
 
--- the places that a command of process 0 turns, after so many entries of the history whose messages wait for a route, a
--- binding and a link
+-- the places that a command of process 0 turns after the first n entries of the history in which messages wait for a
+-- route, a binding and a link
 abbrev pub turned_after : ℕ → Command → List Place
 turned_after n command = filter (turned_by ip_over_eth (after ip_over_eth (take n enabled.history)) 0 command) places
 
--- a message at an empty place is its first one, and a further one is not
+-- a message at an empty place becomes its first one, a further message does not
 pub a_first_write_turns : turned_after 6 (Write 0 5 (1 ∷ [])) ≡ ip_0_write ∷ []
 a_first_write_turns = refl
 
@@ -67,14 +67,14 @@ a_first_inject_turns = refl
 pub a_second_inject_turns_none : turned_after 12 (Inject eth 0 9 (1 ∷ [])) ≡ []
 a_second_inject_turns_none = refl
 
--- a route turns what waits at its driver's write sides with its address, and with no other
+-- a route turns the write sides of its driver whose first message has its address, and no others
 pub a_route_turns : turned_after 8 (Route 0 5 2) ≡ ip_0_write ∷ []
 a_route_turns = refl
 
 pub another_route_turns_none : turned_after 8 (Route 0 6 2) ≡ []
 another_route_turns_none = refl
 
--- a binding turns what waits at the read sides below its driver with its address, and with no other
+-- a binding turns the read sides below its driver whose first message has its address, and no others
 pub a_binding_turns : turned_after 12 (Bind 0 9) ≡ eth_0_read ∷ []
 a_binding_turns = refl
 
@@ -88,14 +88,14 @@ a_link_turns = refl
 pub an_ordinary_link_turns : turned_after 16 (Link 0 1) ≡ eth_0_read ∷ []
 an_ordinary_link_turns = refl
 
--- what delivers a message turns its place
+-- delivering a message turns its place
 pub a_read_turns : turned_after 13 (Read 0) ≡ ip_0_read ∷ []
 a_read_turns = refl
 
 pub a_transmit_turns : turned_after 9 (Transmit eth 1) ≡ eth_1_write ∷ []
 a_transmit_turns = refl
 
--- the others turn none
+-- the other commands turn no place
 abbrev pub others : List Command
 others = OpenClone ip
     ∷ OpenMinor ip 0
@@ -112,7 +112,7 @@ others = OpenClone ip
 pub others_turn_none : list_all (λ command. is_empty (turned_after 14 command)) others ≡ true
 others_turn_none = refl
 
--- the configuration in which two streams wait for one queue, and that after a transmit from it
+-- the configuration in which two streams wait for one queue, and the one after a transmit from that queue
 abbrev pub full : Configuration
 full = after ip_over_eth (take 8 waiting.history)
 
@@ -122,7 +122,7 @@ drained = after_leaving ip_over_eth full eth_0_write
 pub a_transmit_frees : filter (is_freed full drained) places ≡ eth_0_write ∷ []
 a_transmit_frees = refl
 
--- the places that a command may free in it
+-- the places that a command may free in this configuration
 abbrev pub freed_in_it : Command → List Place
 freed_in_it command = filter (freed_by ip_over_eth full 0 command drained) places
 
@@ -138,7 +138,7 @@ a_flush_may_free_its_sides = refl
 pub another_flush_may_free_others : freed_in_it (Flush 0 R) ≡ ip_0_read ∷ []
 another_flush_may_free_others = refl
 
--- what removes may free each place that is empty then
+-- a command that removes something may free each place that is empty afterwards
 abbrev pub empty_ones : List Place
 empty_ones = ip_0_read ∷ eth_0_write ∷ eth_0_read ∷ eth_1_write ∷ []
 
@@ -146,7 +146,7 @@ pub removals_may_free_empty_ones : map freed_in_it (Close 1 ∷ CloseAll ∷ Unl
     ≡ empty_ones ∷ empty_ones ∷ empty_ones ∷ empty_ones ∷ []
 removals_may_free_empty_ones = refl
 
--- what opens, links, names or sends frees none
+-- commands that open, link, name or send free no place
 abbrev pub further : List Command
 further = OpenClone ip
     ∷ OpenMinor ip 0
@@ -164,11 +164,11 @@ further = OpenClone ip
 pub further_free_none : list_all (λ command. is_empty (freed_in_it command)) further ≡ true
 further_free_none = refl
 
--- both streams then go on, the lesser first
+-- both streams then move on, the lesser first
 pub both_move : moves_of_settling ip_over_eth drained ≡ ip_0_write ∷ ip_1_write ∷ []
 both_move = refl
 
--- a move turns the place that it takes from, and the place that it goes to, if that was empty
+-- a move turns the place that the message leaves, and the place that it goes to, if that was empty
 pub a_first_move_turns_two : filter (turned_by_move ip_over_eth drained ip_0_write) places
     ≡ ip_0_write ∷ eth_0_write ∷ []
 a_first_move_turns_two = refl
@@ -179,7 +179,7 @@ once_moved = after_move ip_over_eth drained ip_0_write
 pub a_second_move_turns_one : filter (turned_by_move ip_over_eth once_moved ip_1_write) places ≡ ip_1_write ∷ []
 a_second_move_turns_one = refl
 
--- what is freed wakes all that feed it, if it was wanted, and is wanted no longer
+-- a freed place wakes all places that feed it, if it was wanted, and is no longer wanted
 abbrev pub woken_where : (Place → Bool) → List Place
 woken_where wanted = filter (woken_by ip_over_eth full drained wanted (λ p. false)) places
 
@@ -193,13 +193,13 @@ pub a_freed_place_is_wanted_no_longer : filter (wanted_after full drained (λ p.
     ≡ ip_0_write ∷ ip_0_read ∷ ip_1_write ∷ eth_0_read ∷ eth_1_write ∷ []
 a_freed_place_is_wanted_no_longer = refl
 
--- the write sides above can feed a write side below, and the read sides below a read side above; nothing else can
+-- the write sides above can feed a write side below, and the read sides below a read side above; no others can
 pub what_can_feed : map (λ q. filter (can_feed full q) places)
     (eth_0_write ∷ ip_0_read ∷ eth_1_write ∷ eth_0_read ∷ ip_0_write ∷ [])
     ≡ (ip_0_write ∷ ip_1_write ∷ []) ∷ (eth_0_read ∷ []) ∷ [] ∷ [] ∷ [] ∷ []
 what_can_feed = refl
 
--- known to wait for a place are those of which just that is known
+-- the places known to wait for a place are those whose known place is that place
 abbrev pub known_in_it : Place → Option Place
 known_in_it p = if same_place p ip_0_write then Some eth_0_write else None
 

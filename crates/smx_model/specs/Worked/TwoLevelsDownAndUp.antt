@@ -1,4 +1,4 @@
--- Messages go down and up through two levels of multiplexers, and all links go with their last close.
+-- Messages go down and up through two levels of multiplexers, and all links are removed at their last close.
 use Rattle.std.specs.Prelude.{◌≡◌, List, [], ◌∷◌, ◌++◌, refl}
 use Rattle.smx_model.specs.Worked.Common.{Close, Link, Bind, Route, Write, Read, Inject, Transmit, Id, Took, Got, Done}
 use Rattle.smx_model.specs.Worked.Common.{Fault, Below, Entry, ConfigView, IsLegal, after, view, legal, ◌does◌gets◌}

@@ -1,4 +1,4 @@
--- Of two streams that wait on one queue the lesser goes first, and none is forgotten.
+-- If two streams wait for one queue, the lesser moves first, and both move.
 use Rattle.std.specs.Prelude.{◌≡◌, List, [], ◌∷◌, take, ◌++◌, refl}
 use Rattle.smx_types.specs.declared.stream.Side.TheVariants as side
 use Rattle.smx_model.specs.Worked.Common.{Link, Route, Write, Transmit, Id, Took, Got, Done, Fault, Empty, Ordinary}
@@ -32,7 +32,7 @@ is_legal = legal ip_over_eth history refl
 pub ends_so : view ip_over_eth (after ip_over_eth history) ≡ end
 ends_so = refl
 
--- once the queue was drained for the first time, both streams have gone on, the lesser first
+-- after the first drain of the queue both streams have moved on, the lesser first
 abbrev pub woken : List MessageLine
 woken = message_at eth 0 side.Write 3 5 (11 ∷ []) ∷ message_at eth 0 side.Write 2 5 (10 ∷ []) ∷ []
 

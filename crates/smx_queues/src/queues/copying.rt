@@ -1,4 +1,4 @@
-//! The queues of all places again.
+//! Copying the queues of all places.
 
 ghost use Rattle.std.specs.Prelude.{◌≡◌, ◌<◌, [], ◌∷◌, ◌++◌, length, Some, None, true, OnOk, IfOk};
 ghost use Rattle.std.specs.Prelude.{slice_index_or};
@@ -10,7 +10,7 @@ use smx_types::NoMemory;
 use std::alloc::Global;
 
 impl Queues {
-    // The messages of a place of others come behind those of a place of these.
+    // Appends copies of the messages of a place of `others` to a place of `self`.
     fn append_copies(
         &mut self,
         others: &Queues,
@@ -37,8 +37,7 @@ impl Queues {
         Ok(())
     }
 
-    // A place more behind all others, with the marks and the messages that a place of others has; or a gap, where there
-    // is none of that number.
+    // Appends a place with the marks and messages of a place of `others`. Appends a gap if there is no such place.
     fn add_copy(&mut self, others: &Queues, p: PlaceId, alloc: Global) -> Result<(), NoMemory>
         requires { p < length others.now.queues }
         ensures { OnOk result (self.new.queues
@@ -54,7 +53,8 @@ impl Queues {
         Ok(())
     }
 
-    /// The same places with the same queues, by this allocator. Fails only for want of memory.
+    /// Copies the places and their queues into memory from this allocator, which the copy keeps. Fails only if out of
+    /// memory.
     pub fn copy(&self, alloc: Global) -> Result<Queues, NoMemory>
         ensures { IfOk result (λ c. c.queues ≡ self.now.queues) }
     {

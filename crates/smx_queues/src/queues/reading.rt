@@ -16,7 +16,7 @@ impl Queues {
         requires { IsPlace self.now.queues p }
         ensures { option_copied result ≡ slice_get (queue_at self.now.queues p).messages 0 }
     {
-        let chain = self.chains[p];
+        let chain = &self.chains[p];
         if chain.count == 0 {
             return None;
         }
@@ -28,7 +28,7 @@ impl Queues {
         requires { IsPlace self.now.queues p }
         ensures { option_copied result ≡ slice_get (queue_at self.now.queues p).messages i }
     {
-        let chain = self.chains[p];
+        let chain = &self.chains[p];
         if chain.count <= i {
             return None;
         }
@@ -68,7 +68,7 @@ impl Queues {
         requires { IsPlace self.now.queues p }
         ensures { result ≡ (queue_at self.now.queues p).messages }
     {
-        let chain = self.chains[p];
+        let chain = &self.chains[p];
         PlaceMessages {
             nodes: &self.nodes,
             key: chain.first,

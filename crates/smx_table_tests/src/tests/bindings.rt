@@ -1,11 +1,11 @@
-//! Tables of bindings: bound, listed in their order, copied, looked up and unbound.
+//! Tables of bindings: bound, listed in order, copied, looked up and unbound.
 
 use smx_addresses::Bindings;
 use smx_types::{Binding, StreamId};
 use std::mem::forget;
 use std::process::Abort;
 
-// A stream is bound, of which neither it nor the address is taken.
+// Binds a stream. Neither the stream nor the address is taken.
 fn binds(rt: &impl Abort, table: &mut Bindings, at: (u8, u8), addr: u32) {
     let stream = StreamId {
         driver: at.0,
@@ -60,12 +60,12 @@ fn has_bindings(rt: &(impl AllocGlobal + Abort), table: &mut Bindings) {
 }
 
 fn copy_has_bindings(rt: &(impl AllocGlobal + Abort), table: &Bindings) {
-    let again = table.copy().expect(rt, "memory");
+    let again = table.copy(rt.alloc()).expect(rt, "memory");
     is_listed(rt, &again, &LISTED);
     forget(again);
 }
 
-// The third goes, and no other.
+// The third one is removed, and no other.
 fn unbinds(rt: &impl Abort, table: &mut Bindings) {
     let stream = StreamId {
         driver: 1,

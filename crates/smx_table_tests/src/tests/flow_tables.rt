@@ -1,5 +1,5 @@
-//! Queues by place: what arrives there, and in a copy of them; and which messages with an address are the first ones of
-//! each of two drivers.
+//! Queues by place: the messages that arrive there, also in a copy; and the first messages with an address, for each
+//! of two drivers.
 
 ghost use Rattle.std.specs.Prelude.{◌≡◌, Ok};
 ghost use Rattle.smx_types.specs.Drivers.{spec_check};
@@ -10,7 +10,7 @@ use smx_types::{Bytes, DriverKind, DriverSpec, Message, Name, Place, Side, Strea
 use std::mem::forget;
 use std::process::Abort;
 
-// Two minors, whose queues are full from 8 bytes on.
+// Returns a driver with two minors, whose queues are full from 8 bytes on.
 fn driver(rt: &impl Abort, name: &str) -> DriverSpec
     ensures minors { result.minors ≡ 2 }
     ensures good { spec_check result ≡ Ok tt }
@@ -27,7 +27,7 @@ fn driver(rt: &impl Abort, name: &str) -> DriverSpec
     driver
 }
 
-/// One of them.
+/// Returns one of these drivers.
 pub fn ethernet(rt: &impl Abort) -> DriverSpec
     ensures minors { result.minors ≡ 2 }
     ensures good { spec_check result ≡ Ok tt }
@@ -35,7 +35,7 @@ pub fn ethernet(rt: &impl Abort) -> DriverSpec
     driver(rt, "eth")
 }
 
-/// The table of its queues.
+/// Returns the table of its queues.
 pub fn table(rt: &(impl AllocGlobal + Abort)) -> FlowTable
     ensures first { IsKnown result.drivers (record { driver = 0; minor = 0 }) }
     ensures second { IsKnown result.drivers (record { driver = 0; minor = 1 }) }
@@ -47,7 +47,7 @@ fn bytes(rt: &(impl AllocGlobal + Abort), text: &[u8]) -> Bytes {
     Bytes::from_vec(Vec::from_slice(rt.alloc(), text).expect(rt, "memory"))
 }
 
-// A message of this serial and address arrives.
+// Puts a message with this serial and address into the table.
 fn put(
     rt: &(impl AllocGlobal + Abort),
     table: &mut FlowTable,
@@ -78,7 +78,7 @@ pub const DOWN: Place = Place {
     side: Side::Write,
 };
 
-/// A read side behind it.
+/// A read side after it.
 pub const UP: Place = Place {
     stream: StreamId {
         driver: 0,
@@ -87,7 +87,7 @@ pub const UP: Place = Place {
     side: Side::Read,
 };
 
-/// Two messages of two addresses at a write side, and one that fills a read side behind it.
+/// Puts two messages with two addresses at a write side, and one that fills a read side after it.
 pub fn fill(rt: &(impl AllocGlobal + Abort), table: &mut FlowTable)
     requires first { IsKnown table.old.drivers (record { driver = 0; minor = 0 }) }
     requires second { IsKnown table.old.drivers (record { driver = 0; minor = 1 }) }
@@ -98,7 +98,7 @@ pub fn fill(rt: &(impl AllocGlobal + Abort), table: &mut FlowTable)
     put(rt, table, DOWN, 3, 6, b"by");
 }
 
-// The three are there, and one place is full.
+// Checks that the three messages are there, and that one place is full.
 fn is_filled(rt: &impl Abort, table: &FlowTable) {
     assert!(rt; table.len() == 3);
     assert!(rt; table.is_full(UP));
@@ -117,75 +117,5 @@ fn queues_by_place(rt: HostRuntime) {
     fill(&rt, &mut made);
     is_filled(&rt, &made);
     copy_is_filled(&rt, &made);
-    forget(made);
-}
-
-// The table of the queues of two drivers.
-fn table_of_two(rt: &(impl AllocGlobal + Abort)) -> FlowTable
-    ensures below { IsKnown result.drivers (record { driver = 0; minor = 1 }) }
-    ensures first { IsKnown result.drivers (record { driver = 1; minor = 0 }) }
-    ensures second { IsKnown result.drivers (record { driver = 1; minor = 1 }) }
-{
-    let lower = driver(rt, "eth");
-    let upper = driver(rt, "tok");
-    assert!(rt; lower.name != upper.name);
-    FlowTable::new(rt.alloc(), &[lower, upper]).expect(rt, "memory")
-}
-
-// A place of the second driver.
-const fn of_second(minor: u8, side: Side) -> Place
-    ensures { result.stream ≡ record { driver = 1; minor = minor } }
-{
-    Place {
-        stream: StreamId { driver: 1, minor },
-        side,
-    }
-}
-
-// Two messages at one place of the second driver, one at each of two others, and one at a place of the first. The
-// addresses are 1 and 129, whose bytes are the same.
-fn fill_two(rt: &(impl AllocGlobal + Abort), table: &mut FlowTable)
-    requires below { IsKnown table.old.drivers (record { driver = 0; minor = 1 }) }
-    requires first { IsKnown table.old.drivers (record { driver = 1; minor = 0 }) }
-    requires second { IsKnown table.old.drivers (record { driver = 1; minor = 1 }) }
-{
-    put(rt, table, of_second(1, Side::Write), 1, 1, b"two");
-    put(rt, table, of_second(1, Side::Write), 2, 129, b"by");
-    put(rt, table, of_second(0, Side::Read), 3, 129, b"two");
-    put(rt, table, of_second(0, Side::Write), 4, 1, b"by");
-    put(rt, table, UP, 5, 1, b"by");
-}
-
-// The first ones with an address of the second driver, in order: none that stands behind another, and none with the
-// other address.
-fn stand_in_front(rt: &impl Abort, table: &FlowTable) {
-    let mut with_one = table.fronts_for(1, 1);
-    let front = with_one.next().expect(rt, "a message");
-    assert!(rt; front.place == of_second(0, Side::Write) && front.message.serial == 4);
-    assert!(rt; with_one.next().expect(rt, "a message").message.serial == 1);
-    assert!(rt; with_one.next().is_none());
-    let mut with_another = table.fronts_for(1, 129);
-    let front = with_another.next().expect(rt, "a message");
-    assert!(rt; front.place == of_second(0, Side::Read) && front.message.serial == 3);
-    assert!(rt; with_another.next().is_none());
-}
-
-// The first driver has one of its own, and none with the other address. No driver has one with an address that no
-// message has, and a third driver has none.
-fn no_others_stand_in_front(rt: &impl Abort, table: &FlowTable) {
-    let mut first = table.fronts_for(0, 1);
-    assert!(rt; first.next().expect(rt, "a message").message.serial == 5);
-    assert!(rt; first.next().is_none());
-    assert!(rt; table.fronts_for(0, 129).next().is_none());
-    assert!(rt; table.fronts_for(1, 2).next().is_none());
-    assert!(rt; table.fronts_for(2, 1).next().is_none());
-}
-
-#[test]
-fn fronts_of_each_driver(rt: HostRuntime) {
-    let mut made = table_of_two(&rt);
-    fill_two(&rt, &mut made);
-    stand_in_front(&rt, &made);
-    no_others_stand_in_front(&rt, &made);
     forget(made);
 }

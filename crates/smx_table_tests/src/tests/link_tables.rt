@@ -1,5 +1,5 @@
-//! Tables of links: two links, looked up and taken away; and 1,024 links over 128 drivers, in a chain, a fan and a
-//! ladder, and none more; and copies of these.
+//! Tables of links: calls in a row, each with its answer; 1,024 links over 128 drivers, in a chain, a fan and a
+//! ladder, and no more; and copies of these.
 
 ghost use Rattle.std.specs.Prelude.{◌≡◌, ◌<◌};
 
@@ -8,18 +8,18 @@ use smx_types::{Link, LinkKind, StreamId};
 use std::mem::forget;
 use std::process::Abort;
 
-/// Which drivers have links.
+/// The drivers that have links.
 #[derive(Clone, Copy)]
 enum Shape {
-    /// Each driver over the next one, by as many streams as it takes.
+    /// Each driver above the next one, by as many streams as needed.
     Chain,
-    /// One driver over all the others.
+    /// One driver above all the others.
     Fan,
-    /// Each driver over the next one and the one after it.
+    /// Each driver above the next one and the one after it.
     Ladder,
 }
 
-// The upper driver and the lower stream of link k, from 0.
+// Returns the upper driver and the lower stream of link `k`, from 0.
 fn ends_of(shape: Shape, k: u32) -> (u8, (u8, u8))
     requires { k < 1024 }
     ensures { (result.0 < 128) × (result.1.0 < 128) }
@@ -35,7 +35,7 @@ fn ends_of(shape: Shape, k: u32) -> (u8, (u8, u8))
     }
 }
 
-// A link of a stream of this driver over that stream is made, or refused, as is wanted.
+// Links a stream of this driver above that stream, or is refused, as expected.
 fn links(
     rt: &impl Abort,
     table: &mut LinkTable,
@@ -69,7 +69,7 @@ fn fill(rt: &impl Abort, table: &mut LinkTable, shape: Shape)
     }
 }
 
-// No link more; and where one has gone there is one more, with the next id.
+// Checks that no further link is possible. After one is removed, one more is, with the next id.
 fn is_full(rt: &impl Abort, table: &mut LinkTable)
     requires { table.old.drivers ≡ 128 }
 {
@@ -79,16 +79,16 @@ fn is_full(rt: &impl Abort, table: &mut LinkTable)
     links(rt, table, 0, (127, 200), Ok(1_025));
 }
 
-fn copy_is_full(rt: &impl Abort, table: &LinkTable)
+fn copy_is_full(rt: &(impl AllocGlobal + Abort), table: &LinkTable)
     requires { table.now.drivers ≡ 128 }
 {
-    let mut again = table.copy().expect(rt, "memory");
+    let mut again = table.copy(rt.alloc()).expect(rt, "memory");
     assert!(rt; again.links() == table.links());
     is_full(rt, &mut again);
     forget(again);
 }
 
-// All links of this shape, of the table and of its copy.
+// Checks all links of this shape, in the table and in its copy.
 fn is_at_its_limit(rt: &(impl AllocGlobal + Abort), shape: Shape) {
     let mut table = LinkTable::new(rt.alloc(), 128).expect(rt, "memory");
     fill(rt, &mut table, shape);
@@ -104,74 +104,165 @@ fn a_chain_a_fan_and_a_ladder(rt: HostRuntime) {
     is_at_its_limit(&rt, Shape::Ladder);
 }
 
-// Of a stream of driver 0 over one of driver 1.
-const FIRST: Link = Link {
-    id: 1,
-    ctl: StreamId {
-        driver: 0,
-        minor: 4,
-    },
-    lower: StreamId {
-        driver: 1,
-        minor: 5,
-    },
-    kind: LinkKind::Persistent,
-};
-
-// Of a stream of driver 1 over one of driver 2.
-const SECOND: Link = Link {
-    id: 2,
-    ctl: StreamId {
-        driver: 1,
-        minor: 6,
-    },
-    lower: StreamId {
-        driver: 2,
-        minor: 7,
-    },
-    kind: LinkKind::Ordinary,
-};
-
-fn link_two(rt: &impl Abort, table: &mut LinkTable)
-    requires { table.old.drivers ≡ 3 }
-{
-    assert!(rt; table.is_empty());
-    assert!(rt; table.try_link(FIRST.ctl, FIRST.lower, FIRST.kind) == Ok(1));
-    assert!(rt; table.try_link(SECOND.ctl, SECOND.lower, SECOND.kind) == Ok(2));
+// A call of a table, and its answer. A link is reported by its id.
+#[derive(Drop)]
+enum Call {
+    Link(StreamId, StreamId, LinkKind, Result<u32, LinkFault>),
+    Remove(u32, Option<Link>),
+    Reaches(u8, u8, bool),
+    Above(StreamId, Option<u32>),
+    At(usize, Option<u32>),
+    Get(u32, Option<u32>),
+    Len(usize),
+    NextId(u32),
 }
 
-fn finds_two(rt: &impl Abort, table: &LinkTable) {
-    assert!(rt; table.get(1) == Some(&FIRST));
-    assert!(rt; table.at(1) == Some(&SECOND));
-    assert!(rt; table.above(SECOND.lower) == Some(&SECOND));
-    assert!(rt; table.is_below(FIRST.lower));
-    assert!(rt; table.ordinary() == [SECOND].as_slice());
-    assert!(rt; table.next_id() == 3);
-    assert!(rt; table.reaches(0, 2));
-    assert!(rt; table.is_upper(1));
-    assert!(rt; table.driver_count() == 3);
+fn stream(driver: u8, minor: u8) -> StreamId {
+    StreamId { driver, minor }
 }
 
-// Each link joins its own two drivers. No link leads from 0 to 2, though a path does, or from 1 to 0, or to 3.
-fn joins_two(rt: &impl Abort, table: &LinkTable) {
-    assert!(rt; table.joins(0, 1) && table.joins(1, 2));
-    assert!(rt; !table.joins(0, 2) && !table.joins(1, 0));
-    assert!(rt; !table.joins(0, 3) && !table.joins(3, 1));
+fn link(id: u32, ctl: StreamId, lower: StreamId, kind: LinkKind) -> Link {
+    Link {
+        id,
+        ctl,
+        lower,
+        kind,
+    }
 }
 
-// The second goes; an id that no link has changes nothing.
-fn removes_one(rt: &impl Abort, table: &mut LinkTable) {
-    table.remove_each(&[2, 9]);
-    assert!(rt; table.links() == [FIRST].as_slice());
-    assert!(rt; !table.reaches(0, 2) && !table.joins(1, 2));
+fn id_of(link: Option<&Link>) -> Option<u32> {
+    Some(link?.id)
+}
+
+fn is_linked(
+    rt: &impl Abort,
+    table: &mut LinkTable,
+    ctl: StreamId,
+    lower: StreamId,
+    kind: LinkKind,
+) -> Result<u32, LinkFault> {
+    let drivers = table.driver_count();
+    assert!(rt; ctl.driver < drivers && lower.driver < drivers);
+    table.try_link(ctl, lower, kind)
+}
+
+// Returns whether the call has this answer.
+fn answers(rt: &impl Abort, table: &mut LinkTable, call: &Call) -> bool {
+    match call {
+        Call::Link(ctl, lower, kind, id) => is_linked(rt, table, *ctl, *lower, *kind) == *id,
+        Call::Remove(id, gone) => table.remove(*id) == *gone,
+        Call::Reaches(from, to, path) => table.reaches(*from, *to) == *path,
+        Call::Above(lower, id) => id_of(table.above(*lower)) == *id,
+        Call::At(i, id) => id_of(table.at(*i)) == *id,
+        Call::Get(id, found) => id_of(table.get(*id)) == *found,
+        Call::Len(count) => table.len() == *count,
+        Call::NextId(id) => table.next_id() == *id,
+    }
+}
+
+fn answer_all(rt: &impl Abort, table: &mut LinkTable, calls: &[Call]) {
+    for i in 0..calls.len() {
+        assert!(rt; answers(rt, table, &calls[i]), "call {i}");
+    }
+}
+
+// Checks that the copy has the same links, the same next id and the same paths.
+fn copy_is_equal(rt: &(impl AllocGlobal + Abort), table: &LinkTable) {
+    let copy = table.copy(rt.alloc()).expect(rt, "memory");
+    assert!(rt; copy.links() == table.links());
+    assert!(rt; copy.next_id() == table.next_id());
+    assert!(rt; copy.driver_count() == table.driver_count());
+    for a in 0..table.driver_count() {
+        for b in 0..table.driver_count() {
+            assert!(rt; copy.reaches(a, b) == table.reaches(a, b));
+        }
+    }
+    forget(copy);
 }
 
 #[test]
-fn two_links(rt: HostRuntime) {
+fn links_of_three_drivers(rt: HostRuntime) {
+    let persistent = LinkKind::Persistent;
+    let ordinary = LinkKind::Ordinary;
+    let first = link(1, stream(0, 0), stream(1, 0), persistent);
+    let calls = [
+        Call::Link(stream(0, 0), stream(1, 0), persistent, Ok(1)),
+        Call::Link(stream(1, 1), stream(0, 0), ordinary, Err(LinkFault::Cycle)),
+        Call::Link(stream(1, 1), stream(2, 0), ordinary, Ok(2)),
+        Call::Reaches(0, 2, true),
+        Call::Reaches(2, 0, false),
+        Call::Reaches(0, 0, false),
+        Call::Link(
+            stream(0, 1),
+            stream(2, 0),
+            ordinary,
+            Err(LinkFault::Already),
+        ),
+        Call::Remove(1, Some(first)),
+        Call::Remove(1, None),
+        Call::Reaches(0, 2, false),
+        Call::Above(stream(2, 0), Some(2)),
+        Call::Above(stream(1, 0), None),
+        Call::At(0, Some(2)),
+        Call::At(1, None),
+        Call::Get(2, Some(2)),
+        Call::Get(1, None),
+        Call::Len(1),
+        Call::Link(stream(1, 1), stream(0, 0), ordinary, Ok(3)),
+        Call::NextId(4),
+    ];
     let mut table = LinkTable::new(rt.alloc(), 3).expect(&rt, "memory");
-    link_two(&rt, &mut table);
-    finds_two(&rt, &table);
-    joins_two(&rt, &table);
-    removes_one(&rt, &mut table);
+    answer_all(&rt, &mut table, &calls);
+    copy_is_equal(&rt, &table);
+    forget(table);
+}
+
+#[test]
+fn paths_after_removals(rt: HostRuntime) {
+    let persistent = LinkKind::Persistent;
+    let first = link(1, stream(0, 0), stream(1, 0), persistent);
+    let second = link(2, stream(0, 0), stream(1, 1), persistent);
+    let calls = [
+        Call::Link(stream(0, 0), stream(1, 0), persistent, Ok(1)),
+        Call::Link(stream(0, 0), stream(1, 1), persistent, Ok(2)),
+        Call::Link(stream(1, 2), stream(2, 0), persistent, Ok(3)),
+        Call::Reaches(0, 2, true),
+        Call::Remove(1, Some(first)),
+        Call::Reaches(0, 2, true),
+        Call::Link(
+            stream(2, 1),
+            stream(0, 1),
+            persistent,
+            Err(LinkFault::Cycle),
+        ),
+        Call::Remove(2, Some(second)),
+        Call::Reaches(0, 2, false),
+        Call::Reaches(1, 2, true),
+        Call::Link(stream(2, 1), stream(0, 1), persistent, Ok(4)),
+        Call::Reaches(1, 0, true),
+        Call::Reaches(2, 1, false),
+    ];
+    let mut table = LinkTable::new(rt.alloc(), 4).expect(&rt, "memory");
+    answer_all(&rt, &mut table, &calls);
+    copy_is_equal(&rt, &table);
+    forget(table);
+}
+
+// Three links, of which two are removed together; an id that no link has changes nothing.
+#[test]
+fn several_links_go(rt: HostRuntime) {
+    let ordinary = LinkKind::Ordinary;
+    let second = link(2, stream(1, 1), stream(2, 0), ordinary);
+    let calls = [
+        Call::Link(stream(0, 0), stream(1, 0), ordinary, Ok(1)),
+        Call::Link(stream(1, 1), stream(2, 0), ordinary, Ok(2)),
+        Call::Link(stream(2, 1), stream(3, 0), ordinary, Ok(3)),
+    ];
+    let mut table = LinkTable::new(rt.alloc(), 4).expect(&rt, "memory");
+    answer_all(&rt, &mut table, &calls);
+    table.remove_each(&[3, 9, 1]);
+    assert!(&rt; table.links() == [second].as_slice());
+    assert!(&rt; table.is_below(stream(2, 0)) && !table.is_below(stream(1, 0)));
+    assert!(&rt; table.is_upper(1) && !table.is_upper(0));
     forget(table);
 }

@@ -1,25 +1,25 @@
-//! Queues of places: what arrives, leaves and moves, and the marks, of 4,096 messages too. Each call that wants memory
-//! is made once more.
+//! Queues of places: the messages that arrive, leave and move, and the marks, also for 4,096 messages. Each call that
+//! runs out of memory is repeated once.
 
 use smx_queues::Queues;
 use smx_types::{Bytes, Message};
 use std::mem::forget;
 use std::process::Abort;
 
-/// A call and what it has to answer. Places are numbers.
+/// A call with its expected answer. Places are numbers.
 #[derive(Clone, Copy)]
 enum Act {
     /// A place with these marks, high and low, gets this number.
     Add(usize, usize, usize),
-    /// A message of this serial and so many bytes arrives.
+    /// A message with this serial and this many bytes arrives.
     Put(usize, u32, usize),
-    /// The message of this serial leaves, or none.
+    /// The message with this serial leaves, or none.
     Take(usize, Option<u32>),
-    /// The front message of the first place moves on to the second.
+    /// The first message of one place moves on to another place.
     Move(usize, usize),
     /// All messages of the place are dropped.
     Clear(usize),
-    /// So many bytes, this mark and messages of these serials are there, and in a copy.
+    /// The place has this many bytes, this mark and messages with these serials, the first of them at its front, also in a copy.
     Has(usize, usize, bool, &'static [u32]),
 }
 
@@ -27,7 +27,7 @@ fn is_wanting(rt: &(impl Abort + Print)) {
     assert!(rt; println!(rt; "a call wanted memory").is_ok());
 }
 
-/// A place with these marks gets this number.
+/// Adds a place with these marks, and checks its number.
 pub fn adds(
     rt: &(impl Abort + Print),
     queues: &mut Queues,
@@ -60,7 +60,7 @@ fn bytes(rt: &(impl AllocGlobal + Abort), size: usize) -> Bytes {
     Bytes::from_vec(vec![in alloc; 0xaa; size].expect(rt, "memory"))
 }
 
-// A message of this serial and so many bytes arrives, for which there is room.
+// Puts a message with this serial and this many bytes, for which there is room.
 fn put_in_room(
     rt: &(impl AllocGlobal + Abort),
     queues: &mut Queues,
@@ -78,7 +78,7 @@ fn put_in_room(
     queues.put(p, message);
 }
 
-/// A message of this serial and so many bytes arrives.
+/// Puts a message with this serial and this many bytes.
 pub fn put(
     rt: &(impl AllocGlobal + Abort + Print),
     queues: &mut Queues,
@@ -110,7 +110,7 @@ fn clear(rt: &impl Abort, queues: &mut Queues, p: usize) {
     queues.clear(p);
 }
 
-// The serials at the place.
+// Returns the serials at the place.
 fn listed(rt: &(impl Abort + Print), queues: &Queues, p: usize) -> Vec<u32> {
     assert!(rt; queues.has_place(p));
     if let Ok(made) = queues.serials(p) {
@@ -134,9 +134,13 @@ fn has(
     let listed = listed(rt, queues, p);
     assert!(rt; listed.as_slice() == serials, "at place {p}");
     forget(listed);
+    match queues.front(p) {
+        Some(message) => assert!(rt; serials.first() == Some(&message.serial), "at place {p}"),
+        None => assert!(rt; serials.is_empty(), "at place {p}"),
+    }
 }
 
-// The same queues again.
+// Returns a copy of the queues.
 fn copied(rt: &(impl AllocGlobal + Abort + Print), queues: &Queues) -> Queues {
     if let Ok(made) = queues.copy(rt.alloc()) {
         return made;
@@ -196,14 +200,14 @@ fn do_acts(rt: &(impl AllocGlobal + Abort + Print), queues: &mut Queues) {
     }
 }
 
-/// Two places, a move between them, and the marks on the way, with a copy after each step.
+/// Checks two places, a move between them, and the marks on the way, with a copy after each step.
 pub fn marks_across_a_move(rt: &(impl AllocGlobal + Abort + Print)) {
     let mut queues = Queues::new(rt.alloc());
     do_acts(rt, &mut queues);
     forget(queues);
 }
 
-// 4,096 messages of a byte are at place 2.
+// Checks that 4,096 messages of one byte are at place 2.
 fn is_full(rt: &(impl Abort + Print), queues: &Queues) {
     let listed = listed(rt, queues, 2);
     assert!(rt; listed.len() == 4096);
@@ -218,15 +222,17 @@ fn copy_is_full(rt: &(impl AllocGlobal + Abort + Print), queues: &Queues) {
     forget(again);
 }
 
-// As many arrive.
+// Puts that number of messages.
 fn fill(rt: &(impl AllocGlobal + Abort + Print), queues: &mut Queues) {
-    assert!(rt; queues.add_places(3, 4096, 4095).is_ok());
+    for number in 0..3usize {
+        adds(rt, queues, 4096, 4095, number);
+    }
     for before in 0..4096u32 {
         put(rt, queues, 2, before + 1, 1);
     }
 }
 
-// Messages arrive for as long as there is room, and none is reserved.
+// Puts messages for as long as there is room, without reserving any.
 fn fill_the_room(rt: &(impl AllocGlobal + Abort), queues: &mut Queues) {
     for serial in 2..4096u32 {
         if !queues.has_spare() {
@@ -248,7 +254,8 @@ fn goes_round(rt: &(impl AllocGlobal + Abort), queues: &mut Queues, serial: u32)
 #[test]
 fn ten_thousand_rounds_take_no_room(rt: HostRuntime) {
     let mut queues = Queues::new(rt.alloc());
-    assert!(rt; queues.add_places(2, 4096, 3).is_ok());
+    adds(&rt, &mut queues, 4096, 3, 0);
+    adds(&rt, &mut queues, 4096, 3, 1);
     put(&rt, &mut queues, 0, 1, 1);
     fill_the_room(&rt, &mut queues);
     for round in 0..10_000u32 {

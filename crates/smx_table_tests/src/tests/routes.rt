@@ -1,4 +1,4 @@
-//! Tables of routes: routed, and routed anew, listed in their order, copied, looked up and taken away.
+//! Tables of routes: routed, routed anew, listed in order, copied, looked up and removed.
 
 use smx_addresses::Routes;
 use smx_types::Route;
@@ -10,7 +10,7 @@ fn is_listed(rt: &(impl AllocGlobal + Abort), table: &Routes, wanted: &[Route]) 
     assert!(rt; list.as_slice() == wanted);
 }
 
-// Routes of two drivers, in no order; one address is routed anew, to another link and to the same.
+// Routes of two drivers, in no order. One address is routed anew, to another link and to the same.
 const ROUTED: [(u8, u32, u32); 6] = [
     (0, 5, 1),
     (1, 5, 3),
@@ -52,12 +52,12 @@ fn has_routes(rt: &(impl AllocGlobal + Abort), table: &mut Routes) {
 }
 
 fn copy_has_routes(rt: &(impl AllocGlobal + Abort), table: &Routes) {
-    let again = table.copy().expect(rt, "memory");
+    let again = table.copy(rt.alloc()).expect(rt, "memory");
     is_listed(rt, &again, &LISTED);
     forget(again);
 }
 
-// One goes by its address, then that of link 3, and then those of link 2.
+// Removes one by its address, then that of link 3, then those of link 2.
 fn unroutes(rt: &impl Abort, table: &mut Routes) {
     let first = Some(Route {
         driver: 0,

@@ -1,9 +1,9 @@
-//! Tables of streams: two streams, looked up, held, hung up and released; and at their limits, 64 processes with 16
-//! descriptors each, and 128 drivers; and copies of these.
+//! Tables of streams: calls in a row, each with its answer, and a copy; two streams, looked up, held, hung up and
+//! released; tables at their limits, with 16 descriptors for each of 64 processes, also in a copy, and with 128 drivers.
 
 ghost use Rattle.std.specs.Prelude.{◌<◌};
 
-use smx_streams::{StreamFault, Streams};
+use smx_streams::{Closed, StreamFault, Streams};
 use smx_types::{Descriptor, Process, StreamId};
 use std::mem::forget;
 use std::process::Abort;
@@ -40,7 +40,7 @@ fn fill(rt: &impl Abort, table: &mut Streams, p: u32)
     clones(rt, table, p, 1, Err(StreamFault::TooManyDescriptors));
 }
 
-// Where one descriptor is closed there is one more.
+// If one descriptor is closed, there is room for one more.
 fn is_full(rt: &impl Abort, table: &mut Streams) {
     clones(rt, table, 0, 0, Err(StreamFault::NoMinor));
     assert!(rt; table.close_fd(process(rt, 63), 15).is_some());
@@ -53,8 +53,8 @@ fn fill_all(rt: &impl Abort, table: &mut Streams) {
     }
 }
 
-fn copy_is_full(rt: &impl Abort, table: &Streams) {
-    let mut again = table.copy().expect(rt, "memory");
+fn copy_is_full(rt: &(impl AllocGlobal + Abort), table: &Streams) {
+    let mut again = table.copy(rt.alloc()).expect(rt, "memory");
     is_full(rt, &mut again);
     forget(again);
 }
@@ -106,7 +106,7 @@ fn come_in_order(rt: &impl Abort, table: &Streams) {
     assert!(rt; table.next_fd(process(rt, 2), 1) == Some(second));
 }
 
-// It hangs up, is held, and loses its descriptors.
+// The stream hangs up, is held, and loses its descriptors.
 fn holds(rt: &impl Abort, table: &mut Streams, held: StreamId) {
     assert!(rt; table.exists(held));
     assert!(rt; table.holds_of(held) == 0);
@@ -116,7 +116,7 @@ fn holds(rt: &impl Abort, table: &mut Streams, held: StreamId) {
     assert!(rt; table.is_hung(held));
 }
 
-// It alone has hung up, and goes with its hold.
+// It is the only hung-up stream, and goes with its hold.
 fn releases(rt: &impl Abort, table: &mut Streams, held: StreamId) {
     let mut rest = table.hungs();
     assert!(rt; rest.next() == Some(held));
@@ -134,5 +134,104 @@ fn two_streams(rt: HostRuntime) {
     come_in_order(&rt, &table);
     holds(&rt, &mut table, stream(0, 0));
     releases(&rt, &mut table, stream(0, 0));
+    forget(table);
+}
+
+// A call of a table, and its answer.
+#[derive(Drop)]
+enum Call {
+    InRange(u8, u32, bool),
+    Clone(u32, u8, Given),
+    Open(u32, u8, u32, Given),
+    Dup(u32, u32, Given),
+    Hold(StreamId),
+    Close(u32, u32, Option<Closed>),
+    Release(StreamId, bool),
+    Exists(StreamId, bool),
+    StreamOf(u32, u32, Option<StreamId>),
+}
+
+fn is_held(rt: &impl Abort, table: &mut Streams, held: StreamId) -> bool {
+    assert!(rt; table.exists(held) && table.holds_of(held) == 0);
+    table.hold(held);
+    table.holds_of(held) == 1
+}
+
+fn goes_with_its_hold(rt: &impl Abort, table: &mut Streams, held: StreamId) -> bool {
+    assert!(rt; table.holds_of(held) > 0);
+    table.release(held)
+}
+
+// Returns whether the call has this answer.
+fn answers(rt: &impl Abort, table: &mut Streams, call: &Call) -> bool {
+    match call {
+        Call::InRange(driver, minor, there) => table.in_range(*driver, *minor) == *there,
+        Call::Clone(p, driver, given) => table.open_clone(process(rt, *p), *driver) == *given,
+        Call::Open(p, driver, minor, given) => {
+            table.open_minor(process(rt, *p), *driver, *minor) == *given
+        }
+        Call::Dup(p, fd, given) => table.dup(process(rt, *p), *fd) == *given,
+        Call::Hold(held) => is_held(rt, table, *held),
+        Call::Close(p, fd, closed) => table.close_fd(process(rt, *p), *fd) == *closed,
+        Call::Release(held, last) => goes_with_its_hold(rt, table, *held) == *last,
+        Call::Exists(at, there) => table.exists(*at) == *there,
+        Call::StreamOf(p, fd, found) => table.stream_of(process(rt, *p), *fd) == *found,
+    }
+}
+
+fn answer_all(rt: &impl Abort, table: &mut Streams, calls: &[Call]) {
+    for i in 0..calls.len() {
+        assert!(rt; answers(rt, table, &calls[i]), "call {i}");
+    }
+}
+
+// What is then asked of the table, and of its copy.
+fn both_answer(rt: &(impl AllocGlobal + Abort), table: &mut Streams) {
+    let calls = [
+        Call::Exists(stream(0, 0), true),
+        Call::Exists(stream(0, 1), true),
+        Call::Exists(stream(1, 0), false),
+        Call::StreamOf(0, 0, Some(stream(0, 0))),
+        Call::StreamOf(0, 1, None),
+        Call::StreamOf(1, 0, Some(stream(0, 1))),
+        Call::StreamOf(1, 1, None),
+        Call::Clone(1, 0, Err(StreamFault::NoMinor)),
+        Call::Clone(1, 1, Ok((1, stream(1, 0)))),
+    ];
+    let mut again = table.copy(rt.alloc()).expect(rt, "memory");
+    answer_all(rt, table, &calls);
+    answer_all(rt, &mut again, &calls);
+    forget(again);
+}
+
+#[test]
+fn streams_of_two_drivers(rt: HostRuntime) {
+    let own = stream(0, 0);
+    let stays = Closed {
+        stream: own,
+        last: false,
+    };
+    let calls = [
+        Call::InRange(1, 0, true),
+        Call::InRange(1, 1, false),
+        Call::InRange(2, 0, false),
+        Call::Clone(0, 0, Ok((0, own))),
+        Call::Clone(1, 0, Ok((0, stream(0, 1)))),
+        Call::Clone(0, 0, Err(StreamFault::NoMinor)),
+        Call::Clone(0, 2, Err(StreamFault::NoDriver)),
+        Call::Open(1, 0, 0, Ok((1, own))),
+        Call::Dup(0, 0, Ok((1, own))),
+        Call::Hold(own),
+        Call::Close(0, 0, Some(stays)),
+        Call::Close(0, 1, Some(stays)),
+        Call::Close(1, 1, Some(stays)),
+        Call::Close(1, 1, None),
+        Call::Release(own, true),
+        Call::Exists(own, false),
+        Call::Clone(0, 0, Ok((0, own))),
+    ];
+    let mut table = Streams::new(rt.alloc(), &[2, 1]).expect(&rt, "memory");
+    answer_all(&rt, &mut table, &calls);
+    both_answer(&rt, &mut table);
     forget(table);
 }

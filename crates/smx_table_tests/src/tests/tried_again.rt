@@ -1,4 +1,4 @@
-//! Worked queues. They pass with any one growth refused too, and tests/refused_growths runs them so.
+//! Worked queues. They also pass if any one allocation fails, and tests/refused_growths runs them so.
 
 use super::queues::marks_across_a_move;
 

@@ -1,34 +1,33 @@
-use Rattle.std.proofs.Common.{List, subst, sym, ◌∙◌}
-use Rattle.smx_types.specs.declared.driver.DriverSpec.{DriverSpec}
-use Rattle.smx_model.specs.KnownStreams.{IsKnown}
-use Rattle.smx_config.specs.declared.marks.Marks.{Marks}
-use Rattle.smx_config.specs.Marking.{marked_configuration}
-use Rattle.smx_config.proofs.NextMoveLemmas.{cleared_marks, is_cleared, next_has_message, noted}
+use Rattle.std.proofs.Common.{◌≡◌, ◌∙◌, ap, sym, subst, arith, Option, Some, ℕ}
+use Rattle.std.specs.Prelude.{IfSome}
+use Rattle.smx_config.specs.Moves.{IsFullAt, IsNextOf}
+use Rattle.smx_config.proofs.NextMoveLemmas.{held_up, unmarked}
+use Rattle.smx_config.proofs.PlaceNumberLemmas.{place_of_number}
 use Rattle.smx_config.proofs.settling.clear_mark.Goals as goal
 
-pub returns-clause-marks : goal.returns-clause-marks
-returns-clause-marks c =
+pub returns-in-Some-clause-marks : goal.returns-in-Some-clause-marks
+returns-in-Some-clause-marks c =
+    let drivers = c.args.tables.now.drivers in
     let now = c.args.tables.now.configuration in
-    let left : Marks = record {
-      run = c.clear.new.self;
-      wanted = c.mark_wanted.new.wanted;
-      waits = c.note_waiting.new.waits;
-    } in
-    cleared_marks c.args.tables.now.drivers now c.args.next c.args.marks.now left c.requires.marks
-    (c.clearing_keeps_marks.ensures c.args.tables.now.drivers c.args.from (marked_configuration now c.args.marks.now)
-    (marked_configuration now left) c.requires.marks.waiting
-    (is_cleared c.args.tables.now.drivers now c.args.from c.args.next c.args.marks.now left
-    c.requires.least c.requires.next
-    c.requires.stays c.clear.ensures.gone c.mark_wanted.ensures.kept
-    (λ q at. c.mark_wanted.ensures.there q at
-    (subst (λ (ds : List DriverSpec). IsKnown ds q.stream) (sym c.requires.marks.wanted)
-    (c.places_are_known.ensures.next c.args.tables.now.drivers now c.args.from q c.requires.sound
-    (sym c.requires.next ∙ at))))))
-    c.requires.stays c.mark_wanted.ensures.few c.clear.ensures.drivers c.mark_wanted.ensures.drivers
-    (noted c.args.tables.now.drivers now c.args.from c.args.next c.args.marks.now left c.requires.marks c.requires.next
-    c.clear.ensures.gone (λ q at.
-    let known = c.places_are_known.ensures.with_messages c.args.tables.now.drivers now c.args.from c.requires.sound
-    (next_has_message c.args.tables.now.drivers now c.args.from q (sym c.requires.next ∙ at)) in
-    c.note_waiting.ensures.there q at
-    (subst (λ (ds : List DriverSpec). IsKnown ds c.args.from.stream) (sym c.requires.marks.waits) known))
-    c.note_waiting.ensures.others c.note_waiting.ensures.drivers)
+    let here = place_of_number drivers c.args.from c.requires.number in
+    let goes = subst (IsNextOf drivers now here.0) c.in-Some.is (c.requires.next here.0 here.1) in
+    let full = subst (λ (o : Option ℕ). IfSome o (IsFullAt drivers now)) c.in-Some.is c.requires.stays in
+    rw c.enter.ensures (held_up drivers now c.args.from c.in-Some.to here.0 goes.place c.args.marks.now
+    c.clear.new.self c.set.new.self c.requires.marks here.1 goes.there c.requires.number goes.next
+    (full goes.place goes.there)
+    (record {
+      gone = c.clear.ensures.gone;
+      wants = c.set.ensures.here;
+      kept = c.set.ensures.kept;
+      run_over = c.clear.ensures.count;
+      wanted_over = c.set.ensures.count;
+    }))
+
+pub returns-in_default-clause-marks : goal.returns-in_default-clause-marks
+returns-in_default-clause-marks c =
+    let drivers = c.args.tables.now.drivers in
+    let now = c.args.tables.now.configuration in
+    let here = place_of_number drivers c.args.from c.requires.number in
+    unmarked drivers now c.args.from here.0 c.args.marks.now c.clear.new.self c.requires.marks here.1
+    (subst (IsNextOf drivers now here.0) c.in_default.is (c.requires.next here.0 here.1))
+    c.clear.ensures.gone c.clear.ensures.count

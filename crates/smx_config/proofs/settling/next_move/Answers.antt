@@ -1,33 +1,43 @@
-use Rattle.std.proofs.Common.{◌≡◌, true, Option, subst}
-use Rattle.std.specs.Prelude.{IfSome}
-use Rattle.smx_types.specs.declared.stream.Place.{Place}
-use Rattle.smx_model.specs.Queues.{first_message}
-use Rattle.smx_model.specs.RunMarks.{has_addr}
-use Rattle.smx_queues.specs.PlaceMarks.{has_mark}
-use Rattle.smx_config.proofs.LoneMessageLemmas.{opened}
-use Rattle.smx_config.proofs.NextMoveLemmas.{movable_to, moves_to}
+use Rattle.std.proofs.Common.{subst, arith, sym}
 use Rattle.smx_model.proofs.SettlingByMarksLemmas.{none_is_least}
+use Rattle.smx_queues.specs.Bits.{BitTable}
+use Rattle.smx_config.specs.Marking.{AreMarks}
+use Rattle.smx_config.specs.Moves.{IsNextOf}
+use Rattle.smx_config.proofs.NextMoveLemmas.{least_is, movable_to, moves_to, none_marked, with_run}
+use Rattle.smx_config.proofs.PlaceNumberLemmas.{place_of_number}
 use Rattle.smx_config.proofs.settling.next_move.Goals as goal
 
 pub returns-in-Some-if_open-clause-least : goal.returns-in-Some-if_open-clause-least
 returns-in-Some-if_open-clause-least c =
+    let drivers = c.args.tables.now.drivers in
     let now = c.args.tables.now.configuration in
-    let moves = moves_to c.args.tables.now.drivers now c.in-Some.from c.in-Some-if_open.to c.next_of_first-next.result.0
-    c.next_of_first-next.ensures.value c.in-Some-if_open.ensures in
-    let open_one = opened now c.next_of_first-next.result.0 c.in-Some-if_open.to c.in-Some-if_open.ensures in (
-      c.the_least_marked_is_the_least.ensures c.args.tables.now.drivers now (has_mark c.loop-from.marks.run)
-          (has_mark c.loop-from.marks.wanted) c.in-Some.from c.requires.sound.ordered.flow
-          c.loop-from.invariant.marks.waiting
-          c.in-Some.ensures.none_before
-          (movable_to c.args.tables.now.drivers now c.in-Some.from c.in-Some-if_open.to moves),
-      moves,
-      subst (λ (o : Option Place). IfSome o (λ _. has_addr c.next_of_first-next.result.1
-          (first_message now.flow c.in-Some.from) ≡ true)) open_one.0 c.next_of_first-next.ensures.addr,
-    )
+    let here = place_of_number drivers c.in-Some.from
+    (omega (arith, c.in-Some.ensures.below, c.loop-from.invariant.over.run)) in
+    let goes = subst (IsNextOf drivers now here.0) c.in-Some-if_open.ensures.same
+    (c.next_of_first-next.ensures.value here.0 here.1) in
+    let moves = moves_to drivers now here.0 goes.place goes.next
+    (c.in-Some-if_open.ensures.open goes.place goes.there) in
+    record {
+      moves = record { from = here.0; to = goes.place; from_at = here.1; to_at = goes.there; goes = moves };
+      least = least_is drivers now c.loop-from.marks c.in-Some.from here.0 c.requires.sound c.loop-from.invariant
+          here.1 c.in-Some.ensures.least (movable_to drivers now here.0 goes.place moves);
+    }
 
 pub returns-clause-least : goal.returns-clause-least
 returns-clause-least c =
     let now = c.args.tables.now.configuration in
     none_is_least c.args.tables.now.drivers now
-    (c.without_marks_it_is_settled.ensures c.args.tables.now.drivers now (has_mark c.loop-from.marks.run)
-    (has_mark c.loop-from.marks.wanted) c.loop-from.invariant.marks.waiting c.in_default.ensures)
+    (none_marked c.args.tables.now.drivers now c.loop-from.marks c.requires.sound c.loop-from.invariant
+    c.in_default.ensures.none)
+
+pub returns-in-Some-if_open-clause-marks : goal.returns-in-Some-if_open-clause-marks
+returns-in-Some-if_open-clause-marks c = subst
+    (λ (b : BitTable). AreMarks c.args.tables.now.drivers c.args.tables.now.configuration
+    (with_run c.loop-from.marks b))
+    (sym c.first.ensures.same) c.loop-from.invariant
+
+pub clear_mark-requires-clause-marks : goal.clear_mark-requires-clause-marks
+clear_mark-requires-clause-marks c = subst
+    (λ (b : BitTable). AreMarks c.args.tables.now.drivers c.args.tables.now.configuration
+    (with_run c.loop-from.marks b))
+    (sym c.first.ensures.same) c.loop-from.invariant

@@ -1,17 +1,11 @@
-use Rattle.std.proofs.Common.{◌≡◌, true, false, length}
-use Rattle.std.specs.List.{list_any}
-use Rattle.smx_types.specs.declared.stream.Place.{Place}
-use Rattle.smx_model.specs.Configuration.{same_place}
-use Rattle.smx_model.specs.Queues.{is_full}
-use Rattle.smx_queues.specs.PlaceMarks.{has_mark}
+use Rattle.std.proofs.Common.{◌≡◌, ◌-◌, ◌<◌, true, ℕ}
+use Rattle.smx_queues.specs.Bits.{has_bit}
+use Rattle.smx_config.specs.Moves.{IsFullAt}
 use Rattle.smx_config.proofs.waking.first_open.Given as goal
 
-abbrev pub decreases-loop-place : goal.decreases-loop-place
-decreases-loop-place l = length l.rest
+abbrev pub decreases-loop-start : goal.decreases-loop-start
+decreases-loop-start l = l.end - l.start
 
-abbrev pub invariant-loop-place : goal.invariant-loop-place
-invariant-loop-place l = record {
-  marked : (p : Place) → list_any (same_place p) l.rest ≡ true → has_mark l.wanted p ≡ true;
-  left : (p : Place) → has_mark l.wanted p ≡ true → is_full l.tables.configuration p ≡ false
-      → list_any (same_place p) l.rest ≡ true;
-}
+abbrev pub invariant-loop-start : goal.invariant-loop-start
+invariant-loop-start l =
+    (n : ℕ) → n < l.start → has_bit l.wanted n ≡ true → IsFullAt l.tables.drivers l.tables.configuration n

@@ -1,23 +1,16 @@
-use Rattle.std.proofs.Common.{◌∙◌, sym}
-use Rattle.std.proofs.lemmas.List.{drop_all, drop_more}
-use Rattle.smx_config.proofs.WakeLemmas.{all_passed, none_passed, other_passed, waiter_passed}
+use Rattle.std.proofs.Common.{refl, arith}
+use Rattle.smx_config.proofs.WakeLemmas.{all_kept, one_taken}
 use Rattle.smx_config.proofs.waking.mark_waiters.Goals as goal
-use Rattle.smx_config.proofs.waking.mark_waiters.Goals.{then-same_place, else-same_place}
 
-pub loop-wait-init : goal.loop-wait-init
-loop-wait-init c = none_passed c.args.waits.now _ _ _ c.waits-wait-items.ensures
+pub loop-waiter-init : goal.loop-waiter-init
+loop-waiter-init c = record { kept = all_kept c.args.marks.now c.requires.listed; wanted = refl }
 
-pub loop-wait-preserved : goal.loop-wait-preserved
-loop-wait-preserved c =
-    let next = drop_more c.waits-wait-items.result.now c.loop-wait.wait-index _ c.loop-wait-test.true in
-    elim c.if-same_place.branch [
-      | then-same_place w ↦
-          rw w.run-is (waiter_passed c.args.waits.now _ _ _ _ _ _ _ next c.loop-wait.invariant
-          w.mark.ensures.here w.mark.ensures.kept w.mark.ensures.drivers)
-      | else-same_place w ↦
-          rw w.run-is (other_passed c.args.waits.now _ _ _ _ _ _ next c.loop-wait.invariant
-          (sym c.same_place.ensures ∙ w.if-same_place.false))
-    ]
-
-pub returns : goal.returns
-returns c = all_passed c.args.waits.now _ _ _ _ (drop_all _ _ c.loop-wait-test.false) c.loop-wait.invariant
+pub loop-waiter-preserved : goal.loop-waiter-preserved
+loop-waiter-preserved c =
+    let over = c.loop-waiter.invariant.kept.over _ c.requires.over in
+    record {
+      kept = rw c.in-Some.ensures.taken (one_taken c.args.marks.now c.loop-waiter.marks c.in-Some.waiter c.set.new.self
+          c.loop-waiter.invariant.kept (omega (arith, c.in-Some.ensures.below, over.waits, over.many))
+          c.set.ensures.here c.set.ensures.kept c.set.ensures.count);
+      wanted = c.loop-waiter.invariant.wanted;
+    }

@@ -1,6 +1,13 @@
-use Rattle.std.proofs.Common.{drop}
-use Rattle.smx_config.proofs.WakeLemmas.{ArePassed}
+use Rattle.std.proofs.Common.{◌≡◌}
+use Rattle.smx_queues.specs.Rings.{ring_count}
+use Rattle.smx_config.specs.Marking.{AreKept}
 use Rattle.smx_config.proofs.waking.mark_waiters.Given as goal
 
-abbrev pub invariant-loop-wait : goal.invariant-loop-wait
-invariant-loop-wait l = ArePassed l.waits (drop l.wait-index l.wait-items) l.place l.initial.run l.run
+abbrev pub decreases-loop-waiter : goal.decreases-loop-waiter
+decreases-loop-waiter l = ring_count l.marks.waits
+
+abbrev pub invariant-loop-waiter : goal.invariant-loop-waiter
+invariant-loop-waiter l = record {
+  kept : AreKept l.initial.marks l.marks;
+  wanted : l.marks.wanted ≡ l.initial.marks.wanted;
+}

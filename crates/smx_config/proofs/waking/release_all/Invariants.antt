@@ -1,10 +1,9 @@
-use Rattle.std.proofs.Common.{length}
-use Rattle.smx_config.specs.Marking.{IsReleased}
-use Rattle.smx_config.proofs.WakeLemmas.{unwanted}
+use Rattle.smx_queues.specs.Bits.{bit_count}
+use Rattle.smx_config.specs.Marking.{AreKept}
 use Rattle.smx_config.proofs.waking.release_all.Given as goal
 
-abbrev pub decreases-loop-place : goal.decreases-loop-place
-decreases-loop-place l = length l.marks.wanted.marked
+abbrev pub decreases-loop-n : goal.decreases-loop-n
+decreases-loop-n l = bit_count l.marks.wanted
 
-abbrev pub invariant-loop-place : goal.invariant-loop-place
-invariant-loop-place l = IsReleased l.tables.configuration (unwanted l.marks) l.initial.marks l.marks
+abbrev pub invariant-loop-n : goal.invariant-loop-n
+invariant-loop-n l = AreKept l.initial.marks l.marks

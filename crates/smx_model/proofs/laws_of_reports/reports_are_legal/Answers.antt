@@ -13,5 +13,11 @@ returns-clause-holds c programs r h = h.holds
 pub returns-clause-shown : goal.returns-clause-shown
 returns-clause-shown c programs r h = h.shown
 
+pub returns-clause-lawful : goal.returns-clause-lawful
+returns-clause-lawful c programs r h = h.lawful
+
+pub returns-clause-drops : goal.returns-clause-drops
+returns-clause-drops c programs r h = h.drops
+
 pub returns-clause-enough : goal.returns-clause-enough
 returns-clause-enough c = report_of

@@ -34,7 +34,7 @@ returns-clause-not_those_before_alone c h = absurd (cc (h three apart third_drop
 pub returns-clause-not_another_reply : goal.returns-clause-not_another_reply
 returns-clause-not_another_reply c h = absurd (cc (h three apart third_dropped))
 
--- where two had one serial, it would be dropped, and left too
+-- if two messages had the same serial, it would be both dropped and left
 pub returns-clause-nothing_of_one_serial_twice : goal.returns-clause-nothing_of_one_serial_twice
 returns-clause-nothing_of_one_serial_twice c = λ old differ h.
     let told : 2 ∷ [] ≡ serials_that_left old (second ∷ []) =

@@ -18,11 +18,11 @@ pub returns-clause-not_forgotten : goal.returns-clause-not_forgotten
 returns-clause-not_forgotten c h =
     let e : 0 ≡ 1 = as_often _ _ _ (h three third_dropped) 3 in absurd (omega (arith, e))
 
--- a message with the first one's serial, at another place
+-- a message with the serial of the first one, at another place
 abbrev elsewhere : QueuedMessage
 elsewhere = message 1 (at 1 side.Read)
 
--- the minor of the message that stands first
+-- the minor of the first message of a list, or 1
 abbrev leading : List QueuedMessage → ℕ
 leading [] = 1
 leading (m ∷ ms) = m.place.stream.minor

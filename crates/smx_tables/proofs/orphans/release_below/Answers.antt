@@ -1,19 +1,16 @@
 use Rattle.std.proofs.Common.{take, not, ◌++◌, ◌∷◌, [], length, length-append, refl, sym, ap, subst, ◌∙◌, arith}
 use Rattle.std.proofs.lemmas.Bool.{and_parts}
 use Rattle.smx_model.specs.Configuration.{same_stream}
-use Rattle.smx_model.specs.Standing.{is_persistent}
 use Rattle.smx_model.proofs.TestLemmas.{any_push}
-use Rattle.smx_links.specs.LinkLists.{ordinary_of}
 use Rattle.smx_tables.specs.ExistingStreams.{is_loose}
 use Rattle.smx_tables.specs.TouchedStreams.{is_watched, AreReleased}
 use Rattle.smx_tables.proofs.HungLemmas.{left_twice, none_went, there_before}
 use Rattle.smx_tables.proofs.OrphanIdLemmas.{one_released}
 use Rattle.smx_tables.proofs.ReleaseLemmas.{less_this, loose_held, releases_this}
-use Rattle.smx_tables.proofs.LinkWalkLemmas.{among_all, link_at, one_at}
+use Rattle.smx_tables.proofs.LinkWalkLemmas.{link_at, one_at}
 use Rattle.smx_tables.proofs.TouchLemmas.{still_touched}
 use Rattle.smx_tables.proofs.WatchLemmas.{all_at, all_in_all, all_more, all_watch_on, listed_last, none_by}
-use Rattle.smx_tables.proofs.WatchLemmas.{released_is_watched, still_listed_before, watched_in_all}
-use Rattle.smx_tables.proofs.WatchLemmas.{watched_less}
+use Rattle.smx_tables.proofs.WatchLemmas.{released_is_watched, still_listed_before, watched_less}
 use Rattle.smx_tables.proofs.orphans.release_below.Goals as goal
 use Rattle.smx_tables.proofs.orphans.release_below.Goals.{then-is_loose_by, else-is_loose_by}
 
@@ -30,31 +27,31 @@ returns-then-not-may_have_loose-clause-hungs c = none_went c.args.streams.now c.
 
 pub release-gone-requires : goal.release-gone-requires
 release-gone-requires c =
-    let link = link_at c.ordinary-link-items.result.now c.loop-link.link-index in
+    let link = link_at c.links-link-items.result.now c.loop-link.link-index in
     loose_held c.loop-link.streams link
     (and_parts (same_stream link.ctl c.args.ctl) (is_loose c.loop-link.streams link)
     (sym c.is_loose_by.ensures ∙ c.if-is_loose_by.true)).1
 
 pub push_reserved-requires : goal.push_reserved-requires
 push_reserved-requires c =
-    let link = link_at c.ordinary-link-items.result.now c.loop-link.link-index in
+    let link = link_at c.links-link-items.result.now c.loop-link.link-index in
     let loose = (and_parts (same_stream link.ctl c.args.ctl)
     (is_loose c.loop-link.streams link) (sym c.is_loose_by.ensures ∙ c.if-is_loose_by.true)).1 in
-    let less = less_this (ordinary_of c.args.links.now.links) c.loop-link.link-index link c.loop-link.streams
+    let less = less_this c.args.links.now.links c.loop-link.link-index link c.loop-link.streams
     c.release-gone.new.self
-    (one_at (ordinary_of c.args.links.now.links) c.ordinary-link-items.result.now c.loop-link.link-index
-    c.ordinary-link-items.ensures (omega arith)) loose c.release-gone.ensures.rest in
+    (one_at c.args.links.now.links c.links-link-items.result.now c.loop-link.link-index
+    c.links-link-items.ensures (omega arith)) loose c.release-gone.ensures.rest in
     omega (arith, less, c.loop-link.invariant.enough)
 
 pub push_reserved-requires-then-is_loose_by : goal.push_reserved-requires-then-is_loose_by
 push_reserved-requires-then-is_loose_by c =
-    let link = link_at c.ordinary-link-items.result.now c.loop-link.link-index in
+    let link = link_at c.links-link-items.result.now c.loop-link.link-index in
     let loose = (and_parts (same_stream link.ctl c.args.ctl)
     (is_loose c.loop-link.streams link) (sym c.is_loose_by.ensures ∙ c.if-is_loose_by.true)).1 in
-    let less = less_this (ordinary_of c.args.links.now.links) c.loop-link.link-index link c.loop-link.streams
+    let less = less_this c.args.links.now.links c.loop-link.link-index link c.loop-link.streams
     c.release-gone.new.self
-    (one_at (ordinary_of c.args.links.now.links) c.ordinary-link-items.result.now c.loop-link.link-index
-    c.ordinary-link-items.ensures (omega arith)) loose c.release-gone.ensures.rest in
+    (one_at c.args.links.now.links c.links-link-items.result.now c.loop-link.link-index
+    c.links-link-items.ensures (omega arith)) loose c.release-gone.ensures.rest in
     omega (arith, less, c.loop-link.invariant.gone.enough)
 
 pub loop-link-init : goal.loop-link-init
@@ -74,15 +71,14 @@ loop-link-init c = record {
 
 pub loop-link-preserved : goal.loop-link-preserved
 loop-link-preserved c =
-    let link = link_at c.ordinary-link-items.result.now c.loop-link.link-index in
+    let link = link_at c.links-link-items.result.now c.loop-link.link-index in
     elim c.if-is_loose_by.branch [
       | then-is_loose_by w ↦
           let loose = (and_parts (same_stream link.ctl c.args.ctl)
           (is_loose c.loop-link.streams link) (sym c.is_loose_by.ensures ∙ w.if-is_loose_by.true)).1 in
-          let at = one_at (ordinary_of c.args.links.now.links) c.ordinary-link-items.result.now c.loop-link.link-index
-          c.ordinary-link-items.ensures (omega arith) in
-          let all = among_all (λ l. not (is_persistent l)) c.args.links.now.links c.loop-link.link-index link at in
-          let less = less_this (ordinary_of c.args.links.now.links) c.loop-link.link-index link c.loop-link.streams
+          let at = one_at c.args.links.now.links c.links-link-items.result.now c.loop-link.link-index
+          c.links-link-items.ensures (omega arith) in
+          let less = less_this c.args.links.now.links c.loop-link.link-index link c.loop-link.streams
           w.release-gone.new.self at loose w.release-gone.ensures.rest in
           let pushed = w.push_reserved.ensures.items in
           let longer = ap length pushed in
@@ -98,8 +94,8 @@ loop-link-preserved c =
             there = λ x h. c.loop-link.invariant.there x
                 (there_before c.loop-link.streams w.release-gone.new.self link.lower x _
                 w.release-gone.ensures.rest (omega arith) h);
-            releasing = λ n. releases_this c.args.links.now.links n all.0 link c.loop-link.streams
-                w.release-gone.new.self c.is_sound.ensures.sound.lowers all.1 loose w.release-gone.ensures.rest
+            releasing = λ n. releases_this c.args.links.now.links n c.loop-link.link-index link c.loop-link.streams
+                w.release-gone.new.self c.is_sound.ensures.sound.lowers at loose w.release-gone.ensures.rest
                 (c.loop-link.invariant.releasing n);
             all = rw pushed (all_watch_on c.loop-link.streams w.release-gone.new.self link.lower
                 (c.loop-link.touched.items ++ c.args.ctl ∷ [])
@@ -110,10 +106,10 @@ loop-link-preserved c =
                 (listed_last c.loop-link.touched.items link.lower)) c.loop-link.invariant.all);
             so_far = rw pushed
                 (all_more (is_watched w.release-gone.new.self (c.loop-link.touched.items ++ link.lower ∷ []))
-                (ordinary_of c.args.links.now.links) c.loop-link.link-index link at
+                c.args.links.now.links c.loop-link.link-index link at
                 (all_watch_on c.loop-link.streams w.release-gone.new.self link.lower c.loop-link.touched.items
                 (c.loop-link.touched.items ++ link.lower ∷ [])
-                (take c.loop-link.link-index (ordinary_of c.args.links.now.links)) w.release-gone.ensures.rest
+                (take c.loop-link.link-index c.args.links.now.links) w.release-gone.ensures.rest
                 (λ x. any_push (same_stream x) c.loop-link.touched.items link.lower)
                 (listed_last c.loop-link.touched.items link.lower) c.loop-link.invariant.so_far)
                 (released_is_watched c.args.links.now.links c.loop-link.streams w.release-gone.new.self
@@ -129,15 +125,14 @@ loop-link-preserved c =
                 (AreReleased c.args.links.now.links w.release-gone.new.self
                 w.push_reserved-then-is_loose_by.new.self.items)
                 (sym w.push_reserved-then-is_loose_by.ensures.capacity)
-                (one_released c.args.links.now.links all.0 _ link c.loop-link.streams w.release-gone.new.self
-                c.loop-link.gone.items w.push_reserved-then-is_loose_by.new.self.items c.is_sound.ensures.sound.lowers
-                all.1 loose (c.loop-link.invariant.releasing 0) w.release-gone.ensures.rest
+                (one_released c.args.links.now.links c.loop-link.link-index _ link c.loop-link.streams
+                w.release-gone.new.self c.loop-link.gone.items w.push_reserved-then-is_loose_by.new.self.items c.is_sound.ensures.sound.lowers
+                at loose (c.loop-link.invariant.releasing 0) w.release-gone.ensures.rest
                 w.push_reserved-then-is_loose_by.ensures.items less c.loop-link.invariant.gone);
           })
       | else-is_loose_by w ↦
-          let at = one_at (ordinary_of c.args.links.now.links) c.ordinary-link-items.result.now c.loop-link.link-index
-          c.ordinary-link-items.ensures (omega arith) in
-          let all = among_all (λ l. not (is_persistent l)) c.args.links.now.links c.loop-link.link-index link at in
+          let at = one_at c.args.links.now.links c.links-link-items.result.now c.loop-link.link-index
+          c.links-link-items.ensures (omega arith) in
           rw (w.streams-is, w.touched-is, w.gone-is) (record {
             fds = c.loop-link.invariant.fds;
             minors = c.loop-link.invariant.minors;
@@ -146,12 +141,12 @@ loop-link-preserved c =
             releasing = c.loop-link.invariant.releasing;
             all = c.loop-link.invariant.all;
             so_far = all_more (is_watched c.loop-link.streams c.loop-link.touched.items)
-                (ordinary_of c.args.links.now.links) c.loop-link.link-index link at c.loop-link.invariant.so_far
+                c.args.links.now.links c.loop-link.link-index link at c.loop-link.invariant.so_far
                 (watched_less c.loop-link.streams c.loop-link.touched.items c.args.ctl link
                 (sym c.is_loose_by.ensures ∙ w.if-is_loose_by.false)
                 (all_at (is_watched c.loop-link.streams (c.loop-link.touched.items ++ c.args.ctl ∷ []))
                 c.args.links.now.links
-                all.0 link all.1 c.loop-link.invariant.all));
+                c.loop-link.link-index link at c.loop-link.invariant.all));
             enough = c.loop-link.invariant.enough;
             less = c.loop-link.invariant.less;
             touched = c.loop-link.invariant.touched;
@@ -162,8 +157,7 @@ loop-link-preserved c =
 pub returns-clause-cascade : goal.returns-clause-cascade
 returns-clause-cascade c = record {
   releasing = c.loop-link.invariant.releasing;
-  watched = watched_in_all c.loop-link.streams c.loop-link.touched.items c.args.links.now.links
-      (all_in_all (is_watched c.loop-link.streams c.loop-link.touched.items) (ordinary_of c.args.links.now.links)
-      c.loop-link.link-index (omega (arith, ap length c.ordinary-link-items.ensures)) c.loop-link.invariant.so_far);
+  watched = all_in_all (is_watched c.loop-link.streams c.loop-link.touched.items) c.args.links.now.links
+      c.loop-link.link-index (omega (arith, ap length c.links-link-items.ensures)) c.loop-link.invariant.so_far;
   enough = c.loop-link.invariant.enough;
 }

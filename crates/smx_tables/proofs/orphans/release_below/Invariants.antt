@@ -2,7 +2,6 @@ use Rattle.std.proofs.Common.{◌≡◌, ℕ, ◌+◌, ◌≤◌, ◌++◌, ◌�
 use Rattle.std.specs.Prelude.{vec_capacity}
 use Rattle.std.specs.List.{list_all}
 use Rattle.smx_types.specs.declared.stream.StreamId.{StreamId}
-use Rattle.smx_links.specs.LinkLists.{ordinary_of}
 use Rattle.smx_streams.specs.StreamTables.{LeavesHungs, exists as is_there}
 use Rattle.smx_tables.specs.ExistingStreams.{holds_below, IsReleasing}
 use Rattle.smx_tables.specs.TouchedStreams.{is_there_or_touched, is_watched, AreReleased}
@@ -16,10 +15,10 @@ invariant-loop-link l = record {
   there : (s : StreamId) → is_there l.streams s ≡ true → is_there l.initial.streams s ≡ true;
   releasing : (climbs : ℕ) → IsReleasing l.links.links climbs l.streams;
   all : list_all (is_watched l.streams (l.touched.items ++ l.ctl ∷ [])) l.links.links ≡ true;
-  so_far : list_all (is_watched l.streams l.touched.items) (take l.link-index (ordinary_of l.links.links)) ≡ true;
-  enough : length l.touched.items + holds_below (ordinary_of l.links.links) l.streams ≤ vec_capacity l.touched;
-  less : length l.touched.items + holds_below (ordinary_of l.links.links) l.streams
-      ≤ length l.initial.touched.items + holds_below (ordinary_of l.links.links) l.initial.streams;
+  so_far : list_all (is_watched l.streams l.touched.items) (take l.link-index l.links.links) ≡ true;
+  enough : length l.touched.items + holds_below l.links.links l.streams ≤ vec_capacity l.touched;
+  less : length l.touched.items + holds_below l.links.links l.streams
+      ≤ length l.initial.touched.items + holds_below l.links.links l.initial.streams;
   touched : (s : StreamId) → is_there_or_touched l.initial.streams l.initial.touched.items s ≡ true
       → is_there_or_touched l.streams l.touched.items s ≡ true;
   gone : AreReleased l.links.links l.streams l.gone.items (vec_capacity l.gone);

@@ -3,14 +3,13 @@ use Rattle.std.specs.List.{list_any}
 use Rattle.std.specs.Prelude.{vec_capacity}
 use Rattle.smx_types.specs.declared.stream.StreamId.{StreamId}
 use Rattle.smx_model.specs.Configuration.{same_stream}
-use Rattle.smx_links.specs.LinkLists.{ordinary_of}
 use Rattle.smx_streams.specs.StreamTables.{LeavesHungs}
 use Rattle.smx_tables.specs.ExistingStreams.{holds_below}
 use Rattle.smx_tables.specs.TouchedStreams.{is_there_or_touched, AreReleased, IsCascade}
 use Rattle.smx_tables.proofs.orphans.release_orphans.Given as goal
 
 abbrev pub decreases-loop-stream : goal.decreases-loop-stream
-decreases-loop-stream l = length l.touched.items + holds_below (ordinary_of l.links.links) l.streams
+decreases-loop-stream l = length l.touched.items + holds_below l.links.links l.streams
 
 abbrev pub invariant-loop-stream : goal.invariant-loop-stream
 invariant-loop-stream l = record {
@@ -18,7 +17,7 @@ invariant-loop-stream l = record {
   minors : l.streams.minors ≡ l.initial.streams.minors;
   hungs : LeavesHungs l.initial.streams l.streams;
   cascade : IsCascade l.links.links l.streams l.touched.items (vec_capacity l.touched);
-  room : length l.seen.items + (length l.touched.items + holds_below (ordinary_of l.links.links) l.streams)
+  room : length l.seen.items + (length l.touched.items + holds_below l.links.links l.streams)
       ≤ vec_capacity l.seen;
   seen : (s : StreamId) → is_there_or_touched l.initial.streams l.initial.touched.items s ≡ true
       → (is_there_or_touched l.streams l.touched.items s || list_any (same_stream s) l.seen.items) ≡ true;

@@ -1,7 +1,7 @@
 use Rattle.std.proofs.Common.{◌∙◌, refl, not}
-use Rattle.smx_model.specs.Standing.{is_persistent}
 use Rattle.smx_links.specs.LinkLists.{is_one_of}
-use Rattle.smx_tables.proofs.RemovalLemmas.{few_kept, ids_in_order}
+use Rattle.smx_tables.proofs.LengthLemmas.{fewer}
+use Rattle.smx_tables.proofs.RemovalLemmas.{ids_in_order}
 use Rattle.smx_tables.proofs.removal.remove_links.Goals as goal
 
 pub returns-clause-value : goal.returns-clause-value
@@ -16,4 +16,4 @@ returns-clause-kept c = record {
 
 pub returns-clause-fewer : goal.returns-clause-fewer
 returns-clause-fewer c = rw c.drop_links.ensures.links
-    (few_kept (λ l. not (is_persistent l)) (λ l. not (is_one_of c.args.gone.now l)) c.args.lists.now.links.links)
+    (fewer (λ l. not (is_one_of c.args.gone.now l)) c.args.lists.now.links.links)

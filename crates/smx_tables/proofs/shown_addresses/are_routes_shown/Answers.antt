@@ -10,7 +10,7 @@ use Rattle.smx_tables.proofs.LineOrderLemmas.{line_of_none, line_too_late, no_li
 use Rattle.smx_tables.proofs.shown_addresses.are_routes_shown.Goals as goal
 use Rattle.smx_tables.proofs.shown_addresses.are_routes_shown.Goals.{After-is_sound}
 
--- once it is known whether each line shows one, in order
+-- if there are as many lines as routes, they are the lines of the routes exactly if each shows one, in order
 told : (c : After-is_sound) (r : Bool)
     → are_shown_in_order (shown_route c.args.drivers.now c.args.routes.now) route_before None c.args.lines.now ≡ r
     → length c.args.routes.now ≡ length c.args.lines.now

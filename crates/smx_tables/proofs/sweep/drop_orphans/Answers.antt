@@ -10,14 +10,14 @@ use Rattle.smx_tables.specs.ExistingStreams.{AreHeld, is_held}
 use Rattle.smx_tables.specs.ListedLinks.{is_listed, is_orphaned, AreIdsOf}
 use Rattle.smx_tables.specs.ModelOfLists.{configuration_of}
 use Rattle.smx_tables.specs.TouchedStreams.{is_there_or_touched}
-use Rattle.smx_tables.proofs.OrphanLemmas.{held_is_left, left_is_linked, left_links, released_are_orphaned}
+use Rattle.smx_tables.proofs.OrphanLemmas.{held_is_left, kept_alike, left_is_linked, left_links}
+use Rattle.smx_tables.proofs.OrphanLemmas.{released_are_orphaned}
 use Rattle.smx_tables.proofs.OrphanIdLemmas.{none_released_yet}
 use Rattle.smx_tables.proofs.TouchLemmas.{cascade_at_first}
 use Rattle.smx_tables.proofs.sweep.drop_orphans.Goals as goal
 use Rattle.smx_tables.proofs.sweep.drop_orphans.Goals.{After-drop_links}
-use Rattle.smx_links.proofs.PairLemmas.{kept_alike}
 
--- the links are left whose lower streams are held still
+-- the links that are left are those whose lower streams are still held
 left : (c : After-drop_links) → c.drop_links.new.lists.links.links
     ≡ filter (is_held c.release_orphans.new.streams) c.args.lists.now.links.links
 left c =
@@ -26,7 +26,7 @@ left c =
     c.drop_links.ensures.links ∙ left_links links _ t c.is_sound.ensures.ids.rise
     (subst (AreIdsOf (λ l. not (is_held t l)) links) (sym c.deref.ensures.value) c.release_orphans.ensures.gone.same)
 
--- each stream that is below one of them has a hold
+-- each stream below a link that is left is held
 held : (c : After-drop_links) → AreHeld c.drop_links.new.lists.links.links c.drop_links.new.lists.streams
 held c =
     let links = c.args.lists.now.links.links in

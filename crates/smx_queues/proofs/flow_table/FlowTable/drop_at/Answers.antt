@@ -6,12 +6,11 @@ use Rattle.smx_queues.proofs.flow_table.FlowTable.drop_at.Goals as goal
 
 pub add_serials-requires-clause-place : goal.add_serials-requires-clause-place
 add_serials-requires-clause-place c =
-    rw c.queues.ensures (place_there _ _ _ _ c.self.invariant c.in-Some.ensures.found)
+    (place_there _ _ _ _ c.self.invariant c.in-Some.ensures.found)
 
 pub add_serials-requires-clause-room : goal.add_serials-requires-clause-room
-add_serials-requires-clause-room c = rw c.queues.ensures (
+add_serials-requires-clause-room c =
     omega (arith, c.requires, ap length (queue_is _ _ _ _ _ _ c.self.invariant c.self.view_is c.in-Some.ensures.found))
-    )
 
 pub clear-requires : goal.clear-requires
 clear-requires c = place_there _ _ _ _ c.self.invariant c.in-Some.ensures.found
@@ -25,7 +24,7 @@ returns-in-Some-clause-gone c =
     (drop_is _ _ _ _ _ _ _ c.self.invariant c.self.view_is c.in-Some.ensures.found c.clear.ensures.cleared).is _
 
 pub returns-in-Some-clause-serials : goal.returns-in-Some-clause-serials
-returns-in-Some-clause-serials c = rw c.queues.ensures at c.add_serials.ensures.added
+returns-in-Some-clause-serials c = c.add_serials.ensures.added
     ∙ ap (λ (ms : List Message). c.args.dropped.now.items ++ map (λ m. m.serial) ms)
     (queue_is _ _ _ _ _ _ c.self.invariant c.self.view_is c.in-Some.ensures.found)
 

@@ -17,4 +17,4 @@ pub returns : goal.returns
 returns c =
     messages_step _ _ _ _ _ _ _ _ _ _ c.self.invariant c.self.view_is c.in_default.ensures.steps.0 c.in_ok-p.ensures
     c.at-self-inside.ensures.place
-    (sym (rw c.queues.ensures at c.messages-self-inside.ensures) ∙ c.in_ok-message.ensures.steps)
+    (sym (c.messages-self-inside.ensures) ∙ c.in_ok-message.ensures.steps)

@@ -11,7 +11,7 @@ use Rattle.smx_queues.proofs.CopyLemmas.{copied_is, there_is}
 use Rattle.smx_queues.proofs.queues.Queues.add_copy.Goals as goal
 use Rattle.smx_queues.proofs.queues.Queues.add_copy.Goals.{In_ok-push, After-index_mut}
 
--- a chain without nodes has come behind the others
+-- a chain without nodes was appended
 pushed : (c : In_ok-push) → IsSeen c.self.inside.nodes c.push.new.self.items
     (c.args.self.now.queues ++ slot (chain_to_fill c.index-chain.result.now)
     (bare_queue (chain_to_fill c.index-chain.result.now)) ∷ [])
@@ -21,7 +21,7 @@ pushed c =
     (to_fill_is_bare _ _ c.others.invariant _ _
     (omega (arith, as_many c.others.inside.nodes _ _ _ c.others.view_is, c.requires)) c.index-chain.ensures))
 
--- where the others have the place, it has come with its messages and its mark
+-- if the other table has the place, it was copied with its messages and its mark
 copied : (c : After-index_mut) → IsSeen c.self-then-chain.inside.nodes
     (set c.self-then-chain.inside.chains.items c.len-to.result
     (record c.index_mut.result.now { full = c.index-chain.result.now.full }))

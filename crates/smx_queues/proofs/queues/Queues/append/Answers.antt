@@ -8,12 +8,12 @@ use Rattle.smx_queues.proofs.SeenMessageLemmas.{seen_put}
 use Rattle.smx_queues.proofs.queues.Queues.append.Goals as goal
 use Rattle.smx_queues.proofs.queues.Queues.append.Goals.{After-index-chain, After-add_last}
 
--- the chain that was read is that of the place
+-- the chain that was read is the chain of the place
 at : (c : After-index-chain) → IsAt c.self.invariant.own c.self.inside.nodes c.self.inside.chains.items
     c.args.self.now.queues c.args.p c.index-chain.result.now
 at c = place_at _ _ c.self.invariant _ (ap queues_of c.self.view_is) _ c.requires.place _ c.index-chain.ensures
 
--- the message has come behind the others of its place
+-- the message was added at the end of the place's messages
 put : (c : After-add_last) → IsSeen c.follow.new.nodes
     (set c.self.inside.chains.items c.args.p c.add_last.new.self)
     (set c.args.self.now.queues c.args.p

@@ -6,9 +6,9 @@ pub loop-message-init : goal.loop-message-init
 loop-message-init c = clearing_starts _ _ c.requires
 
 pub loop-message-preserved : goal.loop-message-preserved
-loop-message-preserved c = rw c.keep_bytes.ensures
-    (clearing_goes_on _ _ _ _ _ (place_below _ _ c.requires) c.loop-message.invariant c.in-Some.ensures.taken
-    c.in-Some.ensures.left c.in-Some.ensures.spare)
+loop-message-preserved c =
+    clearing_goes_on _ _ _ _ _ (place_below _ _ c.requires) c.loop-message.invariant c.in-Some.ensures.taken
+    c.in-Some.ensures.left c.in-Some.ensures.spare
 
 pub returns-clause-cleared : goal.returns-clause-cleared
 returns-clause-cleared c =

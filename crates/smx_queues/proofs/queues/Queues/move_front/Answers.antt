@@ -12,16 +12,16 @@ use Rattle.smx_queues.proofs.queues.Queues.move_front.Goals as goal
 use Rattle.smx_queues.proofs.queues.Queues.move_front.Goals.{After-index-source, After-index_mut, After-index-target}
 use Rattle.smx_queues.proofs.queues.Queues.move_front.Goals.{After-index_mut-2, After-add_last}
 
--- the chain that was read first is that of the place from which the message goes
+-- the chain that was read first is the chain of the place that the message leaves
 from : (c : After-index-source) → IsAt c.self.invariant.own c.self.inside.nodes c.self.inside.chains.items
     c.args.self.now.queues c.args.from c.index-source.result.now
 from c = place_at _ _ c.self.invariant _ (ap queues_of c.self.view_is) _ c.requires.from _ c.index-source.ensures
 
--- the chain of the place from which the message goes has nodes
+-- the chain of the place that the message leaves has nodes
 some : (c : After-index-source) → 0 < c.index-source.result.now.count
 some c = filled _ _ _ _ _ (from c).queue c.requires.some
 
--- the chain of the place from which the message goes has a first node
+-- the chain of the place that the message leaves has a first node
 first : (c : After-index-source) → IsFirst c.self.inside.nodes c.index-source.result.now
     (queue_at c.args.self.now.queues c.args.from)
 first c = first_of _ _ _ _ _ (from c).queue (some c)
@@ -33,7 +33,7 @@ same_source c =
     c.index-source.ensures in
     read_twice _ _ _ _ there.below c.index-source.ensures c.index_mut.ensures.value
 
--- the chain that was read second is that of the place to which the message goes
+-- the chain that was read second is the chain of the place at which the message arrives
 to : (c : After-index-target) → IsAt c.self.invariant.own c.self.inside.nodes c.self.inside.chains.items
     c.args.self.now.queues c.args.to c.index-target.result.now
 to c = place_at _ _ c.self.invariant _ (ap queues_of c.self.view_is) _ c.requires.to _
@@ -47,7 +47,7 @@ same_target c =
     read_twice _ _ _ _ (second_below c.self.inside.chains.items c.args.from c.args.to _ there.below)
     c.index-target.ensures c.index_mut-2.ensures.value
 
--- the message has gone from the one place to the other
+-- the message has moved from one place to the other
 moved : (c : After-add_last) → 0 < c.index-source.result.now.count
     → c.index_mut.result.now ≡ c.index-source.result.now → c.index_mut-2.result.now ≡ c.index-target.result.now
     → IsSeen c.follow.new.nodes

@@ -8,12 +8,12 @@ use Rattle.smx_queues.proofs.SeenMessageLemmas.{seen_take}
 use Rattle.smx_queues.proofs.queues.Queues.take.Goals as goal
 use Rattle.smx_queues.proofs.queues.Queues.take.Goals.{After-index-chain, After-drop_first}
 
--- the chain that was read is that of the place
+-- the chain that was read is the chain of the place
 at : (c : After-index-chain) → IsAt c.self.invariant.own c.self.inside.nodes c.self.inside.chains.items
     c.args.self.now.queues c.args.p c.index-chain.result.now
 at c = place_at _ _ c.self.invariant _ (ap queues_of c.self.view_is) _ c.requires _ c.index-chain.ensures
 
--- the message at the front has left
+-- the first message has left
 left : (c : After-drop_first) → IsSeen c.remove-node.new.self
     (set c.self.inside.chains.items c.args.p c.drop_first.new.self)
     (set c.args.self.now.queues c.args.p (Some (without_front (queue_at c.args.self.now.queues c.args.p))))

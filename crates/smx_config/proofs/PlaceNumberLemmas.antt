@@ -1,0 +1,58 @@
+-- Places and their numbers.
+use Rattle.std.proofs.Common.{◌≡◌, ℕ, zero, suc, ◌<◌, true, List, [], ◌∷◌, length, Option, None, Some}
+use Rattle.std.proofs.Common.{refl, sym, ap, ◌∙◌, subst, arith}
+use Rattle.std.specs.Prelude.{IfSome, IsSome, slice_get}
+use Rattle.std.proofs.lemmas.Option.{same_Some, slice_get_within}
+use Rattle.smx_types.specs.declared.driver.DriverSpec.{DriverSpec}
+use Rattle.smx_types.specs.declared.stream.Place.{Place}
+use Rattle.smx_model.specs.Configuration.{same_place}
+use Rattle.smx_model.specs.KnownStreams.{IsKnown}
+use Rattle.smx_queues.specs.PlaceLists.{places_of}
+use Rattle.smx_queues.proofs.PlaceLemmas.{place_is}
+use Rattle.smx_queues.proofs.PlacesOfLemmas.{number_known, same_number}
+use Rattle.smx_config.specs.Marking.{IsAt, IsNumber}
+
+-- the number of a place is one
+pub at_number : (drivers : List DriverSpec) (n : ℕ) (p : Place) → IsAt drivers n p → IsNumber drivers n
+at_number drivers n p at = slice_get_within (places_of drivers) n p at
+
+-- at each number below the length of a list there is something
+place_in : (places : List Place) (n : ℕ) → n < length places → (p : Place) × (slice_get places n ≡ Some p)
+place_in [] n lt = absurd (omega arith)
+place_in (p ∷ places) zero lt = (p, refl)
+place_in (p ∷ places) (suc n) lt = place_in places n (omega arith)
+
+-- each number is that of a place
+pub place_of_number : (drivers : List DriverSpec) (n : ℕ) → IsNumber drivers n → (p : Place) × (IsAt drivers n p)
+place_of_number drivers n lt = place_in (places_of drivers) n lt
+
+-- a number has one place
+pub one_place : (drivers : List DriverSpec) (m n : ℕ) (p q : Place) → IsAt drivers m p → IsAt drivers n q
+    → m ≡ n → p ≡ q
+one_place drivers m n p q at there same =
+    same_Some p q (sym at ∙ (ap (slice_get (places_of drivers)) same ∙ there))
+
+-- places that are the same have one number
+pub one_number : (drivers : List DriverSpec) (m n : ℕ) (p q : Place) → IsAt drivers m p → IsAt drivers n q
+    → same_place p q ≡ true → m ≡ n
+one_number drivers m n p q at there same =
+    same_number drivers m n p at (subst (IsAt drivers n) (sym (place_is p q same)) there)
+
+-- a number that was found for a place is one
+pub found_number : (drivers : List DriverSpec) (p : Place) (r : Option ℕ) → IfSome r (λ n. IsAt drivers n p)
+    → IfSome r (IsNumber drivers)
+found_number drivers p None found = tt
+found_number drivers p (Some n) found = at_number drivers n p found
+
+-- a place for which no number was found has none
+pub none_found : (drivers : List DriverSpec) (p : Place) (r : Option ℕ) → r ≡ None
+    → (IsKnown drivers p.stream → IsSome r) → (n : ℕ) → IsAt drivers n p → ⊥
+none_found drivers p r is known n at = nothing r is (known (number_known drivers n p at)) where
+  nothing : (o : Option ℕ) → o ≡ None → IsSome o → ⊥
+  nothing None e some = absurd cc
+  nothing (Some m) e some = absurd cc
+
+-- a place that has no number is none of those that have one
+pub is_another : (drivers : List DriverSpec) (n : ℕ) (p q : Place) → ((m : ℕ) → IsAt drivers m p → ⊥) → IsAt drivers n q
+    → same_place p q ≡ true → ⊥
+is_another drivers n p q none there same = none n (subst (IsAt drivers n) (sym (place_is p q same)) there)

@@ -1,0 +1,12 @@
+use Rattle.smx_config.proofs.PlaceNumberLemmas.{none_found}
+use Rattle.smx_config.proofs.RunMarkLemmas.{none_there, one_marked}
+use Rattle.smx_config.proofs.waking.mark_place.Goals as goal
+
+pub returns-in-Some : goal.returns-in-Some
+returns-in-Some c = one_marked c.args.tables.now.drivers c.args.tables.now.configuration.flow c.args.place c.in-Some.n
+    c.args.run.now c.set.new.self c.in-Some.ensures.found c.set.ensures.here c.set.ensures.kept c.set.ensures.count
+
+pub returns-in_default : goal.returns-in_default
+returns-in_default c =
+    none_there c.args.tables.now.drivers c.args.tables.now.configuration.flow c.args.place c.args.run.now
+    (none_found c.args.tables.now.drivers c.args.place c.number.result c.in_default.is c.number.ensures.known)

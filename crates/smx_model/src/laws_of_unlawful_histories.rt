@@ -1,0 +1,45 @@
+//! Laws of unlawful histories, each the contract of a function that does nothing: examples that are wrong in one thing.
+
+ghost use Rattle.std.specs.Prelude.{[]};
+ghost use Rattle.smx_model.specs.LawfulHistories.{AreDropsAllowed, IsLawful, IsLawfulEnd, IsLawfulThroughout};
+ghost use Rattle.smx_model.specs.Worked.Unlawful.{below_itself, below_two, delivered_and_dropped, delivered_twice};
+ghost use Rattle.smx_model.specs.Worked.Unlawful.{doubled, drivers, dropped_by_dup, dropped_twice, end_with};
+ghost use Rattle.smx_model.specs.Worked.Unlawful.{in_a_round, lost, never_taken, one_serial, renumbered, too_early};
+
+/// No history may end with a cycle: a driver below itself, or a cycle of three drivers.
+pub fn cycles_are_unlawful()
+    ensures alone { IsLawfulEnd [] (end_with below_itself) → ⊥ }
+    ensures round { IsLawfulEnd [] (end_with in_a_round) → ⊥ }
+{}
+
+/// No history may end with a stream that is below two links.
+pub fn a_stream_below_two_links_is_unlawful()
+    ensures { IsLawfulEnd [] (end_with below_two) → ⊥ }
+{}
+
+/// A history is unlawful if it loses or duplicates a message, or delivers or drops one that was not accepted before.
+pub fn messages_lost_or_doubled_are_unlawful()
+    ensures lost { IsLawful drivers lost → ⊥ }
+    ensures doubled { IsLawful drivers doubled → ⊥ }
+    ensures delivered_twice { IsLawful drivers delivered_twice → ⊥ }
+    ensures delivered_and_dropped { IsLawful drivers delivered_and_dropped → ⊥ }
+    ensures dropped_twice { IsLawful drivers dropped_twice → ⊥ }
+    ensures renumbered { IsLawful drivers renumbered → ⊥ }
+    ensures never_taken { IsLawful drivers never_taken → ⊥ }
+{}
+
+/// A history is unlawful if it accepts two messages with the same serial.
+pub fn one_serial_for_two_is_unlawful()
+    ensures { IsLawful drivers one_serial → ⊥ }
+{}
+
+/// A history with an unlawful prefix is not lawful after each entry, even if its end is lawful.
+pub fn prefixes_count()
+    ensures end { IsLawful drivers too_early }
+    ensures throughout { IsLawfulThroughout drivers too_early → ⊥ }
+{}
+
+/// A dup may not name a dropped message.
+pub fn a_dup_drops_nothing()
+    ensures { AreDropsAllowed dropped_by_dup → ⊥ }
+{}

@@ -1,0 +1,267 @@
+-- Marks where one word changes, and how many there are.
+use Rattle.std.proofs.Common.{◌≡◌, ◌≢◌, ℕ, zero, suc, ◌+◌, ◌-◌, ◌*◌, ◌/◌, ◌%◌, ◌<◌, ◌≤◌, ◌^◌, Bool, true, false, cond}
+use Rattle.std.proofs.Common.{eqb, ◌&&◌, not, eq-eqb}
+use Rattle.std.proofs.Common.{List, length, set, get_or, refl, sym, ap, ◌∙◌, subst, arith, inl, inr, w64}
+use Rattle.std.specs.Prelude.{bit_and, bit_or}
+use Rattle.std.specs.Int.{bit_at, bit_not, trailing_zeros}
+use Rattle.std.proofs.lemmas.Bool.{cases_eq, cases_lt, false≢true, ne_eqb}
+use Rattle.std.proofs.lemmas.List.{get_or-set_other, get_or-set_same, get_or_default, get_or_past}
+use Rattle.std.proofs.lemmas.Nat.{shr-shr}
+use Rattle.std.proofs.lemmas.Nat.Bits.{bit_at-trailing_zeros, bit_at-zero, bit_at_above, bit_at_clear_other}
+use Rattle.std.proofs.lemmas.Nat.Bits.{bit_at_clear_same, bit_at_set_other, bit_at_set_same}
+use Rattle.smx_queues.specs.Bits.{AreBits, bit_of, count_below}
+
+-- the word of a number is one of the words
+pub word_below : (words : List ℕ) (n : ℕ) → n < 64 * length words → n / 64 < length words
+word_below words n below = omega arith
+
+-- a number's bit is below 64
+bit_below : (n : ℕ) → n % 64 < 64
+bit_below n = omega arith
+
+-- a number with the same word and the same bit is that number
+same_number : (m n : ℕ) → m / 64 ≡ n / 64 → m % 64 ≡ n % 64 → m ≡ n
+same_number m n word bit = omega arith
+
+-- where the word of a number is set, its bit is that of the new word
+here_is : (words : List ℕ) (n x : ℕ) → n < 64 * length words
+    → bit_of (set words (n / 64) x) n ≡ eqb (bit_at x (n % 64)) 1
+here_is words n x below = ap (λ (w : ℕ). eqb (bit_at w (n % 64)) 1)
+    (get_or-set_same words (n / 64) x 0 (word_below words n below))
+
+-- where the other bits of that word stay, all other numbers are marked as before
+others_are : (words : List ℕ) (n old x : ℕ) → n < 64 * length words → old ≡ get_or words (n / 64) old
+    → ((i : ℕ) → i < 64 → i ≢ n % 64 → bit_at x i ≡ bit_at old i) → (m : ℕ) → m ≢ n
+    → bit_of (set words (n / 64) x) m ≡ bit_of words m
+others_are words n old x below read same m differ = elim (cases_eq (m / 64) (n / 64)) [
+  | inl word ↦
+      let was : old ≡ get_or words (m / 64) 0 = read ∙ (get_or_default words (n / 64) old 0 (word_below words n below)
+      ∙ ap (λ (w : ℕ). get_or words w 0) (sym word)) in
+      let now : get_or (set words (n / 64) x) (m / 64) 0 ≡ x = ap (λ (w : ℕ). get_or (set words (n / 64) x) w 0) word
+      ∙ get_or-set_same words (n / 64) x 0 (word_below words n below) in
+      ap (λ (w : ℕ). eqb (bit_at w (m % 64)) 1) now
+      ∙ (ap (λ (b : ℕ). eqb b 1) (same (m % 64) (bit_below m) (λ bit. differ (same_number m n word bit)))
+      ∙ ap (λ (w : ℕ). eqb (bit_at w (m % 64)) 1) was)
+  | inr other ↦ ap (λ (w : ℕ). eqb (bit_at w (m % 64)) 1) (get_or-set_other words (n / 64) (m / 64) x 0 other)
+]
+
+-- ---- a mark is set
+
+pub set_here : (words : List ℕ) (n old : ℕ) → n < 64 * length words
+    → bit_of (set words (n / 64) (bit_or old (1 * 2 ^ (n % 64) % 2 ^ 64))) n ≡ true
+set_here words n old below = here_is words n (bit_or old (1 * 2 ^ (n % 64) % 2 ^ 64)) below
+    ∙ ap (λ (b : ℕ). eqb b 1) (bit_at_set_same w64 old (n % 64) (bit_below n))
+
+pub set_others : (words : List ℕ) (n old : ℕ) → n < 64 * length words → old ≡ get_or words (n / 64) old → (m : ℕ)
+    → m ≢ n → bit_of (set words (n / 64) (bit_or old (1 * 2 ^ (n % 64) % 2 ^ 64))) m ≡ bit_of words m
+set_others words n old below read = others_are words n old (bit_or old (1 * 2 ^ (n % 64) % 2 ^ 64)) below read
+    (λ i lt other. bit_at_set_other w64 old (n % 64) (bit_below n) i other)
+
+-- ---- a mark goes
+
+pub clear_here : (words : List ℕ) (n old : ℕ) → n < 64 * length words
+    → bit_of (set words (n / 64) (bit_and old (bit_not w64 (1 * 2 ^ (n % 64) % 2 ^ 64)))) n ≡ false
+clear_here words n old below = here_is words n (bit_and old (bit_not w64 (1 * 2 ^ (n % 64) % 2 ^ 64))) below
+    ∙ ap (λ (b : ℕ). eqb b 1) (bit_at_clear_same w64 old (n % 64) (bit_below n))
+
+pub clear_others : (words : List ℕ) (n old : ℕ) → n < 64 * length words → old ≡ get_or words (n / 64) old → (m : ℕ)
+    → m ≢ n → bit_of (set words (n / 64) (bit_and old (bit_not w64 (1 * 2 ^ (n % 64) % 2 ^ 64)))) m ≡ bit_of words m
+clear_others words n old below read = others_are words n old (bit_and old (bit_not w64 (1 * 2 ^ (n % 64) % 2 ^ 64)))
+    below read (λ i lt other. bit_at_clear_other w64 old (n % 64) (bit_below n) i lt other)
+
+-- where one number has no mark any more, and the others are as before, as many are marked before it
+same_below : (old new : List ℕ) (n k : ℕ) → ((m : ℕ) → m ≢ n → bit_of new m ≡ bit_of old m) → k ≤ n
+    → count_below new k ≡ count_below old k
+same_below old new n zero others le = refl
+same_below old new n (suc k) others le =
+    ap (λ (c : ℕ). c + cond (bit_of new k) 1 0) (same_below old new n k others (omega arith))
+    ∙ ap (λ (b : Bool). count_below old k + cond b 1 0) (others k (λ e. omega (arith, e, le)))
+
+-- and one less below each number behind it
+less_below : (old new : List ℕ) (n k : ℕ) → ((m : ℕ) → m ≢ n → bit_of new m ≡ bit_of old m)
+    → bit_of new n ≡ false → bit_of old n ≡ true → n < k → count_below new k < count_below old k
+less_below old new n zero others gone was lt = absurd (omega (arith, lt))
+less_below old new n (suc k) others gone was lt = elim (cases_eq k n) [
+  | inl is ↦
+      let before = same_below old new n k others (omega (arith, is)) in
+      let a : cond {A = ℕ} (bit_of new k) 1 0 ≡ 0 = ap (λ (b : Bool). cond b 1 0) (ap (bit_of new) is ∙ gone) in
+      let b : cond {A = ℕ} (bit_of old k) 1 0 ≡ 1 = ap (λ (b : Bool). cond b 1 0) (ap (bit_of old) is ∙ was) in
+      omega (arith, before, a, b)
+  | inr other ↦
+      let before = less_below old new n k others gone was (omega (arith, other, lt)) in
+      let same : cond {A = ℕ} (bit_of new k) 1 0 ≡ cond {A = ℕ} (bit_of old k) 1 0 = ap (λ (b : Bool). cond b 1 0)
+      (others k other) in
+      omega (arith, before, same)
+]
+
+-- so there are fewer marks
+pub fewer : (old new : List ℕ) (n : ℕ) → length new ≡ length old → ((m : ℕ) → m ≢ n → bit_of new m ≡ bit_of old m)
+    → bit_of new n ≡ false → n < 64 * length old → bit_of old n ≡ true
+    → count_below new (64 * length new) < count_below old (64 * length old)
+fewer old new n many others gone below was =
+    subst (λ (k : ℕ). count_below new (64 * k) < count_below old (64 * length old)) (sym many)
+    (less_below old new n (64 * length old) others gone was below)
+
+-- ---- the least mark
+
+-- in a word without marks no number is marked
+none_in : (words : List ℕ) (m : ℕ) → get_or words (m / 64) 0 ≡ 0 → bit_of words m ≡ false
+none_in words m empty = ap (λ (w : ℕ). eqb (bit_at w (m % 64)) 1) empty
+    ∙ ap (λ (b : ℕ). eqb b 1) (bit_at-zero (m % 64))
+
+-- a number of no word isn't marked
+pub none_past : (words : List ℕ) (m : ℕ) → length words ≤ m / 64 → bit_of words m ≡ false
+none_past words m past = none_in words m (get_or_past words (m / 64) 0 past)
+
+-- ---- what holds of the words after a change
+
+-- where one number is marked and the others are as before, what holds of the words holds still
+pub still_set : (first new_first count : ℕ) (words new : List ℕ) (n : ℕ) → AreBits first count words → n < count
+    → length new ≡ length words → ((m : ℕ) → m ≢ n → bit_of new m ≡ bit_of words m) → new_first ≤ first
+    → new_first ≤ n / 64 → AreBits new_first count new
+still_set first new_first count words new n h lt many others le low = record {
+  before = λ m less. others m (λ e. omega (arith, e, less, low)) ∙ h.before m (omega (arith, less, le));
+  first_in = omega (arith, le, many, h.first_in);
+  many = omega (arith, many, h.many);
+  small = omega (arith, many, h.small);
+  below = λ m t. elim (cases_eq m n) [
+    | inl is ↦ omega (arith, is, lt)
+    | inr other ↦ h.below m (sym (others m other) ∙ t)
+  ];
+}
+
+-- and so where one number is marked no more
+pub still_cleared : (first count : ℕ) (words new : List ℕ) (n : ℕ) → AreBits first count words
+    → length new ≡ length words → bit_of new n ≡ false → ((m : ℕ) → m ≢ n → bit_of new m ≡ bit_of words m)
+    → AreBits first count new
+still_cleared first count words new n h many gone others = record {
+  before = λ m less. elim (cases_eq m n) [
+    | inl is ↦ ap (bit_of new) is ∙ gone
+    | inr other ↦ others m other ∙ h.before m less
+  ];
+  first_in = omega (arith, many, h.first_in);
+  many = omega (arith, many, h.many);
+  small = omega (arith, many, h.small);
+  below = λ m t. elim (cases_eq m n) [
+    | inl is ↦ absurd (false≢true (sym gone ∙ (ap (bit_of new) (sym is) ∙ t)))
+    | inr other ↦ h.below m (sym (others m other) ∙ t)
+  ];
+}
+
+-- a number that was marked is so still, where only this one changed, and is marked now
+pub still_marked : (words new : List ℕ) (n : ℕ) → bit_of new n ≡ true
+    → ((m : ℕ) → m ≢ n → bit_of new m ≡ bit_of words m) → (m : ℕ) → bit_of words m ≡ true → bit_of new m ≡ true
+still_marked words new n here others m was = elim (cases_eq m n) [
+  | inl is ↦ ap (bit_of new) is ∙ here
+  | inr other ↦ others m other ∙ was
+]
+
+-- what is true and not false is the same
+and_not : (b : Bool) → (b && not false) ≡ b
+and_not true = refl
+and_not false = refl
+
+-- and what is true and not true is false
+and_not_true : (b : Bool) → (b && not true) ≡ false
+and_not_true true = refl
+and_not_true false = refl
+
+-- where this one is marked no more, the others stay
+pub all_but_one : (words new : List ℕ) (n : ℕ) → bit_of new n ≡ false
+    → ((m : ℕ) → m ≢ n → bit_of new m ≡ bit_of words m) → (m : ℕ) → bit_of new m ≡ (bit_of words m && not (eqb n m))
+all_but_one words new n gone others m = elim (cases_eq m n) [
+  | inl is ↦
+      let e : eqb n m ≡ true = eq-eqb n m (sym is) in
+      ap (bit_of new) is ∙ (gone ∙ sym (rw e (and_not_true (bit_of words m))))
+  | inr other ↦
+      let e : eqb n m ≡ false = ne_eqb n m (λ is. other (sym is)) in
+      others m other ∙ sym (rw e (and_not (bit_of words m)))
+]
+
+-- ---- the least mark from a number on
+
+-- a number is marked, and none before it from another one on
+pub record IsFound (words : List ℕ) (n m : ℕ) : Type 0 where
+  pub from : n ≤ m
+  pub marked : bit_of words m ≡ true
+  pub least : (k : ℕ) → n ≤ k → k < m → bit_of words k ≡ false
+
+-- a bit of a word that is shifted is a higher one of the word
+shifted : (x k i : ℕ) → bit_at (x / 2 ^ k) i ≡ bit_at x (k + i)
+shifted x k i = ap (λ (y : ℕ). y % 2) (shr-shr x k i)
+
+-- a number's bit where its word and its bit are known
+bit_is : (words : List ℕ) (m w x i : ℕ) → m / 64 ≡ w → m % 64 ≡ i → x ≡ get_or words w 0
+    → bit_of words m ≡ eqb (bit_at x i) 1
+bit_is words m w x i word bit read = rw (word, bit, ← read) refl
+
+-- a bit that is 1 is one of the lowest 64
+low_bit : (x i : ℕ) → x < 2 ^ 64 → bit_at x i ≡ 1 → i < 64
+low_bit x i fits one = elim (cases_lt i 64) [
+  | inl lt ↦ lt
+  | inr le ↦ let zero_bit = bit_at_above x 64 i fits le in absurd (omega (arith, one, zero_bit))
+]
+
+-- the lowest bit of a word from the number's bit on is the least mark
+pub found_here : (words : List ℕ) (n x : ℕ) → x ≡ get_or words (n / 64) 0 → x < 2 ^ 64 → 0 < x / 2 ^ (n % 64)
+    → x / 2 ^ (n % 64) < 2 ^ 64 → IsFound words n (n + trailing_zeros w64 (x / 2 ^ (n % 64)))
+found_here words n x read fits some fits_too =
+    let z = bit_at-trailing_zeros w64 (x / 2 ^ (n % 64)) some fits_too in
+    let bit : ℕ = trailing_zeros w64 (x / 2 ^ (n % 64)) in
+    let one : bit_at x (n % 64 + bit) ≡ 1 = sym (shifted x (n % 64) bit) ∙ z.1 in
+    let low : n % 64 + bit < 64 = low_bit x (n % 64 + bit) fits one in
+    record {
+      from = omega arith;
+      marked = bit_is words (n + bit) (n / 64) x (n % 64 + bit) (omega (arith, low)) (omega (arith, low)) read
+          ∙ ap (λ (b : ℕ). eqb b 1) one;
+      least = λ k le lt.
+          bit_is words k (n / 64) x (n % 64 + (k - n)) (omega (arith, le, lt, low)) (omega (arith, le, lt, low)) read
+          ∙ ap (λ (b : ℕ). eqb b 1)
+          (sym (shifted x (n % 64) (k - n)) ∙ z.2 (k - n) (omega (arith, le, lt)));
+    }
+
+-- where a word has no bits from the number's on, no number of the word is marked from it on
+none_here : (words : List ℕ) (n x k : ℕ) → x ≡ get_or words (n / 64) 0 → x / 2 ^ (n % 64) ≡ 0 → n ≤ k
+    → k / 64 ≡ n / 64 → bit_of words k ≡ false
+none_here words n x k read empty le word =
+    bit_is words k (n / 64) x (n % 64 + (k % 64 - n % 64)) word (omega (arith, le, word)) read
+    ∙ ap (λ (b : ℕ). eqb b 1) (sym (shifted x (n % 64) (k % 64 - n % 64))
+    ∙ (ap (λ (y : ℕ). bit_at y (k % 64 - n % 64)) empty ∙ bit_at-zero (k % 64 - n % 64)))
+
+-- so far no number is marked from this one on
+none_between : (words : List ℕ) (n x next k : ℕ) → x ≡ get_or words (n / 64) 0 → x / 2 ^ (n % 64) ≡ 0
+    → ((w : ℕ) → n / 64 + 1 ≤ w → w < next → get_or words w 0 ≡ 0) → n ≤ k → k / 64 < next
+    → bit_of words k ≡ false
+none_between words n x next k read empty zeros le lt = elim (cases_eq (k / 64) (n / 64)) [
+  | inl word ↦ none_here words n x k read empty le word
+  | inr other ↦ none_in words k (zeros (k / 64) (omega (arith, other, le)) lt)
+]
+
+-- the lowest bit of the next word that has one is the least mark
+pub found_later : (words : List ℕ) (n x next y : ℕ) → x ≡ get_or words (n / 64) 0 → x / 2 ^ (n % 64) ≡ 0
+    → ((w : ℕ) → n / 64 + 1 ≤ w → w < next → get_or words w 0 ≡ 0) → n / 64 + 1 ≤ next
+    → y ≡ get_or words next 0 → 0 < y → y < 2 ^ 64 → IsFound words n (64 * next + trailing_zeros w64 y)
+found_later words n x next y read empty zeros later there some fits =
+    let z = bit_at-trailing_zeros w64 y some fits in
+    let bit : ℕ = trailing_zeros w64 y in
+    record {
+      from = omega (arith, later);
+      marked = bit_is words (64 * next + bit) next y bit (omega (arith, z.0)) (omega (arith, z.0)) there
+          ∙ ap (λ (b : ℕ). eqb b 1) z.1;
+      least = λ k le lt. elim (cases_lt (k / 64) next) [
+        | inl less ↦ none_between words n x next k read empty zeros le less
+        | inr more ↦
+            let word : k / 64 ≡ next = omega (arith, more, lt, z.0) in
+            bit_is words k next y (k % 64) word refl there
+            ∙ ap (λ (b : ℕ). eqb b 1) (z.2 (k % 64) (omega (arith, word, lt)))
+      ];
+    }
+
+-- where no later word has a bit, no number is marked from this one on
+pub none_later : (words : List ℕ) (n x next : ℕ) → x ≡ get_or words (n / 64) 0 → x / 2 ^ (n % 64) ≡ 0
+    → ((w : ℕ) → n / 64 + 1 ≤ w → w < next → get_or words w 0 ≡ 0) → length words ≤ next → (k : ℕ) → n ≤ k
+    → bit_of words k ≡ false
+none_later words n x next read empty zeros past k le = elim (cases_lt (k / 64) next) [
+  | inl less ↦ none_between words n x next k read empty zeros le less
+  | inr more ↦ none_past words k (omega (arith, more, past))
+]

@@ -1,0 +1,47 @@
+-- Which numbers stand in which ring, and how the rings are linked.
+use Rattle.std.specs.Prelude.{◌≡◌, ◌⊎◌, ℕ, suc, ◌+◌, ◌<◌, ◌^◌, ◌==◌, not, List, length, count_by}
+use Rattle.std.specs.Prelude.{slice_index_or, slice_set}
+
+-- so many numbers; and for each of them 0, if it is in no ring, and else 1 more than the number whose ring it is in. As
+-- many nodes follow, at which the rings begin, each in its own
+pub record RingTable : Type 0 where
+  pub count : ℕ
+  pub owners : List ℕ
+
+-- what stands at an index, and 0 past the end
+abbrev pub at : List ℕ → ℕ → ℕ
+at xs i = slice_index_or xs i 0
+
+-- how many nodes are in a ring
+abbrev pub ring_count : RingTable → ℕ
+ring_count t = count_by (λ n. not (n == 0)) t.owners
+
+-- with p behind h, and f behind p
+abbrev pub linked : List ℕ → ℕ → ℕ → ℕ → List ℕ
+linked xs p f h = slice_set (slice_set xs p f) h p
+
+-- with b behind a, and p behind itself
+abbrev pub unlinked : List ℕ → ℕ → ℕ → ℕ → List ℕ
+unlinked xs a b p = slice_set (slice_set xs a b) p p
+
+-- of so many nodes each leads by the first list to one that leads back by the second
+abbrev pub LeadsBack : ℕ → List ℕ → List ℕ → Type 0
+LeadsBack many xs ys = (i : ℕ) → i < many → (at xs i < many) × (at ys (at xs i) ≡ i)
+
+-- in the ring of q, j comes behind i: the ring begins at j, or j is a number of a lower rank in it
+abbrev pub IsBehind : ℕ → List ℕ → (ℕ → ℕ) → ℕ → ℕ → ℕ → Type 0
+IsBehind count owners rank q i j = (j ≡ count + q) ⊎ ((j < count) × (at owners j ≡ suc q) × (rank j < rank i))
+
+-- the rings of so many numbers, linked in both directions
+pub record AreRings (count : ℕ) (owners next previous : List ℕ) : Type 0 where
+  pub small : count < 2 ^ 63
+  pub many : length owners ≡ count + count
+  pub many_next : length next ≡ count + count
+  pub many_previous : length previous ≡ count + count
+  pub forth : LeadsBack (count + count) next previous
+  pub back : LeadsBack (count + count) previous next
+  pub begins : (q : ℕ) → q < count → at owners (count + q) ≡ suc q
+  pub alone : (i : ℕ) → i < count → at owners i ≡ 0 → at next i ≡ i
+  pub rank : ℕ → ℕ
+  pub behind : (i q : ℕ) → i < count + count → at owners i ≡ suc q
+      → (q < count) × IsBehind count owners rank q i (at next i)
