@@ -7,19 +7,19 @@
  *         fwrite(text.bytes, 1, text.len, stdout);             // 0 clone ip = fd 0 0
  *         muxsim_close(&shared);
  *     } else {
- *         fwrite(text.bytes, 1, text.len, stderr);             // why it is refused
+ *         fwrite(text.bytes, 1, text.len, stderr);             // the reason why it is refused
  *     }
  *     free(text.bytes);
  *
- * No call aborts, and each answers a code. Link libmuxsim_c.a, which `rt lib` makes in crates/muxsim_c/out, the kit's
+ * Each call returns a code, and none aborts. Link libmuxsim_c.a, which `rt lib` makes in crates/muxsim_c/out, the kit's
  * c/liblibc_c.a, and POSIX threads; crates/muxsim_c/README.md has the line.
  *
- * Threads may share a session: each call does all that it does with it under the session's lock. Sessions don't know
- * of one another. A session stays where it is: it is not copied, since its lock can't be. `muxsim_init` makes one on
- * the heap, or wherever it is, and `muxsim_destroy` ends it. Each thread has texts of its own. No pointer to a
- * session, a text or bytes is null, also where a length is 0.
+ * Threads may share a session: each call uses it only under the session's lock. Sessions are independent of each other.
+ * Don't copy or move a session, since its lock can't be copied. `muxsim_init` makes one on the heap, or wherever it is,
+ * and `muxsim_destroy` ends it. Each thread needs texts of its own. Pointers to a session, a text or bytes must not be
+ * null, not even if a length is 0.
  *
- * These are the codes that each call can answer, without the MUXSIM_ before them. Each can answer DONE.
+ * These are the codes that each call can return, without their prefix MUXSIM_. Each can return DONE.
  *
  *     muxsim_init               NO_LOCK
  *     muxsim_open               NO_LOCK  IS_OPEN  NO_MEMORY  TEXT  DRIVERS
@@ -51,60 +51,62 @@ extern "C" {
 enum {
     MUXSIM_DONE = 0,
     MUXSIM_NO_MEMORY = 1, /* an allocation failed */
-    MUXSIM_TEXT = 2,      /* the bytes are no programs text */
-    MUXSIM_DRIVERS = 3,   /* the drivers can't be had */
-    MUXSIM_LINE = 4,      /* the line is no process with a command */
+    MUXSIM_TEXT = 2,      /* the bytes are not a programs text */
+    MUXSIM_DRIVERS = 3,   /* the drivers are not valid */
+    MUXSIM_LINE = 4,      /* the line is not a process with a command */
     MUXSIM_NO_ENTRY = 5,  /* no command was performed yet */
-    MUXSIM_NO_ROOM = 6,   /* the text is longer than the buffer, which is as it was; its length is told */
+    MUXSIM_NO_ROOM = 6,   /* the text is longer than the buffer, which is unchanged; its length is written */
     MUXSIM_CLOSED = 7,    /* there is no session */
     MUXSIM_IS_OPEN = 8,   /* there is a session already */
-    MUXSIM_NO_LOCK = 9,   /* the lock can't be had */
-    MUXSIM_NO_LINE = 10   /* the command was performed, and memory was wanting for its line */
+    MUXSIM_NO_LOCK = 9,   /* the lock can't be made, taken or destroyed */
+    MUXSIM_NO_LINE = 10   /* the command was performed, but an allocation for its line failed */
 };
 
-/* What the library itself takes: a session, or null. These calls are proved, and take no lock: one at a time of each
- * session. Where the code isn't MUXSIM_DONE, the session is as it was. */
+/* The library's own handle: a session, or null. The calls with this handle are proved. They take no lock, so make only
+ * one at a time for each session. If the code isn't MUXSIM_DONE, the session is unchanged. */
 struct muxsim_session {
     uint8_t *at;
 };
 
 /* Makes a session in which nothing is open, over the drivers of a programs text of `len` bytes, whose programs aren't
- * run. There is none before, else it is MUXSIM_IS_OPEN. MUXSIM_TEXT, MUXSIM_DRIVERS and MUXSIM_NO_MEMORY leave none. */
+ * run. If there is a session already, the code is MUXSIM_IS_OPEN. With MUXSIM_TEXT, MUXSIM_DRIVERS and MUXSIM_NO_MEMORY
+ * there is no session. */
 int32_t muxsim_session_open(struct muxsim_session *session, const uint8_t *programs, size_t len);
 
-/* Writes the words of why muxsim_session_open refuses just this text, as "line 2: form" or "driver 0 marks", without a
- * line feed and without a 0 behind them; no byte where it makes a session of the text. It takes no session. The words
- * are written at the head of `text`, which has room for `room` bytes, whose rest stays, and `text_len` tells how many
- * bytes they are. With MUXSIM_NO_ROOM that is told too, and `text` is as it was. With MUXSIM_NO_MEMORY both are as
- * they were. */
+/* Writes the reason why muxsim_session_open refuses this text, such as "line 2: form" or "driver 0 marks", without a
+ * line feed and without a 0 after it. If muxsim_session_open makes a session of the text, it writes no byte. It needs
+ * no session. The reason is written to the beginning of `text`, which has room for `room` bytes and is otherwise
+ * unchanged, and its length to `text_len`. With MUXSIM_NO_ROOM only the length is written. With MUXSIM_NO_MEMORY
+ * nothing is written. */
 int32_t muxsim_session_why(const uint8_t *programs, size_t len, uint8_t *text, size_t room, size_t *text_len);
 
-/* Performs the command of a line of `len` bytes, as "0 clone ip", which has no line feed. MUXSIM_LINE, MUXSIM_CLOSED
- * and MUXSIM_NO_MEMORY perform nothing. A line that is no process with a command is MUXSIM_LINE, whatever memory there
- * is. */
+/* Performs the command of a line of `len` bytes, such as "0 clone ip", which has no line feed. With MUXSIM_LINE,
+ * MUXSIM_CLOSED and MUXSIM_NO_MEMORY nothing is performed. A line that is not a process with a command is always
+ * MUXSIM_LINE, also if memory has run out. */
 int32_t muxsim_session_perform(struct muxsim_session *session, const uint8_t *line, size_t len);
 
-/* Writes the line of the command that was performed last, with its reply and a line feed, to `text` and `len` as
- * muxsim_session_why does to `text` and `text_len`. MUXSIM_NO_ENTRY, MUXSIM_CLOSED and MUXSIM_NO_MEMORY leave both. */
+/* Writes the line of the command that was performed last, with its reply and a line feed, to `text` and `len`, as
+ * muxsim_session_why does to `text` and `text_len`. With MUXSIM_NO_ENTRY, MUXSIM_CLOSED and MUXSIM_NO_MEMORY both are
+ * unchanged. */
 int32_t muxsim_session_entry(struct muxsim_session *session, uint8_t *text, size_t room, size_t *len);
 
-/* Writes the lines of the configuration, from "config" on without "end", to `text` and `len` in the same way.
- * MUXSIM_CLOSED and MUXSIM_NO_MEMORY leave both. */
+/* Writes the lines of the configuration, from "config" on and without "end", to `text` and `len` in the same way. With
+ * MUXSIM_CLOSED and MUXSIM_NO_MEMORY both are unchanged. */
 int32_t muxsim_session_show(struct muxsim_session *session, uint8_t *text, size_t room, size_t *len);
 
-/* Gives the session up, with all its memory. MUXSIM_CLOSED says that there was none. */
+/* Frees the session and all its memory. With MUXSIM_CLOSED there was no session. */
 int32_t muxsim_session_close(struct muxsim_session *session);
 
-/* A session, or none, that threads share. The calls below are the ones to make. */
+/* A session that threads share, or none. Use the calls below rather than those above. */
 struct muxsim {
     pthread_mutex_t lock;
     struct muxsim_session session;
 };
 
-/* What a struct muxsim starts with that is not made by muxsim_init: a lock, and no session. */
+/* The initial value of a struct muxsim that muxsim_init doesn't make: a lock, and no session. */
 #define MUXSIM_CLOSED_SESSION { PTHREAD_MUTEX_INITIALIZER, { NULL } }
 
-/* What calls write to: `len` bytes. It starts as {0}, grows as it has to, and `free` gives its bytes back. */
+/* A text to which calls write: `len` bytes. Start with {0}. Calls let it grow; `free` its bytes at the end. */
 struct muxsim_text {
     uint8_t *bytes;
     size_t room, len;
@@ -133,16 +135,16 @@ static inline int32_t muxsim_text_fill(struct muxsim_text *text, struct muxsim_s
     return code;
 }
 
-/* Makes a struct muxsim wherever it is, on the heap too: a lock, and no session. What was there is not read.
- * MUXSIM_NO_LOCK says that there is no lock, and then no other call is made of it, muxsim_destroy neither. */
+/* Makes a struct muxsim wherever it is, also on the heap: a lock, and no session. Its memory need not be initialized.
+ * With MUXSIM_NO_LOCK there is no lock; then make no other call with it, not even muxsim_destroy. */
 static inline int32_t muxsim_init(struct muxsim *shared) {
     shared->session.at = NULL;
     return pthread_mutex_init(&shared->lock, NULL) == 0 ? MUXSIM_DONE : MUXSIM_NO_LOCK;
 }
 
-/* Writes the words of why muxsim_open refuses just this text, as "line 2: form" or "driver 0 marks", without a line
- * feed; with MUXSIM_DONE and no byte, it makes a session of it. With MUXSIM_NO_MEMORY nothing is written. It takes no
- * session and no lock. */
+/* Writes the reason why muxsim_open refuses this text, such as "line 2: form" or "driver 0 marks", without a line feed.
+ * If muxsim_open makes a session of the text, the code is MUXSIM_DONE too, and no byte is written. With
+ * MUXSIM_NO_MEMORY nothing is written. It needs no session and no lock. */
 static inline int32_t muxsim_why(const char *programs, size_t len, struct muxsim_text *text) {
     size_t room = 64, words = 0;
     int32_t code;
@@ -156,11 +158,11 @@ static inline int32_t muxsim_why(const char *programs, size_t len, struct muxsim
     return code;
 }
 
-/* Makes a session in which nothing is open, over the drivers of a programs text. Its programs, if there are any,
- * aren't run. With MUXSIM_TEXT, where the bytes are no programs text, and MUXSIM_DRIVERS, where its drivers can't be
- * had, it writes the words of why, as muxsim_why does, or nothing where memory is wanting for them: muxsim_why is
- * asked again. With any other code nothing is written: MUXSIM_DONE, MUXSIM_NO_MEMORY, MUXSIM_IS_OPEN, with which the
- * session that is there stays, and MUXSIM_NO_LOCK. But for MUXSIM_DONE nothing has changed. */
+/* Makes a session in which nothing is open, over the drivers of a programs text. Its programs, if there are any, aren't
+ * run. The code is MUXSIM_TEXT if the bytes are not a programs text, and MUXSIM_DRIVERS if its drivers are not valid.
+ * With these two it writes the reason, as muxsim_why does, or nothing if an allocation for the reason fails; then call
+ * muxsim_why. With MUXSIM_DONE, MUXSIM_NO_MEMORY, MUXSIM_IS_OPEN and MUXSIM_NO_LOCK nothing is written. With any code
+ * except MUXSIM_DONE the session is unchanged: the earlier one with MUXSIM_IS_OPEN. */
 static inline int32_t muxsim_open(struct muxsim *shared, const char *programs, size_t len, struct muxsim_text *text) {
     text->len = 0;
     if (pthread_mutex_lock(&shared->lock) != 0) return MUXSIM_NO_LOCK;
@@ -170,14 +172,14 @@ static inline int32_t muxsim_open(struct muxsim *shared, const char *programs, s
     return code;
 }
 
-/* Performs the command of a line, as "0 clone ip", which has no line feed, and writes the line of its entry, which has
+/* Performs the command of a line, such as "0 clone ip", which has no line feed, and writes the line of its entry, with
  * the reply and a line feed: "0 clone ip = fd 0 0\n". A command that is refused is performed too: its reply says why.
- * With MUXSIM_NO_LINE it was performed, and nothing is written: muxsim_entry is asked again for its line. With any
- * other code but MUXSIM_DONE nothing has changed, and nothing is written: MUXSIM_LINE, where the line is no process
- * with a command, whatever memory there is, MUXSIM_NO_MEMORY, MUXSIM_CLOSED and MUXSIM_NO_LOCK.
+ * With MUXSIM_NO_LINE the command was performed, and nothing is written; call muxsim_entry for its line. With
+ * MUXSIM_LINE, MUXSIM_NO_MEMORY, MUXSIM_CLOSED and MUXSIM_NO_LOCK nothing has changed, and nothing is written. A line
+ * that is not a process with a command is always MUXSIM_LINE, also if memory has run out.
  *
- * A session performs any number of commands, and keeps the last one alone. A transcript has at most 100,000 entries:
- * one that is made of the lines of more commands is no transcript to `muxsim check`, which answers `many`. */
+ * A session performs any number of commands, and keeps only the last one. A transcript has at most 100,000 entries, so
+ * `muxsim check` refuses one that is made of the lines of more commands as `many`. */
 static inline int32_t muxsim_perform(struct muxsim *shared, const char *line, size_t len, struct muxsim_text *text) {
     text->len = 0;
     if (pthread_mutex_lock(&shared->lock) != 0) return MUXSIM_NO_LOCK;
@@ -188,8 +190,9 @@ static inline int32_t muxsim_perform(struct muxsim *shared, const char *line, si
     return code;
 }
 
-/* Writes the line of the command that was performed last, by whichever thread. With MUXSIM_NO_ENTRY, before the first
- * one, MUXSIM_NO_MEMORY, MUXSIM_CLOSED and MUXSIM_NO_LOCK nothing is written. The session stays in each case. */
+/* Writes the line of the command that was performed last, by any thread. The code is MUXSIM_NO_ENTRY before the first
+ * command. With this code, MUXSIM_NO_MEMORY, MUXSIM_CLOSED and MUXSIM_NO_LOCK nothing is written. The session is
+ * unchanged in each case. */
 static inline int32_t muxsim_entry(struct muxsim *shared, struct muxsim_text *text) {
     text->len = 0;
     if (pthread_mutex_lock(&shared->lock) != 0) return MUXSIM_NO_LOCK;
@@ -198,8 +201,8 @@ static inline int32_t muxsim_entry(struct muxsim *shared, struct muxsim_text *te
     return code;
 }
 
-/* Writes the lines of the configuration, as they stand in a transcript of all commands so far: from "config" on,
- * without "end". With MUXSIM_NO_MEMORY, MUXSIM_CLOSED and MUXSIM_NO_LOCK nothing is written. The session stays in each
+/* Writes the lines of the configuration, as a transcript of all commands so far has them: from "config" on and without
+ * "end". With MUXSIM_NO_MEMORY, MUXSIM_CLOSED and MUXSIM_NO_LOCK nothing is written. The session is unchanged in each
  * case. */
 static inline int32_t muxsim_show(struct muxsim *shared, struct muxsim_text *text) {
     text->len = 0;
@@ -209,8 +212,8 @@ static inline int32_t muxsim_show(struct muxsim *shared, struct muxsim_text *tex
     return code;
 }
 
-/* Gives the session up, with all its memory. Another one may be opened in its place. MUXSIM_CLOSED says that there was
- * none. With MUXSIM_NO_LOCK the session stays. */
+/* Frees the session and all its memory. Another one may be opened in its place. With MUXSIM_CLOSED there was no
+ * session. With MUXSIM_NO_LOCK the session is unchanged. */
 static inline int32_t muxsim_close(struct muxsim *shared) {
     if (pthread_mutex_lock(&shared->lock) != 0) return MUXSIM_NO_LOCK;
     int32_t code = muxsim_session_close(&shared->session);
@@ -218,9 +221,9 @@ static inline int32_t muxsim_close(struct muxsim *shared) {
     return code;
 }
 
-/* Ends a struct muxsim: gives its session up, if there is one, and then its lock. No other thread is in a call of it
- * or makes one later, unless muxsim_init has made it anew. With MUXSIM_NO_LOCK the lock can't be had, and the session
- * stays, or can't be given up, and there is no session. */
+/* Ends a struct muxsim: frees its session, if there is one, and then destroys its lock. No other thread may be in a
+ * call with it, or make one later unless muxsim_init has made it again. With MUXSIM_NO_LOCK either locking failed and
+ * the session is unchanged, or the lock could not be destroyed and there is no session. */
 static inline int32_t muxsim_destroy(struct muxsim *shared) {
     if (muxsim_close(shared) == MUXSIM_NO_LOCK) return MUXSIM_NO_LOCK;
     return pthread_mutex_destroy(&shared->lock) == 0 ? MUXSIM_DONE : MUXSIM_NO_LOCK;

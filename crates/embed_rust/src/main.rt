@@ -1,7 +1,8 @@
-//! Three threads share one configuration, each with a process of its own: muxsim as a library.
+//! Three threads share one configuration, each with its own process: muxsim as a library.
 #![tactic(auto)]
 
-ghost use Rattle.std.specs.Prelude.{◌≡◌, All, IfSome};
+ghost use Rattle.std.specs.Prelude.{◌≡◌, ◌≤◌, All, IfOk, IfSome};
+ghost use Rattle.smx_types.specs.declared.limits.TheConstants.{MAX_PROCESSES};
 
 use smx_config::{ConfigFault, Verdict, check_history};
 use smx_shared::{CloseFault, Door, Seat, Shared, System};
@@ -11,7 +12,7 @@ use std::process::ExitCode;
 use std::sync::Wait;
 use std::thread::{Threads, map_vec};
 
-// A driver of three minors, with queues of 8 bytes.
+// Returns a driver with three minors and queues of 8 bytes.
 fn driver(name: Name, kind: DriverKind) -> DriverSpec {
     DriverSpec {
         name,
@@ -23,7 +24,7 @@ fn driver(name: Name, kind: DriverKind) -> DriverSpec {
     }
 }
 
-// Why it came to nothing.
+// Why the program failed.
 #[derive(Clone, Copy, Debug)]
 enum Failure {
     Memory,
@@ -50,7 +51,8 @@ impl From<CloseFault> for Failure {
     }
 }
 
-// What the process of a seat is answered, if the command gets an entry. A command that is refused gets one too.
+// Performs a command of a seat's process. Returns the reply if the command got an entry; a refused command gets one
+// too.
 fn answer<R: Wait>(
     rt: &R,
     shared: &Shared,
@@ -67,7 +69,7 @@ fn answer<R: Wait>(
     }
 }
 
-// What each process does: it links a stream of eth below one of ip, and the link stays. Whether all of it was done.
+// Links a stream of eth below one of ip for good, then exits. Returns whether all of that was done.
 fn links_for_good<R: Wait>(
     rt: &R,
     shared: &Shared,
@@ -95,7 +97,7 @@ fn links_for_good<R: Wait>(
         && matches!(end, Some(Reply::Done { .. }))
 }
 
-// The last seat, and those before it.
+// Returns the last seat and those before it.
 fn last_of(shared: &Shared, mut seats: Vec<Seat>) -> Option<(Vec<Seat>, Seat)>
     requires { All (λ s. s.shared ≡ shared.now.name) seats.items }
     ensures { IfSome result (λ r. All (λ s. s.shared ≡ shared.now.name) r.0.items × (r.1.shared ≡ shared.now.name)) }
@@ -106,7 +108,8 @@ fn last_of(shared: &Shared, mut seats: Vec<Seat>) -> Option<(Vec<Seat>, Seat)>
     Some((seats, last))
 }
 
-// Has each process do so, on a thread of its own, in whatever order they come to their turns. Whether all did.
+// Runs `links_for_good` for each seat, on a thread of its own. The threads take their turns in any order. Returns
+// whether all of them did everything.
 fn all_link<R: Threads + Wait + Sync>(
     rt: &R,
     shared: &Shared,
@@ -130,8 +133,17 @@ fn all_link<R: Threads + Wait + Sync>(
     }
 }
 
-// Shares the system among three processes on three threads. Whether they did all, and the system, which the seat of a
-// fourth gets back.
+// Shares the system among this many processes and returns a seat for each.
+#[tactic(auto, using(crate::proofs::SeatLemmas::are_of))]
+fn start(alloc: Global, system: System, processes: usize) -> Result<(Shared, Vec<Seat>), NoMemory>
+    requires { (1 ≤ processes) × (processes ≤ MAX_PROCESSES) }
+    ensures { IfOk result (λ r. All (λ s. s.shared ≡ r.0.name) r.1.items) }
+{
+    Shared::start(alloc, system, processes)
+}
+
+// Shares the system among three processes on three threads. Returns whether they did everything, and the system,
+// which a fourth seat gets back.
 fn shared_by_three<R: Threads + Wait + Sync>(
     rt: &R,
     alloc: Global,
@@ -139,7 +151,7 @@ fn shared_by_three<R: Threads + Wait + Sync>(
     ip: Name,
     eth: Name,
 ) -> Result<(bool, System), Failure> {
-    let (shared, seats) = Shared::start(alloc, system, 4)?;
+    let (shared, seats) = start(alloc, system, 4)?;
     let Some((seats, last)) = last_of(&shared, seats) else {
         return Err(Failure::Memory);
     };
@@ -147,13 +159,13 @@ fn shared_by_three<R: Threads + Wait + Sync>(
     Ok((all, shared.close(last)?))
 }
 
-// The verdict on the history of the system, with its own view.
+// Returns the verdict on the history of the system, with its own view.
 fn verdict_of(alloc: Global, drivers: &[DriverSpec], system: &System) -> Result<Verdict, Failure> {
     let view = system.config().show()?;
     Ok(check_history(alloc, drivers, system.entries(), &view)?)
 }
 
-// What three processes made of it, as one line.
+// Prints the result of three processes on one line.
 fn tell_of_three<R: Threads + Wait + Sync + Print>(rt: &R, alloc: Global) -> Result<(), Failure> {
     let (ip, eth) = (Name::new("ip").unwrap(), Name::new("eth").unwrap());
     let drivers = [driver(ip, DriverKind::Mux), driver(eth, DriverKind::Leaf)];

@@ -32,23 +32,23 @@ use Rattle.muxsim_c.specs.Owned.{held}
 use Rattle.muxsim_c.specs.contracts.handle.Handle as H-type
 use Rattle.muxsim_c.proofs.LooseLemmas.{both, al}
 
--- what a session is to the logic
+-- the type of a session, as the logic sees it
 abbrev pub R : RattleType
 R = S-type.the_row
 
--- what the allocator is
+-- the type of the allocator
 abbrev pub Z : RattleType
 Z = G-type.the_row
 
--- what a handle is
+-- the type of a handle
 abbrev pub H-row : RattleType
 H-row = H-type.the_row
 
--- the allocator as the lemmas of calls take it
+-- the allocator in the form that the lemmas of calls take
 abbrev pub heap : Al
 heap = al R Z G-laws.the_row_laws ghosts
 
--- the box of a session at p
+-- the box of a session at `p`
 abbrev boxed : Global → Ptr → R.Denot → Fml
 boxed a p x = box_owns (ghosts.dealloc_token a) R p x
 
@@ -61,7 +61,7 @@ tested {𝓤 = 𝓤} 𝓛 a p x = let B : SProp 𝓤 = sem 𝓛 (boxed a p x) in
     (dealloc_token-Testable 𝓛 a (bare (lone R.mir)) p)) (guard_i 𝓤 (Testable p) B)
 
 module _ {M : Type 1} {𝓤 : Ura M} {𝓛 : Logic 𝓤} {K : Type 0} {Γ : List (Item 𝓤)} {G : Goal 𝓤 𝓛.H} where
-  -- a handle is a pointer, what is held there, and the allocator
+  -- a handle consists of a pointer, the value to which it points, and the allocator
   pub handle_out : K → (d : H-row.Denot) (vs : List Val)
       → ((h : Val) → vs ≡ both (ptr_val d.at) h ∷ [] → Good (layout Z) h
       → Seq K 𝓛 (‵ (held d.alloc d.at d.value) ∷ ‵ (Z.own_val d.alloc (h ∷ [])) ∷ Γ) G)
@@ -72,7 +72,7 @@ module _ {M : Type 1} {𝓤 : Ura M} {𝓛 : Logic 𝓤} {K : Type 0} {Γ : List
       k h (subst (λ (ws : List Val). vs ≡ vstruct (of_list (ptr_val d.at ∷ (ws ++ []))) ∷ []) ea
       (subst (λ (ps : List Val). vs ≡ vstruct (of_list (ps ++ (vss.1.0 ++ []))) ∷ []) ep ev)) fits))))
 
-  -- these three are a handle
+  -- these three make a handle
   pub handle_in : K → (p : Ptr) (h : Val) (a : Global) (v : Option R.Denot)
       → Step K 𝓛 (‵ (H-row.own_val (record { at = p; alloc = a; value = v }) (both (ptr_val p) h ∷ [])) ∷ Γ) G
       (‵ (held a p v) ∷ ‵ (Z.own_val a (h ∷ [])) ∷ Γ) G
@@ -83,7 +83,7 @@ module _ {M : Type 1} {𝓤 : Ura M} {𝓛 : Logic 𝓤} {K : Type 0} {Γ : List
       (within (shape H-type.the_type) (to H-type.the_type (record { at = p; alloc = a; value = v })) (w ∷ []))
       (ptr_val p ∷ [], (h ∷ [], tt)) $ fjoin t $ s)
 
-  -- at null nothing is held, and else the box of the session, whose pointer may be compared with null
+  -- a null handle holds nothing; any other holds the box of the session, whose pointer may be compared with null
   pub either_held : K → (a : Global) (p : Ptr) (v : Option R.Denot)
       → (p ≡ null_ptr → v ≡ None → Seq K 𝓛 Γ G)
       → ((b o : ℕ) (x : R.Denot) → p ≡ block_ptr b o → v ≡ Some x → Testable (block_ptr b o)

@@ -10,7 +10,7 @@ use Rattle.muxsim_c.specs.declared.call_fault.CallFault.{CallFault}
 use Rattle.muxsim_c.specs.declared.call_fault.CallFault.TheVariants.{NoMemory, Text, Drivers, Line, NoEntry}
 use Rattle.muxsim_c.specs.declared.call_fault.CallFault.TheVariants.{NoRoom, Closed, IsOpen}
 
--- done, or why nothing was
+-- success, or why nothing was done
 abbrev pub Outcome : Type 0
 Outcome = Result (Unit {0}) CallFault
 
@@ -26,18 +26,18 @@ code (Err NoRoom) = pos 6
 code (Err Closed) = pos 7
 code (Err IsOpen) = pos 8
 
--- what C is told where no session starts
+-- the fault that C gets if no session starts
 abbrev pub told_of_start : StartFault → CallFault
 told_of_start start.NoMemory = NoMemory
 told_of_start (start.Text fault) = Text
 told_of_start (start.Drivers fault) = Drivers
 
--- what C is told where a line is not performed
+-- the fault that C gets if a line is not performed
 abbrev pub told_of_line : LineFault → CallFault
 told_of_line line.NoMemory = NoMemory
 told_of_line line.NoCommand = Line
 
--- what C is told where no entry is written
+-- the fault that C gets if no entry is written
 abbrev pub told_of_entry : EntryFault → CallFault
 told_of_entry entry.NoMemory = NoMemory
 told_of_entry entry.NoEntry = NoEntry

@@ -1,4 +1,4 @@
--- What a handle owns.
+-- The memory that a handle owns.
 use Rattle.std.specs.Prelude.{Option, None, Some}
 use base.Fml.{Fml, ftrue, ffalse}
 use denote.RawPtr.{Ptr, null_ptr, block_ptr}
@@ -8,7 +8,7 @@ use Rattle.std.specs.contracts.impls.GlobalAllocator.TheImpl.{ghosts}
 use Rattle.smx_session.specs.Sessions.{State}
 use Rattle.smx_session.specs.contracts.session.Session.{the_row}
 
--- at null there is no session; else there is one, and its box is there
+-- a null handle has no session; any other has one, and owns the session's box
 abbrev pub held : Global → Ptr → Option State → Fml
 held a null_ptr None = ftrue
 held a null_ptr (Some s) = ffalse

@@ -1,4 +1,4 @@
--- Worked codes, texts and words, typed in.
+-- Worked codes, texts and words, typed in by hand.
 use Rattle.std.specs.Prelude.{◌≡◌, ℕ, List, [], ◌∷◌, map, Ok, Err, codes, pos, refl}
 use Rattle.std.specs.Fmt.{digits}
 use Rattle.smx_config.specs.declared.config_fault.ConfigFault.TheVariants as config
@@ -18,15 +18,15 @@ pub codes_of_the_header : map code (Ok tt ∷ Err NoMemory ∷ Err Text ∷ Err 
     ≡ pos 0 ∷ pos 1 ∷ pos 2 ∷ pos 3 ∷ pos 4 ∷ pos 5 ∷ pos 6 ∷ pos 7 ∷ pos 8 ∷ []
 codes_of_the_header = refl
 
--- what C is told of the faults of a line
+-- the faults that C gets for those of a line
 pub line_faults_are_told : map told_of_line (line.NoMemory ∷ line.NoCommand ∷ []) ≡ NoMemory ∷ Line ∷ []
 line_faults_are_told = refl
 
--- what C is told of the faults of an entry
+-- the faults that C gets for those of an entry
 pub entry_faults_are_told : map told_of_entry (entry.NoMemory ∷ entry.NoEntry ∷ []) ≡ NoMemory ∷ NoEntry ∷ []
 entry_faults_are_told = refl
 
--- what C is told where memory was wanting for a session
+-- the fault that C gets if memory runs out for a session
 pub start_is_told : told_of_start start.NoMemory ≡ NoMemory
 start_is_told = refl
 
@@ -34,7 +34,7 @@ start_is_told = refl
 abbrev pub without_a_process : List ℕ
 without_a_process = codes "programs 1\nclone ip\nend\n"
 
--- a driver whose water marks are the same
+-- a driver whose two water marks are equal
 abbrev pub without_marks : List ℕ
 without_marks = codes "programs 1\ndriver ip mux 4 8 8 16\nend\n"
 

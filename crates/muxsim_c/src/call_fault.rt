@@ -9,13 +9,13 @@ use smx_types::NoMemory;
 /// Why a call did nothing.
 #[derive(Clone, Copy, Debug, PartialEq, Eq)]
 pub enum CallFault {
-    /// A growth was refused.
+    /// An allocation failed.
     NoMemory,
-    /// The bytes are no programs text.
+    /// The bytes are not a programs text.
     Text,
-    /// The drivers can't be had.
+    /// The drivers are not valid.
     Drivers,
-    /// The line is no process with a command.
+    /// The line is not a process with a command.
     Line,
     /// No command was performed yet.
     NoEntry,
@@ -27,7 +27,7 @@ pub enum CallFault {
     IsOpen,
 }
 
-/// The code of an outcome, as `include/muxsim.h` has it.
+/// Returns the code of an outcome, as `include/muxsim.h` defines it.
 pub fn code_of(outcome: &Result<(), CallFault>) -> i32
     ensures { result ≡ code outcome.now }
 {

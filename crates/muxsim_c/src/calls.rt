@@ -10,7 +10,7 @@ use crate::texts::copy_out;
 use smx_session::Session;
 use std::alloc::Global;
 
-/// Makes a session over the drivers of a programs text.
+/// Creates a session over the drivers of a programs text.
 pub fn open(alloc: Global, handle: &mut Handle, programs: &[u8]) -> Result<(), CallFault>
     ensures { Opens handle.old.value programs.now handle.new.value result }
 {
@@ -43,7 +43,7 @@ pub fn perform(alloc: Global, handle: &mut Handle, line: &[u8]) -> Result<(), Ca
     Ok(())
 }
 
-/// Writes the line of the entry that was made last.
+/// Writes the line of the last entry.
 pub fn entry(
     alloc: Global,
     handle: &mut Handle,
@@ -79,7 +79,7 @@ pub fn show(
     copy_out(lines?.as_slice(), text, len)
 }
 
-/// Gives the session up.
+/// Ends the session.
 pub fn close(alloc: Global, handle: &mut Handle) -> Result<(), CallFault>
     ensures { Closes handle.old.value handle.new.value result }
 {

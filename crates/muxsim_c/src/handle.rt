@@ -1,4 +1,4 @@
-//! A session as its pointer, which C has.
+//! A session as the pointer that C has.
 
 ghost use Rattle.std.specs.Prelude.{◌≡◌, None, Some, MatchOption, Option};
 ghost use Rattle.smx_session.specs.Sessions.{State};
@@ -9,7 +9,7 @@ use std::alloc::Global;
 use std::marker::{Model, Send};
 use std::ptr::null_mut;
 
-/// A session on the heap, or null. A contract sees the session, or that there is none.
+/// A session on the heap, or null. A contract sees the session or its absence.
 #[repr(C)]
 pub struct Handle {
     at: *mut u8,
@@ -34,7 +34,7 @@ impl Drop for Handle {
 }
 
 impl Handle {
-    /// No session.
+    /// Returns a handle without a session.
     pub fn closed(alloc: Global) -> Handle
         ensures { result.value ≡ None }
     {
@@ -44,7 +44,7 @@ impl Handle {
         }
     }
 
-    /// The session of a box that was taken apart.
+    /// Returns the handle of the session in a box that was taken apart.
     pub fn of(loose: Loose<Session, Global>) -> Handle
         ensures { result.value ≡ Some loose.value }
     {
@@ -55,7 +55,7 @@ impl Handle {
         }
     }
 
-    /// The box, taken apart, if there is one.
+    /// Returns the session's box, taken apart, if there is one.
     pub fn into_loose(self) -> Option<Loose<Session, Global>>
         ensures { MatchOption result (self.value ≡ None) (λ l. self.value ≡ Some l.value) }
     {

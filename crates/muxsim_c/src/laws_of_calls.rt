@@ -10,12 +10,13 @@ ghost use Rattle.muxsim_c.specs.WorkedCalls.{without_a_process, without_marks};
 use smx_session::laws_of_sessions::{a_text_has_one_start, a_worked_session};
 use smx_text::worked_texts::wrong_programs;
 
-/// Outcomes have different codes.
+/// Different outcomes have different codes.
 pub fn codes_tell_outcomes_apart()
     ensures { (one other : Outcome) → code one ≡ code other → one ≡ other }
 {}
 
-/// What is copied is at the head of a buffer that has the room, whose rest stays; its length is told in each case.
+/// A text that fits is copied to the start of a buffer, and the rest of the buffer is unchanged. The text's length is
+/// written in every case.
 pub fn copies_keep_the_rest()
     ensures at_the_head { Copies (codes "ab") (codes "wxyz") (codes "abyz") 2 (Ok tt) }
     ensures just_fits { Copies (codes "ab") (codes "wx") (codes "ab") 2 (Ok tt) }
@@ -26,14 +27,14 @@ pub fn copies_keep_the_rest()
     ensures length_told { Copies (codes "ab") (codes "w") (codes "w") 1 (Err NoRoom) → ⊥ }
 {}
 
-/// No text has two answers to why it makes no session: the words of its one first fault, or none where it makes one.
+/// A text has only one answer to why it makes no session: the words of its first fault, or none if it makes one.
 pub fn words_are_those_of_the_text()
     ensures { (text one other : List ℕ) → IsWhy text one → IsWhy text other → one ≡ other }
 {
     a_text_has_one_start();
 }
 
-/// A worked session in C: code by code, and what no call does.
+/// A worked session in C: the code of each call, and counterexamples.
 pub fn a_worked_session_in_c()
     ensures open { Answers (pos 0) (Opens None table (Some begun)) }
     ensures open_again { Answers (pos 8) (Opens (Some begun) table (Some begun)) }

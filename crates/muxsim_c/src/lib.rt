@@ -1,4 +1,4 @@
-//! The configuration for programs in C: each export is one call of a handle, and answers its code.
+//! The configuration for programs in C: each export makes one call of a handle and returns its code.
 #![tactic(auto)]
 
 mod call_fault;
@@ -19,9 +19,9 @@ use handle::Handle;
 use reasons::why;
 use std::alloc::Global;
 
-/// Makes a session over the drivers of a programs text, whose programs aren't run. Answers 0; or 1 for want of
-/// memory, 2 where the bytes are no programs text and 3 where its drivers can't be had, and then there is none; or 8
-/// where there is a session already, which stays.
+/// Creates a session over the drivers of a programs text; the programs aren't run. Returns 0; 1 if out of memory, 2
+/// if the bytes are not a programs text, or 3 if its drivers are not valid, and then there is no session; or 8 if
+/// there is a session already, which is unchanged.
 #[unsafe(no_mangle)]
 pub extern "C" fn muxsim_session_open(alloc: Global, handle: &mut Handle, programs: &[u8]) -> i32
     ensures { Answers result (Opens handle.old.value programs.now handle.new.value) }
@@ -29,10 +29,10 @@ pub extern "C" fn muxsim_session_open(alloc: Global, handle: &mut Handle, progra
     code_of(&open(alloc, handle, programs))
 }
 
-/// Writes the words of why [`muxsim_session_open`] refuses a text, as `line 2: form` or `driver 0 marks`, with no
-/// line feed; where it makes a session of the text, no byte. Answers 0, with the words at the head of the buffer,
-/// whose rest stays, and how many bytes they are in the length; or 6 where they are longer than the buffer, which
-/// stays, with their length too; or 1 for want of memory, and then buffer and length stay.
+/// Writes why [`muxsim_session_open`] rejects a text, such as `line 2: form` or `driver 0 marks`, without a line
+/// feed; or no byte, if it accepts the text. Returns 0, with the words at the start of the buffer, the rest of the
+/// buffer unchanged, and their number of bytes in the length; 6 if they are longer than the buffer, which is
+/// unchanged, with their length too; or 1 if out of memory, with buffer and length unchanged.
 #[unsafe(no_mangle)]
 pub extern "C" fn muxsim_session_why(
     alloc: Global,
@@ -45,8 +45,8 @@ pub extern "C" fn muxsim_session_why(
     code_of(&why(alloc, programs, text, len))
 }
 
-/// Performs the command of a line, as `0 clone ip`. Answers 0; or 1 for want of memory and 4 where the line is no
-/// process with a command, and then the session stays; or 7 where there is none.
+/// Performs the command of a line, such as `0 clone ip`. Returns 0; 1 if out of memory, or 4 if the line is not a
+/// process with a command, and then the session is unchanged; or 7 if there is no session.
 #[unsafe(no_mangle)]
 pub extern "C" fn muxsim_session_perform(alloc: Global, handle: &mut Handle, line: &[u8]) -> i32
     ensures { Answers result (Performs handle.old.value line.now handle.new.value) }
@@ -54,10 +54,10 @@ pub extern "C" fn muxsim_session_perform(alloc: Global, handle: &mut Handle, lin
     code_of(&perform(alloc, handle, line))
 }
 
-/// Writes the line of the entry that was made last, with its line feed. Answers 0, with the line at the head of the
-/// buffer, whose rest stays, and its length; or 6 where it is longer than the buffer, which stays, with its length
-/// too; or 1 for want of memory, 5 where no command was performed yet and 7 where there is no session, and then
-/// buffer and length stay. So does the session in each case.
+/// Writes the line of the last entry, with its line feed. Returns 0, with the line at the start of the buffer, the
+/// rest of the buffer unchanged, and the line's length; 6 if it is longer than the buffer, which is unchanged, with
+/// its length too; or 1 if out of memory, 5 if no command was performed yet, or 7 if there is no session, with buffer
+/// and length unchanged. The session is unchanged in every case.
 #[unsafe(no_mangle)]
 pub extern "C" fn muxsim_session_entry(
     alloc: Global,
@@ -71,10 +71,10 @@ pub extern "C" fn muxsim_session_entry(
     code_of(&entry(alloc, handle, text, len))
 }
 
-/// Writes the lines of the configuration, from `config` on without `end`. Answers 0, with the lines at the head of
-/// the buffer, whose rest stays, and their length; or 6 where they are longer than the buffer, which stays, with
-/// their length too; or 1 for want of memory and 7 where there is no session, and then buffer and length stay. So
-/// does the session in each case.
+/// Writes the lines of the configuration, from `config` on, without `end`. Returns 0, with the lines at the start of
+/// the buffer, the rest of the buffer unchanged, and their length; 6 if they are longer than the buffer, which is
+/// unchanged, with their length too; or 1 if out of memory, or 7 if there is no session, with buffer and length
+/// unchanged. The session is unchanged in every case.
 #[unsafe(no_mangle)]
 pub extern "C" fn muxsim_session_show(
     alloc: Global,
@@ -88,7 +88,7 @@ pub extern "C" fn muxsim_session_show(
     code_of(&show(alloc, handle, text, len))
 }
 
-/// Gives a session up, with its memory. Answers 0, or 7 where there is none.
+/// Ends a session and frees its memory. Returns 0, or 7 if there is none.
 #[unsafe(no_mangle)]
 pub extern "C" fn muxsim_session_close(alloc: Global, handle: &mut Handle) -> i32
     ensures { Answers result (Closes handle.old.value handle.new.value) }

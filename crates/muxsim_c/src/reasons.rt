@@ -10,7 +10,7 @@ use crate::texts::copy_out;
 use smx_session::{Session, StartFault};
 use std::alloc::{AllocError, Global};
 
-/// Writes the words of why a text makes no session, and no byte where it makes one.
+/// Writes the words that say why a text makes no session, and no byte if it makes one.
 pub fn why(
     alloc: Global,
     programs: &[u8],
@@ -23,7 +23,7 @@ pub fn why(
     copy_out(words.as_bytes(), text, len)
 }
 
-// The words of why a text makes no session, none where it makes one.
+// Returns the words that say why a text makes no session, and none if it makes one.
 fn reason(alloc: Global, programs: &[u8]) -> Result<String, CallFault>
     ensures words { IfOk result (λ words. IsWhy programs.now (string_bytes words)) }
     ensures none { IfErr result (λ t. t ≡ NoMemory) }
@@ -39,7 +39,7 @@ fn reason(alloc: Global, programs: &[u8]) -> Result<String, CallFault>
     }
 }
 
-// A fault as it prints itself.
+// Returns a fault as it prints itself.
 fn printed(alloc: Global, fault: StartFault) -> Result<String, AllocError>
     ensures { IfOk result (λ words. string_bytes words ≡ start_fault_words fault) }
 {

@@ -1,4 +1,4 @@
-//! A session taken out of its handle, and put back.
+//! Taking a session out of its handle, and putting it back.
 
 ghost use Rattle.std.specs.Prelude.{◌≡◌, None, Some, MatchOption};
 
@@ -8,7 +8,7 @@ use smx_session::Session;
 use std::alloc::Global;
 use std::mem::replace;
 
-/// The session, which is out of the handle then.
+/// Takes the session out of the handle, which has none afterwards.
 pub fn take(alloc: Global, handle: &mut Handle) -> Option<Box<Session>>
     ensures out { handle.new.value ≡ None }
     ensures session { MatchOption result (handle.old.value ≡ None) (λ b. handle.old.value ≡ Some b.value) }

@@ -4,7 +4,7 @@ ghost use Rattle.muxsim_c.specs.Calls.{Copies};
 
 use crate::call_fault::CallFault;
 
-/// Writes a text to the head of a buffer, where it has the room; how long the text is, in both cases.
+/// Writes a text to the start of a buffer, if it fits. Sets `len` to the text's length in both cases.
 pub fn copy_out(text: &[u8], buffer: &mut [u8], len: &mut usize) -> Result<(), CallFault>
     ensures { Copies text.now buffer.old buffer.new len.new result }
 {

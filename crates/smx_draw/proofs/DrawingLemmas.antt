@@ -1,4 +1,4 @@
--- What was drawn piece by piece, and what stands in it.
+-- Texts that were drawn piece by piece, and what they contain.
 use Rattle.std.proofs.Common.{◌≡◌, ℕ, ◌+◌, ◌<◌, List, [], ◌∷◌, ◌++◌, length, get_or, take, append-nil, append_assoc}
 use Rattle.std.proofs.Common.{Result, Ok, Err, sym, ap, ◌∙◌, subst}
 use Rattle.std.specs.Prelude.{OnOk}
@@ -9,7 +9,7 @@ use Rattle.smx_draw.specs.Drawing.{Draws, HasPart}
 use Rattle.smx_draw.specs.declared.svg.area.Area.{Area}
 
 module _ {X : Type 0} (element : X → Area → List ℕ) where
-  -- one more is drawn behind the others
+  -- one more element is drawn after the others
   pub draws_more : (xs : List X) (x : X) (at : Area) (a b c : List ℕ) → Draws element xs a b
       → c ≡ b ++ element x at → Draws element (xs ++ x ∷ []) a c
   draws_more [] x at a b c h e = (at, e ∙ ap (λ (t : List ℕ). t ++ element x at) h)
@@ -23,14 +23,14 @@ module _ {X : Type 0} (element : X → Area → List ℕ) where
       take_more xs i x lt ∙ ap (λ (y : X). take i xs ++ y ∷ []) (sym is) in
       subst (λ (ys : List X). Draws element ys a c) (sym more) (draws_more (take i xs) x at a b c h e)
 
-  -- what is drawn stands behind what was there
+  -- elements are drawn after the earlier text
   pub draws_behind : (xs : List X) (a b : List ℕ) → Draws element xs a b → (more : List ℕ) × (b ≡ a ++ more)
   draws_behind [] a b h = ([], h ∙ sym (append-nil a))
   draws_behind (x ∷ xs) a b (at, rest) =
       let behind = draws_behind xs (a ++ element x at) b rest in
       (element x at ++ behind.0, behind.1 ∙ append_assoc a (element x at) behind.0)
 
-  -- each has its element at some place
+  -- the text contains the element of each, at some place
   pub draws_each : (xs : List X) (a b : List ℕ) → Draws element xs a b
       → AllByRecursion (λ x. (at : Area) × HasPart b (element x at)) xs
   draws_each [] a b h = tt
@@ -38,18 +38,18 @@ module _ {X : Type 0} (element : X → Area → List ℕ) where
       let behind = draws_behind xs (a ++ element x at) b rest in
       ((at, (a, behind.0, behind.1)), draws_each xs (a ++ element x at) b rest)
 
--- what stands in a text stands in one that goes on
+-- a text that goes on still contains its parts
 pub still_there : (text part more : List ℕ) → HasPart text part → HasPart (text ++ more) part
 still_there text part more (before, after, e) =
     (before, after ++ more, ap (λ (t : List ℕ). t ++ more) e ∙ append_assoc (before ++ part) after more)
 
--- a fact of each of them gives another one of each
+-- a fact of each item that implies another one gives that one of each item
 pub all_of : {X : Type 0} (P Q : X → Type 0) → ((x : X) → P x → Q x) → (xs : List X) → AllByRecursion P xs
     → AllByRecursion Q xs
 all_of P Q f [] h = tt
 all_of P Q f (x ∷ xs) (one, rest) = (f x one, all_of P Q f xs rest)
 
--- each line stands in the text of all
+-- the text of all lines contains each line
 pub each_line : {X : Type 0} (line : X → List ℕ) (xs : List X) (before after : List ℕ)
     → AllByRecursion (λ x. HasPart (before ++ (flat_map line xs ++ after)) (line x)) xs
 each_line line [] before after = tt
@@ -61,7 +61,7 @@ each_line line (x ∷ xs) before after =
           (each_line line xs (before ++ line x) after),
     )
 
--- each element stands in a text that goes on behind it
+-- a text that goes on still contains each element
 pub each_still_there : {X : Type 0} (element : X → Area → List ℕ) (xs : List X) (text more : List ℕ)
     → AllByRecursion (λ x. (at : Area) × HasPart text (element x at)) xs
     → AllByRecursion (λ x. (at : Area) × HasPart (text ++ more) (element x at)) xs
@@ -69,19 +69,19 @@ each_still_there element xs text more =
     all_of (λ x. (at : Area) × HasPart text (element x at)) (λ x. (at : Area) × HasPart (text ++ more) (element x at))
     (λ x h. (h.0, still_there text (element x h.0) more h.1)) xs
 
--- what is written in two steps, as one text
+-- a text written in two steps is one text
 pub then_put : {E : Type 0} (answer : Result (Unit {0}) E) (old middle new first second : List ℕ)
     → middle ≡ old ++ first → OnOk answer (new ≡ middle ++ second) → OnOk answer (new ≡ old ++ (first ++ second))
 then_put (Ok done) old middle new first second e h =
     h ∙ (ap (λ (t : List ℕ). t ++ second) e ∙ append_assoc old first second)
 then_put (Err fault) old middle new first second e h = tt
 
--- five texts that were written one behind the other
+-- five texts that were written one after the other
 pub five_put : (a b c d e one two three four five : List ℕ) → one ≡ a → two ≡ one ++ b → three ≡ two ++ c
     → four ≡ three ++ d → five ≡ four ++ e → five ≡ a ++ (b ++ (c ++ (d ++ e)))
 five_put a b c d e one two three four five e1 e2 e3 e4 e5 = rw (e5, e4, e3, e2, e1) (simp append_assoc)
 
--- a part that isn't empty doesn't stand in the empty text
+-- the empty text contains no part, unless that is empty
 pub nothing_has_no_part : (c : ℕ) (part : List ℕ) → HasPart [] (c ∷ part) → ⊥
 nothing_has_no_part c part ([], after, e) = suc-ne-zero _ (sym (ap length e))
 nothing_has_no_part c part (b ∷ before, after, e) = suc-ne-zero _ (sym (ap length e))

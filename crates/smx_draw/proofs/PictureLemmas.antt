@@ -1,4 +1,4 @@
--- What stands in a picture.
+-- The contents of a picture.
 use Rattle.std.proofs.Common.{◌≡◌, ℕ, List, [], ◌++◌, append-nil, append_assoc, sym, ap, ◌∙◌, subst}
 use Rattle.std.specs.List.{flat_map}
 use Rattle.smx_types.specs.declared.driver.DriverSpec.{DriverSpec}
@@ -22,7 +22,7 @@ GoesOn output text = (more : List ℕ) × (output ≡ text ++ more)
 
 module _ {X : Type 0} (element : X → Area → List ℕ) (xs : List X) (before after output : List ℕ)
     (draws : Draws element xs before after) (on : GoesOn output after) where
-  -- what goes on behind elements goes on behind what was there before them
+  -- a text that goes on after elements goes on after the text before them
   from_before : GoesOn output before
   from_before =
       let behind = draws_behind element xs before after draws in (
@@ -30,13 +30,13 @@ module _ {X : Type 0} (element : X → Area → List ℕ) (xs : List X) (before 
         on.1 ∙ (ap (λ (t : List ℕ). t ++ on.0) behind.1 ∙ append_assoc before behind.0 on.0),
       )
 
-  -- and each of the elements stands in it
+  -- it contains each of the elements
   each_drawn : EachIsDrawn element xs output
   each_drawn =
       subst (EachIsDrawn element xs) (sym on.1)
       (each_still_there element xs after on.0 (draws_each element xs before after draws))
 
--- each element stands between the head and the foot
+-- each element is between the head and the foot
 pub each_in_svg : (drivers : List DriverSpec) (v : ConfigView) (output : List ℕ) → IsSvgOf drivers v output
     → HasEachInSvg drivers v output
 each_in_svg drivers v output h =
@@ -71,7 +71,7 @@ each_in_svg drivers v output h =
       links = each_drawn link_element v.links parts.behind_fulls h.behind_view output parts.links links;
     }
 
--- the foot stands at the end
+-- the foot is at the end
 pub foot_in_svg : (drivers : List DriverSpec) (v : ConfigView) (output : List ℕ) → IsSvgOf drivers v output
     → HasPart output (svg_foot v.next_id v.next_serial)
 foot_in_svg drivers v output h =
@@ -79,15 +79,15 @@ foot_in_svg drivers v output h =
 
 module _ {X : Type 0} (line : X → List ℕ) (xs : List X) (before after output : List ℕ)
     (on : output ≡ before ++ (flat_map line xs ++ after)) where
-  -- lines that stand there stand behind what was there before them
+  -- lines in the text come after the text before them
   behind_lines : output ≡ (before ++ flat_map line xs) ++ after
   behind_lines = on ∙ sym (append_assoc before (flat_map line xs) after)
 
-  -- each of them stands in the text
+  -- the text contains each of them
   each_written : EachHasLine line xs output
   each_written = subst (EachHasLine line xs) (sym on) (each_line line xs before after)
 
--- each line stands between others
+-- each line is between others
 pub each_in_dot : (drivers : List DriverSpec) (v : ConfigView) (output : List ℕ) → output ≡ dot_text drivers v
     → HasEachInDot drivers v output
 each_in_dot drivers v output is =

@@ -1,5 +1,5 @@
--- The line of each part of a view in the language of Graphviz. A driver, a stream, a queue and what hangs on them have
--- names of their own, so that no two of them share a node.
+-- The line of each part of a view, in the language of Graphviz. Drivers, streams, queues and the items attached to
+-- them have distinct node names.
 use Rattle.std.specs.Prelude.{ℕ, List, [], ◌∷◌, codes}
 use Rattle.std.specs.Fmt.{decimal}
 use Rattle.smx_types.specs.declared.driver.DriverSpec.{DriverSpec}
@@ -13,14 +13,14 @@ use Rattle.smx_types.specs.declared.view.RouteLine.{RouteLine}
 use Rattle.smx_draw.specs.Pieces.{driver_word, joined, link_word, shown_length, side_word, stroke}
 use Rattle.smx_draw.specs.declared.dot.dot_queues.DotQueue.{DotQueue}
 
--- a driver: its name and kind, its minors, its longest message, and its marks
+-- a driver: its name and kind, its minors, its longest message, and its water marks
 abbrev pub driver_line : DriverSpec → List ℕ
 driver_line d =
     joined (codes "  \"" ∷ d.name ∷ codes "\" [style=bold label=\"" ∷ d.name ∷ codes " " ∷ driver_word d.kind ∷
     codes "\\nminors " ∷ decimal d.minors ∷ codes ", longest " ∷ decimal d.max ∷ codes "\\nhigh " ∷
     decimal d.high ∷ codes ", low " ∷ decimal d.low ∷ codes "\"];\n" ∷ [])
 
--- a descriptor above its stream, and that above its driver
+-- a descriptor above its stream, and the stream above its driver
 abbrev pub descriptor_line : DescriptorLine → List ℕ
 descriptor_line d =
     joined (codes "  \"fd:" ∷ decimal d.process ∷ codes ":" ∷ decimal d.fd ∷
@@ -78,7 +78,7 @@ hung_line h =
     codes "\" [style=\"rounded,filled\" xlabel=\"hung up\"]; \"" ∷ h.driver ∷ codes " " ∷ decimal h.minor ∷
     codes "\" -> \"" ∷ h.driver ∷ codes "\";\n" ∷ [])
 
--- a queue with its bytes and the marks of its driver
+-- a queue with its bytes and the water marks of its driver
 abbrev pub queue_line : DotQueue → List ℕ
 queue_line q =
     joined (codes "  \"" ∷ q.driver ∷ codes " " ∷ decimal q.minor ∷ codes " " ∷ side_word q.side ∷

@@ -1,4 +1,4 @@
--- The queues that have messages, as Graphviz is told of them.
+-- The queues with messages, as a picture for Graphviz shows them.
 use Rattle.std.specs.Prelude.{ℕ, ◌+◌, Bool, true, false, ◌&&◌, List, [], ◌∷◌, Option, nat_eq, if◌then◌else◌}
 use Rattle.std.specs.List.{find}
 use Rattle.std.specs.Option.{option_map_or}
@@ -25,7 +25,8 @@ is_in m q = bytes_eq q.driver m.driver && nat_eq q.minor m.minor && same_side q.
 abbrev pub driver_named : List DriverSpec → List ℕ → Option DriverSpec
 driver_named drivers name = find (λ d. bytes_eq d.name name) drivers
 
--- the queue of a message, with its bytes alone, and the marks of its driver; 0 where there is no such driver
+-- the queue of one message, with the bytes of that message only and the water marks of its driver; 0 if there is no
+-- such driver
 abbrev pub queue_of : List DriverSpec → MessageLine → DotQueue
 queue_of drivers m =
     record {
@@ -37,17 +38,18 @@ queue_of drivers m =
       low = option_map_or (λ d. d.low) (driver_named drivers m.driver) 0;
     }
 
--- a message more in a queue
+-- a queue with one more message
 abbrev pub with_message : DotQueue → MessageLine → DotQueue
 with_message q m = record q { bytes = shown_number (q.bytes + shown_length m.message.bytes) }
 
--- this queue, and those of the messages behind it: each message is in the one before it, or begins one
+-- this queue, and those of the messages after it: each message is in the queue of the one before it, or starts a new
+-- one
 abbrev pub queues_from : List DriverSpec → DotQueue → List MessageLine → List DotQueue
 queues_from drivers q [] = q ∷ []
 queues_from drivers q (m ∷ ms) =
     if is_in m q then queues_from drivers (with_message q m) ms else q ∷ queues_from drivers (queue_of drivers m) ms
 
--- the queues of messages that are in the order of their places
+-- the queues of messages that are sorted by place
 abbrev pub queues_of : List DriverSpec → List MessageLine → List DotQueue
 queues_of drivers [] = []
 queues_of drivers (m ∷ ms) = queues_from drivers (queue_of drivers m) ms

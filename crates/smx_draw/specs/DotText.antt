@@ -7,7 +7,7 @@ use Rattle.smx_draw.specs.DotLines.{binding_line, descriptor_line, driver_line, 
 use Rattle.smx_draw.specs.DotLines.{link_line, message_line, queue_line, route_line}
 use Rattle.smx_draw.specs.DotQueues.{queues_of}
 
--- the graph, which merges edges that are drawn twice, and how nodes and edges look
+-- the start of the graph, which merges edges that are drawn twice, and the style of nodes and edges
 abbrev pub dot_head : List ℕ
 dot_head =
     codes "strict digraph muxsim {\n" ++ codes "  graph [rankdir=TB nodesep=0.2 fontname=\"sans-serif\"];\n"
@@ -25,7 +25,7 @@ dot_view v =
     ++ (flat_map route_line v.routes ++ (flat_map message_line v.msgs ++ (flat_map full_line v.fulls
     ++ flat_map hung_line v.hungs)))))
 
--- the text: a line for each driver, for each queue that has messages, and for each part of the view
+-- the text: a line for each driver, for each queue with messages, and for each part of the view
 abbrev pub dot_text : List DriverSpec → ConfigView → List ℕ
 dot_text drivers v =
     dot_head ++ (flat_map driver_line drivers

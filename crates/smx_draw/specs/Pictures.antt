@@ -1,4 +1,4 @@
--- A picture of the configuration that a transcript shows, and what stands in it.
+-- A picture of the configuration that a transcript shows, and what it contains.
 use Rattle.std.specs.Prelude.{◌≡◌, ℕ, List}
 use Rattle.std.specs.List.{AllByRecursion}
 use Rattle.smx_types.specs.declared.driver.DriverSpec.{DriverSpec}
@@ -16,20 +16,20 @@ use Rattle.smx_draw.specs.declared.form.Form.{Form}
 use Rattle.smx_draw.specs.declared.form.Form.TheVariants.{Svg, Dot}
 use Rattle.smx_draw.specs.declared.svg.area.Area.{Area}
 
--- a picture of the configuration that a transcript shows, in a form
+-- a picture of the configuration that a transcript shows, in this form
 abbrev pub IsPictureOf : Form → Transcript → List ℕ → Type 0
 IsPictureOf Svg t output = IsSvgOf t.drivers t.view output
 IsPictureOf Dot t output = output ≡ dot_text t.drivers t.view
 
--- each of these has its element in the text, at some place
+-- the text contains the element of each of these, at some place
 abbrev pub EachIsDrawn : {X : Type 0} → (X → Area → List ℕ) → List X → List ℕ → Type 0
 EachIsDrawn element xs output = AllByRecursion (λ x. (at : Area) × HasPart output (element x at)) xs
 
--- each of these has its line in the text
+-- the text contains the line of each of these
 abbrev pub EachHasLine : {X : Type 0} → (X → List ℕ) → List X → List ℕ → Type 0
 EachHasLine line xs output = AllByRecursion (λ x. HasPart output (line x)) xs
 
--- each driver and each part of a view has its element
+-- the text contains the element of each driver and of each part of the view
 pub record HasEachInSvg (table : List DriverSpec) (v : ConfigView) (output : List ℕ) : Type 0 where
   pub drivers : EachIsDrawn driver_element table output
   pub hungs : EachIsDrawn hung_element v.hungs output
@@ -40,7 +40,7 @@ pub record HasEachInSvg (table : List DriverSpec) (v : ConfigView) (output : Lis
   pub fulls : EachIsDrawn full_element v.fulls output
   pub links : EachIsDrawn link_element v.links output
 
--- each driver, each queue that has messages, and each part of a view has its line
+-- the text contains the line of each driver, of each queue with messages, and of each part of the view
 pub record HasEachInDot (table : List DriverSpec) (v : ConfigView) (output : List ℕ) : Type 0 where
   pub drivers : EachHasLine driver_line table output
   pub queues : EachHasLine queue_line (queues_of table v.msgs) output

@@ -1,4 +1,4 @@
--- The pieces that a line of a picture is made of, as text.
+-- The pieces of a picture's line, as text.
 use Rattle.std.specs.Prelude.{ℕ, List, length, min, codes}
 use Rattle.std.specs.Fmt.{decimal}
 use Rattle.std.specs.List.{flat_map}
@@ -31,15 +31,15 @@ abbrev pub side_word : Side → List ℕ
 side_word side.Write = codes "write"
 side_word side.Read = codes "read"
 
--- a number, as far as one goes
+-- a number, at most the largest of 32 bits
 abbrev pub shown_number : ℕ → ℕ
 shown_number n = min n 4294967295
 
--- how many bytes these are, as far as a number goes
+-- the number of bytes, at most the largest number of 32 bits
 abbrev pub shown_length : List ℕ → ℕ
 shown_length bytes = shown_number (length bytes)
 
--- a text as it stands, a number in decimal, a name, a word
+-- a text as it is, a number in decimal, a name, a word
 abbrev pub piece_text : Piece → List ℕ
 piece_text (piece.Text text) = text.now
 piece_text (piece.Number n) = decimal n
@@ -51,10 +51,10 @@ piece_text (piece.Link kind) = link_word kind
 piece_text (piece.Stroke kind) = stroke kind
 piece_text (piece.Side side) = side_word side
 
--- pieces, one behind the other
+-- pieces, one after the other
 abbrev pub pieces_text : List Piece → List ℕ
 pieces_text pieces = flat_map piece_text pieces
 
--- texts, one behind the other
+-- texts, one after the other
 abbrev pub joined : List (List ℕ) → List ℕ
 joined texts = flat_map (λ text. text) texts

@@ -15,7 +15,7 @@ use Rattle.smx_draw.specs.declared.svg.area.Area.{Area}
 use Rattle.smx_draw.specs.declared.svg.boxes.Gauge.{Gauge}
 use Rattle.smx_draw.specs.declared.svg.boxes.StreamBox.{StreamBox}
 
--- a driver: its name and kind, its minors, its longest message, and its marks
+-- a driver: its name and kind, its minors, its longest message, and its water marks
 abbrev pub driver_element : DriverSpec → Area → List ℕ
 driver_element d at =
     joined (box (driver_word d.kind) at ∷ codes "<text class=\"name\" x=\"" ∷ decimal at.left ∷
@@ -32,7 +32,7 @@ stream_element s at =
     joined (box (codes "stream") at ∷ codes "<text x=\"" ∷ decimal at.left ∷ codes "\" y=\"" ∷ decimal at.top ∷
     codes "\" dx=\"5\" dy=\"13\">" ∷ s.driver ∷ codes " " ∷ decimal s.minor ∷ codes "</text></g>\n" ∷ [])
 
--- a queue: its side, its bytes and its marks, in numbers and as a gauge
+-- a queue: its side, its bytes and its water marks, in numbers and as a gauge
 abbrev pub gauge_element : Gauge → Area → List ℕ
 gauge_element g at =
     joined (box (codes "queue") at ∷ codes "<path class=\"bytes\" d=\"M" ∷ decimal at.left ∷ codes " " ∷
@@ -48,7 +48,7 @@ descriptor_element d at =
     codes "\" dx=\"5\" dy=\"11\">process " ∷ decimal d.process ∷ codes " fd " ∷ decimal d.fd ∷
     codes "</text>\n" ∷ [])
 
--- the address that a stream is bound to
+-- the address to which a stream is bound
 abbrev pub binding_element : BindingLine → Area → List ℕ
 binding_element b at =
     joined (codes "<text class=\"address\" x=\"" ∷ decimal at.left ∷ codes "\" y=\"" ∷ decimal at.top ∷
@@ -61,7 +61,7 @@ route_element r at =
     codes "\" dx=\"0\" dy=\"11\">route " ∷ decimal r.addr ∷ codes " by link " ∷ decimal r.id ∷
     codes "</text>\n" ∷ [])
 
--- a link: a way from its upper driver to its lower stream, its id and kind, and its controlling stream
+-- a link: a curve from its upper driver to its lower stream, its id and kind, and its controlling stream
 abbrev pub link_element : LinkLine → Area → List ℕ
 link_element l at =
     joined (curve l.kind at ∷ codes "<text class=\"id\" x=\"" ∷ decimal at.right ∷ codes "\" y=\"" ∷

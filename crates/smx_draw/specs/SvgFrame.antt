@@ -10,7 +10,7 @@ svg_size width height =
     decimal height ∷ codes "\" viewBox=\"0 0 " ∷ decimal width ∷ codes " " ∷ decimal height ∷ codes "\">\n" ∷
     [])
 
--- how its parts look
+-- the style of its parts
 abbrev pub svg_looks : List ℕ
 svg_looks =
     joined (codes "<style>\n" ∷ codes "text { font: 10px sans-serif; fill: #1f2328 }\n" ∷

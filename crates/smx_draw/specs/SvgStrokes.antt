@@ -1,18 +1,19 @@
--- The boxes and the curves that elements begin with.
+-- The boxes and the curves at the start of elements.
 use Rattle.std.specs.Prelude.{ℕ, List, [], ◌∷◌, codes}
 use Rattle.std.specs.Fmt.{decimal}
 use Rattle.smx_types.specs.declared.link.LinkKind.{LinkKind}
 use Rattle.smx_draw.specs.Pieces.{joined, link_word}
 use Rattle.smx_draw.specs.declared.svg.area.Area.{Area}
 
--- the beginning of a group of this class, and a rectangle
+-- the start of a group of this class, and a rectangle
 abbrev pub box : List ℕ → Area → List ℕ
 box class at =
     joined (codes "<g class=\"" ∷ class ∷ codes "\"><path d=\"M" ∷ decimal at.left ∷ codes " " ∷ decimal at.top ∷
     codes "H" ∷ decimal at.right ∷ codes "V" ∷ decimal at.bottom ∷ codes "H" ∷ decimal at.left ∷
     codes "Z\"/>" ∷ [])
 
--- the beginning of a group for a link of this kind, a curve from a point with a dot, and a line to the second point
+-- the start of a group for a link of this kind: a curve from a first point, marked with a dot, and a line to the
+-- second point
 abbrev pub curve : LinkKind → Area → List ℕ
 curve kind at =
     joined (codes "<g class=\"" ∷ link_word kind ∷ codes "\"><path d=\"M" ∷ decimal at.left ∷ codes " " ∷

@@ -1,4 +1,4 @@
--- Worked texts for Graphviz, typed in.
+-- Worked texts for Graphviz, typed in by hand.
 use Rattle.std.specs.Prelude.{◌≡◌, ℕ, List, [], ◌∷◌, ◌++◌, map, codes, refl}
 use Rattle.std.specs.Fmt.{digits}
 use Rattle.smx_types.specs.declared.stream.Side.TheVariants.{Read, Write}
@@ -8,12 +8,12 @@ use Rattle.smx_draw.specs.DotText.{dot_text}
 use Rattle.smx_draw.specs.Pieces.{shown_number}
 use Rattle.smx_draw.specs.WorkedViews.{eth, ip, message, messages, nothing, shown, table, tap}
 
--- a number is shown as far as one goes
+-- a number above the largest of 32 bits is shown as that one
 pub the_most_is_shown : map shown_number (4294967294 ∷ 4294967295 ∷ 4294967296 ∷ [])
     ≡ 4294967294 ∷ 4294967295 ∷ 4294967295 ∷ []
 the_most_is_shown = refl
 
--- five queues: the bytes of those that have two messages are those of both
+-- five queues; a queue with two messages has the bytes of both
 pub messages_are_in_five_queues : queues_of table messages
     ≡ record { driver = ip; minor = 1; side = Write; bytes = 8; high = 8; low = 3 }
     ∷ record { driver = ip; minor = 1; side = Read; bytes = 2; high = 8; low = 3 }
@@ -22,13 +22,13 @@ pub messages_are_in_five_queues : queues_of table messages
     ∷ record { driver = tap; minor = 1; side = Write; bytes = 2; high = 0; low = 0 } ∷ []
 messages_are_in_five_queues = refl
 
--- three messages, of which the last is again in the queue of the first
+-- three messages, the last of them in the same queue as the first
 abbrev pub back_again : List MessageLine
 back_again =
     message ip 1 Read 21 77 (1 ∷ []) ∷ message ip 1 Write 22 77 (1 ∷ 2 ∷ [])
     ∷ message ip 1 Read 23 77 (1 ∷ 2 ∷ 3 ∷ []) ∷ []
 
--- what comes back to a queue begins it anew
+-- a queue that messages return to is started anew
 pub a_queue_is_left : map (λ q. q.bytes) (queues_of table back_again) ≡ 1 ∷ 2 ∷ 3 ∷ []
 a_queue_is_left = refl
 

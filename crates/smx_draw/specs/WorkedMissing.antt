@@ -1,16 +1,16 @@
--- What is missed in the empty text: whatever a view has.
+-- The empty text lacks each part of a view.
 use Rattle.std.specs.Prelude.{List, []}
 use Rattle.smx_types.specs.declared.driver.DriverSpec.{DriverSpec}
 use Rattle.smx_types.specs.declared.view.ConfigView.{ConfigView}
 use Rattle.smx_draw.specs.Pictures.{HasEachInDot, HasEachInSvg}
 use Rattle.smx_draw.specs.WorkedViews.{nothing, shown, table}
 
--- the empty text has not each part
+-- the empty text does not contain every part
 pub record IsMissed (drivers : List DriverSpec) (v : ConfigView) : Type 0 where
   pub svg : HasEachInSvg drivers v [] → ⊥
   pub dot : HasEachInDot drivers v [] → ⊥
 
--- so it is for drivers alone, and for each kind of line alone
+-- this holds for drivers only, and for each kind of line only
 pub record EachIsMissed : Type 0 where
   pub drivers : IsMissed table nothing
   pub descriptors : IsMissed [] (record nothing { fds = shown.fds })
@@ -21,7 +21,7 @@ pub record EachIsMissed : Type 0 where
   pub fulls : IsMissed [] (record nothing { fulls = shown.fulls })
   pub hungs : IsMissed [] (record nothing { hungs = shown.hungs })
 
--- of no driver and no line it has all
+-- the empty text contains every part if there is no driver and no line
 pub record NothingIsMissed : Type 0 where
   pub svg : HasEachInSvg [] nothing []
   pub dot : HasEachInDot [] nothing []

@@ -1,4 +1,4 @@
--- A worked picture as SVG, typed in.
+-- A worked picture as SVG, typed in by hand.
 use Rattle.std.specs.Prelude.{ℕ, ◌+◌, List, [], ◌∷◌, ◌++◌, codes, refl}
 use Rattle.std.specs.Fmt.{digits}
 use Rattle.smx_types.specs.declared.stream.Side.TheVariants.{Read, Write}
@@ -8,11 +8,11 @@ use Rattle.smx_draw.specs.declared.svg.area.Area.{Area}
 use Rattle.smx_draw.specs.declared.svg.boxes.Gauge.{Gauge}
 use Rattle.smx_draw.specs.declared.svg.boxes.StreamBox.{StreamBox}
 
--- a place, with other numbers in each field
+-- a place, with a different number in each field
 abbrev pub at : ℕ → Area
 at n = record { left = n + 11; top = n + 22; right = n + 33; bottom = n + 44; bend = n + 55 }
 
--- a stream, and its queues
+-- a stream and its queues
 abbrev pub stream : StreamBox
 stream = record { driver = ip; minor = 1; area = at 300 }
 
@@ -22,7 +22,7 @@ written = record { side = Write; bytes = 5; high = 8; level = 321; mark = 322; a
 abbrev pub unread : Gauge
 unread = record { side = Read; bytes = 6; high = 8; level = 323; mark = 324; area = at 400 }
 
--- the head: its size, how its parts look, and what the looks mean
+-- the head: its size, the style of its parts, and the legend
 abbrev pub worked_head : List ℕ
 worked_head =
     codes "<svg xmlns=\"http://www.w3.org/2000/svg\" width=\"640\" height=\"480\" viewBox=\"0 0 640"
@@ -145,7 +145,7 @@ abbrev pub worked_foot : List ℕ
 worked_foot =
     codes "<text x=\"24\" y=\"44\">next link 3, next message 28</text>\n</svg>\n"
 
--- all of it
+-- the whole text
 abbrev pub worked_boxes : List ℕ
 worked_boxes = worked_head ++ drawn_drivers ++ drawn_stream ++ drawn_written ++ drawn_unread
 
@@ -156,7 +156,7 @@ worked_parts = worked_boxes ++ drawn_hung ++ drawn_descriptor ++ drawn_binding +
 abbrev pub worked_svg : List ℕ
 worked_svg = worked_parts ++ worked_foot
 
--- the drivers, the stream and its queues are drawn behind the head
+-- the drivers, the stream and its queues are drawn after the head
 pub boxes_are_drawn : DrawsBoxes table worked_head worked_boxes
 unfolding digits
 boxes_are_drawn =
@@ -173,7 +173,7 @@ boxes_are_drawn =
       read_drawn = (at 400, refl);
     }
 
--- then each part of the view
+-- then each part of the view is drawn
 pub parts_are_drawn : DrawsView shown worked_boxes worked_parts
 unfolding digits
 parts_are_drawn =
@@ -195,7 +195,7 @@ parts_are_drawn =
       links = (at 3000, (at 3100, refl));
     }
 
--- so it is a picture of the view
+-- so the text is a picture of the view
 pub is_a_picture : IsSvgOf table shown worked_svg
 unfolding digits
 is_a_picture =

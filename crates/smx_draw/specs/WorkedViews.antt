@@ -1,4 +1,4 @@
--- Drivers and a view that worked pictures show: each kind of line, both kinds of drivers and of links, and both sides.
+-- Drivers and a view for worked pictures: each kind of line, both kinds of drivers and of links, and both sides.
 use Rattle.std.specs.Prelude.{ℕ, List, [], ◌∷◌, codes}
 use Rattle.smx_types.specs.declared.driver.DriverKind.TheVariants.{Leaf, Mux}
 use Rattle.smx_types.specs.declared.driver.DriverSpec.{DriverSpec}
@@ -15,17 +15,17 @@ ip = codes "ip"
 abbrev pub eth : List ℕ
 eth = codes "eth"
 
--- what is no driver
+-- a name that no driver has
 abbrev pub tap : List ℕ
 tap = codes "tap"
 
--- a multiplexer and a leaf, with other numbers in each field
+-- a multiplexer and a leaf, with a different number in each field
 abbrev pub table : List DriverSpec
 table =
     record { name = ip; kind = Mux; minors = 4; high = 8; low = 3; max = 16 }
     ∷ record { name = eth; kind = Leaf; minors = 2; high = 64; low = 9; max = 1024 } ∷ []
 
--- a message of a queue
+-- a message in a queue
 abbrev pub message : List ℕ → ℕ → Side → ℕ → ℕ → List ℕ → MessageLine
 message driver minor side serial addr bytes =
     record {
@@ -35,7 +35,7 @@ message driver minor side serial addr bytes =
       message = record { serial = serial; addr = addr; bytes = bytes };
     }
 
--- seven messages in five queues, one of which has no bytes, and one no driver
+-- seven messages in five queues; one queue has no bytes, and the driver of one does not exist
 abbrev pub messages : List MessageLine
 messages =
     message ip 1 Write 21 77 (192 ∷ 255 ∷ 0 ∷ [])

@@ -7,7 +7,7 @@ ghost use Rattle.smx_draw.specs.DotText.{dot_foot, dot_head, dot_text, dot_view}
 mod dot_queues;
 mod lines;
 
-use crate::dot::dot_queues::{DotQueue, queues_of};
+use crate::dot::dot_queues::queues_of;
 use crate::pieces::{Piece, put};
 use smx_types::{ConfigView, DriverSpec, NoMemory};
 use std::alloc::Global;
@@ -17,12 +17,12 @@ pub trait DotLine {
     // Its line.
     ghost line: { Self → List ℕ };
 
-    /// Its line, behind `out`. Where memory runs out, `out` may have a part of it.
+    /// Appends its line to `out`. If memory runs out, `out` may end with a part of it.
     fn put_line(&self, out: &mut Vec<u8>) -> Result<(), NoMemory>
         ensures { OnOk result (out.new.items ≡ out.old.items ++ line self.now) };
 }
 
-/// The text of a configuration over these drivers that is shown so. Fails only for want of memory.
+/// Returns the text of a configuration, given its drivers and its view. Fails only if it is out of memory.
 pub fn write_dot(
     alloc: Global,
     drivers: &[DriverSpec],
@@ -60,7 +60,7 @@ fn put_foot(out: &mut Vec<u8>) -> Result<(), NoMemory>
     put(out, &[Piece::Text(b"}\n")])
 }
 
-// The lines of a view, its groups in their order.
+// Appends the lines of a view, group by group.
 fn put_view(out: &mut Vec<u8>, view: &ConfigView) -> Result<(), NoMemory>
     ensures { OnOk result (out.new.items ≡ out.old.items ++ dot_view view.now) }
 {
@@ -74,7 +74,7 @@ fn put_view(out: &mut Vec<u8>, view: &ConfigView) -> Result<(), NoMemory>
     Ok(())
 }
 
-// A line for each of these.
+// Appends the line of each item.
 fn put_lines<T: DotLine>(out: &mut Vec<u8>, items: &[T]) -> Result<(), NoMemory>
     ensures { OnOk result (out.new.items ≡ out.old.items ++ flat_map T.line items.now) }
 {

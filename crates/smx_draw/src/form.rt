@@ -1,6 +1,6 @@
 //! The two forms of a picture.
 
-/// In which language a picture is written.
+/// The language of a picture.
 #[derive(Clone, Copy, Debug, PartialEq, Eq)]
 pub enum Form {
     /// SVG 1.1, for browsers and viewers.

@@ -1,4 +1,5 @@
-//! Pictures of a configuration: its drivers in layers, its streams, links and queues, as SVG or as Graphviz's text.
+//! Pictures of a configuration: its drivers in layers, its streams, links and queues, as SVG or as a text for
+//! Graphviz.
 #![tactic(auto)]
 
 mod dot;

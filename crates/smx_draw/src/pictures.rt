@@ -9,8 +9,8 @@ use crate::svg::write_svg;
 use smx_types::{NoMemory, Transcript};
 use std::alloc::Global;
 
-/// A picture of the configuration that a transcript shows, whether its history is legal or not, and whatever it shows.
-/// Where it is for Graphviz, the same transcript has the same text. Fails only for want of memory.
+/// Draws the configuration that a transcript shows, whether or not its history is legal, and whatever it shows. For
+/// Graphviz, the same transcript always gives the same text. Fails only if it is out of memory.
 pub fn draw(alloc: Global, transcript: &Transcript, form: Form) -> Result<Vec<u8>, NoMemory>
     ensures { IfOk result (λ v. IsPictureOf form transcript.now v.items) }
 {

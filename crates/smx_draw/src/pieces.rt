@@ -1,4 +1,4 @@
-//! The pieces that a line of a picture is made of.
+//! The pieces of a picture's line.
 
 ghost use Rattle.std.specs.Prelude.{◌≡◌, ◌++◌, OnOk};
 ghost use Rattle.std.specs.Fmt.{decimal};
@@ -8,7 +8,7 @@ ghost use Rattle.smx_draw.specs.Pieces.{piece_text, pieces_text, shown_length};
 use itoa::Buffer;
 use smx_types::{Bytes, DriverKind, LinkKind, Name, NoMemory, Process, Side};
 
-/// A part of a line. Names are of lower-case letters and digits, so nothing that is written has to be escaped.
+/// A part of a line. Names consist of lower-case letters and digits, so nothing that is written needs escaping.
 #[derive(Clone, Copy)]
 pub enum Piece<'a> {
     /// This text.
@@ -21,9 +21,9 @@ pub enum Piece<'a> {
     Length(&'a Bytes),
     /// The name of a driver.
     Name(&'a Name),
-    /// Whether a driver is a multiplexing one.
+    /// Whether a driver is a leaf or a multiplexer.
     Driver(DriverKind),
-    /// How long a link stays.
+    /// Whether a link is ordinary or persistent.
     Link(LinkKind),
     /// How Graphviz draws a link of this kind.
     Stroke(LinkKind),
@@ -31,7 +31,7 @@ pub enum Piece<'a> {
     Side(Side),
 }
 
-/// These pieces, one behind the other, behind `out`. Where memory runs out, `out` may have some of them.
+/// Appends these pieces to `out`. If memory runs out, `out` may end with some of them.
 pub fn put(out: &mut Vec<u8>, pieces: &[Piece]) -> Result<(), NoMemory>
     ensures { OnOk result (out.new.items ≡ out.old.items ++ pieces_text pieces.now) }
 {
@@ -70,7 +70,7 @@ fn put_number(out: &mut Vec<u8>, number: u32) -> Result<(), NoMemory>
     put_text(out, Buffer::new().format(number).as_bytes())
 }
 
-/// The word for a kind of driver.
+/// Returns the word for a kind of driver.
 pub fn word_of_driver(kind: DriverKind) -> &'static [u8]
     ensures { result.now ≡ driver_word kind }
 {
@@ -107,7 +107,7 @@ fn word_of_side(side: Side) -> &'static [u8]
     }
 }
 
-/// How many bytes these are, as far as a number goes.
+/// Returns the number of bytes, at most `u32::MAX`.
 pub fn shown_length(bytes: &[u8]) -> u32
     ensures { result ≡ shown_length bytes.now }
 {

@@ -35,15 +35,15 @@ pub trait Drawn {
     // Its element at some place.
     ghost element: { Self → Area → List ℕ };
 
-    /// Where it is drawn.
+    /// Returns the place where it is drawn.
     fn place(&self, plan: &mut Plan) -> Area;
 
-    /// Its element, behind `out`. Where memory runs out, `out` may have a part of it.
+    /// Appends its element to `out`. If memory runs out, `out` may end with a part of it.
     fn put_at(&self, at: Area, out: &mut Vec<u8>) -> Result<(), NoMemory>
         ensures { OnOk result (out.new.items ≡ out.old.items ++ element self.now at) };
 }
 
-/// The picture of a configuration over these drivers that is shown so. Fails only for want of memory.
+/// Returns the picture of a configuration, given its drivers and its view. Fails only if it is out of memory.
 pub fn write_svg(
     alloc: Global,
     drivers: &[DriverSpec],
@@ -60,7 +60,7 @@ pub fn write_svg(
     Ok(out)
 }
 
-// The plan of the picture.
+// Makes the plan of the picture.
 fn plan_of(alloc: Global, drivers: &[DriverSpec], view: &ConfigView) -> Result<Plan, NoMemory> {
     let mut plan = Plan::new(alloc, drivers)?;
     name_streams(&mut plan, view)?;
@@ -74,7 +74,7 @@ fn plan_of(alloc: Global, drivers: &[DriverSpec], view: &ConfigView) -> Result<P
     Ok(plan)
 }
 
-// A column for each stream that a line of the view names.
+// Adds each stream that a line of the view names.
 fn name_streams(plan: &mut Plan, view: &ConfigView) -> Result<(), NoMemory> {
     name_all(plan, view.fds.as_slice())?;
     name_all(plan, view.links.as_slice())?;
@@ -85,7 +85,7 @@ fn name_streams(plan: &mut Plan, view: &ConfigView) -> Result<(), NoMemory> {
     plan.make_columns()
 }
 
-// The drivers, and the streams and queues that the view names.
+// Appends the drivers, and the streams and queues that the view names.
 fn put_boxes(
     alloc: Global,
     plan: &mut Plan,
@@ -104,7 +104,7 @@ fn put_boxes(
     Ok(())
 }
 
-// The parts of a view, the links above the others.
+// Appends the parts of a view. Links come last, so they are drawn over the others.
 fn put_view(plan: &mut Plan, out: &mut Vec<u8>, view: &ConfigView) -> Result<(), NoMemory>
     ensures { OnOk result (DrawsView view.now out.old.items out.new.items) }
 {
@@ -118,7 +118,7 @@ fn put_view(plan: &mut Plan, out: &mut Vec<u8>, view: &ConfigView) -> Result<(),
     Ok(())
 }
 
-// An element for each of these.
+// Appends the element of each item.
 fn draw_all<T: Drawn>(plan: &mut Plan, out: &mut Vec<u8>, items: &[T]) -> Result<(), NoMemory>
     ensures { OnOk result (Draws T.element items.now out.old.items out.new.items) }
 {

@@ -1,4 +1,4 @@
--- Two texts that are read line by line, as long as their lines are the same.
+-- Reading two texts line by line, as long as their lines are the same.
 use Rattle.std.proofs.Common.{◌≡◌, ℕ, ◌+◌, List, [], ◌∷◌, ◌++◌, length, refl, sym, ap, ◌∙◌, append_assoc, arith}
 use Rattle.std.specs.List.{AllByRecursion}
 use Rattle.std.proofs.lemmas.List.{length-append}
@@ -8,7 +8,7 @@ use Rattle.smx_explain.specs.Differences.{Begin}
 
 -- ---- lines
 
--- lines with one more are the text of the others, then that line and its line feed
+-- the text of lines with one more is the text of the others, then that line and its line feed
 whole_more : (lines : List (List ℕ)) (line : List ℕ)
     → lines_text (lines ++ line ∷ []) ≡ lines_text lines ++ (line ++ LINE_FEED ∷ [])
 whole_more [] line = append_nothing (line ++ LINE_FEED ∷ []) where
@@ -18,7 +18,7 @@ whole_more [] line = append_nothing (line ++ LINE_FEED ∷ []) where
 whole_more (l ∷ lines) line = ap (λ (xs : List ℕ). (l ++ LINE_FEED ∷ []) ++ xs) (whole_more lines line)
     ∙ sym (append_assoc (l ++ LINE_FEED ∷ []) (lines_text lines) (line ++ LINE_FEED ∷ []))
 
--- bytes that begin with lines and go on with one more begin with these and that one
+-- bytes that begin with lines and then one more begin with the lines including that one
 shifted : (lines : List (List ℕ)) (line more bytes : List ℕ) → bytes ≡ lines_text lines ++ (line ++ LINE_FEED ∷ more)
     → bytes ≡ lines_text (lines ++ line ∷ []) ++ more
 shifted lines line more bytes is =
@@ -28,7 +28,7 @@ shifted lines line more bytes is =
       append_assoc line (LINE_FEED ∷ []) more,
     ) is
 
--- where no line feed stands in some lines, nor in one more, none stands in any of all
+-- if no line has a line feed in it, and one more has none, none of them all has
 all_more : (lines : List (List ℕ)) (line : List ℕ) → AllByRecursion IsOneLine lines → IsOneLine line
     → AllByRecursion IsOneLine (lines ++ line ∷ [])
 all_more [] line all one = (one, tt)
@@ -43,7 +43,7 @@ pub record HasCome (one other rest behind : List ℕ) (number : ℕ) : Type 0 wh
   pub counted : number ≡ length lines + 1
 
 module _ (one other rest behind : List ℕ) (number : ℕ) (h : HasCome one other rest behind number) where
-  -- where the next line of both texts is the same, one line more was read of both
+  -- if the next line of both texts is the same, one more line of both was read
   pub one_more : (told has more after : List ℕ) → IsOneLine told → rest ≡ told ++ LINE_FEED ∷ more
       → behind ≡ has ++ LINE_FEED ∷ after
       → told ≡ has → HasCome one other more after (number + 1)

@@ -1,4 +1,4 @@
--- What is told of a transcript, and what that is by the verdict on it.
+-- The explanation of a transcript, and what it is for each verdict.
 use Rattle.std.proofs.Common.{◌≡◌, ◌≢◌, ℕ, zero, suc, ◌+◌, ◌<◌, Some, List, [], ◌∷◌, ◌++◌, length, map, take, Result}
 use Rattle.std.proofs.Common.{Ok, Err, refl, sym, ap, subst, ◌∙◌, append_assoc, arith, inl, inr, rules}
 use Rattle.std.specs.List.{AllByRecursion}
@@ -21,6 +21,7 @@ use Rattle.smx_text.specs.declared.text_fault.Cause.TheVariants.{NoMemory, Trail
 use Rattle.smx_text.specs.declared.text_fault.TextFault.{TextFault}
 use Rattle.smx_text.proofs.EachLemmas.{all_append, all_left, all_right}
 use Rattle.smx_text.proofs.LineWordLemmas.{one_line_of}
+use Rattle.smx_text.proofs.TranscriptWholeLemmas.{allowed_spellable}
 use Rattle.smx_model.specs.DriverList.{IsDriverList}
 use Rattle.smx_model.specs.Configuration.{empty}
 use Rattle.smx_model.specs.Histories.{after, call_of, IsLegal}
@@ -38,13 +39,13 @@ use Rattle.smx_explain.proofs.TextLemmas.{are_lines, lines_before, text_at, text
 
 -- ---- what the laws of other crates say
 
--- a transcript text has one reading, but for want of memory
+-- a transcript text has one reading, apart from out-of-memory
 abbrev HasOneReading : Type 0
 HasOneReading = (bytes : List ℕ) (r s : Result Transcript TextFault) → ReadsAny transcript_grammar bytes r
     → ReadsAny transcript_grammar bytes s
     → IfErr r (λ f. f.cause ≢ NoMemory) → IfErr s (λ f. f.cause ≢ NoMemory) → r ≡ s
 
--- a replay of an allowed transcript that can be spelled is allowed
+-- a replay of an allowed transcript is allowed, if it can be spelled
 abbrev CanBeTold : Type 0
 CanBeTold = (t r : Transcript) → IsAllowed t.version t → IsReplayOf t r → IsSpellable r → IsAllowed r.version r
 
@@ -52,11 +53,11 @@ CanBeTold = (t r : Transcript) → IsAllowed t.version t → IsReplayOf t r → 
 abbrev HasOneReplay : Type 0
 HasOneReplay = (t r s : Transcript) → IsReplayOf t r → IsReplayOf t s → r ≡ s
 
--- a transcript that is judged legal is its own replay
+-- a transcript whose verdict is legal is its own replay
 abbrev IsItsOwn : Type 0
 IsItsOwn = (t : Transcript) → IsDriverList t.drivers → IsVerdict t.drivers t.entries t.view Legal → IsReplayOf t t
 
--- a replay is judged legal
+-- the verdict on a replay is legal
 abbrev IsJudgedLegal : Type 0
 IsJudgedLegal = (t r : Transcript) → IsReplayOf t r → IsVerdict r.drivers r.entries r.view Legal
 
@@ -73,11 +74,11 @@ DriversAreWords = (d : DriverSpec) → FitsDriver d → AreWords (driver_words d
 abbrev EntriesAreWords : Type 0
 EntriesAreWords = (e : Entry) → FitsEntry e → AreWords (entry_words e)
 
--- no two entries have one line
+-- no two entries have the same line
 abbrev EntriesAreTold : Type 0
 EntriesAreTold = (d e : Entry) → FitsEntry d → FitsEntry e → line_of (entry_words d) ≡ line_of (entry_words e) → d ≡ e
 
--- ---- texts of which none goes on where the other ends
+-- ---- neither text goes on where the other ends
 
 module _ (reading : HasOneReading) (t r : Transcript) (allowed : IsAllowed t.version t)
     (also : IsAllowed r.version r) where
@@ -91,7 +92,7 @@ module _ (reading : HasOneReading) (t r : Transcript) (allowed : IsAllowed t.ver
       (t.version, record { allowed = allowed; text = e }, tt) tt tt in
       cc
 
-  -- nothing follows the text of the one in that of the other
+  -- one text does not go on after the end of the other
   no_longer : (b : ℕ) (more : List ℕ) → transcript_text r ≡ transcript_text t ++ b ∷ more → ⊥
   no_longer b more e =
       let fault : TextFault = record { line = length (body t) + 3; cause = Trailing } in
@@ -102,7 +103,7 @@ module _ (reading : HasOneReading) (t r : Transcript) (allowed : IsAllowed t.ver
       (t.version, (t, b, more, allowed, e, refl), λ is. absurd (cc is)) tt (λ is. cc) in
       absurd cc
 
-  -- where one of two texts has no whole line behind lines that both have, the transcripts are the same
+  -- if one of two texts has no whole line after lines that both have, the transcripts are the same
   end_alike : (lines : List (List ℕ)) (rest behind : List ℕ) → transcript_text t ≡ lines_text lines ++ rest
       → transcript_text r ≡ lines_text lines ++ behind
       → IsOneLine rest → r ≡ t
@@ -131,7 +132,7 @@ alike_same reading t r allowed also h =
 
 module _ (t : Transcript) (text replayed : List ℕ) (spells : SpellsTranscript text t)
     (h : IsReplayText t replayed) where
-  -- where no line differs, nothing is told
+  -- if no line differs, the explanation is empty
   pub told_nothing : HasOneReading → CanBeTold → (output : List ℕ) → AreAlike text replayed → output ≡ []
       → IsExplanation t output
   told_nothing reading can output alike none =
@@ -145,13 +146,13 @@ module _ (t : Transcript) (text replayed : List ℕ) (spells : SpellsTranscript 
         told = inl (alike_same reading t h.replay spells.allowed also both, none);
       }
 
--- ---- what is told below each verdict
+-- ---- the explanation below each verdict
 
--- what is told of a difference is not empty
+-- the text of a difference is not empty
 some_told : (number : ℕ) (told has : List ℕ) → difference_text number told has ≡ [] → ⊥
 some_told number told has e = absurd (cc e)
 
--- below the verdict `legal` nothing is told
+-- below the verdict `legal` the explanation is empty
 pub legal_told : HasOneReplay → IsItsOwn → (t : Transcript) (output : List ℕ) → IsExplanation t output
     → IsVerdict t.drivers t.entries t.view Legal → output ≡ []
 legal_told one own t output h verdict =
@@ -163,7 +164,7 @@ legal_told one own t output h verdict =
           (ap transcript_text same))
     ]
 
--- a transcript below whose verdict nothing is told is judged legal
+-- if the explanation is empty, the verdict is legal
 pub nothing_told : IsJudgedLegal → (t : Transcript) (output : List ℕ) → IsExplanation t output → output ≡ []
     → IsVerdict t.drivers t.entries t.view Legal
 nothing_told judged t output h none =
@@ -198,7 +199,7 @@ entry_lines words (e ∷ es) all = (one_line_of (entry_words e) (words e all.0),
 abbrev lines_to : List DriverSpec → List Entry → List TranscriptLine
 lines_to drivers front = map line.Driver drivers ++ map line.Entry front
 
--- the lines of a transcript are those before an entry, its own, and those behind it
+-- the lines of a transcript are those before an entry, its own, and those after it
 body_at : (t : Transcript) (front : List Entry) (e : Entry) (more : List Entry) → t.entries ≡ front ++ e ∷ more
     → body t ≡ lines_to t.drivers front ++ line.Entry e ∷ (map line.Entry more ++ line.Config ∷ view_body t.view)
 body_at t front e more is =
@@ -237,7 +238,7 @@ lines_are driver entry version drivers front fit fit_too =
 
 -- ---- below `illegal`
 
--- as many come before an entry as its index says
+-- the number of entries before an entry is its index
 front_long : (es : List Entry) (b : ℕ) (e : Entry) → slice_get es b ≡ Some e → length (take b es) ≡ b
 front_long [] b e here = absurd (cc here)
 front_long (x ∷ es) zero e here = refl
@@ -255,7 +256,8 @@ module _ (driver : DriversAreWords) (entry : EntriesAreWords) (t : Transcript) (
       let there = answered t.drivers (after t.drivers front) first.entry in
       let s = stands_in t.drivers empty t.entries h.replay.entries first.before first.entry h.replays.legal
       h.replays.calls first.legal_before first.here in
-      let fit = subst (λ (es : List Entry). AllByRecursion FitsEntry es) s.it allowed.spellable.entries in
+      let own = (allowed_spellable t.version t allowed).0 in
+      let fit = subst (λ (es : List Entry). AllByRecursion FitsEntry es) s.it own.entries in
       let fit_too = subst (λ (es : List Entry). AllByRecursion FitsEntry es) s.its_replay h.spellable.entries in
       let fits = (all_right FitsEntry front (first.entry ∷ s.more) fit).0 in
       let fits_too = (all_right FitsEntry front (there ∷ s.more_too) fit_too).0 in
@@ -284,7 +286,7 @@ module _ (driver : DriversAreWords) (entry : EntriesAreWords) (t : Transcript) (
         more = at.0;
         rest = at_too.0;
         begin = record {
-          are_lines = lines_are driver entry t.version t.drivers front allowed.spellable.drivers
+          are_lines = lines_are driver entry t.version t.drivers front own.drivers
               (all_left FitsEntry front (first.entry ∷ s.more) fit);
           one_is = at.1;
           other_is = as_it;
@@ -293,7 +295,7 @@ module _ (driver : DriversAreWords) (entry : EntriesAreWords) (t : Transcript) (
             (sym (ap (λ (e : Entry). e.reply) (apart first.entry there fits fits_too same)));
       }
 
-  -- below `illegal`, the line of the first illegal entry and that of its replay are told
+  -- below `illegal`, the explanation shows the line of the first illegal entry and that of its replay
   pub illegal_told : EntriesAreTold → (number : ℕ) (first : IsFirstIllegal t.drivers t.entries number)
       → output ≡ difference_text (length t.drivers + number + 1) (line_of (entry_words first.entry))
       (line_of (entry_words (answered t.drivers (after t.drivers (take first.before t.entries)) first.entry)))
@@ -315,7 +317,7 @@ module _ (driver : DriversAreWords) (entry : EntriesAreWords) (t : Transcript) (
   abbrev lines_above : List DriverSpec → List Entry → List TranscriptLine
   lines_above drivers entries = lines_to drivers entries ++ line.Config ∷ []
 
-  -- the lines of a transcript are all lines above the configuration, and then those of its view
+  -- the lines of a transcript are all lines above the configuration, then those of its view
   body_behind : (u : Transcript) → body u ≡ lines_above u.drivers u.entries ++ view_body u.view
   body_behind u =
       sym (append_assoc (map line.Driver u.drivers) (map line.Entry u.entries) (line.Config ∷ view_body u.view))
@@ -347,10 +349,11 @@ module _ (driver : DriversAreWords) (entry : EntriesAreWords) (t : Transcript) (
       are_lines (transcript_grammar t.version) (header_line t.version) (lines_above t.drivers t.entries)
       (all_append IsLine (lines_to t.drivers t.entries) (line.Config ∷ [])
       (all_append IsLine (map line.Driver t.drivers) (map line.Entry t.entries)
-      (driver_lines driver t.drivers allowed.spellable.drivers) (entry_lines entry t.entries allowed.spellable.entries))
+      (driver_lines driver t.drivers (allowed_spellable t.version t allowed).0.drivers)
+      (entry_lines entry t.entries (allowed_spellable t.version t allowed).0.entries))
       (config_line, tt))
 
-  -- below `config differs`, a line that stands below the line `config` is told
+  -- below `config differs`, the explanation shows a line below the line `config`
   pub differs_told : AreDetermined → IsVerdict t.drivers t.entries t.view ConfigDiffers
       → (number : ℕ) × (told has : List ℕ) × (output ≡ difference_text number told has)
       × (length t.drivers + length t.entries + 2 < number)

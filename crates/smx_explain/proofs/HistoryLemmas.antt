@@ -1,4 +1,4 @@
--- A history and the one that its commands give, up to the first entry that is illegal.
+-- A history and the one that its commands give, up to the first illegal entry.
 use Rattle.std.proofs.Common.{◌≡◌, ℕ, zero, suc, List, [], ◌∷◌, ◌++◌, map, take, Some, sym, ap, subst, ◌∙◌}
 use Rattle.std.specs.Prelude.{slice_get}
 use Rattle.smx_types.specs.declared.command.Command.{Command}
@@ -17,7 +17,7 @@ same_entry d e call reply =
     ∙ ap (λ (c : Command). record d { process = e.process; command = c }) (ap (λ (call : ℕ × Command). call.1) call)
     ∙ ap (λ (r : Reply). record e { reply = r }) reply
 
--- at this index the one history has this entry and the other its answer, with the same entries before it
+-- at this index one history has this entry and the other its answer, with the same entries before it
 pub record StandsIn (drivers : List DriverSpec) (c : Configuration) (es rs : List Entry) (b : ℕ)
     (e : Entry) : Type 0 where
   pub more : List Entry
@@ -26,14 +26,14 @@ pub record StandsIn (drivers : List DriverSpec) (c : Configuration) (es rs : Lis
   pub its_replay : rs ≡ take b es ++ answered drivers (after_from drivers c (take b es)) e ∷ more_too
 
 module _ (drivers : List DriverSpec) where
-  -- an entry with the call of another, and the reply of the model, is that other as it is answered
+  -- an entry with the call of another, and the reply of the model, is that other with the model's answer
   answers : (c : Configuration) (x y : Entry) → (step drivers c y.process y.command).1 ≡ y.reply → call_of y ≡ call_of x
       → y ≡ answered drivers c x
   answers c x y legal call =
       same_entry y (answered drivers c x) call
       (sym legal ∙ ap (λ (call : ℕ × Command). (step drivers c call.0 call.1).1) call)
 
-  -- an entry behind a legal history stands there, and its replay where it does
+  -- an entry after a legal history is in the history at this index, and its answer is at the same index of the replay
   pub stands_in : (c : Configuration) (es rs : List Entry) (b : ℕ) (e : Entry) → IsLegalFrom drivers c rs
       → map call_of rs ≡ map call_of es
       → IsLegalFrom drivers c (take b es) → slice_get es b ≡ Some e → StandsIn drivers c es rs b e

@@ -1,4 +1,4 @@
--- Texts that are made of lines: they have one first difference.
+-- Texts that are made of lines have one first difference.
 use Rattle.std.proofs.Common.{◌≡◌, ◌≢◌, ℕ, ◌+◌, ◌<◌, ◌≤◌, List, [], ◌∷◌, ◌++◌, length, map, refl, sym, ap, subst, ◌∙◌}
 use Rattle.std.proofs.Common.{append_assoc, arith, inl, inr}
 use Rattle.std.proofs.lemmas.List.{append_cancel_left}
@@ -11,12 +11,12 @@ use Rattle.smx_explain.specs.Differences.{AreAlike, IsFirstDifference, IsFirstLi
 
 -- ---- bytes
 
--- where two parts joined are nothing, the second is nothing
+-- if two joined parts are empty, the second is empty
 no_part : (xs ys : List ℕ) → xs ++ ys ≡ [] → ys ≡ []
 no_part [] ys e = e
 no_part (x ∷ xs) ys e = absurd (cc e)
 
--- what ends in a line feed does not end in a part of a line
+-- bytes that end in a line feed don't end in a part of a line
 pub no_rest : (xs ys rest : List ℕ) → xs ++ rest ≡ ys ++ LINE_FEED ∷ [] → IsOneLine rest → rest ≡ []
 no_rest [] ys rest e one = absurd (not_one ys [] (subst IsOneLine e one))
 no_rest (x ∷ xs) [] rest e one = let none : xs ++ rest ≡ [] = cc in no_part xs rest none
@@ -24,25 +24,25 @@ no_rest (x ∷ xs) (y ∷ ys) rest e one = let more : xs ++ rest ≡ ys ++ LINE_
 
 -- ---- lines
 
--- lines with bytes behind them begin with the first line and its line feed
+-- lines with bytes after them begin with the first line and its line feed
 cons : (line : List ℕ) (lines : List (List ℕ)) (rest : List ℕ)
     → lines_text (line ∷ lines) ++ rest ≡ line ++ LINE_FEED ∷ (lines_text lines ++ rest)
 cons line lines rest = simp append_assoc
 
--- what is written of values, each with a line feed behind it, is the lines that are made of them
+-- the text of values, each followed by a line feed, is the text of the lines that are made of them
 pub whole_map : {A : Type 0} (f : A → List ℕ) (xs : List A)
     → flat_map (λ x. f x ++ LINE_FEED ∷ []) xs ≡ lines_text (map f xs)
 whole_map f [] = refl
 whole_map f (x ∷ xs) = ap (λ (rest : List ℕ). (f x ++ LINE_FEED ∷ []) ++ rest) (whole_map f xs)
 
--- a line that both have first is no difference
+-- a line that both have first is not a difference
 no_first : (l told has more rest a b : List ℕ) → IsOneLine l → IsOneLine told → IsOneLine has → told ≢ has
     → l ++ LINE_FEED ∷ a ≡ told ++ LINE_FEED ∷ more
     → l ++ LINE_FEED ∷ b ≡ has ++ LINE_FEED ∷ rest → ⊥
 no_first l told has more rest a b one one_told one_has differ e k =
     differ (sym (one_cut l told a more one one_told e).0 ∙ (one_cut l has b rest one one_has k).0)
 
--- two ways to begin both with lines and then with lines that differ are one
+-- two ways to split both texts at lines that differ are one
 pub one_front : (ls ms : List (List ℕ)) (told has told_too has_too more rest more_too rest_too : List ℕ)
     → AllByRecursion IsOneLine ls → AllByRecursion IsOneLine ms → IsOneLine told → IsOneLine has → IsOneLine told_too
     → IsOneLine has_too
@@ -70,7 +70,7 @@ one_front (l ∷ ls) (m ∷ ms) told has told_too has_too more rest more_too res
     differ_too cut.1 cut_too.1 in
     (omega (arith, t.0), t.1, t.2)
 
--- lines that both begin with come before the difference
+-- lines with which both begin come before the difference
 pub past_front : (ps ls : List (List ℕ)) (told has more rest x y : List ℕ)
     → AllByRecursion IsOneLine ps → AllByRecursion IsOneLine ls → IsOneLine told → IsOneLine has → told ≢ has
     → lines_text ls ++ (told ++ LINE_FEED ∷ more) ≡ lines_text ps ++ x
@@ -105,7 +105,7 @@ no_difference one other n told has h same =
     let rests = append_cancel_left (lines_text h.before) _ _ (sym h.begin.one_is ∙ same ∙ h.begin.other_is) in
     h.differ (one_cut told has h.more h.rest h.told_is_one h.has_is_one rests).0
 
--- two texts with the same lines, behind which one of them has no whole line more, have no line that differs
+-- two texts with the same lines, after which one has no further whole line, have no line that differs
 alike_before : (ps ls : List (List ℕ)) (told has more rest x y : List ℕ)
     → AllByRecursion IsOneLine ps → AllByRecursion IsOneLine ls → IsOneLine told → IsOneLine has → told ≢ has
     → lines_text ls ++ (told ++ LINE_FEED ∷ more) ≡ lines_text ps ++ x
@@ -146,7 +146,7 @@ one_first_line bytes one other (a, inr (after, is)) (b, inr (behind, is_too)) =
 
 -- ---- a line by its number
 
--- what the lines from this one on are, whatever lines come before and behind
+-- however `text` is split before line `number`, `bytes` is the rest of it from line `at` on
 abbrev pub IsFrom : List ℕ → ℕ → ℕ → List ℕ → Type 0
 IsFrom text number at bytes =
     (before : List (List ℕ)) (rest : List ℕ) → AllByRecursion IsOneLine before → number ≡ length before + 1
@@ -154,7 +154,7 @@ IsFrom text number at bytes =
     → (behind : List (List ℕ)) × AllByRecursion IsOneLine behind × (length behind + at ≡ number)
     × (bytes ≡ lines_text behind ++ rest)
 
--- behind a whole line, the lines from the next number on follow
+-- after a whole line, the lines from the next number on follow
 pub one_further : (text : List ℕ) (number at : ℕ) (bytes line after : List ℕ) → IsFrom text number at bytes
     → at < number → IsOneLine line
     → bytes ≡ line ++ LINE_FEED ∷ after → IsFrom text number (at + 1) after
@@ -173,7 +173,7 @@ one_further text number at bytes line after h less one is =
         (one_cut line b after (lines_text behind ++ rest) one all.0 (sym is ∙ e ∙ cons b behind rest)).1,
       )
 
--- where no line feed stands in what follows, there is no line of the number that is wanted
+-- if the rest has no line feed in it, it has no line of a later number
 pub none_further : (text : List ℕ) (number at : ℕ) (bytes : List ℕ) → IsFrom text number at bytes → at < number
     → IsOneLine bytes
     → (before : List (List ℕ)) (rest : List ℕ) → AllByRecursion IsOneLine before → number ≡ length before + 1

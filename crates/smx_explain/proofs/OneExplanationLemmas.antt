@@ -1,4 +1,4 @@
--- Of a transcript one thing is told.
+-- A transcript has only one explanation.
 use Rattle.std.proofs.Common.{◌≡◌, ℕ, List, [], sym, ap, subst, ◌∙◌, inl, inr}
 use Rattle.std.specs.Prelude.{◌⊎◌}
 use Rattle.smx_types.specs.declared.transcript.Transcript.{Transcript}
@@ -7,18 +7,18 @@ use Rattle.smx_text.specs.TranscriptText.{transcript_text}
 use Rattle.smx_explain.specs.Explanations.{IsExplanation, TellsDifference, difference_text}
 use Rattle.smx_explain.proofs.LineLemmas.{no_difference, one_difference}
 
--- two ways to tell of one difference are one
+-- one difference is shown in only one way
 told_once : (one other a b : List ℕ) → TellsDifference one other a → TellsDifference one other b → a ≡ b
 told_once one other a b (n, told, has, first, is) (m, said, had, first_too, is_too) =
     let same = one_difference one other n m told has said had first first_too in
     is ∙ ap (λ (k : ℕ). difference_text k told has) same.0 ∙ ap (λ (l : List ℕ). difference_text m l has) same.1
     ∙ ap (λ (l : List ℕ). difference_text m said l) same.2 ∙ sym is_too
 
--- a text has no difference to tell from itself
+-- a text has no difference from itself to show
 none_told : (one other a : List ℕ) → TellsDifference one other a → one ≡ other → ⊥
 none_told one other a (n, told, has, first, is) same = no_difference one other n told has first same
 
--- where a transcript has one replay, it has one explanation
+-- if a transcript has one replay, it has one explanation
 pub one_explanation : ((t r s : Transcript) → IsReplayOf t r → IsReplayOf t s → r ≡ s) → (t : Transcript)
     (one other : List ℕ) → IsExplanation t one → IsExplanation t other → one ≡ other
 one_explanation determined t one other h k = by_cases h.told k.told where

@@ -1,4 +1,4 @@
--- A text by its lines: where it ends, and where a line of it stands.
+-- A text by its lines: where it ends, and where one of its lines is.
 use Rattle.std.proofs.Common.{◌≡◌, ℕ, List, [], ◌∷◌, ◌++◌, map, sym, ap, ◌∙◌, append_assoc}
 use Rattle.std.specs.List.{AllByRecursion}
 use Rattle.std.proofs.lemmas.List.{append-nil, map-append}
@@ -27,7 +27,7 @@ module _ {V K : Type 0} (g : Grammar V K) where
   abbrev rest_of : List K → List ℕ
   rest_of more = text_of (map g.line_words more ++ g.line_words g.end ∷ [])
 
-  -- the text of a value is the header and some lines of it, and then the text from the others on
+  -- the text of a value is the header and some of its lines, then the text from the others on
   text_from : (v : V) (lines more : List K) → g.body v ≡ lines ++ more
       → full_text g v ≡ lines_text (lines_before lines) ++ rest_of more
   text_from v lines more is =
@@ -41,12 +41,12 @@ module _ {V K : Type 0} (g : Grammar V K) where
       ap (λ (ws : List (List (List ℕ))). text_of ws) split ∙ texts_append before rest
       ∙ ap (λ (bytes : List ℕ). bytes ++ text_of rest) (whole_map line_of before)
 
-  -- a text goes on somehow behind its header and some lines of its value
+  -- a text goes on after its header and some lines of its value
   pub text_behind : (v : V) (lines more : List K) → g.body v ≡ lines ++ more
       → (after : List ℕ) × (full_text g v ≡ lines_text (lines_before lines) ++ after)
   text_behind v lines more is = (rest_of more, text_from v lines more is)
 
-  -- the text goes on with any line of the value behind those before it
+  -- the text goes on with any line of the value after those before it
   pub text_at : (v : V) (lines : List K) (k : K) (more : List K) → g.body v ≡ lines ++ k ∷ more
       → (after : List ℕ) × (full_text g v ≡ lines_text (lines_before lines) ++ (line_text g k ++ LINE_FEED ∷ after))
   text_at v lines k more is = (
@@ -55,7 +55,7 @@ module _ {V K : Type 0} (g : Grammar V K) where
         (append_assoc (line_text g k) (LINE_FEED ∷ []) (rest_of more)),
   )
 
-  -- the header and some lines are lines where each of them is one
+  -- the header and some lines are one line each, if each of these lines is
   pub are_lines : IsOneLine (line_of g.header_words) → (lines : List K)
       → AllByRecursion (λ k. IsOneLine (line_text g k)) lines
       → AllByRecursion IsOneLine (lines_before lines)

@@ -29,7 +29,7 @@ ends_early = record {
   differ = λ e. absurd (cc e);
 }
 
--- what is no whole line differs in none
+-- texts whose last lines are not whole, with no line that differs
 pub not_whole : AreAlike (codes "a\nb") (codes "a\nc")
 not_whole = record {
   lines = codes "a" ∷ [];

@@ -1,4 +1,4 @@
--- What is told below the verdict on a transcript: the first line in which it and its replay differ.
+-- The explanation below the verdict on a transcript: the first line in which it and its replay differ.
 use Rattle.std.specs.Prelude.{◌≡◌, ℕ, List, [], ◌∷◌, ◌++◌, ◌⊎◌, codes}
 use Rattle.std.specs.Fmt.{decimal}
 use Rattle.smx_types.specs.declared.transcript.Transcript.{Transcript}
@@ -7,21 +7,22 @@ use Rattle.smx_text.specs.TranscriptText.{IsSpellable, transcript_text}
 use Rattle.smx_replay.specs.Replays.{IsReplayOf}
 use Rattle.smx_explain.specs.Differences.{IsFirstDifference}
 
--- two lines: what a text has in the line of this number, and what its replay has there
+-- two lines: line `number` of a text, and the same line of its replay
 abbrev pub difference_text : ℕ → List ℕ → List ℕ → List ℕ
 difference_text number told has =
     codes "line " ++ decimal number ++ codes ": " ++ told ++ LINE_FEED ∷ codes "replay: " ++ has ++ LINE_FEED ∷ []
 
--- the output tells the first line in which these texts differ
+-- the output shows the first line in which these texts differ
 abbrev pub TellsDifference : List ℕ → List ℕ → List ℕ → Type 0
 TellsDifference one other output = (number : ℕ) × (told has : List ℕ) × IsFirstDifference one other number told has
     × (output ≡ difference_text number told has)
 
--- what is told of a transcript
+-- the explanation of a transcript
 pub record IsExplanation (t : Transcript) (output : List ℕ) : Type 0 where
-  -- There is its replay, and each line of that can be spelled.
+  -- It has a replay, and each line of the replay can be spelled.
   pub replay : Transcript
   pub replays : IsReplayOf t replay
   pub spellable : IsSpellable replay
-  -- It is the transcript itself, and nothing is told; or the output tells the first line in which they differ.
+  -- The replay is the transcript itself, and the output is empty; or the output shows the first line in which they
+  -- differ.
   pub told : ((replay ≡ t) × (output ≡ [])) ⊎ TellsDifference (transcript_text t) (transcript_text replay) output

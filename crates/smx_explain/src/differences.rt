@@ -8,18 +8,18 @@ use smx_text::next_line;
 use smx_types::NoMemory;
 use std::alloc::Global;
 
-/// A line of two texts that is another in each. Lines are numbered from 1.
+/// A line that differs between two texts. Lines are numbered from 1.
 #[derive(Clone, Copy)]
 pub struct Difference<'a> {
     pub number: usize,
-    /// What the one text has in it, without its line feed.
+    /// The line in the first text, without its line feed.
     pub told: &'a [u8],
-    /// What the other has.
+    /// The line in the second text, without its line feed.
     pub has: &'a [u8],
 }
 
-/// The first line in which two texts differ; `None` where one of them has no whole line more before there is any. Takes
-/// no memory.
+/// Finds the first line in which two texts differ. Returns `None` if one of them has no further whole line before
+/// such a line. Takes no memory.
 pub fn first_difference<'a>(one: &'a [u8], other: &'a [u8]) -> Option<Difference<'a>>
     ensures { MatchOption result (AreAlike one.now other.now)
         (λ d. IsFirstDifference one.now other.now d.number d.told.now d.has.now) }
@@ -43,7 +43,7 @@ pub fn first_difference<'a>(one: &'a [u8], other: &'a [u8]) -> Option<Difference
     }
 }
 
-/// The two lines that tell of a difference. Fails only for want of memory.
+/// Returns the two lines that show a difference. Fails only if it is out of memory.
 pub fn difference_text(alloc: Global, difference: &Difference) -> Result<Vec<u8>, NoMemory>
     ensures { IfOk result (λ text. text.items
         ≡ difference_text difference.now.number difference.now.told.now difference.now.has.now) }

@@ -1,4 +1,4 @@
-//! What is told below the verdict on a transcript.
+//! The explanation below the verdict on a transcript.
 
 ghost use Rattle.std.specs.Prelude.{IfOk, IfErr};
 ghost use Rattle.smx_config.specs.DriverFaults.{RefusesDrivers};
@@ -13,9 +13,9 @@ use smx_text::laws::one_transcript_has_one_reading;
 use smx_types::Transcript;
 use std::alloc::Global;
 
-/// What is told below the verdict on the transcript that a text spells: nothing where it is its own replay, which is
-/// where it is legal; else the first line in which the text and that of its replay differ, as both have it. Refused for
-/// drivers that a configuration can't have, or for want of memory.
+/// Returns the explanation of the transcript that a text spells. It is empty if the transcript is its own replay,
+/// which is so exactly if it is legal. Else it shows the first line in which the text and that of its replay differ,
+/// as each has it. Fails if the drivers are not valid, or if it is out of memory.
 pub fn explain(alloc: Global, text: &[u8], transcript: Transcript) -> Result<Vec<u8>, ConfigFault>
     requires { SpellsTranscript text.now transcript }
     ensures told { IfOk result (λ told. IsExplanation transcript told.items) }

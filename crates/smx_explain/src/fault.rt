@@ -1,4 +1,4 @@
-//! What is shown of a text that is at fault.
+//! Explains why a text is malformed.
 
 use crate::lines::line_at;
 use crate::reasons::{header_reason, limit_reason, order_reason};
@@ -8,22 +8,22 @@ use smx_text::{Cause, TextFault};
 use smx_types::Version;
 use std::fmt;
 
-/// A text, and its fault. It prints two lines: the line at fault by its number, of which 80 columns at the most, and
-/// what is wrong with it. Where it is no line of such a text, the second tells the column from which it is none, which
-/// the first then shows, and what may stand there.
+/// A text and its fault. It prints two lines: at most 80 columns of the malformed line, with its number, and what is
+/// wrong with it. If the line is not valid in such a text by itself, the second line says from which column on, and
+/// what was expected there; the first line then shows that column.
 #[derive(Clone, Copy)]
 pub struct FaultExplanation<'a> {
-    /// What the text was to be.
+    /// The text that was expected.
     pub kind: TextKind,
     /// All that was read.
     pub text: &'a [u8],
-    /// What a reader of such texts has answered for it. Of a line that the text doesn't have, what stands behind its
-    /// last line feed is shown.
+    /// The fault that a reader of such texts returned. If the text has no line of this number, the bytes after its
+    /// last line feed are shown.
     pub fault: TextFault,
 }
 
 impl FaultExplanation<'_> {
-    // Where a line of no form stops being one.
+    // Returns the place at which the line becomes invalid, if it is malformed by itself.
     fn place(&self, line: &[u8]) -> Option<LinePlace> {
         match self.fault.cause {
             Cause::Form => place_of(self.kind, version_of(self.text), line),
@@ -31,7 +31,7 @@ impl FaultExplanation<'_> {
         }
     }
 
-    // What is wrong with a line that has no such place.
+    // Returns what is wrong with a line that has no such place.
     fn reason(&self, line: &[u8]) -> &'static str {
         match self.fault.cause {
             Cause::Header => header_reason(self.kind, line),
@@ -59,7 +59,7 @@ impl fmt::Display for FaultExplanation<'_> {
     }
 }
 
-// The version that the header of a text names.
+// Returns the version that the header of a text names.
 fn version_of(text: &[u8]) -> Version {
     match line_at(text, 1) {
         b"programs 2" | b"transcript 2" => Version::V2,
@@ -67,8 +67,8 @@ fn version_of(text: &[u8]) -> Version {
     }
 }
 
-// A line of no form, and below it where it stops being one. A space at its end is told, where nothing else is wrong
-// with a line that can't go on.
+// Writes a malformed line, and below it the place at which it becomes invalid and what is expected there. If a space
+// at the end is all that is wrong with the line, says so.
 fn write_place<W: fmt::Write>(
     f: &mut fmt::Formatter<W>,
     line: &[u8],

@@ -18,7 +18,7 @@ use smx_replay::laws_of_replays::{a_transcript_has_one_replay, replays_are_the_l
 use smx_text::laws::one_transcript_has_one_reading;
 use smx_words::laws::{one_value_each, spellings_are_words};
 
-/// Two texts have no two first differences, and none where they are alike; and bytes have no two first lines.
+/// Two texts have at most one first difference, and none if they are alike. Bytes have only one first line.
 pub fn texts_have_one_first_difference()
     ensures one { (one other : List ℕ) (number count : ℕ) (told has said had : List ℕ)
         → IsFirstDifference one other number told has → IsFirstDifference one other count said had
@@ -28,7 +28,8 @@ pub fn texts_have_one_first_difference()
     ensures line { (bytes one other : List ℕ) → IsFirstLine one bytes → IsFirstLine other bytes → one ≡ other }
 {}
 
-/// Worked texts, typed in: the first line in which they differ, and two of which the last lines are not whole.
+/// Worked texts, typed in by hand, with the first line in which they differ; and two texts whose last lines are not
+/// whole.
 pub fn worked_differences()
     ensures second { IsFirstDifference (codes "a\nb\nc\n") (codes "a\nx\nd\n") 2 (codes "b") (codes "x") }
     ensures ends_early { IsFirstDifference (codes "a\nend\n") (codes "a\n\nend\n") 2 (codes "end") [] }
@@ -37,14 +38,14 @@ pub fn worked_differences()
     ensures last_line { IsFirstLine (codes "b c") (codes "b c") }
 {}
 
-/// No two things are told of a transcript.
+/// A transcript has only one explanation.
 pub fn a_transcript_has_one_explanation()
     ensures { (t : Transcript) (one other : List ℕ) → IsExplanation t one → IsExplanation t other → one ≡ other }
 {
     a_transcript_has_one_replay();
 }
 
-/// Nothing is told just below the verdict `legal`.
+/// The explanation is empty exactly if the verdict is `legal`.
 pub fn a_legal_transcript_needs_none()
     ensures legal { (t : Transcript) (output : List ℕ) → IsExplanation t output
         → IsVerdict t.drivers t.entries t.view Legal → output ≡ [] }
@@ -55,8 +56,8 @@ pub fn a_legal_transcript_needs_none()
     replays_are_the_legal_transcripts();
 }
 
-/// Below the verdict that an entry is the first illegal one its line is told, by its number in the text, and the same
-/// entry with the reply that its command gets of the configuration there.
+/// Below the verdict that an entry is the first illegal one, the explanation shows its line, by its number in the
+/// text, and the same entry with the reply that the model gives its command after the entries before it.
 pub fn an_illegal_entry_is_told()
     ensures { (t : Transcript) (output : List ℕ) → IsAllowed t.version t → IsExplanation t output
         → (number : ℕ) (first : IsFirstIllegal t.drivers t.entries number)
@@ -67,7 +68,7 @@ pub fn an_illegal_entry_is_told()
     spellings_are_words();
 }
 
-/// Below the verdict that the configuration differs a line below `config` is told.
+/// Below the verdict that the configuration differs, the explanation shows a line below `config`.
 pub fn a_differing_line_is_told()
     ensures { (t : Transcript) (output : List ℕ) → IsAllowed t.version t → IsExplanation t output
         → IsVerdict t.drivers t.entries t.view ConfigDiffers

@@ -1,4 +1,5 @@
-//! What is told below a verdict, where a transcript and its replay differ, and what is shown of a text at fault.
+//! Explains a verdict, by the first line in which a transcript and its replay differ, and the fault of a malformed
+//! text.
 #![tactic(auto)]
 
 mod differences;

@@ -1,9 +1,9 @@
-//! Why a text is refused, where no word of the line at fault is told.
+//! Why a text is refused, if no word of the malformed line is reported.
 
 use smx_place::TextKind;
 use smx_types::Version;
 
-/// The first line is that of the other text, or of none.
+/// Returns the reason for a first line that is the header of the other text, or of neither.
 pub fn header_reason(kind: TextKind, line: &[u8]) -> &'static str {
     match (kind, line) {
         (TextKind::Programs, b"transcript 1" | b"transcript 2") => {
@@ -17,7 +17,7 @@ pub fn header_reason(kind: TextKind, line: &[u8]) -> &'static str {
     }
 }
 
-/// A line of some form may not stand where it does.
+/// Returns the reason for a well-formed line that may not follow the lines before it.
 pub fn order_reason(kind: TextKind, version: Version, line: &[u8]) -> &'static str {
     match kind {
         TextKind::Programs => order_of_programs(line),
@@ -25,7 +25,7 @@ pub fn order_reason(kind: TextKind, version: Version, line: &[u8]) -> &'static s
     }
 }
 
-/// There are as many of the line's kind as may be already.
+/// Returns the reason for a line that is over the limit for its kind.
 pub fn limit_reason(kind: TextKind, version: Version, line: &[u8]) -> &'static str {
     if is_driver(line) {
         return limit_of_drivers(version);
@@ -37,7 +37,7 @@ pub fn limit_reason(kind: TextKind, version: Version, line: &[u8]) -> &'static s
     }
 }
 
-// Where a line of programs stands.
+// Returns where a line of programs may be.
 fn order_of_programs(line: &[u8]) -> &'static str {
     if is_driver(line) {
         "the drivers stand above the first process"
@@ -48,7 +48,7 @@ fn order_of_programs(line: &[u8]) -> &'static str {
     }
 }
 
-// Where a line of a transcript stands. Of them all an entry alone begins with a digit.
+// Returns where a line of a transcript may be. Among these lines only an entry begins with a digit.
 fn order_of_transcript(version: Version, line: &[u8]) -> &'static str {
     match line {
         [b'0'..=b'9', ..] => "the entries stand above 'config'",
@@ -60,7 +60,7 @@ fn order_of_transcript(version: Version, line: &[u8]) -> &'static str {
     }
 }
 
-// Where a line of what is open, linked, bound and so on stands.
+// Returns where a line of the configuration may be, such as `fd` or `link`.
 fn order_of_groups(version: Version) -> &'static str {
     match version {
         Version::V1 => {
@@ -72,7 +72,7 @@ fn order_of_groups(version: Version) -> &'static str {
     }
 }
 
-// How many drivers a text has.
+// Returns how many drivers a text may have.
 fn limit_of_drivers(version: Version) -> &'static str {
     match version {
         Version::V1 => "at most 64 drivers may stand in version 1",
@@ -80,12 +80,12 @@ fn limit_of_drivers(version: Version) -> &'static str {
     }
 }
 
-// Whether a line of some form is that of a driver.
+// Returns whether a well-formed line is that of a driver.
 fn is_driver(line: &[u8]) -> bool {
     line.starts_with(b"driver ")
 }
 
-// Whether a line of some form is that of a process.
+// Returns whether a well-formed line is that of a process.
 fn is_process(line: &[u8]) -> bool {
     line.starts_with(b"process ")
 }

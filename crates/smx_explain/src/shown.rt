@@ -1,4 +1,4 @@
-//! How a line is shown, which may be any bytes.
+//! How a line is shown, whatever its bytes.
 
 ghost use Rattle.std.specs.Prelude.{◌≤◌, ◌<◌, length};
 
@@ -7,11 +7,11 @@ use std::fmt;
 // How many columns of a line are shown.
 const COLUMNS: usize = 80;
 
-// How many bytes are shown before the one that is told, where the first columns leave that out.
+// How many bytes are shown before the reported one, if the first columns don't include that.
 const BEFORE: usize = 60;
 
-/// Writes 80 columns of a line: the first, or, where those leave out the byte of this number, counted from 1, the ones
-/// from 60 bytes before that on. Two dots stand at each end where the line goes on.
+/// Writes 80 columns of a line: the first ones, if they include byte `told`, counted from 1, or else those that start
+/// 60 bytes before it. Writes two dots at each end at which the line goes on.
 pub fn write_line<W: fmt::Write>(
     f: &mut fmt::Formatter<W>,
     line: &[u8],
@@ -31,7 +31,7 @@ pub fn write_line<W: fmt::Write>(
     Ok(())
 }
 
-// The index from which a line is shown of which a byte is told.
+// Returns the index from which a line is shown, so that it includes byte `told`.
 fn begin(line: &[u8], told: usize) -> usize
     ensures { result ≤ length line.now }
 {
@@ -42,7 +42,7 @@ fn begin(line: &[u8], told: usize) -> usize
     told.saturating_sub(BEFORE + 1).min(line.len())
 }
 
-// The index before which a line is cut that is shown from another on.
+// Returns the index at which a line that is shown from `from` on is cut.
 fn end(line: &[u8], from: usize) -> usize
     requires { from ≤ length line.now }
     ensures { result ≤ length line.now }
@@ -58,7 +58,7 @@ fn end(line: &[u8], from: usize) -> usize
     line.len()
 }
 
-// Whether a byte is shown as it is: it can be seen, and is not a space at the end of the line, nor a backslash.
+// Returns whether a byte is shown as it is: it is printable, not a space at the end of the line, and not a backslash.
 fn is_seen(line: &[u8], at: usize) -> bool
     requires { at < length line.now }
 {
@@ -69,7 +69,7 @@ fn is_seen(line: &[u8], at: usize) -> bool
     }
 }
 
-// A byte as it is, or by its hex digits.
+// Writes a byte as it is, or by its hex digits.
 fn write_byte<W: fmt::Write>(f: &mut fmt::Formatter<W>, line: &[u8], at: usize) -> fmt::Result
     requires { at < length line.now }
 {

@@ -1,4 +1,4 @@
-//! Tests of the filters that go by their public calls alone.
+//! Tests of the filters, through their public calls only.
 #![tactic(auto)]
 
 #[cfg(test)]

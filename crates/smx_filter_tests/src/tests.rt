@@ -3,6 +3,7 @@
 mod broken;
 mod devices;
 mod faults;
+mod jobs;
 mod lives;
 mod reading;
 mod sessions;

@@ -1,5 +1,5 @@
 -- An input has one answer, and what a run writes spells one report.
-use Rattle.std.proofs.Common.{◌≡◌, ◌≢◌, ℕ, zero, suc, ◌++◌, ◌≤◌, Bool, true, false, List, length, map}
+use Rattle.std.proofs.Common.{◌≡◌, ◌≢◌, ℕ, ◌++◌, ◌≤◌, Bool, true, false, List, length, map}
 use Rattle.std.proofs.Common.{Result, Ok, Err}
 use Rattle.std.proofs.Common.{refl, sym, ap, subst, ◌∙◌, arith, inl, inr}
 use Rattle.smx_types.specs.ProgramLists.{ProgramLists}
@@ -34,18 +34,18 @@ use Rattle.smx_filters.specs.CheckText.{checking, verdict_line}
 use Rattle.smx_filters.specs.ExplainText.{explaining}
 use Rattle.smx_filters.specs.Filters.{Answers, Filter, GivesFor, HadMemory, RefusesFor}
 use Rattle.smx_filters.specs.ReplayText.{replaying}
-use Rattle.smx_filters.specs.RunText.{IsTranscriptFor, IsTranscriptInTurn, IsWrittenFor, running}
+use Rattle.smx_filters.specs.RunText.{IsTranscriptFor, IsWrittenFor, running}
 use Rattle.smx_filters.specs.declared.main_fault.MainFault.{MainFault}
 use Rattle.smx_filters.specs.declared.main_fault.MainFault.TheVariants.{Refused, Text, TooLong, ReadFailed, WriteFailed}
 
 -- ---- what other crates' laws say
 
--- drivers that a configuration can't have are refused for one fault
+-- drivers that are not valid are refused for only one fault
 abbrev pub HaveOneFault : Type 0
 HaveOneFault =
     (drivers : List DriverSpec) (f g : ConfigFault) → RefusesDrivers drivers f → RefusesDrivers drivers g → f ≡ g
 
--- what a transcript says has one verdict
+-- a transcript's contents have one verdict
 abbrev pub HasOneVerdict : Type 0
 HasOneVerdict = (drivers : List DriverSpec) (entries : List Entry) (shown : ConfigView) (v w : Verdict)
     → IsVerdict drivers entries shown v → IsVerdict drivers entries shown w → v ≡ w
@@ -57,8 +57,8 @@ AreJudgedLegal = (programs : ProgramLists) (report : Transcript) → IsReportOf 
 
 -- ---- one answer
 
--- what a filter answers where memory is not wanting, if it gives one thing for a value that fits, refuses it for one
--- fault, and not both
+-- The answer of a filter, unless memory runs out, if it gives only one result for a value that fits, refuses it for
+-- only one fault, and not both.
 module _ {V K T : Type 0} (filter : Filter V K T) (reading : HasOneReading filter.grammar) (Fits : V → Type 0)
     (given : (v : V) → Fits v → (a b : T) (x y : List ℕ) → filter.Gives v a x → filter.Gives v b y → (a ≡ b) × (x ≡ y))
     (refused : (v : V) → Fits v → (r s : RunFault) → filter.Refuses v r → filter.Refuses v s → r ≢ run.NoMemory
@@ -66,13 +66,13 @@ module _ {V K T : Type 0} (filter : Filter V K T) (reading : HasOneReading filte
     (not_both : (v : V) → Fits v → (a : T) (x : List ℕ) (r : RunFault) → filter.Gives v a x → filter.Refuses v r
     → r ≡ run.NoMemory)
     (input : List ℕ) (fits : (version : Version) (v : V) → Spells (filter.grammar version) input v → Fits v) where
-  -- it gives one thing
+  -- it gives only one result
   given_once : (a b : T) (x y : List ℕ) → GivesFor filter input a x → GivesFor filter input b y → (a ≡ b) × (x ≡ y)
   given_once a b x y (v, p, spells, gives) (w, q, spells_too, gives_too) =
       let same : p ≡ q = one_value filter.grammar reading input v w p q spells spells_too in
       given q (fits w q spells_too) a b x y (subst (λ (u : V). filter.Gives u a x) same gives) gives_too
 
-  -- it refuses for one fault
+  -- it refuses for only one fault
   refused_once : (r s : RunFault) → RefusesFor filter input r → RefusesFor filter input s → r ≢ run.NoMemory
       → s ≢ run.NoMemory → r ≡ s
   refused_once r s (v, p, spells, refuses) (w, q, spells_too, refuses_too) known known_too =
@@ -80,14 +80,14 @@ module _ {V K T : Type 0} (filter : Filter V K T) (reading : HasOneReading filte
       refused q (fits w q spells_too) r s (subst (λ (u : V). filter.Refuses u r) same refuses) refuses_too known
       known_too
 
-  -- it doesn't refuse what it gives something for
+  -- it doesn't refuse an input for which it gives a result
   pub given_or_refused : (a : T) (x : List ℕ) (r : RunFault) → GivesFor filter input a x → RefusesFor filter input r
       → r ≡ run.NoMemory
   given_or_refused a x r (v, p, spells, gives) (w, q, spells_too, refuses) =
       let same : p ≡ q = one_value filter.grammar reading input v w p q spells spells_too in
       not_both q (fits w q spells_too) a x r (subst (λ (u : V). filter.Gives u a x) same gives) refuses
 
-  -- so it has one answer
+  -- so it has only one answer
   pub one_answer : (one other : Result (T × List ℕ) MainFault) → Answers filter input one → Answers filter input other
       → HadMemory one → HadMemory other → one ≡ other
   one_answer (Ok (a, x)) (Ok (b, y)) h k known known_too =
@@ -117,7 +117,7 @@ module _ {V K T : Type 0} (filter : Filter V K T) (reading : HasOneReading filte
 
 -- ---- refusals
 
--- drivers that can be had are refused for want of memory alone
+-- drivers that are valid are refused only for lack of memory
 pub drivers_had : HaveOneFault → (drivers : List DriverSpec) → IsDriverList drivers → (r : RunFault)
     → RefusesAlone drivers r → r ≡ run.NoMemory
 drivers_had determined drivers had run.NoMemory h = refl
@@ -126,7 +126,7 @@ drivers_had determined drivers had (run.ConfigFault f) h = absurd (h.1 (determin
 drivers_had determined drivers had run.HistoryFull h = absurd h
 drivers_had determined drivers had run.Held h = absurd h
 
--- and else for one fault
+-- other drivers are refused for only one fault
 refused_alone : (drivers : List DriverSpec) (r s : RunFault) → RefusesAlone drivers r
     → RefusesAlone drivers s → r ≢ run.NoMemory → s ≢ run.NoMemory → r ≡ s
 refused_alone drivers (run.ConfigFault f) (run.ConfigFault g) h k known known_too =
@@ -154,7 +154,7 @@ checked reading judged input = one_answer checking reading (λ t. Unit {0})
     (λ t fits v x r h refuses. drivers_had one_refusal t.drivers h.can_be_had r refuses)
     input (λ version t spells. tt)
 
--- a check that explains itself
+-- a check with an explanation
 pub explained : HasOneReading transcript_grammar → HasOneVerdict
     → ((t : Transcript) (one other : List ℕ) → IsExplanation t one → IsExplanation t other → one ≡ other)
     → (input : List ℕ) (one other : Result (Verdict × List ℕ) MainFault)
@@ -189,43 +189,34 @@ replayed reading replay input = one_answer replaying reading (λ t. Unit {0})
 
 -- ---- what a run writes
 
--- what any number of workers write for a transcript is one of a report
-report_of : (workers : ℕ) (programs : ProgramLists) (output : List ℕ) → IsWrittenFor false workers programs output
-    → IsTranscriptFor programs output
-report_of zero programs output h = h
-report_of (suc zero) programs output h = h.transcript
-report_of (suc (suc more)) programs output h = h
-
--- what is written of two reports with the same calls is the same
-told_once : (programs : ProgramLists) (one other : List ℕ) (a : IsTranscriptFor programs one)
-    (b : IsTranscriptFor programs other)
+-- reports with the same calls have the same output
+told_once : (workers : ℕ) (programs : ProgramLists) (one other : List ℕ) (a : IsTranscriptFor workers programs one)
+    (b : IsTranscriptFor workers programs other)
     → map call_of a.report.entries ≡ map call_of b.report.entries → one ≡ other
-told_once programs one other a b calls =
+told_once workers programs one other a b calls =
     let alike = one_report programs a.report b.report a.promised b.promised calls in
     let same = alike ∙ ap (λ (v : Version). record b.report { version = v }) (a.version ∙ sym b.version) in
     a.written.text ∙ ap transcript_text same ∙ sym b.written.text
 
--- what one worker writes for the same programs is the same each time
-pub in_turn_once : (programs : ProgramLists) (one other : List ℕ) → IsTranscriptInTurn programs one
-    → IsTranscriptInTurn programs other → one ≡ other
+-- one worker always writes the same for the same programs
+pub in_turn_once : (programs : ProgramLists) (one other : List ℕ) → IsTranscriptFor 1 programs one
+    → IsTranscriptFor 1 programs other → one ≡ other
 in_turn_once programs one other a b =
-    told_once programs one other a.transcript b.transcript (a.in_turn ∙ sym b.in_turn)
+    told_once 1 programs one other a b (a.in_turn (omega arith) ∙ sym (b.in_turn (omega arith)))
 
--- what is written of one process, by however many workers, is the same each time
+-- any number of workers always write the same for one process
 one_process_once : (workers : ℕ) (programs : ProgramLists) → length programs.programs ≤ 1
     → (one other : List ℕ)
     → IsWrittenFor false workers programs one → IsWrittenFor false workers programs other → one ≡ other
-one_process_once workers programs few one other h k =
-    let a = report_of workers programs one h in
-    let b = report_of workers programs other k in
-    told_once programs one other a b (in_turn programs.programs a.report.entries few a.promised.holds
+one_process_once workers programs few one other a b =
+    told_once workers programs one other a b (in_turn programs.programs a.report.entries few a.promised.holds
     ∙ sym (in_turn programs.programs b.report.entries few b.promised.holds))
 
--- what is written of a run is of drivers that can be had
+-- the drivers of a run that has an output are valid
 run_had : (fronts : Bool) (workers : ℕ) (programs : ProgramLists) (output : List ℕ)
     → IsWrittenFor fronts workers programs output → IsDriverList programs.drivers
 run_had true workers programs output h = h.promised.can_be_had
-run_had false workers programs output h = (report_of workers programs output h).promised.can_be_had
+run_had false workers programs output h = h.promised.can_be_had
 
 -- ---- a run
 
@@ -236,7 +227,7 @@ pub run_by_one : HasOneReading programs_grammar → (input : List ℕ) (one othe
 run_by_one reading input = one_answer (running false 1) reading (λ p. Unit {0})
     (λ p fits a b x y h k. (refl, in_turn_once p x y h k))
     (λ p fits r s h k. refused_alone p.drivers r s (h.1 (inl (omega arith))) (k.1 (inl (omega arith))))
-    (λ p fits a x r h refuses. drivers_had one_refusal p.drivers h.transcript.promised.can_be_had r
+    (λ p fits a x r h refuses. drivers_had one_refusal p.drivers h.promised.can_be_had r
     (refuses.1 (inl (omega arith))))
     input (λ version p spells. tt)
 
@@ -253,7 +244,7 @@ run_of_one reading workers input one other few =
     (λ p fits a x r h refuses. drivers_had one_refusal p.drivers (run_had false workers p x h) r (refuses.1 (inr fits)))
     input few one other
 
--- drivers of what is run are not refused
+-- the drivers of a run that has an output are not refused
 pub run_or_refused : HasOneReading programs_grammar → (fronts : Bool) (workers : ℕ) (input output : List ℕ)
     (done : Unit {0}) (fault : ConfigFault)
     → GivesFor (running fronts workers) input done output
@@ -265,34 +256,32 @@ run_or_refused reading fronts workers input output done fault (v, p, spells, giv
     (run_had fronts workers p output gives) in
     refuses.0.1 (one_refusal q.drivers fault config.NoMemory refuses.0.0 had)
 
--- ---- what is written of it
+-- ---- the transcript that a run writes
 
--- what is written for a transcript a check judges legal
+-- a check judges the transcript of a run legal
 pub run_is_legal : AreJudgedLegal → (workers : ℕ) (programs : ProgramLists) (output : List ℕ)
     → IsWrittenFor false workers programs output
     → (line : List ℕ) × GivesFor checking output Legal line
-run_is_legal legal workers programs output h =
-    let t = report_of workers programs output h in (
-      verdict_line (length t.report.entries) Legal,
-      (
-        t.report.version,
-        t.report,
-        t.written,
-        record {
-          can_be_had = rw t.promised.drivers t.promised.can_be_had;
-          judged = legal programs t.report t.promised;
-          written = refl;
-        },
-      ),
-    )
+run_is_legal legal workers programs output t = (
+  verdict_line (length t.report.entries) Legal,
+  (
+    t.report.version,
+    t.report,
+    t.written,
+    record {
+      can_be_had = rw t.promised.drivers t.promised.can_be_had;
+      judged = legal programs t.report t.promised;
+      written = refl;
+    },
+  ),
+)
 
--- what is written for a transcript spells a report of the programs in their version, and nothing else
+-- the transcript of a run spells a report of the programs in their version, and nothing else
 pub run_spells_one : HasOneReading transcript_grammar
     → (workers : ℕ) (programs : ProgramLists) (output : List ℕ) (version : Version) (t : Transcript)
     → IsWrittenFor false workers programs output → Spells (transcript_grammar version) output t
     → (t.version ≡ programs.version) × IsReportOf programs t
-run_spells_one reading workers programs output version t h spells_too =
-    let told = report_of workers programs output h in
+run_spells_one reading workers programs output version t told spells_too =
     let same : told.report ≡ t = one_value transcript_grammar reading output told.report.version version told.report t
     told.written spells_too in
     subst (λ (u : Transcript). (u.version ≡ programs.version) × IsReportOf programs u) same

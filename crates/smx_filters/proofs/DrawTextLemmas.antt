@@ -1,4 +1,4 @@
--- What a drawing says of the input that was read whole.
+-- The answer of a drawing to an input that was read completely.
 use Rattle.std.proofs.Common.{◌≡◌, ℕ, List, Vec, Result, Ok, Err, refl, sym, subst}
 use Rattle.std.specs.Prelude.{IsErrAnd}
 use Rattle.std.specs.Global.{Global}
@@ -16,15 +16,15 @@ use Rattle.smx_filters.specs.declared.main_fault.MainFault.TheVariants.{Refused}
 
 module _ (form : Form) (bytes input : List ℕ) (same : bytes ≡ input) (t : Transcript)
     (read : ReadsAny transcript_grammar bytes (Ok t)) where
-  -- the input spells what was read of its bytes
+  -- the input spells the transcript that was read from its bytes
   spelled : Spells (transcript_grammar read.0) input t
   spelled = subst (λ (bs : List ℕ). Spells (transcript_grammar read.0) bs t) same read.1
 
-  -- the picture of what was read
+  -- the picture of the transcript that was read
   pub drawn : (text : Vec ℕ Global) → IsPictureOf form t text.items → Answers (drawing form) input (items_of (Ok text))
   drawn text h = (read.0, t, spelled, h)
 
-  -- where memory was wanting
+  -- out-of-memory
   pub not_drawn : (answer : Result (Vec ℕ Global) MainFault) → IsErrAnd answer (λ e. e ≡ Refused NoMemory)
       → Answers (drawing form) input (items_of answer)
   not_drawn (Ok v) is = absurd is

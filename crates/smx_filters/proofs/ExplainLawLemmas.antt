@@ -1,4 +1,4 @@
--- What a check that explains itself says beside its verdict, and what is kept of an input in memory.
+-- The explanation beside the verdict of a check, and what is kept of an input in memory.
 use Rattle.std.proofs.Common.{◌≡◌, ℕ, ◌++◌, Bool, true, false, List, [], Option, Some, None, Err, Vec, refl}
 use Rattle.std.proofs.Common.{sym, subst, ◌∙◌, append-nil}
 use Rattle.std.specs.Global.{Global}
@@ -14,12 +14,12 @@ use Rattle.smx_filters.specs.Filters.{Filter, GivesFor}
 use Rattle.smx_filters.specs.declared.main_fault.MainFault.TheVariants.{Text}
 use Rattle.smx_filters.specs.declared.refusal.Refusal.{Refusal}
 
--- nothing is told of a legal transcript
+-- the explanation of a legal transcript is empty
 abbrev pub NeedsNone : Type 0
 NeedsNone = (t : Transcript) (output : List ℕ) → IsExplanation t output → IsVerdict t.drivers t.entries t.view Legal
     → output ≡ []
 
--- a check, explained or not, is one
+-- a check with an explanation, or without one, is a check
 pub is_check : NeedsNone → (explain : Bool) (input output : List ℕ) (verdict : Verdict)
     → GivesFor (judging explain) input verdict output
     → (line told : List ℕ) × GivesFor checking input verdict line × (output ≡ line ++ told)
@@ -41,7 +41,7 @@ is_there : (kept : Option (Vec ℕ Global)) (read input : List ℕ) → IsKept k
 is_there None read input kept same = absurd kept
 is_there (Some text) read input kept same = (text, refl, kept ∙ sym same)
 
--- where the text of an input in memory is at fault, all of it is there to be shown
+-- if the text of an input in memory is malformed, all of it is there to be shown
 pub keeps_all : {V K T : Type 0} (f : Filter V K T) (input : List ℕ) (left before after : Option (List ℕ))
     (ended flushed : Bool)
     (reads writes : ℕ) (refusal : Refusal) (fault : TextFault)

@@ -1,10 +1,9 @@
--- What a filter says where nothing comes of the bytes that it read.
-use Rattle.std.proofs.Common.{◌≡◌, ◌≢◌, ℕ, zero, suc, false, List, Option, Some, None, Bool, Result, Ok, Err}
+-- A filter that fails on the bytes that it read.
+use Rattle.std.proofs.Common.{◌≡◌, ◌≢◌, ℕ, List, Option, Some, None, Bool, Result, Ok, Err}
 use Rattle.std.proofs.Common.{Vec, sym, subst, rules, arith, inl}
 use Rattle.std.specs.Prelude.{IsErrAnd, IsErrOf}
 use Rattle.std.specs.Global.{Global}
 use Rattle.std.specs.Io.KnownBytes.{Keeps}
-use Rattle.smx_types.specs.ProgramLists.{ProgramLists}
 use Rattle.smx_types.specs.declared.driver.DriverSpec.{DriverSpec}
 use Rattle.smx_text.specs.declared.text_fault.TextFault.{TextFault}
 use Rattle.smx_config.specs.DriverFaults.{RefusesDrivers}
@@ -16,21 +15,20 @@ use Rattle.smx_filters.specs.declared.main_fault.MainFault.{MainFault}
 use Rattle.smx_filters.specs.declared.main_fault.MainFault.TheVariants.{Refused, Text, TooLong, ReadFailed, WriteFailed}
 use Rattle.smx_filters.specs.Filters.{Filter, Answers, FiltersText, IsFaultOf, RefusesFor}
 use Rattle.smx_filters.specs.Input.{IsInput, IsWhole}
-use Rattle.smx_filters.specs.RunText.{IsTranscriptInTurn, IsWrittenFor, items_of, running}
 
--- known bytes that stay are kept
+-- known bytes that don't change are kept
 kept : (known : Option (List ℕ)) → Keeps known known
 kept None = search rules
 kept (Some bytes) = search rules
 
--- an error is the one that it is
+-- an error has only one fault
 fault_of : {T : Type 0} {e f : MainFault} → IsErrOf {T = T} (Err e) f → e ≡ f
 fault_of is = cc
 
 module _ {V K T : Type 0} (filter : Filter V K T) (had left : Option (List ℕ)) (ended : Bool) (failures : ℕ)
     (held : Option (List ℕ)) (flushed : Bool) (written : ℕ) (v : Vec ℕ Global) (read : List ℕ)
     (h : IsInput had left ended failures (Ok v) read) (fine : written ≡ 0) where
-  -- the part that every such fault has
+  -- the fields that all such faults have in common
   said : (e : MainFault) → e ≢ TooLong → e ≢ ReadFailed → e ≢ WriteFailed
       → ((f : TextFault) → e ≡ Text f → IsFaultOf filter read f)
       → ((f : RunFault) → e ≡ Refused f → RefusesFor filter read f)
@@ -58,7 +56,7 @@ module _ {V K T : Type 0} (filter : Filter V K T) (had left : Option (List ℕ))
     ok : Result (Vec ℕ Global) MainFault
     ok = Ok v
 
-  -- where nothing came of what was read, that is the answer
+  -- if the filter fails on what was read, that is the result
   pub at_answer : (e : MainFault) → Answers filter v.items (Err e)
       → FiltersText filter had left ended failures held held flushed written (Err e)
   at_answer (Text f) a = said (Text f) (λ is. cc) (λ is. cc) (λ is. cc) (λ g is. let same : f ≡ g = cc in
@@ -72,7 +70,7 @@ module _ {V K T : Type 0} (filter : Filter V K T) (had left : Option (List ℕ))
   at_answer ReadFailed a = absurd a
   at_answer WriteFailed a = absurd a
 
-  -- and these bytes are all that it says to be read
+  -- these bytes are all that the result says to be read
   pub are_read : (e : MainFault) (a : Answers filter v.items (Err e)) → v.items ≡ (at_answer e a).read
   unfolding at_answer said
   are_read (Text f) a = h.answered
@@ -81,7 +79,7 @@ module _ {V K T : Type 0} (filter : Filter V K T) (had left : Option (List ℕ))
   are_read ReadFailed a = absurd a
   are_read WriteFailed a = absurd a
 
-  -- and a `?` passes the fault on as it is
+  -- a `?` passes the fault on unchanged
   pub passed_on : (e : MainFault) (answer : Result T MainFault) → IsErrAnd answer (λ f. f ≡ e)
       → Answers filter v.items (Err e) → FiltersText filter had left ended failures held held flushed written answer
   passed_on e (Ok x) is a = absurd is
@@ -89,24 +87,7 @@ module _ {V K T : Type 0} (filter : Filter V K T) (had left : Option (List ℕ))
       (λ (x : MainFault). FiltersText filter had left ended failures held held flushed written (Err x)) (sym is)
       (at_answer e a)
 
--- what one worker writes, any number may write
-pub written_by_any : (workers : ℕ) (programs : ProgramLists) (output : List ℕ) → IsTranscriptInTurn programs output
-    → IsWrittenFor false workers programs output
-written_by_any zero programs output t = t.transcript
-written_by_any (suc zero) programs output t = t
-written_by_any (suc (suc more)) programs output t = t.transcript
-
--- and what it answers, they may answer
-pub answered_by_any : (workers : ℕ) (input : List ℕ) (answer : Result (Vec ℕ Global) MainFault)
-    → Answers (running false 1) input (items_of answer) → Answers (running false workers) input (items_of answer)
-answered_by_any workers input (Ok v) a = (a.0, a.1, a.2, written_by_any workers a.1 v.items a.3)
-answered_by_any workers input (Err (Text f)) a = a
-answered_by_any workers input (Err (Refused f)) a = (a.0, a.1, a.2, (a.3.0, λ _. a.3.1 (inl (omega arith))))
-answered_by_any workers input (Err TooLong) a = a
-answered_by_any workers input (Err ReadFailed) a = a
-answered_by_any workers input (Err WriteFailed) a = a
-
--- drivers that a configuration can't have are refused so, and else memory was wanting
+-- drivers that are not valid are refused for their fault, and others because memory ran out
 pub alone_of : (drivers : List DriverSpec) (f : ConfigFault) → RefusesDrivers drivers f
     → RefusesAlone drivers (run_fault_of f)
 alone_of drivers config.NoMemory refused = refused

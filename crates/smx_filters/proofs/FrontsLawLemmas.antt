@@ -1,4 +1,4 @@
--- The fronts text that a run writes is of one report.
+-- The fronts text that a run writes is that of one report.
 use Rattle.std.proofs.Common.{◌≡◌, ℕ, suc, ◌+◌, ◌≤◌, true, List, [], ◌∷◌, length, map, refl, sym, ap, ◌∙◌, arith}
 use Rattle.std.proofs.Common.{length-append}
 use Rattle.std.proofs.lemmas.List.Elements.{All-nil, All-cons}
@@ -16,7 +16,7 @@ use Rattle.smx_run.specs.ProgramOrder.{calls_from}
 use Rattle.smx_filters.specs.FrontsText.{fronts_text}
 use Rattle.smx_filters.specs.RunText.{IsWrittenFor}
 
--- there is one for each process
+-- there is one front for each process
 as_many : (drivers : List DriverSpec) (history : List Entry) (n : ℕ) (programs : List (List Command))
     (fronts : List Front) → AreFrontsFrom drivers history n programs fronts
     → length fronts ≡ length programs
@@ -26,7 +26,7 @@ as_many drivers history n (program ∷ programs) (front ∷ fronts) h =
 as_many drivers history n [] (front ∷ fronts) h = absurd h
 as_many drivers history n (program ∷ programs) [] h = absurd h
 
--- a front isn't past the end
+-- a front is not past the end
 not_past : (drivers : List DriverSpec) (history : List Entry) (n : ℕ) (program : List Command) (front : Front)
     → IsFrontAfter drivers history n program front
     → front.entries ≤ length history
@@ -35,7 +35,7 @@ not_past drivers history n program front h =
     ∙ ap (λ (es : List Entry). length es) h.begins.1 in
     omega (arith, h.numbers.entries, sum)
 
--- and so none is
+-- so no front is past the end
 none_past : (drivers : List DriverSpec) (history : List Entry) (n : ℕ) (programs : List (List Command))
     (fronts : List Front) → AreFrontsFrom drivers history n programs fronts
     → All (λ f. f.entries ≤ length history) fronts
@@ -46,7 +46,7 @@ none_past drivers history n (program ∷ programs) (front ∷ fronts) h =
 none_past drivers history n [] (front ∷ fronts) h = absurd h
 none_past drivers history n (program ∷ programs) [] h = absurd h
 
--- what is written for the fronts
+-- the fronts text that a run writes
 pub of_one_report : (workers : ℕ) (programs : ProgramLists) (output : List ℕ)
     → IsWrittenFor true workers programs output
     → (report : Transcript) × (fronts : List Front) × IsReportOf programs report × (output ≡ fronts_text fronts)

@@ -1,4 +1,4 @@
--- What a filter says of an input in memory.
+-- The results of a filter for an input in memory.
 use Rattle.std.proofs.Common.{◌≡◌, ◌≢◌, ℕ, ◌+◌, ◌≤◌, ltb, Bool, List, [], ◌++◌, length, drop, Some, Result, Ok, Err}
 use Rattle.std.proofs.Common.{sym, ap, ◌∙◌, arith, inl, inr, length-append, refl}
 use Rattle.std.proofs.lemmas.Bool.{cases_Bool}
@@ -10,17 +10,17 @@ use Rattle.smx_filters.specs.declared.main_fault.MainFault.{MainFault}
 use Rattle.smx_filters.specs.declared.main_fault.MainFault.TheVariants.{Refused, Text, TooLong, ReadFailed, WriteFailed}
 use Rattle.smx_filters.specs.declared.input.TheConstants.{MAX_INPUT}
 
--- of a whole input nothing is left
+-- nothing is left of a whole input
 none_left : (input read left : List ℕ) → input ≡ read ++ left → input ≡ read → left ≡ []
 none_left input read left had whole =
     nil_from_length left (omega (arith, length-append read left, ap (length {A = ℕ}) (sym had ∙ whole)))
 
 module _ {V K T : Type 0} (f : Filter V K T) (input left output : List ℕ) (ended flushed : Bool) where
-  -- by devices that don't fail
+  -- no device fails
   abbrev Filtered : Result T MainFault → Type 0
   Filtered answer = FiltersText f (Some input) (Some left) ended 0 (Some []) (Some output) flushed 0 answer
 
-  -- an answer that is not TooLong is of an input that is short enough
+  -- unless the answer is `TooLong`, the input is short enough
   short : (answer : Result T MainFault) → (h : Filtered answer) → answer ≢ Err TooLong → input ≡ h.read
       → length input ≤ MAX_INPUT
   short answer h other whole = elim (cases_Bool (ltb MAX_INPUT (length h.read))) [
@@ -28,7 +28,7 @@ module _ {V K T : Type 0} (f : Filter V K T) (input left output : List ℕ) (end
     | inr f ↦ let few : length h.read ≤ MAX_INPUT = grind (arith, nat_tests) in rw whole few
   ]
 
-  -- what it says
+  -- the results
   pub ends : (answer : Result T MainFault) → Filtered answer → EndsInMemory f input left ended output flushed answer
   ends (Ok a) h =
       let (whole, is_flushed, bytes, gives, out) = h.done in (
@@ -63,7 +63,7 @@ module _ {V K T : Type 0} (f : Filter V K T) (input left output : List ℕ) (end
   ends (Err ReadFailed) h = absurd (omega (arith, h.read_failed.0 refl))
   ends (Err WriteFailed) h = absurd (omega (arith, h.write_failed.0 refl))
 
-  -- where the reader fails
+  -- the reader fails
   pub unread : (answer : Result T MainFault)
       → FiltersText f (Some input) (Some left) ended 1 (Some []) (Some output) flushed 0 answer
       → (answer ≡ Err ReadFailed) × (output ≡ [])
@@ -72,7 +72,7 @@ module _ {V K T : Type 0} (f : Filter V K T) (input left output : List ℕ) (end
       let told : Err e ≡ Err ReadFailed = h.read_failed.1 refl in
       (told, h.unwritten (λ is. cc))
 
-  -- where the writer fails
+  -- the writer fails
   pub cut_short : (answer : Result T MainFault)
       → FiltersText f (Some input) (Some left) ended 0 (Some []) (Some output) flushed 1 answer
       → IsCutShort f input output answer

@@ -1,4 +1,4 @@
--- How a reading goes on and ends.
+-- How reading goes on and ends.
 use Rattle.std.proofs.Common.{◌≡◌, ℕ, ◌+◌, ◌<◌, ◌≤◌, Bool, List, ◌++◌, length, take, Option, Some}
 use Rattle.std.proofs.Common.{None, Err, sym, ap, ◌∙◌, append_assoc, arith, rules}
 use Rattle.std.proofs.Math.Seq.{take-append-add}
@@ -9,14 +9,14 @@ use Rattle.smx_filters.specs.Input.{IsInput}
 use Rattle.smx_filters.specs.declared.main_fault.MainFault.TheVariants.{TooLong, ReadFailed}
 use Rattle.smx_filters.specs.declared.input.TheConstants.{MAX_INPUT}
 
--- a piece that was read behind the first k bytes of a buffer, as the buffer then has it
+-- a piece that was read after the first `k` bytes of a buffer, as the buffer then has it
 pub with_piece : (before piece after tail : List ℕ) (k size n : ℕ) → length before ≡ k → k + n ≤ size → n ≤ length piece
     → take (k + n) (take size ((before ++ (piece ++ after)) ++ tail)) ≡ before ++ take n piece
 with_piece before piece after tail k size n is fits within =
     take-take (k + n) size _ fits ∙ rw (append_assoc before (piece ++ after) tail, append_assoc piece after tail, ← is)
     (take-append-add before _ n ∙ ap (λ (bs : List ℕ). before ++ bs) (take-append-le n piece (after ++ tail) within))
 
--- what is kept stays read
+-- bytes that don't change stay read
 kept_on : (old mid new : Option (List ℕ)) (read : List ℕ) → Consumes old mid read → Keeps mid new
     → Consumes old new read
 kept_on None mid new read p q = search rules
@@ -33,7 +33,7 @@ failed_with old mid new ended failures before p q failed short =
     let few : length before ≤ MAX_INPUT + 1 = omega (arith, short) in
     (before, search (rules, consumed, few, short))
 
--- with the piece there are more bytes than may be
+-- with this piece there are more bytes than the limit
 pub too_long_with : (old mid new : Option (List ℕ)) (ended : Bool) (failures : ℕ) (before piece : List ℕ)
     → Consumes old mid before → Consumes mid new piece → failures ≡ 0
     → MAX_INPUT < length before + length piece → length before + length piece ≤ MAX_INPUT + 1

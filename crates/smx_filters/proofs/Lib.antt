@@ -1,7 +1,7 @@
 pub mod InputLemmas
 pub mod OutputLemmas
 pub mod FilterLemmas
-pub mod JudgedLemmas
+pub mod CheckTextLemmas
 pub mod InMemoryLemmas
 pub mod FrontsTextLemmas
 pub mod ToldLemmas
@@ -11,7 +11,6 @@ pub mod WritingFilterLemmas
 pub mod DrawTextLemmas
 pub mod ExplainTextLemmas
 pub mod OneProcessLemmas
-pub mod UnreadLemmas
 pub mod AnswerLemmas
 pub mod FrontsLawLemmas
 pub mod ExplainLawLemmas

@@ -1,4 +1,4 @@
--- What an input spells, and where it goes wrong, once more.
+-- The bytes of an input determine the value that it spells, or its fault.
 use Rattle.std.proofs.Common.{◌≡◌, ◌≢◌, ℕ, List, Result, Ok, Err}
 use Rattle.std.specs.Prelude.{IfErr}
 use Rattle.smx_types.specs.declared.version.Version.{Version}
@@ -11,7 +11,7 @@ abbrev pub HasOneReading : {V K : Type 0} → (Version → Grammar V K) → Type
 HasOneReading {V} {K} g = (bytes : List ℕ) (r s : Result V TextFault) → ReadsAny g bytes r → ReadsAny g bytes s
     → IfErr r (λ f. f.cause ≢ cause.NoMemory) → IfErr s (λ f. f.cause ≢ cause.NoMemory) → r ≡ s
 
--- an input spells one value
+-- an input spells only one value
 pub one_value : {V K : Type 0} (g : Version → Grammar V K) → HasOneReading g
     → (bytes : List ℕ) (v w : Version) (x y : V)
     → Spells (g v) bytes x → Spells (g w) bytes y → x ≡ y
@@ -21,7 +21,7 @@ one_value {V} {K} g reading bytes v w x y h k =
     let same : one ≡ other = reading bytes one other (v, h, tt) (w, k, tt) tt tt in
     cc
 
--- what spells a value goes wrong nowhere
+-- an input that spells a value has no fault
 pub no_fault : {V K : Type 0} (g : Version → Grammar V K) → HasOneReading g
     → (bytes : List ℕ) (v : Version) (x : V) (f : TextFault)
     → Spells (g v) bytes x → ReadsAny g bytes (Err f) → f.cause ≢ cause.NoMemory → ⊥
@@ -31,7 +31,7 @@ no_fault {V} {K} g reading bytes v x f h k known =
     let same : one ≡ other = reading bytes one other (v, h, tt) k tt known in
     absurd cc
 
--- a text has one fault
+-- a text has only one fault
 pub one_fault : {V K : Type 0} (g : Version → Grammar V K) → HasOneReading g → (bytes : List ℕ) (f e : TextFault)
     → ReadsAny g bytes (Err f) → ReadsAny g bytes (Err e) → f.cause ≢ cause.NoMemory → e.cause ≢ cause.NoMemory → f ≡ e
 one_fault {V} {K} g reading bytes f e h k known known_too =

@@ -1,4 +1,4 @@
--- What a replay says of the input that was read whole, and the laws of replays over bytes.
+-- The answer of a replay to an input that was read completely, and the laws of replays over bytes.
 use Rattle.std.proofs.Common.{◌≡◌, ℕ, List, length, Vec, Result, Ok, Err, refl, sym, ap, subst}
 use Rattle.std.proofs.Common.{◌∙◌}
 use Rattle.std.specs.Prelude.{IsErrAnd}
@@ -25,11 +25,11 @@ use Rattle.smx_filters.proofs.ReadingLemmas.{HasOneReading, one_value}
 
 -- ---- what other crates' laws say
 
--- a replay of an allowed transcript, if it can be spelled, is within the limits of its own version
+-- a replay of an allowed transcript is within the limits of its own version, if it can be spelled
 abbrev CanBeTold : Type 0
 CanBeTold = (t r : Transcript) → IsAllowed t.version t → IsReplayOf t r → IsSpellable r → IsAllowed r.version r
 
--- a transcript has one replay
+-- a transcript has only one replay
 abbrev pub HasOneReplay : Type 0
 HasOneReplay = (t r s : Transcript) → IsReplayOf t r → IsReplayOf t s → r ≡ s
 
@@ -37,7 +37,7 @@ HasOneReplay = (t r s : Transcript) → IsReplayOf t r → IsReplayOf t s → r 
 abbrev IsItsOwn : Type 0
 IsItsOwn = (t : Transcript) → IsDriverList t.drivers → IsVerdict t.drivers t.entries t.view Legal → IsReplayOf t t
 
--- a replay is judged legal
+-- the verdict on a replay is legal
 abbrev IsJudgedLegal : Type 0
 IsJudgedLegal = (t r : Transcript) → IsReplayOf t r → IsVerdict r.drivers r.entries r.view Legal
 
@@ -64,7 +64,7 @@ gives told bytes input same t read text h = (
   },
 )
 
--- where the drivers are refused, or memory was wanting
+-- the drivers are refused, or memory ran out
 pub replay_refused : (bytes input : List ℕ) → bytes ≡ input → (t : Transcript)
     → ReadsAny transcript_grammar bytes (Ok t)
     → (f : ConfigFault) (answer : Result (Vec ℕ Global) MainFault) → IsErrAnd answer (λ e. e ≡ Refused (run_fault_of f))
@@ -81,13 +81,13 @@ replay_refused bytes input same t read f (Err e) is refused =
 
 -- ---- laws
 
--- what is spelled is the one text of it
+-- bytes that spell a transcript are its one text
 its_text : (version : Version) (bytes : List ℕ) (t : Transcript) → Spells (transcript_grammar version) bytes t
     → bytes ≡ transcript_text t
 its_text version bytes t h =
     h.text ∙ ap (λ (v : Version). full_text (transcript_grammar v) t) (sym h.allowed.version_is)
 
--- two replays of one text are written alike
+-- two replays of one text have the same output
 pub one_replay : HasOneReading transcript_grammar → HasOneReplay → (input one other : List ℕ) (done : Unit {0})
     → GivesFor replaying input done one → GivesFor replaying input done other
     → one ≡ other
@@ -96,7 +96,7 @@ one_replay reading determined input one other done (v, t, spells, h) (w, u, spel
     let first : IsReplayOf u h.replay = subst (λ (x : Transcript). IsReplayOf x h.replay) same h.replays in
     h.written.text ∙ ap transcript_text (determined u h.replay k.replay first k.replays) ∙ sym k.written.text
 
--- a legal one is given back
+-- a legal transcript is given back
 pub given_back : HasOneReading transcript_grammar → HasOneReplay → IsItsOwn
     → (input line output : List ℕ) (done : Unit {0}) → GivesFor checking input Legal line
     → GivesFor replaying input done output → output ≡ input
@@ -106,7 +106,7 @@ given_back reading determined own input line output done (v, t, spells, judged) 
     k.written.text ∙ ap transcript_text (determined t k.replay t replays (own t judged.can_be_had judged.judged))
     ∙ sym (its_text v input t spells)
 
--- and what is given is legal
+-- the output of a replay is legal
 pub judged_legal : IsJudgedLegal → (input output : List ℕ) (done : Unit {0}) → GivesFor replaying input done output
     → (line : List ℕ) × GivesFor checking output Legal line
 judged_legal legal input output done (v, t, spells, h) = (

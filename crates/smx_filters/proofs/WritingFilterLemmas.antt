@@ -1,5 +1,5 @@
--- What is said of a filter that answers nothing but that it is done: of an input that was read whole, its text is
--- refused, or what it gives is written.
+-- A filter whose answer says only that it is done, for an input that was read completely: its text is malformed, or
+-- what the filter gives is written.
 use Rattle.std.proofs.Common.{◌≡◌, ℕ, Bool, true, List, Option, Vec, Result, Ok, Err, sym, ap, subst, ◌∙◌, arith}
 use Rattle.std.specs.Prelude.{IfErr, IsErrAnd, OnErr, OnOk}
 use Rattle.std.specs.Global.{Global}
@@ -12,7 +12,7 @@ use Rattle.smx_filters.specs.RunText.{items_of}
 use Rattle.smx_filters.specs.declared.main_fault.MainFault.{MainFault}
 use Rattle.smx_filters.specs.declared.main_fault.MainFault.TheVariants.{Refused, Text, TooLong, ReadFailed, WriteFailed}
 
--- where the text is refused, its fault is the answer
+-- if the text is malformed, the answer is its fault
 pub text_refused : {V K : Type 0} (filter : Filter V K (Unit {0})) (bytes input : List ℕ) → bytes ≡ input
     → (f : TextFault) (answer : Result (Vec ℕ Global) MainFault) → IsErrAnd answer (λ e. e ≡ Text f)
     → IsFaultOf filter bytes f → Answers filter input (items_of answer)
@@ -25,11 +25,11 @@ module _ {V K : Type 0} (f : Filter V K (Unit {0})) (had left : Option (List ℕ
     (before after : Option (List ℕ)) (flushed : Bool) (written : ℕ) (v : Vec ℕ Global)
     (read : List ℕ) (h : IsInput had left ended failures (Ok v) read) (bytes : List ℕ)
     (given : GivesFor f v.items tt bytes) where
-  -- the input was read whole
+  -- the input was read completely
   whole : IsWhole had ended read
   whole = h.whole
 
-  -- what was read, where reading it was not refused
+  -- what was read, if reading succeeded
   abbrev ok : Result (Vec ℕ Global) MainFault
   ok = Ok v
 

@@ -1,48 +1,48 @@
--- What a check says of the bytes that it read, and what it writes.
+-- A check: its answer to the bytes that it read, and its output.
 use Rattle.std.specs.Prelude.{◌≡◌, ℕ, Bool, List, [], ◌∷◌, ◌++◌, length, Option, Result, Ok, Err, String, codes}
 use Rattle.std.specs.Prelude.{string_bytes}
 use Rattle.std.specs.Global.{Global}
 use Rattle.std.specs.Fmt.{decimal}
+use Rattle.smx_types.specs.declared.driver.DriverSpec.{DriverSpec}
 use Rattle.smx_types.specs.declared.transcript.Transcript.{Transcript}
 use Rattle.smx_words.specs.Words.{LINE_FEED, line_of}
 use Rattle.smx_text.specs.TranscriptLines.{TranscriptLine}
 use Rattle.smx_text.specs.TranscriptText.{transcript_grammar}
 use Rattle.smx_model.specs.DriverList.{IsDriverList}
-use Rattle.smx_config.specs.DriverFaults.{RefusesDrivers}
 use Rattle.smx_config.specs.Verdicts.{IsVerdict}
-use Rattle.smx_config.specs.declared.config_fault.ConfigFault.{ConfigFault}
 use Rattle.smx_config.specs.declared.verdict.Verdict.{Verdict}
 use Rattle.smx_config.specs.declared.verdict.Verdict.TheVariants.{Legal, Illegal, ConfigDiffers}
 use Rattle.smx_run.specs.RunFaults.{RefusesAlone}
 use Rattle.smx_filters.specs.Filters.{Filter, FiltersText}
+use Rattle.smx_run.specs.declared.run_fault.RunFault.{RunFault}
 use Rattle.smx_filters.specs.declared.main_fault.MainFault.{MainFault}
+use Rattle.smx_filters.specs.declared.main_fault.MainFault.TheVariants.{Refused}
 
--- the words of a verdict on so many entries: how many they are, or which is the first illegal one
+-- the words of a verdict on `entries` entries: their number, or which one is the first illegal one
 abbrev pub verdict_words : ℕ → Verdict → List (List ℕ)
 verdict_words entries Legal = codes "legal" ∷ decimal entries ∷ []
 verdict_words entries (Illegal entry) = codes "illegal" ∷ decimal entry ∷ []
 verdict_words entries ConfigDiffers = codes "config" ∷ codes "differs" ∷ []
 
--- its line, with the line feed
+-- the line of these words, with the line feed
 abbrev pub verdict_line : ℕ → Verdict → List ℕ
 verdict_line entries verdict = line_of (verdict_words entries verdict) ++ LINE_FEED ∷ []
 
 -- the verdict on a transcript, and its line
 pub record IsJudged (t : Transcript) (verdict : Verdict) (output : List ℕ) : Type 0 where
-  -- There is a configuration over the drivers of the transcript.
+  -- The drivers of the transcript are valid.
   pub can_be_had : IsDriverList t.drivers
   -- The verdict is the one on its entries and its view.
   pub judged : IsVerdict t.drivers t.entries t.view verdict
   -- The output is the line of that verdict, with the number of the entries, and nothing else.
   pub written : output ≡ verdict_line (length t.entries) verdict
 
--- the verdict on a transcript, and how many entries it has; or why its drivers are refused, or memory was wanting
-abbrev pub IsJudgedAs : Transcript → Result (Verdict × ℕ) ConfigFault → Type 0
-IsJudgedAs t (Ok v) = IsDriverList t.drivers × IsVerdict t.drivers t.entries t.view v.0 × (v.1 ≡ length t.entries)
-IsJudgedAs t (Err fault) = RefusesDrivers t.drivers fault
+-- why a transcript over these drivers is not judged: they are refused, or an allocation failed
+abbrev pub IsRefusedCheck : List DriverSpec → MainFault → Type 0
+IsRefusedCheck drivers fault = (f : RunFault) × (fault ≡ Refused f) × RefusesAlone drivers f
 
--- a check reads a transcript, writes the line of the verdict on it, and answers that verdict; or it refuses the
--- drivers, or memory was wanting
+-- A check reads a transcript, writes the line of the verdict on it, and answers that verdict. Or it refuses the
+-- drivers, or is out of memory.
 abbrev pub checking : Filter Transcript TranscriptLine Verdict
 checking = record {
   grammar = transcript_grammar;

@@ -1,4 +1,4 @@
--- What a drawing says of the bytes that it read, and what it writes.
+-- A drawing: its answer to the bytes that it read, and its output.
 use Rattle.std.specs.Prelude.{◌≡◌, ℕ, Bool, List, Option, Result}
 use Rattle.smx_types.specs.declared.transcript.Transcript.{Transcript}
 use Rattle.smx_text.specs.TranscriptLines.{TranscriptLine}
@@ -9,8 +9,8 @@ use Rattle.smx_run.specs.declared.run_fault.RunFault.TheVariants.{NoMemory}
 use Rattle.smx_filters.specs.Filters.{Filter, FiltersText}
 use Rattle.smx_filters.specs.declared.main_fault.MainFault.{MainFault}
 
--- a drawing reads a transcript, whatever its drivers, its entries and its view, and writes a picture of that view in
--- this form; or memory was wanting; that it is done is all that it answers
+-- A drawing reads a transcript, whatever its drivers, its entries and its view, and writes a picture of that view in
+-- this form; or it is out of memory. Its answer says only that it is done.
 abbrev pub drawing : Form → Filter Transcript TranscriptLine (Unit {0})
 drawing form = record {
   grammar = transcript_grammar;

@@ -1,4 +1,4 @@
--- What a check that explains itself says of the bytes that it read, and which texts are kept to be explained.
+-- A check that explains its verdict, and the texts that are kept to be explained.
 use Rattle.std.specs.Prelude.{◌≡◌, ℕ, ◌++◌, Bool, true, false, List, length, Option, Some, None, Result, Ok, Err}
 use Rattle.std.specs.Prelude.{Vec, IfErr}
 use Rattle.std.specs.Global.{Global}
@@ -18,18 +18,18 @@ use Rattle.smx_filters.specs.declared.refusal.Refusal.{Refusal}
 
 -- ---- a verdict
 
--- the verdict on a transcript, its line, and what is told below it
+-- the verdict on a transcript, its line, and the explanation below it
 pub record IsExplained (t : Transcript) (verdict : Verdict) (output : List ℕ) : Type 0 where
-  -- The line alone is what a check writes.
+  -- The line is what a check writes.
   pub judged : IsJudged t verdict (verdict_line (length t.entries) verdict)
-  -- Below it the transcript is compared with its replay.
+  -- The explanation compares the transcript with its replay.
   pub told : List ℕ
   pub explained : IsExplanation t told
   -- The output is both, and nothing else.
   pub written : output ≡ verdict_line (length t.entries) verdict ++ told
 
--- a check that explains itself reads a transcript, answers the verdict on it, and writes that with what is told below
--- it; or it refuses the drivers, or memory was wanting
+-- A check that explains its verdict reads a transcript, answers the verdict on it, and writes the verdict with the
+-- explanation below it. Or it refuses the drivers, or is out of memory.
 abbrev pub explaining : Filter Transcript TranscriptLine Verdict
 explaining = record {
   grammar = transcript_grammar;
@@ -37,7 +37,7 @@ explaining = record {
   Refuses = λ t. RefusesAlone t.drivers;
 }
 
--- a check, which explains itself or not
+-- a check that explains its verdict, or one that doesn't
 abbrev pub judging : Bool → Filter Transcript TranscriptLine Verdict
 judging false = checking
 judging true = explaining
@@ -47,9 +47,9 @@ abbrev pub explained_of : Result (Verdict × Vec ℕ Global) MainFault → Resul
 explained_of (Ok explained) = Ok (explained.0, explained.1.items)
 explained_of (Err e) = Err e
 
--- ---- a text at fault
+-- ---- a malformed text
 
--- the text is there, and it is this one
+-- there is a text, and it is this one
 abbrev pub IsKept : Option (Vec ℕ Global) → List ℕ → Type 0
 IsKept (Some text) bytes = text.items ≡ bytes
 IsKept None bytes = ⊥
@@ -65,7 +65,7 @@ pub record KeepsText {V K T : Type 0} (f : Filter V K T) (had left : Option (Lis
     (answer : Result T Refusal) : Type 0 where
   -- It answers as the filter does.
   pub filtered : FiltersText f had left ended read_failures before after flushed write_failures (answer_of answer)
-  -- Where the text is at fault, all that was read is kept.
+  -- If the text is malformed, all that was read is kept.
   pub kept : IfErr answer (λ r. (fault : TextFault) → r.fault ≡ Text fault → IsKept r.text filtered.read)
-  -- Where drivers are refused or memory was wanting, nothing is.
+  -- If drivers are refused or memory runs out, nothing is kept.
   pub given_up : IfErr answer (λ r. (fault : RunFault) → r.fault ≡ Refused fault → r.text ≡ None)

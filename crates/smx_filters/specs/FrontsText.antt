@@ -1,4 +1,4 @@
--- The fronts text: how far the history had come when the program of each process had ended.
+-- The fronts text: how far the history was when the program of each process had ended.
 use Rattle.std.specs.Prelude.{ℕ, ◌+◌, List, [], ◌∷◌, ◌++◌, codes}
 use Rattle.std.specs.Fmt.{decimal}
 use Rattle.smx_words.specs.Words.{LINE_FEED, SPACE}
@@ -9,7 +9,7 @@ abbrev pub front_line : ℕ → Front → List ℕ
 front_line process front =
     codes "front " ++ decimal process ++ SPACE ∷ decimal front.entries ++ SPACE ∷ decimal front.links ++ LINE_FEED ∷ []
 
--- the lines of fronts, from process n on
+-- the lines of fronts, from process `n` on
 abbrev pub front_lines : ℕ → List Front → List ℕ
 front_lines n [] = []
 front_lines n (front ∷ fronts) = front_line n front ++ front_lines (n + 1) fronts

@@ -1,4 +1,4 @@
--- What a filter says of an input in memory, and where a device fails.
+-- The results of a filter for an input in memory, and if a device fails.
 use Rattle.std.specs.Prelude.{◌≡◌, ℕ, ◌+◌, ◌<◌, ◌≤◌, ◌⊎◌, Bool, true, false, List, [], length, take, drop, Result, Ok}
 use Rattle.std.specs.Prelude.{Err}
 use Rattle.smx_run.specs.declared.run_fault.RunFault.TheVariants as run
@@ -8,8 +8,8 @@ use Rattle.smx_filters.specs.declared.main_fault.MainFault.TheVariants.{Refused,
 use Rattle.smx_filters.specs.declared.input.TheConstants.{MAX_INPUT}
 
 module _ {V K T : Type 0} (f : Filter V K T) where
-  -- where no device fails: this input, what is left of it, whether its end was seen, what was written, and whether
-  -- that is flushed
+  -- If no device fails: the input, what is left of it, whether its end was seen, what was written, and whether that
+  -- is flushed.
   abbrev pub EndsInMemory : List ℕ → List ℕ → Bool → List ℕ → Bool → Result T MainFault → Type 0
   EndsInMemory input left ended output flushed (Ok answer) =
       (length input ≤ MAX_INPUT) × (left ≡ []) × (ended ≡ true) × (flushed ≡ true) × GivesFor f input answer output
@@ -23,7 +23,7 @@ module _ {V K T : Type 0} (f : Filter V K T) where
   EndsInMemory input left ended output flushed (Err ReadFailed) = ⊥
   EndsInMemory input left ended output flushed (Err WriteFailed) = ⊥
 
-  -- where the writer fails: this input, and what was written, a beginning of what the filter gives for it
+  -- if the writer fails: the input, and what was written, which is a beginning of what the filter gives for it
   pub record IsCutShort (input output : List ℕ) (answer : Result T MainFault) : Type 0 where
     pub told : answer ≡ Err WriteFailed
     pub given : T

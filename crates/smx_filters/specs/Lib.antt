@@ -2,7 +2,6 @@ pub mod Statuses
 pub mod Input
 pub mod Output
 pub mod Filters
-pub mod CommandLines
 pub mod FrontsText
 pub mod RunText
 pub mod CheckText

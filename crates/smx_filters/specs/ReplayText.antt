@@ -1,4 +1,4 @@
--- What a replay says of the bytes that it read, and what it writes.
+-- A replay: its answer to the bytes that it read, and its output.
 use Rattle.std.specs.Prelude.{ℕ, Bool, List, Option, Result}
 use Rattle.smx_types.specs.declared.transcript.Transcript.{Transcript}
 use Rattle.smx_replay.specs.Replays.{IsReplayOf}
@@ -10,14 +10,14 @@ use Rattle.smx_filters.specs.declared.main_fault.MainFault.{MainFault}
 
 -- the transcript that the commands of this one give
 pub record IsReplayed (t : Transcript) (output : List ℕ) : Type 0 where
-  -- There is a legal history of just its calls, in its order, told with the view after it and in its version.
+  -- There is a legal history of exactly its calls, in its order, reported with the view after it and in its version.
   pub replay : Transcript
   pub replays : IsReplayOf t replay
-  -- The output is the transcript of that, and nothing else.
+  -- The output is the transcript of that history, and nothing else.
   pub written : SpellsTranscript output replay
 
--- a replay reads a transcript and writes what its commands give; or it refuses the drivers, or memory was wanting; that
--- it is done is all that it answers
+-- A replay reads a transcript and writes the one that its commands give. Or it refuses the drivers, or is out of
+-- memory. Its answer says only that it is done.
 abbrev pub replaying : Filter Transcript TranscriptLine (Unit {0})
 replaying = record {
   grammar = transcript_grammar;

@@ -1,8 +1,9 @@
--- The headline over bytes: what a run says of the bytes that it read, and what it writes.
-use Rattle.std.specs.Prelude.{◌≡◌, ◌≤◌, ◌⊎◌, ℕ, zero, suc, Bool, true, false, List, length, map, Option, Result, Vec}
-use Rattle.std.specs.Prelude.{Ok, Err}
+-- The main theorem over bytes: the answer of a run to the bytes that it read, and its output.
+use Rattle.std.specs.Prelude.{◌≡◌, ◌≤◌, ◌⊎◌, ℕ, Bool, true, false, List, length, map, Option, Result, Vec}
+use Rattle.std.specs.Prelude.{Ok, Err, IfSome}
 use Rattle.std.specs.Global.{Global}
 use Rattle.smx_types.specs.ProgramLists.{ProgramLists}
+use Rattle.smx_types.specs.declared.command.Entry.{Entry}
 use Rattle.smx_types.specs.declared.transcript.Transcript.{Transcript}
 use Rattle.smx_model.specs.Headline.{IsReportOf}
 use Rattle.smx_model.specs.Histories.{call_of}
@@ -11,6 +12,7 @@ use Rattle.smx_run.specs.ProgramOrder.{calls_from}
 use Rattle.smx_run.specs.RunFaults.{RefusesAlone, RefusesRun}
 use Rattle.smx_run.specs.declared.run_fault.RunFault.{RunFault}
 use Rattle.smx_shared.specs.declared.front.Front.{Front}
+use Rattle.smx_text.specs.GrowingTranscripts.{AreEntryLines}
 use Rattle.smx_text.specs.ProgramLines.{Line}
 use Rattle.smx_text.specs.ProgramsText.{programs_grammar}
 use Rattle.smx_text.specs.TranscriptText.{SpellsTranscript}
@@ -18,54 +20,42 @@ use Rattle.smx_filters.specs.Filters.{Filter, FiltersText}
 use Rattle.smx_filters.specs.FrontsText.{fronts_text}
 use Rattle.smx_filters.specs.declared.main_fault.MainFault.{MainFault}
 
--- the transcript of a report that is promised for the programs, in their version
-pub record IsTranscriptFor (programs : ProgramLists) (output : List ℕ) : Type 0 where
-  -- There is a report that is promised for these programs, to be told in their version.
+-- the transcript of a report that is promised for the programs, in their version, for a run by this number of workers;
+-- for one worker there is at most one such report
+pub record IsTranscriptFor (workers : ℕ) (programs : ProgramLists) (output : List ℕ) : Type 0 where
+  -- There is a report that is promised for these programs, in their version. On one worker one program comes after the
+  -- other.
   pub report : Transcript
   pub promised : IsReportOf programs report
+  pub in_turn : workers ≤ 1 → map call_of report.entries ≡ calls_from 0 programs.programs
   pub version : report.version ≡ programs.version
   -- The output is its transcript, and nothing else.
   pub written : SpellsTranscript output report
 
--- the fronts of such a report, of a run by so many workers
+-- the fronts of such a report, of a run by this number of workers
 pub record IsFrontsTextFor (workers : ℕ) (programs : ProgramLists) (output : List ℕ) : Type 0 where
-  -- There is a report that is promised for these programs, of one worker with one program after the other,
+  -- There is a report that is promised for these programs. On one worker it has one program after the other.
   pub report : Transcript
   pub promised : IsReportOf programs report
   pub in_turn : workers ≤ 1 → map call_of report.entries ≡ calls_from 0 programs.programs
-  -- and one front for each program, that of a beginning of its history which holds all commands of the program.
+  -- There is one front for each program, that of a beginning of the history which holds all commands of the program.
   pub fronts : List Front
   pub seen : AreFrontsFrom report.drivers report.entries 0 programs.programs fronts
   -- The output is their text, and nothing else.
   pub written : output ≡ fronts_text fronts
 
--- the transcript of the report in which each program comes whole, by rising number; there is one such report at most
-pub record IsTranscriptInTurn (programs : ProgramLists) (output : List ℕ) : Type 0 where
-  -- The output is the transcript of a report that is promised for these programs, in their version, and nothing else.
-  pub transcript : IsTranscriptFor programs output
-  -- In this report one program comes after the other.
-  pub in_turn : map call_of transcript.report.entries ≡ calls_from 0 programs.programs
-
--- what a run on one thread gives: that transcript, or why it is refused
-abbrev pub IsRunAlone : ProgramLists → Result (Vec ℕ Global) RunFault → Type 0
-IsRunAlone programs (Ok text) = IsTranscriptInTurn programs text.items
-IsRunAlone programs (Err fault) = RefusesAlone programs.drivers fault
-
--- what so many workers write: the fronts, or the transcript; one worker alone makes either of one program after the
--- other
+-- the output of this number of workers: the fronts or the transcript
 abbrev pub IsWrittenFor : Bool → ℕ → ProgramLists → List ℕ → Type 0
 IsWrittenFor true workers programs output = IsFrontsTextFor workers programs output
-IsWrittenFor false zero programs output = IsTranscriptFor programs output
-IsWrittenFor false (suc zero) programs output = IsTranscriptInTurn programs output
-IsWrittenFor false (suc (suc more)) programs output = IsTranscriptFor programs output
+IsWrittenFor false workers programs output = IsTranscriptFor workers programs output
 
--- what so many workers may refuse: where one worker runs all that there is, nothing that workers share
+-- how a run by this number of workers may be refused: if one worker runs everything, not by faults of sharing
 abbrev pub IsRefusedFor : ℕ → ProgramLists → RunFault → Type 0
 IsRefusedFor workers programs fault = RefusesRun programs.drivers fault
     × ((workers ≤ 1) ⊎ (length programs.programs ≤ 1) → RefusesAlone programs.drivers fault)
 
--- a run by so many workers reads programs and writes the fronts or the transcript of a report; that it is done is all
--- that it answers
+-- A run by this number of workers reads programs and writes the fronts or the transcript of a report. Its answer says
+-- only that it is done.
 abbrev pub running : Bool → ℕ → Filter ProgramLists Line (Unit {0})
 running fronts workers = record {
   grammar = programs_grammar;
@@ -73,7 +63,7 @@ running fronts workers = record {
   Refuses = IsRefusedFor workers;
 }
 
--- an answer of the text alone, with the vector as the list of its bytes
+-- an answer with only a text, as the list of its bytes
 abbrev pub items_of : Result (Vec ℕ Global) MainFault → Result (Unit {0} × List ℕ) MainFault
 items_of (Ok v) = Ok (tt, v.items)
 items_of (Err e) = Err e
@@ -82,3 +72,8 @@ items_of (Err e) = Err e
 abbrev pub RunsText : Bool → ℕ → Option (List ℕ) → Option (List ℕ) → Bool → ℕ
     → Option (List ℕ) → Option (List ℕ) → Bool → ℕ → Result (Unit {0}) MainFault → Type 0
 RunsText fronts workers = FiltersText (running fronts workers)
+
+-- these are the lines of the entries so far, unless an allocation failed, and this is their number
+pub record AreLinesSoFar (lines : Option (Vec ℕ Global)) (count : ℕ) (entries : List Entry) : Type 0 where
+  pub written : IfSome lines (λ v. AreEntryLines entries v.items)
+  pub counted : count ≡ length entries

@@ -9,7 +9,7 @@ use Rattle.smx_filters.specs.declared.main_fault.MainFault.TheVariants.{Refused,
 use Rattle.smx_filters.specs.declared.done.Done.{Done}
 use Rattle.smx_filters.specs.declared.done.Done.TheVariants.{Finished, Judged}
 
--- 1 for want of memory, 3 for what is wrong with the text
+-- 1 for out-of-memory, 3 for a malformed text
 abbrev pub status_of_cause : Cause → ℕ
 status_of_cause Header = 3
 status_of_cause Form = 3
@@ -18,7 +18,7 @@ status_of_cause Cut = 3
 status_of_cause Trailing = 3
 status_of_cause NoMemory = 1
 
--- 1 refused, 3 the text is refused or too long, 5 input or output failed
+-- 1 refused, 3 the text is malformed or too long, 5 input or output failed
 abbrev pub status_of : MainFault → ℕ
 status_of (Refused fault) = 1
 status_of (Text fault) = status_of_cause fault.cause
@@ -32,12 +32,12 @@ status_of_verdict Legal = 0
 status_of_verdict (Illegal entry) = 4
 status_of_verdict ConfigDiffers = 4
 
--- 0 where that was all that was asked
+-- 0 if nothing was judged, else that of the verdict
 abbrev pub status_of_done : Done → ℕ
 status_of_done Finished = 0
 status_of_done (Judged verdict) = status_of_verdict verdict
 
--- that of what was done, or of the fault for which it was not
+-- the status of what was done, or of the fault that prevented it
 abbrev pub status_of_outcome : Result Done MainFault → ℕ
 status_of_outcome (Ok done) = status_of_done done
 status_of_outcome (Err fault) = status_of fault

@@ -1,25 +1,24 @@
 //! A check from bytes to bytes.
 
 ghost use Rattle.std.specs.Fmt.{decimal};
-ghost use Rattle.std.specs.Prelude.{◌≡◌, ◌∷◌, ◌++◌, [], false, string_bytes, IfOk};
+ghost use Rattle.std.specs.Prelude.{◌≡◌, ◌∷◌, ◌++◌, [], false, string_bytes, IfErr, IfOk};
 ghost use Rattle.smx_words.specs.Words.{LINE_FEED, SPACE};
-ghost use Rattle.smx_filters.specs.CheckText.{ChecksText, checking, judged_of, verdict_line};
+ghost use Rattle.smx_filters.specs.CheckText.{ChecksText, IsJudged, IsRefusedCheck, checking, judged_of, verdict_line};
 ghost use Rattle.smx_filters.specs.Filters.{Answers};
 
 use crate::device::{Feed, Sink};
 use crate::input::read_all;
-use crate::judged_transcript::JudgedTranscript;
 use crate::main_fault::MainFault;
 use crate::output::write_all;
-use smx_config::Verdict;
-use smx_text::take_transcript;
+use smx_config::{Verdict, check_history};
+use smx_text::read_transcript;
+use smx_types::Transcript;
 use std::alloc::{AllocError, Global};
 
-/// Reads the transcript that `feed` has, judges it, and writes the line of the verdict to `sink`:
-/// `legal N`, of N entries; `illegal K`, where entry K, counted from 1, is the first whose reply is
-/// wrong; or `config differs`, where only the configuration shown is. Neither device has failed
-/// before, and no read has shown the end. At most 16,777,217 bytes are read. Faults are found in
-/// this order: reading, text, drivers, judging, writing.
+/// Reads a transcript from `feed`, judges it, and writes the line of the verdict to `sink`: `legal N`, for N entries;
+/// `illegal K`, if entry K, counted from 1, is the first with a wrong reply; or `config differs`, if only the
+/// configuration shown is wrong. Requires that neither device has failed before and that the feed has not ended.
+/// Reads at most 16,777,217 bytes. Checks for faults in this order: reading, text, drivers, judging, writing.
 pub fn check_text<F: Feed, S: Sink>(
     alloc: Global,
     feed: &mut F,
@@ -33,26 +32,34 @@ pub fn check_text<F: Feed, S: Sink>(
         (S.failures sink.new) result }
 {
     let input = read_all(alloc, feed)?;
-    let (verdict, line) = judge(alloc, input.as_slice())?;
+    let (verdict, line) = judge(alloc, input)?;
     write_all(sink, line.as_bytes())?;
     Ok(verdict)
 }
 
-// The verdict on the transcript that the input spells, and its line. Each entry is judged as its line is read.
-fn judge(alloc: Global, input: &[u8]) -> Result<(Verdict, String), MainFault>
-    ensures { Answers checking input.now (judged_of result) }
+// Judges the transcript that the input spells. Returns the verdict and its line.
+fn judge(alloc: Global, input: Vec<u8>) -> Result<(Verdict, String), MainFault>
+    ensures { Answers checking input.items (judged_of result) }
 {
-    let (verdict, entries) = take_transcript::<JudgedTranscript>(alloc, (), input)??;
-    let line = verdict_line(alloc, entries, verdict)?;
+    let transcript = read_transcript(alloc, input.as_slice())?;
+    drop(input);
+    judged(alloc, &transcript)
+}
+
+/// Judges a transcript. Returns the verdict and its line.
+pub(crate) fn judged(alloc: Global, transcript: &Transcript) -> Result<(Verdict, String), MainFault>
+    ensures judged { IfOk result (λ j. IsJudged transcript.now j.0 (string_bytes j.1)) }
+    ensures refused { IfErr result (IsRefusedCheck transcript.now.drivers) }
+{
+    let drivers = transcript.drivers.as_slice();
+    let entries = transcript.entries.as_slice();
+    let verdict = check_history(alloc, drivers, entries, &transcript.view)?;
+    let line = verdict_line(alloc, entries.len(), verdict)?;
     Ok((verdict, line))
 }
 
-// The line of a verdict on so many entries.
-pub(crate) fn verdict_line(
-    alloc: Global,
-    entries: usize,
-    verdict: Verdict,
-) -> Result<String, AllocError>
+// Returns the line of a verdict on `entries` entries.
+fn verdict_line(alloc: Global, entries: usize, verdict: Verdict) -> Result<String, AllocError>
     ensures { IfOk result (λ line. string_bytes line ≡ verdict_line entries verdict) }
 {
     match verdict {
@@ -62,7 +69,7 @@ pub(crate) fn verdict_line(
     }
 }
 
-// The line of a word and a number.
+// Returns the line of a word and a number.
 fn numbered(alloc: Global, word: &str, n: usize) -> Result<String, AllocError>
     ensures { IfOk result (λ line. string_bytes line
         ≡ word.now ++ SPACE ∷ decimal n ++ LINE_FEED ∷ []) }

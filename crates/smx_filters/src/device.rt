@@ -1,4 +1,4 @@
-//! What the program reads from and writes to, with a count of failures.
+//! The reader and the writer of a filter, with counts of their failures.
 
 ghost use Rattle.std.specs.Prelude.{◌≡◌, ℕ, ◌<◌, ◌≤◌, Bool, true, false, List, Option, length, IfOk, OnOk, OnErr};
 ghost use Rattle.std.specs.Io.KnownBytes.{Keeps, ReadConsumes, WriteAppends};
@@ -9,20 +9,19 @@ use std::io::{Read, Write};
 #[derive(Clone, Copy, Debug, PartialEq, Eq)]
 pub struct Failed;
 
-/// What is read. It is read from only while no read has failed or shown the end.
+/// A reader. No read may follow one that failed or showed the end.
 pub trait Feed {
-    /// The bytes that reads will give from here on, where they are known.
+    /// The bytes that further reads will give, if they are known.
     ghost remaining: { Self → Option (List ℕ) };
 
-    /// Whether a read has shown the end, by giving none.
+    /// Whether the end was reached: a read gave no bytes.
     ghost ended: { Self → Bool };
 
     /// How many reads have failed.
     ghost failures: { Self → ℕ };
 
-    /// Reads into the beginning of the buffer, which has room, and answers how many bytes those
-    /// are: none only at the end. `Failed` comes only where the device failed; it has then given
-    /// nothing.
+    /// Reads into the beginning of the buffer, which must not be empty, and returns the number of bytes: 0 only at
+    /// the end. Fails only if the device failed; it then gave no bytes.
     fn read(&mut self, buffer: &mut [u8]) -> Result<usize, Failed>
         requires room { 0 < length buffer.old }
         requires before_the_end { ended self.old ≡ false }
@@ -35,19 +34,19 @@ pub trait Feed {
         ensures failed { OnErr result (failures self.new ≡ 1) };
 }
 
-/// What is written to. It is written to only while no write and no flush has failed.
+/// A writer. No write or flush may follow one that failed.
 pub trait Sink {
-    /// The bytes that it holds, where they are known.
+    /// The bytes that it holds, if they are known.
     ghost contents: { Self → Option (List ℕ) };
 
     /// Whether it was flushed after the last write.
     ghost flushed: { Self → Bool };
 
-    /// How many writes and flushes have failed. A write of some bytes that takes none has failed.
+    /// How many writes and flushes have failed. A write that takes none of its bytes has failed.
     ghost failures: { Self → ℕ };
 
-    /// Writes the beginning of some bytes, and answers how many, which is one at least. `Failed` comes
-    /// only where the device failed or took none; nothing was then written.
+    /// Writes the beginning of some bytes and returns how many it wrote, at least one. Fails only if the device
+    /// failed or took no byte; nothing was written then.
     fn write(&mut self, bytes: &[u8]) -> Result<usize, Failed>
         requires some { 0 < length bytes.now }
         requires fine_so_far { failures self.old ≡ 0 }
@@ -57,7 +56,7 @@ pub trait Sink {
         ensures fine { OnOk result (failures self.new ≡ 0) }
         ensures failed { OnErr result (failures self.new ≡ 1) };
 
-    /// Sends out what was written. `Failed` comes only where the device failed.
+    /// Sends out what was written. Fails only if the device failed.
     fn flush(&mut self) -> Result<(), Failed>
         requires { failures self.old ≡ 0 }
         ensures bytes { Keeps (contents self.old) (contents self.new) }
@@ -66,18 +65,18 @@ pub trait Sink {
         ensures failed { OnErr result (failures self.new ≡ 1) };
 }
 
-/// A reader of std as a feed. Each of its errors, an interrupted call too, is a failure.
+/// Makes a feed of a reader of std. Each of its errors is a failure, including an interrupted call.
 #[derive(Drop)]
 pub struct Source<R> {
     pub reader: R,
-    /// Whether a read has given none.
+    /// Whether a read has given no bytes.
     pub ended: bool,
     /// How many reads have failed.
     pub failures: u64,
 }
 
 impl<R> Source<R> {
-    /// A reader of which no read has failed or shown the end.
+    /// Wraps a reader, before any read.
     pub fn new(reader: R) -> Source<R>
         ensures reader { result.reader ≡ reader }
         ensures before_the_end { result.ended ≡ false }
@@ -112,8 +111,8 @@ impl<R: Read> Feed for Source<R> {
     }
 }
 
-/// A writer of std as a sink. Each of its errors, an interrupted call too, is a failure, and so is a write of some
-/// bytes that takes none.
+/// Makes a sink of a writer of std. Each of its errors is a failure, including an interrupted call, and so is a write
+/// that takes none of its bytes.
 #[derive(Drop)]
 pub struct Target<W> {
     pub writer: W,
@@ -124,7 +123,7 @@ pub struct Target<W> {
 }
 
 impl<W> Target<W> {
-    /// A writer of which no write and no flush has failed.
+    /// Wraps a writer, before any write or flush.
     pub fn new(writer: W) -> Target<W>
         ensures writer { result.writer ≡ writer }
         ensures unflushed { result.flushed ≡ false }

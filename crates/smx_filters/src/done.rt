@@ -1,22 +1,23 @@
-//! What comes of a filter.
+//! The success of a filter.
 
 ghost use Rattle.std.specs.Prelude.{◌≡◌};
 ghost use Rattle.smx_filters.specs.Statuses.{status_of_done};
 
 use smx_config::Verdict;
 
-/// What the program has done.
+/// The work that the program has done.
 #[derive(Clone, Copy, Debug, PartialEq, Eq)]
 pub enum Done {
-    /// All that it was asked: a transcript, fronts, help or the version was written.
+    /// It wrote all that it was asked for: a transcript, fronts, a picture, the answers of a live session, help or
+    /// the version.
     Finished,
-    /// It has judged a transcript, and written the verdict.
+    /// It judged a transcript and wrote the verdict.
     Judged(Verdict),
 }
 
 impl Done {
-    /// The program's exit status: 4 for the verdict that a history is illegal or that its
-    /// configuration differs, else 0. Takes no memory.
+    /// Returns the program's exit status: 4 if the verdict is that a history is illegal or that its configuration
+    /// differs, else 0. Takes no memory.
     pub fn status(&self) -> u8
         ensures { result ≡ status_of_done self.now }
     {

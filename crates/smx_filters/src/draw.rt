@@ -13,9 +13,9 @@ use smx_draw::{Form, draw};
 use smx_text::read_transcript;
 use std::alloc::Global;
 
-/// Reads the transcript that `feed` has, whether it is legal or not, and writes a picture of the configuration that it
-/// shows to `sink`, in this form. Neither device has failed before, and no read has shown the end. At most 16,777,217
-/// bytes are read. Faults are found in this order: reading, text, drawing, writing.
+/// Reads a transcript from `feed`, legal or not, and writes a picture of the configuration that it shows to `sink`,
+/// in this form. Requires that neither device has failed before and that the feed has not ended. Reads at most
+/// 16,777,217 bytes. Checks for faults in this order: reading, text, drawing, writing.
 pub fn draw_text<F: Feed, S: Sink>(
     alloc: Global,
     feed: &mut F,
@@ -34,7 +34,7 @@ pub fn draw_text<F: Feed, S: Sink>(
     write_all(sink, output.as_slice())
 }
 
-// The picture of the transcript that the input spells. The input is given up with it.
+// Returns the picture of the transcript that the input spells. Frees the input.
 fn text_of_picture(alloc: Global, input: Vec<u8>, form: Form) -> Result<Vec<u8>, MainFault>
     ensures { Answers (drawing form) input.items (items_of result) }
 {

@@ -6,14 +6,14 @@ ghost use Rattle.smx_filters.specs.ExplainText.{KeepsText, explained_of, explain
 ghost use Rattle.smx_filters.specs.Filters.{Answers};
 ghost use Rattle.smx_filters.specs.RunText.{running};
 
-use crate::check::verdict_line;
+use crate::check::judged;
 use crate::device::{Feed, Sink};
 use crate::input::read_all;
 use crate::main_fault::MainFault;
 use crate::output::write_all;
 use crate::refusal::{Refusal, kept_for};
-use crate::text::text_for;
-use smx_config::{Verdict, check_history};
+use crate::run::text_of_run;
+use smx_config::Verdict;
 use smx_explain::explain;
 use smx_run::Gate;
 use smx_text::read_transcript;
@@ -21,9 +21,9 @@ use std::alloc::{AllocError, Global};
 use std::sync::Wait;
 use std::thread::Threads;
 
-/// Judges the transcript that `feed` has as `check_text` does, and writes to `sink` what that writes and, below it, the
-/// first line in which the transcript and its replay differ. A text that is at fault is kept. Faults are found in the
-/// order of `check_text`, and those of explaining with those of judging.
+/// Judges the transcript in `feed` as `check_text` does. Writes to `sink` what that writes and, below it, the first
+/// line in which the transcript and its replay differ. Keeps a malformed text. Checks for faults in the order of
+/// `check_text`; those of explaining come with those of judging.
 pub fn check_explained<F: Feed, S: Sink>(
     alloc: Global,
     feed: &mut F,
@@ -46,8 +46,7 @@ pub fn check_explained<F: Feed, S: Sink>(
     }
 }
 
-/// Runs the programs that `feed` has as `run_text` does, and writes to `sink` what that writes. A text that is at fault
-/// is kept.
+/// Runs the programs in `feed` as `run_text` does, and writes to `sink` what that writes. Keeps a malformed text.
 pub fn run_explained<R: Threads + Wait + Sync, F: Feed, S: Sink, G: Gate + Sync>(
     rt: &R,
     alloc: Global,
@@ -66,26 +65,23 @@ pub fn run_explained<R: Threads + Wait + Sync, F: Feed, S: Sink, G: Gate + Sync>
         (S.failures sink.new) result }
 {
     let input = read_all(alloc, feed)?;
-    let output = text_for(rt, alloc, input, workers, fronts, gate)?;
+    let output = text_of_run(rt, alloc, input, workers, fronts, gate)?;
     write_all(sink, output.as_slice())?;
     Ok(())
 }
 
-// The verdict on the transcript that the input spells, and its line with what is told below it.
+// Judges the transcript that the input spells. Returns the verdict, and its line with the explanation below it.
 fn explained(alloc: Global, input: &[u8]) -> Result<(Verdict, Vec<u8>), MainFault>
     ensures { Answers explaining input.now (explained_of result) }
 {
     let transcript = read_transcript(alloc, input)?;
-    let drivers = transcript.drivers.as_slice();
-    let entries = transcript.entries.as_slice();
-    let verdict = check_history(alloc, drivers, entries, &transcript.view)?;
-    let line = verdict_line(alloc, entries.len(), verdict)?;
+    let (verdict, line) = judged(alloc, &transcript)?;
     let told = explain(alloc, input, transcript)?;
     let output = joined(alloc, line.as_bytes(), told.as_slice())?;
     Ok((verdict, output))
 }
 
-// Some bytes, and then others.
+// Joins two slices of bytes.
 fn joined(alloc: Global, front: &[u8], back: &[u8]) -> Result<Vec<u8>, AllocError>
     ensures { IfOk result (λ v. v.items ≡ front.now ++ back.now) }
 {

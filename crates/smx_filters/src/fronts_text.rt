@@ -4,10 +4,12 @@ ghost use Rattle.std.specs.Prelude.{◌≡◌, ◌++◌, IfOk, OnOk};
 ghost use Rattle.smx_filters.specs.FrontsText.{fronts_text, front_line};
 
 use smx_shared::Front;
-use std::alloc::{AllocError, Global};
+use smx_types::NoMemory;
+use std::alloc::Global;
 
-/// The text of fronts: one line for each, with its place as the number of the process. Fails only for want of memory.
-pub fn fronts_text(alloc: Global, fronts: &[Front]) -> Result<Vec<u8>, AllocError>
+/// Returns the text of fronts: one line for each, with its index as the number of the process. Fails only if it is
+/// out of memory.
+pub fn fronts_text(alloc: Global, fronts: &[Front]) -> Result<Vec<u8>, NoMemory>
     ensures { IfOk result (λ text. text.items ≡ fronts_text fronts.now) }
 {
     let mut text = Vec::new(alloc);
@@ -21,13 +23,13 @@ pub fn fronts_text(alloc: Global, fronts: &[Front]) -> Result<Vec<u8>, AllocErro
     Ok(text)
 }
 
-// The line of one front more.
+// Adds the line of one more front.
 fn add_front(
     alloc: Global,
     text: &mut Vec<u8>,
     process: usize,
     front: Front,
-) -> Result<(), AllocError>
+) -> Result<(), NoMemory>
     ensures { OnOk result (text.new.items ≡ text.old.items ++ front_line process front) }
 {
     let entries = front.entries;

@@ -7,21 +7,22 @@ use crate::device::Feed;
 use crate::main_fault::MainFault;
 use std::alloc::{AllocError, Global};
 
-/// The most bytes that an input may have.
+/// The largest number of bytes of an input.
 pub const MAX_INPUT: usize = 16_777_216;
 
-// Room grows by as much as was read, but by no less and no more than this. For the next read a sixteenth of what was
-// read, with the same bounds, is filled of it: a page of room that nobody fills costs nothing.
+// The capacity grows by as much as was read so far, but by at least `LEAST_PIECE` and at most `MOST_PIECE`. Only a
+// sixteenth of what was read so far, within the same bounds, is zeroed at a time for the next reads: a page that is
+// never written costs nothing.
 const LEAST_PIECE: usize = 65_536;
 
 const MOST_PIECE: usize = 1_048_576;
 
 const SHARE: usize = 16;
 
-/// All bytes up to the end of the feed, which a read of none shows. `TooLong` comes exactly where
-/// more than `MAX_INPUT` bytes were read, and `ReadFailed` exactly where a read failed; else
-/// memory was wanting before the end was seen. Asks for room for `MAX_INPUT` bytes and one at most.
-/// Each read but the last adds a byte at least, so there are at most `MAX_INPUT` and one of them.
+/// Reads all bytes up to the end of the feed, which a read of 0 bytes shows. Fails with `TooLong` exactly if more
+/// than `MAX_INPUT` bytes were read, with `ReadFailed` exactly if a read failed, and else because it is out of memory
+/// before the end was seen. Requests memory for at most `MAX_INPUT` bytes and one. Each read except the last adds at
+/// least one byte, so there are at most `MAX_INPUT` and one of them.
 pub fn read_all<F: Feed>(alloc: Global, feed: &mut F) -> Result<Vec<u8>, MainFault>
     requires before_the_end { F.ended feed.old ≡ false }
     requires fine_so_far { F.failures feed.old ≡ 0 }
@@ -46,7 +47,7 @@ pub fn read_all<F: Feed>(alloc: Global, feed: &mut F) -> Result<Vec<u8>, MainFau
     }
 }
 
-// Room behind the first `count` bytes, which stay.
+// Makes room after the first `count` bytes, which are unchanged.
 fn make_room(all: &mut Vec<u8>, count: usize) -> Result<(), AllocError>
     requires within { count ≤ vec_len all.old }
     requires few { count ≤ MAX_INPUT }

@@ -1,4 +1,4 @@
-//! Laws of what is answered to an input, each the contract of a function that does nothing.
+//! Laws of the answer to an input, each the contract of a function that does nothing.
 
 ghost use Rattle.std.specs.Prelude.{◌≡◌, ◌≤◌, ℕ, Bool, true, false, List, All, length, map, Result};
 ghost use Rattle.smx_types.specs.ProgramLists.{ProgramLists};
@@ -28,8 +28,9 @@ use smx_explain::laws_of_explanations::a_transcript_has_one_explanation;
 use smx_replay::laws_of_replays::a_transcript_has_one_replay;
 use smx_text::laws::{one_text_has_one_reading, one_transcript_has_one_reading};
 
-/// A check, one that explains itself, a replay and a run on one worker have no two answers to an input, and no two
-/// outputs, unless memory was wanting: what is done isn't refused, and what is refused is refused for one fault.
+/// A check, with or without an explanation, a replay, and a run on one worker each have only one answer to an input,
+/// and only one output, unless memory runs out: what succeeds is not refused, and what is refused is refused for only
+/// one fault.
 pub fn an_input_has_one_answer()
     ensures checked { (input : List ℕ) (one other : Result (Verdict × List ℕ) MainFault)
         → Answers checking input one → Answers checking input other
@@ -51,7 +52,7 @@ pub fn an_input_has_one_answer()
     one_transcript_has_one_reading();
 }
 
-/// So has a run of one process, or of none, by however many workers.
+/// The same holds of a run with at most one process, by any number of workers.
 pub fn a_run_of_one_process_has_one_answer()
     ensures { (workers : ℕ) (input : List ℕ) (one other : Result (Unit {0} × List ℕ) MainFault)
         → ((version : Version) (p : ProgramLists) → Spells (programs_grammar version) input p → length p.programs ≤ 1)
@@ -61,8 +62,8 @@ pub fn a_run_of_one_process_has_one_answer()
     one_text_has_one_reading();
 }
 
-/// Programs that several workers have run aren't refused for their drivers, whether their fronts or a transcript came
-/// of them.
+/// Programs that any number of workers have run are not refused for their drivers, whether the run writes fronts or a
+/// transcript.
 pub fn what_is_run_has_drivers()
     ensures { (fronts : Bool) (workers : ℕ) (input output : List ℕ) (done : Unit {0}) (fault : ConfigFault)
         → GivesFor (running fronts workers) input done output
@@ -71,7 +72,7 @@ pub fn what_is_run_has_drivers()
     one_text_has_one_reading();
 }
 
-/// What a run writes for its transcript, by however many workers, spells a report of the programs in their version, and
+/// The transcript that a run writes, by any number of workers, spells a report of the programs in their version, and
 /// nothing else. A check judges it legal.
 pub fn a_run_writes_one_legal_transcript()
     ensures legal { (workers : ℕ) (programs : ProgramLists) (output : List ℕ)
@@ -84,8 +85,8 @@ pub fn a_run_writes_one_legal_transcript()
     one_transcript_has_one_reading();
 }
 
-/// The fronts that a run writes are of one report of the programs: one for each process, and none past its end. On one
-/// worker it has one program after the other.
+/// The fronts that a run writes are those of one report of the programs: one for each process, and none past the
+/// report's end. On one worker the report has one program after the other.
 pub fn a_run_writes_the_fronts_of_one_report()
     ensures { (workers : ℕ) (programs : ProgramLists) (output : List ℕ) → IsWrittenFor true workers programs output
         → (report : Transcript) × (fronts : List Front) × IsReportOf programs report × (output ≡ fronts_text fronts)

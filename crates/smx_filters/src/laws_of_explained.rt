@@ -1,5 +1,4 @@
-//! Laws of checks that explain themselves, and of texts that are kept, each the contract of a function that does
-//! nothing.
+//! Laws of checks with explanations, and of texts that are kept, each the contract of a function that does nothing.
 
 ghost use Rattle.std.specs.Global.{Global};
 ghost use Rattle.std.specs.Prelude.{◌≡◌, ℕ, ◌++◌, Bool, List, [], Some, None, Result, Err, Vec};
@@ -17,7 +16,8 @@ ghost use Rattle.smx_filters.specs.declared.refusal.Refusal.{Refusal as AnyRefus
 
 use smx_explain::laws_of_explanations::a_legal_transcript_needs_none;
 
-/// A check that explains itself has the verdict of a check, and writes its line first; below `legal` it tells nothing.
+/// A check with an explanation has the verdict of a check and writes its line first. If the verdict is `legal`, the
+/// explanation is empty.
 pub fn an_explained_check_is_a_check()
     ensures { (explain : Bool) (input output : List ℕ) (verdict : Verdict)
         → GivesFor (judging explain) input verdict output
@@ -27,8 +27,8 @@ pub fn an_explained_check_is_a_check()
     a_legal_transcript_needs_none();
 }
 
-/// What is said of an input in memory, by devices that don't fail, is what the filter says; and where the text is at
-/// fault, the whole input is kept, and nothing where drivers are refused or memory was wanting.
+/// For an input in memory, and devices that don't fail, the results are those of the filter. If the text is
+/// malformed, the whole input is kept. If drivers are refused or memory runs out, nothing is kept.
 pub fn faults_are_explained_in_memory()
     ensures check { (input left output : List ℕ) (ended flushed : Bool) (answer : Result Verdict AnyRefusal)
         → KeepsText explaining (Some input) (Some left) ended 0 (Some []) (Some output) flushed 0 answer

@@ -12,8 +12,8 @@ ghost use Rattle.smx_filters.specs.RunText.{IsWrittenFor, RunsText, running};
 ghost use Rattle.smx_filters.specs.declared.main_fault.MainFault.{MainFault};
 ghost use Rattle.smx_filters.specs.declared.main_fault.MainFault.TheVariants.{ReadFailed};
 
-/// What a run says of an input in memory, by devices that don't fail; where the reader fails it says so and writes
-/// nothing, and where the writer fails a beginning of what it writes is out.
+/// The results of a run for an input in memory, if no device fails. If the reader fails, the run reports that and
+/// writes nothing; if the writer fails, the run has written a beginning of its output.
 pub fn runs_end_in_memory()
     ensures ends { (input left output : List ℕ) (workers : ℕ) (fronts ended flushed : Bool)
         (answer : Result (Unit {0}) MainFault)
@@ -29,7 +29,7 @@ pub fn runs_end_in_memory()
         → IsCutShort (running fronts workers) input output answer }
 {}
 
-/// Of some programs, one worker has one transcript to write.
+/// One worker writes only one transcript for given programs.
 pub fn one_worker_writes_one_transcript()
     ensures { (programs : ProgramLists) (one other : List ℕ) → IsWrittenFor false 1 programs one
         → IsWrittenFor false 1 programs other → one ≡ other }

@@ -9,7 +9,7 @@ ghost use Rattle.smx_filters.specs.ReplayText.{replaying};
 use smx_replay::laws_of_replays::{a_transcript_has_one_replay, replays_are_the_legal_transcripts};
 use smx_text::laws::one_transcript_has_one_reading;
 
-/// What a check judges legal a replay gives back, to the byte.
+/// If a check judges an input legal, a replay gives it back, to the byte.
 pub fn a_legal_transcript_is_given_back()
     ensures { (input line output : List ℕ) (done : Unit {0}) → GivesFor checking input Legal line
         → GivesFor replaying input done output → output ≡ input }
@@ -19,7 +19,7 @@ pub fn a_legal_transcript_is_given_back()
     replays_are_the_legal_transcripts();
 }
 
-/// What a replay gives a check judges legal, and for each input that is one text.
+/// A check judges the output of a replay legal, and each input has only one such output.
 pub fn a_replay_is_one_legal_transcript()
     ensures legal { (input output : List ℕ) (done : Unit {0}) → GivesFor replaying input done output
         → (line : List ℕ) × GivesFor checking output Legal line }

@@ -1,14 +1,14 @@
-//! Filters: what runs programs, and what judges, replays or draws a transcript, from bytes to bytes.
+//! Filters, from bytes to bytes: a run of programs, and a check, a replay or a drawing of a transcript.
 #![tactic(auto)]
 
 mod check;
 mod device;
 mod done;
 mod draw;
+mod entry_lines;
 mod explain;
 mod fronts_text;
 mod input;
-mod judged_transcript;
 pub mod laws_of_answers;
 pub mod laws_of_explained;
 pub mod laws_of_filters;
@@ -17,11 +17,7 @@ mod main_fault;
 mod output;
 mod refusal;
 mod replay;
-mod reply_text;
-mod running_programs;
-mod text;
-mod text_recorder;
-mod unread_program;
+mod run;
 
 pub use check::check_text;
 pub use device::{Failed, Feed, Sink, Source, Target};
@@ -33,4 +29,4 @@ pub use main_fault::MainFault;
 pub use output::write_all;
 pub use refusal::Refusal;
 pub use replay::replay_text;
-pub use text::run_text;
+pub use run::run_text;

@@ -1,4 +1,4 @@
-//! Why the program refuses, in the words that it prints.
+//! Why the program fails, in the words that it prints.
 
 ghost use Rattle.std.specs.Prelude.{◌≡◌};
 ghost use Rattle.smx_filters.specs.Statuses.{status_of};
@@ -13,13 +13,13 @@ use std::alloc::{AllocError, AllocFailed};
 use std::fmt;
 use thiserror::Error;
 
-/// Why nothing came of the program. Its text is what stands behind `muxsim: ` on standard error.
+/// Why the program failed. Prints the words that follow `muxsim: ` on standard error.
 #[derive(Debug, Drop, Error)]
 pub enum MainFault {
-    /// A run was refused, or what was to be judged.
+    /// A run was refused, or a transcript that was to be judged.
     #[error("refused: {0}")]
     Refused(RunFault),
-    /// The input is no text of its kind, or memory was wanting while it was read as one.
+    /// The input is not a text of its kind, or memory ran out while it was read.
     #[error("{}", TextWords(*.0))]
     Text(TextFault),
     /// More than 16,777,216 bytes were read.
@@ -34,8 +34,8 @@ pub enum MainFault {
 }
 
 impl MainFault {
-    /// The program's exit status: 1 for a refusal or want of memory, 3 for a text that is refused
-    /// or too long, 5 where input or output failed. Takes no memory.
+    /// Returns the program's exit status: 1 for a refusal or out-of-memory, 3 for a text that is malformed or too
+    /// long, 5 if input or output failed. Takes no memory.
     pub fn status(&self) -> u8
         ensures { result ≡ status_of self.now }
     {
@@ -104,7 +104,7 @@ impl<T: Drop> From<AllocFailed<T>> for MainFault {
     }
 }
 
-// The words of a fault of a text. Want of memory is none of the text's, and has those of a refusal.
+// The words of a fault of a text. Out-of-memory is not a fault of the text, and has the words of a refusal.
 #[derive(Drop)]
 struct TextWords(TextFault);
 

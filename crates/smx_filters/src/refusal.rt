@@ -9,15 +9,15 @@ ghost use Rattle.smx_filters.specs.declared.main_fault.MainFault.TheVariants.{Re
 use crate::main_fault::MainFault;
 use smx_run::RunFault;
 
-/// Why nothing came of a filter, and the text in which a fault is to be shown.
+/// Why a filter failed, and the text in which the fault is to be shown.
 #[derive(Drop)]
 pub struct Refusal {
     pub fault: MainFault,
-    /// All that was read, where the fault is the text's; else none.
+    /// All that was read, if the fault is one of the text; else `None`.
     pub text: Option<Vec<u8>>,
 }
 
-/// What is told of this fault, with the input where that is at fault, and else without it.
+/// Returns the refusal for this fault, with the input if the fault is one of the text, and else without it.
 pub(crate) fn kept_for(fault: MainFault, input: Vec<u8>) -> Refusal
     ensures fault { result.fault ≡ fault }
     ensures kept { (f : TextFault) → fault ≡ Text f → IsKept result.text input.items }

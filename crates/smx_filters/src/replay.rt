@@ -14,10 +14,10 @@ use smx_replay::replay;
 use smx_text::read_transcript;
 use std::alloc::Global;
 
-/// Reads the transcript that `feed` has, performs its commands in its order, whatever replies it had and whichever
-/// configuration it shows, and writes the transcript that they give to `sink`, in the version of the first. So a legal
-/// transcript is given back. Neither device has failed before, and no read has shown the end. At most 16,777,217 bytes
-/// are read. Faults are found in this order: reading, text, drivers, replaying, writing.
+/// Reads a transcript from `feed`, performs its commands in order, and writes the transcript that they give to
+/// `sink`, in the same version. Ignores the replies and the configuration of the transcript that it read. So it gives
+/// a legal transcript back. Requires that neither device has failed before and that the feed has not ended. Reads at
+/// most 16,777,217 bytes. Checks for faults in this order: reading, text, drivers, replaying, writing.
 pub fn replay_text<F: Feed, S: Sink>(
     alloc: Global,
     feed: &mut F,
@@ -35,7 +35,7 @@ pub fn replay_text<F: Feed, S: Sink>(
     write_all(sink, output.as_slice())
 }
 
-// The text of the replay of the transcript that the input spells, in the room that the input had.
+// Returns the text of the replay of the transcript that the input spells, in the memory of the input.
 fn text_of_replay(alloc: Global, input: Vec<u8>) -> Result<Vec<u8>, MainFault>
     ensures { Answers replaying input.items (items_of result) }
 {

@@ -1,4 +1,4 @@
--- Lines behind what was already looked at.
+-- Lines after the bytes that were already searched.
 use Rattle.std.proofs.Common.{◌≡◌, ◌≢◌, ℕ, ◌+◌, ◌-◌, ◌<◌, ◌≤◌, List, [], ◌∷◌, ◌++◌, length, take, drop}
 use Rattle.std.proofs.Common.{sym, ap, subst, ◌∙◌, append_assoc, take-append-drop, length-drop, arith}
 use Rattle.std.proofs.Math.Seq.{take-append-add, take-append_seam}
@@ -14,13 +14,13 @@ use Rattle.smx_filters.specs.declared.main_fault.MainFault.TheVariants.{Refused,
 use Rattle.smx_live.specs.Inboxes.{FailsToRead, HasLine, IsFound, IsTooLong, MayBeTaken}
 use Rattle.smx_filters.specs.declared.input.TheConstants.{MAX_INPUT}
 
--- bytes have no line feed where none stands among the first of them, nor among the others
+-- bytes have no line feed if neither their first part nor the rest has one
 pub none_in_all : (held : List ℕ) (seen : ℕ) → IsOneLine (take seen held) → IsOneLine (drop seen held) → IsOneLine held
 none_in_all held seen a b =
     subst IsOneLine (take-append-drop seen held)
     (all_append (λ (x : ℕ). x ≢ LINE_FEED) (take seen held) (drop seen held) a b)
 
--- a line among the others ends the line of all
+-- a line in the rest ends the first line of all the bytes
 pub found_behind : (held : List ℕ) (seen n : ℕ) → seen ≤ length held → IsOneLine (take seen held)
     → HasLine n (drop seen held)
     → HasLine (seen + n) held
@@ -40,7 +40,7 @@ found_behind held seen n within none line =
           ∙ ap (λ (b : List ℕ). take (seen + n) held ++ LINE_FEED ∷ b) back;
     }
 
--- a line that was found behind the bytes that were looked at before is, with these, the first line of all
+-- a line found after the bytes that were searched before is, together with these, the first line of all
 pub found_in : (held view : List ℕ) (seen n : ℕ) → view ≡ held → seen ≤ length held → IsOneLine (take seen held)
     → (n < length (take (length view - seen) (drop seen view)))
     × IsOneLine (take n (take (length view - seen) (drop seen view)))
@@ -53,13 +53,13 @@ found_in held view seen n is within none line =
     let there : HasLine n part = record { within = line.0; one = line.1; parts = line.2 } in
     found_behind held seen n within none (subst (HasLine n) same there)
 
--- where no line was found behind the bytes that were looked at before, no line feed stands in what is held
+-- if neither the bytes searched before nor those after them have a line feed, nothing that is held has one
 pub none_in : (held view : List ℕ) (seen : ℕ) → view ≡ held → IsOneLine (take seen held)
     → IsOneLine (take (length view - seen) (drop seen view)) → IsOneLine held
 none_in held view seen is none rest =
     none_in_all held seen none (subst IsOneLine (take_rest view seen ∙ ap (drop seen) is) rest)
 
--- what was held as one line before more was read is now the first part of what is held, with no line feed in it
+-- what was held without a line feed before a read is the first part of what is held after it
 pub none_before : (held piece longer : List ℕ) (k : ℕ) → k ≡ length held → longer ≡ held ++ piece → IsOneLine held
     → (k ≤ length longer) × IsOneLine (take k longer)
 none_before held piece longer k size is one = (
@@ -68,7 +68,7 @@ none_before held piece longer k size is one = (
       (sym (ap (take k) is ∙ ap (λ (n : ℕ). take n (held ++ piece)) size ∙ take-append_seam held piece)) one,
 )
 
--- no piece is too long by itself, and a read that failed gave none
+-- one piece is never too long, and a read that failed gave none
 pub fails_so : (Long : Type 0) (before held read piece : List ℕ) (failures : ℕ) (e : MainFault) → held ≡ before ++ read
     → IsOneLine held → FailsToRead ⊥ (piece ≡ []) failures e
     → FailsToRead Long (IsOneLine (before ++ (read ++ piece))) failures e
@@ -82,7 +82,7 @@ fails_so Long before held read piece failures (Refused f) is one why = why
 fails_so Long before held read piece failures (Text f) is one why = absurd why
 fails_so Long before held read piece failures WriteFailed is one why = absurd why
 
--- a line that may be taken, or is too long, ends the reads so
+-- how the reads end with a line that is accepted or too long
 pub line_found : (n : ℕ) (held longer : List ℕ) (r : Result (Option ℕ) MainFault) (ended : Bool) (failures : ℕ)
     (Unfinished : Type 0) → held ≡ longer → HasLine n held → failures ≡ 0 → MayBeTaken n r
     → IfOk r (IsFound ended held) × IfErr r (FailsToRead (IsTooLong longer) Unfinished failures)
@@ -91,17 +91,17 @@ line_found n held longer (Ok o) ended failures Unfinished is line fine told =
 line_found n held longer (Err e) ended failures Unfinished is line fine told =
     (tt, rw told.0 (fine, subst IsTooLong is (n, told.1, omega (arith, line.within), line.one)))
 
--- what holds anyway holds of an answer
+-- what holds anyway holds of an `Ok` result
 pub on_ok : {T E A : Type 0} (r : Result T E) → A → OnOk r A
 on_ok (Ok x) h = h
 on_ok (Err e) h = tt
 
--- what is held without a line feed, and is more than a line may have, is too long
+-- bytes without a line feed that are more than the limit are too long
 pub held_too_long : (held longer : List ℕ) → held ≡ longer → IsOneLine held → MAX_INPUT < length held → IsTooLong longer
 held_too_long held longer is one many = subst IsTooLong is
     (length held, many, omega arith, subst IsOneLine (sym (take_all (length held) held (omega arith))) one)
 
--- a line at the front stays there when more is read
+-- the first line stays the first when more is read
 pub line_stays : (n : ℕ) (held more : List ℕ) → HasLine n held → HasLine n (held ++ more)
 line_stays n held more line =
     let front : take n (held ++ more) ≡ take n held = take-append-le n held more (omega (arith, line.within)) in
@@ -116,7 +116,7 @@ line_stays n held more line =
           ∙ ap (λ (bs : List ℕ). bs ++ LINE_FEED ∷ drop (n + 1) (held ++ more)) (sym front);
     }
 
--- the line at the front and the byte behind it are the line and its line feed
+-- the first line and the byte after it are the line and its line feed
 pub with_line_feed : (n : ℕ) (held : List ℕ) → HasLine n held → take (n + 1) held ≡ take n held ++ LINE_FEED ∷ []
 with_line_feed n held line =
     let line_is : List ℕ = take n held in
@@ -124,7 +124,7 @@ with_line_feed n held line =
     ap (take (n + 1)) line.parts ∙ ap (λ (k : ℕ). take (k + 1) (line_is ++ LINE_FEED ∷ drop (n + 1) held)) (sym size)
     ∙ take-append-add line_is (LINE_FEED ∷ drop (n + 1) held) 1
 
--- a line that was moved from what is held to a table leaves all bytes in their order
+-- moving a line from the held bytes to the table keeps all bytes in order
 pub moved : (start read piece table held longer : List ℕ) (k : ℕ) → start ++ read ≡ table ++ held
     → longer ≡ held ++ piece
     → start ++ (read ++ piece) ≡ (table ++ take k longer) ++ drop k longer
@@ -133,7 +133,7 @@ moved start read piece table held longer k was is =
     ∙ ap (λ (bs : List ℕ). table ++ bs) (sym is ∙ sym (take-append-drop k longer))
     ∙ sym (append_assoc table (take k longer) (drop k longer))
 
--- where no line was moved from what is held to a table, all bytes stay in their order
+-- so does a read that moves no line
 pub unmoved : (start read piece table held longer : List ℕ) → start ++ read ≡ table ++ held → longer ≡ held ++ piece
     → start ++ (read ++ piece) ≡ table ++ longer
 unmoved start read piece table held longer was is =

@@ -1,4 +1,4 @@
--- What was written of a live session is a legal transcript, but for what is no entry.
+-- The output of a live session, without the answers that are not entries, is a legal transcript.
 use Rattle.std.proofs.Common.{◌≡◌, ℕ, ◌≤◌, Bool, false, List, [], ◌∷◌, ◌++◌, length, map, refl, sym, ap}
 use Rattle.std.proofs.Common.{subst, ◌∙◌, append_assoc, rules}
 use Rattle.std.proofs.lemmas.Bool.{or_from}
@@ -23,22 +23,23 @@ use Rattle.smx_words.specs.Words.{text_of}
 use Rattle.smx_text.specs.GrowingTranscripts.{BeginsTranscript}
 use Rattle.smx_text.specs.TranscriptText.{transcript_text, view_lines, IsAllowed}
 use Rattle.smx_text.proofs.GrowingLemmas.{grown, finished}
+use Rattle.smx_text.proofs.TranscriptWholeLemmas.{spellable_allowed}
 use Rattle.smx_live.specs.LiveText.{IsOver, IsLegalTranscript, transcript_of, transcript_part}
 use Rattle.smx_live.specs.Turns.{Entered, Shown, NotDone, Turn, Answer, AreAnswered, IsAnswer, entries_in, entries_of}
 
 -- ---- what the laws of histories say
 
--- a legal history stays legal with one entry more that has the reply of its command
+-- a legal history stays legal with one more entry that has the reply of its command
 abbrev pub StaysLegal : Type 0
 StaysLegal = (drivers : List DriverSpec) (history : List Entry) (e : Entry) → IsLegal drivers history
     → (step drivers (after drivers history) e.process e.command).1 ≡ e.reply → IsLegal drivers (history ++ e ∷ [])
 
--- a legal history in which no command is a hangup has no entry of a hangup
+-- a legal history without hangup commands has no entry of a hangup
 abbrev pub TellsOfNone : Type 0
 TellsOfNone = (drivers : List DriverSpec) (history : List Entry) → IsLegal drivers history
     → list_any (λ e. is_hangup e.command) history ≡ false → list_any is_of_hangup history ≡ false
 
--- a history in which no command is a hangup leaves no stream that has hung up
+-- a history without hangup commands leaves no stream hung up
 abbrev pub LeavesNone : Type 0
 LeavesNone = (drivers : List DriverSpec) (history : List Entry)
     → list_any (λ e. is_hangup e.command) history ≡ false → (after drivers history).hungs ≡ []
@@ -57,7 +58,7 @@ legal_from stays v ds h (t ∷ ts) was legal =
       one (Shown s) is = subst (IsLegal ds) (sym (append-nil h)) legal
       one (NotDone w) is = subst (IsLegal ds) (sym (append-nil h)) legal
 
--- each entry of turns that were answered can be spelled
+-- every entry of answered turns can be spelled
 all_fit : (v : Version) (ds : List DriverSpec) (h : List Entry) (ts : List Turn) → AreAnswered v ds h ts
     → AllByRecursion FitsEntry (entries_of ts)
 all_fit v ds h [] was = tt
@@ -68,7 +69,7 @@ all_fit v ds h (t ∷ ts) was = one t.answer was.1 (all_fit v ds (h ++ entries_i
   one (Shown s) is behind = behind
   one (NotDone w) is behind = behind
 
--- in version 1 no command of turns that were answered is a hangup
+-- in version 1 no command of answered turns is a hangup
 quiet : (ds : List DriverSpec) (h : List Entry) (ts : List Turn) → AreAnswered V1 ds h ts
     → list_any (λ e. is_hangup e.command) (entries_of ts) ≡ false
 quiet ds h [] was = refl
@@ -79,11 +80,11 @@ quiet ds h (t ∷ ts) was = one t.answer was.1 (quiet ds (h ++ entries_in t.answ
   one (Shown s) is behind = behind
   one (NotDone w) is behind = behind
 
--- where no stream has hung up, the view shows none
+-- if no stream has hung up, the view shows none
 none_shown : (ds : List DriverSpec) (c : Configuration) → c.hungs ≡ [] → nat_lt 0 (length (view ds c).hungs) ≡ false
 none_shown ds c none = rw none refl
 
--- as many drivers as version 1 can tell, or fewer, are no reason for version 2
+-- no more drivers than version 1 allows are no reason for version 2
 few_drivers : (n : ℕ) → n ≤ MAX_DRIVERS_OF_VERSION_1 → nat_lt MAX_DRIVERS_OF_VERSION_1 n ≡ false
 few_drivers n few = search rules
 
@@ -97,7 +98,7 @@ module _ (stays : StaysLegal) (tells : TellsOfNone) (leaves : LeavesNone)
   legal : IsLegal o.s.drivers es
   legal = legal_from stays o.s.version o.s.drivers [] o.live.turns o.live.answered tt
 
-  -- each entry of the session can be spelled
+  -- every entry of the session can be spelled
   fit : AllByRecursion FitsEntry es
   fit = all_fit o.s.version o.s.drivers [] o.live.turns o.live.answered
 
@@ -109,7 +110,7 @@ module _ (stays : StaysLegal) (tells : TellsOfNone) (leaves : LeavesNone)
   begins : BeginsTranscript o.s.version o.s.drivers es (o.live.opening ++ text_of (map entry_words es))
   begins = grown o.s.version o.s.drivers [] es o.live.opening _ refl fit o.live.begins
 
-  -- what was written, but for what is no entry, is the text of the session's transcript
+  -- what was written, without the answers that are not entries, is the text of the session's transcript
   text : transcript_part o ≡ transcript_text (transcript_of o)
   text =
       let start : List ℕ = o.live.opening ++ text_of (map entry_words es) in
@@ -135,16 +136,12 @@ module _ (stays : StaysLegal) (tells : TellsOfNone) (leaves : LeavesNone)
 
   -- the session's transcript is allowed in its version
   allowed : IsAllowed o.s.version (transcript_of o)
-  allowed = record {
-    version_is = refl;
-    drivers = subst (λ (ds : List DriverSpec). length ds ≤ most_drivers o.s.version) (sym o.live.drivers)
-        o.live.spelled.allowed.drivers;
-    entries = o.live.few;
-    spellable = record { drivers = o.live.begins.drivers_fit; entries = fit; view = o.spellable };
-    told = told;
-  }
+  allowed = spellable_allowed o.s.version (transcript_of o) refl
+      (subst (λ (ds : List DriverSpec). length ds ≤ most_drivers o.s.version) (sym o.live.drivers)
+      o.live.spelled.allowed.drivers) o.live.few
+      record { drivers = o.live.begins.drivers_fit; entries = fit; view = o.spellable } told
 
-  -- what was written of a session, but for what is no entry, is a transcript that a check finds legal
+  -- what a session wrote, without the answers that are not entries, is a transcript that a check finds legal
   pub is_legal : IsLegalTranscript o
   is_legal = record {
     spelled = record { allowed = allowed; text = text };

@@ -1,3 +1,4 @@
+pub mod BrokenLiveLemmas
 pub mod InboxLemmas
 pub mod LegalLiveLemmas
 pub mod LiveLemmas

@@ -1,4 +1,4 @@
--- How a live session goes on: a turn more, more that was read, its beginning and its end.
+-- How a live session goes on: one more turn, more bytes, its beginning and its end.
 use Rattle.std.proofs.Common.{◌≡◌, ℕ, ◌+◌, ◌≤◌, Bool, true, List, [], ◌∷◌, ◌++◌, length, take, drop, refl}
 use Rattle.std.proofs.Common.{sym, ap, subst, ◌∙◌, append_assoc, arith, inl, inr, Some}
 use Rattle.std.proofs.lemmas.List.{append-nil, length-append, length-take-le}
@@ -29,14 +29,14 @@ use Rattle.smx_live.specs.Turns.{IsEntryOf, IsTaken, IsRefusedFor, answer_text, 
 use Rattle.smx_live.specs.Turns.{said_text}
 use Rattle.smx_live.proofs.TableLemmas.{flat_more, still_a_table}
 
--- a history with one entry more leads where the command of that entry leads
+-- a history with one more entry leads where the command of that entry leads
 abbrev pub OneFurther : Type 0
 OneFurther = (drivers : List DriverSpec) (history : List Entry) (e : Entry)
     → after drivers (history ++ e ∷ []) ≡ (step drivers (after drivers history) e.process e.command).0
 
 -- ---- one more at the end
 
--- turns that were answered, and then one more that is, are answered as a whole
+-- answered turns stay answered with one more answered turn after them
 answered_more : (v : Version) (ds : List DriverSpec) (h : List Entry) (ts : List Turn) (t : Turn)
     → AreAnswered v ds h ts
     → IsShort t.line → IsAnswer v ds (h ++ entries_of ts) t.line t.answer → AreAnswered v ds h (ts ++ t ∷ [])
@@ -50,7 +50,7 @@ answered_more v ds h (u ∷ ts) t was one a = (
       (sym (append_assoc h (entries_in u.answer) (entries_of ts))) a),
 )
 
--- the lines of some turns, one line more, and the rest are the lines of the turns with that one, and the rest
+-- the lines of some turns and one more line are the lines of the turns with that one added
 line_more : (ts : List Turn) (line rest : List ℕ) (a : Answer) → asked_text ts ++ (line ++ LINE_FEED ∷ rest)
     ≡ asked_text (ts ++ (record { line = line; answer = a }) ∷ []) ++ rest
 line_more ts line rest a =
@@ -61,40 +61,40 @@ line_more ts line rest a =
     ∙ append_assoc (asked_text ts) last rest
     ∙ ap (λ (l : List ℕ). asked_text ts ++ l) (append_assoc line (LINE_FEED ∷ []) rest) in sym inner
 
--- what was said with one answer more is the opening and the answers with that one
+-- the opening and the answers, with one more answer, are the opening and the answers with that one added
 said_more : (opening output : List ℕ) (ts : List Turn) (t : Turn) → output ≡ opening ++ said_text ts
     → output ++ answer_text t.answer ≡ opening ++ said_text (ts ++ t ∷ [])
 said_more opening output ts t was =
     ap (λ (l : List ℕ). l ++ answer_text t.answer) was ∙ append_assoc opening (said_text ts) (answer_text t.answer)
     ∙ ap (λ (l : List ℕ). opening ++ l) (sym (flat_more (λ (u : Turn). answer_text u.answer) ts t))
 
--- ---- a turn more
+-- ---- one more turn
 
 module _ (further : OneFurther) {read : List ℕ} {ended : Bool} {output : List ℕ} {s : State} {count n : ℕ}
     {held : List ℕ}
     (l : IsLive read ended output s count held) (line : HasLine n held) (small : n ≤ MAX_INPUT) where
-  -- the line that stands there, with its answer
+  -- the turn of the first line, with this answer
   abbrev turn : Answer → Turn
   turn a = record { line = take n held; answer = a }
 
-  -- the line at the front may be taken
+  -- the first line is accepted
   short : IsShort (take n held)
   short = (line.one, omega (arith, small, length-take-le n held (omega (arith, line.within))))
 
-  -- the lines of the turns and what is held are the lines with this one more, and what stands behind it
+  -- the lines of the turns and what is held are the lines with this one added, and the bytes after it
   behind : (a : Answer) → asked_text l.turns ++ held ≡ asked_text (l.turns ++ turn a ∷ []) ++ drop (n + 1) held
   behind a = ap (λ (h : List ℕ). asked_text l.turns ++ h) line.parts
       ∙ line_more l.turns (take n held) (drop (n + 1) held) a
 
-  -- what was read is the table, the lines of the turns with this one more, and what stands behind it
+  -- what was read is the table, the lines of the turns with this one added, and the bytes after it
   read_more : (a : Answer) → read ≡ l.table ++ (asked_text (l.turns ++ turn a ∷ []) ++ drop (n + 1) held)
   read_more a = l.read_is ∙ ap (λ (h : List ℕ). l.table ++ h) (behind a)
 
-  -- the table is over as before, where this line is one of the turns
+  -- the table still ends at the same place if this line is one of the turns
   over_more : (a : Answer) → IsTable ended l.table (asked_text (l.turns ++ turn a ∷ []) ++ drop (n + 1) held)
   over_more a = subst (IsTable ended l.table) (behind a) l.over
 
-  -- an answer that is no entry, after which the session stands as before
+  -- after an answer that is not an entry, the session's state is as before
   stays : (a : Answer) → entries_in a ≡ [] → IsAnswer s.version s.drivers (entries_of l.turns) (take n held) a
       → IsLive read ended (output ++ answer_text a) s count (drop (n + 1) held)
   stays a none right =
@@ -120,7 +120,7 @@ module _ (further : OneFurther) {read : List ℕ} {ended : Bool} {output : List 
         counted = l.counted ∙ ap (λ (es : List Entry). length es) (sym same);
       }
 
-  -- an entry, which the session has made
+  -- after an entry that the session made, the session goes on
   enters : (e : Entry) (next : State) (more : ℕ) → IsEntered s count (take n held) e next more
       → IsLive read ended (output ++ entry_line e) next more (drop (n + 1) held)
   enters e next more h =
@@ -168,7 +168,7 @@ module _ (further : OneFurther) {read : List ℕ} {ended : Bool} {output : List 
         counted = omega (arith, h.counted, length_is, l.counted);
       }
 
-  -- whatever the line at the front is answered, the session stands after that turn
+  -- the session goes on after any answer to the first line
   pub turned : (a : Answer) (next : State) (more : ℕ) → IsTaken s count (take n held) a next more
       → IsLive read ended (output ++ answer_text a) next more (drop (n + 1) held)
   turned (Entered e) next more h = enters e next more h
@@ -179,7 +179,7 @@ module _ (further : OneFurther) {read : List ℕ} {ended : Bool} {output : List 
   turned (NotDone w) next more h =
       rw (h.1, h.2) (stays (NotDone w) refl (subst (λ (k : ℕ). IsRefusedFor s.version k (take n held) w) l.counted h.0))
 
-  -- a session whose line at the front asks for the end is over once its last lines are written
+  -- if the first line asks for the end, the session has ended once its last lines are written
   pub ended_by_line : (whole : List ℕ) → IsClosing s (take n held) whole → IsOver read ended (output ++ whole)
   ended_by_line whole h = record {
     before = output;
@@ -193,7 +193,7 @@ module _ (further : OneFurther) {read : List ℕ} {ended : Bool} {output : List 
     spellable = h.1;
   }
 
--- a session whose input is at its end, within a line or not, is over once its last lines are written
+-- a session whose input has ended, within a line or not, has ended once its last lines are written
 pub ended_by_input : {read : List ℕ} {ended : Bool} {output : List ℕ} {s : State} {count : ℕ} {held : List ℕ}
     → IsLive read ended output s count held
     → ended ≡ true → IsShort held → IsSpellableView (view s.drivers s.configuration)
@@ -210,9 +210,9 @@ ended_by_input {output = output} {s} {count} {held} l is short fits = record {
   spellable = fits;
 }
 
--- ---- its beginning, and more that was read
+-- ---- its beginning, and more bytes
 
--- a session over a table that was read, whose opening was written, has answered nothing yet
+-- a session over a table that was read, and whose opening was written, has no answers yet
 pub begun : {read table held : List ℕ} {ended : Bool} {opening : List ℕ} {s : State} → read ≡ table ++ held
     → IsTable ended table held → length table ≤ MAX_INPUT → IsStartOf (table_text table) s
     → BeginsTranscript s.version s.drivers [] opening → IsLive read ended opening s 0 held
@@ -235,7 +235,7 @@ begun {table = table} {opening = opening} parts over fits start begins = record 
   counted = refl;
 }
 
--- a session of which more is read, from an input that has not ended, stands as before and holds more
+-- a session keeps its state and holds more when more is read from an input that has not ended
 pub with_more : {read : List ℕ} (more : List ℕ) {ended now : Bool} {output : List ℕ} {s : State} {count : ℕ}
     {held : List ℕ} → IsLive read ended output s count held → (ended ≡ true → (more ≡ []) × (now ≡ true))
     → IsLive (read ++ more) now output s count (held ++ more)

@@ -1,4 +1,4 @@
--- What a live session answers at its end, by how far it had gone.
+-- How a live session ends, by how far it had gone.
 use Rattle.std.proofs.Common.{◌≡◌, ℕ, ◌+◌, ◌^◌, ◌≤◌, Bool, true, List, [], ◌++◌, length, take, Option, Some}
 use Rattle.std.proofs.Common.{None, Result, Ok, Err, refl, sym, subst, ◌∙◌, append_assoc, arith, inl, inr}
 use Rattle.std.proofs.KnownBytes.{Appends-trans, Consumes-trans}
@@ -19,7 +19,7 @@ use Rattle.smx_live.specs.LiveText.{HasComeSoFar, IsLive, IsOutcome, IsOver}
 use Rattle.smx_live.proofs.LiveLemmas.{held_of_read}
 use Rattle.smx_live.proofs.LiveStageLemmas.{HasGone, live_on}
 
--- a sink that keeps its bytes still holds what was said
+-- a sink that keeps its bytes still holds what was written
 kept_on : (old mid new : Option (List ℕ)) (said : List ℕ) → Appends old mid said → Keeps mid new → Appends old new said
 kept_on None mid new said p q = tt
 kept_on (Some xs) None new said p q = absurd p
@@ -30,7 +30,7 @@ module _ {read output : List ℕ} {start : ℕ} {had left before after : Option 
     {s : State}
     {count : ℕ} {held : List ℕ} (g : HasGone read output start had left before after turn ended s count held)
     (flushed : Bool) {reads : ℕ} (writes : ℕ) (fed : reads ≡ 0) where
-  -- a session whose writer failed within a text ends with that fault
+  -- a session whose writer failed within a text fails as well
   cut : (now : Option (List ℕ)) (text : List ℕ) → writes ≡ 1 → AppendsBeginning after now text
       → HasComeSoFar (read ++ g.more) ended ((output ++ g.said) ++ text)
       ⊎ IsOver (read ++ g.more) ended ((output ++ g.said) ++ text)
@@ -50,7 +50,7 @@ module _ {read output : List ℕ} {start : ℕ} {had left before after : Option 
     );
   }
 
-  -- a session that is over, with its last text written, ends as done
+  -- a session that has ended, with its last text written, ends without a fault
   over : (now : Option (List ℕ)) (text : List ℕ) → writes ≡ 0 → flushed ≡ true → Appends after now text
       → IsOver (read ++ g.more) ended ((output ++ g.said) ++ text)
       → Converses read output had left ended reads before now flushed writes (Ok tt)
@@ -62,7 +62,7 @@ module _ {read output : List ℕ} {start : ℕ} {had left before after : Option 
     outcome = ((fed, fine), all, subst (IsOver (read ++ g.more) ended) (append_assoc output g.said text) o);
   }
 
-  -- a session for which memory was wanting ends with that fault
+  -- a session that is out of memory fails with that fault
   wanting : (now : Option (List ℕ)) (f : RunFault) → writes ≡ 0 → f ≡ NoMemory → Keeps after now
       → Converses read output had left ended reads before now flushed writes (Err (Refused f))
   wanting now f fine is p = record {
@@ -73,7 +73,7 @@ module _ {read output : List ℕ} {start : ℕ} {had left before after : Option 
     outcome = ((fed, fine), inl (is, inr (s, count, held, g.live)));
   }
 
-  -- a session after a turn that was its last ends as done
+  -- a session after its last turn ends without a fault
   pub last_turn : (now : Option (List ℕ)) (next : State) (many : ℕ) (rest : List ℕ)
       → TurnsOn (read ++ g.more) (output ++ g.said) ended next many rest after now flushed writes (Ok true)
       → Converses read output had left ended reads before now flushed writes (Ok tt)
@@ -89,7 +89,7 @@ module _ {read output : List ℕ} {start : ℕ} {had left before after : Option 
   failed_turn now next many rest TooLong h = absurd h
   failed_turn now next many rest ReadFailed h = absurd h
 
-  -- a session at the end of its input ends as its last lines are written
+  -- a session at the end of its input ends as the write of its last lines does
   pub at_the_end : (now : Option (List ℕ)) (r : Result (Unit {0}) MainFault)
       → Finishes (read ++ g.more) (output ++ g.said) ended after now flushed writes r
       → Converses read output had left ended reads before now flushed writes r
@@ -100,7 +100,7 @@ module _ {read output : List ℕ} {start : ℕ} {had left before after : Option 
   at_the_end now (Err TooLong) h = absurd h
   at_the_end now (Err ReadFailed) h = absurd h
 
--- a session that can't get its next line ends with the fault of its reads
+-- a session that can't read its next line ends with the fault of its reads
 pub no_line : {read output : List ℕ} {start : ℕ} {had left later before after : Option (List ℕ)} {turn : ℕ}
     {ended now : Bool} {s : State} {count : ℕ} {held piece : List ℕ}
     (g : HasGone read output start had left before after turn ended s count held) {flushed : Bool} {reads writes : ℕ}
@@ -127,7 +127,7 @@ no_line {read} {output} {had = had} {left} {later} {now = now} {s} {count} {held
       by_fault (Text f) is = absurd is
       by_fault WriteFailed is = absurd is
 
--- a session that has taken as many turns as a count can tell ends as too long
+-- a session after the largest count of turns ends as too long
 pub no_count : {read output : List ℕ} {had left before after : Option (List ℕ)} {turn : ℕ} {ended : Bool}
     {first s : State} {number count : ℕ} {start held : List ℕ} {was : Bool} → IsLive read was output first number start
     → HasGone read output (length start) had left before after turn ended s count held → (flushed : Bool)

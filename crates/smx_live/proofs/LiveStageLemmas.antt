@@ -1,4 +1,4 @@
--- The stages of a live session, by what each answers.
+-- The stages of a live session, by the result of each.
 use Rattle.std.proofs.Common.{◌≡◌, ℕ, ◌+◌, ◌<◌, ◌≤◌, Bool, true, false, List, [], ◌++◌, length, take, drop, Option}
 use Rattle.std.proofs.Common.{None, Result, Ok, Err, sym, ap, subst, ◌∙◌, append_assoc, arith, inl, inr}
 use Rattle.std.proofs.KnownBytes.{Appends-nil, Appends-trans, Consumes-nil, Consumes-trans}
@@ -45,16 +45,16 @@ module _ (s next : State) (count more : ℕ) (line text : List ℕ) (before afte
 module _ (further : OneFurther) {read : List ℕ} {ended : Bool} {output : List ℕ} {s : State} {count n : ℕ}
     {held : List ℕ}
     (l : IsLive read ended output s count held) (line : HasLine n held) (small : n ≤ MAX_INPUT) where
-  -- what stands behind the line at the front
+  -- the bytes after the first line
   abbrev rest : List ℕ
   rest = drop (n + 1) held
 
-  -- whatever the line at the front is answered, the session stands so after it
+  -- the session goes on after any answer to the first line
   goes_on : (a : Answer) (later : State) (many : ℕ) → IsTaken s count (take n held) a later many
       → IsLive read ended (output ++ answer_text a) later many rest
   goes_on a later many taken = turned further l line small a later many taken
 
-  -- with the text that answers the line at the front, a session has come so far, or it is over
+  -- with the answer to the first line, some session is `IsLive`, or it has ended
   either : (text : List ℕ) → MaySay s count (take n held) text ⊎ IsClosing s (take n held) text
       → HasComeSoFar read ended (output ++ text) ⊎ IsOver read ended (output ++ text)
   either text (inl x) = inl (
@@ -65,7 +65,7 @@ module _ (further : OneFurther) {read : List ℕ} {ended : Bool} {output : List 
   )
   either text (inr is) = inr (ended_by_line further l line small text is)
 
-  -- what was so of a turn by the bytes that were held is so by all that was read
+  -- what holds of a turn over the held bytes holds over everything that was read
   pub turned_on : (next : State) (more : ℕ) (before after : Option (List ℕ)) (flushed : Bool) (failures : ℕ)
       (r : Result Bool MainFault) → TakesTurn s count (take n held) next more before after flushed failures r
       → TurnsOn read output ended next more (drop (n + 1) held) before after flushed failures r
@@ -82,11 +82,11 @@ module _ (further : OneFurther) {read : List ℕ} {ended : Bool} {output : List 
 module _ {read : List ℕ} {ended : Bool} {output : List ℕ} {s : State} {count : ℕ} {held : List ℕ} (text : List ℕ)
     (is : text ≡ cut_words held ++ closing_text s) (l : IsLive read ended output s count held) (end : ended ≡ true)
     (short : IsShort held) (fits : IsSpellableView (view s.drivers s.configuration)) where
-  -- a session at the end of its input is over with its last lines
+  -- a session at the end of its input has ended once its last lines are written
   is_over : IsOver read ended (output ++ text)
   is_over = subst (λ (t : List ℕ). IsOver read ended (output ++ t)) (sym is) (ended_by_input l end short fits)
 
-  -- a session at the end of its input is over where its last lines were written, or its writer failed
+  -- a session at the end of its input has ended if its last lines were written, or its writer failed
   pub finished_on : (before after : Option (List ℕ)) (flushed : Bool) (failures : ℕ) (r : Result (Unit {0}) MainFault)
       → Writes text before after flushed failures r → Finishes read output ended before after flushed failures r
   finished_on before after flushed failures (Ok done) h = (h.0, h.1, text, h.2, is_over)
@@ -98,8 +98,8 @@ module _ {read : List ℕ} {ended : Bool} {output : List ℕ} {s : State} {count
 
 -- ---- turn after turn
 
--- a session that had come so far, with so many bytes held, has read and written more, has taken so many turns, and
--- stands so
+-- A session started with `start` bytes held. It has since read and written more and taken `turn` turns, and now has
+-- this state, number of entries and bytes held.
 pub record HasGone (read output : List ℕ) (start : ℕ) (had left before after : Option (List ℕ)) (turn : ℕ)
     (ended : Bool) (s : State) (count : ℕ) (held : List ℕ) : Type 0 where
   pub more : List ℕ
@@ -107,10 +107,10 @@ pub record HasGone (read output : List ℕ) (start : ℕ) (had left before after
   pub said : List ℕ
   pub appended : Appends before after said
   pub live : IsLive (read ++ more) ended (output ++ said) s count held
-  -- each turn has taken a byte at the least
+  -- each turn took at least one byte
   pub took : turn + length held ≤ start + length more
 
--- a session that goes on from where it stands has read, written and answered nothing more yet
+-- a session that goes on has read, written and answered nothing more at first
 pub begins : {read output : List ℕ} {had before : Option (List ℕ)} {ended : Bool} {s : State} {count : ℕ}
     {held : List ℕ} → IsLive read ended output s count held
     → HasGone read output (length held) had had before before 0 ended s count held
@@ -127,7 +127,7 @@ begins {read} {output} {had} {before} {ended} {s} {count} {held} l = record {
 module _ {read output : List ℕ} {start : ℕ} {had left before after : Option (List ℕ)} {turn : ℕ} {ended : Bool}
     {s : State}
     {count : ℕ} {held : List ℕ} (g : HasGone read output start had left before after turn ended s count held) where
-  -- a session that has gone so far stands so with more that was read
+  -- a session that has gone this far keeps its state when more is read
   pub live_on : (now : Bool) (piece longer : List ℕ) → longer ≡ held ++ piece
       → (ended ≡ true → (piece ≡ []) × (now ≡ true))
       → IsLive (read ++ (g.more ++ piece)) now (output ++ g.said) s count longer
@@ -136,7 +136,7 @@ module _ {read output : List ℕ} {start : ℕ} {had left before after : Option 
       (subst (λ (r : List ℕ). IsLive r now (output ++ g.said) s count (held ++ piece)) (append_assoc read g.more piece)
       (with_more piece g.live stays))
 
-  -- a session that has gone so far, and has read more, has gone as far
+  -- a session that has gone this far still has after it reads more
   pub reads : {later : Option (List ℕ)} {now : Bool} {piece longer : List ℕ} → Consumes left later piece
       → longer ≡ held ++ piece → (ended ≡ true → (piece ≡ []) × (now ≡ true))
       → HasGone read output start had later before after turn now s count longer
@@ -155,7 +155,7 @@ module _ {read output : List ℕ} {start : ℕ} {had left before after : Option 
     );
   }
 
-  -- a session that has gone so far, and has taken a turn, has gone one turn further
+  -- a session that has gone this far and takes a turn has gone one turn further
   pub turns : {later : Option (List ℕ)} (text : List ℕ) {next : State} {many n : ℕ} {rest : List ℕ}
       → Appends after later text → IsLive (read ++ g.more) ended ((output ++ g.said) ++ text) next many rest
       → n < length held → rest ≡ drop (n + 1) held

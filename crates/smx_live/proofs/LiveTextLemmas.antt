@@ -15,7 +15,7 @@ use Rattle.smx_live.specs.LiveText.{IsOutcome, LivesText}
 use Rattle.smx_live.specs.Tables.{IsEndlessTable, IsTable, IsUnfinished, table_text}
 use Rattle.smx_live.proofs.LiveLemmas.{begun}
 
--- a session is opened where the beginning of its transcript is written, or its writer fails
+-- a session is opened if the beginning of its transcript is written, or its writer fails
 pub opened : (s : State) (text : List ℕ) (before after : Option (List ℕ)) (flushed : Bool) (failures : ℕ)
     (r : Result (Unit {0}) MainFault)
     → Writes text before after flushed failures r → BeginsTranscript s.version s.drivers [] text
@@ -95,7 +95,7 @@ module _ {had left : Option (List ℕ)} {ended : Bool} {reads : ℕ} (read : Lis
     no_opening s TooLong start h = absurd h
     no_opening s ReadFailed start h = absurd h
 
--- a session whose opening was written, and whose lines were answered, lives from bytes to bytes
+-- a session whose opening was written, and whose lines were answered, meets the clause from bytes to bytes
 pub answered_all : {had mid left : Option (List ℕ)} {read : List ℕ} → Consumes had mid read
     → {before then_on after : Option (List ℕ)} {opening : List ℕ} → Appends before then_on opening
     → {ended flushed : Bool} {reads writes : ℕ} {r : Result (Unit {0}) MainFault}

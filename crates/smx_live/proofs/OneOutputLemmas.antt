@@ -1,4 +1,4 @@
--- A live session has one output, where memory was never wanting.
+-- A live session has one output, if it never ran out of memory.
 use Rattle.std.proofs.Common.{◌≡◌, ◌≢◌, ℕ, ◌+◌, ◌<◌, ◌≤◌, ◌^◌, Bool, true, false, List, [], ◌∷◌, ◌++◌, length}
 use Rattle.std.proofs.Common.{map, take, drop}
 use Rattle.std.proofs.Common.{Result, Ok, Err, refl, sym, ap, subst, ◌∙◌, append_assoc, arith, inl, inr}
@@ -44,30 +44,30 @@ use Rattle.smx_live.specs.declared.turn_fault.TurnFault.TheVariants.{NoCommand, 
 
 -- ---- what other crates' laws say
 
--- a programs text has one reading, but for want of memory
+-- a programs text has one reading, apart from out-of-memory
 abbrev pub HasOneReading : Type 0
 HasOneReading = (bytes : List ℕ) (r s : Result ProgramLists TextFault) → ReadsAny programs_grammar bytes r
     → ReadsAny programs_grammar bytes s → IfErr r (λ f. f.cause ≢ cause.NoMemory)
     → IfErr s (λ f. f.cause ≢ cause.NoMemory) → r ≡ s
 
--- no two calls have one line
+-- no two calls have the same line
 abbrev pub AreToldApart : Type 0
 AreToldApart =
     (x y : ℕ × Command) → FitsCall x → FitsCall y → line_of (call_words x) ≡ line_of (call_words y) → x ≡ y
 
 -- ---- lines
 
--- bytes with a line feed in them are not one line
+-- bytes that contain a line feed are not one line
 pub not_one : (xs after : List ℕ) → IsOneLine (xs ++ LINE_FEED ∷ after) → ⊥
 not_one [] after h = h.0 refl
 not_one (x ∷ xs) after h = not_one xs after h.1
 
--- the text of lines with bytes behind it begins with the first line and its line feed
+-- the text of lines starts with the first line and its line feed
 pub cons : (l : List ℕ) (ls : List (List ℕ)) (rest : List ℕ)
     → lines_text (l ∷ ls) ++ rest ≡ l ++ LINE_FEED ∷ (lines_text ls ++ rest)
 cons l ls rest = simp append_assoc
 
--- the line at the front is the first one
+-- the line found at the start is the first one
 first_is : (n : ℕ) (bytes l after : List ℕ) → IsOneLine l → bytes ≡ l ++ LINE_FEED ∷ after → HasLine n bytes
     → take n bytes ≡ l
 first_is n bytes l after one is has =
@@ -75,12 +75,12 @@ first_is n bytes l after one is has =
 
 -- ---- tables
 
--- a line stands there that doesn't begin as a driver's, or the input has ended without one more
+-- the next line doesn't begin like a driver line, or the input has ended before a next line
 abbrev pub Stops : Bool → List ℕ → Type 0
 Stops ended rest = ((n : ℕ) × HasLine n rest × (begins_driver (take n rest) ≡ false))
     ⊎ ((ended ≡ true) × IsOneLine rest)
 
--- the lines of drivers don't stop where one more begins as a driver's
+-- driver lines don't stop before another one
 pub stops_at : (ended : Bool) (rest l after : List ℕ) → IsOneLine l → begins_driver l ≡ true
     → rest ≡ l ++ LINE_FEED ∷ after → Stops ended rest → ⊥
 stops_at ended rest l after one driver is (inl (n, has, other)) =
@@ -88,7 +88,7 @@ stops_at ended rest l after one driver is (inl (n, has, other)) =
     let wrong : false ≡ true = sym other ∙ ap begins_driver same ∙ driver in absurd (cc wrong)
 stops_at ended rest l after one driver is (inr (end, whole)) = not_one l after (subst IsOneLine is whole)
 
--- the lines of drivers, up to where they stop, are determined by the bytes
+-- the bytes determine the driver lines up to where they stop
 drivers_once : (ended : Bool) (ls ms : List (List ℕ)) (rest more : List ℕ) → AllByRecursion IsOneLine ls
     → AllByRecursion IsOneLine ms → AllByRecursion (λ l. begins_driver l ≡ true) ls
     → AllByRecursion (λ l. begins_driver l ≡ true) ms → Stops ended rest → Stops ended more
@@ -104,15 +104,15 @@ drivers_once ended (l ∷ ls) (m ∷ ms) rest more all all_too are are_too stops
     let others = drivers_once ended ls ms rest more all.1 all_too.1 are.1 are_too.1 stops stops_too cut.1 in
     ap (λ (x : List ℕ). x ∷ ls) cut.0 ∙ ap (λ (xs : List (List ℕ)). m ∷ xs) others
 
--- where no line is cut, what stands behind a table is all that stands behind its whole lines
+-- if no line is cut, what follows a table is all that follows its whole lines
 pub all_behind : (cut rest : List ℕ) → cut ≡ [] → rest ≡ cut ++ rest
 all_behind cut rest none = ap (λ (c : List ℕ). c ++ rest) (sym none)
 
--- where nothing stands behind a table, its cut line is all that stands behind its whole lines
+-- if nothing follows a table, its cut line is all that follows its whole lines
 pub all_cut : (cut rest : List ℕ) → rest ≡ [] → cut ≡ cut ++ rest
 all_cut cut rest none = sym (ap (λ (r : List ℕ). cut ++ r) none ∙ append-nil cut)
 
--- where a table is over, the lines of drivers stop
+-- if a table has ended, the driver lines stop there
 pub stops_there : (ended : Bool) (ls : List (List ℕ)) (cut rest : List ℕ) → IsOverAt ended ls cut rest
     → Stops ended (cut ++ rest)
 stops_there ended ls cut rest (inl (n, none, has, small, some, other)) =
@@ -122,7 +122,7 @@ stops_there ended ls cut rest (inr (end, inl (driver, none))) =
 stops_there ended ls cut rest (inr (end, inr (none, short, other))) =
     subst (Stops ended) (all_behind cut rest none) (inr (end, short.0))
 
--- a table without a line is not over where there is a first line
+-- a table without a line has not ended if there is a first line
 pub no_table : (ended : Bool) (m : List ℕ) (ms : List (List ℕ)) (cut rest more : List ℕ) → IsOverAt ended [] cut rest
     → cut ++ rest ≡ lines_text (m ∷ ms) ++ more → ⊥
 no_table ended m ms cut rest more (inl (n, none, has, small, some, other)) is = some refl
@@ -130,7 +130,7 @@ no_table ended m ms cut rest more (inr (end, inl (driver, none))) is = driver.0 
 no_table ended m ms cut rest more (inr (end, inr (none, short, other))) is =
     not_one m (lines_text ms ++ more) (subst IsOneLine (all_behind cut rest none ∙ is ∙ cons m ms more) short.0)
 
--- the whole lines of a table that is over are determined by the bytes
+-- the bytes determine the whole lines of a table that has ended
 lines_once : (ended : Bool) (ls ms : List (List ℕ)) (cut rest own more : List ℕ) → AreOfTable ls cut
     → AreOfTable ms own → IsOverAt ended ls cut rest → IsOverAt ended ms own more
     → lines_text ls ++ (cut ++ rest) ≡ lines_text ms ++ (own ++ more) → ls ≡ ms
@@ -146,7 +146,7 @@ lines_once ended (l ∷ ls) (m ∷ ms) cut rest own more are are_too over over_t
     are_too.drivers (stops_there ended (l ∷ ls) cut rest over) (stops_there ended (m ∷ ms) own more over_too) parts.1 in
     ap (λ (x : List ℕ). x ∷ ls) parts.0 ∙ ap (λ (xs : List (List ℕ)). m ∷ xs) others
 
--- a table whose last line is whole is not over where the same bytes are one with a last line that is cut
+-- a table whose last line is whole has not ended if the same bytes are a table with a cut last line
 not_cut : (ended : Bool) (ls : List (List ℕ)) (cut rest own more : List ℕ) → IsOverAt ended ls cut rest → cut ≡ []
     → IsCutDriver ls own → more ≡ [] → cut ++ rest ≡ own ++ more → ⊥
 not_cut ended ls cut rest own more over none driver no_more e = by_over over where
@@ -162,11 +162,11 @@ not_cut ended ls cut rest own more over none driver no_more e = by_over over whe
   by_over (inr (end, inr (nothing, short, inr other))) =
       let wrong : false ≡ true = sym other ∙ ap begins_driver same ∙ driver.2 in absurd (cc wrong)
 
--- the cut line of a table that is over is determined by the bytes behind its whole lines
+-- the bytes after its whole lines determine the cut line of a table that has ended
 cut_once : (ended : Bool) (ls : List (List ℕ)) (cut rest own more : List ℕ) → AreOfTable ls cut → AreOfTable ls own
     → IsOverAt ended ls cut rest → IsOverAt ended ls own more → cut ++ rest ≡ own ++ more → cut ≡ own
 cut_once ended ls cut rest own more are are_too over over_too e = by_last are.last are_too.last where
-  -- behind a cut line stands nothing
+  -- nothing follows a cut line
   no_more : (c r : List ℕ) → IsOverAt ended ls c r → IsCutDriver ls c → r ≡ []
   no_more c r (inl (n, none, has, small, some, other)) driver =
       let wrong : false ≡ true = ap begins_driver (sym none) ∙ driver.2 in absurd (cc wrong)
@@ -184,7 +184,7 @@ cut_once ended ls cut rest own more are are_too over over_too e = by_last are.la
       all_cut cut rest (no_more cut rest over driver) ∙ e
       ∙ sym (all_cut own more (no_more own more over_too driver_too))
 
--- what was read has one table
+-- what was read has only one table
 pub table_once : (ended : Bool) (table other rest more : List ℕ) → IsTable ended table rest → IsTable ended other more
     → table ++ rest ≡ other ++ more → (table ≡ other) × (rest ≡ more)
 table_once ended table other rest more t u e =
@@ -209,13 +209,13 @@ begins_so : (b c : ℕ) (w rest : List ℕ) (words : List (List ℕ)) → line_o
 begins_so b c w rest [] is = cc is
 begins_so b c w rest (word ∷ words) is = cc is
 
--- a line whose first word has a byte has one too
+-- a line whose first word is not empty is not empty
 has_some : (c : ℕ) (w : List ℕ) (words : List (List ℕ)) → line_of ((c ∷ w) ∷ words) ≢ []
 has_some c w [] is = cc is
 has_some c w (word ∷ words) is = cc is
 
 module _ (c : ℕ × Command) (fits : FitsCall c) where
-  -- the number of a process is one of 64 bits
+  -- the number of a process has at most 64 bits
   small : c.0 < 2 ^ 64
   small = omega (arith, fits.0)
 
@@ -230,7 +230,7 @@ module _ (c : ℕ × Command) (fits : FitsCall c) where
         no_digit w (subst (λ (x : ℕ). all_ascii_digits (x ∷ w) ≡ true) first
         (subst (λ (x : List ℕ). all_ascii_digits x ≡ true) (sym same) (digits_decimal own c.0 small)))
 
-  -- no call has a line without a byte
+  -- the line of a call is not empty
   some_call : line_of (call_words c) ≢ []
   some_call = by_word (decimal c.0) refl where
     by_word : (w : List ℕ) → w ≡ decimal c.0 → line_of (w ∷ command_words c.1) ≢ []
@@ -263,7 +263,7 @@ module _ (version : Version) (drivers : List DriverSpec) (history : List Entry) 
       ∙ ap (λ (c : ℕ × Command). (step drivers (after drivers history) c.0 c.1).1) call ∙ is_too.legal in
       ap (λ (c : ℕ × Command). entry_with c e.reply) call ∙ ap (λ (r : Reply). entry_with (call_of f) r) reply
 
-  -- a line has at most one answer, but for want of memory
+  -- a line has at most one answer, apart from out-of-memory
   answer_once : AreToldApart → (a b : Answer) → IsAnswer version drivers history l a
       → IsAnswer version drivers history l b
       → a ≢ NotDone NoMemory → b ≢ NotDone NoMemory → a ≡ b
@@ -294,7 +294,7 @@ module _ (version : Version) (drivers : List DriverSpec) (history : List Entry) 
   answer_once told_apart (NotDone Full) (NotDone NoMemory) is is_too had had_too = absurd (had_too refl)
   answer_once told_apart (NotDone Full) (NotDone Full) is is_too had had_too = refl
 
-  -- the line `end` has no answer, but for want of memory
+  -- the line `end` has no answer, apart from out-of-memory
   no_answer : (a : Answer) → IsAnswer version drivers history l a → a ≢ NotDone NoMemory → l ≡ codes "end" → ⊥
   no_answer (Entered e) is had end = not_ended e is end
   no_answer (Shown v) (inl none, shown) had end =
@@ -307,16 +307,16 @@ module _ (version : Version) (drivers : List DriverSpec) (history : List Entry) 
 
 -- ---- turns
 
--- the lines of turns, and what is held behind them, begin with the line of the first turn
-asked_cons : (t : Turn) (ts : List Turn) (held : List ℕ)
+-- the lines of turns, and what is held after them, begin with the line of the first turn
+pub asked_cons : (t : Turn) (ts : List Turn) (held : List ℕ)
     → asked_text (t ∷ ts) ++ held ≡ t.line ++ LINE_FEED ∷ (asked_text ts ++ held)
 asked_cons t ts held = simp append_assoc
 
--- the last line is no `end` where the input has ended
+-- a last line without a line feed is not the line `end`
 no_end : (more held : List ℕ) → IsOneLine held → held ≡ codes "end\n" ++ more → ⊥
 no_end more held one is = not_one (codes "end") more (subst IsOneLine is one)
 
--- a session is at its end in one way
+-- a session can be at its end in only one way
 words_once : (ended : Bool) (held words said : List ℕ) → IsAtEnd ended held words → IsAtEnd ended held said
     → words ≡ said
 words_once ended held words said (inl (more, is, none)) (inl (rest, is_too, none_too)) = none ∙ sym none_too
@@ -335,7 +335,7 @@ module _ (version : Version) (drivers : List DriverSpec) (told_apart : AreToldAp
   none_behind history u rest held words (inr (end, one, said)) cut short answered had =
       not_one u.line rest (subst IsOneLine cut one.0)
 
-  -- turns of the same lines are the same
+  -- turns with the same lines are the same
   turns_once : (history : List Entry) (ts us : List Turn) (held more words said : List ℕ)
       → AreAnswered version drivers history ts → AreAnswered version drivers history us → HadMemory ts → HadMemory us
       → IsAtEnd ended held words → IsAtEnd ended more said → asked_text ts ++ held ≡ asked_text us ++ more
@@ -372,7 +372,7 @@ whole_output version drivers turns words =
     (beginning (transcript_grammar version) (map line.Driver drivers ++ map line.Entry []) ++ said_text turns)
     ++ (words ++ (view_lines (view drivers (after drivers (entries_of turns))) ++ codes "end\n"))
 
--- what a session that is over has written is its output by its drivers, its turns and its last words
+-- what a session that has ended wrote is its output, by its drivers, its turns and its last words
 output_is : (read : List ℕ) (ended : Bool) (output : List ℕ) (o : IsOver read ended output)
     → output ≡ whole_output o.s.version o.s.drivers o.live.turns o.words
 output_is read ended output o =
@@ -385,7 +385,7 @@ output_is read ended output o =
       closing : Configuration → List ℕ
       closing c = view_lines (view o.s.drivers c) ++ codes "end\n"
 
--- a text spells one value, whatever the version
+-- a text spells one value, in either version
 pub value_once : HasOneReading → (text : List ℕ) (v w : Version) (x y : ProgramLists)
     → Spells (programs_grammar v) text x → Spells (programs_grammar w) text y → x ≡ y
 value_once reading text v w x y h k =
@@ -393,7 +393,7 @@ value_once reading text v w x y h k =
     let other : Result ProgramLists TextFault = Ok y in
     let same : one ≡ other = reading text one other (v, h, tt) (w, k, tt) tt tt in cc
 
--- two sessions that came to their end over the same bytes, and never wanted memory, have written the same
+-- two sessions that ended over the same bytes, and never ran out of memory, have written the same
 pub one_output : HasOneReading → AreToldApart → (read : List ℕ) (ended : Bool) (one other : List ℕ)
     (o : IsOver read ended one) (p : IsOver read ended other) → HadMemory o.live.turns → HadMemory p.live.turns
     → one ≡ other
@@ -426,9 +426,9 @@ one_output reading told_apart read ended one other o p had had_too =
           (subst (λ (v : Version). AreAnswered v o.s.drivers [] o.live.turns) version o.live.answered))
           p.live.answered had had_too o.at_end p.at_end table.1
 
--- ---- what a session has come of
+-- ---- the session's table and lines
 
--- the table of a session has no fault as a programs text but want of memory
+-- the table of a session has no fault as a programs text, except out-of-memory
 pub no_fault : HasOneReading → (read output : List ℕ) (ended : Bool) (fault : TextFault)
     → HasComeSoFar read ended output
     → HasTableOf read ended (λ text. ReadsAny programs_grammar text (Err fault)) → fault.cause ≢ cause.NoMemory → ⊥
@@ -440,7 +440,7 @@ no_fault reading read output ended fault (s, count, held, l) (table, rest, parts
     let wrong : one ≡ other = reading (table_text l.table) one other (s.version, l.spelled, tt) there tt known in
     absurd (cc wrong)
 
--- the drivers of a session's table are not refused but for want of memory
+-- the drivers of a session's table are not refused, except for lack of memory
 pub no_refusal : HasOneReading → HaveOneFault → (read output : List ℕ) (ended : Bool) (fault : RunFault)
     → HasComeSoFar read ended output
     → HasTableOf read ended (RefusesDriversOf fault) → fault ≡ run.NoMemory
@@ -454,14 +454,14 @@ no_refusal reading determined read output ended fault (s, count, held, l)
     drivers_had determined s.drivers l.can_be_had fault
     (subst (λ (ds : List DriverSpec). RefusesAlone ds fault) drivers refused)
 
--- each line that was taken is short
+-- each line that was answered is within the limit
 all_short : (version : Version) (drivers : List DriverSpec) (history : List Entry) (ts : List Turn)
     → AreAnswered version drivers history ts → AllByRecursion (λ t. length t.line ≤ MAX_INPUT) ts
 all_short version drivers history [] was = tt
 all_short version drivers history (t ∷ ts) was =
     (was.0.1, all_short version drivers (history ++ entries_in t.answer) ts was.2)
 
--- the table of a session, and each of its lines that was taken, is short
+-- the table of a session and each line that it answered are within the limit
 pub are_short : (read output held : List ℕ) (ended : Bool) (s : State) (count : ℕ)
     (l : IsLive read ended output s count held)
     → (length l.table ≤ MAX_INPUT) × AllByRecursion (λ t. length t.line ≤ MAX_INPUT) l.turns

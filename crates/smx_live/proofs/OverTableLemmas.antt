@@ -1,4 +1,4 @@
--- Tables that are over: they are not unfinished, and not too long, however much stands behind them.
+-- Tables that have ended are neither unfinished nor too long, whatever follows them.
 use Rattle.std.proofs.Common.{◌≡◌, ◌≢◌, ℕ, ◌+◌, ◌<◌, ◌≤◌, Bool, true, false, List, [], ◌∷◌, ◌++◌, length, take, drop}
 use Rattle.std.proofs.Common.{refl, sym, ap, subst, ◌∙◌, append_assoc, take-append-drop, arith, inl, inr}
 use Rattle.std.proofs.lemmas.Bool.Decides.{Decides-eqb}
@@ -19,7 +19,7 @@ use Rattle.smx_live.proofs.OneOutputLemmas.{Stops, all_behind, all_cut, cons, no
 
 -- ---- lines within lines
 
--- what has no line feed, at the front of a line, is a beginning of that line
+-- bytes without a line feed at the start of a line are a beginning of that line
 within : (xs more l after : List ℕ) → IsOneLine xs → xs ++ more ≡ l ++ LINE_FEED ∷ after
     → (others : List ℕ) × (l ≡ xs ++ others)
 within [] more l after one is = (l, refl)
@@ -28,11 +28,11 @@ within (x ∷ xs) more (b ∷ l) after one is =
     let (others, same) = within xs more l after one.1 (cc is) in
     let first : b ≡ x = cc is in (others, cc (first, same))
 
--- what is joined of two parts has no fewer bytes than the first
+-- the whole has no fewer bytes than its first part
 no_fewer : (whole xs others : List ℕ) → whole ≡ xs ++ others → length xs ≤ length whole
 no_fewer whole xs others is = omega (arith, ap (λ (t : List ℕ). length t) is, length-append xs others)
 
--- what begins as the line of a driver does so with more behind it
+-- what begins like a driver line still does with more bytes after it
 begins_more : (l xs others : List ℕ) → l ≡ xs ++ others → begins_driver xs ≡ true → begins_driver l ≡ true
 begins_more l xs others is begins =
     let driver : List ℕ = codes "driver" in
@@ -45,16 +45,16 @@ size : (l : List ℕ) (ls : List (List ℕ)) → length (lines_text (l ∷ ls)) 
 size l ls =
     omega (arith, length-append (l ++ LINE_FEED ∷ []) (lines_text ls), length-append l (LINE_FEED ∷ []))
 
--- one line at the front of lines has fewer bytes than their text
+-- one line at the start of the text of lines has fewer bytes than that text
 fewer : (l : List ℕ) (ls : List (List ℕ)) (rest xs more : List ℕ) → IsOneLine xs
     → lines_text (l ∷ ls) ++ rest ≡ xs ++ more → length xs < length (lines_text (l ∷ ls))
 fewer l ls rest xs more one is =
     let (others, same) = within xs more l (lines_text ls ++ rest) one (sym is ∙ cons l ls rest) in
     omega (arith, size l ls, no_fewer l xs others same)
 
--- ---- lines of a table that is over
+-- ---- lines of a table that has ended
 
--- one line behind lines of drivers stands behind all of them, or within the text of them
+-- one line after driver lines comes after all of them, or lies within their text
 drivers_apart : (ended : Bool) (ls ms : List (List ℕ)) (rest xs more : List ℕ) → AllByRecursion IsOneLine ls
     → AllByRecursion IsOneLine ms → AllByRecursion (λ l. begins_driver l ≡ true) ms → Stops ended rest → IsOneLine xs
     → lines_text ls ++ rest ≡ lines_text ms ++ (xs ++ more)
@@ -73,7 +73,7 @@ drivers_apart ended (l ∷ ls) (m ∷ ms) rest xs more all all_too are stops one
       | inr small ↦ inr (omega (arith, small, long, size l ls, size m ms))
     ]
 
--- one line behind lines of a table stands behind all those of a table that is over, or within the text of them
+-- one line after lines of a table comes after all lines of a table that has ended, or lies within their text
 lines_apart : (ended : Bool) (ls ms : List (List ℕ)) (cut rest own xs more : List ℕ) → AreOfTable ls cut
     → AreOfTable ms own → IsOverAt ended ls cut rest → IsOneLine xs
     → lines_text ls ++ (cut ++ rest) ≡ lines_text ms ++ (xs ++ more)
@@ -93,13 +93,13 @@ lines_apart ended (l ∷ ls) (m ∷ ms) cut rest own xs more are are_too over on
       | inr small ↦ inr (omega (arith, small, long, size l ls, size m ms))
     ]
 
--- what stands behind the same lines is the same
+-- what follows the same lines is the same
 behind_same : (ls ms : List (List ℕ)) (tail other : List ℕ) → ls ≡ ms → lines_text ls ++ tail ≡ lines_text ms ++ other
     → tail ≡ other
 behind_same ls ms tail other same e =
     append_cancel_left (lines_text ms) tail other (ap (λ (x : List (List ℕ)). lines_text x ++ tail) (sym same) ∙ e)
 
--- a cut line behind the lines of a table that is over is no longer than its own one
+-- a cut line after the lines of a table that has ended is no longer than that table's own cut line
 cut_within : (ended : Bool) (ls : List (List ℕ)) (cut rest own more : List ℕ) → IsOverAt ended ls cut rest
     → (own ≡ []) ⊎ IsCutDriver ls own → cut ++ rest ≡ own ++ more → length own ≤ length cut
 cut_within ended ls cut rest own more over (inl none) e = omega (arith, ap (λ (t : List ℕ). length t) none)
@@ -115,7 +115,7 @@ cut_within ended ls cut rest own more (inr (end, inr (none, short, inr other))) 
     let wrong : false ≡ true = sym other ∙ begins_more rest own more (all_behind cut rest none ∙ e) driver.2 in
     absurd (cc wrong)
 
--- one line behind the lines of a table that is over is no longer than an input may be
+-- one line after the lines of a table that has ended is no longer than an input may be
 line_within : (ended : Bool) (ls : List (List ℕ)) (cut rest xs more : List ℕ) → IsOverAt ended ls cut rest
     → length cut ≤ MAX_INPUT → IsOneLine xs → cut ++ rest ≡ xs ++ more → length xs ≤ MAX_INPUT
 line_within ended ls cut rest xs more (inl (n, none, has, small, some, other)) fits one e =
@@ -128,7 +128,7 @@ line_within ended ls cut rest xs more (inr (end, inl (is, none))) fits one e =
 line_within ended ls cut rest xs more (inr (end, inr (none, short, other))) fits one e =
     omega (arith, short.1, no_fewer rest xs more (all_behind cut rest none ∙ e))
 
--- ---- tables that are over
+-- ---- tables that have ended
 
 -- the last line of a table has no line feed in it
 own_one : (ms : List (List ℕ)) (own : List ℕ) → AreOfTable ms own → IsOneLine own
@@ -138,14 +138,14 @@ own_one ms own were = elim were.last [
 ]
 
 module _ (ended : Bool) (table rest : List ℕ) (t : IsTable ended table rest) where
-  -- two ways to cut what was read at the lines of a table
+  -- two ways to split what was read at the lines of a table
   both : (ms : List (List ℕ)) (own more : List ℕ) → table ++ rest ≡ (lines_text ms ++ own) ++ more
       → lines_text t.lines ++ (t.cut ++ rest) ≡ lines_text ms ++ (own ++ more)
   both ms own more parts =
       sym (append_assoc (lines_text t.lines) t.cut rest) ∙ ap (λ (x : List ℕ). x ++ rest) (sym t.text) ∙ parts
       ∙ append_assoc (lines_text ms) own more
 
-  -- a table that is over is unfinished only where the input has ended, and no whole line stands behind it
+  -- a table that has ended is unfinished only if the input has ended and no whole line follows
   pub finished : IsUnfinished (table ++ rest) → (ended ≡ true) × IsOneLine rest
   finished (ms, own, more, parts, were, one) = by_over t.over where
     xs : List ℕ
@@ -177,7 +177,7 @@ module _ (ended : Bool) (table rest : List ℕ) (t : IsTable ended table rest) w
     by_over (inr (end, inl (is, none))) = (end, subst IsOneLine (sym none) tt)
     by_over (inr (end, inr (none, short, other))) = (end, short.0)
 
-  -- a table that is over, and not too long, is not too long with what stands behind it, and no line behind it is
+  -- a table that has ended and is within the limit is not too long with what follows it, nor is any line after it
   pub not_endless : length table ≤ MAX_INPUT → IsEndlessTable (table ++ rest) → ⊥
   not_endless fits (ms, own, more, parts, were, long) = elim long [
     | inl text ↦ omega (arith, text, length-append (lines_text ms) own, text_within)
@@ -235,7 +235,7 @@ module _ (ended : Bool) (table rest : List ℕ) (t : IsTable ended table rest) w
 
 -- ---- lines that are not too long
 
--- a whole line that may be taken is not too long, whatever stands behind it
+-- a whole line within the limit is not too long, whatever follows it
 pub line_fits : (n : ℕ) (held : List ℕ) → HasLine n held → n ≤ MAX_INPUT → IsTooLong held → ⊥
 line_fits n held has small (k, many, enough, one) =
     let (others, same) = within (take k held) (drop k held) (take n held) (drop (n + 1) held) one
@@ -249,13 +249,13 @@ line_fits n held has small (k, many, enough, one) =
       no_fewer (take n held) (take k held) others same,
     )
 
--- the table of a session is not too long, and no line behind it is
+-- the table of a session is not too long, nor is any line after it
 pub no_session_is_endless : (read output : List ℕ) (ended : Bool) → HasComeSoFar read ended output
     → IsEndlessTable read → ⊥
 no_session_is_endless read output ended (s, count, held, l) long =
     not_endless ended l.table _ l.over l.fits (subst IsEndlessTable l.read_is long)
 
--- what is held where a session is over is not too long
+-- what is held when a session has ended is not too long
 pub no_line_at_the_end : (read output : List ℕ) (ended : Bool) (o : IsOver read ended output) → IsTooLong o.held → ⊥
 no_line_at_the_end read output ended o (k, many, enough, one) = elim o.at_end [
   | inl (more, is, none) ↦

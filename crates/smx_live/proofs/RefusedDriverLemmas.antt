@@ -1,4 +1,4 @@
--- Texts whose drivers are refused, and whose are not.
+-- Texts whose drivers are refused, and texts whose drivers are not.
 use Rattle.std.proofs.Common.{◌≡◌, List, [], ◌∷◌, Result, Ok, Err, refl, sym, ap, ◌∙◌, subst, arith, rules}
 use Rattle.std.specs.Fmt.{digits}
 use Rattle.std.proofs.lemmas.Option.{same_Some}
@@ -21,21 +21,21 @@ use Rattle.smx_live.specs.WorkedLives.{minorless_text, worked_table}
 use Rattle.smx_live.proofs.OneOutputLemmas.{HasOneReading, value_once}
 use Rattle.std.specs.Prelude.{ℕ}
 
--- programs of one driver with so many minors
+-- programs with one driver that has `minors` minors
 abbrev of_one : ℕ → ProgramLists
 of_one minors = record { version = V2; drivers = leaf eth minors ∷ []; programs = [] }
 
--- the text of a driver without minors spells programs of that one driver
+-- the text of a driver without minors spells programs with that one driver
 minorless : Spells (programs_grammar V2) minorless_text (of_one 0)
 unfolding digits
 minorless = record { allowed = search (rules, arith); text = refl }
 
--- the worked table spells programs of one driver with two minors
+-- the worked table spells programs with one driver that has two minors
 worked : Spells (programs_grammar V2) (table_text worked_table) (of_one 2)
 unfolding digits
 worked = record { allowed = search (rules, arith); text = refl }
 
--- what is told of the drivers of a text is told of those of the programs that it is known to spell
+-- why the drivers of a text are refused is why those of the programs that it spells are refused
 of_these : HasOneReading → (fault : RunFault) (text : List ℕ) (p : ProgramLists) → Spells (programs_grammar V2) text p
     → RefusesDriversOf fault text → RefusesAlone p.drivers fault
 of_these reading fault text p spelled (version, q, also, so) =
@@ -53,11 +53,11 @@ refused = (
   ),
 )
 
--- the driver of the worked table may be refused for want of memory
+-- the driver of the worked table may be refused for lack of memory
 pub no_memory : RefusesDriversOf run.NoMemory (table_text worked_table)
 no_memory = (V2, of_one 2, worked, search (rules, arith))
 
--- the driver without minors is not refused for want of memory
+-- the driver without minors is not refused for lack of memory
 pub not_for_want_of_memory : HasOneReading → RefusesDriversOf run.NoMemory minorless_text → ⊥
 not_for_want_of_memory reading h =
     let had : IsDriverList (leaf eth 0 ∷ []) = of_these reading run.NoMemory minorless_text (of_one 0) minorless h in
@@ -73,7 +73,7 @@ not_refused reading h =
     ap spec_check (same_Some (leaf eth 2) d bad.here) ∙ check in
     absurd (cc e)
 
--- no drivers are refused of a text that spells no programs
+-- a text that spells no programs has no drivers that are refused
 pub not_of_what_is_cut : (text : List ℕ) → ((v : ProgramLists) → SpellsPrograms text v → ⊥) → (fault : RunFault)
     → RefusesDriversOf fault text → ⊥
 not_of_what_is_cut text none fault (version, p, spelled, others) =

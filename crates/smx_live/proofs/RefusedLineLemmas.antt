@@ -1,4 +1,4 @@
--- Why lines are refused, by worked ones.
+-- Why lines are refused, by worked examples.
 use Rattle.std.proofs.Common.{◌≢◌, ℕ, List, [], refl, sym, arith}
 use Rattle.std.proofs.Common.{inl, inr}
 use Rattle.std.specs.Prelude.{codes}
@@ -13,7 +13,7 @@ use Rattle.smx_live.specs.declared.turn_fault.TurnFault.TheVariants.{NoCommand, 
 use Rattle.smx_live.proofs.OneOutputLemmas.{no_call}
 use Rattle.smx_live.proofs.WorkedLiveLemmas.{cloned}
 
--- a line that is none of those that ask for something asks for neither the configuration nor the end
+-- a line that is not empty, `show` or `end` asks neither for the configuration nor for the end
 neither : (line : List ℕ) → line ≢ [] → line ≢ codes "show" → line ≢ codes "end" → AsksForNeither line
 neither line some other last = (
   λ asks. elim asks [
@@ -35,66 +35,66 @@ dup_asks = neither (codes "63 dup 0") (λ is. absurd (cc is)) (λ is. absurd (cc
 hangup_asks : AsksForNeither (codes "0 hangup ip 0")
 hangup_asks = neither (codes "0 hangup ip 0") (λ is. absurd (cc is)) (λ is. absurd (cc is)) (λ is. absurd (cc is))
 
--- the line `x` is no command of a process in either version
+-- the line `x` is not a command of a process in either version
 x_is_none : (version : Version) → IsNoCallLine version (codes "x")
 x_is_none version c fits is = no_call c fits.0 120 [] (λ ds h. absurd (cc h)) (sym is)
 
--- a history of 100,000 entries is full, which is told also of a line that is no command
+-- a history of 100,000 entries is full, and a line that is not a command is refused for that too
 pub full : IsRefusedFor V2 100000 (codes "x") Full
 full = (x_asks, search arith)
 
--- one of an entry less is not
+-- a history with one entry less is not full
 pub not_yet_full : IsRefusedFor V2 99999 (codes "x") Full → ⊥
 not_yet_full is = omega (arith, is.1)
 
--- where the history is full, a line that is no command is not told to be none
+-- if the history is full, a line that is not a command is not refused as such
 pub full_is_told : IsRefusedFor V2 100000 (codes "x") NoCommand → ⊥
 full_is_told is = omega (arith, is.2)
 
--- the configuration is shown where the history is full
+-- the configuration is shown even if the history is full
 pub shown_when_full : IsRefusedFor V2 100000 (codes "show") Full → ⊥
 shown_when_full is = is.0.0 (inr refl)
 
--- a session may end where the history is full
+-- a session may end even if the history is full
 pub ended_when_full : IsRefusedFor V2 100000 (codes "end") Full → ⊥
 ended_when_full is = is.0.1 refl
 
--- where there is room for an entry, a line that is no command is told to be none
+-- if there is room for an entry, a line that is not a command is refused as such
 pub no_command : IsRefusedFor V2 99999 (codes "x") NoCommand
 no_command = (x_asks, x_is_none V2, search arith)
 
--- memory may be wanting for a command
+-- a command may be refused for lack of memory
 pub no_memory : IsAnswer V2 drivers [] (codes "3 clone eth") (NotDone NoMemory)
 no_memory asks = ((call_of (3 does OpenClone eth gets Fd 0 0), cloned.told, cloned.is_read), search arith)
 
--- where there is room for an entry, memory may be wanting for a command of version 1
+-- so may a command of version 1, up to the last entry
 pub no_memory_up_to_the_last : IsCallLine V1 (codes "63 dup 0") → IsRefusedFor V1 99999 (codes "63 dup 0") NoMemory
 no_memory_up_to_the_last call asks = (call, search arith)
 
--- where the history is full, memory is not wanting for a command
+-- if the history is full, a command is not refused for lack of memory
 pub no_memory_when_full : IsRefusedFor V1 100000 (codes "63 dup 0") NoMemory → ⊥
 no_memory_when_full is = omega (arith, (is dup_asks).1)
 
--- memory may be wanting for the configuration, also where the history is full
+-- the configuration may be refused for lack of memory, even if the history is full
 pub no_memory_to_show : IsRefusedFor V1 100000 (codes "show") NoMemory
 no_memory_to_show asks = absurd (asks.0 (inr refl))
 
--- memory is not wanting for a line that is no command
+-- a line that is not a command is not refused for lack of memory
 pub no_memory_for_no_command : IsRefusedFor V1 0 (codes "x") NoMemory → ⊥
 no_memory_for_no_command is =
     let call : IsCallLine V1 (codes "x") = (is x_asks).0 in x_is_none V1 call.0 call.1 call.2
 
--- a hangup is no command in version 1
+-- a hangup is not a command in version 1
 pub no_command_of_version_1 : (IsCallLine V1 (codes "0 hangup ip 0") → ⊥)
     → IsRefusedFor V1 0 (codes "0 hangup ip 0") NoCommand
 no_command_of_version_1 none = (hangup_asks, λ c fits is. none (c, fits, is), search arith)
 
--- memory is not wanting for a hangup in version 1
+-- a hangup is not refused for lack of memory in version 1
 pub none_of_version_1 : (IsCallLine V1 (codes "0 hangup ip 0") → ⊥)
     → IsRefusedFor V1 0 (codes "0 hangup ip 0") NoMemory → ⊥
 none_of_version_1 none is = none (is hangup_asks).0
 
--- a hangup is not told to be no command in version 2
+-- a hangup is not refused as no command in version 2
 pub a_command_of_version_2 : IsCallLine V2 (codes "0 hangup ip 0") → IsRefusedFor V2 0 (codes "0 hangup ip 0") NoCommand
     → ⊥
 a_command_of_version_2 call is = is.1 call.0 call.1 call.2

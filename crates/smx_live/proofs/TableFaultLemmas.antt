@@ -1,4 +1,4 @@
--- Tables at fault, by what a live session answers of them.
+-- Tables with a fault, by what a live session answers.
 use Rattle.std.proofs.Common.{◌≡◌, ◌≢◌, ℕ, Bool, List, [], Result, Ok, Err, refl, sym, ap, subst, ◌∙◌, inl, inr}
 use Rattle.smx_types.specs.ProgramLists.{ProgramLists}
 use Rattle.smx_types.specs.declared.driver.DriverSpec.{DriverSpec}
@@ -18,30 +18,30 @@ use Rattle.smx_filters.proofs.AnswerLemmas.{HaveOneFault}
 use Rattle.smx_live.proofs.OneOutputLemmas.{HasOneReading, table_once, value_once}
 use Rattle.smx_live.proofs.OverTableLemmas.{not_endless}
 
--- what begins with a table that is not too long has none that is
+-- bytes that start with a table within the limit don't start with one that is too long
 no_endless : (read : List ℕ) (ended : Bool) (IsSo : List ℕ → Type 0) → HasShortTableOf read ended IsSo
     → IsEndlessTable read → ⊥
 no_endless read ended IsSo (table, rest, parts, over, fits, so) long =
     not_endless ended table rest over fits (subst IsEndlessTable parts long)
 
 module _ (read output : List ℕ) (ended flushed : Bool) (reads writes : ℕ) where
-  -- the fault of a table is no want of memory
+  -- out-of-memory is not reported as the fault of a table
   pub is_known : (fault : TextFault) → IsOutcome read output ended flushed reads writes (Err (Text fault))
       → fault.cause ≢ cause.NoMemory
   is_known fault h = h.2
 
-  -- nothing was written where a table is at fault
+  -- nothing was written if a table has a fault
   pub is_silent : (fault : TextFault) → IsOutcome read output ended flushed reads writes (Err (Text fault))
       → output ≡ []
   is_silent fault h = h.1
 
-  -- nothing was written where drivers are refused
+  -- nothing was written if drivers are refused
   pub drivers_are_silent : (fault : RunFault) → IsOutcome read output ended flushed reads writes (Err (Refused fault))
       → fault ≢ run.NoMemory → output ≡ []
   drivers_are_silent fault (fine, inl (is, broken)) other = absurd (other is)
   drivers_are_silent fault (fine, inr (none, bad)) other = none
 
-  -- a table at fault is not too long
+  -- a table that is reported to have a fault is not too long
   pub is_short : (fault : TextFault) → IsOutcome read output ended flushed reads writes (Err (Text fault))
       → IsEndlessTable read → ⊥
   is_short fault h long =
@@ -54,7 +54,7 @@ module _ (read output : List ℕ) (ended flushed : Bool) (reads writes : ℕ) wh
   drivers_are_short fault (fine, inr (none, bad)) other long =
       no_endless read ended (RefusesDriversOf fault) bad long
 
--- a table at fault is told by one fault
+-- only one fault is reported for a table
 pub one_fault : HasOneReading → (read output : List ℕ) (ended flushed : Bool) (reads writes : ℕ)
     (one other : TextFault) → IsOutcome read output ended flushed reads writes (Err (Text one))
     → IsOutcome read output ended flushed reads writes (Err (Text other)) → one ≡ other
@@ -67,7 +67,7 @@ one_fault reading read output ended flushed reads writes one other
     let last : Result ProgramLists TextFault = Err other in
     let is : first ≡ last = reading (table_text second) first last there bad_too known known_too in cc is
 
--- drivers that are refused, and not for want of memory, have a fault of their own
+-- drivers that are refused, but not for lack of memory, have a fault of their own
 fault_of_drivers : (drivers : List DriverSpec) (fault : RunFault) → RefusesAlone drivers fault → fault ≢ run.NoMemory
     → (f : ConfigFault) × (fault ≡ run.ConfigFault f) × RefusesDrivers drivers f
 fault_of_drivers drivers (run.ConfigFault f) (is, known) other = (f, refl, is)
@@ -76,7 +76,7 @@ fault_of_drivers drivers (run.Strange process) never other = absurd never
 fault_of_drivers drivers run.HistoryFull never other = absurd never
 fault_of_drivers drivers run.Held never other = absurd never
 
--- the drivers of a table are refused for one fault, where it is no want of memory
+-- the drivers of a table are refused for one fault, if it is not out-of-memory
 pub one_refusal : HasOneReading → HaveOneFault → (read output : List ℕ) (ended flushed : Bool) (reads writes : ℕ)
     (one other : RunFault) → IsOutcome read output ended flushed reads writes (Err (Refused one))
     → IsOutcome read output ended flushed reads writes (Err (Refused other)) → one ≢ run.NoMemory
@@ -97,7 +97,7 @@ one_refusal reading determined read output ended flushed reads writes one other
     let last = fault_of_drivers q.drivers other refused_too none in
     first.1 ∙ ap run.ConfigFault (determined q.drivers first.0 last.0 first.2 last.2) ∙ sym last.1
 
--- where a table is at fault as a text, its drivers are not refused
+-- if the text of a table has a fault, its drivers are not refused
 pub text_or_drivers : HasOneReading → (read output : List ℕ) (ended flushed : Bool) (reads writes : ℕ)
     (fault : TextFault) (other : RunFault) → IsOutcome read output ended flushed reads writes (Err (Text fault))
     → IsOutcome read output ended flushed reads writes (Err (Refused other)) → other ≡ run.NoMemory

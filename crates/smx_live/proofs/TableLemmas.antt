@@ -1,4 +1,4 @@
--- Tables that grow by a line, and what is read behind them.
+-- Tables that grow by a line, and what is read after them.
 use Rattle.std.proofs.Common.{◌≡◌, ◌≢◌, ℕ, ◌+◌, ◌<◌, ◌≤◌, Bool, true, false, List, [], ◌∷◌, ◌++◌, length, take, refl}
 use Rattle.std.proofs.Common.{sym, ap, subst, ◌∙◌, append_assoc, arith, inl, inr}
 use Rattle.std.proofs.lemmas.List.{append-nil, length-append, take-append-le}
@@ -19,14 +19,14 @@ use Rattle.smx_live.specs.Tables.{IsUnfinished, begins_driver}
 use Rattle.smx_live.specs.declared.inbox.Inbox.{Inbox}
 use Rattle.smx_live.proofs.InboxLemmas.{line_stays, unmoved, with_line_feed}
 
--- what a list with one more item gives is what the others give, and then what that item gives
+-- `flat_map` over a list with one more item appends what that item gives
 pub flat_more : {A B : Type 0} (f : A → List B) (xs : List A) (x : A) → flat_map f (xs ++ x ∷ []) ≡ flat_map f xs ++ f x
 flat_more f [] x = append-nil (f x)
 flat_more f (y ∷ xs) x = ap (λ l. f y ++ l) (flat_more f xs x) ∙ sym (append_assoc (f y) (flat_map f xs) (f x))
 
--- ---- a line more
+-- ---- one more line
 
--- lines have their line feeds at the least
+-- the text of at least one line is not empty, since each line has a line feed
 some_text : (line : List ℕ) (lines : List (List ℕ)) → length (lines_text (line ∷ lines)) ≡ 0 → ⊥
 some_text line lines none =
     omega (
@@ -36,7 +36,7 @@ some_text line lines none =
       length-append line (LINE_FEED ∷ []),
     )
 
--- the first line is of the table, and so is one behind it that begins as that of a driver
+-- the first line belongs to the table, and so does a later one that begins like a driver line
 pub one_line_more : (lines : List (List ℕ)) (line : List ℕ) → AreOfTable lines [] → IsOneLine line
     → (length (lines_text lines) ≡ 0) ⊎ (begins_driver line ≡ true) → AreOfTable (lines ++ line ∷ []) []
 one_line_more [] line were one why = record { each = (one, tt); drivers = tt; last = inl refl }
@@ -47,7 +47,7 @@ one_line_more (l ∷ ls) line were one (inr is) = record {
   last = inl refl;
 }
 
--- the text of a table, and the line at the front with its line feed, are the text of the table with that line
+-- the text of a table, followed by the first line and its line feed, is the text of the table with that line
 pub text_more : (table : List ℕ) (lines : List (List ℕ)) (n : ℕ) (held : List ℕ) → table ≡ lines_text lines
     → HasLine n held
     → table ++ take (n + 1) held ≡ lines_text (lines ++ take n held ∷ [])
@@ -56,7 +56,7 @@ text_more table lines n held text line =
     ∙ ap (λ (t : List ℕ). t ++ (take n held ++ LINE_FEED ∷ [])) text
     ∙ sym (flat_more (λ (l : List ℕ). l ++ LINE_FEED ∷ []) lines (take n held))
 
--- what was read begins as a table of these lines, with a cut one behind them or none
+-- what was read begins like a table of these lines, with a cut line after them or none
 pub begins_as : (bytes table rest : List ℕ) (lines : List (List ℕ)) (cut : List ℕ) (AreSo : List ℕ → List ℕ → Type 0)
     → bytes ≡ table ++ rest → table ≡ lines_text lines ++ cut → AreOfTable lines cut → AreSo table rest
     → BeginsAsTable bytes AreSo
@@ -69,11 +69,11 @@ begins_as bytes table rest lines cut AreSo parts text were so = (
   subst (λ (t : List ℕ). AreSo t rest) text so,
 )
 
--- the text of whole lines is their text with nothing behind it
+-- the text of whole lines is their text with nothing after it
 whole : (table : List ℕ) (lines : List (List ℕ)) → table ≡ lines_text lines → table ≡ lines_text lines ++ []
 whole table lines text = text ∙ sym (append-nil (lines_text lines))
 
--- where no line can be had behind these lines, the table is too long, or unfinished
+-- if no line can be read after these lines, the table is too long, or unfinished
 pub fails_with : (start read piece table held : List ℕ) (lines : List (List ℕ)) → start ++ read ≡ table ++ held
     → table ≡ lines_text lines → AreOfTable lines [] → (failures : ℕ) (e : MainFault)
     → FailsToRead (IsTooLong (held ++ piece)) (IsOneLine (held ++ piece)) failures e
@@ -100,7 +100,7 @@ fails_with start read piece table held lines parts text were failures e = by_fau
 
 -- ---- the end of a table
 
--- a table with a line is over where the next line doesn't begin as a driver's
+-- a table with a line has ended if the next line doesn't begin like a driver line
 pub over_at_a_line : (ended : Bool) (table : List ℕ) (lines : List (List ℕ)) (n : ℕ) (held : List ℕ)
     → table ≡ lines_text lines → AreOfTable lines [] → HasLine n held → n ≤ MAX_INPUT → length table ≢ 0
     → begins_driver (take n held) ≡ false → IsTable ended table held
@@ -120,14 +120,14 @@ over_at_a_line ended table lines n held text were line small some other = record
   );
 }
 
--- a table that has no text has no lines
+-- a table without bytes has no lines
 no_lines : (lines : List (List ℕ)) → lines_text lines ≡ [] → lines ≡ []
 no_lines [] none = refl
 no_lines (l ∷ ls) none = absurd (some_text l ls (ap (λ (t : List ℕ). length t) none))
 
 module _ (ended : Bool) (table : List ℕ) (lines : List (List ℕ)) (held : List ℕ) (text : table ≡ lines_text lines)
     (were : AreOfTable lines []) (end : ended ≡ true) (short : IsShort held) where
-  -- a table is over where the input has ended without one line more, or within one that is no driver's
+  -- a table has ended if the input ended without a next line, or within one that is not a driver line
   over_at_the_end : (table ≡ []) ⊎ (begins_driver held ≡ false) → IsTable ended table held
   over_at_the_end other = record {
     lines = lines;
@@ -147,11 +147,11 @@ module _ (ended : Bool) (table : List ℕ) (lines : List (List ℕ)) (held : Lis
     );
   }
 
-  -- the last line of a driver stands behind a first line
+  -- the cut driver line comes after a first line
   is_driver : table ≢ [] → begins_driver held ≡ true → IsCutDriver lines held
   is_driver some driver = (λ none. some (text ∙ ap lines_text none), short.0, driver)
 
-  -- a table is over where the input has ended within the line of a driver, which is of it
+  -- a table has ended if the input ended within a driver line, which belongs to it
   over_within : table ≢ [] → begins_driver held ≡ true → IsTable ended (table ++ held) []
   over_within some driver = record {
     lines = lines;
@@ -161,7 +161,7 @@ module _ (ended : Bool) (table : List ℕ) (lines : List (List ℕ)) (held : Lis
     over = inr (end, inl (is_driver some driver, refl));
   }
 
-  -- where the input has ended, and what is held was taken into the table or left, the table is over
+  -- if the input has ended, and the held bytes were taken into the table or left, the table has ended
   ended_so : (made : Vec ℕ Global) (now : List ℕ) → TakesCutLine table held now (Ok made)
       → IsTable ended made.items now
   ended_so made now (inl (same, kept, other)) =
@@ -171,7 +171,7 @@ module _ (ended : Bool) (table : List ℕ) (lines : List (List ℕ)) (held : Lis
       subst (λ (t : List ℕ). IsTable ended t now) (sym grown)
       (subst (IsTable ended (table ++ held)) (sym none) (over_within some driver))
 
-  -- all bytes stay in their order where what is held was taken into the table or left
+  -- all bytes stay in order if the held bytes were taken into the table or left
   in_order : (made : Vec ℕ Global) (now : List ℕ) → TakesCutLine table held now (Ok made)
       → table ++ held ≡ made.items ++ now
   in_order made now (inl (same, kept, other)) =
@@ -180,14 +180,14 @@ module _ (ended : Bool) (table : List ℕ) (lines : List (List ℕ)) (held : Lis
       sym (append-nil (table ++ held)) ∙ ap (λ (h : List ℕ). (table ++ held) ++ h) (sym none)
       ∙ ap (λ (t : List ℕ). t ++ now) (sym grown)
 
-  -- a table that was not too long is not where what is held was taken into it or left
+  -- a table within the limit stays within it if the held bytes were taken into it or left
   still_fits : (made : Vec ℕ Global) (now : List ℕ) → length table ≤ MAX_INPUT
       → TakesCutLine table held now (Ok made) → length made.items ≤ MAX_INPUT
   still_fits made now small (inl (same, kept, other)) = omega (arith, small, ap (λ (t : List ℕ). length t) same)
   still_fits made now small (inr (grown, none, some, driver, fits)) =
       omega (arith, fits, ap (λ (t : List ℕ). length t) grown)
 
-  -- where what is held could not be taken into the table, that would have been too long, or memory was wanting
+  -- if the held bytes could not be taken into the table, it would have been too long, or memory ran out
   not_taken : (bytes now : List ℕ) (failures : ℕ) → bytes ≡ table ++ held → failures ≡ 0 → (e : MainFault)
       → TakesCutLine table held now (Err e) → FailsToRead (IsEndlessTable bytes) (IsUnfinished bytes) failures e
   not_taken bytes now failures parts fine TooLong (some, driver, long) = (
@@ -202,7 +202,7 @@ module _ (ended : Bool) (table : List ℕ) (lines : List (List ℕ)) (held : Lis
   not_taken bytes now failures parts fine (Text f) is = absurd is
   not_taken bytes now failures parts fine WriteFailed is = absurd is
 
-  -- at the end of the input a table was read, with what is held or without, or what is held could not be taken into it
+  -- at the end of the input a table was read, with the held bytes or without, or these could not be taken into it
   pub has_table : {had left : Option (List ℕ)} {failures : ℕ} {old new : Inbox} {read : List ℕ} → Consumes had left read
       → old.held.items ++ read ≡ table ++ held → length table ≤ MAX_INPUT → ended ≡ new.ended → failures ≡ 0
       → (r : Result (Vec ℕ Global) MainFault) → TakesCutLine table held new.held.items r
@@ -226,13 +226,13 @@ module _ (ended : Bool) (table : List ℕ) (lines : List (List ℕ)) (held : Lis
     fault = not_taken (old.held.items ++ read) new.held.items failures parts fine e took;
   }
 
--- where the input has ended behind a table, nothing more is read
+-- if the input ended after a table, nothing more is read
 behind_still : (lines : List (List ℕ)) (cut rest more : List ℕ) → EndsBehind lines cut rest → more ≡ []
     → EndsBehind lines cut (rest ++ more)
 behind_still lines cut rest more behind none =
     subst (EndsBehind lines cut) (sym (ap (λ (m : List ℕ). rest ++ m) none ∙ append-nil rest)) behind
 
--- a table that is over stays so where more is read, which comes of an input that has not ended
+-- a table that has ended stays so when more is read from an input that has not ended
 over_still : (ended now : Bool) (lines : List (List ℕ)) (cut rest more : List ℕ) → IsOverAt ended lines cut rest
     → (ended ≡ true → (more ≡ []) × (now ≡ true)) → IsOverAt now lines cut (rest ++ more)
 over_still ended now lines cut rest more (inl (n, none, line, small, some, other)) stays =
@@ -241,7 +241,7 @@ over_still ended now lines cut rest more (inl (n, none, line, small, some, other
 over_still ended now lines cut rest more (inr (end, behind)) stays =
     let (none, still) = stays end in inr (still, behind_still lines cut rest more behind none)
 
--- bytes that are a table stay one where more is read, which comes of an input that has not ended
+-- bytes that are a table stay one when more is read from an input that has not ended
 pub still_a_table : (ended now : Bool) (table rest more : List ℕ) → IsTable ended table rest
     → (ended ≡ true → (more ≡ []) × (now ≡ true)) → IsTable now table (rest ++ more)
 still_a_table ended now table rest more t stays = record {
@@ -254,11 +254,11 @@ still_a_table ended now table rest more t stays = record {
 
 -- ---- what is too long
 
--- a line that is too long has more bytes than may be
+-- a line that is too long has more bytes than the limit
 pub long_line : (held : List ℕ) → IsTooLong held → MAX_INPUT < length held
 long_line held (n, many, within, one) = omega (arith, many, within)
 
--- where a table is too long, or the line behind it, more bytes were read than may be
+-- if a table is too long, or the line after it, more bytes were read than the limit
 pub long_table : (read : List ℕ) → IsEndlessTable read → MAX_INPUT < length read
 long_table read (lines, cut, rest, parts, were, long) =
     let text : List ℕ = lines_text lines ++ cut in

@@ -10,6 +10,7 @@ use Rattle.smx_types.specs.declared.version.Version.TheVariants.{V2}
 use Rattle.smx_model.specs.Histories.{call_of}
 use Rattle.smx_model.specs.Worked.Common.{Fd, OpenClone, ◌does◌gets◌, eth}
 use Rattle.smx_text.specs.Grammar.{IsOneLine, beginning}
+use Rattle.smx_text.specs.GrowingTranscripts.{BeginsTranscript}
 use Rattle.smx_text.specs.TranscriptLines as line
 use Rattle.smx_text.specs.TranscriptText.{transcript_grammar}
 use Rattle.smx_words.specs.LineReading.{IsCallLine, IsNoCallLine}
@@ -17,7 +18,7 @@ use Rattle.smx_words.specs.Spelling.{call_words}
 use Rattle.smx_words.specs.Words.{line_of}
 use Rattle.smx_session.specs.Sessions.{IsStartOf}
 use Rattle.smx_session.specs.WorkedSessions.{begun, drivers, opened, table}
-use Rattle.smx_live.specs.LiveText.{IsOver, closing_text}
+use Rattle.smx_live.specs.LiveText.{IsLive, IsOver, closing_text}
 use Rattle.smx_live.specs.Tables.{AreOfTable, IsCutDriver, IsTable, IsUnfinished}
 use Rattle.smx_live.specs.Turns.{AsksForNeither, Entered, IsAnswer, IsEntryOf, IsRefusedFor, NotDone}
 use Rattle.smx_live.specs.Turns.{asked_text, said_text}
@@ -28,11 +29,11 @@ use Rattle.smx_live.proofs.OverTableLemmas.{finished}
 
 -- ---- tables
 
--- a list of one line or more is not empty
+-- a list of at least one line is not empty
 no_lines : (l : List ℕ) (ls : List (List ℕ)) → l ∷ ls ≡ [] → ⊥
 no_lines l ls none = absurd (cc none)
 
--- the worked table is over where `3 clone eth` stands behind it
+-- the worked table has ended if `3 clone eth` follows it
 pub is_over : IsTable false worked_table (codes "3 clone eth\n")
 is_over = record {
   lines = codes "programs 2" ∷ codes "driver eth leaf 2 8 3 16" ∷ [];
@@ -49,7 +50,7 @@ is_over = record {
   );
 }
 
--- a table of the header alone is over where `show` stands behind it
+-- a table of the header only has ended if `show` follows it
 header_alone : IsTable false (codes "programs 2\n") (codes "show\nend\n")
 header_alone = record {
   lines = codes "programs 2" ∷ [];
@@ -66,18 +67,18 @@ header_alone = record {
   );
 }
 
--- a table is not over where the line of a driver stands behind it
+-- a table has not ended if a driver line follows it
 pub not_too_early : IsTable false (codes "programs 2\n") (codes "driver eth leaf 2 8 3 16\n3 clone eth\n") → ⊥
 not_too_early t =
     let same = table_once false worked_table (codes "programs 2\n") _ _ is_over t refl in absurd (cc same.0)
 
--- the line `show` is none of a table behind its header
+-- the line `show` after the header does not belong to the table
 pub not_too_late : IsTable false (codes "programs 2\nshow\n") (codes "end\n") → ⊥
 not_too_late t =
     let same = table_once false (codes "programs 2\n") (codes "programs 2\nshow\n") _ _ header_alone t refl in
     absurd (cc same.0)
 
--- a table is not over before its header
+-- a table has not ended before its header
 pub not_before_its_header : IsTable false [] (codes "programs 2\nshow\nend\n") → ⊥
 not_before_its_header t =
     let same = table_once false (codes "programs 2\n") [] _ _ header_alone t refl in absurd (cc same.0)
@@ -86,7 +87,7 @@ not_before_its_header t =
 one_clone : IsOneLine (codes "3 clone eth")
 one_clone = search (rules, arith)
 
--- a table is not over where the input has not ended and no whole line stands behind it
+-- a table has not ended if the input has not ended and no whole line follows it
 pub not_within_a_line : IsTable false worked_table (codes "3 clone eth") → ⊥
 not_within_a_line t = elim t.over [
   | inl (n, none, has, small, some, other) ↦ not_one (take n (codes "3 clone eth"))
@@ -94,11 +95,11 @@ not_within_a_line t = elim t.over [
   | inr (end, behind) ↦ absurd (cc end)
 ]
 
--- behind the header, `driver eth` is the line of a driver
+-- after the header, `driver eth` is a driver line
 cut_driver : IsCutDriver (codes "programs 2" ∷ []) (codes "driver eth")
 cut_driver = (no_lines _ _, search (rules, arith), refl)
 
--- a table is over where the input has ended within the line of a driver, which is of it
+-- a table has ended if the input ended within a driver line, which belongs to it
 pub over_within_a_driver : IsTable true (codes "programs 2\ndriver eth") []
 over_within_a_driver = record {
   lines = codes "programs 2" ∷ [];
@@ -108,13 +109,13 @@ over_within_a_driver = record {
   over = inr (refl, inl (cut_driver, refl));
 }
 
--- the line of a driver that is cut is of the table
+-- a cut driver line belongs to the table
 pub not_before_a_cut_driver : IsTable true (codes "programs 2\n") (codes "driver eth") → ⊥
 not_before_a_cut_driver t =
     let same = table_once true (codes "programs 2\ndriver eth") (codes "programs 2\n") _ _ over_within_a_driver t refl
     in absurd (cc same.0)
 
--- a table that has a line is over where the input has ended within another line than a driver's
+-- a table that has a line has ended if the input ended within a line that is not a driver line
 pub over_within_another : IsTable true (codes "programs 2\n") (codes "3 clone")
 over_within_another = record {
   lines = codes "programs 2" ∷ [];
@@ -124,11 +125,11 @@ over_within_another = record {
   over = inr (refl, inr (refl, (search (rules, arith), search arith), inr refl));
 }
 
--- the first lines of a table whose second one begins with a longer word than `driver`
+-- the first lines of a table whose second line begins with a longer word than `driver`
 drivers_lines : AreOfTable (codes "programs 2" ∷ codes "drivers" ∷ []) []
 drivers_lines = record { each = search (rules, arith); drivers = (refl, tt); last = inl refl }
 
--- a line `drivers` is of the table, and a line `drive` is none of it
+-- a line `drivers` belongs to the table, and a line `drive` does not
 pub behind_drivers : IsTable false (codes "programs 2\ndrivers\n") (codes "drive\n")
 behind_drivers = record {
   lines = codes "programs 2" ∷ codes "drivers" ∷ [];
@@ -145,18 +146,18 @@ behind_drivers = record {
   );
 }
 
--- a table is not over before a line `drivers`
+-- a table has not ended before a line `drivers`
 pub not_before_drivers : IsTable false (codes "programs 2\n") (codes "drivers\ndrive\n") → ⊥
 not_before_drivers t =
     let same = table_once false (codes "programs 2\ndrivers\n") (codes "programs 2\n") _ _ behind_drivers t refl in
     absurd (cc same.0)
 
--- a table may go on where a line behind it is not whole
+-- a table may go on if the line after it is not whole
 pub unfinished : IsUnfinished (codes "programs 2\ndrivers\ndrive")
 unfinished =
     (codes "programs 2" ∷ codes "drivers" ∷ [], [], codes "drive", refl, drivers_lines, search (rules, arith))
 
--- a table that is over where the line `drive` stands behind it is not unfinished
+-- a table followed by the line `drive` has ended, so it is not unfinished
 pub not_unfinished : IsUnfinished (codes "programs 2\ndrivers\ndrive\n") → ⊥
 not_unfinished is =
     let ended : false ≡ true =
@@ -172,7 +173,7 @@ show_is_asked is = is.0.0 (inr refl)
 pub end_is_asked : IsAnswer V2 drivers [] (codes "end") (NotDone NoCommand) → ⊥
 end_is_asked is = is.0.1 refl
 
--- the line `x` is not refused for a full history where no entry was made yet
+-- the line `x` is not refused for a full history if there is no entry yet
 pub not_full : IsAnswer V2 drivers [] (codes "x") (NotDone Full) → ⊥
 not_full is = omega (arith, is.1)
 
@@ -203,15 +204,15 @@ clone_asks_for_neither = (
   λ end. absurd (cc end),
 )
 
--- where the history is full, the line `3 clone eth` is not refused for want of memory
+-- if the history is full, the line `3 clone eth` is not refused for lack of memory
 pub full_is_told : IsRefusedFor V2 MAX_COMMANDS (codes "3 clone eth") NoMemory → ⊥
 full_is_told is = omega (arith, (is clone_asks_for_neither).1)
 
--- the line `x` is no command of a process that version 2 can tell
+-- the line `x` is not a command of a process in version 2
 x_is_none : IsNoCallLine V2 (codes "x")
 x_is_none c fits is = no_call c fits.0 120 [] (λ ds h. absurd (cc h)) (sym is)
 
--- the line `x` is not refused for want of memory
+-- the line `x` is not refused for lack of memory
 pub no_memory_for_no_command : IsRefusedFor V2 0 (codes "x") NoMemory → ⊥
 no_memory_for_no_command is =
     let call : IsCallLine V2 (codes "x") = (is asks_for_neither).0 in
@@ -222,7 +223,7 @@ clone_line : codes "3 clone eth" ≡ line_of (call_words (3, OpenClone eth))
 unfolding digits
 clone_line = refl
 
--- the line `3 clone eth` is that of the entry of a clone by process 3, which the model answers so
+-- the line `3 clone eth` is that of the entry of a clone by process 3, with the model's reply
 pub cloned : IsEntryOf V2 drivers [] (codes "3 clone eth") (3 does OpenClone eth gets Fd 0 0)
 cloned = record {
   told = search (rules, arith);
@@ -233,26 +234,30 @@ cloned = record {
 }
 
 -- the first two lines that the worked session writes are the beginning of its transcript
-opening_is : codes "transcript 2\ndriver eth leaf 2 8 3 16\n"
+pub opening_is : codes "transcript 2\ndriver eth leaf 2 8 3 16\n"
     ≡ beginning (transcript_grammar V2) (map line.Driver drivers ++ map line.Entry [])
 unfolding digits
 opening_is = refl
 
--- what the worked session has answered is its opening and the answers of its turns
+-- they are the beginning of a transcript
+pub begins : BeginsTranscript V2 drivers [] (codes "transcript 2\ndriver eth leaf 2 8 3 16\n")
+begins = record { written = opening_is; drivers_fit = search (rules, arith); entries_fit = tt }
+
+-- the worked answers are the opening and the answers of the worked turns
 said_is : worked_answers
     ≡ codes "transcript 2\ndriver eth leaf 2 8 3 16\n" ++ said_text worked_turns
 unfolding digits
 said_is = refl
 
--- what the worked session has written is what it has answered, and the last lines of its transcript
+-- the worked output is the worked answers, followed by the last lines of the transcript
 whole_is : worked_output
     ≡ worked_answers
     ++ ([] ++ closing_text opened)
 unfolding digits
 whole_is = refl
 
--- the worked table is over where the lines of the worked turns stand behind it
-table_over : IsTable false worked_table (asked_text worked_turns ++ codes "end\n3 exit\n")
+-- the worked table has ended if the lines of the worked turns follow it
+pub table_over : IsTable false worked_table (asked_text worked_turns ++ codes "end\n3 exit\n")
 table_over = record {
   lines = codes "programs 2" ∷ codes "driver eth leaf 2 8 3 16" ∷ [];
   cut = [];
@@ -268,39 +273,43 @@ table_over = record {
   );
 }
 
--- the worked session is over, and its output is the worked one
+-- the worked session after its answers, with its line `end` still buffered
+pub answered : IsStartOf table begun → IsLive worked_input false worked_answers opened 1 (codes "end\n3 exit\n")
+answered start = record {
+  table = worked_table;
+  turns = worked_turns;
+  read_is = refl;
+  over = table_over;
+  fits = search arith;
+  programs = start.programs;
+  spelled = start.spelled;
+  drivers = start.drivers;
+  can_be_had = start.can_be_had;
+  answered = (
+    (one_clone, search arith),
+    cloned,
+    (
+      (tt, search arith),
+      (inl refl, refl),
+      ((search (rules, arith), search arith), (asks_for_neither, x_is_none, search arith), tt),
+    ),
+  );
+  few = search arith;
+  opening = codes "transcript 2\ndriver eth leaf 2 8 3 16\n";
+  begins = begins;
+  written = said_is;
+  now = refl;
+  counted = refl;
+}
+
+-- the worked session has ended, and its output is the worked one
 pub over : IsStartOf table begun → IsOver worked_input false worked_output
 over start = record {
   before = worked_answers;
   s = opened;
   count = 1;
   held = codes "end\n3 exit\n";
-  live = record {
-    table = worked_table;
-    turns = worked_turns;
-    read_is = refl;
-    over = table_over;
-    fits = search arith;
-    programs = start.programs;
-    spelled = start.spelled;
-    drivers = start.drivers;
-    can_be_had = start.can_be_had;
-    answered = (
-      (one_clone, search arith),
-      cloned,
-      (
-        (tt, search arith),
-        (inl refl, refl),
-        ((search (rules, arith), search arith), (asks_for_neither, x_is_none, search arith), tt),
-      ),
-    );
-    few = search arith;
-    opening = codes "transcript 2\ndriver eth leaf 2 8 3 16\n";
-    begins = record { written = opening_is; drivers_fit = search (rules, arith); entries_fit = tt };
-    written = said_is;
-    now = refl;
-    counted = refl;
-  };
+  live = answered start;
   words = [];
   at_end = inl (codes "3 exit\n", refl, refl);
   written = whole_is;

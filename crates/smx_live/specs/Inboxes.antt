@@ -1,4 +1,4 @@
--- What is read of a feed, line by line.
+-- Reading a feed line by line.
 use Rattle.std.specs.Prelude.{◌≡◌, ℕ, ◌+◌, ◌<◌, ◌≤◌, ◌⊎◌, Bool, true, false, List, [], ◌∷◌, ◌++◌, length, take, drop}
 use Rattle.std.specs.Prelude.{Option, Some, None, Result, Ok, Err, IfOk, IfErr, OnOk}
 use Rattle.std.specs.Io.KnownBytes.{Consumes}
@@ -10,22 +10,22 @@ use Rattle.smx_filters.specs.declared.main_fault.MainFault.{MainFault}
 use Rattle.smx_filters.specs.declared.main_fault.MainFault.TheVariants.{Refused, Text, TooLong, ReadFailed, WriteFailed}
 use Rattle.smx_live.specs.declared.inbox.Inbox.{Inbox}
 
--- a line of so many bytes stands at the front, and its line feed behind it
+-- the bytes start with a whole line of `n` bytes and its line feed
 pub record HasLine (n : ℕ) (bytes : List ℕ) : Type 0 where
   pub within : n < length bytes
   pub one : IsOneLine (take n bytes)
   pub parts : bytes ≡ take n bytes ++ LINE_FEED ∷ drop (n + 1) bytes
 
--- a line that may be taken: one line, of 16,777,216 bytes at most
+-- a line that a session accepts: one line, of at most 16,777,216 bytes
 abbrev pub IsShort : List ℕ → Type 0
 IsShort line = IsOneLine line × (length line ≤ MAX_INPUT)
 
--- the first line of these bytes is longer: no line ends among so many of them
+-- the first line of these bytes is over the limit: it has more than 16,777,216 bytes, whole or not
 abbrev pub IsTooLong : List ℕ → Type 0
 IsTooLong bytes = (n : ℕ) × (MAX_INPUT < n) × (n ≤ length bytes) × IsOneLine (take n bytes)
 
--- why a feed that has failed so many times gives no more: what was read is too long, by what that means here; a read
--- failed, before which all was unfinished, by what that means here; or memory was wanting
+-- why no line came from a feed with this number of failures: what was read is too long, as `Long` says; or a
+-- read failed, and until then all was unfinished, as `Unfinished` says; or memory ran out
 abbrev pub FailsToRead : Type 0 → Type 0 → ℕ → MainFault → Type 0
 FailsToRead Long Unfinished failures TooLong = (failures ≡ 0) × Long
 FailsToRead Long Unfinished failures ReadFailed = (failures ≡ 1) × Unfinished
@@ -33,13 +33,13 @@ FailsToRead Long Unfinished failures (Refused fault) = (failures ≡ 0) × (faul
 FailsToRead Long Unfinished failures (Text fault) = ⊥
 FailsToRead Long Unfinished failures WriteFailed = ⊥
 
--- a line of so many bytes may be taken, or is too long
+-- a line of `n` bytes is accepted, or is over the limit
 abbrev pub MayBeTaken : ℕ → Result (Option ℕ) MainFault → Type 0
 MayBeTaken n (Ok line) = (line ≡ Some n) × (n ≤ MAX_INPUT)
 MayBeTaken n (Err fault) = (fault ≡ TooLong) × (MAX_INPUT < n)
 
--- these bytes were read, and no others, by a read of a feed that had `had` and has `left`, has shown the end or not,
--- and has failed so many times; they stand behind what was held
+-- One read of a feed that had `had` and has `left`, has ended or not, and has failed this number of times. It
+-- read exactly these bytes, and they follow those that were held.
 pub record IsPiece (had left : Option (List ℕ)) (ended : Bool) (failures : ℕ) (held now read : List ℕ)
     (result : Result Bool MainFault) : Type 0 where
   pub consumed : Consumes had left read
@@ -49,12 +49,12 @@ pub record IsPiece (had left : Option (List ℕ)) (ended : Bool) (failures : ℕ
   pub fine : OnOk result (failures ≡ 0)
   pub fault : IfErr result (FailsToRead ⊥ (read ≡ []) failures)
 
--- a line of so many bytes is held as a whole, and may be taken; or none is, and none comes any more
+-- the inbox holds a whole line of `n` bytes, which is accepted; or it holds none, and no more bytes come
 abbrev pub IsFound : Bool → List ℕ → Option ℕ → Type 0
 IsFound ended held (Some n) = HasLine n held × (n ≤ MAX_INPUT)
 IsFound ended held None = (ended ≡ true) × IsShort held
 
--- these bytes were read, and no others, by reads up to a whole line: none where one is there or the end was shown
+-- reads up to a whole line read exactly these bytes; none if there was such a line, or if the feed had ended
 pub record IsNextLine (had left : Option (List ℕ)) (ended : Bool) (failures : ℕ) (old new : Inbox) (read : List ℕ)
     (result : Result (Option ℕ) MainFault) : Type 0 where
   pub consumed : Consumes had left read

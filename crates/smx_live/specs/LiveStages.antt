@@ -20,7 +20,7 @@ use Rattle.smx_filters.specs.declared.main_fault.MainFault.TheVariants.{Refused,
 use Rattle.smx_live.specs.declared.inbox.Inbox.{Inbox}
 use Rattle.smx_live.specs.declared.talk.Talk.{Talk}
 
--- a table was read, and what was read behind it is held
+-- a table was read, and what was read after it is held
 pub record HasTable (had left : Option (List ℕ)) (ended : Bool) (failures : ℕ) (old new : Inbox) (read : List ℕ)
     (result : Result (Vec ℕ Global) MainFault) : Type 0 where
   pub consumed : Consumes had left read
@@ -33,8 +33,9 @@ pub record HasTable (had left : Option (List ℕ)) (ended : Bool) (failures : �
       (IsUnfinished (old.held.items ++ read))
       failures)
 
--- At the end of the input, what is held was taken into a table that has a line, where it begins as that of a driver,
--- and else it is held as before; or the table would have been too long with it, or memory was wanting.
+-- What `with_cut_line` does at the end of the input. The held bytes join the table if it has a line and they
+-- begin like a driver line; else they stay held. It fails if the table would become too long, or if memory
+-- runs out.
 abbrev pub TakesCutLine : List ℕ → List ℕ → List ℕ → Result (Vec ℕ Global) MainFault → Type 0
 TakesCutLine table held now (Ok made) =
     ((made.items ≡ table) × (now ≡ held) × ((table ≡ []) ⊎ (begins_driver held ≡ false)))
@@ -47,8 +48,9 @@ TakesCutLine table held now (Err ReadFailed) = ⊥
 TakesCutLine table held now (Err (Text fault)) = ⊥
 TakesCutLine table held now (Err WriteFailed) = ⊥
 
--- A session begins over the drivers of a table, or the table or its drivers are at fault; or memory was wanting: for
--- the line `end`, where the last line is whole, or as it may be where a session starts.
+-- A session begins over the drivers of a table, or the text of the table or its drivers have a fault. Or
+-- memory ran out: for the line `end`, if the last line is whole, or in any way that can occur when a session
+-- starts.
 abbrev pub Begins : List ℕ → Result Talk MainFault → Type 0
 Begins table (Ok talk) = IsStartOf (table_text table) talk.session × (talk.count ≡ 0)
 Begins table (Err (Text fault)) =
@@ -62,7 +64,7 @@ Begins table (Err WriteFailed) = ⊥
 
 module _ (read output : List ℕ) (ended : Bool) (s : State) (count : ℕ) (held : List ℕ) (before after : Option (List ℕ))
     (flushed : Bool) (failures : ℕ) where
-  -- A session that had come so far has taken a turn, and now stands so; or it is over.
+  -- The session `IsLive` up to here takes a turn: it goes on with this state, or it has ended.
   abbrev pub TurnsOn : Result Bool MainFault → Type 0
   TurnsOn (Ok true) = (failures ≡ 0) × (flushed ≡ true)
       × (said : List ℕ) × Appends before after said × IsOver read ended (output ++ said)
@@ -75,7 +77,7 @@ module _ (read output : List ℕ) (ended : Bool) (s : State) (count : ℕ) (held
   TurnsOn (Err TooLong) = ⊥
   TurnsOn (Err ReadFailed) = ⊥
 
--- a text was written and flushed, or a beginning of it
+-- a text was written and flushed, or the writer failed within it
 abbrev pub Writes : List ℕ → Option (List ℕ) → Option (List ℕ) → Bool → ℕ → Result (Unit {0}) MainFault → Type 0
 Writes text before after flushed failures (Ok done) = (failures ≡ 0) × (flushed ≡ true) × Appends before after text
 Writes text before after flushed failures (Err WriteFailed) = (failures ≡ 1) × AppendsBeginning before after text
@@ -84,7 +86,7 @@ Writes text before after flushed failures (Err (Text fault)) = ⊥
 Writes text before after flushed failures (Err TooLong) = ⊥
 Writes text before after flushed failures (Err ReadFailed) = ⊥
 
--- the beginning of the transcript was written and flushed, or a beginning of that
+-- the beginning of the transcript was written and flushed, or the writer failed within it
 abbrev pub Opens : State → Option (List ℕ) → Option (List ℕ) → Bool → ℕ → Result (Unit {0}) MainFault → Type 0
 Opens s before after flushed failures (Ok done) = (failures ≡ 0) × (flushed ≡ true) × (opening : List ℕ)
     × BeginsTranscript s.version s.drivers [] opening × Appends before after opening
@@ -96,7 +98,7 @@ Opens s before after flushed failures (Err TooLong) = ⊥
 Opens s before after flushed failures (Err ReadFailed) = ⊥
 
 module _ (read output : List ℕ) (ended : Bool) (before after : Option (List ℕ)) (flushed : Bool) (failures : ℕ) where
-  -- A session that had come so far is over, at the end of its input.
+  -- The session `IsLive` up to here ends, because its input has ended.
   abbrev pub Finishes : Result (Unit {0}) MainFault → Type 0
   Finishes (Ok done) = (failures ≡ 0) × (flushed ≡ true)
       × (said : List ℕ) × Appends before after said × IsOver read ended (output ++ said)
@@ -107,7 +109,7 @@ module _ (read output : List ℕ) (ended : Bool) (before after : Option (List �
   Finishes (Err TooLong) = ⊥
   Finishes (Err ReadFailed) = ⊥
 
--- a session that had come so far goes on, and answers so
+-- the session `IsLive` up to here goes on to its end, with this answer
 pub record Converses (read output : List ℕ) (had left : Option (List ℕ)) (ended : Bool) (read_failures : ℕ)
     (before after : Option (List ℕ)) (flushed : Bool) (write_failures : ℕ) (answer : Result (Unit {0}) MainFault)
     : Type 0 where

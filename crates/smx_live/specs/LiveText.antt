@@ -1,4 +1,4 @@
--- What a live session reads and writes.
+-- The input and the output of a live session.
 use Rattle.std.specs.Prelude.{◌≡◌, ◌≢◌, ℕ, ◌+◌, ◌^◌, ◌≤◌, ◌⊎◌, Bool, true, List, [], ◌∷◌, ◌++◌, length, map, take}
 use Rattle.std.specs.Prelude.{Option, Result, Ok, Err, codes}
 use Rattle.std.specs.Io.KnownBytes.{Consumes, Appends}
@@ -28,36 +28,36 @@ use Rattle.smx_live.specs.Turns.{AreAnswered, Turn, asked_text, entries_of, said
 use Rattle.smx_filters.specs.declared.main_fault.MainFault.{MainFault}
 use Rattle.smx_filters.specs.declared.main_fault.MainFault.TheVariants.{Refused, Text, TooLong, ReadFailed, WriteFailed}
 
--- ---- a session as far as it has come
+-- ---- a session up to now
 
--- What was read and written so far, of a session that stands so, with so many entries, where so much is held, of an
--- input that has ended or not.
+-- What a session has read and written so far. It has this state, `count` entries, and these bytes held; its
+-- input has ended or not.
 pub record IsLive (read : List ℕ) (ended : Bool) (output : List ℕ) (s : State) (count : ℕ) (held : List ℕ)
     : Type 0 where
-  -- What was read is a driver table, lines that were answered, and what is held.
+  -- It read a driver table, the lines that it answered, and the bytes that it holds.
   pub table : List ℕ
   pub turns : List Turn
   pub read_is : read ≡ table ++ (asked_text turns ++ held)
-  -- The table is over behind its last line, and no earlier, and not too long.
+  -- The table ends after its last line, not earlier, and is not too long.
   pub over : IsTable ended table (asked_text turns ++ held)
   pub fits : length table ≤ MAX_INPUT
-  -- It spells programs, whose drivers a configuration can have.
+  -- It spells programs whose drivers are valid.
   pub programs : ProgramLists
   pub spelled : Spells (programs_grammar s.version) (table_text table) programs
   pub drivers : s.drivers ≡ programs.drivers
   pub can_be_had : IsDriverList s.drivers
-  -- Each line is answered as its command is, or by the configuration, or by why it is refused.
+  -- Each line is answered by the entry of its command, by the configuration, or by why it is refused.
   pub answered : AreAnswered s.version s.drivers [] turns
   pub few : length (entries_of turns) ≤ MAX_COMMANDS
-  -- What was written is the beginning of a transcript, and these answers.
+  -- It wrote the beginning of a transcript, and these answers.
   pub opening : List ℕ
   pub begins : BeginsTranscript s.version s.drivers [] opening
   pub written : output ≡ opening ++ said_text turns
-  -- The session is where the entries lead.
+  -- The session's configuration is the one after these entries.
   pub now : s.configuration ≡ after s.drivers (entries_of turns)
   pub counted : count ≡ length (entries_of turns)
 
--- some session has come so far
+-- some session is `IsLive` with these bytes read and written
 abbrev pub HasComeSoFar : List ℕ → Bool → List ℕ → Type 0
 HasComeSoFar read ended output = (s : State) × (count : ℕ) × (held : List ℕ) × IsLive read ended output s count held
 
@@ -67,59 +67,60 @@ HasComeSoFar read ended output = (s : State) × (count : ℕ) × (held : List �
 abbrev pub closing_text : State → List ℕ
 closing_text s = view_lines (view s.drivers s.configuration) ++ codes "end\n"
 
--- what is said of a last line that is not whole
+-- the answer to a last line without a line feed
 abbrev pub cut_words : List ℕ → List ℕ
 cut_words [] = []
 cut_words (b ∷ bs) = codes "? cut\n"
 
--- the line `end` stands there; or the input has ended, within a line or not
+-- the line `end` comes next, or the input has ended, within a line or not
 abbrev pub IsAtEnd : Bool → List ℕ → List ℕ → Type 0
 IsAtEnd ended held words = ((more : List ℕ) × (held ≡ codes "end\n" ++ more) × (words ≡ []))
     ⊎ ((ended ≡ true) × IsShort held × (words ≡ cut_words held))
 
--- A session is over, whose input has ended or not.
+-- A session that has ended; its input has ended or not.
 pub record IsOver (read : List ℕ) (ended : Bool) (output : List ℕ) : Type 0 where
-  -- It has come so far, with this written,
+  -- It wrote this before its end,
   pub before : List ℕ
   pub s : State
   pub count : ℕ
   pub held : List ℕ
   pub live : IsLive read ended before s count held
-  -- and is at its end;
+  -- has reached its end,
   pub words : List ℕ
   pub at_end : IsAtEnd ended held words
-  -- and then come the last lines of its transcript, and nothing else.
+  -- and then wrote the last lines of its transcript, and nothing else.
   pub written : output ≡ before ++ (words ++ closing_text s)
   pub spellable : IsSpellableView (view s.drivers s.configuration)
 
 module _ {read : List ℕ} {ended : Bool} {output : List ℕ} (o : IsOver read ended output) where
-  -- the entries of a session, with the configuration after them
+  -- the transcript of the session's entries, with the configuration after them
   abbrev pub transcript_of : Transcript
   transcript_of = transcript_with o.s.version o.s.drivers (entries_of o.live.turns) (view o.s.drivers o.s.configuration)
 
-  -- what was written but for the answers that are no entries: the opening, each entry, the last lines
+  -- what was written without the answers that are not entries: the opening, each entry, the last lines
   abbrev pub transcript_part : List ℕ
   transcript_part = o.live.opening ++ text_of (map entry_words (entries_of o.live.turns)) ++ closing_text o.s
 
-  -- that part is the transcript of a legal history, which a check finds legal
+  -- that part is the transcript of a legal history, and a check finds it legal
   pub record IsLegalTranscript : Type 0 where
     pub spelled : SpellsTranscript transcript_part transcript_of
     pub legal : IsVerdict o.s.drivers (entries_of o.live.turns) (view o.s.drivers o.s.configuration) Legal
 
 -- ---- from bytes to bytes
 
--- nothing was written yet, or a session has come so far
+-- nothing was written yet, or some session is `IsLive` so far
 abbrev pub IsBroken : List ℕ → Bool → List ℕ → Type 0
 IsBroken read ended output = (output ≡ []) ⊎ HasComeSoFar read ended output
 
--- nothing was written, since the table was not over; or each whole line was answered, and that is flushed
+-- nothing was written, because the table had not ended; or each whole line was answered, and the answers are
+-- flushed
 abbrev pub HasAnsweredAll : List ℕ → Bool → List ℕ → Bool → Type 0
 HasAnsweredAll read ended output flushed = ((output ≡ []) × IsUnfinished read)
     ⊎ ((flushed ≡ true) × (s : State) × (count : ℕ) × (held : List ℕ) × IsLive read ended output s count held
     × IsOneLine held)
 
--- the table has more than 16,777,216 bytes, or the line behind it; or a session has come so far, and a line has, or as
--- many bytes were read as no count of lines is greater than
+-- the table or the line after it has more than 16,777,216 bytes; or a session is `IsLive` so far, and a line
+-- of it has more bytes, or so many bytes were read that the count of lines can overflow
 abbrev pub IsEndless : List ℕ → Bool → List ℕ → Type 0
 IsEndless read ended output = ((output ≡ []) × IsEndlessTable read)
     ⊎ ((s : State) × (count : ℕ) × (held : List ℕ) × IsLive read ended output s count held
@@ -129,34 +130,35 @@ IsEndless read ended output = ((output ≡ []) × IsEndlessTable read)
 abbrev pub AreFine : ℕ → ℕ → Type 0
 AreFine read_failures write_failures = (read_failures ≡ 0) × (write_failures ≡ 0)
 
--- the text spells programs whose drivers are refused so
+-- the text spells programs whose drivers are refused with this fault
 abbrev pub RefusesDriversOf : RunFault → List ℕ → Type 0
 RefusesDriversOf fault text = HasDrivers text (λ drivers. RefusesAlone drivers fault)
 
 module _ (read output : List ℕ) (ended flushed : Bool) (read_failures write_failures : ℕ) where
-  -- What was read and written where a session answers this.
+  -- The bytes read and written, if a session returns this result.
   abbrev pub IsOutcome : Result (Unit {0}) MainFault → Type 0
-  -- It is over, and all is flushed.
+  -- The session has ended, and all is flushed.
   IsOutcome (Ok done) = AreFine read_failures write_failures × (flushed ≡ true) × IsOver read ended output
-  -- There was no session: the table is at fault, and not too long. That memory was wanting is never told so.
+  -- There was no session: the text of the table has a fault, and is not too long. Out-of-memory is not
+  -- reported this way.
   IsOutcome (Err (Text fault)) = AreFine read_failures write_failures × (output ≡ [])
       × (fault.cause ≢ cause.NoMemory)
       × HasShortTableOf read ended (λ text. ReadsAny programs_grammar text (Err fault))
-  -- Its drivers are refused, where the table is not too long; or memory was wanting, before there was a session, or
-  -- behind any line of it.
+  -- The drivers are refused, and the table is not too long; or memory ran out, before there was a session or
+  -- after any line of it.
   IsOutcome (Err (Refused fault)) = AreFine read_failures write_failures
       × (((fault ≡ NoMemory) × IsBroken read ended output)
       ⊎ ((output ≡ []) × HasShortTableOf read ended (RefusesDriversOf fault)))
-  -- A line is longer than 16,777,216 bytes, or the table is.
+  -- The table or a line has more than 16,777,216 bytes.
   IsOutcome (Err TooLong) = AreFine read_failures write_failures × IsEndless read ended output
-  -- The reader failed, where there was nothing more to answer.
+  -- The reader failed, and every whole line had been answered.
   IsOutcome (Err ReadFailed) = (read_failures ≡ 1) × (write_failures ≡ 0) × HasAnsweredAll read ended output flushed
-  -- The writer failed: a beginning is out of what was to be written next.
+  -- The writer failed: a part of what was to be written next has been written.
   IsOutcome (Err WriteFailed) = (read_failures ≡ 0) × (write_failures ≡ 1) × (n : ℕ) × (whole : List ℕ)
       × (output ≡ take n whole) × (HasComeSoFar read ended whole ⊎ IsOver read ended whole)
 
--- A session from bytes to bytes: the reader had `had` and has `left`, and has shown the end or not; the writer held
--- `before` and holds `after`, flushed or not; and each has failed so many times in this call.
+-- A session from bytes to bytes. The reader had `had` and has `left`, and has ended or not. The writer held
+-- `before` and holds `after`, flushed or not. In this call each has failed this number of times.
 pub record LivesText (had left : Option (List ℕ)) (ended : Bool) (read_failures : ℕ)
     (before after : Option (List ℕ)) (flushed : Bool) (write_failures : ℕ)
     (answer : Result (Unit {0}) MainFault) : Type 0 where
@@ -166,5 +168,5 @@ pub record LivesText (had left : Option (List ℕ)) (ended : Bool) (read_failure
   -- These were written, and no others.
   pub output : List ℕ
   pub appended : Appends before after output
-  -- That is what was read and written where a session answers so.
+  -- They are what a session reads and writes if it returns this result.
   pub outcome : IsOutcome read output ended flushed read_failures write_failures answer

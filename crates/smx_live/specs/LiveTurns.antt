@@ -1,4 +1,4 @@
--- What one turn of a live session writes.
+-- The output of one turn of a live session.
 use Rattle.std.specs.Prelude.{◌≡◌, ℕ, ◌⊎◌, Bool, true, false, List, Option, Result, Ok, Err, codes}
 use Rattle.std.specs.Io.KnownBytes.{Appends, Keeps}
 use Rattle.smx_model.specs.Views.{view}
@@ -19,7 +19,7 @@ IsAsked line Show = AsksToShow line
 IsAsked line End = line ≡ codes "end"
 IsAsked line Call = AsksForNeither line
 
--- a text was written and flushed, or a beginning of it
+-- a text was written and flushed, or the writer failed within it
 abbrev pub Says : List ℕ → Bool → Option (List ℕ) → Option (List ℕ) → Bool → ℕ → Result Bool MainFault → Type 0
 Says text over before after flushed failures (Ok b) =
     (b ≡ over) × (failures ≡ 0) × (flushed ≡ true) × Appends before after text
@@ -29,12 +29,12 @@ Says text over before after flushed failures (Err (Text fault)) = ⊥
 Says text over before after flushed failures (Err TooLong) = ⊥
 Says text over before after flushed failures (Err ReadFailed) = ⊥
 
--- the line asks for the rest of the transcript, which is this
+-- the line asks for the rest of the transcript, and this is that rest
 abbrev pub IsClosing : State → List ℕ → List ℕ → Type 0
 IsClosing s line whole =
     (line ≡ codes "end") × IsSpellableView (view s.drivers s.configuration) × (whole ≡ closing_text s)
 
--- the line may be answered by this
+-- this text is an answer that the line can have
 abbrev pub MaySay : State → ℕ → List ℕ → List ℕ → Type 0
 MaySay s count line whole =
     (a : Answer) × (next : State) × (more : ℕ) × IsTaken s count line a next more × (whole ≡ answer_text a)
@@ -42,13 +42,13 @@ MaySay s count line whole =
 module _ (s : State) (count : ℕ) (line : List ℕ) (next : State) (more : ℕ) (before after : Option (List ℕ))
     (flushed : Bool)
     (failures : ℕ) where
-  -- What was written where a turn answers whether the session is over.
+  -- The output, if a turn returns whether the session has ended.
   abbrev pub TakesTurn : Result Bool MainFault → Type 0
   TakesTurn (Ok true) =
       (failures ≡ 0) × (flushed ≡ true) × (whole : List ℕ) × IsClosing s line whole × Appends before after whole
   TakesTurn (Ok false) = (failures ≡ 0) × (flushed ≡ true)
       × (a : Answer) × IsTaken s count line a next more × Appends before after (answer_text a)
-  -- It was performed, and there was no memory for the line of its entry.
+  -- The command was performed, and memory ran out for the line of its entry.
   TakesTurn (Err (Refused fault)) =
       (failures ≡ 0) × (fault ≡ run.NoMemory) × Keeps before after × Performs s line next
   TakesTurn (Err WriteFailed) = (failures ≡ 1) × (whole : List ℕ) × AppendsBeginning before after whole

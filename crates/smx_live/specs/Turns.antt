@@ -1,4 +1,4 @@
--- The turns of a live session: a line, and what it is answered.
+-- The turns of a live session: a line and its answer.
 use Rattle.std.specs.Prelude.{◌≡◌, ◌≢◌, ℕ, ◌+◌, ◌<◌, ◌≤◌, ◌⊎◌, List, [], ◌∷◌, ◌++◌, length, Option}
 use Rattle.std.specs.Prelude.{Some, None, codes}
 use Rattle.std.specs.List.{AllByRecursion, flat_map}
@@ -28,13 +28,13 @@ fault_line NoCommand = codes "? no command\n"
 fault_line NoMemory = codes "? no memory\n"
 fault_line Full = codes "? history full\n"
 
--- what a line is answered: the entry of its command, the configuration, or why it is refused
+-- the answer to a line: the entry of its command, the configuration, or why it is refused
 pub data Answer : Type 0 where
   Entered : Entry → Answer
   Shown : ConfigView → Answer
   NotDone : TurnFault → Answer
 
--- what is written of an answer
+-- the text of an answer
 abbrev pub answer_text : Answer → List ℕ
 answer_text (Entered e) = entry_line e
 answer_text (Shown v) = view_lines v ++ codes "shown\n"
@@ -49,7 +49,7 @@ pub record Turn : Type 0 where
 abbrev pub asked_text : List Turn → List ℕ
 asked_text turns = flat_map (λ t. t.line ++ LINE_FEED ∷ []) turns
 
--- what is written of the answers to these turns
+-- the texts of the answers of these turns
 abbrev pub said_text : List Turn → List ℕ
 said_text turns = flat_map (λ t. answer_text t.answer) turns
 
@@ -59,17 +59,18 @@ entries_in (Entered e) = e ∷ []
 entries_in (Shown v) = []
 entries_in (NotDone w) = []
 
--- the entries among the answers to these turns
+-- the entries among the answers of these turns
 abbrev pub entries_of : List Turn → List Entry
 entries_of turns = flat_map (λ t. entries_in t.answer) turns
 
--- ---- what a line may be answered
+-- ---- which answers a line can have
 
--- the configuration is asked for
+-- the line asks for the configuration
 abbrev pub AsksToShow : List ℕ → Type 0
 AsksToShow line = (line ≡ []) ⊎ (line ≡ codes "show")
 
--- the line is the process and the command of this entry, which has the reply that the model gives after these entries
+-- the line is the process and command of this entry, and its reply is the model's, after the entries of
+-- `history`
 pub record IsEntryOf (version : Version) (drivers : List DriverSpec) (history : List Entry) (line : List ℕ)
     (e : Entry) : Type 0 where
   pub told : FitsCallIn version (call_of e)
@@ -78,11 +79,11 @@ pub record IsEntryOf (version : Version) (drivers : List DriverSpec) (history : 
   pub spelled : FitsEntry e
   pub room : length history < MAX_COMMANDS
 
--- neither the configuration nor the end is asked for
+-- the line asks neither for the configuration nor for the end
 abbrev pub AsksForNeither : List ℕ → Type 0
 AsksForNeither line = (AsksToShow line → ⊥) × (line ≢ codes "end")
 
--- why a line is refused, after so many entries
+-- why a line is refused after `count` entries
 abbrev pub IsRefusedFor : Version → ℕ → List ℕ → TurnFault → Type 0
 IsRefusedFor version count line NoCommand =
     AsksForNeither line × IsNoCallLine version line × (count < MAX_COMMANDS)
@@ -90,25 +91,26 @@ IsRefusedFor version count line NoMemory =
     AsksForNeither line → IsCallLine version line × (count < MAX_COMMANDS)
 IsRefusedFor version count line Full = AsksForNeither line × (MAX_COMMANDS ≤ count)
 
--- what a line may be answered after these entries
+-- the answers that a line can have after these entries
 abbrev pub IsAnswer : Version → List DriverSpec → List Entry → List ℕ → Answer → Type 0
 IsAnswer version drivers history line (Entered e) = IsEntryOf version drivers history line e
 IsAnswer version drivers history line (Shown v) = AsksToShow line × (v ≡ view drivers (after drivers history))
 IsAnswer version drivers history line (NotDone w) = IsRefusedFor version (length history) line w
 
--- the line of each turn is one line, and not too long, and is answered so, where these entries came before
+-- each turn has one line within the limit, with an answer that it can have after these entries and those of
+-- earlier turns
 abbrev pub AreAnswered : Version → List DriverSpec → List Entry → List Turn → Type 0
 AreAnswered version drivers history [] = Unit {0}
 AreAnswered version drivers history (t ∷ ts) = IsShort t.line × IsAnswer version drivers history t.line t.answer
     × AreAnswered version drivers (history ++ entries_in t.answer) ts
 
--- none of these turns is refused for want of memory
+-- none of these turns is refused for lack of memory
 abbrev pub HadMemory : List Turn → Type 0
 HadMemory turns = AllByRecursion (λ t. t.answer ≢ NotDone NoMemory) turns
 
 -- ---- how a session takes a turn
 
--- a session performs the line as this entry, one more than before
+-- a session performs the line as this entry, its next one
 pub record IsEntered (s : State) (count : ℕ) (line : List ℕ) (e : Entry) (next : State) (more : ℕ) : Type 0 where
   pub performs : Performs s line next
   pub last : next.last ≡ Some e
@@ -116,14 +118,14 @@ pub record IsEntered (s : State) (count : ℕ) (line : List ℕ) (e : Entry) (ne
   pub room : count < MAX_COMMANDS
   pub counted : more ≡ count + 1
 
--- a session answers the line so, and goes on as this, with so many entries
+-- a session gives this answer to the line, and has this state and number of entries afterwards
 abbrev pub IsTaken : State → ℕ → List ℕ → Answer → State → ℕ → Type 0
 IsTaken s count line (Entered e) next more = IsEntered s count line e next more
 IsTaken s count line (Shown v) next more =
     AsksToShow line × (v ≡ view s.drivers s.configuration) × (next ≡ s) × (more ≡ count)
 IsTaken s count line (NotDone w) next more = IsRefusedFor s.version count line w × (next ≡ s) × (more ≡ count)
 
--- a line was performed, and this is the line of its entry; or it was refused for this
+-- the line was performed, and `text` is the line of its entry; or it was refused for this reason
 abbrev pub IsPerformed : State → ℕ → List ℕ → Option TurnFault → State → ℕ → List ℕ → Type 0
 IsPerformed s count line None next more text =
     (e : Entry) × IsEntered s count line e next more × (text ≡ entry_line e)

@@ -1,4 +1,4 @@
--- A worked live session: what is read and written, and what its lines are answered, all typed in.
+-- A worked live session: what it reads and writes, and its answers, typed in by hand.
 use Rattle.std.specs.Prelude.{◌≡◌, ℕ, true, false, List, [], ◌∷◌, ◌++◌, codes, refl}
 use Rattle.std.specs.Fmt.{digits}
 use Rattle.smx_model.specs.Views.{view}
@@ -13,14 +13,14 @@ use Rattle.smx_live.specs.declared.turn_fault.TurnFault.TheVariants.{NoCommand, 
 abbrev pub worked_table : List ℕ
 worked_table = codes "programs 2\ndriver eth leaf 2 8 3 16\n"
 
--- a command, an empty line, and a line that is no command; with what they are answered
+-- a command, an empty line, and a line that is not a command, with their answers
 abbrev pub worked_turns : List Turn
 worked_turns =
     record { line = codes "3 clone eth"; answer = Entered (3 does OpenClone eth gets Fd 0 0) }
     ∷ record { line = []; answer = Shown (view drivers one_open) }
     ∷ record { line = codes "x"; answer = NotDone NoCommand } ∷ []
 
--- what is read, of which the last line is not asked for
+-- what is read; the session ends before the last line
 abbrev pub worked_input : List ℕ
 worked_input = codes "programs 2\ndriver eth leaf 2 8 3 16\n3 clone eth\n\nx\nend\n3 exit\n"
 
@@ -30,20 +30,20 @@ worked_answers =
     codes "transcript 2\ndriver eth leaf 2 8 3 16\n3 clone eth = fd 0 0\n"
     ++ codes "config\nnext 1 1\nfd 3 0 eth 0\nshown\n? no command\n"
 
--- what is written in all
+-- everything that is written
 abbrev pub worked_output : List ℕ
 worked_output = worked_answers ++ codes "config\nnext 1 1\nfd 3 0 eth 0\nend\n"
 
--- programs whose one driver has no minor, so that it can't be had
+-- programs whose only driver has no minor, so it is not valid
 abbrev pub minorless_text : List ℕ
 minorless_text = codes "programs 2\ndriver eth leaf 0 8 3 16\nend\n"
 
--- what is answered to a clone is the line of its entry
+-- the answer to a clone is the line of its entry
 pub entry_told : answer_text (Entered (3 does OpenClone eth gets Fd 0 0)) ≡ codes "3 clone eth = fd 0 0\n"
 unfolding digits
 entry_told = refl
 
--- what is answered to an empty line is the configuration, and `shown` behind it
+-- the answer to an empty line is the configuration, followed by `shown`
 pub view_told : answer_text (Shown (view drivers hung.configuration))
     ≡ codes "config\nnext 1 1\nfd 3 0 eth 0\nhung eth 0\nshown\n"
 unfolding digits
@@ -54,11 +54,11 @@ pub end_told : closing_text begun ≡ codes "config\nnext 1 1\nend\n"
 unfolding digits
 end_told = refl
 
--- a line that is no command is refused in these words
+-- a line that is not a command is refused in these words
 pub no_command_told : fault_line NoCommand ≡ codes "? no command\n"
 no_command_told = refl
 
--- a line for which memory is wanting is refused in these words
+-- a line for which there is no memory is refused in these words
 pub no_memory_told : fault_line NoMemory ≡ codes "? no memory\n"
 no_memory_told = refl
 
@@ -66,39 +66,39 @@ no_memory_told = refl
 pub full_told : fault_line Full ≡ codes "? history full\n"
 full_told = refl
 
--- a last line that is not whole is answered by these words
+-- the answer to a last line without a line feed is in these words
 pub cut_told : cut_words (codes "en") ≡ codes "? cut\n"
 cut_told = refl
 
--- where no last line stands, nothing is said of it
+-- there is no such answer if there is no such line
 pub no_cut_told : cut_words [] ≡ []
 no_cut_told = refl
 
--- a table as programs has the line `end` behind it
+-- the text of a table ends with the line `end`
 pub table_ends : table_text worked_table ≡ codes "programs 2\ndriver eth leaf 2 8 3 16\nend\n"
 table_ends = refl
 
--- a table of its header alone has the line `end` behind that
+-- and so does that of a table of its header only
 pub header_ends : table_text (codes "programs 2\n") ≡ codes "programs 2\nend\n"
 header_ends = refl
 
--- a table whose last line is cut is so as programs too
+-- the text of a table whose last line is cut has no such line
 pub cut_table_ends : table_text (codes "programs 2\ndriver eth") ≡ codes "programs 2\ndriver eth"
 cut_table_ends = refl
 
--- a table of no line as programs has none
+-- nor has that of a table without a line
 pub no_table_ends : table_text [] ≡ []
 no_table_ends = refl
 
--- a line that is `driver` alone begins as that of a driver
+-- `driver` alone begins like a driver line
 pub driver_alone : begins_driver (codes "driver") ≡ true
 driver_alone = refl
 
--- and so does one that begins with a longer word
+-- and so does a line that begins with a longer word
 pub longer_word : begins_driver (codes "drivers of none") ≡ true
 longer_word = refl
 
--- but none that begins with a shorter one
+-- but not one that begins with a shorter word
 pub shorter_word : begins_driver (codes "drive eth") ≡ false
 shorter_word = refl
 

@@ -10,7 +10,7 @@ use smx_filters::{MainFault, Sink, write_all};
 use smx_run::RunFault;
 use std::alloc::Global;
 
-/// Answers a line, and flushes. Whether the session is over, by `end`.
+/// Writes the answer to a line and flushes it. Returns `true` if the line was `end`, which ends the session.
 pub fn answer<S: Sink>(
     alloc: Global,
     sink: &mut S,
@@ -28,7 +28,7 @@ pub fn answer<S: Sink>(
     }
 }
 
-// Writes a text, and flushes; whether the session is over then is handed on.
+// Writes a text and flushes it. Returns `over` unchanged if both succeed.
 fn say<S: Sink>(sink: &mut S, text: &[u8], over: bool) -> Result<bool, MainFault>
     requires { S.failures sink.old ≡ 0 }
     ensures { Says text.now over (S.contents sink.old) (S.contents sink.new) (S.flushed sink.new) (S.failures sink.new)
@@ -40,7 +40,7 @@ fn say<S: Sink>(sink: &mut S, text: &[u8], over: bool) -> Result<bool, MainFault
     }
 }
 
-// Shows the configuration.
+// Writes the configuration.
 fn show<S: Sink>(alloc: Global, sink: &mut S, talk: &Talk, line: &[u8]) -> Result<bool, MainFault>
     requires asked { AsksToShow line.now }
     requires sunk { S.failures sink.old ≡ 0 }
@@ -66,7 +66,7 @@ fn end<S: Sink>(alloc: Global, sink: &mut S, talk: &Talk, line: &[u8]) -> Result
     }
 }
 
-// Performs the command of a line.
+// Performs the command of a line and writes its answer.
 fn call<S: Sink>(
     alloc: Global,
     sink: &mut S,

@@ -1,4 +1,4 @@
-//! Lines that come from a feed piece by piece.
+//! Splits a feed into lines.
 
 ghost use Rattle.std.specs.Prelude.{◌≡◌, ℕ, ◌+◌, ◌<◌, ◌∷◌, ◌++◌, [], List, false, length, take, drop, MatchOption};
 ghost use Rattle.smx_live.specs.Inboxes.{IsNextLine, IsPiece, MayBeTaken};
@@ -10,10 +10,10 @@ use smx_filters::{Feed, MAX_INPUT, MainFault};
 use smx_run::RunFault;
 use std::alloc::Global;
 
-// How many bytes are asked for at once.
+// How many bytes one read asks for.
 const PIECE: usize = 4096;
 
-/// What was read and not yet taken, and whether the feed has shown its end.
+/// The bytes that were read and not yet removed, and whether the feed has ended.
 #[derive(Drop)]
 pub struct Inbox {
     pub held: Vec<u8>,
@@ -21,7 +21,7 @@ pub struct Inbox {
 }
 
 impl Inbox {
-    /// Nothing is held yet. Takes no memory.
+    /// Creates an empty inbox. Takes no memory.
     pub fn new(alloc: Global) -> Inbox
         ensures held { result.held.items ≡ [] }
         ensures before_the_end { result.ended ≡ false }
@@ -32,10 +32,11 @@ impl Inbox {
         }
     }
 
-    /// Reads until a whole line stands at the front of what is held, and answers how many bytes it has without its line
-    /// feed; none at the end of the feed, where what is held is no whole line. `TooLong` comes exactly for a line of
-    /// more than `MAX_INPUT` bytes, whole or not, `ReadFailed` exactly where a read failed; else memory was wanting. No
-    /// read is made where a whole line is held.
+    /// Reads until the inbox starts with a whole line, and returns the line's length without its line feed.
+    /// Returns `None` at the end of the feed, if the inbox then holds no whole line. Fails with `TooLong`
+    /// exactly if the line, whole or not, has more than `MAX_INPUT` bytes, with `ReadFailed` exactly if a
+    /// read failed, and else because it is out of memory. Makes no read if the inbox already holds a whole
+    /// line.
     pub fn next_line<F: Feed>(&mut self, feed: &mut F) -> Result<Option<usize>, MainFault>
         requires end { F.ended feed.old ≡ self.old.ended }
         requires fine_so_far { F.failures feed.old ≡ 0 }
@@ -65,7 +66,7 @@ impl Inbox {
         }
     }
 
-    /// Takes the first line away, which has so many bytes, with its line feed. Takes no memory.
+    /// Removes the first line, which has `n` bytes, and its line feed. Takes no memory.
     pub fn drop_line(&mut self, n: usize)
         requires { n < length self.old.held.items }
         ensures held { self.new.held.items ≡ drop (n + 1) self.old.held.items }
@@ -75,7 +76,7 @@ impl Inbox {
     }
 }
 
-// How many bytes stand before the first line feed.
+// Returns how many bytes precede the first line feed, if there is one.
 fn line_in(bytes: &[u8]) -> Option<usize>
     ensures { MatchOption result (IsOneLine bytes.now) (λ n. (n < length bytes.now) × IsOneLine (take n bytes.now)
         × (bytes.now ≡ take n bytes.now ++ LINE_FEED ∷ drop (n + 1) bytes.now)) }
@@ -83,7 +84,7 @@ fn line_in(bytes: &[u8]) -> Option<usize>
     memchr(b'\n', bytes)
 }
 
-// A line of so many bytes, unless that is too long.
+// Returns the length `n` of a line, or fails if it is over the limit.
 fn line_of(n: usize) -> Result<Option<usize>, MainFault>
     ensures { MayBeTaken n result }
 {
@@ -93,7 +94,7 @@ fn line_of(n: usize) -> Result<Option<usize>, MainFault>
     Ok(Some(n))
 }
 
-// One read more, behind what is held. Whether it gave any.
+// Reads once and appends the bytes to what is held. Returns whether there were any.
 fn read_piece<F: Feed>(feed: &mut F, held: &mut Vec<u8>) -> Result<bool, MainFault>
     requires before_the_end { F.ended feed.old ≡ false }
     requires fine_so_far { F.failures feed.old ≡ 0 }

@@ -18,11 +18,12 @@ ghost use Rattle.smx_session.specs.WorkedSessions.{drivers};
 ghost use Rattle.smx_filters.specs.declared.input.TheConstants.{MAX_INPUT};
 ghost use Rattle.smx_filters.specs.declared.main_fault.MainFault.TheVariants.{Refused, Text};
 ghost use Rattle.smx_live.specs.Inboxes.{HasLine, IsTooLong};
-ghost use Rattle.smx_live.specs.LiveText.{HasComeSoFar, IsLegalTranscript, IsLive, IsOutcome, IsOver};
+ghost use Rattle.smx_live.specs.LiveText.{HasComeSoFar, IsBroken, IsLegalTranscript, IsLive, IsOutcome, IsOver};
 ghost use Rattle.smx_live.specs.LiveText.{RefusesDriversOf};
 ghost use Rattle.smx_live.specs.Tables.{HasTableOf, IsEndlessTable, IsTable, IsUnfinished, table_text};
 ghost use Rattle.smx_live.specs.Turns.{Entered, HadMemory, IsAnswer, IsRefusedFor, NotDone};
-ghost use Rattle.smx_live.specs.WorkedLives.{minorless_text, worked_input, worked_output, worked_table};
+ghost use Rattle.smx_live.specs.WorkedLives.{minorless_text, worked_answers, worked_input, worked_output};
+ghost use Rattle.smx_live.specs.WorkedLives.{worked_table};
 ghost use Rattle.smx_live.specs.declared.turn_fault.TurnFault.TheVariants.{NoCommand, NoMemory, Full};
 
 use smx_config::laws_of_drivers::drivers_have_one_fault;
@@ -34,8 +35,8 @@ use smx_text::worked_texts::wrong_programs;
 use smx_words::laws::one_value_each;
 use smx_words::laws_of_reading::which_lines_are_calls;
 
-/// What was written of a session that is over, but for the answers that are no entries, is the transcript of a legal
-/// history, which a check finds legal.
+/// Take what a session that has ended has written, without the answers that are not entries. It is the
+/// transcript of a legal history, and a check finds it legal.
 pub fn live_sessions_are_legal_transcripts()
     ensures { (read : List ℕ) (ended : Bool) (output : List ℕ) (o : IsOver read ended output) → IsLegalTranscript o }
 {
@@ -43,7 +44,8 @@ pub fn live_sessions_are_legal_transcripts()
     without_a_hangup_none_is_told();
 }
 
-/// What was read of a session that is over has one output, where no line was left undone for want of memory.
+/// The bytes that a session has read determine its output, if the session has ended and no line was refused
+/// for lack of memory.
 pub fn a_session_has_one_output()
     ensures { (read : List ℕ) (ended : Bool) (one other : List ℕ) (o : IsOver read ended one)
         (p : IsOver read ended other) → HadMemory o.live.turns → HadMemory p.live.turns → one ≡ other }
@@ -52,8 +54,8 @@ pub fn a_session_has_one_output()
     one_value_each();
 }
 
-/// What a session has come of spells programs whose drivers are not refused. Neither its table nor a line that it has
-/// taken is longer than an input may be.
+/// The table of a session spells programs whose drivers are not refused. Neither the table nor any line that
+/// the session has answered is longer than an input may be.
 pub fn a_session_has_its_drivers()
     ensures text { (read output : List ℕ) (ended : Bool) (fault : TextFault) → HasComeSoFar read ended output
         → HasTableOf read ended (λ text. ReadsAny programs_grammar text (Err fault))
@@ -68,9 +70,10 @@ pub fn a_session_has_its_drivers()
     drivers_have_one_fault();
 }
 
-/// A table that is told to be at fault, or whose drivers are refused, is not too long, and nothing was written. As a
-/// text it is told by one fault alone, which is no want of memory; its drivers, where it is at no fault as a text, by
-/// one fault alone, or by want of memory.
+/// If a session reports a fault of the table or refuses its drivers, then the table is not too long and
+/// nothing was written. The text of a table has at most one fault, and out-of-memory is not reported as a
+/// fault of the text. If the text has no fault, its drivers are refused for one fault only, or because memory
+/// has run out.
 pub fn a_table_has_one_fault()
     ensures one { (read output : List ℕ) (ended flushed : Bool) (reads writes : ℕ) (one other : TextFault)
         → IsOutcome read output ended flushed reads writes (Err (Text one))
@@ -99,9 +102,9 @@ pub fn a_table_has_one_fault()
     drivers_have_one_fault();
 }
 
-/// A table is too long only where more than 16,777,216 bytes were read, and a line only where it has more. Whatever
-/// stands behind them, a table that is over and a whole line, of no more bytes, are not too long; nor is the table of a
-/// session, nor what is held where one is over.
+/// A table is too long only if more than 16,777,216 bytes were read, and a line only if it has more. A table
+/// that has ended and a whole line, each of at most that many bytes, are not too long, whatever follows them.
+/// Nor is the table of a session, nor what is buffered when a session has ended.
 pub fn what_is_too_long()
     ensures table { (read : List ℕ) → IsEndlessTable read → MAX_INPUT < length read }
     ensures line { (held : List ℕ) → IsTooLong held → MAX_INPUT < length held }
@@ -113,8 +116,9 @@ pub fn what_is_too_long()
     ensures no_end { (read output : List ℕ) (ended : Bool) (o : IsOver read ended output) → IsTooLong o.held → ⊥ }
 {}
 
-/// A table that is over is unfinished only where the input has ended with no whole line behind it. A line of a table
-/// begins with `driver`, be that a word or the front of a longer one; `drive` is not enough.
+/// A table that has ended is unfinished only if the input has ended and no whole line follows the table. A
+/// line belongs to a table if it begins with `driver`, as a word or as the start of a longer one; `drive` is
+/// not enough.
 pub fn where_a_table_is_over()
     ensures finished { (ended : Bool) (table rest : List ℕ) → IsTable ended table rest
         → IsUnfinished (table ++ rest) → (ended ≡ true) × IsOneLine rest }
@@ -124,9 +128,9 @@ pub fn where_a_table_is_over()
     ensures not_unfinished { IsUnfinished (codes "programs 2\ndrivers\ndrive\n") → ⊥ }
 {}
 
-/// A worked session: what is read, and what is written. Its table is over behind its last driver, also one that is cut,
-/// and at no other place; and what asks for the configuration or the end is not refused, as no line is performed that
-/// is none.
+/// A worked session: what is read, and what is written. Its table ends after its last driver line, even if
+/// that line is cut, and nowhere else. The lines that ask for the configuration or for the end are not
+/// refused, and a line that is not a command is not performed.
 pub fn a_worked_live_session()
     ensures over { IsOver worked_input false worked_output }
     ensures table { IsTable false worked_table (codes "3 clone eth\n") }
@@ -147,9 +151,27 @@ pub fn a_worked_live_session()
     a_worked_session();
 }
 
-/// Why lines are refused. A history of 100,000 entries is full, which is told of any line that asks neither for the
-/// configuration nor for the end, also of one that is no command. Want of memory is told of what asks for these, and,
-/// where the history is not full, of a line that is a command which the version can tell.
+/// Examples of what may have been written when memory runs out: nothing, or the output of the session so far. For the
+/// worked session that is its opening, or its opening and the answers to its lines. It is never an answer to a line
+/// that was not read, and never a part of the opening.
+pub fn what_is_out_when_memory_runs_out()
+    ensures nothing { IsBroken worked_input false [] }
+    ensures opening { IsBroken worked_input false (codes "transcript 2\ndriver eth leaf 2 8 3 16\n") }
+    ensures answers { IsBroken worked_input false worked_answers }
+    ensures not_an_answer { IsBroken worked_table true
+        (codes "transcript 2\ndriver eth leaf 2 8 3 16\n3 clone eth = fd 0 0\n") → ⊥ }
+    ensures not_a_refusal { IsBroken worked_table true
+        (codes "transcript 2\ndriver eth leaf 2 8 3 16\n? no memory\n") → ⊥ }
+    ensures not_a_part { IsBroken worked_table true (codes "transcript 2\n") → ⊥ }
+{
+    a_worked_session();
+    one_text_has_one_reading();
+}
+
+/// Worked examples of why lines are refused. A history of 100,000 entries is full. Every line that asks
+/// neither for the configuration nor for the end is then refused as `Full`, even one that is not a command.
+/// Out-of-memory is reported for a line that asks for these, and for a command of this version if the history
+/// is not full.
 pub fn why_lines_are_refused()
     ensures full { IsRefusedFor V2 100000 (codes "x") Full }
     ensures not_yet_full { IsRefusedFor V2 99999 (codes "x") Full → ⊥ }
@@ -169,9 +191,9 @@ pub fn why_lines_are_refused()
     which_lines_are_calls();
 }
 
-/// Drivers of a text are refused where it spells programs whose drivers can't be had, for the fault that they have; and
-/// for want of memory where they can be had. They are refused for no full history, and not at all where a text spells
-/// no programs.
+/// The drivers of a text are refused if the text spells programs whose drivers are not valid, for the fault
+/// that they have. If they are valid, they are refused only because memory has run out. They are never
+/// refused for a full history, nor if the text spells no programs.
 pub fn whose_drivers_are_refused()
     ensures refused { RefusesDriversOf (run.ConfigFault (config.BadSpec 0 BadMinors)) minorless_text }
     ensures not_for_want_of_memory { RefusesDriversOf run.NoMemory minorless_text → ⊥ }

@@ -21,13 +21,15 @@ use smx_session::{Session, StartFault};
 use smx_types::NoMemory;
 use std::alloc::{AllocError, Global};
 
-/// Reads a driver table, and then lines, each of which is a process and a command, `show`, nothing or `end`; each is
-/// answered at once. What is written is the transcript of the commands that were performed, with the configuration
-/// behind `show` and an empty line, and a line beginning with `?` for each line that is refused, which changes nothing.
-/// `end` and the end of the input end the transcript. Neither device has failed before, and no read has shown the end.
-/// The first fault that is met is answered: of reading, also a line that is too long; of the table, as a text and then
-/// as drivers; of writing; or want of memory, where that is not the answer of a line. What was answered before is out
-/// then.
+/// Reads a driver table and then lines, and answers each line at once. A line is a process with a command,
+/// `show`, empty, or `end`. The output is the transcript of the commands that were performed. After `show` or
+/// an empty line it has the configuration, and for each line that is refused, a line that begins with `?`;
+/// such a line changes nothing. `end` or the end of the input ends the transcript.
+///
+/// Requires that neither device has failed before and that the feed has not ended. Returns the first fault
+/// that occurs: a failed read or a line that is too long; a fault of the table as a text, then of its
+/// drivers; a failed write; or out-of-memory, unless that is the answer to a line. All earlier answers have
+/// been written by then.
 pub fn live_text<F: Feed, S: Sink>(
     alloc: Global,
     feed: &mut F,
@@ -55,7 +57,8 @@ pub fn live_text<F: Feed, S: Sink>(
     }
 }
 
-// The lines of the driver table: the first one, and those behind it that begin with `driver`, also one that is cut.
+// Reads the driver table: the first line and the following lines that begin with `driver`, including one that
+// is cut.
 fn read_table<F: Feed>(alloc: Global, feed: &mut F, inbox: &mut Inbox) -> Result<Vec<u8>, MainFault>
     requires end { F.ended feed.old ≡ inbox.old.ended }
     requires fine_so_far { F.failures feed.old ≡ 0 }
@@ -80,7 +83,8 @@ fn read_table<F: Feed>(alloc: Global, feed: &mut F, inbox: &mut Inbox) -> Result
     Err(MainFault::TooLong)
 }
 
-// The table at the end of the input, with what is held, where that is the line of a driver: it is told to be cut then.
+// At the end of the input, appends the buffered bytes to the table if they begin a driver line. The reader of
+// the table then reports that line as cut.
 fn with_cut_line(table: Vec<u8>, held: &mut Vec<u8>) -> Result<Vec<u8>, MainFault>
     ensures { TakesCutLine table.items held.old.items held.new.items result }
 {
@@ -98,7 +102,7 @@ fn with_cut_line(table: Vec<u8>, held: &mut Vec<u8>) -> Result<Vec<u8>, MainFaul
     Ok(whole)
 }
 
-// Whether a line is of the table, behind so many bytes of it.
+// Returns whether a line belongs to the table, given how many bytes of the table precede it.
 fn is_of_table(before: usize, line: &[u8]) -> bool
     ensures { MatchBool result ((before ≡ 0) ⊎ (begins_driver line.now ≡ true))
         ((before ≢ 0) × (begins_driver line.now ≡ false)) }
@@ -106,7 +110,7 @@ fn is_of_table(before: usize, line: &[u8]) -> bool
     before == 0 || line.starts_with(b"driver")
 }
 
-// The table as a programs text.
+// Returns the table as a programs text.
 fn text_of_table(table: Vec<u8>) -> Result<Vec<u8>, AllocError>
     ensures text { IfOk result (λ v. v.items ≡ table_text table.items) }
     ensures memory { OnErr result (ends_with nat_eq table.items (codes "\n") ≡ true) }
@@ -118,7 +122,7 @@ fn text_of_table(table: Vec<u8>) -> Result<Vec<u8>, AllocError>
     Ok(text)
 }
 
-// A session over the drivers of a table.
+// Starts a session over the drivers of a table.
 fn begin(alloc: Global, table: Vec<u8>) -> Result<Talk, MainFault>
     ensures { Begins table.items result }
 {
@@ -181,7 +185,7 @@ fn converse<F: Feed, S: Sink>(
     Err(MainFault::TooLong)
 }
 
-// Answers the line at the front, which has so many bytes. Whether the session is over.
+// Answers the first buffered line, which has `n` bytes. Returns whether the session has ended.
 fn take_turn<S: Sink>(
     alloc: Global,
     sink: &mut S,
@@ -212,14 +216,14 @@ fn take_turn<S: Sink>(
     }
 }
 
-// What is said of a last line that is not whole.
+// Returns the answer to a last line without a line feed.
 fn cut_words(held: &[u8]) -> &'static [u8]
     ensures { result.now ≡ cut_words held.now }
 {
     if held.is_empty() { b"" } else { b"? cut\n" }
 }
 
-// The last lines at the end of the input, where so much is held.
+// Returns the last lines of the output at the end of the input, with `held` still buffered.
 fn closing(alloc: Global, session: &Session, held: &[u8]) -> Result<Vec<u8>, NoMemory>
     ensures written { IfOk result (λ v. v.items ≡ cut_words held.now ++ closing_text session.now) }
     ensures spellable { OnOk result (IsSpellableView (view session.now.drivers session.now.configuration)) }
@@ -230,7 +234,7 @@ fn closing(alloc: Global, session: &Session, held: &[u8]) -> Result<Vec<u8>, NoM
     Ok(text)
 }
 
-// Writes a text, and flushes.
+// Writes a text and flushes it.
 fn write_last<S: Sink>(sink: &mut S, text: &[u8]) -> Result<(), MainFault>
     requires { S.failures sink.old ≡ 0 }
     ensures { Writes text.now (S.contents sink.old) (S.contents sink.new) (S.flushed sink.new) (S.failures sink.new)
@@ -242,7 +246,7 @@ fn write_last<S: Sink>(sink: &mut S, text: &[u8]) -> Result<(), MainFault>
     }
 }
 
-// Ends the session at the end of the input, where so much is held.
+// Ends the session at the end of the input, with `held` still buffered.
 fn finish<S: Sink>(alloc: Global, sink: &mut S, talk: &Talk, held: &[u8]) -> Result<(), MainFault>
     requires { S.failures sink.old ≡ 0 }
     ensures { (read output : List ℕ) (ended : Bool)

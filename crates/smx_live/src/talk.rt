@@ -1,4 +1,4 @@
-//! A live session: its configuration, how many entries it has, and the texts that it answers.
+//! A live session: its configuration, its number of entries, and the texts that it answers.
 
 ghost use Rattle.std.specs.Prelude.{◌≡◌, ◌+◌, ◌++◌, ◌<◌, ◌⊎◌, [], Some, None, IfOk, IfSome, OnErr, OnOk};
 ghost use Rattle.smx_live.specs.LiveTurns.{IsAsked};
@@ -18,13 +18,13 @@ use smx_types::{MAX_COMMANDS, MAX_MESSAGE, NoMemory, Version};
 use smx_words::call_of_line;
 use std::alloc::Global;
 
-// The room for a reply that has no list of dropped messages, with all that stands around it.
+// Room for a reply without a list of dropped messages, and for everything around it.
 const REPLY: usize = 2 * MAX_MESSAGE as usize + 64;
 
-// The digits of a serial, and the space before them.
+// Room for the digits of a serial and the space before them.
 const SERIAL: usize = 11;
 
-/// A session, how many entries it has, and a text to be used again.
+/// A session, its number of entries, and a buffer for texts.
 #[derive(Drop)]
 pub struct Talk {
     pub session: Session,
@@ -32,18 +32,18 @@ pub struct Talk {
     pub text: Vec<u8>,
 }
 
-/// What a line asks for.
+/// The kinds of requests that a line can make.
 #[derive(Clone, Copy, Debug, PartialEq, Eq)]
 pub enum Asked {
-    /// To be shown the configuration.
+    /// Show the configuration.
     Show,
-    /// The rest of the transcript.
+    /// Write the rest of the transcript.
     End,
-    /// A command of a process.
+    /// Perform a command of a process.
     Call,
 }
 
-/// What this line asks for.
+/// Returns what a line asks for.
 pub fn asked_by(line: &[u8]) -> Asked
     ensures { IsAsked line.now result }
 {
@@ -54,7 +54,8 @@ pub fn asked_by(line: &[u8]) -> Asked
     }
 }
 
-// No bytes, with room for the line of an entry of a line that has so many, after so many entries.
+// Empties `text` and reserves room for an entry's line: the entry of a line with `len` bytes, after `count`
+// entries.
 fn make_room(text: &mut Vec<u8>, len: usize, count: usize) -> Result<(), NoMemory>
     requires { count < MAX_COMMANDS }
     ensures { text.new.items ≡ [] }
@@ -64,7 +65,8 @@ fn make_room(text: &mut Vec<u8>, len: usize, count: usize) -> Result<(), NoMemor
     Ok(())
 }
 
-// Why a line is refused where there is no room for the line of its entry, which only a command wants.
+// Returns why a line is refused if there is no room for the line of its entry. Only a command needs that
+// room.
 fn fault_without_room(alloc: Global, version: Version, line: &[u8]) -> TurnFault
     ensures { ((result ≡ fault.NoMemory) × IsCallLine version line.now)
         ⊎ ((result ≡ fault.NoCommand) × IsNoCallLine version line.now) }
@@ -76,8 +78,9 @@ fn fault_without_room(alloc: Global, version: Version, line: &[u8]) -> TurnFault
 }
 
 impl Talk {
-    /// Performs the command of a line, and makes the line of its entry. Where it answers why not, nothing has changed.
-    /// The room for the line is taken first. Fails where that was not enough, and then the command was performed.
+    /// Performs the command of a line and makes the line of its entry. Returns the reason if the line is
+    /// refused; then nothing has changed. It reserves room for the entry's line first. Fails if that room was
+    /// too small, after the command was performed.
     pub fn perform(&mut self, alloc: Global, line: &[u8]) -> Result<Option<TurnFault>, NoMemory>
         requires { AsksForNeither line.now }
         ensures answered { IfOk result (λ o. IsPerformed self.old.session self.old.count line.now o
@@ -101,7 +104,7 @@ impl Talk {
         }
     }
 
-    // Makes the line of the entry that was made last, and counts it.
+    // Makes the line of the last entry and counts the entry.
     fn tell(&mut self) -> Result<(), NoMemory>
         requires empty { self.old.text.items ≡ [] }
         requires room { self.old.count < MAX_COMMANDS }
@@ -118,7 +121,7 @@ impl Talk {
     }
 }
 
-/// The lines of the configuration, and a last line. Fails only for want of memory.
+/// Returns the lines of the configuration, followed by `last`. Fails only if it is out of memory.
 pub fn shown_with(alloc: Global, session: &Session, last: &[u8]) -> Result<Vec<u8>, NoMemory>
     ensures written { IfOk result (λ v. v.items
         ≡ view_lines (view session.now.drivers session.now.configuration) ++ last.now) }

@@ -3,18 +3,18 @@
 ghost use Rattle.std.specs.Prelude.{◌≡◌};
 ghost use Rattle.smx_live.specs.Turns.{fault_line};
 
-/// Why a line is refused, which changes nothing.
+/// Why a line is refused. A refused line changes nothing.
 #[derive(Clone, Copy, Debug, PartialEq, Eq)]
 pub enum TurnFault {
-    /// It is no process with a command that the version can tell, and asks for nothing else.
+    /// The line is not a process with a command of this version, and makes no other request.
     NoCommand,
-    /// A growth was refused.
+    /// An allocation failed.
     NoMemory,
-    /// There are 100,000 entries.
+    /// The history has 100,000 entries.
     Full,
 }
 
-// The line that tells it, with its line feed.
+// Returns the line that reports the fault, with its line feed.
 pub(crate) fn line_of_fault(fault: TurnFault) -> &'static [u8]
     ensures { result.now ≡ fault_line fault }
 {

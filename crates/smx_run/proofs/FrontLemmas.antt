@@ -1,5 +1,5 @@
--- Fronts of an example that are none: too early, past the end, or of another number of links; and drivers that can't
--- be had.
+-- Numbers that are not fronts of the example: too early, past the end, or with another number of links. And drivers
+-- that are not valid.
 use Rattle.std.proofs.Common.{◌≡◌, ℕ, ◌+◌, ◌≤◌, List, [], ◌∷◌, take, length, refl, sym, ap, ◌∙◌, arith}
 use Rattle.std.proofs.Math.Seq.{take-append_seam}
 use Rattle.std.proofs.lemmas.List.{length-append}
@@ -18,32 +18,32 @@ use Rattle.smx_run.specs.Fronts.{IsFrontAfter}
 abbrev whole : List Entry
 whole = opened ∷ exited ∷ copied ∷ []
 
--- a beginning is as many of the first entries as it has
+-- a beginning consists of the first entries, as many as it has
 as_long : (before history : List Entry) → IsBeginningOf before history → before ≡ take (length before) history
 as_long before history begins =
     sym (take-append_seam before begins.0) ∙ ap (λ (es : List Entry). take (length before) es) begins.1
 
--- it has no more of them than there are
+-- a beginning has no more entries than the history
 no_longer : (before history : List Entry) → IsBeginningOf before history → length before ≤ length history
 no_longer before history begins =
     let sum : length before + length begins.0 ≡ length history = sym (length-append before begins.0)
     ∙ ap (λ (es : List Entry). length es) begins.1 in omega arith
 
--- what a front of so many entries is of
+-- the beginning of which a front with `entries` entries is the front
 is_of : (process entries : ℕ) (program : List Command) (front : Front) → front.entries ≡ entries
     → (h : IsFrontAfter drivers whole process program front) → h.before ≡ take entries whole
 is_of process entries program front same h =
     let long : length h.before ≡ entries = sym h.numbers.entries ∙ same in
     as_long h.before whole h.begins ∙ ap (λ (n : ℕ). take n whole) long
 
--- a front of two entries is none after the program of process 0, whose second command is the third entry
+-- two entries are too early for the program of process 0, whose second command is the third entry
 pub too_early : (front : Front) → front.entries ≡ 2 → IsFrontAfter drivers whole 0 (OpenClone ip ∷ Dup 0 ∷ []) front → ⊥
 too_early front same h =
     let e : OpenClone ip ∷ [] ≡ OpenClone ip ∷ Dup 0
     ∷ [] = ap (λ (es : List Entry). commands_of 0 es) (sym (is_of 0 2 _ front same h)) ∙ h.holds in
     absurd cc
 
--- a front of four entries is none in a history of three
+-- four entries are past the end of a history of three
 pub past_the_end : (process : ℕ) (program : List Command) (front : Front) → front.entries ≡ 4
     → IsFrontAfter drivers whole process program front → ⊥
 past_the_end process program front same h =
@@ -51,7 +51,7 @@ past_the_end process program front same h =
     let long : length h.before ≡ 4 = sym h.numbers.entries ∙ same in
     absurd (omega (arith, few, long))
 
--- a front of three entries and a link is none, for no link stands after them
+-- a front of three entries has no link, since there is no link after them
 pub with_a_link : (process : ℕ) (program : List Command) (front : Front) → front.entries ≡ 3 → front.links ≡ 1
     → IsFrontAfter drivers whole process program front → ⊥
 with_a_link process program front same link h =
@@ -59,6 +59,6 @@ with_a_link process program front same link h =
     ∙ (sym h.numbers.links ∙ link) in
     absurd (omega (arith, e))
 
--- two drivers have one name
+-- two drivers have the same name
 pub one_name : IsDriverList (mux ip 4 ∷ mux ip 4 ∷ []) → ⊥
 one_name h = h.names 0 1 (mux ip 4) (omega arith) (omega arith) refl

@@ -1,4 +1,4 @@
--- How many entries of each transcript a history has.
+-- The number of entries of each transcript that a history has.
 use Rattle.std.proofs.Common.{◌≡◌, ◌≢◌, ℕ, suc, All, ◌<◌, ◌≤◌, false, List, [], ◌∷◌, ◌++◌, length, set, replicate}
 use Rattle.std.proofs.Common.{get_or, Option, Some, None, refl, sym, subst, ◌∙◌, arith, inl, inr}
 use Rattle.std.specs.Prelude.{◌==◌, IfSome}
@@ -10,13 +10,13 @@ use Rattle.smx_types.specs.declared.limits.TheConstants.{MAX_PROCESSES}
 use Rattle.smx_run.specs.Gathering.{entries_of, IsBorneOut, IsLeastStrange, IsMet}
 use Rattle.smx_shared.proofs.OwnEntryLemmas.{entries_append, entries_mine, entries_other}
 
--- nothing was met yet
+-- the counts before the first entry
 pub none_met_yet : (transcripts : List (List Entry)) (met : List (Option ℕ)) → met ≡ replicate MAX_PROCESSES (Some 0)
     → (p : ℕ) → p < MAX_PROCESSES → IsMet (get_or transcripts p []) [] (get_or met p None)
 none_met_yet transcripts met is p below =
     rw (is, get_or-replicate {A = Option ℕ} MAX_PROCESSES p (Some 0) None below) (omega arith, refl)
 
--- what was met of each process, with one entry more of the history
+-- the counts after one more entry of the history
 pub one_more_met : (transcripts : List (List Entry)) (es more : List Entry) (e : Entry) (n : ℕ) (met : List (Option ℕ))
     (m r : Option ℕ) (transcript : List Entry)
     → length met ≡ MAX_PROCESSES → n ≡ e.process → n < MAX_PROCESSES → more ≡ es ++ e ∷ []
@@ -40,11 +40,11 @@ one_more_met transcripts es more e n met m r transcript counted number within ad
           (rw (get_or-set_other met n p r None other) (before p below))
     ])
 
--- where others were met, they are not the transcript
+-- entries that are not part of the transcript are not the transcript
 pub not_whole : (transcript own : List Entry) → IsMet transcript own None → own ≢ transcript
 not_whole transcript own h same = h [] (append-nil own ∙ same)
 
--- no process past the last has an entry
+-- a process past the last has no entry
 no_entries : (p : ℕ) (es : List Entry) → MAX_PROCESSES ≤ p → All (λ (e : Entry). e.process < MAX_PROCESSES) es
     → entries_of p es ≡ []
 no_entries p [] past all = refl
@@ -53,7 +53,7 @@ no_entries p (e ∷ es) past all =
     let other : (e.process == p) ≡ false = grind (arith, nat_tests) in
     rw other (no_entries p es past (λ k d below. all (suc k) d (omega arith)))
 
--- where no process is strange, none past the last is either
+-- if no process is strange, no process past the last is either
 pub all_borne_out : (history : List Entry) (transcripts : List (List Entry)) → length transcripts ≤ MAX_PROCESSES
     → All (λ (e : Entry). e.process < MAX_PROCESSES) history
     → ((p : ℕ) → p < MAX_PROCESSES → IsBorneOut history transcripts p) → (p : ℕ) → IsBorneOut history transcripts p
@@ -62,7 +62,7 @@ all_borne_out history transcripts few within each p = elim (cases_lt p MAX_PROCE
   | inr past ↦ no_entries p history past within ∙ sym (get_or_past transcripts p [] (omega arith))
 ]
 
--- the process of this number is named, where it is the least that is strange
+-- the process with this number is the lowest strange one
 pub named : (history : List Entry) (transcripts : List (List Entry)) (n : ℕ) (r : Option ℕ) → IfSome r (λ p. p ≡ n)
     → entries_of n history ≢ get_or transcripts n [] → ((p : ℕ) → p < n → IsBorneOut history transcripts p)
     → IfSome r (IsLeastStrange history transcripts)

@@ -1,9 +1,8 @@
+pub mod AssignmentLemmas
 pub mod FrontLemmas
 pub mod FullHistoryLemmas
 pub mod GatheringLemmas
-pub mod GrowingRunLemmas
-pub mod HandLemmas
+pub mod MeetingLemmas
 pub mod ProgramOrderLemmas
-pub mod RecordingLemmas
 pub mod RunLemmas
 pub mod StopLemmas

@@ -1,4 +1,4 @@
--- What the programs ask, process by process, is what a history holds that was asked so.
+-- A history with the calls of the programs, process by process, holds the programs.
 use Rattle.std.proofs.Common.{◌≡◌, ℕ, zero, suc, ◌+◌, ◌<◌, true, false, List, [], ◌∷◌, ◌++◌, map, filter, get_or, refl}
 use Rattle.std.proofs.Common.{sym, ap, ◌∙◌, arith, inl, inr}
 use Rattle.std.specs.Prelude.{◌==◌}
@@ -7,17 +7,16 @@ use Rattle.std.proofs.lemmas.Bool.Decides.{nat_tests}
 use Rattle.std.proofs.lemmas.List.{append-nil}
 use Rattle.smx_types.specs.declared.command.Command.{Command}
 use Rattle.smx_types.specs.declared.command.Entry.{Entry}
-use Rattle.smx_model.specs.Histories.{call_of, commands_of, HoldsPrograms}
+use Rattle.smx_model.specs.Histories.{after, call_of, commands_of, HoldsPrograms}
 use Rattle.smx_model.proofs.DropLemmas.{few_drop}
 use Rattle.smx_types.specs.ProgramLists.{ProgramLists}
-use Rattle.smx_types.specs.declared.version.Version.{Version}
-use Rattle.smx_run.specs.declared.report.Report.{Report}
+use Rattle.smx_types.specs.declared.transcript.Transcript.{Transcript}
 use Rattle.smx_model.specs.Headline.{IsReportOf}
-use Rattle.smx_shared.specs.Recorded.{Recorded}
-use Rattle.smx_run.specs.Reports.{Reports, transcript_of}
+use Rattle.smx_model.specs.Views.{view}
+use Rattle.smx_shared.specs.Recorded.{Recorded, IsSoundSystem}
 use Rattle.smx_run.specs.ProgramOrder.{calls_of, calls_from}
 
--- one process' commands among what was asked
+-- the commands of one process among some calls
 abbrev picked : ℕ → List (ℕ × Command) → List Command
 picked p asked = map (λ a. a.1) (filter (λ a. a.0 == p) asked)
 
@@ -29,7 +28,7 @@ picked_is p (e ∷ es) = elim (cases_Bool (e.process == p)) [
   | inr f ↦ rw (f, picked_is p es) refl
 ]
 
--- what is picked from two lists of calls, one after the other, is what is picked from each
+-- picking from two lists of calls, one after the other, picks from each
 picked_more : (p : ℕ) (xs ys : List (ℕ × Command)) → picked p (xs ++ ys) ≡ picked p xs ++ picked p ys
 picked_more p [] ys = refl
 picked_more p (x ∷ xs) ys = elim (cases_Bool (x.0 == p)) [
@@ -37,12 +36,12 @@ picked_more p (x ∷ xs) ys = elim (cases_Bool (x.0 == p)) [
   | inr f ↦ rw (f, picked_more p xs ys) refl
 ]
 
--- of the calls of one process, all its commands are picked
+-- picking from the calls of one process gives all its commands
 picked_own : (p : ℕ) (cs : List Command) → picked p (calls_of p cs) ≡ cs
 picked_own p [] = refl
 picked_own p (c ∷ cs) = let same : (p == p) ≡ true = grind (arith, nat_tests) in rw (same, picked_own p cs) refl
 
--- of the calls of another process, nothing is picked
+-- picking from the calls of another process gives nothing
 picked_other : (p n : ℕ) (cs : List Command) → (n == p) ≡ false → picked p (calls_of n cs) ≡ []
 picked_other p n [] e = refl
 picked_other p n (c ∷ cs) e = rw (e, picked_other p n cs e) refl
@@ -55,7 +54,7 @@ picked_past p n (cs ∷ programs) h =
     picked_more p (calls_of n cs) (calls_from (n + 1) programs)
     ∙ rw (picked_other p n cs other, picked_past p (n + 1) programs (omega arith)) refl
 
--- what is picked for a process from the calls of all programs is its program
+-- picking for a process from the calls of all programs gives its program
 picked_at : (k n : ℕ) (programs : List (List Command)) → picked (k + n) (calls_from n programs) ≡ get_or programs k []
 picked_at k n [] = refl
 picked_at zero n (cs ∷ programs) =
@@ -77,18 +76,19 @@ holds es programs e p =
     picked_is p es ∙ ap (picked p) e ∙ ap (λ (q : ℕ). picked q (calls_from 0 programs)) (sym here)
     ∙ picked_at p 0 programs
 
--- ---- the report of a system that was asked all of it
+-- ---- the report of a system that holds the programs
 
--- what is reported of a system that holds the programs is a report that is promised for them
-pub report_of : (programs : ProgramLists) (s : Recorded) (version : Version) (t : Report) → Reports s t
-    → s.drivers ≡ programs.drivers → HoldsPrograms s.history programs.programs
-    → IsReportOf programs (transcript_of version t)
-report_of programs s version t h same holds = record {
-  drivers = h.drivers ∙ same;
-  can_be_had = rw (← same) h.sound.can_be_had;
-  legal = rw (← same, h.entries) h.sound.legal;
-  holds = rw h.entries holds;
-  shown = rw (← same, h.entries) h.shown;
-  lawful = rw (← same, h.entries) h.sound.lawful;
-  drops = rw h.entries (few_drop s.drivers s.history h.sound.legal);
+-- the drivers and the history of such a system, with the view after it, are a report that is promised for the
+-- programs
+pub report_of : (programs : ProgramLists) (s : Recorded) (t : Transcript) → IsSoundSystem s → t.drivers ≡ s.drivers
+    → t.entries ≡ s.history → t.view ≡ view s.drivers (after s.drivers s.history) → s.drivers ≡ programs.drivers
+    → HoldsPrograms s.history programs.programs → IsReportOf programs t
+report_of programs s t sound drivers entries shown same holds = record {
+  drivers = drivers ∙ same;
+  can_be_had = rw (← same) sound.can_be_had;
+  legal = rw (← same, entries) sound.legal;
+  holds = rw entries holds;
+  shown = rw (← same, entries) shown;
+  lawful = rw (← same, entries) sound.lawful;
+  drops = rw entries (few_drop s.drivers s.history sound.legal);
 }

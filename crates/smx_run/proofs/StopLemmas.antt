@@ -1,21 +1,28 @@
--- What a run on one thread performs, and where it stops: there is room for all commands, so it is want of memory alone
--- that stops it.
+-- A run on one thread: what it performs, and where it stops. There is room for all commands, so it stops only if it
+-- is out of memory.
 use Rattle.std.proofs.Common.{◌≡◌, ◌≢◌, ℕ, ◌+◌, ◌<◌, List, [], ◌∷◌, ◌++◌, length, map, refl, sym, ap, ◌∙◌, arith}
 use Rattle.std.proofs.Common.{append_assoc}
 use Rattle.std.proofs.lemmas.List.{length-append, length-map, map-append}
 use Rattle.std.specs.List.{sum_by}
+use Rattle.std.proofs.lemmas.List.Sums.{sum_by-cons}
 use Rattle.smx_types.specs.declared.command.Command.{Command}
 use Rattle.smx_types.specs.declared.command.Entry.{Entry}
+use Rattle.smx_types.specs.declared.driver.DriverSpec.{DriverSpec}
+use Rattle.smx_types.specs.declared.limits.TheConstants.{MAX_COMMANDS}
+use Rattle.smx_model.specs.DriverList.{IsDriverList}
 use Rattle.smx_model.specs.Histories.{call_of}
+use Rattle.smx_model.proofs.HistoryLemmas.{lawful_throughout}
 use Rattle.smx_shared.specs.declared.shared_fault.ApplyFault.{ApplyFault}
 use Rattle.smx_shared.specs.declared.shared_fault.ApplyFault.TheVariants as apply
-use Rattle.smx_shared.specs.Recorded.{Recorded, next_entry, with_entry}
+use Rattle.smx_shared.specs.Recorded.{IsSoundSystem, Recorded, next_entry, with_entry}
 use Rattle.smx_run.specs.Alone.{PerformedAlone}
 use Rattle.smx_run.specs.ProgramOrder.{calls_of, calls_from}
-use Rattle.smx_run.proofs.RecordingLemmas.{counted}
+use Rattle.smx_run.specs.RunFaults.{RefusesAlone, RefusesRun}
+use Rattle.smx_run.specs.declared.run_fault.RunFault.{RunFault}
+use Rattle.smx_run.specs.declared.run_fault.RunFault.TheVariants as run
 use Rattle.smx_run.proofs.RunLemmas.{calls_apart, map_behind}
 
--- these commands, and then one more
+-- these commands, then one more
 pub alone_more : (process : ℕ) (a b c : Recorded) (commands : List Command) (command : Command)
     → PerformedAlone process a commands b → c ≡ with_entry b process command
     → PerformedAlone process a (commands ++ command ∷ []) c
@@ -34,7 +41,7 @@ alone_more process a b c commands command was is =
           (map-append call_of b.history (entry ∷ []));
     })
 
--- what was asked where one program stopped, and the next command is the first that is left
+-- the calls up to where one program stopped, and the next command, which is the first that is left
 pub left_of : {asked was : List (ℕ × Command)} {p : ℕ} {programs behind later : List (List Command)}
     {commands : List Command} (before : List (List Command)) (done left : List Command) (next : Command)
     → before ++ behind ≡ programs → behind ≡ commands ∷ later → done ++ next ∷ left ≡ commands
@@ -57,7 +64,18 @@ left_of {p = p} {programs} {later = later} {commands} before done left next all 
           ∙ ap (λ (l : List (ℕ × Command)). calls_from 0 before ++ l) (sym split) ∙ sym whole,
     )
 
--- where a command is left, there are fewer entries than commands
+-- there are as many calls as commands
+counted : (n : ℕ) (programs : List (List Command)) → length (calls_from n programs) ≡ sum_by length programs
+counted n [] = refl
+counted n (cs ∷ programs) = omega (
+  arith,
+  counted (n + 1) programs,
+  length-append (calls_of n cs) (calls_from (n + 1) programs),
+  length-map {B = ℕ × Command} cs (λ (c : Command). (n, c)),
+  sum_by-cons length cs programs,
+)
+
+-- if a command is left, there are fewer entries than commands
 pub room_left : (es : List Entry) (programs : List (List Command)) (next : ℕ × Command) (rest : List (ℕ × Command))
     → map call_of es ++ next ∷ rest ≡ calls_from 0 programs → length es < sum_by length programs
 room_left es programs next rest is =
@@ -65,7 +83,27 @@ room_left es programs next rest is =
     ≡ length (calls_from 0 programs) = ap (λ (l : List (ℕ × Command)). length l) is in
     omega (arith, many, counted 0 programs, length-append (map call_of es) (next ∷ rest), length-map es call_of)
 
--- a fault that is no full history is want of memory
+-- a fault that is not a full history is out-of-memory
 pub memory_left : (f : ApplyFault) → f ≢ apply.HistoryFull → f ≡ apply.NoMemory
 memory_left apply.HistoryFull other = absurd (other refl)
 memory_left apply.NoMemory other = refl
+
+-- a run of several workers may be refused for every reason for which a run on one thread may be
+pub alone_refuses : (drivers : List DriverSpec) (fault : RunFault) → RefusesAlone drivers fault
+    → RefusesRun drivers fault
+alone_refuses drivers run.NoMemory h = h
+alone_refuses drivers (run.Strange p) h = h
+alone_refuses drivers (run.ConfigFault f) h = h
+alone_refuses drivers run.HistoryFull h = absurd h
+alone_refuses drivers run.Held h = absurd h
+
+-- a system without a history is sound
+pub sound_at_first : (s : Recorded) → s.history ≡ [] → s.limit ≡ MAX_COMMANDS → IsDriverList s.drivers
+    → IsSoundSystem s
+sound_at_first s none limit drivers = record {
+  can_be_had = drivers;
+  within = rw none (omega arith);
+  limited = omega (arith, limit);
+  legal = rw none tt;
+  lawful = rw none (lawful_throughout s.drivers [] tt);
+}

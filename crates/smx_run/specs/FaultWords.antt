@@ -8,7 +8,7 @@ use Rattle.smx_run.specs.declared.run_fault.GatherFault.TheVariants as gathered
 use Rattle.smx_run.specs.declared.run_fault.RunFault.{RunFault}
 use Rattle.smx_run.specs.declared.run_fault.RunFault.TheVariants as run
 
--- the process whose entries are others
+-- the words for a process whose entries are not its transcript
 abbrev pub strange_words : ℕ → List ℕ
 strange_words process = codes "strange " ++ decimal process
 

@@ -1,4 +1,4 @@
--- The fronts of a run: how far the history had come when each program ended.
+-- The fronts of a run: how far the history was when each program ended.
 use Rattle.std.specs.Prelude.{◌≡◌, ℕ, ◌+◌, List, [], ◌∷◌}
 use Rattle.smx_types.specs.declared.command.Command.{Command}
 use Rattle.smx_types.specs.declared.command.Entry.{Entry}
@@ -8,17 +8,17 @@ use Rattle.smx_shared.specs.Fronts.{IsFrontOf}
 use Rattle.smx_shared.specs.Seats.{IsBeginningOf}
 use Rattle.smx_shared.specs.declared.front.Front.{Front}
 
--- a front that was seen once the program of a process had ended
+-- a front that was seen after the program of a process had ended
 pub record IsFrontAfter (drivers : List DriverSpec) (history : List Entry) (process : ℕ) (program : List Command)
     (front : Front) : Type 0 where
   -- It is that of a beginning of the history,
   pub before : List Entry
   pub begins : IsBeginningOf before history
   pub numbers : IsFrontOf front drivers before
-  -- and this holds all commands of the program.
+  -- which holds all commands of the program.
   pub holds : commands_of process before ≡ program
 
--- one front for each program, in order, from process n on
+-- one front for each program, in order, from process `n` on
 abbrev pub AreFrontsFrom : List DriverSpec → List Entry → ℕ → List (List Command) → List Front → Type 0
 AreFrontsFrom drivers history n [] [] = Unit {0}
 AreFrontsFrom drivers history n (program ∷ programs) (front ∷ fronts) =

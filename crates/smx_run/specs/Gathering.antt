@@ -1,18 +1,18 @@
--- Which transcripts a history bears out.
+-- The transcripts with which a history agrees.
 use Rattle.std.specs.Prelude.{◌≡◌, ◌≢◌, ℕ, ◌<◌, ◌≤◌, List, [], ◌++◌, length, take, Option, Some, None, slice_index_or}
 use Rattle.smx_types.specs.declared.command.Entry.{Entry}
 pub use Rattle.smx_shared.specs.Seats.{entries_of}
 
--- the entries of the process are its transcript; a process past the list has the empty one
+-- the entries of the process are its transcript; a process past the list has the empty transcript
 abbrev pub IsBorneOut : List Entry → List (List Entry) → ℕ → Type 0
 IsBorneOut history transcripts process = entries_of process history ≡ slice_index_or transcripts process []
 
--- the process is the least whose entries are not its transcript
+-- the process is the lowest whose entries are not its transcript
 pub record IsLeastStrange (history : List Entry) (transcripts : List (List Entry)) (process : ℕ) : Type 0 where
   pub strange : entries_of process history ≢ slice_index_or transcripts process []
   pub least : (p : ℕ) → p < process → IsBorneOut history transcripts p
 
--- a process has so many entries of its transcript, from the first on; or it has others
+-- the process has this number of entries of its transcript, starting with the first; or it has other entries
 abbrev pub IsMet : List Entry → List Entry → Option ℕ → Type 0
 IsMet transcript own (Some count) = (count ≤ length transcript) × (own ≡ take count transcript)
 IsMet transcript own None = (more : List Entry) → own ++ more ≢ transcript

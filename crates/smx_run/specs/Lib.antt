@@ -1,14 +1,10 @@
 pub mod Alone
+pub mod Assignments
 pub mod FaultWords
 pub mod Fronts
 pub mod Gathering
-pub mod GrowingRuns
-pub mod Hands
 pub mod Meeting
 pub mod ProgramOrder
-pub mod RecordedRuns
-pub mod Recordings
 pub mod Reports
 pub mod RunFaults
-pub mod Scribes
 pub mod WorkedRuns

@@ -1,8 +1,13 @@
--- What seats knew that have met.
+-- The knowledge of seats that have met.
+use Rattle.std.specs.Prelude.{◌≡◌}
 use Rattle.smx_shared.specs.Recorded.{Recorded}
-use Rattle.smx_shared.specs.Seats.{Seated, IsMetBy, met_seat}
+use Rattle.smx_shared.specs.Seats.{Seated, IsMetBy, IsNotMet, met_seat}
 use Rattle.smx_run.specs.declared.worker.EndedProgram.{EndedProgram}
 
--- what a seat knew when its program had ended is so of a system
-abbrev pub IsBorneOutBy : {P : Type 0} → Recorded → EndedProgram Seated P → Type 0
+-- what a seat knew when its program had ended holds of a system
+abbrev pub IsBorneOutBy : Recorded → EndedProgram Seated → Type 0
 IsBorneOutBy s done = IsMetBy s (met_seat done.seat.known)
+
+-- the process that has ended is the seat's own, or the seat has met it
+abbrev pub IsKnownTo : Seated → EndedProgram Seated → Type 0
+IsKnownTo seat done = IsNotMet done.seat.known.process seat.met → done.seat.known.process ≡ seat.known.process

@@ -1,4 +1,4 @@
--- What is reported of a system.
+-- The report of a system.
 use Rattle.std.specs.Prelude.{◌≡◌}
 use Rattle.smx_types.specs.declared.transcript.Transcript.{Transcript}
 use Rattle.smx_types.specs.declared.version.Version.{Version}
@@ -7,7 +7,7 @@ use Rattle.smx_model.specs.Views.{view}
 use Rattle.smx_shared.specs.Recorded.{Recorded, IsSoundSystem}
 use Rattle.smx_run.specs.declared.report.Report.{Report}
 
--- what is written of a report as its transcript, in a text of this version: all but the fronts
+-- the transcript of a report, in a text of this version: everything except the fronts
 abbrev pub transcript_of : Version → Report → Transcript
 transcript_of version report = record {
   version = version;
@@ -16,7 +16,16 @@ transcript_of version report = record {
   view = report.view;
 }
 
--- its drivers, its history, and the view of the configuration after that
+-- the drivers, the history and the view after it of a system, as a transcript in a text of this version
+abbrev pub told_by : Version → Recorded → Transcript
+told_by version s = record {
+  version = version;
+  drivers = s.drivers;
+  entries = s.history;
+  view = view s.drivers (after s.drivers s.history);
+}
+
+-- its drivers, its history, and the view of the configuration after it
 pub record Reports (s : Recorded) (report : Report) : Type 0 where
   pub sound : IsSoundSystem s
   pub drivers : report.drivers ≡ s.drivers

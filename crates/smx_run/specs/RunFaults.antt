@@ -1,4 +1,4 @@
--- Why a run is refused: its drivers are, or memory was wanting, or the workers met it in what they share.
+-- Why a run is refused: its drivers are invalid, memory ran out, or the workers met a full history.
 use Rattle.std.specs.Prelude.{◌≢◌, List}
 use Rattle.smx_types.specs.declared.driver.DriverSpec.{DriverSpec}
 use Rattle.smx_model.specs.DriverList.{IsDriverList}
@@ -10,19 +10,19 @@ use Rattle.smx_shared.specs.declared.shared_fault.ApplyFault.TheVariants as appl
 use Rattle.smx_run.specs.declared.run_fault.RunFault.{RunFault}
 use Rattle.smx_run.specs.declared.run_fault.RunFault.TheVariants as run
 
--- want of memory is one fault, whoever met it
+-- out-of-memory is one fault, whoever met it
 abbrev pub run_fault_of : ConfigFault → RunFault
 run_fault_of config.NoMemory = run.NoMemory
 run_fault_of config.TooMany = run.ConfigFault config.TooMany
 run_fault_of (config.BadSpec i f) = run.ConfigFault (config.BadSpec i f)
 run_fault_of (config.SameName i) = run.ConfigFault (config.SameName i)
 
--- what a worker met is what the run answers
+-- the fault of a worker, as that of the run
 abbrev pub fault_of_worker : ApplyFault → RunFault
 fault_of_worker apply.HistoryFull = run.HistoryFull
 fault_of_worker apply.NoMemory = run.NoMemory
 
--- the drivers are refused, and that is said; or they are not, and memory was wanting
+-- the drivers are refused, with their fault; or they are valid, and memory ran out
 abbrev pub RefusesAlone : List DriverSpec → RunFault → Type 0
 RefusesAlone drivers run.NoMemory = IsDriverList drivers
 RefusesAlone drivers (run.Strange process) = ⊥
@@ -30,11 +30,10 @@ RefusesAlone drivers (run.ConfigFault f) = RefusesDrivers drivers f × (f ≢ co
 RefusesAlone drivers run.HistoryFull = ⊥
 RefusesAlone drivers run.Held = ⊥
 
--- the drivers are refused, and that is said; or they are not, and memory was wanting, or the workers met a full history
--- or a turn that was never given back
+-- The drivers are refused, with their fault. Or they are valid, and memory ran out, or the workers met a full history.
 abbrev pub RefusesRun : List DriverSpec → RunFault → Type 0
 RefusesRun drivers run.NoMemory = IsDriverList drivers
 RefusesRun drivers (run.Strange process) = ⊥
 RefusesRun drivers (run.ConfigFault f) = RefusesDrivers drivers f × (f ≢ config.NoMemory)
 RefusesRun drivers run.HistoryFull = IsDriverList drivers
-RefusesRun drivers run.Held = IsDriverList drivers
+RefusesRun drivers run.Held = ⊥

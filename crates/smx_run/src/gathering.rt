@@ -1,4 +1,4 @@
-//! A report of a system, once its history bears out what its callers were answered.
+//! Reports a system, if its history agrees with the transcripts of its callers.
 
 ghost use Rattle.std.specs.Prelude.{◌≡◌, ◌≤◌, ◌<◌, ◌↔◌, ℕ, List, [], ◌∷◌, ◌++◌, All, length, replicate};
 ghost use Rattle.std.specs.Prelude.{slice_index_or, IsTrue, IfOk, IfSome, IfNone, Err, None, Some};
@@ -19,9 +19,9 @@ use std::alloc::Global;
 
 const PROCESSES: usize = MAX_PROCESSES as usize;
 
-/// The report of a system, where each process has just the entries in its history that its transcript has, in the same
-/// order; a process past the list has none. Refused at the least process of which that is not so, or else for want of
-/// memory.
+/// Reports a system, if the entries of each process in its history are that process's transcript; a process past the
+/// list has the empty transcript. Fails with `Strange` for the lowest process for which they are not, or else because
+/// it is out of memory.
 pub fn gather(alloc: Global, system: System, transcripts: &[Entries]) -> Result<Report, GatherFault>
     requires { length transcripts.now ≤ MAX_PROCESSES }
     ensures report { IfOk result (Reports system) }
@@ -32,26 +32,25 @@ pub fn gather(alloc: Global, system: System, transcripts: &[Entries]) -> Result<
     if let Some(process) = find_strange(system.entries(), transcripts) {
         return Err(GatherFault::Strange(process));
     }
-    let drivers = DriverSpec::copies(alloc, system.config().drivers())?;
-    Ok(report(system, Drivers::from_vec(drivers), Fronts::new(alloc))?)
+    Ok(report(alloc, system, Fronts::new(alloc))?)
 }
 
-/// The report of a system, whose drivers these are, with these fronts. Nothing is copied.
-pub fn report(system: System, drivers: Drivers, fronts: Fronts) -> Result<Report, NoMemory>
-    requires { drivers ≡ system.drivers }
+/// Reports a system, with these fronts. Fails only if it is out of memory.
+pub fn report(alloc: Global, system: System, fronts: Fronts) -> Result<Report, NoMemory>
     ensures report { IfOk result (Reports system) }
     ensures fronts { IfOk result (λ r. r.fronts ≡ fronts) }
 {
+    let drivers = DriverSpec::copies(alloc, system.config().drivers())?;
     let view = system.config().show()?;
     Ok(Report {
-        drivers,
+        drivers: Drivers::from_vec(drivers),
         entries: system.into_entries(),
         view,
         fronts,
     })
 }
 
-/// The least process whose entries in the history are not its transcript.
+/// Returns the lowest process whose entries in the history are not its transcript.
 pub fn find_strange(history: &[Entry], transcripts: &[Entries]) -> Option<Process>
     requires { length transcripts.now ≤ MAX_PROCESSES }
     ensures strange { IfSome result (IsLeastStrange history.now transcripts.now) }
@@ -67,7 +66,7 @@ pub fn find_strange(history: &[Entry], transcripts: &[Entries]) -> Option<Proces
     None
 }
 
-// Of the transcript of each process, how many entries the history has, or None where it has others.
+// Returns for each process how many entries of its transcript the history has, or `None` if it has others.
 fn meet_all(history: &[Entry], transcripts: &[Entries]) -> [Option<usize>; PROCESSES]
     ensures met { (p : ℕ) → p < MAX_PROCESSES
         → IsMet (slice_index_or transcripts.now p []) (entries_of p history.now) (slice_index_or result p None) }
@@ -83,14 +82,14 @@ fn meet_all(history: &[Entry], transcripts: &[Entries]) -> [Option<usize>; PROCE
     met
 }
 
-// Nothing yet.
+// Returns the counts before the first entry.
 fn none_met() -> [Option<usize>; PROCESSES]
     ensures { result ≡ replicate MAX_PROCESSES (Some 0) }
 {
     [Some(0); PROCESSES]
 }
 
-// The same with one entry more.
+// Returns the count after one more entry.
 fn meet(met: Option<usize>, transcript: &[Entry], entry: &Entry) -> Option<usize>
     ensures { (own : List Made) → IsMet transcript.now own met → IsMet transcript.now (own ++ entry.now ∷ []) result }
 {
@@ -103,7 +102,7 @@ fn meet(met: Option<usize>, transcript: &[Entry], entry: &Entry) -> Option<usize
     }
 }
 
-// Whether those are all entries of the transcript, and no others.
+// Returns whether the counted entries are exactly those of the transcript.
 fn is_whole(met: Option<usize>, transcript: &[Entry]) -> bool
     ensures { (own : List Made) → IsMet transcript.now own met → (IsTrue result ↔ (own ≡ transcript.now)) }
 {
@@ -113,7 +112,7 @@ fn is_whole(met: Option<usize>, transcript: &[Entry]) -> bool
     }
 }
 
-// The transcript of a process, the empty one past the list.
+// Returns the transcript of a process, or the empty one past the list.
 fn transcript_at(transcripts: &[Entries], number: usize) -> &[Entry]
     ensures { result.now ≡ slice_index_or transcripts.now number [] }
 {

@@ -1,4 +1,4 @@
-//! What a run leaves.
+//! The result of a run.
 
 ghost use Rattle.std.specs.Prelude.{◌≡◌, IfOk};
 ghost use Rattle.smx_run.specs.Reports.{transcript_of};
@@ -13,12 +13,12 @@ pub struct Report {
     pub drivers: Drivers,
     pub entries: Entries,
     pub view: ConfigView,
-    /// How far the history had come when the program of each process had ended. A run fills it.
+    /// How far the history was when the program of each process had ended. A run fills it.
     pub fronts: Fronts,
 }
 
 impl Report {
-    /// The same report again. Fails only for want of memory.
+    /// Returns a copy of the report. Fails only if it is out of memory.
     pub fn copy(&self, alloc: Global) -> Result<Report, NoMemory>
         ensures { IfOk result (λ c. c ≡ self.now) }
     {
@@ -34,7 +34,7 @@ impl Report {
         })
     }
 
-    /// Its transcript, for a text of this version: all but the fronts. Takes no memory.
+    /// Returns its transcript, for a text of this version: everything except the fronts. Takes no memory.
     pub fn into_transcript(self, version: Version) -> Transcript
         ensures { result ≡ transcript_of version self }
     {

@@ -8,25 +8,25 @@ use std::fmt;
 /// Why a run was refused.
 #[derive(Clone, Copy, Debug, PartialEq, Eq)]
 pub enum RunFault {
-    /// A growth was refused, or a worker could not be started.
+    /// An allocation failed, or a worker could not be started.
     NoMemory,
-    /// The entries of the process of this number in the history are not those that it was answered. No run is refused
-    /// for it, by the law `refusals_have_few_causes`.
+    /// The entries of the process with this number in the history are not those that it got. By the law
+    /// `refusals_have_few_causes`, no run is refused for this.
     Strange(u32),
-    /// There is no configuration of these drivers.
+    /// No configuration can have these drivers.
     ConfigFault(ConfigFault),
-    /// The history has as many entries as it may.
+    /// The history is full.
     HistoryFull,
-    /// A worker never gave the turn back.
+    /// A worker never gave the turn back. No run is refused for it, by the same law.
     Held,
 }
 
-/// Why no report was made of a system and the transcripts of its callers.
+/// Why a system and the transcripts of its callers gave no report.
 #[derive(Clone, Copy, Debug, PartialEq, Eq)]
 pub enum GatherFault {
     /// The entries of this process in the history are not its transcript.
     Strange(Process),
-    /// A growth was refused.
+    /// An allocation failed.
     NoMemory,
 }
 

@@ -1,4 +1,4 @@
-//! Long texts that tests are made of: lines that stand there many times, each time with other numbers.
+//! Long texts for tests, made of lines that are repeated with different numbers.
 #![tactic(auto)]
 
 mod parts;

@@ -1,20 +1,20 @@
-//! Texts with lines that stand there many times, each time with other numbers.
+//! Texts with lines that are repeated with different numbers.
 
 use std::alloc::{AllocError, Global};
 
-/// A part of a text. In a line that stands there many times `{n}` is its number, `{n + 1}`, `{66 - n}`, `{n / 64}` and
-/// `{n % 64}` are what is computed of it, and behind each of these ` hex` makes it a byte of that number.
+/// A part of a text. In a repeated line, `{n}` is its number; `{n + 1}`, `{66 - n}`, `{n / 64}` and `{n % 64}` are
+/// computed from it. Followed by ` hex`, as in `{n hex}`, each of them is written as a byte in hex.
 #[derive(Clone, Copy)]
 pub enum Part<'a> {
-    /// This, once.
+    /// This text, once.
     Once(&'a str),
-    /// This, once for each number from the first one to the one before the second.
+    /// This line, once for each number from the first to the one before the second.
     Each(u32, u32, &'a str),
-    /// The line of this number, once.
+    /// The line with this number, once.
     At(u32, &'a str),
 }
 
-/// The text of these parts.
+/// Returns the text of these parts.
 pub fn text_of(alloc: Global, parts: &[Part]) -> Result<String, AllocError> {
     let mut text = String::new(alloc);
     for part in parts {
@@ -34,7 +34,7 @@ fn add_lines(text: &mut String, first: u32, end: u32, line: &str) -> Result<(), 
     Ok(())
 }
 
-// The line of this number.
+// Appends the line with this number.
 fn add_line(text: &mut String, line: &str, n: u32) -> Result<(), AllocError> {
     for piece in line.split('{') {
         match piece.split_once('}') {
@@ -48,7 +48,7 @@ fn add_line(text: &mut String, line: &str, n: u32) -> Result<(), AllocError> {
     Ok(())
 }
 
-// What the formula says of this number.
+// Appends the value of a formula for this number.
 fn add_number(text: &mut String, formula: &str, n: u32) -> Result<(), AllocError> {
     match formula.strip_suffix(" hex") {
         Some(formula) => write!(text, "{:02x}", value_of(formula, n)),
@@ -56,7 +56,7 @@ fn add_number(text: &mut String, formula: &str, n: u32) -> Result<(), AllocError
     }
 }
 
-// A formula is a word, or two words with a sign between them.
+// Returns the value of a formula, which is a word, or two words with an operator between them.
 fn value_of(formula: &str, n: u32) -> u32 {
     match formula.split_once(' ') {
         Some((left, rest)) => computed(number_of(left, n), rest, n),
@@ -77,7 +77,7 @@ fn computed(left: u32, rest: &str, n: u32) -> u32 {
     }
 }
 
-// A word is `n`, or digits.
+// Returns the value of a word, which is `n` or digits.
 fn number_of(word: &str, n: u32) -> u32 {
     if word == "n" {
         n

@@ -1,4 +1,4 @@
--- Lines make a legal history, and what a session writes is its transcript.
+-- Lines make a legal history, and the texts of a session are its transcript.
 use Rattle.std.proofs.Common.{◌≡◌, ℕ, List, [], ◌∷◌, ◌++◌, append_assoc, append-nil, Some, refl, sym, ap, subst, ◌∙◌}
 use Rattle.std.specs.Prelude.{codes, map}
 use Rattle.smx_types.specs.declared.command.Entry.{Entry}
@@ -16,21 +16,21 @@ use Rattle.smx_words.specs.Spelling.{entry_line, entry_words}
 use Rattle.smx_words.specs.Words.{text_of}
 use Rattle.smx_session.specs.Sessions.{IsAfter, IsLastLine, IsStartOf, Performs, State, shown_lines}
 
--- a history with one entry more leads where the command of that entry leads
+-- a history with one more entry leads where the command of that entry leads
 abbrev pub IsOneFurther : Type 0
 IsOneFurther = (drivers : List DriverSpec) (history : List Entry) (e : Entry)
     → after drivers (history ++ e ∷ []) ≡ (step drivers (after drivers history) e.process e.command).0
 
--- a legal history stays legal with one entry more that has the reply of its command
+-- a legal history stays legal with one more entry that has the reply of its command
 abbrev pub StaysLegal : Type 0
 StaysLegal = (drivers : List DriverSpec) (history : List Entry) (e : Entry) → IsLegal drivers history
     → (step drivers (after drivers history) e.process e.command).1 ≡ e.reply → IsLegal drivers (history ++ e ∷ [])
 
--- a session that starts is after no entry
+-- a session that starts is after the empty history
 pub begins : (text : List ℕ) (s : State) → IsStartOf text s → IsAfter [] s
 begins text s h = record { legal = tt; now = h.nothing }
 
--- a session that performs a line is after one entry more
+-- a session that performs a line is after one more entry
 pub goes_on : IsOneFurther → StaysLegal → (history : List Entry) (old new : State) (line : List ℕ)
     → IsAfter history old → Performs old line new
     → (e : Entry) × (new.last ≡ Some e) × IsAfter (history ++ e ∷ []) new
@@ -52,7 +52,7 @@ goes_on further stays history old new line come h =
       },
     )
 
--- the line of the last entry, behind the beginning of a transcript, is the beginning with that entry too
+-- the beginning of a transcript, followed by the line of the last entry, is the beginning with that entry
 pub grows : (s : State) (before : List Entry) (e : Entry) (text line : List ℕ)
     → BeginsTranscript s.version s.drivers before text → s.last ≡ Some e → FitsEntry e → IsLastLine s line
     → BeginsTranscript s.version s.drivers (before ++ e ∷ []) (text ++ line)
@@ -63,7 +63,7 @@ grows s before e text line was last fits (made, is, written) =
     written ∙ (ap entry_line one ∙ sym (append-nil (entry_line e))) in
     grown s.version s.drivers before (e ∷ []) text (text ++ line) (ap (λ (t : List ℕ). text ++ t) said) (fits, tt) was
 
--- the lines of the configuration, and `end`, make the beginning of a transcript the whole of it
+-- the beginning of a transcript, followed by the lines of the configuration and `end`, is the whole transcript
 pub ends : (s : State) (entries : List Entry) (text : List ℕ) → BeginsTranscript s.version s.drivers entries text
     → text ++ (shown_lines s ++ codes "end\n")
     ≡ transcript_text (transcript_with s.version s.drivers entries (view s.drivers s.configuration))

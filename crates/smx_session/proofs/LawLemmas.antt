@@ -29,29 +29,29 @@ use Rattle.smx_session.specs.declared.start_fault.StartFault.TheVariants.{NoMemo
 
 -- ---- what other crates' laws say
 
--- a programs text has one reading, but for want of memory
+-- a programs text has one reading, apart from out-of-memory
 abbrev pub HasOneReading : Type 0
 HasOneReading = (bytes : List ℕ) (r s : Result ProgramLists TextFault) → ReadsAny programs_grammar bytes r
     → ReadsAny programs_grammar bytes s → IfErr r (λ f. f.cause ≢ cause.NoMemory)
     → IfErr s (λ f. f.cause ≢ cause.NoMemory) → r ≡ s
 
--- want of memory is told only before the line at which any other reading of a programs text ends
+-- out-of-memory is reported only before the line at which any other reading of a programs text ends
 abbrev pub IsToldBefore : Type 0
 IsToldBefore = (version : Version) (bytes : List ℕ) (line : ℕ) (r : Result ProgramLists TextFault)
     → IsFault (programs_grammar version) bytes line cause.NoMemory → ReadsAny programs_grammar bytes r
     → IfErr r (λ f. f.cause ≢ cause.NoMemory) → line < last_line (programs_grammar version) r
 
--- drivers are refused for one fault
+-- drivers are refused for only one fault
 abbrev pub HaveOneFault : Type 0
 HaveOneFault =
     (drivers : List DriverSpec) (f g : ConfigFault) → RefusesDrivers drivers f → RefusesDrivers drivers g → f ≡ g
 
--- no two calls have one line
+-- no two calls have the same line
 abbrev pub AreToldApart : Type 0
 AreToldApart =
     (x y : ℕ × Command) → FitsCall x → FitsCall y → line_of (call_words x) ≡ line_of (call_words y) → x ≡ y
 
--- each line has a reading as a call
+-- each line is a call, or not a call
 abbrev pub HaveReadings : Type 0
 HaveReadings =
     (v : Version) (line : List ℕ) → (o : Option (ℕ × Command)) × IsReadAs (FitsCallIn v) call_words line o
@@ -72,7 +72,7 @@ same_state a b v d c l =
     ∙ ap (λ (x : Option Entry). state_of b.version b.drivers b.configuration x) l))
 
 module _ (text : List ℕ) (reading : HasOneReading) where
-  -- a text spells one value, whatever the version
+  -- a text spells one value, in either version
   one_value : (v w : Version) (x y : ProgramLists) → Spells (programs_grammar v) text x
       → Spells (programs_grammar w) text y → x ≡ y
   one_value v w x y h k =
@@ -81,7 +81,7 @@ module _ (text : List ℕ) (reading : HasOneReading) where
       let same : one ≡ other = reading text one other (v, h, tt) (w, k, tt) tt tt in
       cc
 
-  -- a text that spells programs has no fault, but for want of memory
+  -- a text that spells programs has no fault, apart from out-of-memory
   no_fault : (v : Version) (x : ProgramLists) (f : TextFault) → Spells (programs_grammar v) text x
       → ReadsAny programs_grammar text (Err f) → f.cause ≢ cause.NoMemory → ⊥
   no_fault v x f h k known =
@@ -90,7 +90,7 @@ module _ (text : List ℕ) (reading : HasOneReading) where
       let same : one ≡ other = reading text one other (v, h, tt) k tt known in
       absurd cc
 
-  -- a text has at most one fault, but for want of memory
+  -- a text has at most one fault, apart from out-of-memory
   one_text_fault : (f e : TextFault) → ReadsAny programs_grammar text (Err f) → ReadsAny programs_grammar text (Err e)
       → f.cause ≢ cause.NoMemory → e.cause ≢ cause.NoMemory → f ≡ e
   one_text_fault f e h k known known_too =
@@ -109,7 +109,7 @@ module _ (text : List ℕ) (reading : HasOneReading) where
       (h.drivers ∙ (ap (λ (p : ProgramLists). p.drivers) same ∙ sym k.drivers)) (h.nothing ∙ sym k.nothing)
       (h.no_entry ∙ sym k.no_entry)
 
-  -- memory is wanting for no text whose first or second line is at fault
+  -- out-of-memory is not reported for a text whose first or second line has a fault
   pub before_the_fault : IsToldBefore → (fault : TextFault) → StartsAs text (Err (Text fault))
       → StartsAs text (Err NoMemory) → 2 < fault.line
   before_the_fault told fault (reads, known) (inl (want, (v, is, other), memory)) =
@@ -137,7 +137,7 @@ module _ (text : List ℕ) (reading : HasOneReading) where
         let same : p ≡ q = one_value v w p q spelled spelled_too in
         one_fault q.drivers f g (subst (λ (x : ProgramLists). RefusesDrivers x.drivers f) same bad) bad_too
 
-    -- a text has at most one start, but for want of memory
+    -- a text has at most one start, apart from out-of-memory
     pub one_start : (one other : Result State StartFault) → StartsAs text one → StartsAs text other
         → IfErr one (λ t. t ≢ NoMemory) → IfErr other (λ t. t ≢ NoMemory) → one ≡ other
     one_start (Ok a) (Ok b) h k known known_too = ap Ok (one_session a b h k)
@@ -165,7 +165,7 @@ module _ (text : List ℕ) (reading : HasOneReading) where
 abbrev pub entry_with : ℕ × Command → Reply → Entry
 entry_with call reply = record { process = call.0; command = call.1; reply = reply }
 
--- a line is performed in one way
+-- a line is performed in only one way
 pub one_step : AreToldApart → (old new other : State) (line : List ℕ) → Performs old line new
     → Performs old line other → new ≡ other
 one_step apart old new other line h k =
@@ -180,11 +180,11 @@ one_step apart old new other line h k =
     same_state new other (h.version ∙ sym k.version) (h.drivers ∙ sym k.drivers)
     (ap (λ (p : Configuration × Reply). p.0) same) (h.last ∙ (ap Some last ∙ sym k.last))
 
--- a line that is performed is one of a call
+-- a line that is performed is that of a call
 pub not_both : (old new : State) (line : List ℕ) → Performs old line new → IsNoCallLine old.version line → ⊥
 not_both old new line h none = none (call_of h.entry) h.fits h.is_read
 
--- a line is performed, or it is one of no call
+-- a line is performed, or it is not that of a call
 pub always : HaveReadings → (old : State) (line : List ℕ)
     → ((new : State) × Performs old line new) ⊎ IsNoCallLine old.version line
 always readings old line = found (readings old.version line) where

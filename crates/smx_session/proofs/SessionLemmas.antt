@@ -18,7 +18,7 @@ use Rattle.smx_session.specs.Sessions.{IsStartOf, StartsAs}
 use Rattle.smx_session.specs.declared.start_fault.StartFault.{StartFault}
 use Rattle.smx_session.specs.declared.start_fault.StartFault.TheVariants.{NoMemory, Text, Drivers}
 
--- a session doesn't start over a text that is at fault, or for which memory was wanting
+-- a session doesn't start over a text that has a fault, or for which memory ran out
 pub at_fault : (text : List ℕ) (fault : TextFault) (t : StartFault) → ReadsAny programs_grammar text (Err fault)
     → ((t ≡ NoMemory) × (fault.cause ≡ cause.NoMemory)) ⊎ ((t ≡ Text fault) × (fault.cause ≢ cause.NoMemory))
     → StartsAs text (Err t)
@@ -27,7 +27,7 @@ at_fault text fault t read (inl (is, wanting)) =
 at_fault text fault t read (inr (is, other)) =
     subst (λ (x : StartFault). StartsAs text (Err x)) (sym is) (read, other)
 
--- a session doesn't start over drivers that are refused, or for which memory was wanting
+-- a session doesn't start over drivers that are refused, or for which memory ran out
 pub refused : (text : List ℕ) (p : ProgramLists) (ds : List DriverSpec) (fault : ConfigFault) (t : StartFault)
     → ReadsAny programs_grammar text (Ok p) → ds ≡ p.drivers → RefusesDrivers ds fault
     → ((t ≡ NoMemory) × (fault ≡ config.NoMemory)) ⊎ ((t ≡ Drivers fault) × (fault ≢ config.NoMemory))
@@ -40,7 +40,7 @@ refused text p ds fault t read same bad (inr (is, other)) =
     let why : RefusesDrivers p.drivers fault = subst (λ (xs : List DriverSpec). RefusesDrivers xs fault) same bad in
     subst (λ (x : StartFault). StartsAs text (Err x)) (sym is) ((read.0, p, read.1, why), other)
 
--- a session starts over a text with nothing open, where its drivers can be had
+-- a session starts over a text with nothing open, if its drivers are valid
 pub started : (text : List ℕ) (p : ProgramLists) (v : Version) (ds : List DriverSpec) (m : Machine)
     → ReadsAny programs_grammar text (Ok p) → v ≡ p.version → ds ≡ p.drivers → m.drivers ≡ ds → IsDriverList ds
     → m.configuration ≡ empty

@@ -42,7 +42,7 @@ starts =
       no_entry = refl;
     }
 
--- memory may be wanting for the drivers of the worked table
+-- memory may run out for the drivers of the worked table
 pub no_memory : StartsAs table (Err NoMemory)
 no_memory = inr (V2, programs, spelled, starts.can_be_had)
 
@@ -50,7 +50,7 @@ no_memory = inr (V2, programs, spelled, starts.can_be_had)
 abbrev wrong_header : TextFault
 wrong_header = record { line = 1; cause = cause.Header }
 
--- a text with a wrong header never wants memory
+-- out-of-memory is not reported for a text with a wrong header
 pub no_memory_for_a_wrong_header : HasOneReading → IsToldBefore
     → ReadsAny programs_grammar (codes "programs 3\n") (Err wrong_header)
     → StartsAs (codes "programs 3\n") (Err NoMemory) → ⊥
@@ -87,7 +87,7 @@ hangup_is_read : codes "5 hangup eth 0" ≡ line_of (call_words (5, Hangup eth 0
 unfolding digits
 hangup_is_read = refl
 
--- `5 hangup eth 0` hangs the open stream up
+-- `5 hangup eth 0` hangs up the open stream
 pub hangs_up : Performs opened (codes "5 hangup eth 0") hung
 hangs_up =
     record {
@@ -105,7 +105,7 @@ told : codes "3 clone eth = fd 0 0\n" ≡ entry_line (3 does OpenClone eth gets 
 unfolding digits
 told = refl
 
--- the last line of the session tells the reply of the clone
+-- the last line of the session has the reply of the clone
 pub tells : IsLastLine opened (codes "3 clone eth = fd 0 0\n")
 tells = (3 does OpenClone eth gets Fd 0 0, refl, told)
 
@@ -136,7 +136,7 @@ opens_by_2 =
       version = refl;
     }
 
--- the process of the last entry, and 64 where there is none
+-- the process of the last entry, or 64 if there is none
 abbrev process_of : Option Entry → ℕ
 process_of (Some e) = e.process
 process_of None = 64

@@ -10,18 +10,18 @@ use Rattle.smx_session.specs.declared.line_fault.LineFault.TheVariants as line
 use Rattle.smx_session.specs.declared.start_fault.StartFault.{StartFault}
 use Rattle.smx_session.specs.declared.start_fault.StartFault.TheVariants as start
 
--- the words of a text's fault, or of a fault of its drivers, or that memory was wanting
+-- the words of a text's fault, of a fault of its drivers, or for out-of-memory
 abbrev pub start_fault_words : StartFault → List ℕ
 start_fault_words start.NoMemory = no_memory_words
 start_fault_words (start.Text fault) = text_fault_words fault
 start_fault_words (start.Drivers fault) = config_fault_words fault
 
--- that a line has no command, or that memory was wanting
+-- the words for a line without a command, or for out-of-memory
 abbrev pub line_fault_words : LineFault → List ℕ
 line_fault_words line.NoMemory = no_memory_words
 line_fault_words line.NoCommand = codes "no command"
 
--- that there is no entry yet, or that memory was wanting
+-- the words for a session without an entry, or for out-of-memory
 abbrev pub entry_fault_words : EntryFault → List ℕ
 entry_fault_words entry.NoMemory = no_memory_words
 entry_fault_words entry.NoEntry = codes "no entry yet"

@@ -1,4 +1,4 @@
--- What a session is seen as, how it starts, and what it does with a line.
+-- Sessions: what a contract sees of one, how it starts, and what it does with a line.
 use Rattle.std.specs.Prelude.{◌≡◌, ◌≢◌, ◌⊎◌, ℕ, List, Option, Some, None, IsSome, Result, Ok, Err}
 use Rattle.smx_types.specs.ProgramLists.{ProgramLists}
 use Rattle.smx_types.specs.declared.command.Entry.{Entry}
@@ -28,14 +28,14 @@ use Rattle.smx_session.specs.declared.start_fault.StartFault.{StartFault}
 use Rattle.smx_session.specs.declared.start_fault.StartFault.TheVariants as start
 use Rattle.smx_session.specs.declared.start_fault.StartFault.TheVariants.{Text, Drivers}
 
--- the version of its texts, its drivers, its configuration, and the entry that was made last
+-- the version of its texts, its drivers, its configuration, and its last entry
 pub record State : Type 0 where
   pub version : Version
   pub drivers : List DriverSpec
   pub configuration : Configuration
   pub last : Option Entry
 
--- the text spells programs, over whose drivers nothing is open, in their version
+-- the text spells programs of this version; the session has their drivers, and nothing is open
 pub record IsStartOf (text : List ℕ) (s : State) : Type 0 where
   pub programs : ProgramLists
   pub spelled : Spells (programs_grammar s.version) text programs
@@ -44,18 +44,18 @@ pub record IsStartOf (text : List ℕ) (s : State) : Type 0 where
   pub nothing : s.configuration ≡ empty
   pub no_entry : s.last ≡ None
 
--- the text spells programs whose drivers are such
+-- the text spells programs, and `AreSuch` holds of their drivers
 abbrev pub HasDrivers : List ℕ → (List DriverSpec → Type 0) → Type 0
 HasDrivers text AreSuch =
     (version : Version) × (p : ProgramLists) × Spells (programs_grammar version) text p × AreSuch p.drivers
 
--- memory was wanting for the text, before a fault of it was seen, or for drivers that can be had
+-- memory ran out for the text, before a fault of it was seen, or for drivers that are valid
 abbrev pub WantsMemory : List ℕ → Type 0
 WantsMemory text =
     ((fault : TextFault) × ReadsAny programs_grammar text (Err fault) × (fault.cause ≡ cause.NoMemory))
     ⊎ HasDrivers text IsDriverList
 
--- a session over the drivers of a text; or its first fault, or that of its drivers, or memory was wanting
+-- a session over the drivers of a text; or the text's first fault, or that of its drivers, or out-of-memory
 abbrev pub StartsAs : List ℕ → Result State StartFault → Type 0
 StartsAs text (Ok s) = IsStartOf text s
 StartsAs text (Err start.NoMemory) = WantsMemory text
@@ -63,8 +63,8 @@ StartsAs text (Err (Text fault)) = ReadsAny programs_grammar text (Err fault) ×
 StartsAs text (Err (Drivers fault)) =
     HasDrivers text (λ drivers. RefusesDrivers drivers fault) × (fault ≢ config.NoMemory)
 
--- the line is a process and a command that the version can tell, as an entry begins; the session has made the model's
--- step, and keeps the entry
+-- The line is a process and a command that the version allows, as at the start of an entry's line. The session has
+-- made the model's step and keeps the entry.
 pub record Performs (old : State) (line : List ℕ) (new : State) : Type 0 where
   pub entry : Entry
   pub fits : FitsCallIn old.version (call_of entry)
@@ -74,25 +74,25 @@ pub record Performs (old : State) (line : List ℕ) (new : State) : Type 0 where
   pub drivers : new.drivers ≡ old.drivers
   pub version : new.version ≡ old.version
 
--- why a line is not performed: memory was wanting for the call that it is, or it is none that the version can tell
+-- why a line is not performed: memory ran out for the call that it is, or it is not a call that the version allows
 abbrev pub IsNotPerformed : Version → List ℕ → LineFault → Type 0
 IsNotPerformed version line line_fault.NoMemory = IsCallLine version line
 IsNotPerformed version line line_fault.NoCommand = IsNoCallLine version line
 
--- the line of the entry that was made last, with its line feed
+-- the line of the last entry, with its line feed
 abbrev pub IsLastLine : State → List ℕ → Type 0
 IsLastLine s line = (e : Entry) × (s.last ≡ Some e) × (line ≡ entry_line e)
 
--- why there is no such line: memory was wanting for it, or there is no entry
+-- why there is no such line: memory ran out for it, or there is no entry
 abbrev pub HasNoLine : State → EntryFault → Type 0
 HasNoLine s entry_fault.NoMemory = IsSome s.last
 HasNoLine s entry_fault.NoEntry = s.last ≡ None
 
--- the lines of the configuration, as they stand in a transcript before its last line
+-- the lines of the configuration, as in a transcript before its last line
 abbrev pub shown_lines : State → List ℕ
 shown_lines s = view_lines (view s.drivers s.configuration)
 
--- the session has come to the end of this history, which is legal
+-- the session's configuration is the one after this history, which is legal
 pub record IsAfter (history : List Entry) (s : State) : Type 0 where
   pub legal : IsLegal s.drivers history
   pub now : s.configuration ≡ after s.drivers history

@@ -1,4 +1,4 @@
--- A worked session: a text, the session over it, and what its first lines make of it, all typed in.
+-- A worked session: a text, the session over it, and its states after its first lines, typed in by hand.
 use Rattle.std.specs.Prelude.{◌≡◌, ℕ, List, [], ◌∷◌, Some, None, codes, refl}
 use Rattle.std.specs.Fmt.{digits}
 use Rattle.smx_types.specs.declared.driver.DriverSpec.{DriverSpec}
@@ -12,7 +12,7 @@ use Rattle.smx_session.specs.declared.entry_fault.EntryFault.TheVariants as entr
 use Rattle.smx_session.specs.declared.line_fault.LineFault.TheVariants as line
 use Rattle.smx_session.specs.declared.start_fault.StartFault.TheVariants as start
 
--- the table of one driver of two minors
+-- the table with one driver that has two minors
 abbrev pub table : List ℕ
 table = codes "programs 2\ndriver eth leaf 2 8 3 16\nend\n"
 
@@ -32,7 +32,7 @@ one_open = record empty { fds = record { process = 3; fd = 0; stream = record { 
 abbrev pub opened : State
 opened = record begun { configuration = one_open; last = Some (3 does OpenClone eth gets Fd 0 0) }
 
--- after `5 hangup eth 0`, which version 2 alone can tell
+-- after `5 hangup eth 0`, which only version 2 allows
 abbrev pub hung : State
 hung =
     record begun {
@@ -40,7 +40,7 @@ hung =
       last = Some (5 does Hangup eth 0 gets Done []);
     }
 
--- before a command, nothing is shown but the next id and the next serial
+-- before a command, only the next id and the next serial are shown
 pub nothing_is_shown : shown_lines begun ≡ codes "config\nnext 1 1\n"
 unfolding digits
 nothing_is_shown = refl
@@ -55,22 +55,22 @@ pub a_hangup_is_shown : shown_lines hung ≡ codes "config\nnext 1 1\nfd 3 0 eth
 unfolding digits
 a_hangup_is_shown = refl
 
--- where no session starts, want of memory is told in these words
+-- the words for out-of-memory, if no session starts
 pub start_memory_words : start_fault_words start.NoMemory ≡ codes "no memory"
 start_memory_words = refl
 
--- where a line is not performed, in the same
+-- they are the same if a line is not performed
 pub memory_words : line_fault_words line.NoMemory ≡ codes "no memory"
 memory_words = refl
 
--- and where no entry is written
+-- and if no entry is written
 pub entry_memory_words : entry_fault_words entry.NoMemory ≡ codes "no memory"
 entry_memory_words = refl
 
--- a line that is no command is told in these words
+-- the words for a line that is not a command
 pub line_words : line_fault_words line.NoCommand ≡ codes "no command"
 line_words = refl
 
--- that there is no entry yet is told in these words
+-- the words for a session without an entry
 pub entry_words : entry_fault_words entry.NoEntry ≡ codes "no entry yet"
 entry_words = refl

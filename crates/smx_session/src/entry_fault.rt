@@ -6,7 +6,7 @@ use std::fmt;
 /// Why no entry is written. It prints itself: `no memory`, `no entry yet`.
 #[derive(Clone, Copy, Debug, PartialEq, Eq)]
 pub enum EntryFault {
-    /// A growth was refused.
+    /// An allocation failed.
     NoMemory,
     /// No command was performed yet.
     NoEntry,

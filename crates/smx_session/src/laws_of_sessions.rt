@@ -27,8 +27,8 @@ use smx_text::worked_texts::wrong_programs;
 use smx_words::laws::one_value_each;
 use smx_words::laws_of_reading::{each_line_has_a_reading, which_lines_are_calls};
 
-/// A text has no two starts, unless memory is wanting: the session over its drivers, or a fault. And memory is wanting
-/// only before the fault: never where the first or the second line is at fault.
+/// A text has only one start, apart from out-of-memory: the session over its drivers, or a fault. Out-of-memory can
+/// occur only before the fault: never if the first or the second line has the fault.
 pub fn a_text_has_one_start()
     ensures one { (text : List ℕ) (one other : Result State StartFault) → StartsAs text one → StartsAs text other
         → IfErr one (λ t. t ≢ NoMemory) → IfErr other (λ t. t ≢ NoMemory) → one ≡ other }
@@ -40,7 +40,7 @@ pub fn a_text_has_one_start()
     drivers_have_one_fault();
 }
 
-/// A line is performed in one way, or it has no command, and never both.
+/// A line is performed in only one way, or it has no command, never both.
 pub fn a_line_is_performed_in_one_way()
     ensures one { (old new other : State) (line : List ℕ) → Performs old line new → Performs old line other
         → new ≡ other }
@@ -52,7 +52,7 @@ pub fn a_line_is_performed_in_one_way()
     each_line_has_a_reading();
 }
 
-/// The entries that lines make are a legal history, one after the other, and the session is what comes after it.
+/// The entries that lines make, in order, are a legal history, and the session is in the configuration after it.
 pub fn lines_make_a_legal_history()
     ensures begins { (text : List ℕ) (s : State) → IsStartOf text s → IsAfter [] s }
     ensures goes_on { (history : List Entry) (old new : State) (line : List ℕ) → IsAfter history old
@@ -61,7 +61,8 @@ pub fn lines_make_a_legal_history()
     one_entry_more();
 }
 
-/// What is written is a transcript: the opening, the line of each entry, the lines of the configuration, and `end`.
+/// The texts of a session form a transcript: the opening, the line of each entry, the lines of the configuration, and
+/// `end`.
 pub fn what_is_written_is_a_transcript()
     ensures grows { (s : State) (before : List Entry) (e : Entry) (text line : List ℕ)
         → BeginsTranscript s.version s.drivers before text → s.last ≡ Some e → FitsEntry e → IsLastLine s line
@@ -71,8 +72,8 @@ pub fn what_is_written_is_a_transcript()
         ≡ transcript_text (transcript_with s.version s.drivers entries (view s.drivers s.configuration)) }
 {}
 
-/// A worked session: how it starts, the states that its lines make of it, and the lines of its entries; what they don't
-/// make of it; and why a line is not performed, or no entry written.
+/// A worked session: how it starts, its states after its lines, and the lines of its entries. Counterexamples of its
+/// states. And why a line is not performed, or no entry written.
 pub fn a_worked_session()
     ensures starts { StartsAs table (Ok begun) }
     ensures no_memory { StartsAs table (Err NoMemory) }

@@ -1,4 +1,4 @@
-//! Sessions: a configuration that performs one line after the other, and is shown in between.
+//! Sessions: a configuration that performs one line after the other, and can be shown at any time.
 #![tactic(auto)]
 
 mod entry_fault;

@@ -6,9 +6,9 @@ use std::fmt;
 /// Why a line is not performed. It prints itself: `no memory`, `no command`.
 #[derive(Clone, Copy, Debug, PartialEq, Eq)]
 pub enum LineFault {
-    /// A growth was refused.
+    /// An allocation failed.
     NoMemory,
-    /// The line is no process with a command that the version can tell.
+    /// The line is not a process with a command that the version allows.
     NoCommand,
 }
 

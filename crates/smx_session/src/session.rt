@@ -1,4 +1,4 @@
-//! A configuration, with the version of its texts and the entry that was made last.
+//! A configuration, with the version of its texts and its last entry.
 
 ghost use Rattle.std.specs.Prelude.{◌≡◌, IfOk, IfErr, OnOk, OnErr, option_copied};
 ghost use Rattle.smx_model.specs.Views.{view};
@@ -13,8 +13,7 @@ use smx_words::call_of_line;
 use std::alloc::Global;
 use std::marker::Model;
 
-/// A configuration that performs lines. Contracts see its version, its drivers, its configuration and the entry that
-/// was made last.
+/// A configuration that performs lines. Contracts see its version, its drivers, its configuration and its last entry.
 #[derive(Debug, Drop)]
 pub struct Session {
     version: Version,
@@ -36,8 +35,9 @@ impl Model for Session {
 }
 
 impl Session {
-    /// Nothing is open, over the drivers of a programs text and in its version. Its programs aren't run. Refused at the
-    /// first fault of the text, then for drivers that a configuration can't have, or for want of memory.
+    /// Creates a session over the drivers of a programs text, in its version, with nothing open. Does not run the
+    /// programs. Fails with the first fault of the text, then with that of its drivers, or because it is out of
+    /// memory.
     pub fn new(alloc: Global, programs: &[u8]) -> Result<Session, StartFault>
         ensures { StartsAs programs.now result }
     {
@@ -55,9 +55,9 @@ impl Session {
         }
     }
 
-    /// Performs the command of a line, `PROCESS COMMAND` as an entry's line begins, and keeps the entry of it and its
-    /// reply. Refused where the line is none that the version can tell, or for want of memory, which only a command
-    /// has. Neither changes anything.
+    /// Performs the command of a line and keeps its entry, with the reply. The line is `PROCESS COMMAND`, as at the
+    /// start of an entry's line. Fails if the version allows no such line, or, only if it is such a line, because it
+    /// is out of memory. A failure changes nothing.
     pub fn perform(&mut self, alloc: Global, line: &[u8]) -> Result<(), LineFault>
         ensures ok { OnOk result (Performs self.old line.now self.new) }
         ensures err { OnErr result (self.new ≡ self.old) }
@@ -75,28 +75,28 @@ impl Session {
         Ok(())
     }
 
-    /// The configuration. Fails only for want of memory.
+    /// Returns the configuration. Fails only if it is out of memory.
     pub fn show(&self) -> Result<ConfigView, NoMemory>
         ensures { IfOk result (λ v. v ≡ view self.now.drivers self.now.configuration) }
     {
         self.config.show()
     }
 
-    /// The version of its texts. Takes no memory.
+    /// Returns the version of its texts. Takes no memory.
     pub fn version(&self) -> Version
         ensures { result ≡ self.now.version }
     {
         self.version
     }
 
-    /// The drivers, which no line changes. Takes no memory.
+    /// Returns the drivers, which no line changes. Takes no memory.
     pub fn drivers(&self) -> &[DriverSpec]
         ensures { result.now ≡ self.now.drivers }
     {
         self.config.drivers()
     }
 
-    /// The entry that was made last. Takes no memory.
+    /// Returns the last entry, if there is one. Takes no memory.
     pub fn last(&self) -> Option<&Entry>
         ensures { option_copied result ≡ self.now.last }
     {

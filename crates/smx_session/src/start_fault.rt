@@ -12,15 +12,15 @@ use std::fmt;
 /// Why no session starts over a text. It prints itself: `no memory`, `line 2: form`, `driver 3 marks`.
 #[derive(Clone, Copy, Debug, PartialEq, Eq)]
 pub enum StartFault {
-    /// A growth was refused.
+    /// An allocation failed.
     NoMemory,
-    /// The bytes are no programs text. Its cause is never want of memory.
+    /// The bytes are not a programs text. The cause is never out-of-memory.
     Text(TextFault),
-    /// There is no configuration of these drivers. This is never want of memory.
+    /// No configuration can have these drivers. The fault is never out-of-memory.
     Drivers(ConfigFault),
 }
 
-/// Want of memory by itself, and every other fault of a text as it is.
+/// Returns out-of-memory as `NoMemory`, and every other fault of a text unchanged.
 pub(crate) fn of_text(fault: TextFault) -> StartFault
     ensures { ((result ≡ memory) × (fault.cause ≡ cause.NoMemory))
         ⊎ ((result ≡ Text fault) × (fault.cause ≢ cause.NoMemory)) }
@@ -33,7 +33,7 @@ pub(crate) fn of_text(fault: TextFault) -> StartFault
     }
 }
 
-/// Want of memory by itself, and every other fault of drivers as it is.
+/// Returns out-of-memory as `NoMemory`, and every other fault of drivers unchanged.
 pub(crate) fn of_drivers(fault: ConfigFault) -> StartFault
     ensures { ((result ≡ memory) × (fault ≡ config.NoMemory))
         ⊎ ((result ≡ Drivers fault) × (fault ≢ config.NoMemory)) }

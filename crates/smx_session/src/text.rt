@@ -1,4 +1,4 @@
-//! What a session writes.
+//! The texts that a session writes.
 
 ghost use Rattle.std.specs.Prelude.{◌≡◌, ℕ, List, ◌++◌, [], Err, IfErr, IfOk, IfSome, OnOk};
 ghost use Rattle.smx_model.specs.Views.{view};
@@ -16,14 +16,16 @@ use smx_words::Spell;
 use std::alloc::Global;
 
 impl Session {
-    /// The beginning of its transcript: the header and a line for each driver. Fails only for want of memory.
+    /// Returns the beginning of its transcript: the header and a line for each driver. Fails only if it is out of
+    /// memory.
     pub fn opening(&self, alloc: Global) -> Result<Vec<u8>, NoMemory>
         ensures { IfOk result (λ v. BeginsTranscript self.now.version self.now.drivers [] v.items) }
     {
         transcript_opening(Vec::new(alloc), self.version(), self.drivers())
     }
 
-    /// The line of the entry that was made last, with its line feed. Fails before the first, or for want of memory.
+    /// Returns the line of the last entry, with its line feed. Fails if there is no entry yet, or if it is out of
+    /// memory.
     pub fn entry(&self, alloc: Global) -> Result<Vec<u8>, EntryFault>
         ensures line { IfOk result (λ v. IsLastLine self.now v.items) }
         ensures none { IfErr result (HasNoLine self.now) }
@@ -33,8 +35,8 @@ impl Session {
         Ok(text)
     }
 
-    /// The line of the entry that was made last, with its line feed, behind `out`. Fails before the first, and then
-    /// `out` is as it was, or for want of memory; what `out` has then is left open.
+    /// Appends the line of the last entry, with its line feed, to `out`. Fails if there is no entry yet, and then
+    /// leaves `out` unchanged; or if it is out of memory, and then what `out` contains is not specified.
     pub fn write_entry(&self, out: &mut Vec<u8>) -> Result<(), EntryFault>
         ensures written { OnOk result ((line : List ℕ) × IsLastLine self.now line
             × (out.new.items ≡ out.old.items ++ line)) }
@@ -49,8 +51,8 @@ impl Session {
         Ok(())
     }
 
-    /// The lines of the configuration, as they stand in a transcript from `config` on, without the last line `end`.
-    /// Fails only for want of memory.
+    /// Returns the lines of the configuration, as in a transcript from `config` on, without the last line `end`.
+    /// Fails only if it is out of memory.
     pub fn shown(&self, alloc: Global) -> Result<Vec<u8>, NoMemory>
         ensures written { IfOk result (λ v. v.items ≡ shown_lines self.now) }
         ensures spellable { OnOk result (IsSpellableView (view self.now.drivers self.now.configuration)) }

@@ -1,4 +1,4 @@
--- What contracts see of what a seat learns.
+-- The knowledge of a seat, as contracts see it.
 use Rattle.std.proofs.Common.{◌≡◌, ℕ, ◌+◌, ◌*◌, ◌%◌, ◌<◌, true, List, [], ◌++◌, ◌∷◌, map, Some, None, sym, ap, ◌∙◌}
 use Rattle.std.proofs.Common.{subst, refl, arith}
 use Rattle.std.specs.List.{range_with_len}
@@ -18,7 +18,7 @@ use Rattle.smx_model.proofs.LimitLemmas.{always_within}
 use Rattle.smx_shared.proofs.TellLemmas.{grown_trans}
 use Rattle.smx_shared.proofs.FrontWordLemmas.{word_small, reads_front, shows_held}
 
--- a seat that has grown, and knows what is so, has seen more
+-- a seat that has grown, and whose knowledge is true, has seen more
 pub has_seen_more : (v w : SeatView) → HasGrown v w → IsInformed w → v.named ≡ true
     → HasSeenMore (known_of v) (known_of w)
 has_seen_more v w grown informed named = record {
@@ -30,7 +30,7 @@ has_seen_more v w grown informed named = record {
   exact = informed.own (grown.named ∙ named);
 }
 
--- by two steps
+-- the same in two steps
 pub has_seen_more_by : (u v w : SeatView) → HasGrown u v → HasGrown v w → IsInformed w → u.named ≡ true
     → HasSeenMore (known_of u) (known_of w)
 has_seen_more_by u v w first second = has_seen_more u w (grown_trans u v w first second)
@@ -43,18 +43,18 @@ found_small v w n found informed =
     word_small w.drivers n w.seen found.front (omega arith)
     (always_within w.drivers w.seen).links
 
--- what is read of it is the front of what was seen
+-- it is read as the front of what was seen
 pub found_front : (v w : SeatView) (n : ℕ) (front : Front) → FoundWord v w n → word_of front ≡ n
     → front.links < 2048 → SeesFront (known_of v) (known_of w) front × (turn_bit front.held ≡ n % 2)
 found_front v w n front found word links =
     let read = reads_front w.drivers n w.seen front found.front (always_within w.drivers w.seen).links word links in
     (record { numbers = read.0; own = found.own }, read.1)
 
--- and shows the turn held where its bit is set
+-- it shows the turn held if its turn bit is set
 pub found_held : (n : ℕ) (front : Front) → turn_bit front.held ≡ n % 2 → n % 2 ≡ 1 → front.held ≡ true
 found_held n front bit odd = shows_held front.held (bit ∙ odd)
 
--- the system that lies in a slot, or this one where the slot is empty
+-- the system in a slot, or this one if the slot is empty
 slot_or : Recorded → Slot → Recorded
 slot_or s (Some x) = x
 slot_or s None = s
@@ -76,14 +76,14 @@ ends_as v x s h is there named sound seen own met =
       others = met;
     }
 
--- the seat of the next process goes behind those before
+-- the seat of the next process comes after the earlier ones
 pub one_seat_more : (shared : SharedId) (s : Recorded) (n : ℕ) (seats more : List Seated) (seat : Seated)
     → seats ≡ map (first_seat shared s) (range_with_len 0 n) → seat ≡ first_seat shared s n → more ≡ seats ++ seat ∷ []
     → more ≡ map (first_seat shared s) (range_with_len 0 (n + 1))
 one_seat_more shared s n seats more seat before is added =
     added ∙ rw (before, is) (sym (map-range_with_len_more {X = Seated} (first_seat shared s) 0 n n (omega arith)))
 
--- which is the one that was shared, and more of it
+-- the system at the end continues the one that was shared
 pub goes_on_from : (shared : SharedAs) (v : SeatView) (x : Slot) (s : Recorded) (h : List Entry) → x ≡ Some s
     → x ≡ Some (system_with v.drivers v.limit h) → GoesOnNamed shared.processes shared.start.history h
     → v.drivers ≡ shared.start.drivers → v.limit ≡ shared.start.limit → GoesOnFrom shared s
@@ -92,7 +92,7 @@ goes_on_from shared v x s h is there begun drivers limit =
     let same : s ≡ system_with v.drivers v.limit h = ap (slot_or s) (sym is ∙ there) in
     subst (GoesOnFrom shared) (sym same) record { drivers = drivers; limit = limit; history = begun }
 
--- a word that is the front of a history that goes on from what was seen is small
+-- a word that is the front of a history which begins with what was seen is small
 pub from_small : (v : SeatView) (n : ℕ) → IsWordFrom v n → n < 4096 * 4294967296
 from_small v n word =
     let within = word.sound.within in
@@ -100,7 +100,7 @@ from_small v n word =
     word_small v.drivers n word.history word.front (omega arith)
     (always_within v.drivers word.history).links
 
--- and what is read from it, with the turn bit set, shows the turn held
+-- if its turn bit is set, it is read as a front that shows the turn held
 pub from_held : (v : SeatView) (n : ℕ) (front : Front) → n % 2 ≡ 1 → IsWordFrom v n → word_of front ≡ n
     → front.links < 2048 → ShowsHeld (known_of v) front
 from_held v n front odd word is links =

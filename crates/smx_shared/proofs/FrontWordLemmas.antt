@@ -10,32 +10,32 @@ use Rattle.smx_shared.specs.Fronts.{front_of, links_after, word_of, turn_bit, Is
 use Rattle.smx_shared.specs.TurnRule.{Turn, free, held, bit_of}
 use Rattle.smx_shared.specs.declared.front.Front.{Front}
 
--- with no bit of 0 set besides, a number stays what it is
+-- or with 0 changes nothing
 or_zero : (a : ℕ) → bit_or a 0 ≡ a
 or_zero a = let e : bit_or (a * 1) 0 ≡ a * 1 + 0 = or_shifted a 0 0 (omega arith) in
     let one : a * 1 ≡ a = omega arith in ap (λ (k : ℕ). bit_or k 0) (sym one) ∙ (e ∙ (omega arith))
 
--- the turn bit, set
+-- or with 1 sets the turn bit
 or_one : (n : ℕ) → bit_or n 1 ≡ n / 2 * 2 + 1
 or_one n = let e : bit_or n 1 ≡ bit_or (n / 2) (1 / 2) * 2 + max (n % 2) (1 % 2) = or_step n 1 in
     let z = or_zero (n / 2) in let p : max (n % 2) 1 ≡ 1 = omega arith in e ∙ ap₂ (λ (x y : ℕ). x * 2 + y) z p
 
--- a front has the turn bit free
+-- the word of a front has the turn bit free
 pub front_even : (drivers : List DriverSpec) (h : List Entry) → front_of drivers h % 2 ≡ 0
 unfolding front_of
 front_even drivers h = omega arith
 
--- the turn is taken where it was free
+-- if the turn was free, it is taken
 pub or_free : (drivers : List DriverSpec) (h : List Entry) → bit_or (front_of drivers h) 1 ≡ front_of drivers h + 1
 or_free drivers h =
     let n : ℕ = front_of drivers h in let e : n % 2 ≡ 0 = front_even drivers h in or_one n ∙ (omega arith)
 
--- the word stays where the turn was held
+-- if the turn was held, the word is unchanged
 pub or_held : (drivers : List DriverSpec) (h : List Entry) → bit_or (front_of drivers h + 1) 1 ≡ front_of drivers h + 1
 or_held drivers h =
     let n : ℕ = front_of drivers h in let e : n % 2 ≡ 0 = front_even drivers h in or_one (n + 1) ∙ (omega arith)
 
--- a word that shows the turn held is not even
+-- a word that shows the turn held is odd
 pub held_odd : (drivers : List DriverSpec) (n : ℕ) (h : List Entry) → n ≡ front_of drivers h + 1 → n % 2 ≡ 1
 held_odd drivers n h e =
     let k : ℕ = front_of drivers h in let f : k % 2 ≡ 0 = front_even drivers h in let is : n ≡ k + 1 = e in omega arith
@@ -52,13 +52,13 @@ front_and_bit drivers n h free e =
 front_and_bit drivers n h (held j) e =
     let k : ℕ = front_of drivers h in let f : k % 2 ≡ 0 = front_even drivers h in let is : n ≡ k + 1 = e in omega arith
 
--- a history of so few entries and links has a small word
+-- a history within these limits of entries and links has a small word
 pub word_small : (drivers : List DriverSpec) (n : ℕ) (h : List Entry) → n ≡ front_of drivers h + n % 2
     → length h ≤ 100000 → links_after drivers h ≤ 1024 → n < 4096 * 4294967296
 unfolding front_of
 word_small drivers n h is few links = omega arith
 
--- what is read from a word is what went into it
+-- a word is read as the front from which it was made
 pub reads_front : (drivers : List DriverSpec) (n : ℕ) (h : List Entry) (front : Front) → n ≡ front_of drivers h + n % 2
     → links_after drivers h ≤ 1024 → word_of front ≡ n → front.links < 2048
     → IsFrontOf front drivers h × (turn_bit front.held ≡ n % 2)

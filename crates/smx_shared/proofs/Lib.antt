@@ -2,7 +2,6 @@ pub mod CallLemmas
 pub mod EachLemmas
 pub mod MetSeatLemmas
 pub mod OwnEntryLemmas
-pub mod PerformedLemmas
 pub mod RecordLemmas
 pub mod SeatListLemmas
 pub mod SeatStepLemmas

@@ -1,4 +1,4 @@
--- The seats that were met, and given up then.
+-- Seats that were met, and then given up.
 use Rattle.std.proofs.Common.{◌≡◌, ◌≢◌, ⊎_elim, ℕ, ◌+◌, ◌<◌, List, [], ◌∷◌, ◌++◌, length, set, false, true≢false, sym}
 use Rattle.std.proofs.Common.{ap, ◌∙◌, subst, arith}
 use mathlib.Core.Option.{some}
@@ -6,28 +6,28 @@ use lib.ListN.{get_elem?}
 use Rattle.atomic_table.proofs.Lists.{at_set}
 use Rattle.smx_types.specs.declared.command.Entry.{Entry}
 use Rattle.smx_types.specs.declared.driver.DriverSpec.{DriverSpec}
-use Rattle.smx_shared.specs.Seats.{AreMetBy}
+use Rattle.smx_shared.specs.Seats.{AreMetBy, IsNotMet}
 use Rattle.smx_shared.specs.SeatViews.{after_meeting, spent_view, AddsFor}
-use Rattle.smx_shared.specs.TurnRule.{system_with, AreMetBelow, IsNotMet, AreMetApart, AreNamedApart, IsNamed}
+use Rattle.smx_shared.specs.TurnRule.{system_with, AreMetBelow, AreMetApart, AreNamedApart, IsNamed}
 use Rattle.smx_shared.specs.declared.seat_view.MetSeat.{MetSeat}
 use Rattle.smx_shared.specs.declared.seat_view.SeatView.{SeatView}
 use Rattle.smx_shared.proofs.EachLemmas.{all_append, all_weaker}
-use Rattle.smx_shared.proofs.OwnEntryLemmas.{begins_trans, others_stay}
+use Rattle.smx_shared.proofs.OwnEntryLemmas.{adds_begins, begins_trans, others_stay}
 use Rattle.smx_shared.proofs.SeatListLemmas.{at_end}
 
 -- ---- lists of them
 
--- processes of met seats that are below a name are below the name after that
+-- processes of met seats that are below a name are below the next name
 pub met_named_more : (n : ℕ) (xs : List MetSeat) → AreMetBelow n xs → AreMetBelow (n + 1) xs
 met_named_more n xs below = all_weaker (λ (x : MetSeat). x.process < n) (λ (x : MetSeat). x.process < n + 1)
     (λ (x : MetSeat) (lt : x.process < n). omega arith) xs below
 
--- where the processes of all met seats are below a name, none of them has that name
+-- if the processes of all met seats are below a name, none of them has that name
 pub not_met_next : (n p : ℕ) (xs : List MetSeat) → p ≡ n → AreMetBelow n xs → IsNotMet p xs
 not_met_next n p xs is below = all_weaker (λ (x : MetSeat). x.process < n) (λ (x : MetSeat). x.process ≢ p)
     (λ (x : MetSeat) (lt : x.process < n) (same : x.process ≡ p). absurd (omega arith)) xs below
 
--- what was made under their processes stays, where another process adds
+-- the entries of their processes are unchanged if another process adds one
 pub met_stays : (p : ℕ) (d : List DriverSpec) (l : ℕ) (h h' : List Entry) (xs : List MetSeat) → AddsFor p h h'
     → IsNotMet p xs → AreMetBy (system_with d l h) xs → AreMetBy (system_with d l h') xs
 met_stays p d l h h' [] a apart met = tt
@@ -35,15 +35,15 @@ met_stays p d l h h' (x ∷ xs) a apart met = (
   record {
     drivers = met.0.drivers;
     limit = met.0.limit;
-    seen = begins_trans x.seen h h' met.0.seen (a.more, a.joins);
+    seen = begins_trans x.seen h h' met.0.seen (adds_begins p h h' a);
     exact = sym (others_stay p x.process h h' a apart.0) ∙ met.0.exact;
   },
   met_stays p d l h h' xs a apart.1 met.1,
 )
 
--- ---- no named seat has a process that was met
+-- ---- no named seat has a process of a met seat
 
--- where one seat changes
+-- if one seat changes
 pub met_apart_set : (views : List SeatView) (id : ℕ) (w : SeatView) → AreMetApart views
     → ((j : ℕ) (u : SeatView) → j ≢ id → get_elem? views j ≡ some u → IsNamed u → IsNotMet u.process w.met)
     → ((j : ℕ) (u : SeatView) → j ≢ id → get_elem? views j ≡ some u → IsNamed w → IsNotMet w.process u.met)
@@ -63,7 +63,7 @@ met_apart_set views id w apart by_others of_others own i j u v at_i at_j named =
     (at_set views id j w v at_j))
     (at_set views id i w u at_i)
 
--- where it keeps its name, and has met no other
+-- if it keeps its name and has met no other
 pub met_apart_kept : (views : List SeatView) (id : ℕ) (v w : SeatView) → AreMetApart views → get_elem? views id ≡ some v
     → (IsNamed w → IsNamed v) → w.process ≡ v.process → w.met ≡ v.met → AreMetApart (set views id w)
 met_apart_kept views id v w apart at named process met = met_apart_set views id w apart
@@ -72,7 +72,7 @@ met_apart_kept views id v w apart at named process met = met_apart_set views id 
     (λ is. subst (λ (z : ℕ × List MetSeat). IsNotMet z.0 z.1) (λ k. (sym process k, sym met k))
     (apart id id v v at at (named is)))
 
--- where a seat is new
+-- if a seat is new
 pub met_apart_end : (views : List SeatView) (w : SeatView) → AreMetApart views → w.named ≡ false → w.met ≡ []
     → AreMetApart (views ++ w ∷ [])
 met_apart_end views w apart unnamed none i j u v at_i at_j named =
@@ -86,7 +86,7 @@ met_apart_end views w apart unnamed none i j u v at_i at_j named =
     absurd (true≢false (sym named.1 ∙ ap (λ (z : SeatView). z.named) (sym y.1) ∙ unnamed)))
     (at_end views w v j at_j)
 
--- where a seat meets another, which is spent
+-- if a seat meets another one, which is then spent
 pub met_apart_meeting : (views : List SeatView) (id other : ℕ) (v w : SeatView) → AreNamedApart views
     → AreMetApart views → get_elem? views id ≡ some v → other ≢ id → get_elem? views other ≡ some w → IsNamed w
     → AreMetApart (set (set views id (after_meeting v w)) other spent_view)

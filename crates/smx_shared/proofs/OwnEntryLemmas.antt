@@ -1,6 +1,6 @@
 -- Histories that begin alike, and the entries of one process in them.
 use Rattle.std.proofs.Common.{◌≡◌, ◌≢◌, ℕ, ◌+◌, ◌<◌, ◌≤◌, List, [], ◌∷◌, ◌++◌, Bool, refl, sym, ap, ◌∙◌, append_assoc}
-use Rattle.std.proofs.Common.{append-nil, arith, eq-eqb, cond}
+use Rattle.std.proofs.Common.{append-nil, arith, eq-eqb, cond, inl, inr}
 use Rattle.std.specs.Prelude.{◌==◌}
 use Rattle.std.proofs.lemmas.List.Elements.{filter-append}
 use Rattle.std.proofs.lemmas.Bool.{ne_eqb}
@@ -21,19 +21,19 @@ begins_itself xs = ([], append-nil xs)
 
 -- ---- the entries of a process
 
--- the entries of a process in two histories, one after the other, are those in the first and then in the second
+-- the entries of a process in two histories, one after the other, are those in the first, then those in the second
 pub entries_append : (p : ℕ) (xs ys : List Entry) → entries_of p (xs ++ ys) ≡ entries_of p xs ++ entries_of p ys
 entries_append p xs ys = filter-append (λ (e : Entry). e.process == p) xs ys
 
--- of an entry of a process, that process has just this entry
+-- a process has its own entry
 pub entries_mine : (p : ℕ) (e : Entry) → e.process ≡ p → entries_of p (e ∷ []) ≡ e ∷ []
 entries_mine p e is = ap (λ (b : Bool). cond b (e ∷ []) []) (eq-eqb e.process p is)
 
--- of an entry of another process, a process has no entry
+-- a process has no entry of another process
 pub entries_other : (p : ℕ) (e : Entry) → e.process ≢ p → entries_of p (e ∷ []) ≡ []
 entries_other p e is = ap (λ (b : Bool). cond b (e ∷ []) []) (ne_eqb e.process p is)
 
--- a process that is not named yet has no entries where all are of named ones
+-- a process that is not named yet has no entries among those of named processes
 pub entries_none : (n p : ℕ) (more : List Entry) → AreNamedBelow n more → n ≤ p → entries_of p more ≡ []
 entries_none n p [] below le = refl
 entries_none n p (e ∷ es) below le =
@@ -44,18 +44,18 @@ entries_none n p (e ∷ es) below le =
 
 -- ---- histories that go on by named processes
 
--- a history that goes on by named processes from one that does so goes on by them from the first
+-- going on by named processes is transitive
 pub goes_on_trans : (n : ℕ) (xs ys zs : List Entry) → GoesOnNamed n xs ys → GoesOnNamed n ys zs → GoesOnNamed n xs zs
 unfolding begins_trans
 goes_on_trans n xs ys zs p q =
     let t = begins_trans xs ys zs (p.0, p.1) (q.0, q.1) in
     (t.0, t.1, all_append (λ (e : Entry). e.process < n) p.0 q.0 p.2 q.2)
 
--- a history goes on by named processes from itself, by no entry
+-- a history goes on from itself by no entry
 pub goes_on_itself : (n : ℕ) (xs : List Entry) → GoesOnNamed n xs xs
 goes_on_itself n xs = ([], append-nil xs, tt)
 
--- a history that goes on by named processes does so with one name more
+-- a history that goes on by named processes does so with one more name
 pub goes_on_more : (n : ℕ) (xs ys : List Entry) → GoesOnNamed n xs ys → GoesOnNamed (n + 1) xs ys
 goes_on_more n xs ys p = (
   p.0,
@@ -64,7 +64,7 @@ goes_on_more n xs ys p = (
       (λ (e : Entry) (below : e.process < n). omega arith) p.0 p.2,
 )
 
--- a history that goes on from another by named processes begins with that
+-- a history that goes on from another one by named processes begins with it
 pub goes_on_begins : (n : ℕ) (xs ys : List Entry) → GoesOnNamed n xs ys → IsBeginningOf xs ys
 goes_on_begins n xs ys p = (p.0, p.1)
 
@@ -76,33 +76,34 @@ entries_early n p xs h l le =
     ∙ sym (entries_append p xs l.0)
     ∙ ap (entries_of p) l.1
 
--- ---- entries added for one process
+-- ---- one entry of a process, or none
 
 -- one entry of the process
 pub adds_one : (p : ℕ) (old new : List Entry) (e : Entry) → e.process ≡ p → new ≡ old ++ e ∷ [] → AddsFor p old new
-adds_one p old new e is added = record {
-  more = e ∷ [];
-  joins = sym added;
-  named = λ n lt. (below n lt, tt);
-  others = λ q other. entries_other q e (λ same. other (sym same ∙ is));
-}
-  where
-    below : (n : ℕ) → p < n → e.process < n
-    below n lt = omega arith
+adds_one p old new e is added = inr (e, is, added)
 
--- none at all
+-- no entry
 pub adds_none : (p : ℕ) (old new : List Entry) → new ≡ old → AddsFor p old new
-adds_none p old new same = record {
-  more = [];
-  joins = append-nil old ∙ sym same;
-  named = λ n lt. tt;
-  others = λ q other. refl;
-}
+adds_none p old new same = inl same
 
--- the entries of another process stay
+-- if the process is named, the history goes on by entries of named processes
+pub adds_named : (p n : ℕ) (old new : List Entry) → AddsFor p old new → p < n → GoesOnNamed n old new
+adds_named p n old new (inl same) lt = ([], append-nil old ∙ sym same, tt)
+adds_named p n old new (inr one) lt =
+    let is : one.0.process ≡ p = one.1 in
+    (one.0 ∷ [], sym one.2, (omega arith, tt))
+
+-- the new history begins with the old one
+pub adds_begins : (p : ℕ) (old new : List Entry) → AddsFor p old new → IsBeginningOf old new
+adds_begins p old new (inl same) = ([], append-nil old ∙ sym same)
+adds_begins p old new (inr one) = (one.0 ∷ [], sym one.2)
+
+-- the entries of another process are unchanged
 pub others_stay : (p q : ℕ) (old new : List Entry) → AddsFor p old new → q ≢ p → entries_of q old ≡ entries_of q new
-others_stay p q old new a apart =
+others_stay p q old new (inl same) apart = ap (entries_of q) (sym same)
+others_stay p q old new (inr one) apart =
     sym (append-nil (entries_of q old))
-    ∙ ap (λ (ys : List Entry). entries_of q old ++ ys) (sym (a.others q apart))
-    ∙ sym (entries_append q old a.more)
-    ∙ ap (entries_of q) a.joins
+    ∙ ap (λ (ys : List Entry). entries_of q old ++ ys)
+    (sym (entries_other q one.0 (λ same. apart (sym same ∙ one.1))))
+    ∙ sym (entries_append q old (one.0 ∷ []))
+    ∙ ap (entries_of q) (sym one.2)

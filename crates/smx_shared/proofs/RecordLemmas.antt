@@ -1,4 +1,4 @@
--- A system stays sound under one entry more.
+-- A system stays sound with one more entry.
 use Rattle.std.proofs.Common.{◌≡◌, ℕ, ◌<◌, ◌≤◌, List, [], ◌∷◌, ◌++◌, length, arith, sym, ap, ◌∙◌}
 use Rattle.std.proofs.lemmas.List.{length-append}
 use Rattle.smx_types.specs.declared.command.Entry.{Entry}
@@ -28,7 +28,7 @@ none_yet m drivers limit es none few can is_empty = rw none (record {
   now = is_empty;
 })
 
--- a step of the configuration, and the entry of it where there is room, keep the two together
+-- a step of the configuration and its entry, if there is room for it, keep the two in agreement
 pub one_entry_more : (m new : Machine) (limit : ℕ) (es more : List Entry) (e : Entry) →
     IsRecord m limit es → length es < limit →
     new.drivers ≡ m.drivers → step m.drivers m.configuration e.process e.command ≡ (new.configuration, e.reply) →

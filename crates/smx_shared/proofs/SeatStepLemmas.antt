@@ -13,7 +13,7 @@ use Rattle.smx_shared.specs.Fronts.{front_of}
 use Rattle.smx_shared.specs.Recorded.{Recorded, IsSoundSystem}
 use Rattle.smx_shared.specs.Seats.{IsMetBy}
 use Rattle.smx_shared.specs.SeatViews.{Mine, first_view, spent_view, view_beside, without_right, after_meeting}
-use Rattle.smx_shared.specs.SeatViews.{with_next_name, Called}
+use Rattle.smx_shared.specs.SeatViews.{with_next_name, TookName}
 use Rattle.smx_shared.specs.TurnRule.{Turn, free, bit_of, system_with, Fits, IsNamed, TurnRule}
 use Rattle.smx_shared.specs.declared.seat_view.MetSeat.{MetSeat}
 use Rattle.smx_shared.specs.declared.seat_view.SeatView.{SeatView}
@@ -29,7 +29,7 @@ use Rattle.smx_shared.proofs.StepLemmas.{not_free, off}
 -- a seat with the right to the next name takes it
 pub calls : (d : List DriverSpec) (start : List Entry) (count l slots id : ℕ) (me : Mine) → me.0.spent ≡ false
     → me.0.turn ≡ false → me.0.may_name ≡ true → me.0.next < 64 → me.0.next < count
-    → Allows (TurnRule d l start count) slots id me 1 (λ n. (n + 1) % 2 ^ 64) (Called (step slots 1 1 0 none) me)
+    → Allows (TurnRule d l start count) slots id me 1 (λ n. (n + 1) % 2 ^ 64) (TookName (step slots 1 1 0 none) me)
 calls d start count l slots id me whole idle right small_name one_of s r wide at small =
     let n : ℕ = slice_index s.words 1 in let v = me.0 in let f = r.each id v at in let g = f.right right in
     let found : n ≡ r.names = ap (λ (ws : List ℕ). slice_index ws 1) r.words in
@@ -59,7 +59,7 @@ calls d start count l slots id me whole idle right small_name one_of s r wide at
               seen = f.seen;
               met = f.met;
               met_named = met_named_more r.names v.met f.met_named;
-              turn = f.turn;
+              turn = λ on. absurd (true≢false (sym on ∙ idle));
               later = λ whole. goes_on_more r.names v.seen r.history (f.later whole);
               own = λ whole _. (
                 (let is : v.next ≡ r.names = next in omega arith),
@@ -94,7 +94,7 @@ calls d start count l slots id me whole idle right small_name one_of s r wide at
     small_one : (k : ℕ) → k < 64 → (k + 1) % 2 ^ 64 ≡ k + 1
     small_one k h = mod-eq_of_lt (omega arith)
 
--- a seat makes another, and gives it the right to the next name
+-- a seat makes another one, and gives it the right to the next name
 pub deals : (d : List DriverSpec) (start : List Entry) (count l id : ℕ) (v : SeatView)
     → Splits (TurnRule d l start count) id v (without_right v) (view_beside v)
 deals d start count l id v s r at = let f = r.each id v at in let views = set s.views id (without_right v) in record {
@@ -158,7 +158,7 @@ deals d start count l id v s r at = let f = r.each id v at in let views = set s.
     keeps_right true n m j not is = absurd (not refl)
     keeps_right false n m j not is = is
 
--- a seat takes in what another has seen, which is spent
+-- a seat takes in what another one has seen, which is then spent
 pub meets : (d : List DriverSpec) (start : List Entry) (count l id other : ℕ) (v w : SeatView) → w.turn ≡ false
     → IsNamed w → Joins (TurnRule d l start count) id v other w (after_meeting v w) spent_view
 meets d start count l id other v w idle named s r at apart there =
@@ -232,7 +232,7 @@ meets d start count l id other v w idle named s r at apart there =
 
 -- ---- the beginning
 
--- the table, the system at home in it
+-- the new table, with the system at home in it
 pub opens : (s : Recorded) (count n : ℕ) → n ≡ front_of s.drivers s.history → IsSoundSystem s
     → TurnRule s.drivers s.limit s.history count (opening (n ∷ 0 ∷ []) (Some s ∷ []) (first_view s))
 opens s count n is sound =

@@ -16,7 +16,7 @@ use Rattle.smx_shared.specs.SeatViews.{Mine, after_step, Shows, Looked, Taken, P
 use Rattle.smx_shared.specs.TurnRule.{Slot, Turn, free, held, bit_of, home_of, system_with, Fits, IsNamed, TurnRule}
 use Rattle.smx_shared.specs.declared.seat_view.SeatView.{SeatView}
 use Rattle.smx_shared.proofs.OwnEntryLemmas.{begins_trans, begins_itself, goes_on_trans, goes_on_itself}
-use Rattle.smx_shared.proofs.OwnEntryLemmas.{goes_on_begins, others_stay}
+use Rattle.smx_shared.proofs.OwnEntryLemmas.{adds_named, goes_on_begins, others_stay}
 use Rattle.smx_shared.proofs.MetSeatLemmas.{met_apart_kept, met_stays}
 use Rattle.smx_shared.proofs.SeatListLemmas.{apart_kept, HasHolder, holder_stays, holder_now, held_same}
 use Rattle.smx_shared.proofs.FrontWordLemmas.{or_free, or_held}
@@ -25,7 +25,7 @@ use Rattle.smx_shared.proofs.FrontWordLemmas.{or_free, or_held}
 abbrev Table : Type 0
 Table = State Slot SeatView
 
--- a turn that is free is held by nobody
+-- no seat holds a turn that is free
 pub not_free : (j : ℕ) → free ≡ held j → ⊥
 not_free j e = cc
 
@@ -40,7 +40,7 @@ word_is d start count l s r = ap (λ (ws : List ℕ). slice_index ws 0) r.words
 
 -- ---- steps on the first word
 
--- the rule after a step of the seat id on the first word
+-- the rule after a step of seat `id` on the first word
 moved : (d : List DriverSpec) (start : List Entry) (count l id : ℕ) (s : Table) (r : TurnRule d l start count s)
     (v w : SeatView) (h : List Entry) (t : Turn) (n : ℕ) (homes : List (maybe.Option Slot))
     → get_elem? s.views id ≡ some v → n ≡ front_of d h + bit_of t → IsSoundSystem (system_with d l h)
@@ -69,7 +69,7 @@ moved d start count l id s r v w h t n homes at is sound begun home others mine 
   met_apart = met_apart_kept s.views id v w r.met_apart at named process met;
 }
 
--- another seat, where the history has grown by entries that are not its own
+-- another seat, if the history has grown by entries that are not its own
 stays : (d : List DriverSpec) (l : ℕ) (h h' : List Entry) (t t' : Turn) (n m j : ℕ) (u : SeatView) → GoesOnNamed n h h'
     → (IsNamed u → entries_of u.process h ≡ entries_of u.process h')
     → (u.turn ≡ true → (t' ≡ held j) × (h ≡ h'))
@@ -80,7 +80,7 @@ stays d l h h' t t' n m j u more own turn met f = record {
   seen = begins_trans u.seen h h' f.seen (goes_on_begins n h h' more);
   met = met f.met;
   met_named = f.met_named;
-  turn = λ on. let g = turn on in (g.0, (f.turn on).1 ∙ g.1);
+  turn = λ on. let g = turn on in (g.0, (f.turn on).1 ∙ g.1, (f.turn on).2);
   later = λ whole. goes_on_trans n u.seen h h' (f.later whole) more;
   own = λ whole named. ((f.own whole named).0, (f.own whole named).1 ∙ own (whole, named));
   right = f.right;
@@ -99,14 +99,14 @@ shows d l h t n m j v whole f sound = let c = f.same whole in record {
 
 -- the seat itself, after a step that showed it the history
 seated : (d : List DriverSpec) (l : ℕ) (h : List Entry) (t t' : Turn) (names namer j : ℕ) (v : SeatView) (n : ℕ)
-    (on : Bool) → Fits d l h t names namer j v → (on ≡ true → t' ≡ held j)
+    (on : Bool) → Fits d l h t names namer j v → (on ≡ true → (t' ≡ held j) × IsNamed v)
     → Fits d l h t' names namer j (after_step v h n on v.own)
 seated d l h t t' names namer j v n on f turn = record {
   same = f.same;
   seen = begins_itself h;
   met = f.met;
   met_named = f.met_named;
-  turn = λ e. (turn e, refl);
+  turn = λ e. ((turn e).0, refl, (turn e).1);
   later = λ _. goes_on_itself names h;
   own = f.own;
   right = f.right;
@@ -134,7 +134,7 @@ looks d start count l slots id me whole idle s r wide at small =
       ),
     )
 
--- what a step of the seat id on the first word owes, where the word becomes n
+-- what a step of seat `id` on the first word owes, if the word becomes `n`
 abbrev Goes : (d : List DriverSpec) (start : List Entry) (count l id : ℕ) → Table → Mine → ℕ → (Mine → Type 0) → Type 0
 Goes d start count l id s me n told =
     (w : SeatView) × (a : Act Slot) × Valid s.homes me.1 a
@@ -147,12 +147,13 @@ Goes d start count l id s me n told =
 
 -- the turn bit is set, whether the turn was free or held
 takes_by : (d : List DriverSpec) (start : List Entry) (count l id : ℕ) (me : Mine) (s : Table)
-    (r : TurnRule d l start count s) (t : Turn) → r.turn ≡ t → me.0.spent ≡ false → me.0.turn ≡ false
+    (r : TurnRule d l start count s) (t : Turn) → r.turn ≡ t → IsNamed me.0 → me.0.turn ≡ false
     → get_elem? s.views id ≡ some me.0
     → (n : ℕ) → n ≡ front_of d r.history + bit_of t
     → Goes d start count l id s me (bit_or n 1) (Taken (step 0 0 1 0 none) me n)
-takes_by d start count l id me s r free is whole idle at n found =
-    let f = r.each id me.0 at in let c = f.same whole in let w = after_step me.0 r.history n true me.0.own in
+takes_by d start count l id me s r free is named idle at n found =
+    let whole = named.0 in let f = r.each id me.0 at in let c = f.same whole in
+    let w = after_step me.0 r.history n true me.0.own in
     let home : s.homes ≡ some (Some (system_with d l r.history)) ∷ [] = r.home
     ∙ ap (λ (t : Turn). home_of (system_with d l r.history) t ∷ []) is in
     let zero : front_of d r.history + 0 ≡ front_of d r.history = omega arith in
@@ -166,7 +167,8 @@ takes_by d start count l id me s r free is whole idle at n found =
           (λ j u _ e. stays d l r.history r.history r.turn (held id) r.names r.namer j u
           (goes_on_itself r.names r.history) (λ _. refl)
           (λ on. absurd (not_free j (sym is ∙ ((r.each j u e).turn on).0))) (λ x. x) (r.each j u e))
-          (seated d l r.history r.turn (held id) r.names r.namer id me.0 n true f (λ _. refl))
+          (seated d l r.history r.turn (held id) r.names r.namer id me.0 n true f
+          (λ _. (refl, named)))
           (holder_now s.views id me.0 w at refl) (λ i. i) refl refl,
       (
         r.history,
@@ -180,8 +182,9 @@ takes_by d start count l id me s r free is whole idle at n found =
         ),
       ),
     )
-takes_by d start count l id me s r (held k) is whole idle at n found =
-    let f = r.each id me.0 at in let c = f.same whole in let w = after_step me.0 r.history n false me.0.own in (
+takes_by d start count l id me s r (held k) is named idle at n found =
+    let whole = named.0 in let f = r.each id me.0 at in let c = f.same whole in
+    let w = after_step me.0 r.history n false me.0.own in (
       w,
       keeps,
       tt,
@@ -197,14 +200,14 @@ takes_by d start count l id me s r (held k) is whole idle at n found =
       ),
     )
 
--- the turn bit is set by a seat without the turn
-pub takes_turn : (d : List DriverSpec) (start : List Entry) (count l slots id : ℕ) (me : Mine) → me.0.spent ≡ false
+-- the turn bit is set by a named seat without the turn
+pub takes_turn : (d : List DriverSpec) (start : List Entry) (count l slots id : ℕ) (me : Mine) → IsNamed me.0
     → me.0.turn ≡ false → Allows (TurnRule d l start count) slots id me 0 (λ n. bit_or n 1)
     (Taken (step slots 0 1 0 none) me)
-takes_turn d start count l slots id me whole idle s r wide at small =
-    takes_by d start count l id me s r r.turn refl whole idle at (slice_index s.words 0) (word_is d start count l s r)
+takes_turn d start count l slots id me named idle s r wide at small =
+    takes_by d start count l id me s r r.turn refl named idle at (slice_index s.words 0) (word_is d start count l s r)
 
--- the front of the system that the holder has in the slot is stored, and the slot goes home
+-- the holder stores the front of the system in its slot, and the slot goes home
 pub publishes : (d : List DriverSpec) (start : List Entry) (count l slots id n : ℕ) (me : Mine) (h : List Entry)
     → HasTurn me (Some (system_with me.0.drivers me.0.limit h)) → me.0.named ≡ true → AddsFor me.0.process me.0.seen h
     → IsSoundSystem (system_with me.0.drivers me.0.limit h) → n ≡ front_of me.0.drivers h
@@ -217,7 +220,7 @@ publishes d start count l slots id n me h has named more sound front_is s r wide
     let slot : me.1 ≡ (0, Some (system_with d l h)) ∷ [] = has.has
     ∙ ap₂ (λ (ds : List DriverSpec) (k : ℕ). (0, Some (system_with ds k h)) ∷ []) c.0 c.1 in
     let now : AddsFor me.0.process r.history h = subst (λ (old : List Entry). AddsFor me.0.process old h) t.1 more in
-    let longer : GoesOnNamed r.names r.history h = (now.more, now.joins, now.named r.names mine.0) in
+    let longer : GoesOnNamed r.names r.history h = adds_named me.0.process r.names r.history h now mine.0 in
     let home : s.homes ≡ none ∷ [] = r.home ∙ ap (λ (t : Turn). home_of (system_with d l r.history) t ∷ []) t.0 in
     let zero : front_of d h + 0 ≡ front_of d h = omega arith in (
       w,
@@ -226,12 +229,8 @@ publishes d start count l slots id n me h has named more sound front_is s r wide
       moved d start count l id s r me.0 w h free n (homes_after s.homes me.1 gives) at
           (front_is ∙ ap (λ (ds : List DriverSpec). front_of ds h) c.0 ∙ sym zero)
           (subst IsSoundSystem (ap₂ (λ (ds : List DriverSpec) (k : ℕ). system_with ds k h) c.0 c.1) sound)
-          (goes_on_trans count start r.history h r.begun (
-            now.more,
-            now.joins,
-            now.named count (let below : me.0.process < r.names = mine.0 in
-                let few : r.names ≤ count = r.few in omega arith),
-          ))
+          (goes_on_trans count start r.history h r.begun (adds_named me.0.process count r.history h now
+          (let below : me.0.process < r.names = mine.0 in let few : r.names ≤ count = r.few in omega arith)))
           (ap₂ (λ (hs : List (maybe.Option Slot)) (c : List (ℕ × Slot)). homes_after hs c gives) home slot)
           (λ j u other e. stays d l r.history h r.turn free r.names r.namer j u longer
           (λ is_named. others_stay me.0.process u.process r.history h now
@@ -253,5 +252,5 @@ publishes d start count l slots id n me h has named more sound front_is s r wide
             right = f.right;
           })
           (λ j e. absurd (not_free j e)) (λ i. i) refl refl,
-      refl,
+      (subst (AddsFor me.0.process me.0.seen) (sym entries) more, refl),
     )

@@ -1,31 +1,31 @@
--- What a seat learns by each step.
+-- The knowledge that a seat gains by each step.
 use Rattle.std.proofs.Common.{◌≡◌, ◌≢◌, ⊎_elim, ℕ, ◌+◌, ◌%◌, List, [], ◌∷◌, ◌++◌, Bool, true, false, Some, None, Result}
-use Rattle.std.proofs.Common.{Ok, Err, refl, sym, ap, ap₂, ◌∙◌, subst, arith}
+use Rattle.std.proofs.Common.{Ok, Err, refl, sym, ap, ap₂, ◌∙◌, subst, arith, ◌<◌, ◌≤◌, true≢false}
 use Rattle.std.specs.Prelude.{IfOk, OnOk, OnErr}
 use mathlib.Core.Option as maybe
 use mathlib.Core.Option.{none, some, some-injective}
 use lib.ListN.{get_elem?}
-use Rattle.atomic_table.specs.Table.{Final, Seen, step, rest}
+use Rattle.atomic_table.specs.Table.{Final, Seen, State, step, rest}
 use Rattle.smx_types.specs.declared.command.Command.{Command}
 use Rattle.smx_types.specs.declared.command.Entry.{Entry}
 use Rattle.smx_types.specs.declared.driver.DriverSpec.{DriverSpec}
-use Rattle.smx_shared.specs.Calls.{AnswersEntry}
+use Rattle.smx_shared.specs.Calls.{AddsEntry, AnswersEntry}
 use Rattle.smx_shared.specs.Fronts.{front_of}
 use Rattle.smx_shared.specs.Recorded.{Recorded, IsSoundSystem, next_entry, with_entry}
-use Rattle.smx_shared.specs.Seats.{entries_of, AreMetBy, GoesOnNamed, IsBeginningOf}
+use Rattle.smx_shared.specs.Seats.{Known, entries_of, AreMetBy, GoesOnNamed, IsBeginningOf, HasMetAll}
 use Rattle.smx_shared.specs.SeatViews.{Mine, after_meeting, after_step, Shows, Looked, Taken, Published, history_in}
 use Rattle.smx_shared.specs.SeatViews.{known_of, system_of, IsAtRest, IsInformed, RestsAfter, HasTurn, HasGrown, HasMet}
 use Rattle.smx_shared.specs.SeatViews.{FoundWord, AddsFor}
-use Rattle.smx_shared.specs.TurnRule.{Slot, Turn, free, held, bit_of, home_of, system_with, TurnRule}
+use Rattle.smx_shared.specs.TurnRule.{Slot, Turn, free, held, bit_of, home_of, system_with, IsNamed, TurnRule}
 use Rattle.smx_shared.specs.declared.shared_fault.ApplyFault.{ApplyFault}
 use Rattle.smx_shared.specs.declared.seat_view.SeatView.{SeatView}
 use Rattle.smx_shared.proofs.OwnEntryLemmas.{begins_trans, entries_append, entries_mine, adds_one}
-use Rattle.smx_shared.proofs.OwnEntryLemmas.{adds_none}
+use Rattle.smx_shared.proofs.OwnEntryLemmas.{adds_begins, adds_none}
 use Rattle.smx_shared.proofs.FrontWordLemmas.{held_odd, free_even, front_and_bit}
 
 -- ---- growing
 
--- a seat that has seen more, and then more than that, has seen more than at first, and else is the same
+-- seeing more is transitive
 pub grown_trans : (u v w : SeatView) → HasGrown u v → HasGrown v w → HasGrown u w
 grown_trans u v w p q = record {
   drivers = q.drivers ∙ p.drivers;
@@ -37,7 +37,7 @@ grown_trans u v w p q = record {
   seen = begins_trans u.seen v.seen w.seen p.seen q.seen;
 }
 
--- by a step that showed it a history
+-- growing by a step that showed the seat a history
 grown_by : (v : SeatView) (h : List Entry) (n : ℕ) (on : Bool) (own : List Entry) → Shows v h
     → HasGrown v (after_step v h n on own)
 grown_by v h n on own s = record {
@@ -52,7 +52,7 @@ grown_by v h n on own s = record {
 
 -- ---- a load
 
--- what a load tells a seat at rest
+-- what a load shows a seat at rest
 pub looked : (m m' : Mine) (n : ℕ) → IsAtRest m → Looked (step 0 0 0 0 none) m n m'
     → RestsAfter m.0 m' × FoundWord m.0 m'.0 n
 looked m m' n r t = subst (λ (k : Mine). RestsAfter m.0 k × FoundWord m.0 k.0 n) (sym t.4) (
@@ -62,7 +62,7 @@ looked m m' n r t = subst (λ (k : Mine). RestsAfter m.0 k × FoundWord m.0 k.0 
 
 -- ---- the turn
 
--- it was free, and is this seat's
+-- the turn was free, and now this seat has it
 pub taken_free : (m m' : Mine) (n : ℕ) → IsAtRest m → Taken (step 0 0 1 0 none) m n m' → n % 2 ≡ 0 →
     HasTurn m' (Some (system_of m'.0)) × HasGrown m.0 m'.0 × (m'.0.own ≡ m.0.own) × (m'.0.looks ≡ m.0.looks + 1)
 taken_free m m' n r t even = ⊎_elim
@@ -85,7 +85,7 @@ taken_free m m' n r t even = ⊎_elim
     ))
     t.2
 
--- it was held, as the word shows
+-- the turn was held, as the word shows
 pub taken_held : (m m' : Mine) (n : ℕ) → IsAtRest m → Taken (step 0 0 1 0 none) m n m' → n % 2 ≢ 0 →
     RestsAfter m.0 m' × FoundWord m.0 m'.0 n × (n % 2 ≡ 1)
 taken_held m m' n r t odd = ⊎_elim
@@ -103,7 +103,7 @@ taken_held m m' n r t odd = ⊎_elim
 
 -- ---- out of the slot and back
 
--- a system is told by its drivers, its limit and its history
+-- a system is determined by its drivers, its limit and its history
 same_system : (s : Recorded) (drivers : List DriverSpec) (limit : ℕ) → s.drivers ≡ drivers → s.limit ≡ limit
     → s ≡ system_with drivers limit s.history
 same_system s drivers limit d l = ap₂ (λ (ds : List DriverSpec) (k : ℕ). system_with ds k s.history) d l
@@ -112,7 +112,7 @@ same_system s drivers limit d l = ap₂ (λ (ds : List DriverSpec) (k : ℕ). sy
 pub has_slot : (m : Mine) (slot : Slot) → HasTurn m slot → m.1 ≡ (0, slot) ∷ rest m.1
 has_slot m slot h = h.has ∙ ap (λ (l : List (ℕ × Slot)). (0, slot) ∷ rest l) (sym h.has)
 
--- the seat before it gives the turn back: m1 is what m has become, with this system in the slot
+-- a seat that is about to give the turn back: `m` has become `m1`, with this system in the slot
 pub record IsReady (m m1 : Mine) (s : Recorded) (n : ℕ) : Type 0 where
   pub view : m1.0 ≡ m.0
   pub has : HasTurn m1 (Some (system_with m1.0.drivers m1.0.limit s.history))
@@ -121,7 +121,7 @@ pub record IsReady (m m1 : Mine) (s : Recorded) (n : ℕ) : Type 0 where
   pub sound : IsSoundSystem (system_with m1.0.drivers m1.0.limit s.history)
   pub front : n ≡ front_of m1.0.drivers s.history
 
--- a seat with the turn can give it back with a sound system in the slot to which its process alone has added
+-- a seat with the turn can give it back with a sound system in the slot, if only its process has added to the history
 pub ready : (m m1 : Mine) (s : Recorded) (n : ℕ) → HasTurn m None → m.0.named ≡ true → s.drivers ≡ m.0.drivers
     → s.limit ≡ m.0.limit → AddsFor m.0.process m.0.seen s.history
     → IsSoundSystem s → n ≡ front_of s.drivers s.history → m1 ≡ (m.0, (0, Some s) ∷ rest m.1) → IsReady m m1 s n
@@ -139,13 +139,14 @@ ready m m1 s n h named drivers limit more sound front is =
       front = front ∙ ap (λ (ds : List DriverSpec). front_of ds s.history) drivers;
     }
 
--- what the store tells it
+-- what the store shows the seat
 pub published : (m m1 m2 : Mine) (s : Recorded) (n : ℕ) → IsReady m m1 s n → Published (step 0 0 0 0 none) m1 n m2
     → RestsAfter m.0 m2 × (m2.0.seen ≡ s.history) × (m2.0.looks ≡ m.0.looks + 1)
 published m m1 m2 s n r is =
     let entries : history_in m1.1 ≡ s.history = ap history_in r.has.has in
     let same : m2 ≡ (after_step m1.0 s.history n false (entries_of m1.0.process s.history), []) =
-    is ∙ ap₂ (λ (h : List Entry) (c : List (ℕ × Slot)). (after_step m1.0 h n false (entries_of m1.0.process h), rest c))
+    is.1
+    ∙ ap₂ (λ (h : List Entry) (c : List (ℕ × Slot)). (after_step m1.0 h n false (entries_of m1.0.process h), rest c))
     entries r.has.has in
     subst (λ (k : Mine). RestsAfter m.0 k × (k.0.seen ≡ s.history) × (k.0.looks ≡ m.0.looks + 1)) (sym same) (
       (
@@ -157,7 +158,8 @@ published m m1 m2 s n r is =
           spent = ap (λ (v : SeatView). v.spent) r.view;
           named = ap (λ (v : SeatView). v.named) r.view;
           process = ap (λ (v : SeatView). v.process) r.view;
-          seen = subst (λ (v : SeatView). IsBeginningOf v.seen s.history) r.view (r.more.more, r.more.joins);
+          seen = subst (λ (v : SeatView). IsBeginningOf v.seen s.history) r.view
+              (adds_begins m1.0.process m1.0.seen s.history r.more);
         },
         record { sound = r.sound; own = λ _. refl },
       ),
@@ -177,7 +179,7 @@ adds_by (Ok x) s s' p q seen command ok err old same =
 adds_by (Err f) s s' p q seen command ok err old same =
     adds_none q seen s'.history (ap (λ (x : Recorded). x.history) err ∙ old)
 
--- where it added one, the seat knows it
+-- if it added one, the seat knows it
 pub answers : (v w : SeatView) (s s' : Recorded) (p : ℕ) (command : Command) → s ≡ system_of v → IsInformed v
     → v.named ≡ true → v.process ≡ p → HasGrown v w → IsInformed w → w.seen ≡ s'.history
     → s' ≡ with_entry s p command → AnswersEntry (known_of v) (known_of w) command (next_entry s p command)
@@ -192,7 +194,7 @@ answers v w s s' p command is known named process grown informed seen did =
           ∙ ap₂ (λ (xs ys : List Entry). xs ++ ys) (sym (known.own named)) (entries_mine v.process e (sym process));
     }
 
--- where a call answers the entry that it added, the seat has seen that last, and has made it
+-- if a call returns the entry that it added, the seat has seen it last, and has made it
 pub answers_if : (r : Result Entry ApplyFault) (v w : SeatView) (s s' : Recorded) (p : ℕ) (command : Command)
     → s ≡ system_of v → IsInformed v → v.named ≡ true → v.process ≡ p → HasGrown v w → IsInformed w
     → w.seen ≡ s'.history
@@ -203,9 +205,32 @@ answers_if (Ok e) v w s s' p command is known named process grown informed seen 
     (answers v w s s' p command is known named process grown informed seen did)
 answers_if (Err f) v w s s' p command is known named process grown informed seen answer did = tt
 
+-- if a call adds an entry without returning it, the seat knows it too
+pub adds_if : {A : Type 0} (r : Result A ApplyFault) (v w : SeatView) (s s' : Recorded) (p : ℕ) (command : Command)
+    → s ≡ system_of v → IsInformed v → v.named ≡ true → v.process ≡ p → HasGrown v w → IsInformed w
+    → w.seen ≡ s'.history → OnOk r (s' ≡ with_entry s p command)
+    → OnOk r (AddsEntry (known_of v) command (known_of w))
+adds_if (Ok x) v w s s' p command is known named process grown informed seen did =
+    (next_entry s p command, answers v w s s' p command is known named process grown informed seen did)
+adds_if (Err f) v w s s' p command is known named process grown informed seen did = tt
+
+-- a seat that had made as much before knows as much of it
+pub adds_since : {A : Type 0} (r : Result A ApplyFault) (old taken new : Known) (command : Command)
+    → taken.process ≡ old.process → taken.own ≡ old.own
+    → OnOk r (AddsEntry taken command new) → OnOk r (AddsEntry old command new)
+adds_since (Ok x) old taken new command process own adds = (
+  adds.0,
+  record {
+    call = adds.1.call ∙ ap (λ (n : ℕ). (n, command)) process;
+    seen = adds.1.seen;
+    own = adds.1.own ∙ ap (λ (es : List Entry). es ++ adds.0 ∷ []) own;
+  },
+)
+adds_since (Err f) old taken new command process own adds = tt
+
 -- ---- a meeting
 
--- what a meeting and the load after it tell
+-- what a meeting and the load after it show
 pub met_all : (m m1 m2 : Mine) (w : SeatView) (n : ℕ) → IsAtRest m → m1 ≡ (after_meeting m.0 w, m.1)
     → Looked (step 0 0 0 0 none) m1 n m2
     → IsAtRest m2 × IsInformed m2.0 × HasMet m.0 w m2.0
@@ -229,7 +254,22 @@ met_all m m1 m2 w n r join t =
 
 -- ---- the end
 
--- what is found at the end: the word is a front with the turn bit, and where that is free, the slot has the system
+-- nobody has the turn once a seat has met all others
+nobody_left : (d : List DriverSpec) (l : ℕ) (start : List Entry) (count id : ℕ) (v : SeatView)
+    (s : State Slot SeatView) (r : TurnRule d l start count s) → get_elem? s.views id ≡ some v → IsNamed v
+    → v.turn ≡ false → HasMetAll count (known_of v) v.met → (t : Turn) → r.turn ≡ t → t ≡ free
+nobody_left d l start count id v s r at named idle all free is = refl
+nobody_left d l start count id v s r at named idle all (held j) is =
+    let h = r.holder j is in let u = h.0 in let other = r.each j u h.1 in
+    let named_u : IsNamed u = (other.turn h.2).2 in
+    let below : u.process < count = let lt : u.process < r.names = (other.own named_u.0 named_u.1).0 in
+    let few : r.names ≤ count = r.few in omega arith in
+    let same : u.process ≡ v.process = all u.process below (r.met_apart id j v u at h.1 named_u) in
+    let place : j ≡ id = r.apart j id u v h.1 at named_u named same in
+    let view : u ≡ v = some-injective u v (sym h.1 ∙ ap (get_elem? s.views) place ∙ at) in
+    absurd (true≢false (sym h.2 ∙ ap (λ (z : SeatView). z.turn) view ∙ idle))
+
+-- at the end the word is a front with the turn bit, and if the turn is free, the slot has the system
 pub closes : (d : List DriverSpec) (start : List Entry) (count l id : ℕ) (v : SeatView) (words : List ℕ)
     (slots : List Slot) (n : ℕ) (x : Slot) → Final (Seen (TurnRule d l start count) id v) words slots → v.spent ≡ false
     → get_elem? words 0 ≡ some n → get_elem? slots 0 ≡ some x
@@ -238,6 +278,7 @@ pub closes : (d : List DriverSpec) (start : List Entry) (count l id : ℕ) (v : 
     × AreMetBy (system_with v.drivers v.limit h) v.met × (n ≡ front_of v.drivers h + n % 2)
     × (n % 2 ≡ 0 → x ≡ Some (system_with v.drivers v.limit h))
     × GoesOnNamed count start h × (v.drivers ≡ d) × (v.limit ≡ l)
+    × (v.named ≡ true → v.turn ≡ false → HasMetAll count (known_of v) v.met → n % 2 ≡ 0)
 closes d start count l id v words slots n x f whole word slot =
     let s = f.0 in let r = f.1.0 in let fits = r.each id v f.1.1 in let c = fits.same whole in
     let found : n ≡ front_of d r.history + bit_of r.turn = some-injective n (front_of d r.history + bit_of r.turn)
@@ -260,6 +301,9 @@ closes d start count l id v words slots n x f whole word slot =
       r.begun,
       c.0,
       c.1,
+      (λ named idle all.
+          let t : r.turn ≡ free = nobody_left d l start count id v s r f.1.1 (whole, named) idle all r.turn refl in
+          free_even d n r.history (found ∙ ap (λ (t : Turn). front_of d r.history + bit_of t) t ∙ (omega arith))),
     )
   where
     is_free : (t : Turn) (h : List Entry) → n % 2 ≡ 0 → n ≡ front_of d h + bit_of t → t ≡ free

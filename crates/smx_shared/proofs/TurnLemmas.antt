@@ -1,4 +1,4 @@
--- What the rule of the turn says of the first word, and of the seat that has the turn.
+-- Consequences of the rule of the turn for the first word, and for the seat that has the turn.
 use Rattle.std.proofs.Common.{◌≡◌, ℕ, ◌+◌, ◌%◌, List, [], ◌∷◌, true, Some, refl, sym, ap, ◌∙◌, arith}
 use mathlib.Core.Option.{none, some, some-injective}
 use lib.ListN.{get_elem?}
@@ -18,7 +18,7 @@ word_is : (d : List DriverSpec) (l : ℕ) (start : List Entry) (count n : ℕ) (
 word_is d l start count n s r word =
     some-injective n (front_of d r.history + bit_of r.turn) (sym word ∙ ap (λ (ws : List ℕ). get_elem? ws 0) r.words)
 
--- an odd word is that of a turn that is held
+-- an odd word shows a turn that is held
 held_of : (t : Turn) (d : List DriverSpec) (h : List Entry) (n : ℕ) → n ≡ front_of d h + bit_of t → n % 2 ≡ 1
     → (j : ℕ) × (t ≡ held j)
 held_of free d h n is odd =
@@ -28,7 +28,7 @@ held_of free d h n is odd =
     absurd (omega (arith, even, same, odd))
 held_of (held j) d h n is odd = (j, refl)
 
--- an even word is that of a turn that is free
+-- an even word shows a turn that is free
 free_of : (t : Turn) (d : List DriverSpec) (h : List Entry) (n : ℕ) → n ≡ front_of d h + bit_of t → n % 2 ≡ 0 → t ≡ free
 free_of free d h n is even = refl
 free_of (held j) d h n is even = absurd (let odd = held_odd d n h is in omega arith)
@@ -47,14 +47,14 @@ home_at d l start count n s r word even =
       r.sound,
     )
 
--- and otherwise it is out
+-- otherwise it is out
 pub out_at : (d : List DriverSpec) (l : ℕ) (start : List Entry) (count n : ℕ) (s : State Slot SeatView)
     → TurnRule d l start count s → get_elem? s.words 0 ≡ some n → n % 2 ≡ 1 → s.homes ≡ none ∷ []
 out_at d l start count n s r word odd =
     let holder = held_of r.turn d r.history n (word_is d l start count n s r word) odd in
     r.home ∙ ap (λ (t : Turn). home_of (system_with d l r.history) t ∷ []) holder.1
 
--- a seat has the turn where the word has the turn bit
+-- if the word has the turn bit, a seat has the turn
 pub held_by : (d : List DriverSpec) (l : ℕ) (start : List Entry) (count n : ℕ) (s : State Slot SeatView)
     → TurnRule d l start count s → get_elem? s.words 0 ≡ some n → n % 2 ≡ 1
     → (j : ℕ) × (v : SeatView) × (get_elem? s.views j ≡ some v) × (v.turn ≡ true)
@@ -63,7 +63,7 @@ held_by d l start count n s r word odd =
     let seat = r.holder holder.0 holder.1 in
     (holder.0, seat.0, seat.1, seat.2)
 
--- and the word has it where a seat has the turn
+-- if a seat has the turn, the word has the turn bit
 pub shown_by : (d : List DriverSpec) (l : ℕ) (start : List Entry) (count n j : ℕ) (v : SeatView)
     (s : State Slot SeatView) → TurnRule d l start count s → get_elem? s.words 0 ≡ some n → get_elem? s.views j ≡ some v
     → v.turn ≡ true → n % 2 ≡ 1
@@ -71,7 +71,7 @@ shown_by d l start count n j v s r word at on =
     let its : r.turn ≡ held j = ((r.each j v at).turn on).0 in
     held_odd d n r.history (word_is d l start count n s r word ∙ ap (λ (t : Turn). front_of d r.history + bit_of t) its)
 
--- no two seats have it
+-- no two seats have the turn
 pub one_holder : (d : List DriverSpec) (l : ℕ) (start : List Entry) (count i j : ℕ) (v w : SeatView)
     (s : State Slot SeatView) → TurnRule d l start count s → get_elem? s.views i ≡ some v → get_elem? s.views j ≡ some w
     → v.turn ≡ true → w.turn ≡ true → i ≡ j

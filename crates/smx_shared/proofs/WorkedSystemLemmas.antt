@@ -8,7 +8,7 @@ use Rattle.smx_model.specs.Worked.SecondIsIllegal.{history}
 use Rattle.smx_shared.specs.Recorded.{Recorded, IsSoundSystem}
 use Rattle.smx_shared.specs.WorkedSystems.{with_first, of_one_name}
 
--- the one driver can be had
+-- the one driver is valid
 one_driver : IsDriverList (mux ip 4 ∷ [])
 one_driver = record {
   few = omega arith;
@@ -16,13 +16,13 @@ one_driver = record {
   names = λ i j d within before. absurd (omega arith);
 }
 
--- what is enough for a system is had by one with a single entry
+-- a system with one entry meets the conditions of a sound system
 pub with_one : ((s : Recorded) → IsDriverList s.drivers → s.limit ≤ MAX_COMMANDS → length s.history ≤ s.limit
     → IsLegal s.drivers s.history → IsSoundSystem s)
     → (limit : ℕ) → 1 ≤ limit → limit ≤ MAX_COMMANDS → IsSoundSystem (with_first 1 limit)
 with_one enough limit some few =
     enough (with_first 1 limit) one_driver few some (legal (mux ip 4 ∷ []) (take 1 history) refl)
 
--- two drivers have one name
+-- two drivers have the same name
 pub one_name : IsSoundSystem of_one_name → ⊥
 one_name h = h.can_be_had.names 0 1 (mux ip 4) (omega arith) (omega arith) refl

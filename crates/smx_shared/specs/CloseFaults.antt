@@ -10,19 +10,20 @@ use Rattle.smx_shared.specs.declared.front.Front.{Front}
 -- the front shows a turn that was never given back
 pub record ShowsHeld (old : Known) (front : Front) : Type 0 where
   pub held : front.held ≡ true
-  -- It is that of a history that begins with what had been seen.
+  -- It is that of a history that begins with the one that had been seen.
   pub history : List Entry
   pub seen : IsBeginningOf old.seen history
   pub numbers : IsFrontOf front old.drivers history
 
--- a shared system is not given back to somebody who knew this much only where its front shows that
+-- a shared system is not given back to a caller who knew this only if its front shows a turn that was never given
+-- back
 abbrev pub IsHeld : Known → CloseFault → Type 0
 IsHeld old (Held front) = ShowsHeld old front
 
--- that somebody has the turn
+-- the words for a turn that is held
 abbrev pub turn_held_words : List ℕ
 turn_held_words = codes "turn held"
 
--- the words in which it prints itself
+-- the words in which the fault prints itself
 abbrev pub close_fault_words : CloseFault → List ℕ
 close_fault_words (Held front) = turn_held_words

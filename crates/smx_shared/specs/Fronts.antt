@@ -5,7 +5,7 @@ use Rattle.smx_types.specs.declared.driver.DriverSpec.{DriverSpec}
 use Rattle.smx_model.specs.Histories.{after}
 use Rattle.smx_shared.specs.declared.front.Front.{Front}
 
--- how many links stand after a history
+-- the number of links after a history
 abbrev pub links_after : List DriverSpec → List Entry → ℕ
 links_after drivers history = length (after drivers history).links
 
@@ -13,12 +13,12 @@ links_after drivers history = length (after drivers history).links
 unfoldable pub front_of : List DriverSpec → List Entry → ℕ
 front_of drivers history = 4096 * length history + 2 * links_after drivers history
 
--- the lowest bit of a word: whether somebody has the turn
+-- the lowest bit of a word: whether a seat has the turn
 abbrev pub turn_bit : Bool → ℕ
 turn_bit true = 1
 turn_bit false = 0
 
--- the word that tells what a front says
+-- the word of a front
 abbrev pub word_of : Front → ℕ
 word_of front = 4096 * front.entries + 2 * front.links + turn_bit front.held
 

@@ -1,14 +1,11 @@
 pub mod Calls
 pub mod CloseFaults
-pub mod CommandSources
 pub mod FaultWords
 pub mod Fronts
-pub mod Performed
 pub mod Recorded
 pub mod Seats
 pub mod SeatViews
 pub mod TryFaults
 pub mod TurnRule
 pub mod WorkedCalls
-pub mod WorkedSources
 pub mod WorkedSystems

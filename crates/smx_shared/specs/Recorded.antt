@@ -1,4 +1,4 @@
--- The drivers of a system, the limit of its history, and the history that it has so far.
+-- The drivers of a system, the limit of its history, and the history up to now.
 use Rattle.std.specs.Prelude.{◌≡◌, ℕ, ◌≤◌, List, [], ◌∷◌, ◌++◌, length}
 use Rattle.smx_types.specs.declared.command.Command.{Command}
 use Rattle.smx_types.specs.declared.command.Entry.{Entry}
@@ -16,9 +16,9 @@ pub record Recorded : Type 0 where
   pub limit : ℕ
   pub history : List Entry
 
--- what every system is, whichever commands came before
+-- what holds of every system, after any commands
 pub record IsSoundSystem (s : Recorded) : Type 0 where
-  -- A configuration can have its drivers.
+  -- Its drivers are valid.
   pub can_be_had : IsDriverList s.drivers
   -- It has at most as many entries as its limit allows, and that is at most 100,000.
   pub within : length s.history ≤ s.limit
@@ -28,16 +28,16 @@ pub record IsSoundSystem (s : Recorded) : Type 0 where
   -- After each entry there is no cycle, no stream below two links, and no message lost or doubled.
   pub lawful : IsLawfulThroughout s.drivers s.history
 
--- what is seen of a configuration, a limit and a history
+-- the system with the drivers of this configuration, this limit and this history
 abbrev pub recorded_of : Machine → ℕ → List Entry → Recorded
 recorded_of m limit history = record { drivers = m.drivers; limit = limit; history = history }
 
--- such a system, and the configuration is the one after its history
+-- such a system is sound, and the configuration is the one after its history
 pub record IsRecord (m : Machine) (limit : ℕ) (history : List Entry) : Type 0 where
   pub sound : IsSoundSystem (recorded_of m limit history)
   pub now : m.configuration ≡ after m.drivers history
 
--- what a command makes an entry of: its process, itself, and the reply that it gets after the history
+-- the entry of a command: its process, the command, and the reply that it gets after the history
 abbrev pub next_entry : Recorded → ℕ → Command → Entry
 next_entry s process command = record {
   process = process;
@@ -45,15 +45,10 @@ next_entry s process command = record {
   reply = (step s.drivers (after s.drivers s.history) process command).1;
 }
 
--- that one entry more, at the end
+-- the system with that one entry added at the end
 abbrev pub with_entry : Recorded → ℕ → Command → Recorded
 with_entry s process command = record {
   drivers = s.drivers;
   limit = s.limit;
   history = s.history ++ next_entry s process command ∷ [];
 }
-
--- an entry more for each of these commands, in their order
-abbrev pub with_entries : Recorded → ℕ → List Command → Recorded
-with_entries s process [] = s
-with_entries s process (command ∷ commands) = with_entries (with_entry s process command) process commands

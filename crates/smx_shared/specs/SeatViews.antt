@@ -1,11 +1,11 @@
--- What a seat's view becomes by each kind of step, and what the step tells.
-use Rattle.std.specs.Prelude.{◌≡◌, ◌≢◌, ℕ, ◌+◌, ◌%◌, ◌<◌, ◌⊎◌, List, [], ◌∷◌, ◌++◌, Bool, true, false, Some, None}
+-- How each kind of step changes a seat's view, and what the step shows.
+use Rattle.std.specs.Prelude.{◌≡◌, ℕ, ◌+◌, ◌%◌, ◌⊎◌, List, [], ◌∷◌, ◌++◌, Bool, true, false, Some, None}
 use Rattle.atomic_table.specs.Seated.{TableId}
 use Rattle.atomic_table.specs.Table.{Me, Step, rest}
 use Rattle.smx_types.specs.declared.command.Entry.{Entry}
 use Rattle.smx_shared.specs.Fronts.{front_of}
 use Rattle.smx_shared.specs.Recorded.{Recorded, IsSoundSystem}
-use Rattle.smx_shared.specs.Seats.{Known, Seated, entries_of, met_seat, AreMetBy, AreNamedBelow, IsBeginningOf}
+use Rattle.smx_shared.specs.Seats.{Known, Seated, entries_of, met_seat, AreMetBy, IsBeginningOf}
 use Rattle.smx_shared.specs.TurnRule.{Slot, Turn, bit_of, system_with}
 use Rattle.smx_shared.specs.declared.seat_view.SeatView.{SeatView}
 
@@ -17,13 +17,13 @@ Mine = Me Slot SeatView
 abbrev pub known_of : SeatView → Known
 known_of v = record { drivers = v.drivers; limit = v.limit; process = v.process; seen = v.seen; own = v.own }
 
--- the system, as far as it has seen it
+-- the system, with the history that it has seen
 abbrev pub system_of : SeatView → Recorded
 system_of v = system_with v.drivers v.limit v.seen
 
 -- ---- views
 
--- a seat that has seen a system, and has no name yet
+-- a seat that has seen a system and has no name yet
 abbrev pub unnamed : Recorded → Bool → ℕ → SeatView
 unnamed s may_name next = record {
   drivers = s.drivers;
@@ -49,11 +49,11 @@ first_view s = unnamed s true 0
 abbrev pub spent_view : SeatView
 spent_view = record (unnamed (system_with [] 0 []) false 0) { spent = true }
 
--- a new seat beside another: it has seen as much, and has the right to the next name from it
+-- a new seat, split off another: it has seen as much, and takes over the right to the next name
 abbrev pub view_beside : SeatView → SeatView
 view_beside v = record (unnamed (system_with v.drivers v.limit v.seen) v.may_name v.next) { spent = v.spent }
 
--- a seat that has given the right to the next name away
+-- a seat that has given away the right to the next name
 abbrev pub without_right : SeatView → SeatView
 without_right v = record v { may_name = false; next = 0 }
 
@@ -70,7 +70,7 @@ abbrev pub after_step : SeatView → List Entry → ℕ → Bool → List Entry 
 after_step v history word turn own =
     record v { seen = history; last = word; looks = v.looks + 1; turn = turn; own = own }
 
--- ---- what the steps tell
+-- ---- what the steps show
 
 -- the history, as the rule shows it to a seat
 pub record Shows (v : SeatView) (history : List Entry) : Type 0 where
@@ -86,7 +86,8 @@ Looked st m n m' =
     × (n ≡ front_of m.0.drivers h + bit_of t)
     × (m' ≡ (after_step m.0 h n false m.0.own, m.1))
 
--- the turn bit is set: the turn was held before; or it was free, and is this seat's now, and the slot with the system
+-- The turn bit is set. Either the turn was held before; or it was free, and now this seat has it, and the slot with
+-- the system.
 abbrev pub Taken : Step Slot → Mine → ℕ → Mine → Type 0
 Taken st m n m' =
     (h : List Entry) × Shows m.0 h
@@ -104,14 +105,19 @@ abbrev pub history_in : List (ℕ × Slot) → List Entry
 history_in [] = []
 history_in (x ∷ xs) = history_at x.1
 
--- a store: the history is that of the slot, which goes home
+-- one entry of a process was added to a history, or none
+abbrev pub AddsFor : ℕ → List Entry → List Entry → Type 0
+AddsFor process old new = (new ≡ old) ⊎ ((e : Entry) × (e.process ≡ process) × (new ≡ old ++ e ∷ []))
+
+-- a store: the history is that of the slot, which goes home; it has one more entry of the process, or none
 abbrev pub Published : Step Slot → Mine → ℕ → Mine → Type 0
 Published st m n m' =
-    m' ≡ (after_step m.0 (history_in m.1) n false (entries_of m.0.process (history_in m.1)), rest m.1)
+    AddsFor m.0.process m.0.seen (history_in m.1)
+    × (m' ≡ (after_step m.0 (history_in m.1) n false (entries_of m.0.process (history_in m.1)), rest m.1))
 
--- a name is taken, the next one
-abbrev pub Called : Step Slot → Mine → ℕ → Mine → Type 0
-Called st m n m' = (n ≡ m.0.next) × (m' ≡ (with_next_name m.0, m.1))
+-- the next name is taken
+abbrev pub TookName : Step Slot → Mine → ℕ → Mine → Type 0
+TookName st m n m' = (n ≡ m.0.next) × (m' ≡ (with_next_name m.0, m.1))
 
 -- ---- seats at rest and with the turn
 
@@ -119,12 +125,12 @@ Called st m n m' = (n ≡ m.0.next) × (m' ≡ (with_next_name m.0, m.1))
 abbrev pub IsAtRest : Mine → Type 0
 IsAtRest m = (m.1 ≡ []) × (m.0.turn ≡ false) × (m.0.spent ≡ false)
 
--- what a seat knows is so: its history is sound, and its own entries are just those of its process there
+-- what a seat knows is true: its history is sound, and its own entries are exactly those of its process there
 pub record IsInformed (v : SeatView) : Type 0 where
   pub sound : IsSoundSystem (system_with v.drivers v.limit v.seen)
   pub own : v.named ≡ true → v.own ≡ entries_of v.process v.seen
 
--- a seat that has the turn, and this in the slot
+-- a seat that has the turn, with this in the slot
 pub record HasTurn (m : Mine) (slot : Slot) : Type 0 where
   pub turn : m.0.turn ≡ true
   pub whole : m.0.spent ≡ false
@@ -141,11 +147,12 @@ pub record HasGrown (v w : SeatView) : Type 0 where
   pub process : w.process ≡ v.process
   pub seen : IsBeginningOf v.seen w.seen
 
--- it is at rest afterwards, has seen more, and what it knows is so
+-- the seat is at rest afterwards, has seen more, and what it knows is true
 abbrev pub RestsAfter : SeatView → Mine → Type 0
 RestsAfter v m = IsAtRest m × HasGrown v m.0 × IsInformed m.0
 
--- it made one step more on the first word, added nothing, and found the front of what it has seen, with the turn bit
+-- The seat made one more step on the first word, added nothing, and found the front of what it has seen, with the
+-- turn bit.
 pub record FoundWord (v w : SeatView) (word : ℕ) : Type 0 where
   pub looks : w.looks ≡ v.looks + 1
   pub last : w.last ≡ word
@@ -169,13 +176,6 @@ pub record HasMet (v other w : SeatView) : Type 0 where
   pub seen : IsBeginningOf v.seen w.seen
   pub met : w.met ≡ met_seat (known_of other) ∷ other.met ++ v.met
   pub told : AreMetBy (system_of w) w.met
-
--- a history that goes on by entries of one process alone
-pub record AddsFor (process : ℕ) (old new : List Entry) : Type 0 where
-  pub more : List Entry
-  pub joins : old ++ more ≡ new
-  pub named : (names : ℕ) → process < names → AreNamedBelow names more
-  pub others : (p : ℕ) → p ≢ process → entries_of p more ≡ []
 
 -- ---- what contracts see
 

@@ -7,12 +7,12 @@ use Rattle.smx_shared.specs.declared.shared_fault.ApplyFault.TheVariants as appl
 use Rattle.smx_shared.specs.declared.try_fault.TryFault.{TryFault}
 use Rattle.smx_shared.specs.declared.try_fault.TryFault.TheVariants as try
 
--- the fault of a call is that of the try that had the turn
+-- the fault of a call, as that of a try which had the turn
 abbrev pub try_fault_of : ApplyFault → TryFault
 try_fault_of apply.HistoryFull = try.HistoryFull
 try_fault_of apply.NoMemory = try.NoMemory
 
--- the words in which it prints itself
+-- the words in which the fault prints itself
 abbrev pub try_fault_words : TryFault → List ℕ
 try_fault_words (try.Busy front) = turn_held_words
 try_fault_words try.HistoryFull = apply_fault_words apply.HistoryFull

@@ -1,5 +1,5 @@
--- What two seats knew of a history of one entry, before that entry and after it, and what is wrong with that in one
--- thing.
+-- The knowledge of two seats of a history with one entry, before that entry and after it, and variants with one part
+-- wrong.
 use Rattle.std.specs.Prelude.{ℕ, Bool, true, false, [], ◌∷◌}
 use Rattle.smx_types.specs.declared.command.Entry.{Entry}
 use Rattle.smx_model.specs.Worked.Common.{OpenClone, CloseAll, Dup, Fd, Done, ◌does◌gets◌, ip}
@@ -22,7 +22,7 @@ knows process entries limit = record {
   own = entries_of process (with_first entries limit).history;
 }
 
--- after the entry, but that it was not seen, or that it was not made here
+-- after the entry, except that the seat has not seen it, or has not made it
 abbrev pub blind : Known
 blind = record (knows 0 1 9) { seen = [] }
 
@@ -35,22 +35,22 @@ twice =
     let both = opened ∷ (0 does Dup 0 gets Fd 1 0) ∷ [] in
     record (knows 0 1 9) { seen = both; own = both }
 
--- an entry of process 1, which doesn't stand in that history
+-- an entry of process 1, which is not in that history
 abbrev pub exited : Entry
 exited = 1 does CloseAll gets Done []
 
--- after the entry and another, and after that other alone
+-- after the entry and another one, and after that other one only
 abbrev pub passed : Known
 passed = record (knows 0 1 9) { seen = opened ∷ exited ∷ [] }
 
 abbrev pub astray : Known
 astray = record (knows 0 0 9) { seen = exited ∷ [] }
 
--- a system with that other entry alone
+-- a system with that other entry only
 abbrev pub strayed : Recorded
 strayed = record (with_first 1 9) { history = exited ∷ [] }
 
--- a seat that knows this, read this word last, and has made so many steps
+-- a seat that knows this, read this word last, and has made this number of steps
 abbrev pub sits : SharedId → Known → ℕ → ℕ → Seated
 sits id known last looks = record { shared = id; known = known; last = last; looks = looks; turn = false; met = [] }
 
@@ -62,6 +62,6 @@ keeps seat = record seat { turn = true }
 abbrev pub meets : Seated → Known → Seated
 meets seat other = record seat { met = met_seat other ∷ [] }
 
--- so many entries and links, with the turn held or free
+-- these numbers of entries and links, with the turn held or free
 abbrev pub front : ℕ → ℕ → Bool → Front
 front entries links held = record { entries = entries; links = links; held = held }

@@ -4,7 +4,7 @@ use Rattle.smx_model.specs.Worked.Common.{ip, mux}
 use Rattle.smx_model.specs.Worked.SecondIsIllegal.{history}
 use Rattle.smx_shared.specs.Recorded.{Recorded}
 
--- one driver, so many entries at most, and the first entries of a history whose second is illegal
+-- one driver, a limit, and the first entries of a history whose second entry is illegal
 abbrev pub with_first : ℕ → ℕ → Recorded
 with_first entries limit = record {
   drivers = mux ip 4 ∷ [];
@@ -12,6 +12,6 @@ with_first entries limit = record {
   history = take entries history;
 }
 
--- two drivers of one name
+-- two drivers with the same name
 abbrev pub of_one_name : Recorded
 of_one_name = record { drivers = mux ip 4 ∷ mux ip 4 ∷ []; limit = 10; history = [] }

@@ -1,12 +1,12 @@
-//! Why a shared system is not given back, in the words that a program prints.
+//! The reason why a shared system is not given back, in the words that a program prints.
 
 use crate::front::Front;
 use std::fmt;
 
-/// Why a shared system was not given back. It prints itself: `turn held`.
+/// The reason why a shared system was not given back. It prints as `turn held`.
 #[derive(Clone, Copy, Debug, PartialEq, Eq)]
 pub enum CloseFault {
-    /// Somebody never gave the turn back, as this front shows. The system is given up.
+    /// A caller never gave the turn back, as this front shows. The system is dropped.
     Held(Front),
 }
 

@@ -1,4 +1,4 @@
-//! What is seen of a shared system from outside.
+//! How far a shared system is, as callers see it.
 
 ghost use Rattle.std.specs.Prelude.{◌≡◌, ◌*◌, ◌<◌, ◌^◌};
 ghost use Rattle.smx_shared.specs.Fronts.{word_of};
@@ -6,14 +6,14 @@ ghost use Rattle.smx_shared.specs.Fronts.{word_of};
 use smx_types::{Copied, Items, NoMemory};
 use std::alloc::Global;
 
-/// How far a shared system is, as a caller sees it who waits for nobody.
+/// How far a shared system is: what a caller sees at once, without waiting.
 #[derive(Clone, Copy, Debug, PartialEq, Eq)]
 pub struct Front {
-    /// How many entries its history has.
+    /// The number of entries of its history.
     pub entries: u32,
-    /// How many links stand.
+    /// The number of links.
     pub links: u32,
-    /// Whether somebody has the turn.
+    /// Whether a seat has the turn.
     pub held: bool,
 }
 
@@ -21,7 +21,7 @@ pub struct Front {
 pub type Fronts = Items<Front>;
 
 impl Front {
-    // What a word says.
+    // Reads a word of the shared system.
     pub(crate) fn read(word: u64) -> Front
         requires { word < 4096 * 2 ^ 32 }
         ensures word { word_of result ≡ word }

@@ -1,8 +1,8 @@
-//! What is done while a call has the turn.
+//! A caller's code that runs while its call has the turn.
 
-/// Is called once by a call that has the turn, right before its command is performed. Nobody else can have the turn
-/// before it returns.
+/// Runs while a call has the turn. The call calls it once, right before it performs its command; no other seat can have
+/// the turn before it returns.
 pub trait Hold {
-    /// The turn is held.
+    /// Runs while the turn is held.
     fn inside(&self);
 }

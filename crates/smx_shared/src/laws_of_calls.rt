@@ -1,15 +1,19 @@
-//! Laws of what calls tell, each the contract of a function that does nothing: an example of each, and what is none.
+//! Laws of what a caller knows after a call, each the contract of a function that does nothing: examples and
+//! counterexamples.
 
-ghost use Rattle.std.specs.Prelude.{◌≡◌, [], ◌∷◌, true, false, take};
+ghost use Rattle.std.specs.Prelude.{◌≡◌, ℕ, [], ◌∷◌, true, false, take};
+ghost use Rattle.atomic_table.specs.Table.{Step};
 ghost use Rattle.smx_model.specs.Worked.Common.{OpenClone, CloseAll, Dup, ip, a_b_and_eth};
 ghost use Rattle.smx_model.specs.Worked.CycleOfTwoDrivers.{history as linked};
-ghost use Rattle.smx_shared.specs.Calls.{AddsEntries, AnswersEntry, EndsAs, GoesOnFrom, HasSeenMore, LooksOnce};
+ghost use Rattle.smx_shared.specs.Calls.{AddsEntry, AnswersEntry, EndsAs, GoesOnFrom, HasSeenMore, LooksOnce};
 ghost use Rattle.smx_shared.specs.Calls.{Meets, Refuses, RefusesTry, Rests};
 ghost use Rattle.smx_shared.specs.CloseFaults.{IsHeld};
 ghost use Rattle.smx_shared.specs.Fronts.{front_of, word_of, IsFrontOf};
-ghost use Rattle.smx_shared.specs.Seats.{SharedId, met_seat, shared_as};
-ghost use Rattle.smx_shared.specs.WorkedCalls.{astray, blind, front, idle, keeps, knows, meets, opened, passed, sits};
-ghost use Rattle.smx_shared.specs.WorkedCalls.{strayed, twice};
+ghost use Rattle.smx_shared.specs.Seats.{HasMetAll, SharedId, met_seat, shared_as};
+ghost use Rattle.smx_shared.specs.SeatViews.{AddsFor, Mine, Published};
+ghost use Rattle.smx_shared.specs.TurnRule.{Slot};
+ghost use Rattle.smx_shared.specs.WorkedCalls.{astray, blind, exited, front, idle, keeps, knows, meets, opened, passed};
+ghost use Rattle.smx_shared.specs.WorkedCalls.{sits, strayed, twice};
 ghost use Rattle.smx_shared.specs.WorkedSystems.{with_first};
 ghost use Rattle.smx_shared.specs.declared.close_fault.CloseFault.TheVariants.{Held};
 ghost use Rattle.smx_shared.specs.declared.shared_fault.ApplyFault.TheVariants as apply;
@@ -17,8 +21,8 @@ ghost use Rattle.smx_shared.specs.declared.try_fault.TryFault.TheVariants as try
 
 use crate::laws_of_systems::an_example_is_sound;
 
-/// An entry that is answered is of the process and the command, was seen last, and was made here.
-pub fn what_an_answer_tells()
+/// An entry that is returned is of the process and the command, was seen last, and was made here.
+pub fn answer_examples()
     ensures answers { AnswersEntry (knows 0 0 9) (knows 0 1 9) (OpenClone ip) opened }
     ensures not_to_another_command { AnswersEntry (knows 0 0 9) (knows 0 1 9) CloseAll opened → ⊥ }
     ensures not_to_another_process { AnswersEntry (knows 1 0 9) (knows 0 1 9) (OpenClone ip) opened → ⊥ }
@@ -27,24 +31,36 @@ pub fn what_an_answer_tells()
     ensures not_unmade { AnswersEntry (knows 0 0 9) idle (OpenClone ip) opened → ⊥ }
 {}
 
-/// Entries that were added in a turn are of the process and the commands, in their order, were seen last, and were made
+/// A call that returns no entry still adds exactly one, of the process and the command, which was seen last and made
 /// here.
-pub fn what_a_turn_adds()
-    ensures one { AddsEntries (knows 0 0 9) (OpenClone ip ∷ []) (knows 0 1 9) }
-    ensures none { AddsEntries (knows 1 0 9) [] (knows 1 1 9) }
-    ensures in_order { AddsEntries (knows 0 0 9) (OpenClone ip ∷ Dup 0 ∷ []) twice }
-    ensures not_in_another_order { AddsEntries (knows 0 0 9) (Dup 0 ∷ OpenClone ip ∷ []) twice → ⊥ }
-    ensures not_one_less { AddsEntries (knows 0 0 9) (OpenClone ip ∷ []) twice → ⊥ }
-    ensures not_another { AddsEntries (knows 0 0 9) (CloseAll ∷ []) (knows 0 1 9) → ⊥ }
-    ensures not_of_another_process { AddsEntries (knows 1 0 9) (OpenClone ip ∷ []) (knows 0 1 9) → ⊥ }
-    ensures not_before_another { AddsEntries (knows 0 0 9) (OpenClone ip ∷ []) passed → ⊥ }
-    ensures not_unseen { AddsEntries (knows 0 0 9) (OpenClone ip ∷ []) blind → ⊥ }
-    ensures not_unmade { AddsEntries (knows 0 0 9) (OpenClone ip ∷ []) idle → ⊥ }
+pub fn unanswered_call_examples()
+    ensures one { AddsEntry (knows 0 0 9) (OpenClone ip) (knows 0 1 9) }
+    ensures not_none { AddsEntry (knows 0 0 9) (OpenClone ip) (knows 0 0 9) → ⊥ }
+    ensures not_two { AddsEntry (knows 0 0 9) (Dup 0) twice → ⊥ }
+    ensures not_another { AddsEntry (knows 0 0 9) CloseAll (knows 0 1 9) → ⊥ }
+    ensures not_of_another_process { AddsEntry (knows 1 0 9) (OpenClone ip) (knows 0 1 9) → ⊥ }
+    ensures not_before_another { AddsEntry (knows 0 0 9) (OpenClone ip) passed → ⊥ }
+    ensures not_unseen { AddsEntry (knows 0 0 9) (OpenClone ip) blind → ⊥ }
+    ensures not_unmade { AddsEntry (knows 0 0 9) (OpenClone ip) idle → ⊥ }
 {}
 
-/// What is known stays known, and it is sound: no less is seen, and nothing of another limit or process, past the
-/// limit, illegal, or with entries of the process that were not made here.
-pub fn what_stays_known()
+/// A store publishes one more entry of the process, or none.
+pub fn store_examples()
+    ensures published { (st : Step Slot) (m : Mine) (n : ℕ) (new : Mine)
+        → Published st m n new → AddsFor m.0.process m.0.seen new.0.seen }
+    ensures one { AddsFor 0 [] (opened ∷ []) }
+    ensures one_more { AddsFor 1 (opened ∷ []) (opened ∷ exited ∷ []) }
+    ensures none { AddsFor 1 (opened ∷ []) (opened ∷ []) }
+    ensures not_two { AddsFor 0 [] twice.seen → ⊥ }
+    ensures not_of_another_process { AddsFor 1 [] (opened ∷ []) → ⊥ }
+    ensures not_one_less { AddsFor 0 (opened ∷ []) [] → ⊥ }
+    ensures not_another_history { AddsFor 0 (exited ∷ []) (opened ∷ []) → ⊥ }
+    ensures not_before_another { AddsFor 0 (exited ∷ []) (opened ∷ exited ∷ []) → ⊥ }
+{}
+
+/// A call loses no knowledge, and all of it is sound. No less is seen; and there is no change of limit or process, no
+/// history past the limit or illegal, and no entry of the process that was not made here.
+pub fn knowledge_examples()
     ensures more { HasSeenMore (knows 0 0 9) (knows 0 1 9) }
     ensures not_less { HasSeenMore (knows 0 1 9) (knows 0 0 9) → ⊥ }
     ensures not_of_another_history { HasSeenMore astray (knows 0 1 9) → ⊥ }
@@ -57,8 +73,8 @@ pub fn what_stays_known()
     an_example_is_sound();
 }
 
-/// A refused call added nothing, and the history is full exactly where that is said.
-pub fn what_a_refusal_tells()
+/// A refused call added nothing, and it reports a full history exactly if the history is full.
+pub fn refusal_examples()
     ensures full { Refuses (knows 1 0 1) (knows 1 1 1) apply.HistoryFull }
     ensures not_full { Refuses (knows 1 0 9) (knows 1 1 9) apply.HistoryFull → ⊥ }
     ensures not_added_and_full { Refuses (knows 0 0 1) (knows 0 1 1) apply.HistoryFull → ⊥ }
@@ -67,8 +83,8 @@ pub fn what_a_refusal_tells()
     ensures not_added { Refuses (knows 0 0 9) (knows 0 1 9) apply.NoMemory → ⊥ }
 {}
 
-/// Three entries and one link are one word, with the turn bit in it, and a front of another number is none of theirs.
-pub fn what_a_front_tells()
+/// Three entries and one link are one word, with the turn bit in it. A front with other numbers has another word.
+pub fn front_examples()
     ensures word { front_of a_b_and_eth (take 3 linked) ≡ 12290 }
     ensures free { word_of (front 3 1 false) ≡ 12290 }
     ensures held { word_of (front 3 1 true) ≡ 12291 }
@@ -77,8 +93,8 @@ pub fn what_a_front_tells()
     ensures not_without_the_link { IsFrontOf (front 3 0 true) a_b_and_eth (take 3 linked) → ⊥ }
 {}
 
-/// A seat is at rest after each call: the same shared system's, without the turn.
-pub fn what_rests()
+/// After each call a seat is at rest: it belongs to the same shared system, without the turn.
+pub fn rest_examples()
     ensures rests { (id : SharedId) → Rests (sits id (knows 1 0 9) 0 0) (sits id (knows 1 1 9) 4096 1) }
     ensures not_with_the_turn { (id : SharedId) → Rests (sits id (knows 1 0 9) 0 0)
         (keeps (sits id (knows 1 1 9) 4096 1)) → ⊥ }
@@ -86,9 +102,9 @@ pub fn what_rests()
         (sits other (knows 1 1 9) 4096 1) → ⊥ }
 {}
 
-/// A look is one step, whose word is the front that is answered, and that of what was seen; and a try is busy only
-/// where that front shows the turn held.
-pub fn what_a_look_tells()
+/// A look is one step. Its word is the front that is returned, and that of the history that was seen. A try is busy
+/// only if that front shows the turn held.
+pub fn look_examples()
     ensures looks { (id : SharedId) → LooksOnce (sits id (knows 1 0 9) 0 0) (sits id (knows 1 1 9) 4096 1)
         (front 1 0 false) }
     ensures not_without_a_step { (id : SharedId) → LooksOnce (sits id (knows 1 0 9) 0 0)
@@ -110,7 +126,7 @@ pub fn what_a_look_tells()
 {}
 
 /// A try that isn't busy is refused as a call is.
-pub fn what_a_refused_try_tells()
+pub fn refused_try_examples()
     ensures full { (id : SharedId) → RefusesTry (sits id (knows 1 0 1) 0 0) (sits id (knows 1 1 1) 4096 2)
         try.HistoryFull }
     ensures not_full { (id : SharedId) → RefusesTry (sits id (knows 1 0 9) 0 0) (sits id (knows 1 1 9) 4096 2)
@@ -125,9 +141,9 @@ pub fn what_a_refused_try_tells()
         (sits id (knows 0 1 9) 4096 2) try.NoMemory → ⊥ }
 {}
 
-/// In a meeting nothing is made. The other is noted, and what it had seen has been seen, at the same limit, with just
-/// those entries of its process that were made there.
-pub fn what_a_meeting_tells()
+/// A meeting adds no entry. The other seat is recorded, and what it had seen has been seen, at the same limit, and
+/// the entries of its process are exactly those made there.
+pub fn meeting_examples()
     ensures meets { (id : SharedId) → Meets (sits id (knows 1 0 9) 0 0) (sits id (knows 0 1 9) 4096 1)
         (meets (sits id (knows 1 1 9) 4096 1) (knows 0 1 9)) }
     ensures not_unnoted { (id : SharedId) → Meets (sits id (knows 1 0 9) 0 0) (sits id (knows 0 1 9) 4096 1)
@@ -158,8 +174,17 @@ pub fn what_a_meeting_tells()
         (meets (sits id (knows 0 1 9) 4096 1) (knows 1 1 9)) → ⊥ }
 {}
 
-/// What comes back goes on from what was shared, by entries of its processes; and it bears out what was known.
-pub fn what_comes_back()
+/// A seat has met all others if every process is its own or one that it met.
+pub fn met_all_examples()
+    ensures all { HasMetAll 2 (knows 1 0 9) (met_seat (knows 0 1 9) ∷ []) }
+    ensures alone { HasMetAll 1 (knows 0 0 9) [] }
+    ensures not_all { HasMetAll 3 (knows 1 0 9) (met_seat (knows 0 1 9) ∷ []) → ⊥ }
+    ensures not_alone { HasMetAll 2 (knows 0 0 9) [] → ⊥ }
+    ensures not_by_its_own { HasMetAll 2 (knows 0 0 9) (met_seat (knows 0 1 9) ∷ []) → ⊥ }
+{}
+
+/// The system that comes back continues what was shared, by entries of its processes, and agrees with what was known.
+pub fn close_examples()
     ensures goes_on { (id : SharedId) → GoesOnFrom (shared_as id (with_first 0 9) 1) (with_first 1 9) }
     ensures not_to_another_limit { (id : SharedId) → GoesOnFrom (shared_as id (with_first 0 9) 1) (with_first 1 8) → ⊥ }
     ensures not_by_another_process { (id : SharedId) → GoesOnFrom (shared_as id (with_first 0 9) 0)

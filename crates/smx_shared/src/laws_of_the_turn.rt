@@ -11,7 +11,7 @@ ghost use Rattle.smx_shared.specs.Recorded.{Recorded, IsSoundSystem};
 ghost use Rattle.smx_shared.specs.TurnRule.{Slot, TurnRule};
 ghost use Rattle.smx_shared.specs.declared.seat_view.SeatView.{SeatView as View};
 
-/// The turn bit is set exactly where a seat has the turn, and no two have it.
+/// The turn bit is set exactly if a seat has the turn, and no two seats have it.
 pub fn the_turn_is_one_seats()
     ensures held { (drivers : List Driver) (limit : ℕ) (start : List Made) (processes word : ℕ) (s : State Slot View)
         → TurnRule drivers limit start processes s → get_elem? s.words 0 ≡ some word → word % 2 ≡ 1
@@ -27,8 +27,8 @@ pub fn the_turn_is_one_seats()
         → v.turn ≡ true → w.turn ≡ true → i ≡ j }
 {}
 
-/// While the turn bit is not set, the slot is at home with a sound system, whose front the word is; while it is set,
-/// the slot is out.
+/// While the turn bit is not set, the slot is at home with a sound system, and the word is the system's front. While
+/// the bit is set, the slot is out.
 pub fn the_slot_is_home_or_out()
     ensures home { (drivers : List Driver) (limit : ℕ) (start : List Made) (processes word : ℕ) (s : State Slot View)
         → TurnRule drivers limit start processes s → get_elem? s.words 0 ≡ some word → word % 2 ≡ 0

@@ -1,19 +1,19 @@
-//! A place at a shared system.
+//! A place at a shared system, for one process.
 
-use crate::keeper::Keeper;
+use crate::entry_sink::EntrySink;
 use crate::turn_table::Token;
 use smx_types::{Entry, Process};
 use std::marker::Model;
 
-/// A place at a shared system, for the commands of one process: a token of what was seen there. It has next to no
-/// bytes, may go to another thread, and be dropped.
+/// A place at a shared system, for the commands of one process: a token of what was seen there. It takes a few bytes,
+/// and may be sent to another thread and dropped.
 #[derive(Drop)]
-pub struct Seat<K: Keeper = Vec<Entry>> {
+pub struct Seat<K: EntrySink = Vec<Entry>> {
     pub(crate) process: Process,
     pub(crate) token: Token<K>,
 }
 
-impl<K: Keeper> Model for Seat<K> {
+impl<K: EntrySink> Model for Seat<K> {
     ghost use Rattle.smx_shared.specs.Seats.{Seated};
     ghost use Rattle.smx_shared.specs.SeatViews.{seated_of, IsSeatOf};
 

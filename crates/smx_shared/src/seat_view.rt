@@ -1,25 +1,25 @@
-//! What is kept of each seat in the proofs, the rule of the turn, and the kinds of step that keep it.
+//! The state that the proofs keep of each seat, the rule of the turn, and the kinds of step that keep it.
 
-use crate::keeper::Keeper;
-use crate::parked::Parked;
+use crate::boxed_system::BoxedSystem;
+use crate::entry_sink::EntrySink;
 use crate::system::System;
 use atomic_table::{Join, Play, Split, TableRule};
 use smx_types::{DriverSpec, Entry};
 use std::collections::LinkedList;
 use std::snapshot::Snapshot;
 
-/// What a seat knows, may do and has done. No value of it is made: it stands in proofs alone.
+/// The knowledge, rights and steps of a seat. It exists only in proofs: no value of it is made.
 pub struct SeatView {
     /// The drivers and the limit that the system was shared with.
     pub drivers: LinkedList<DriverSpec>,
     pub limit: usize,
-    /// The process whose commands it is for, once it is named.
+    /// The process for whose commands it is, once it has a name.
     pub process: u64,
     /// The history, as far as it has seen it.
     pub seen: LinkedList<Entry>,
     /// The entries that were made under its process.
     pub own: LinkedList<Entry>,
-    /// The first word as it read or wrote it last, and how many steps it has made on that word.
+    /// The first word as it read or wrote it last, and the number of its steps on that word.
     pub last: u64,
     pub looks: u64,
     /// Whether it has the turn.
@@ -28,7 +28,7 @@ pub struct SeatView {
     pub met: LinkedList<MetSeat>,
     /// Whether it was given up in a meeting.
     pub spent: bool,
-    /// Whether it is named.
+    /// Whether it has a name.
     pub named: bool,
     /// Whether it may take the next name, and which one that is.
     pub may_name: bool,
@@ -51,14 +51,14 @@ pub struct MetSeat {
 /// The rule of the turn.
 pub struct OneTurn;
 
-/// What a system was when it was shared, and among how many processes.
+/// The system as it was when it was shared, and the number of processes.
 #[derive(Drop)]
-pub struct Start<K: Keeper> {
+pub struct Start<K: EntrySink> {
     pub system: Snapshot<System<K>>,
     pub processes: usize,
 }
 
-impl<K: Keeper> TableRule<Option<Parked<K>>, SeatView, Start<K>> for OneTurn {
+impl<K: EntrySink> TableRule<Option<BoxedSystem<K>>, SeatView, Start<K>> for OneTurn {
     ghost use Rattle.smx_shared.specs.TurnRule.{TurnRule};
     ghost use Rattle.smx_shared.specs.SeatViews.{first_view};
 
@@ -68,43 +68,43 @@ impl<K: Keeper> TableRule<Option<Parked<K>>, SeatView, Start<K>> for OneTurn {
     ghost first = { λ start. first_view start.system.value };
 }
 
-/// A load of the first word.
+/// Loads the first word.
 pub struct Look;
 
-impl<K: Keeper> Play<Option<Parked<K>>, SeatView> for Look {
+impl<K: EntrySink> Play<Option<BoxedSystem<K>>, SeatView> for Look {
     ghost use Rattle.smx_shared.specs.SeatViews.{Looked};
 
     ghost then = { Looked };
 }
 
-/// The turn bit of the first word is set, and the word that was found is answered.
+/// Sets the turn bit of the first word, and returns the word before that.
 pub struct Take;
 
-impl<K: Keeper> Play<Option<Parked<K>>, SeatView> for Take {
+impl<K: EntrySink> Play<Option<BoxedSystem<K>>, SeatView> for Take {
     ghost use Rattle.smx_shared.specs.SeatViews.{Taken};
 
     ghost then = { Taken };
 }
 
-/// A store of the first word, by which the turn is given back.
+/// Stores the first word: the turn is given back, and one entry published, if there is one.
 pub struct Publish;
 
-impl<K: Keeper> Play<Option<Parked<K>>, SeatView> for Publish {
+impl<K: EntrySink> Play<Option<BoxedSystem<K>>, SeatView> for Publish {
     ghost use Rattle.smx_shared.specs.SeatViews.{Published};
 
     ghost then = { Published };
 }
 
-/// The second word is counted up, and the name that was found there is taken.
-pub struct Call;
+/// Adds 1 to the second word, and takes the name that was found there.
+pub struct TakeName;
 
-impl<K: Keeper> Play<Option<Parked<K>>, SeatView> for Call {
-    ghost use Rattle.smx_shared.specs.SeatViews.{Called};
+impl<K: EntrySink> Play<Option<BoxedSystem<K>>, SeatView> for TakeName {
+    ghost use Rattle.smx_shared.specs.SeatViews.{TookName};
 
-    ghost then = { Called };
+    ghost then = { TookName };
 }
 
-/// A new seat is made beside another.
+/// Splits a new seat off another one.
 pub struct Deal;
 
 impl Split<SeatView> for Deal {
@@ -115,7 +115,7 @@ impl Split<SeatView> for Deal {
     ghost right = { view_beside };
 }
 
-/// A seat takes in what another has seen, which is spent.
+/// Joins two seats: the first takes in what the other has seen, and the other is spent.
 pub struct Meet;
 
 impl Join<SeatView> for Meet {

@@ -1,26 +1,22 @@
-//! A system that many threads share: they take turns, and look on without waiting.
+//! A system that many threads share: they take turns, and look without waiting.
 
-ghost use Rattle.std.specs.Prelude.{◌≡◌, ◌≢◌, ◌≤◌, ◌+◌, [], length, map, vec_capacity, None};
-ghost use Rattle.std.specs.Prelude.{IfOk, IfErr, OnOk};
+ghost use Rattle.std.specs.Prelude.{◌≡◌, ◌≤◌, ◌+◌, [], map, vec_capacity};
+ghost use Rattle.std.specs.Prelude.{IfOk, IfErr, IsOk, OnOk};
 ghost use Rattle.std.specs.List.{range_with_len};
 ghost use Rattle.smx_types.specs.declared.limits.TheConstants.{MAX_PROCESSES};
-ghost use Rattle.smx_shared.specs.Calls.{AddsEntries, AnswersEntry, EndsAs, GoesOnFrom, HasSeenMore, LooksOnce};
+ghost use Rattle.smx_shared.specs.Calls.{AddsEntry, AnswersEntry, EndsAs, GoesOnFrom, HasSeenMore, LooksOnce};
 ghost use Rattle.smx_shared.specs.Calls.{Meets};
 ghost use Rattle.smx_shared.specs.Calls.{Refuses, RefusesTry, Rests};
 ghost use Rattle.smx_shared.specs.CloseFaults.{IsHeld};
-ghost use Rattle.smx_shared.specs.CommandSources.{AreLinesFor, IsReading};
-ghost use Rattle.smx_shared.specs.Performed.{PerformsFrom, StopsFrom};
 ghost use Rattle.smx_shared.specs.Recorded.{IsSoundSystem};
 ghost use Rattle.smx_shared.specs.SeatViews.{first_view};
-ghost use Rattle.smx_shared.specs.Seats.{first_seat};
+ghost use Rattle.smx_shared.specs.Seats.{first_seat, HasMetAll};
 
 use crate::close_fault::CloseFault;
-use crate::command_reader::CommandReader;
-use crate::command_source::CommandSource;
 use crate::door::Door;
+use crate::entry_sink::EntrySink;
 use crate::front::Front;
 use crate::hold::Hold;
-use crate::keeper::Keeper;
 use crate::seat::Seat;
 use crate::shared_fault::ApplyFault;
 use crate::system::System;
@@ -31,14 +27,14 @@ use std::alloc::Global;
 use std::marker::Model;
 use std::sync::Wait;
 
-/// A system that many threads share: they take turns, in which commands add their entries. Contracts see which one it
-/// is; what of it is known, each seat knows.
+/// A system that many threads share: they take turns, and each call adds one entry. Contracts see which shared system
+/// it is; each seat knows what was seen of it.
 #[derive(Drop)]
-pub struct Shared<K: Keeper = Vec<Entry>> {
+pub struct Shared<K: EntrySink = Vec<Entry>> {
     turns: TurnTable<K>,
 }
 
-impl<K: Keeper> Model for Shared<K> {
+impl<K: EntrySink> Model for Shared<K> {
     ghost use Rattle.smx_shared.specs.Seats.{SharedAs, shared_as};
 
     ghost Value = { SharedAs };
@@ -47,9 +43,9 @@ impl<K: Keeper> Model for Shared<K> {
         s.turns.table.shared.key.processes };
 }
 
-// Puts the seats of so many processes, from process 0 on, into the room for them. The first may take the first name,
-// and deals the next one, which may take the next name.
-fn deal_seats<K: Keeper>(
+// Pushes the seats of `processes` processes, from process 0 on; there is room for them. Each takes the next name, and
+// splits off the next seat, which may take the name after it.
+fn deal_seats<K: EntrySink>(
     turns: &TurnTable<K>,
     first: Token<K>,
     processes: usize,
@@ -73,9 +69,9 @@ fn deal_seats<K: Keeper>(
     }
 }
 
-impl<K: Keeper> Shared<K> {
-    /// Shares a system among so many processes, 1 to 64: the seats are theirs, from process 0 on. Fails only for want
-    /// of memory.
+impl<K: EntrySink> Shared<K> {
+    /// Shares a system among `processes` processes, 1 to 64, and returns a seat for each, from process 0 on. Fails if
+    /// an allocation fails.
     pub fn start(
         alloc: Global,
         system: System<K>,
@@ -92,9 +88,8 @@ impl<K: Keeper> Shared<K> {
         Ok((Shared { turns }, seats))
     }
 
-    /// Performs a command as `call` does, where nobody has the turn; it waits for nobody. Refused, with no entry added,
-    /// where somebody has it, as the front shows that was seen; or as `call` is. The allocator is the one of a door's
-    /// calls, and isn't asked: the system grows by that which it was made with.
+    /// Performs a command as `call` does, without waiting. Fails with no entry added if another seat has the turn, as
+    /// the returned front shows, or as `call` does. The allocator isn't used: the system has one already.
     pub fn try_call(
         &self,
         _alloc: Global,
@@ -112,10 +107,10 @@ impl<K: Keeper> Shared<K> {
         if let Err(word) = self.turns.try_take(&mut seat.token) {
             return Err(TryFault::Busy(Front::read(word)));
         }
-        Ok(self.turns.serve(&mut seat.token, seat.process, command)?)
+        Ok(self.turns.apply(&mut seat.token, seat.process, command)?)
     }
 
-    /// Performs a command as `call` does, and calls `hold` once while it has the turn. The allocator isn't asked, as in
+    /// Performs a command as `call` does, and calls `hold` once while it has the turn. The allocator isn't used, as in
     /// `try_call`.
     pub fn call_holding<R: Wait, H: Hold>(
         &self,
@@ -134,10 +129,11 @@ impl<K: Keeper> Shared<K> {
     {
         self.turns.take(rt, &mut seat.token);
         hold.inside();
-        self.turns.serve(&mut seat.token, seat.process, command)
+        self.turns.apply(&mut seat.token, seat.process, command)
     }
 
-    /// The first seat has then seen what either had, and the other is given up. Waits for nobody, and takes no memory.
+    /// Adds to the first seat all that the other one has seen, and gives the other one up. Doesn't wait, and takes no
+    /// memory.
     pub fn meet(&self, seat: &mut Seat<K>, other: Seat<K>)
         requires { (seat.old.shared ≡ self.now.name) × (other.shared ≡ self.now.name) }
         ensures rests { Rests seat.old seat.new }
@@ -147,13 +143,15 @@ impl<K: Keeper> Shared<K> {
         self.turns.meet(&mut seat.token, other.token);
     }
 
-    /// The system back, with the whole history, once its callers have ended. Refused where a turn was never given back,
-    /// as the front shows; the system is then given up. Takes no memory.
+    /// Returns the system with its whole history, once its callers have ended. Fails if a turn was never given back, as
+    /// the front shows; the system is then dropped. A seat that has met those of all other processes gets the system.
+    /// Takes no memory.
     pub fn close(self, seat: Seat<K>) -> Result<System<K>, CloseFault>
         requires { seat.shared ≡ self.name }
         ensures ends { IfOk result (EndsAs seat.known seat.met) }
         ensures begun { IfOk result (GoesOnFrom self) }
         ensures held { IfErr result (IsHeld seat.known) }
+        ensures alone { HasMetAll self.processes seat.known seat.met → IsOk result }
     {
         match self.turns.close(seat.token) {
             Ok(system) => Ok(system),
@@ -162,14 +160,12 @@ impl<K: Keeper> Shared<K> {
     }
 }
 
-impl<K: Keeper> Door for Shared<K> {
+impl<K: EntrySink> Door for Shared<K> {
     type Seat = Seat<K>;
 
     ghost is_seat = { λ d s. s.shared ≡ d.name };
 
     ghost known = { λ s. s.known };
-
-    ghost spells = { K.spells };
 
     fn process(seat: &Seat<K>) -> Process {
         seat.process
@@ -190,33 +186,25 @@ impl<K: Keeper> Door for Shared<K> {
         ensures refused { IfErr result (Refuses seat.old.known seat.new.known) }
     {
         self.turns.take(rt, &mut seat.token);
-        self.turns.serve(&mut seat.token, seat.process, command)
+        self.turns.apply(&mut seat.token, seat.process, command)
     }
 
-    fn perform_from<P: CommandSource, R: Wait>(
+    fn perform<R: Wait>(
         &self,
         rt: &R,
         _alloc: Global,
         seat: &mut Seat<K>,
-        reader: &mut CommandReader<P>,
-        most: usize,
-    ) -> Result<usize, ApplyFault>
-        requires seat { seat.old.shared ≡ self.now.name }
-        requires reads { IsReading P.left P.size P.has_read reader.old }
-        requires lines { AreLinesFor P.spells K.spells }
-        requires waits { (reader.old.next ≢ None) × (1 ≤ most) }
+        command: Command,
+    ) -> Result<(), ApplyFault>
+        requires { seat.old.shared ≡ self.now.name }
         ensures rests { Rests seat.old seat.new }
         ensures met { seat.new.met ≡ seat.old.met }
         ensures seen { HasSeenMore seat.old.known seat.new.known }
-        ensures reads { OnOk result (IsReading P.left P.size P.has_read reader.new) }
-        ensures performed { IfOk result (PerformsFrom P.left P.size AddsEntries seat.old.known
-            reader.old.unread.value most seat.new.known reader.new.unread.value) }
-        ensures refused { IfErr result (StopsFrom P.left P.size P.is_lost AddsEntries (length seat.new.known.seen)
-            seat.new.known.limit seat.old.known reader.old.unread.value seat.new.known) }
+        ensures added { OnOk result (AddsEntry seat.old.known command seat.new.known) }
+        ensures refused { IfErr result (Refuses seat.old.known seat.new.known) }
     {
         self.turns.take(rt, &mut seat.token);
-        self.turns
-            .serve_from(&mut seat.token, seat.process, reader, most)
+        self.turns.perform(&mut seat.token, seat.process, command)
     }
 
     fn glance(&self, seat: &mut Seat<K>) -> Front

@@ -1,18 +1,18 @@
-//! Why a command was not performed, in the words that a program prints.
+//! The reason why a command was not performed, in the words that a program prints.
 
 ghost use Rattle.std.specs.Prelude.{◌≡◌};
 ghost use Rattle.smx_shared.specs.declared.shared_fault.ApplyFault.TheVariants as apply;
 
 use smx_types::NoMemory;
-use std::alloc::{AllocError, AllocFailed};
+use std::alloc::AllocError;
 use std::fmt;
 
-/// Why a command was not performed; nothing has changed then. It prints itself: `history full`, `no memory`.
+/// The reason why a command was not performed; nothing has changed then. It prints as `history full` or `no memory`.
 #[derive(Clone, Copy, Debug, PartialEq, Eq)]
 pub enum ApplyFault {
     /// There are as many entries as the limit allows.
     HistoryFull,
-    /// A growth was refused.
+    /// An allocation failed.
     NoMemory,
 }
 

@@ -1,75 +1,72 @@
 //! A configuration together with the history that led to it.
 
-ghost use Rattle.std.specs.Prelude.{◌≡◌, ◌≢◌, ◌<◌, ◌≤◌, ◌↔◌, [], length, None};
-ghost use Rattle.std.specs.Prelude.{IfOk, IfErr, IfSome, OnOk, OnErr, IsErrOf};
+ghost use Rattle.std.specs.Prelude.{◌≡◌, ◌<◌, ◌≤◌, ◌↔◌, [], length, IfOk, IfErr, OnOk, OnErr, IsErrOf};
 ghost use Rattle.smx_types.specs.declared.limits.TheConstants.{MAX_COMMANDS};
 ghost use Rattle.smx_model.specs.Configuration.{empty};
 ghost use Rattle.smx_model.specs.DriverList.{IsDriverList};
 ghost use Rattle.smx_model.specs.Histories.{after};
 ghost use Rattle.smx_config.specs.DriverFaults.{RefusesDrivers};
-ghost use Rattle.smx_shared.specs.CommandSources.{AreLinesFor, IsReading};
-ghost use Rattle.smx_shared.specs.Performed.{Appends, PerformsFrom, StopsFrom};
 ghost use Rattle.smx_shared.specs.Recorded.{IsSoundSystem, next_entry, with_entry};
 ghost use Rattle.smx_shared.specs.declared.shared_fault.ApplyFault.TheVariants.{HistoryFull};
 
-use crate::command_reader::CommandReader;
-use crate::command_source::CommandSource;
-use crate::keeper::Keeper;
+use crate::entry_sink::EntrySink;
 use crate::shared_fault::ApplyFault;
 use smx_config::{Config, ConfigFault};
-use smx_types::{Command, Copied, DriverSpec, Entries, Entry, NoMemory, Process, Reply};
+use smx_types::{Command, Copied, DriverSpec, Entries, Entry, NoMemory, Process};
 use std::alloc::Global;
 use std::marker::Model;
 
-/// The configuration, and one entry for each command that it was asked, up to a limit. Contracts see the drivers, the
-/// limit and the history, of which the keeper keeps what it wants: all entries, where nothing else is said.
+/// A configuration and its history: one entry for each command that was performed, up to a limit. Contracts see the
+/// drivers, the limit and the history. The sink receives the entries and keeps of them what it needs: all of them,
+/// unless another sink is named.
 #[derive(Debug)]
-pub struct System<K: Keeper = Vec<Entry>> {
+pub struct System<K: EntrySink = Vec<Entry>> {
     alloc: Global,
     config: Config,
     limit: usize,
-    kept: K,
+    sink: K,
 }
 
-impl<K: Keeper> Drop for System<K> {
-    // One call in each body that has one, however many ways it ends, in place of a drop for each part.
+impl<K: EntrySink> Drop for System<K> {
+    // Written by hand: a body drops a system by one call, and not part by part.
     fn drop(self) {
         let System {
             alloc: _,
             config: _config,
             limit: _,
-            kept: _kept,
+            sink: _sink,
         } = self;
     }
 }
 
-impl<K: Keeper> Model for System<K> {
+impl<K: EntrySink> Model for System<K> {
     ghost use Rattle.smx_shared.specs.Recorded.{Recorded, recorded_of, IsRecord};
 
     ghost Value = { Recorded };
 
-    ghost view = { λ s. recorded_of s.config s.limit (K.told s.kept) };
+    ghost view = { λ s. recorded_of s.config s.limit (K.entries s.sink) };
 
-    ghost invariant = { λ s. IsRecord s.config s.limit (K.told s.kept) };
+    ghost invariant = { λ s. IsRecord s.config s.limit (K.entries s.sink) };
 }
 
-// Room for one entry more, where the limit allows it.
-fn make_room<K: Keeper>(kept: &mut K, limit: usize) -> Result<(), ApplyFault>
-    ensures same { K.told kept.new ≡ K.told kept.old }
-    ensures below { OnOk result (length (K.told kept.old) < limit) }
-    ensures room { OnOk result (K.has_room kept.new) }
-    ensures full { IsErrOf result HistoryFull ↔ (limit ≤ length (K.told kept.old)) }
+// Makes room for one more entry, if the limit allows one.
+fn make_room<K: EntrySink>(sink: &mut K, limit: usize) -> Result<(), ApplyFault>
+    ensures same { K.entries sink.new ≡ K.entries sink.old }
+    ensures below { OnOk result (length (K.entries sink.old) < limit) }
+    ensures room { OnOk result (K.has_room sink.new) }
+    ensures full { IsErrOf result HistoryFull ↔ (limit ≤ length (K.entries sink.old)) }
 {
-    if kept.count() >= limit {
+    if sink.count() >= limit {
         return Err(ApplyFault::HistoryFull);
     }
-    kept.make_room()?;
+    sink.make_room()?;
     Ok(())
 }
 
 impl System {
-    /// Nothing is open and nothing was asked. It keeps the allocator for all that it makes. `limit` is the most
-    /// entries that it will have, at most 100,000. Refused exactly where the drivers are, or for want of memory.
+    /// Makes a system over these drivers, with no history. It keeps the allocator for all that it makes. `limit` is
+    /// the largest number of entries that it will have, at most 100,000. Fails if the drivers are invalid, or if an
+    /// allocation fails.
     pub fn new(alloc: Global, drivers: &[DriverSpec], limit: usize) -> Result<System, ConfigFault>
         requires { limit ≤ MAX_COMMANDS }
         ensures drivers { IfOk result (λ s. (s.drivers ≡ drivers.now) × IsDriverList drivers.now) }
@@ -81,23 +78,15 @@ impl System {
         Ok(System::begin(alloc, config, limit, Vec::new(alloc)))
     }
 
-    /// Makes room for this many more entries. Nothing else changes, nor does anything where memory is wanting.
-    pub fn reserve(&mut self, count: usize) -> Result<(), NoMemory>
-        ensures { self.new ≡ self.old }
-    {
-        self.kept.reserve(count)?;
-        Ok(())
-    }
-
-    /// The history. Takes no memory.
+    /// Returns the history. Takes no memory.
     pub fn entries(&self) -> &[Entry]
         ensures entries { result.now ≡ self.now.history }
         ensures sound { IsSoundSystem self.now }
     {
-        self.kept.as_slice()
+        self.sink.as_slice()
     }
 
-    /// The history, moved out. Takes no memory.
+    /// Moves the history out. Takes no memory.
     pub fn into_entries(self) -> Entries
         ensures entries { result ≡ self.history }
         ensures sound { IsSoundSystem self }
@@ -106,34 +95,33 @@ impl System {
             alloc: _,
             config: _config,
             limit: _,
-            kept,
+            sink,
         } = self;
-        Entries::from_vec(kept)
+        Entries::from_vec(sink)
     }
 
-    /// The same system again, by the allocator that this one has. Fails only for want of memory.
-    pub fn copy(&self) -> Result<System, NoMemory>
+    /// Returns a copy of this system, which keeps this allocator. Fails if an allocation fails.
+    pub fn copy(&self, alloc: Global) -> Result<System, NoMemory>
         ensures { IfOk result (λ s. s ≡ self.now) }
     {
-        let config = self.config.copy()?;
-        let kept = Entry::copies(self.alloc, &self.kept)?;
+        let config = self.config.copy(alloc)?;
+        let sink = Entry::copies(alloc, &self.sink)?;
         Ok(System {
-            alloc: self.alloc,
+            alloc,
             config,
             limit: self.limit,
-            kept,
+            sink,
         })
     }
 }
 
-impl<K: Keeper> System<K> {
-    /// Nothing was asked yet of this configuration, in which nothing is open, and its keeper was told of nothing. Takes
-    /// no memory.
-    pub fn begin(alloc: Global, config: Config, limit: usize, kept: K) -> System<K>
+impl<K: EntrySink> System<K> {
+    /// Makes a system of an empty configuration and a sink that was given no entry. Takes no memory.
+    pub fn begin(alloc: Global, config: Config, limit: usize, sink: K) -> System<K>
         requires limited { limit ≤ MAX_COMMANDS }
         requires can_be_had { IsDriverList config.drivers }
         requires fresh { config.configuration ≡ empty }
-        requires untold { K.told kept ≡ [] }
+        requires unused { K.entries sink ≡ [] }
         ensures drivers { result.drivers ≡ config.drivers }
         ensures limit { result.limit ≡ limit }
         ensures empty { result.history ≡ [] }
@@ -142,29 +130,28 @@ impl<K: Keeper> System<K> {
             alloc,
             config,
             limit,
-            kept,
+            sink,
         }
     }
 
-    /// Performs one command, adds the entry of it and its reply after those before it, which stay, and answers that
-    /// same entry. Refused, with nothing changed, exactly where there are as many entries as the limit allows, which is
-    /// tested first; or for want of memory, also for a command that the configuration would refuse, since that gets an
-    /// entry too.
+    /// Performs one command, adds its entry with the reply to the history, and returns that same entry. Fails with
+    /// nothing changed exactly if the history is full, which is tested first; or if an allocation fails, even for a
+    /// command that the configuration would refuse, since that gets an entry too.
     pub fn apply(&mut self, process: Process, command: &Command) -> Result<Entry, ApplyFault>
-        // What it does.
+        // The effect.
         ensures answer { IfOk result (λ e. e ≡ next_entry self.old process command.now) }
         ensures ok { OnOk result (self.new ≡ with_entry self.old process command.now) }
-        // What is refused.
+        // The refusals.
         ensures full { IsErrOf result HistoryFull ↔ (length self.old.history ≡ self.old.limit) }
         ensures err { OnErr result (self.new ≡ self.old) }
-        // What it is afterwards, either way.
+        // The state afterwards, in either case.
         ensures sound { IsSoundSystem self.new }
     {
-        make_room(&mut self.kept, self.limit)?;
-        let mut kept = command.copy(self.alloc)?;
+        make_room(&mut self.sink, self.limit)?;
+        let kept = command.copy(self.alloc)?;
         let command_again = command.copy(self.alloc)?;
-        let (mut reply, reply_again) = self.config.step_twin(process, command)?;
-        self.kept.add(process, &mut kept, None, &mut reply);
+        let (reply, reply_again) = self.config.step_twin(process, command)?;
+        self.sink.add(process, kept, reply);
         Ok(Entry {
             process,
             command: command_again,
@@ -172,70 +159,24 @@ impl<K: Keeper> System<K> {
         })
     }
 
-    /// The same for a command that is given up, and the line that it was read from, if the keeper can use that: no
-    /// entry is answered, and so nothing is copied. Any command may be in its place afterwards; a refused one stays.
-    #[inline(always)]
-    pub fn append(
-        &mut self,
-        process: Process,
-        command: &mut Command,
-        line: Option<&[u8]>,
-    ) -> Result<(), ApplyFault>
-        requires line { IfSome line (λ l. K.spells l.now command.old) }
-        // What it does.
-        ensures ok { OnOk result (self.new ≡ with_entry self.old process command.old) }
-        // What is refused.
+    /// Performs one command as `apply` does, for a caller that needs no entry: the command is moved, and nothing is
+    /// copied.
+    pub fn perform(&mut self, process: Process, command: Command) -> Result<(), ApplyFault>
+        // The effect.
+        ensures ok { OnOk result (self.new ≡ with_entry self.old process command) }
+        // The refusals.
         ensures full { IsErrOf result HistoryFull ↔ (length self.old.history ≡ self.old.limit) }
         ensures err { OnErr result (self.new ≡ self.old) }
-        ensures kept { OnErr result (command.new ≡ command.old) }
-        // What it is afterwards, either way.
+        // The state afterwards, in either case.
         ensures sound { IsSoundSystem self.new }
     {
-        make_room(&mut self.kept, self.limit)?;
-        let mut reply = Reply::Eof;
-        self.config.step_in(process, command, &mut reply)?;
-        self.kept.add(process, command, line, &mut reply);
-        self.config.take_back(reply);
+        make_room(&mut self.sink, self.limit)?;
+        let reply = self.config.step(process, &command)?;
+        self.sink.add(process, command, reply);
         Ok(())
     }
 
-    /// Appends the command that waits at the reader, and then those that come next, up to `most` in all, 1 or more,
-    /// each with the line that it was read from. Answers how many it appended, one at least. It stops at the first that
-    /// is refused, as by `append`, or that the source can't tell; the entries before it stay, and the reader is of no
-    /// more use then.
-    pub fn append_from<P: CommandSource>(
-        &mut self,
-        process: Process,
-        reader: &mut CommandReader<P>,
-        most: usize,
-    ) -> Result<usize, ApplyFault>
-        requires reads { IsReading P.left P.size P.has_read reader.old }
-        requires lines { AreLinesFor P.spells K.spells }
-        requires waits { (reader.old.next ≢ None) × (1 ≤ most) }
-        // What it does.
-        ensures reads { OnOk result (IsReading P.left P.size P.has_read reader.new) }
-        ensures performed { IfOk result (PerformsFrom P.left P.size (Appends process) self.old
-            reader.old.unread.value most self.new reader.new.unread.value) }
-        // What is refused.
-        ensures refused { IfErr result (StopsFrom P.left P.size P.is_lost (Appends process)
-            (length self.new.history) self.new.limit self.old reader.old.unread.value self.new) }
-        // What it is afterwards, either way.
-        ensures sound { IsSoundSystem self.new }
-    {
-        let alloc = self.alloc;
-        let mut count = 0;
-        'commands: while count < most {
-            let Some(command) = &mut reader.next else {
-                break;
-            };
-            self.append(process, command, reader.source.line())?;
-            reader.read_next(alloc)?;
-            count += 1;
-        }
-        Ok(count)
-    }
-
-    /// The configuration after the history. Takes no memory.
+    /// Returns the configuration after the history. Takes no memory.
     pub fn config(&self) -> &Config
         ensures drivers { result.now.drivers ≡ self.now.drivers }
         ensures now { result.now.configuration ≡ after self.now.drivers self.now.history }
@@ -243,17 +184,17 @@ impl<K: Keeper> System<K> {
         &self.config
     }
 
-    /// How many entries the history has. Takes no memory.
+    /// Returns how many entries the history has. Takes no memory.
     pub fn count(&self) -> usize
         ensures count { result ≡ length self.now.history }
         ensures sound { IsSoundSystem self.now }
     {
-        self.kept.count()
+        self.sink.count()
     }
 
-    /// What was kept of the history, and the configuration after it. Takes no memory.
+    /// Moves out the sink, which was given the history, and the configuration after it. Takes no memory.
     pub fn into_parts(self) -> (K, Config)
-        ensures kept { K.told result.0 ≡ self.history }
+        ensures given { K.entries result.0 ≡ self.history }
         ensures drivers { result.1.drivers ≡ self.drivers }
         ensures now { result.1.configuration ≡ after self.drivers self.history }
         ensures sound { IsSoundSystem self }
@@ -262,8 +203,8 @@ impl<K: Keeper> System<K> {
             alloc: _,
             config,
             limit: _,
-            kept,
+            sink,
         } = self;
-        (kept, config)
+        (sink, config)
     }
 }

@@ -1,4 +1,4 @@
-//! Why a command was not performed by somebody who waits for nobody, in the words that a program prints.
+//! The reason why a try performed no command, in the words that a program prints.
 
 ghost use Rattle.std.specs.Prelude.{◌≡◌};
 ghost use Rattle.smx_shared.specs.TryFaults.{try_fault_of};
@@ -7,14 +7,15 @@ use crate::front::Front;
 use crate::shared_fault::ApplyFault;
 use std::fmt;
 
-/// Why a try performed no command; no entry was added then. It prints itself: `turn held`, `history full`, `no memory`.
+/// The reason why a try performed no command; no entry was added then. It prints as `turn held`, `history full` or
+/// `no memory`.
 #[derive(Clone, Copy, Debug, PartialEq, Eq)]
 pub enum TryFault {
-    /// Somebody had the turn, as this front showed.
+    /// Another seat had the turn, as this front showed.
     Busy(Front),
     /// There are as many entries as the limit allows.
     HistoryFull,
-    /// A growth was refused.
+    /// An allocation failed.
     NoMemory,
 }
 

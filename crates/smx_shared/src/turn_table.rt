@@ -1,23 +1,19 @@
 //! The words and the slot of a shared system, and the steps on them.
 
-ghost use Rattle.std.specs.Prelude.{◌≡◌, ◌≢◌, ◌<◌, ◌≤◌, ◌+◌, ◌*◌, ◌%◌, [], true, false, Some, None};
-ghost use Rattle.std.specs.Prelude.{length, IfOk, IfErr, OnOk};
-ghost use Rattle.smx_shared.specs.Calls.{AddsEntries, AnswersEntry, Refuses, EndsAs, GoesOnFrom};
-ghost use Rattle.smx_shared.specs.CommandSources.{AreLinesFor, IsReading};
+ghost use Rattle.std.specs.Prelude.{◌≡◌, ◌<◌, ◌≤◌, ◌+◌, ◌*◌, ◌%◌, [], true, false, Some, None};
+ghost use Rattle.std.specs.Prelude.{IfOk, IfErr, IsOk, OnOk};
+ghost use Rattle.smx_shared.specs.Calls.{AddsEntry, AnswersEntry, Refuses, EndsAs, GoesOnFrom};
 ghost use Rattle.smx_shared.specs.Fronts.{front_of};
-ghost use Rattle.smx_shared.specs.Performed.{PerformsFrom, StopsFrom};
 ghost use Rattle.smx_shared.specs.Recorded.{IsSoundSystem};
 ghost use Rattle.smx_shared.specs.declared.turn_table.TheConstants.{MOST_TRIES};
-ghost use Rattle.smx_shared.specs.Seats.{shared_as};
+ghost use Rattle.smx_shared.specs.Seats.{shared_as, HasMetAll};
 ghost use Rattle.smx_shared.specs.SeatViews.{first_view, view_beside, without_right, with_next_name, known_of};
 ghost use Rattle.smx_shared.specs.SeatViews.{system_of, IsAtRest, IsInformed};
 ghost use Rattle.smx_shared.specs.SeatViews.{RestsAfter, HasTurn, HasGrown, HasMet, FoundWord, IsWordFrom, AddsFor};
 
-use crate::command_reader::CommandReader;
-use crate::command_source::CommandSource;
-use crate::keeper::Keeper;
-use crate::parked::Parked;
-use crate::seat_view::{Call, Deal, Look, Meet, OneTurn, Publish, SeatView, Start, Take};
+use crate::boxed_system::BoxedSystem;
+use crate::entry_sink::EntrySink;
+use crate::seat_view::{Deal, Look, Meet, OneTurn, Publish, SeatView, Start, Take, TakeName};
 use crate::shared_fault::ApplyFault;
 use crate::system::System;
 use atomic_table::Table;
@@ -28,39 +24,40 @@ use std::sync::Wait;
 use std::thread::{self, Parker};
 use std::time::Duration;
 
-/// A seat as the table knows it.
-pub type Token<K> = atomic_table::Seat<Option<Parked<K>>, SeatView>;
+/// A seat, as the table knows it.
+pub type Token<K> = atomic_table::Seat<Option<BoxedSystem<K>>, SeatView>;
 
-/// Two words and a slot: the front with the turn bit, the names given, and the system.
-pub struct TurnTable<K: Keeper> {
-    pub table: Table<Option<Parked<K>>, SeatView, Start<K>, OneTurn, Global>,
+/// Two words and a slot: the front with the turn bit, the number of names given, and the system.
+pub struct TurnTable<K: EntrySink> {
+    pub table: Table<Option<BoxedSystem<K>>, SeatView, Start<K>, OneTurn, Global>,
     pub ghost sized: { (table.shared.table_id.words ≡ 2) × (table.shared.table_id.slots ≡ 1) },
 }
 
-impl<K: Keeper> Drop for TurnTable<K> {
-    // One call in each body that has one, however many ways it ends, in place of a drop for each part.
+impl<K: EntrySink> Drop for TurnTable<K> {
+    // Written by hand: a body drops a table by one call, and not part by part.
     fn drop(self) {
         let TurnTable { table: _table } = self;
     }
 }
 
-// Where these lie.
+// The places of the words and of the slot.
 const FRONT: usize = 0;
 
 const NAMES: usize = 1;
 
 const SYSTEM: usize = 0;
 
-// How often a caller yields that waits for the turn, before it sleeps; and after how many tries it sleeps no longer.
+// The number of yields of a caller that waits for the turn, before it sleeps; and the number of tries after which its
+// sleeps grow no longer.
 const YIELDS: u32 = 1;
 
 const MOST_TRIES: u32 = 4;
 
-// How long it first sleeps, in microseconds.
+// Its first sleep, in microseconds.
 const SHORTEST_SLEEP: u64 = 200;
 
-// The word of a system with the turn free.
-fn front_word<K: Keeper>(system: &System<K>) -> u64
+// Returns the word of a system with the turn free.
+fn front_word<K: EntrySink>(system: &System<K>) -> u64
     ensures word { result ≡ front_of system.now.drivers system.now.history }
     ensures sound { IsSoundSystem system.now }
 {
@@ -69,9 +66,9 @@ fn front_word<K: Keeper>(system: &System<K>) -> u64
     4096 * entries + 2 * links
 }
 
-// Lets others go on, after so many tries: at first it only yields, and later it sleeps, longer each time. Nobody wakes
-// it: a sleep on the first word would end with each call of others, and who calls often would hardly sleep. Counts one
-// try more, up to the most.
+// Lets others go on, after `tries` tries: yields at first, and later sleeps, longer each time. No call wakes the
+// sleeper: a sleep on the first word would end with each call of others, and many callers would hardly sleep. Returns
+// one try more, up to the most.
 fn let_others_go_on<R: Wait>(rt: &R, tries: u32) -> u32
     requires { tries ≤ MOST_TRIES }
     ensures { result ≤ MOST_TRIES }
@@ -85,8 +82,8 @@ fn let_others_go_on<R: Wait>(rt: &R, tries: u32) -> u32
     (tries + 1).min(MOST_TRIES)
 }
 
-impl<K: Keeper> TurnTable<K> {
-    /// The system in its slot with the turn free, and the first seat, which may take the first name.
+impl<K: EntrySink> TurnTable<K> {
+    /// Makes a table with the system in its slot and the turn free, and the first seat, which may take the first name.
     pub fn open(
         alloc: Global,
         system: System<K>,
@@ -103,16 +100,16 @@ impl<K: Keeper> TurnTable<K> {
             processes,
         };
         let front = front_word(&system);
-        let parked = Parked::park(alloc, system)?;
+        let boxed = BoxedSystem::from_system(alloc, system)?;
         let mut slots = Vec::with_capacity(alloc, 1)?;
-        slots.push_reserved(Some(parked));
+        slots.push_reserved(Some(boxed));
         match Table::new(alloc, &[front, 0], slots, &about) {
             Ok((table, token)) => Ok((TurnTable { table }, token)),
             Err(_) => Err(NoMemory),
         }
     }
 
-    /// Another seat, which has seen as much, and has the right to the next name from this one.
+    /// Splits off another seat, which has seen as much, and gets the right to the next name from this one.
     pub fn deal(&self, token: &mut Token<K>) -> Token<K>
         requires { token.old.table_id ≡ self.now.table.shared.table_id }
         ensures same { (token.new.table_id ≡ token.old.table_id)
@@ -122,7 +119,7 @@ impl<K: Keeper> TurnTable<K> {
         self.table.shared.split_seat::<Deal>(token)
     }
 
-    /// The seat takes the next name.
+    /// Takes the next name for the seat.
     pub fn name(&self, token: &mut Token<K>)
         requires table { token.old.table_id ≡ self.now.table.shared.table_id }
         requires right { (token.old.me.0.may_name ≡ true) × (token.old.me.0.next < 64) }
@@ -131,10 +128,10 @@ impl<K: Keeper> TurnTable<K> {
         ensures same { (token.new.table_id ≡ token.old.table_id)
             × (token.new.me ≡ (with_next_name token.old.me.0, token.old.me.1)) }
     {
-        self.table.shared.fetch_add::<Call>(token, NAMES, 1);
+        self.table.shared.fetch_add::<TakeName>(token, NAMES, 1);
     }
 
-    /// One load of the first word.
+    /// Loads the first word once.
     pub fn look(&self, token: &mut Token<K>) -> u64
         requires table { token.old.table_id ≡ self.now.table.shared.table_id }
         requires rest { IsAtRest token.old.me }
@@ -145,10 +142,11 @@ impl<K: Keeper> TurnTable<K> {
         self.table.shared.load::<Look>(token, FRONT)
     }
 
-    /// Takes the turn where it is free, and answers the word that shows it held where it is not. One step, either way.
+    /// Takes the turn if it is free; fails with the word that shows it held if it is not. One step, either way.
     pub fn try_take(&self, token: &mut Token<K>) -> Result<(), u64>
         requires table { token.old.table_id ≡ self.now.table.shared.table_id }
         requires rest { IsAtRest token.old.me }
+        requires named { token.old.me.0.named ≡ true }
         ensures table { token.new.table_id ≡ token.old.table_id }
         ensures grown { HasGrown token.old.me.0 token.new.me.0 × (token.new.me.0.own ≡ token.old.me.0.own) }
         ensures taken { OnOk result (HasTurn token.new.me (Some (system_of token.new.me.0))) }
@@ -164,6 +162,7 @@ impl<K: Keeper> TurnTable<K> {
     pub fn take<R: Wait>(&self, rt: &R, token: &mut Token<K>)
         requires table { token.old.table_id ≡ self.now.table.shared.table_id }
         requires rest { IsAtRest token.old.me }
+        requires named { token.old.me.0.named ≡ true }
         ensures table { token.new.table_id ≡ token.old.table_id }
         ensures grown { HasGrown token.old.me.0 token.new.me.0 × (token.new.me.0.own ≡ token.old.me.0.own) }
         ensures taken { HasTurn token.new.me (Some (system_of token.new.me.0)) }
@@ -178,8 +177,8 @@ impl<K: Keeper> TurnTable<K> {
         unreachable!()
     }
 
-    // The system out of its slot, by the seat that has the turn.
-    fn take_out(&self, token: &mut Token<K>) -> Parked<K>
+    // Moves the system out of its slot, by the seat that has the turn.
+    fn take_out(&self, token: &mut Token<K>) -> BoxedSystem<K>
         requires table { token.old.table_id ≡ self.now.table.shared.table_id }
         requires turn { HasTurn token.old.me (Some (system_of token.old.me.0)) }
         ensures table { token.new.table_id ≡ token.old.table_id }
@@ -192,8 +191,8 @@ impl<K: Keeper> TurnTable<K> {
         }
     }
 
-    // The system goes back into its slot, and then the turn, with the word of just that system.
-    fn give_back(&self, token: &mut Token<K>, system: Parked<K>)
+    // Moves the system back into its slot, and then gives the turn back, with the word of exactly that system.
+    fn give_back(&self, token: &mut Token<K>, system: BoxedSystem<K>)
         requires table { token.old.table_id ≡ self.now.table.shared.table_id }
         requires turn { HasTurn token.old.me None × (token.old.me.0.named ≡ true) }
         requires same { (system.drivers ≡ token.old.me.0.drivers) × (system.limit ≡ token.old.me.0.limit) }
@@ -209,7 +208,7 @@ impl<K: Keeper> TurnTable<K> {
     }
 
     /// Performs a command by the seat that has the turn, and gives the turn back.
-    pub fn serve(
+    pub fn apply(
         &self,
         token: &mut Token<K>,
         process: Process,
@@ -230,36 +229,29 @@ impl<K: Keeper> TurnTable<K> {
         outcome
     }
 
-    /// The same for the command that waits at a reader, and for those that come next, up to so many in all: no entry is
-    /// answered, and so nothing is copied.
-    pub fn serve_from<P: CommandSource>(
+    /// Performs a command as `apply` does, for a caller that needs no entry.
+    pub fn perform(
         &self,
         token: &mut Token<K>,
         process: Process,
-        reader: &mut CommandReader<P>,
-        most: usize,
-    ) -> Result<usize, ApplyFault>
+        command: Command,
+    ) -> Result<(), ApplyFault>
         requires table { token.old.table_id ≡ self.now.table.shared.table_id }
         requires turn { HasTurn token.old.me (Some (system_of token.old.me.0)) }
         requires named { (token.old.me.0.named ≡ true) × (token.old.me.0.process ≡ process) }
-        requires reads { IsReading P.left P.size P.has_read reader.old }
-        requires lines { AreLinesFor P.spells K.spells }
-        requires waits { (reader.old.next ≢ None) × (1 ≤ most) }
         ensures table { token.new.table_id ≡ token.old.table_id }
         ensures rest { RestsAfter token.old.me.0 token.new.me }
-        ensures reads { OnOk result (IsReading P.left P.size P.has_read reader.new) }
-        ensures performed { IfOk result (PerformsFrom P.left P.size AddsEntries (known_of token.old.me.0)
-            reader.old.unread.value most (known_of token.new.me.0) reader.new.unread.value) }
-        ensures refused { IfErr result (StopsFrom P.left P.size P.is_lost AddsEntries (length token.new.me.0.seen)
-            token.new.me.0.limit (known_of token.old.me.0) reader.old.unread.value (known_of token.new.me.0)) }
+        ensures added { OnOk result (AddsEntry (known_of token.old.me.0) command (known_of token.new.me.0)) }
+        ensures counted { token.new.me.0.looks ≡ token.old.me.0.looks + 1 }
+        ensures refused { IfErr result (Refuses (known_of token.old.me.0) (known_of token.new.me.0)) }
     {
         let mut system = self.take_out(token);
-        let outcome = system.append_from(process, reader, most);
+        let outcome = system.perform(process, command);
         self.give_back(token, system);
         outcome
     }
 
-    /// The seat has then seen what either had, and the other is spent.
+    /// Joins the other seat into this one, which has then seen what either had.
     pub fn meet(&self, token: &mut Token<K>, other: Token<K>)
         requires table { (token.old.table_id ≡ self.now.table.shared.table_id)
             × (other.table_id ≡ self.now.table.shared.table_id) }
@@ -272,7 +264,8 @@ impl<K: Keeper> TurnTable<K> {
         self.table.shared.load::<Look>(token, FRONT);
     }
 
-    /// The system, or the word that shows the turn held that was never given back.
+    /// Returns the system, or the word that shows the turn held, if it was never given back. A seat that has met all
+    /// others gets the system.
     pub fn close(self, token: Token<K>) -> Result<System<K>, u64>
         requires table { token.table_id ≡ self.table.shared.table_id }
         requires rest { IsAtRest token.me × (token.me.0.named ≡ true) }
@@ -280,6 +273,7 @@ impl<K: Keeper> TurnTable<K> {
         ensures begun { IfOk result (GoesOnFrom (shared_as self.table.shared.table_id self.table.shared.key.system.value
             self.table.shared.key.processes)) }
         ensures held { IfErr result (λ word. (word % 2 ≡ 1) × IsWordFrom token.me.0 word) }
+        ensures alone { HasMetAll self.table.shared.key.processes (known_of token.me.0) token.me.0.met → IsOk result }
     {
         let TurnTable { table } = self;
         let mut closed = table.close_with(token);

@@ -1,4 +1,4 @@
-//! Tests of systems that threads share, and of runs, that go by the public calls of the libraries alone.
+//! Tests of systems that threads share, and of runs, through the public calls of the libraries only.
 #![tactic(auto)]
 
 #[cfg(test)]

@@ -2,12 +2,13 @@
 
 mod at_limits;
 mod callers;
+mod configurations;
 mod doors;
 mod gates;
 mod gathered;
-mod growing;
+mod hangups;
 mod made;
-mod recorded;
+mod refused_drivers;
 mod runs;
 mod seats;
 mod shared_use;
@@ -16,7 +17,6 @@ mod sweeps;
 mod systems;
 mod three_seats;
 mod told;
-mod told_replies;
 mod tried_again;
 mod verdicts;
 mod worked;

@@ -1,4 +1,4 @@
-//! The queues that have messages, for Graphviz.
+//! The queues with messages, for Graphviz.
 
 ghost use Rattle.std.specs.Prelude.{◌≡◌, IfOk, option_copied};
 ghost use Rattle.std.specs.Option.{option_map_or};
@@ -11,7 +11,7 @@ use crate::pieces::{Piece, put, shown_length};
 use smx_types::{DriverSpec, MessageLine, Name, NoMemory, Side};
 use std::alloc::Global;
 
-/// A queue: its place, how many bytes it has, and the marks of its driver.
+/// A queue: its place, its number of bytes, and the water marks of its driver.
 #[derive(Clone, Copy, Debug)]
 pub struct DotQueue {
     pub driver: Name,
@@ -22,8 +22,8 @@ pub struct DotQueue {
     pub low: u32,
 }
 
-/// The queues of messages that are in the order of their places, each with its bytes and the marks of its driver. Fails
-/// only for want of memory.
+/// Returns the queues of messages that are sorted by place, each with its bytes and the water marks of its driver.
+/// Fails only if it is out of memory.
 pub fn queues_of(
     alloc: Global,
     drivers: &[DriverSpec],
@@ -37,7 +37,7 @@ pub fn queues_of(
     }
 }
 
-// A queue, and those of the messages behind it.
+// Returns this queue and those of the messages after it.
 fn queues_from(
     alloc: Global,
     drivers: &[DriverSpec],
@@ -74,7 +74,7 @@ fn is_same(one: Side, other: Side) -> bool
     one == other
 }
 
-// The queue with a message more.
+// Returns the queue with one more message.
 fn with_message(queue: DotQueue, message: &MessageLine) -> DotQueue
     ensures { result ≡ with_message queue message.now }
 {
@@ -85,7 +85,7 @@ fn with_message(queue: DotQueue, message: &MessageLine) -> DotQueue
     }
 }
 
-// The queue of one message. A driver that nobody knows has no marks.
+// Returns the queue of one message. Its water marks are 0 if no driver has the message's driver name.
 fn queue_of(drivers: &[DriverSpec], message: &MessageLine) -> DotQueue
     ensures { result ≡ queue_of drivers.now message.now }
 {

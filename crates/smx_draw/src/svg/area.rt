@@ -1,9 +1,9 @@
-//! Where a part of a picture stands.
+//! The place of a part of a picture.
 
 use crate::svg::column::{ROW, WIDTH};
 
-/// A rectangle in pixels, from its upper left corner to its lower right one. Or the way of a link: from the first point
-/// it comes down to `bend`, and from there to the height of the second, right beside it.
+/// A rectangle in pixels, from its upper left corner to its lower right one. For a link it is a curve instead: from
+/// the first point down to `bend`, then to the height of the second point, right beside it.
 #[derive(Clone, Copy, Debug, PartialEq, Eq)]
 pub struct Area {
     pub left: u32,
@@ -14,7 +14,7 @@ pub struct Area {
 }
 
 impl Area {
-    /// The place of what has none.
+    /// The place of a part that has none.
     pub const NOWHERE: Area = Area {
         left: 0,
         top: 0,
@@ -23,12 +23,12 @@ impl Area {
         bend: 0,
     };
 
-    /// The row of a column that begins at a point.
+    /// Returns the row of a column that starts at this point.
     pub fn row(left: u32, top: u32) -> Area {
         Area::at(left, top, WIDTH, ROW)
     }
 
-    /// The rectangle of this width and height at a point.
+    /// Returns the rectangle of this width and height at this point.
     pub fn at(left: u32, top: u32, width: u32, height: u32) -> Area {
         Area {
             left,

@@ -1,4 +1,4 @@
-//! The elements of drivers, streams and queues, which lie under all others.
+//! The elements of drivers, streams and queues, which are drawn under all others.
 
 ghost use Rattle.smx_draw.specs.SvgElements.{driver_element, gauge_element, stream_element};
 
@@ -19,19 +19,19 @@ pub struct StreamBox {
     pub area: Area,
 }
 
-/// A queue in the picture, whose gauge goes up to its high water mark.
+/// A queue in the picture. Its gauge goes up to its high water mark.
 #[derive(Clone, Copy, Debug)]
 pub struct Gauge {
     pub side: Side,
     pub bytes: u32,
     pub high: u32,
-    /// Where its bytes end in the gauge, and where its low water mark is.
+    /// The x coordinates at which its bytes end in the gauge, and of its low water mark.
     pub level: u32,
     pub mark: u32,
     pub area: Area,
 }
 
-/// The streams that the view names. Fails only for want of memory.
+/// Returns the streams that the view names. Fails only if it is out of memory.
 pub fn streams_of(alloc: Global, plan: &Plan) -> Result<Vec<StreamBox>, NoMemory> {
     let mut streams = Vec::new(alloc);
     for at in 0..plan.columns.len() {
@@ -52,7 +52,7 @@ fn stream_at(plan: &Plan, at: usize) -> Option<StreamBox> {
     })
 }
 
-/// The queues on this side of the streams that the view names. Fails only for want of memory.
+/// Returns the queues on this side of the streams that the view names. Fails only if it is out of memory.
 pub fn gauges_of(alloc: Global, plan: &Plan, side: Side) -> Result<Vec<Gauge>, NoMemory> {
     let mut gauges = Vec::new(alloc);
     for at in 0..plan.columns.len() {
@@ -78,7 +78,7 @@ fn gauge_at(plan: &Plan, at: usize, side: Side) -> Option<Gauge> {
     })
 }
 
-// The water marks of the driver of a column. What names no driver has none.
+// Returns the water marks of a column's driver, or 0 and 0 if it has none.
 fn marks_of(plan: &Plan, column: usize) -> (u32, u32) {
     match plan.drivers.get(plan.frame_at(column)) {
         Some(driver) => (driver.high, driver.low),
@@ -86,7 +86,7 @@ fn marks_of(plan: &Plan, column: usize) -> (u32, u32) {
     }
 }
 
-// Where so many bytes end in a gauge that is full from `high` bytes on.
+// Returns where `bytes` end in a gauge that is full from `high` bytes on.
 fn level_of(area: Area, bytes: u32, high: u32) -> u32 {
     if high == 0 {
         return area.left;

@@ -1,30 +1,30 @@
-//! The column of a stream: what hangs below its head, and where.
+//! The column of a stream: the items below its head, and their places.
 
 use crate::svg::area::Area;
 use smx_types::Side;
 
-/// How wide a column is.
+/// The width of a column.
 pub const WIDTH: u32 = 144;
 
-/// How high a row of text is.
+/// The height of a row of text.
 pub const ROW: u32 = 14;
 
-// How high the head of a column is, and the gauge of a queue.
+// The height of a column's head, and of a queue's gauge.
 const HEAD: u32 = 18;
 
 const GAUGE: u32 = 16;
 
-/// The rows of one kind in a column: how many there are, and where the next one is drawn.
+/// The rows of one kind in a column: their number, and where the next one is drawn.
 #[derive(Clone, Copy, Debug)]
 pub struct Rows {
     pub count: u32,
     pub next: u32,
 }
 
-/// What is drawn in the column of a stream.
+/// The parts that are drawn in the column of a stream.
 #[derive(Clone, Copy, Debug)]
 pub struct Column {
-    /// Whether the stream is linked below a driver. The two lines of the link then stand below its name.
+    /// Whether the stream is linked below a driver. The two lines of the link are then drawn below its name.
     pub linked: bool,
     pub left: u32,
     pub top: u32,
@@ -45,19 +45,19 @@ pub struct Queue {
 impl Rows {
     const NONE: Rows = Rows { count: 0, next: 0 };
 
-    /// One row more.
+    /// Adds one row.
     pub fn add(&mut self) {
         self.count = self.count.saturating_add(1);
     }
 
-    /// Where the next row is drawn, which is then behind it.
+    /// Returns where the next row is drawn, and moves on to the row after it.
     pub fn take(&mut self) -> u32 {
         let top = self.next;
         self.next = top.saturating_add(ROW);
         top
     }
 
-    // Puts the first row here, and says where the last one ends.
+    // Puts the first row here, and returns where the last one ends.
     fn put_at(&mut self, top: u32) -> u32 {
         self.next = top;
         top.saturating_add(self.count.saturating_mul(ROW))
@@ -71,13 +71,13 @@ impl Queue {
         messages: Rows::NONE,
     };
 
-    // One message more.
+    // Adds one message.
     fn add(&mut self, bytes: u32) {
         self.bytes = self.bytes.saturating_add(bytes);
         self.messages.add();
     }
 
-    // Puts the gauge here and the messages behind it, and says where the last one ends.
+    // Puts the gauge here and the messages after it, and returns where the last one ends.
     fn put_at(&mut self, top: u32) -> u32 {
         self.top = top;
         self.messages.put_at(top.saturating_add(GAUGE))
@@ -96,7 +96,7 @@ impl Column {
         read: Queue::EMPTY,
     };
 
-    /// One message more in the queue of a side.
+    /// Adds one message to the queue of a side.
     pub fn add_message(&mut self, side: Side, bytes: u32) {
         match side {
             Side::Write => self.written.add(bytes),
@@ -104,7 +104,7 @@ impl Column {
         }
     }
 
-    /// Where the next message of a side is drawn.
+    /// Returns where the next message of a side is drawn.
     pub fn take_message(&mut self, side: Side) -> u32 {
         match side {
             Side::Write => self.written.messages.take(),
@@ -112,7 +112,7 @@ impl Column {
         }
     }
 
-    /// How many bytes the queue of a side has.
+    /// Returns the number of bytes in the queue of a side.
     pub fn bytes(&self, side: Side) -> u32 {
         match side {
             Side::Write => self.written.bytes,
@@ -120,7 +120,7 @@ impl Column {
         }
     }
 
-    /// How high it is.
+    /// Returns the height of the column.
     pub fn height(&self) -> u32 {
         let rows = self.descriptors.count.saturating_add(self.bindings.count);
         let messages = self
@@ -134,12 +134,12 @@ impl Column {
             .saturating_add(2 * GAUGE)
     }
 
-    // How high its name is, with the lines of a link.
+    // Returns the height of its name, with the lines of a link.
     fn head(&self) -> u32 {
         if self.linked { HEAD + 2 * ROW } else { HEAD }
     }
 
-    /// Puts it here, with its rows: descriptors, bindings, and each queue with its messages.
+    /// Puts the column here, with its rows: descriptors, bindings, and each queue with its messages.
     pub fn put_at(&mut self, left: u32, top: u32) {
         self.left = left;
         self.top = top;
@@ -150,12 +150,12 @@ impl Column {
         let _end = self.read.put_at(read);
     }
 
-    /// All of it.
+    /// Returns the area of the column.
     pub fn area(&self) -> Area {
         Area::at(self.left, self.top, WIDTH, self.height())
     }
 
-    /// The gauge of a side.
+    /// Returns the gauge of a side.
     pub fn gauge(&self, side: Side) -> Area {
         let top = match side {
             Side::Write => self.written.top,

@@ -1,10 +1,10 @@
-//! What the lines of a view add to the plan of its picture.
+//! The room that each line of a view needs in the plan of its picture.
 
 use crate::pieces::shown_length;
 use crate::svg::plan::Plan;
 use smx_types::{BindingLine, DescriptorLine, LinkLine, MessageLine, RouteLine};
 
-/// A line of a view that takes room.
+/// A line of a view that needs room.
 pub trait Counted {
     /// Adds it to the plan.
     fn count(&self, plan: &mut Plan);

@@ -6,7 +6,7 @@ ghost use Rattle.smx_draw.specs.SvgFrame.{svg_foot, svg_head, svg_looks, svg_siz
 use crate::pieces::{Piece, put};
 use smx_types::NoMemory;
 
-/// The head of the picture: its size, how its parts look, and what the looks mean.
+/// Appends the head of the picture: its size, the style of its parts, and the legend.
 pub fn put_head(out: &mut Vec<u8>, width: u32, height: u32) -> Result<(), NoMemory>
     ensures { OnOk result (out.new.items ≡ out.old.items ++ svg_head width height) }
 {
@@ -82,7 +82,7 @@ fn put_looks(out: &mut Vec<u8>) -> Result<(), NoMemory>
     )
 }
 
-/// The end of the picture, with what the next link and the next message get.
+/// Appends the end of the picture, with the id of the next link and the serial of the next message.
 pub fn put_foot(out: &mut Vec<u8>, next_id: u32, next_serial: u32) -> Result<(), NoMemory>
     ensures { OnOk result (out.new.items ≡ out.old.items ++ svg_foot next_id next_serial) }
 {

@@ -1,31 +1,31 @@
-//! The frame of a driver: its layer, and where it stands.
+//! The frame of a driver: its layer and its place.
 
 use crate::svg::area::Area;
 use crate::svg::column::{ROW, WIDTH};
 
-// The room round the columns, and between two.
+// The room around the columns, and between two.
 const PADDING: u32 = 8;
 
-// How many columns stand beside one another.
+// How many columns are side by side.
 const BESIDE: u32 = 12;
 
-// How wide a frame is at least, and how far apart links leave it.
+// The least width of a frame, and the least distance between its links.
 const LEAST: u32 = 168;
 
 const LINK: u32 = 10;
 
-// How high the lines of a driver are.
+// The height of the driver's own lines.
 const TITLE: u32 = 48;
 
 /// A driver in the picture.
 #[derive(Clone, Copy, Debug)]
 pub struct Frame {
-    /// How many drivers stand above it at most, one below the other.
+    /// The largest number of drivers above it, one below the other.
     pub layer: usize,
-    /// How many columns it has, and how high the highest one is.
+    /// The number of its columns, and the height of the highest one.
     pub columns: u32,
     pub highest: u32,
-    /// How many links it has below it, and how many routes.
+    /// The number of links below it, and of its routes.
     pub links: u32,
     pub routes: u32,
     left: u32,
@@ -36,7 +36,7 @@ pub struct Frame {
 }
 
 impl Frame {
-    /// A driver of which no line of the view says anything yet.
+    /// A driver that no line of the view mentions yet.
     pub const EMPTY: Frame = Frame {
         layer: 0,
         columns: 0,
@@ -50,32 +50,32 @@ impl Frame {
         next_route: 0,
     };
 
-    /// Whether some line of the view says anything of it.
+    /// Returns whether some line of the view mentions it.
     pub fn is_named(&self) -> bool {
         self.columns > 0 || self.links > 0 || self.routes > 0
     }
 
-    /// One column more, of this height.
+    /// Adds one column of this height.
     pub fn add_column(&mut self, height: u32) {
         self.columns = self.columns.saturating_add(1);
         self.highest = self.highest.max(height);
     }
 
-    /// How wide it is.
+    /// Returns its width.
     pub fn width(&self) -> u32 {
         let columns = self.columns.min(BESIDE) * (WIDTH + PADDING);
         let links = self.links.saturating_mul(LINK);
         columns.max(links).saturating_add(PADDING).max(LEAST)
     }
 
-    /// How high it is.
+    /// Returns its height.
     pub fn height(&self) -> u32 {
         self.columns_height()
             .saturating_add(self.routes.saturating_mul(ROW))
             .saturating_add(TITLE)
     }
 
-    // How high its columns are, in rows of twelve.
+    // Returns the height of its columns, which are in rows of twelve.
     fn columns_height(&self) -> u32 {
         let rows = self.columns.saturating_add(BESIDE - 1) / BESIDE;
         self.row_height()
@@ -87,7 +87,7 @@ impl Frame {
         self.highest.saturating_add(PADDING)
     }
 
-    /// Puts it here.
+    /// Puts the frame here.
     pub fn put_at(&mut self, left: u32, top: u32) {
         self.left = left;
         self.top = top;
@@ -95,12 +95,12 @@ impl Frame {
         self.next_route = top.saturating_add(self.columns_height());
     }
 
-    /// All of it.
+    /// Returns the area of the frame.
     pub fn area(&self) -> Area {
         Area::at(self.left, self.top, self.width(), self.height())
     }
 
-    /// The upper left corner of its next column.
+    /// Returns the upper left corner of its next column.
     pub fn take_column(&mut self) -> (u32, u32) {
         let at = self.next_column;
         self.next_column = at.saturating_add(1);
@@ -112,7 +112,7 @@ impl Frame {
         (self.left.saturating_add(left), self.top.saturating_add(top))
     }
 
-    /// Where its next link leaves it: links share its width.
+    /// Returns where its next link leaves it. Links share its width.
     pub fn take_link(&mut self) -> (u32, u32) {
         let left = self.next_link;
         let share = self.width().saturating_sub(PADDING) / self.links.max(1);
@@ -120,7 +120,7 @@ impl Frame {
         (left, self.top.saturating_add(self.height()))
     }
 
-    /// Where the row of its next route stands.
+    /// Returns where the row of its next route is.
     pub fn take_route(&mut self) -> (u32, u32) {
         let top = self.next_route;
         self.next_route = top.saturating_add(ROW);

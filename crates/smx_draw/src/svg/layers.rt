@@ -1,4 +1,4 @@
-//! The layers of the drivers: each stands below those that have it linked below them.
+//! The layers of the drivers: each is below those that have it linked below them.
 
 use crate::svg::plan::Plan;
 use smx_types::{LinkLine, NoMemory};
@@ -12,9 +12,9 @@ struct Way {
 }
 
 impl Plan {
-    /// Sinks each lower driver below the upper ones of its links. Each pass settles one link more of the longest way
-    /// down, so as many passes as there are drivers are enough. Where links form a cycle, it ends all the same. Fails
-    /// only for want of memory.
+    /// Moves each lower driver below the upper ones of its links. Each pass settles at least one more link of the
+    /// longest path down, so one pass for each driver is enough. It also ends if links form a cycle. Fails only if it
+    /// is out of memory.
     pub fn sink(&mut self, alloc: Global, links: &[LinkLine]) -> Result<(), NoMemory> {
         let ways = self.ways_of(alloc, links)?;
         for _pass in 0..self.drivers.len() {
@@ -23,7 +23,7 @@ impl Plan {
         Ok(())
     }
 
-    // The frames of each link, which are looked up once.
+    // Looks up the frames of each link once.
     fn ways_of(&self, alloc: Global, links: &[LinkLine]) -> Result<Vec<Way>, NoMemory> {
         let mut ways = Vec::new(alloc);
         for link in links {
@@ -49,7 +49,7 @@ impl Plan {
         }
     }
 
-    // No layer has a higher number than there are drivers, which only a cycle comes to.
+    // The number of a layer is at most the number of drivers. Only a cycle reaches that bound.
     fn sink_below(&mut self, frame: usize, above: usize) {
         let most = self.drivers.len();
         if let Some(frame) = self.frames.get_mut(frame) {

@@ -1,23 +1,23 @@
-//! Where the frames and the columns stand.
+//! The places of the frames and the columns.
 
 use crate::svg::plan::Plan;
 
-// The room round all frames, and between two.
+// The room around all frames, and between two.
 const MARGIN: u32 = 24;
 
-// What is above the first layer.
+// The height above the first layer.
 const HEADER: u32 = 60;
 
-/// What lies between two layers: the curves of links.
+/// The height between two layers, for the curves of links.
 pub const BETWEEN: u32 = 90;
 
-// The legend takes this.
+// The width of the legend.
 const LEAST_WIDTH: u32 = 640;
 
-// No further frame of a layer begins behind this, but below the others.
+// No further frame of a layer starts to the right of this; it goes below the others.
 const MOST_WIDTH: u32 = 2_400;
 
-/// Where the next frame of a layer stands, and where the highest one so far ends.
+/// The place of the next frame of a layer, and the lower end of the highest one so far.
 #[derive(Clone, Copy, Debug)]
 struct Corner {
     left: u32,
@@ -26,7 +26,7 @@ struct Corner {
 }
 
 impl Corner {
-    // The first one of a layer that begins here.
+    // Returns the place of the first frame of a layer that starts here.
     fn below(top: u32) -> Corner {
         Corner {
             left: MARGIN,
@@ -35,7 +35,7 @@ impl Corner {
         }
     }
 
-    // The one behind a frame of this size.
+    // Returns the place after a frame of this size.
     fn behind(self, width: u32, height: u32) -> Corner {
         let left = self.left.saturating_add(width).saturating_add(MARGIN);
         let end = self.end.max(self.top.saturating_add(height));
@@ -59,7 +59,7 @@ impl Corner {
 }
 
 impl Plan {
-    /// Gives each frame and each column its place, layer by layer, once all lines are counted.
+    /// Gives each frame and each column its place, layer by layer, after all lines are counted.
     pub fn place_all(&mut self) {
         self.measure();
         self.width = LEAST_WIDTH;
@@ -75,7 +75,7 @@ impl Plan {
         self.place_columns();
     }
 
-    // Has each frame know its columns.
+    // Adds the columns to their frames.
     fn measure(&mut self) {
         for at in 0..self.columns.len() {
             self.measure_column(at);
@@ -92,7 +92,7 @@ impl Plan {
         }
     }
 
-    // Puts the frames of a layer beside and below one another, and says where the lowest one ends.
+    // Puts the frames of a layer side by side, in rows, and returns where the lowest one ends.
     fn place_layer(&mut self, layer: usize, top: u32) -> u32 {
         let mut corner = Corner::below(top);
         for at in 0..self.frames.len() {
@@ -101,8 +101,8 @@ impl Plan {
         corner.end
     }
 
-    // Puts a frame here if it is of this layer, and says where the next one stands. What names no driver has a frame
-    // only where there is such.
+    // Puts a frame here if it belongs to this layer, and returns the place of the next one. The frame for lines that
+    // name no driver is drawn only if there are such lines.
     fn place_frame(&mut self, at: usize, layer: usize, corner: Corner) -> Corner {
         let known = at < self.drivers.len();
         let (width, height) = match self.frames.get_mut(at) {
@@ -123,7 +123,7 @@ impl Plan {
         }
     }
 
-    // Puts a column beside the last one of its frame.
+    // Puts a column next to the last one of its frame.
     fn place_column(&mut self, at: usize) {
         let frame = self.frame_at(at);
         let Some(column) = self.columns.get_mut(at) else {

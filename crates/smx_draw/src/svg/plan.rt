@@ -8,13 +8,14 @@ use crate::svg::stream::Stream;
 use smx_types::{DriverSpec, Name, NoMemory, Side};
 use std::alloc::Global;
 
-/// The frames of the drivers, the last one for what names none of them, and the columns of the streams that the view
-/// names.
+/// The frames of the drivers, with a last one for lines that name none of them, and the columns of the streams that
+/// the view names.
 #[derive(Debug, Drop)]
 pub struct Plan {
     pub drivers: Vec<DriverSpec>,
     pub frames: Vec<Frame>,
-    /// The streams, each once and in the order of `Stream::order` once they are all named, and the column of each.
+    /// The streams and the column of each. Once all are named, each stream occurs once, and they are sorted by
+    /// `Stream::order`.
     pub streams: Vec<Stream>,
     pub columns: Vec<Column>,
     pub width: u32,
@@ -25,7 +26,7 @@ pub struct Plan {
 }
 
 impl Plan {
-    /// No stream is named yet. Fails only for want of memory.
+    /// Creates a plan without streams. Fails only if it is out of memory.
     pub fn new(alloc: Global, drivers: &[DriverSpec]) -> Result<Plan, NoMemory> {
         let drivers = Vec::from_slice(alloc, drivers)?;
         let mut frames = Vec::new(alloc);
@@ -42,7 +43,7 @@ impl Plan {
         })
     }
 
-    /// The number of a driver's frame. Of drivers of one name it is the first one's.
+    /// Returns the number of a driver's frame. If drivers share a name, it is that of the first one.
     pub fn frame_of(&self, name: &Name) -> usize {
         match self.drivers.iter().position(|driver| driver.name == *name) {
             Some(at) => at,
@@ -50,7 +51,7 @@ impl Plan {
         }
     }
 
-    /// The frame of the next driver, once all have their places.
+    /// Returns the frame of the next driver, after all have their places.
     pub fn take_frame(&mut self) -> Area {
         let at = self.taken;
         self.taken = at.saturating_add(1);
@@ -60,7 +61,7 @@ impl Plan {
         }
     }
 
-    /// A stream that a line of the view names. Fails only for want of memory.
+    /// Adds a stream that a line of the view names. Fails only if it is out of memory.
     pub fn name(&mut self, driver: &Name, minor: u32) -> Result<(), NoMemory> {
         let hint = self.hints.get(driver, minor);
         match self.streams.get(hint) {
@@ -73,7 +74,7 @@ impl Plan {
         Ok(())
     }
 
-    /// Gives each stream its column, once all are named. Nothing is counted yet. Fails only for want of memory.
+    /// Gives each stream its column, after all are named. Nothing is counted yet. Fails only if it is out of memory.
     pub fn make_columns(&mut self) -> Result<(), NoMemory> {
         self.streams.sort_unstable_by_key(|stream| stream.order());
         self.streams.dedup_by_key(|stream| stream.order());
@@ -81,7 +82,7 @@ impl Plan {
         Ok(())
     }
 
-    /// The number of the frame that a column is in.
+    /// Returns the number of the frame that a column is in.
     pub fn frame_at(&self, column: usize) -> usize {
         match self.streams.get(column) {
             Some(stream) => stream.frame,
@@ -89,7 +90,7 @@ impl Plan {
         }
     }
 
-    /// The number of a stream's column.
+    /// Returns the number of a stream's column.
     pub fn column_of(&mut self, driver: &Name, minor: u32) -> usize {
         let hint = self.hints.get(driver, minor);
         match self.streams.get(hint) {
@@ -101,7 +102,7 @@ impl Plan {
         found
     }
 
-    // The number of a stream among all, or how many there are where it is none of them.
+    // Returns the number of a stream among all, or the number of streams if it is not among them.
     fn find(&self, driver: &Name, minor: u32) -> usize {
         let order = self.stream_of(driver, minor).order();
         match self
@@ -113,54 +114,54 @@ impl Plan {
         }
     }
 
-    // This stream, in the frame of its driver.
+    // Returns this stream, in the frame of its driver.
     fn stream_of(&self, driver: &Name, minor: u32) -> Stream {
         Stream::new(driver, minor, self.frame_of(driver))
     }
 
-    /// A link to this column.
+    /// Records that a stream is linked below a driver.
     pub fn add_lower(&mut self, column: usize) {
         if let Some(column) = self.columns.get_mut(column) {
             column.linked = true;
         }
     }
 
-    /// A descriptor more in this column.
+    /// Adds one descriptor to this column.
     pub fn add_descriptor(&mut self, column: usize) {
         if let Some(column) = self.columns.get_mut(column) {
             column.descriptors.add();
         }
     }
 
-    /// A binding more in this column.
+    /// Adds one binding to this column.
     pub fn add_binding(&mut self, column: usize) {
         if let Some(column) = self.columns.get_mut(column) {
             column.bindings.add();
         }
     }
 
-    /// A message more in this column.
+    /// Adds one message to this column.
     pub fn add_message(&mut self, column: usize, side: Side, bytes: u32) {
         if let Some(column) = self.columns.get_mut(column) {
             column.add_message(side, bytes);
         }
     }
 
-    /// A link more below this frame.
+    /// Adds one link below this frame.
     pub fn add_link(&mut self, frame: usize) {
         if let Some(frame) = self.frames.get_mut(frame) {
             frame.links = frame.links.saturating_add(1);
         }
     }
 
-    /// A route more in this frame.
+    /// Adds one route to this frame.
     pub fn add_route(&mut self, frame: usize) {
         if let Some(frame) = self.frames.get_mut(frame) {
             frame.routes = frame.routes.saturating_add(1);
         }
     }
 
-    /// Where the next link leaves this frame.
+    /// Returns where the next link leaves this frame.
     pub fn take_link(&mut self, frame: usize) -> (u32, u32) {
         match self.frames.get_mut(frame) {
             Some(frame) => frame.take_link(),
@@ -168,7 +169,7 @@ impl Plan {
         }
     }
 
-    /// Where a link comes to this column: beside its name.
+    /// Returns where a link meets this column: beside its name.
     pub fn side_of(&self, column: usize) -> (u32, u32) {
         match self.columns.get(column) {
             Some(column) => (column.left.saturating_sub(4), column.top.saturating_add(9)),

@@ -10,19 +10,19 @@ use smx_types::{
 pub struct Stream {
     pub driver: Name,
     pub minor: u32,
-    /// The number of the frame that it is in.
+    /// The number of its frame.
     pub frame: usize,
-    // The name as a number, which is worked out once.
+    // The name as a number, computed once.
     number: u64,
 }
 
 /// A line of a view that names a stream.
 pub trait Named {
-    /// The driver and the minor of its stream.
+    /// Returns the driver and the minor of its stream.
     fn stream(&self) -> (&Name, u32);
 }
 
-/// Has the plan know the streams of these lines. Fails only for want of memory.
+/// Adds the streams of these lines to the plan. Fails only if it is out of memory.
 pub fn name_all<T: Named>(plan: &mut Plan, lines: &[T]) -> Result<(), NoMemory> {
     for line in lines {
         let (driver, minor) = line.stream();
@@ -32,7 +32,7 @@ pub fn name_all<T: Named>(plan: &mut Plan, lines: &[T]) -> Result<(), NoMemory> 
 }
 
 impl Stream {
-    /// The stream of a driver and a minor in this frame.
+    /// Returns the stream of a driver and a minor in this frame.
     pub fn new(driver: &Name, minor: u32, frame: usize) -> Stream {
         Stream {
             driver: *driver,
@@ -42,18 +42,18 @@ impl Stream {
         }
     }
 
-    /// What streams are in the order of: their frames, then their names, then their minors.
+    /// Returns the key by which streams are sorted: frame, then name, then minor.
     pub fn order(&self) -> (usize, u64, u32) {
         (self.frame, self.number, self.minor)
     }
 
-    /// Whether it is this one.
+    /// Returns whether it is this stream.
     pub fn is(&self, driver: &Name, minor: u32) -> bool {
         self.minor == minor && self.driver == *driver
     }
 }
 
-// A name as a number, which is greater for a name that is behind another in a dictionary.
+// Returns a name as a number. The numbers are in the alphabetical order of the names.
 fn number_of(name: &Name) -> u64 {
     let text = name.as_bytes();
     let mut padded = [0u8; 8];
@@ -69,7 +69,7 @@ impl Named for DescriptorLine {
 
 impl Named for LinkLine {
     fn stream(&self) -> (&Name, u32) {
-        // The controlling stream of a persistent link may be gone; where it isn't, another line names it.
+        // The controlling stream of a persistent link may no longer exist. If it exists, another line names it.
         (&self.lower_driver, self.lower_minor)
     }
 }

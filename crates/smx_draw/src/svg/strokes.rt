@@ -1,4 +1,4 @@
-//! The boxes and the curves that elements begin with.
+//! The boxes and the curves at the start of elements.
 
 ghost use Rattle.std.specs.Prelude.{◌≡◌, ◌++◌, OnOk};
 ghost use Rattle.smx_draw.specs.SvgStrokes.{box, curve};
@@ -7,7 +7,7 @@ use crate::pieces::{Piece, put};
 use crate::svg::area::Area;
 use smx_types::{LinkKind, NoMemory};
 
-/// The beginning of a group of this class, and a rectangle.
+/// Appends the start of a group of this class, and a rectangle.
 pub fn put_box(out: &mut Vec<u8>, class: &[u8], at: Area) -> Result<(), NoMemory>
     ensures { OnOk result (out.new.items ≡ out.old.items ++ box class.now at) }
 {
@@ -31,7 +31,8 @@ pub fn put_box(out: &mut Vec<u8>, class: &[u8], at: Area) -> Result<(), NoMemory
     )
 }
 
-/// The beginning of a group for a link of this kind, a curve from a point with a dot, and a line to the second point.
+/// Appends the start of a group for a link of this kind: a curve from a first point, marked with a dot, and a line to
+/// the second point.
 pub fn put_curve(out: &mut Vec<u8>, kind: LinkKind, at: Area) -> Result<(), NoMemory>
     ensures { OnOk result (out.new.items ≡ out.old.items ++ curve kind at) }
 {

@@ -12,7 +12,7 @@ use std::process::Abort;
 use std::sync::Wait;
 use std::thread::Threads;
 
-// What is done of an input, and the output and the status that are wanted.
+// A task with its input, its expected output and its expected status.
 const DONE: [(Task, &[u8], &[u8], u8); 5] = [
     (Task::Run, OPENS_AND_CLOSES, OPENED_AND_CLOSED, 0),
     (Task::Check, TWO_PROCESSES, b"legal 2\n", 0),
@@ -21,7 +21,7 @@ const DONE: [(Task, &[u8], &[u8], u8); 5] = [
     (Task::Replay, IN_TURN, IN_TURN_REPLAYED, 0),
 ];
 
-// Where the read after this many fails, nothing is written, nor read again.
+// Checks that nothing is written, and nothing read again, if the read after this many fails.
 fn writes_nothing<R: AllocGlobal + Abort + Threads + Wait + Sync>(
     rt: &R,
     task: Task,
@@ -36,7 +36,7 @@ fn writes_nothing<R: AllocGlobal + Abort + Threads + Wait + Sync>(
     forget(ran);
 }
 
-// So it is at each read, the one that shows the end among them.
+// Checks the same at each read, including the one that shows the end.
 fn reads_no_more<R: AllocGlobal + Abort + Threads + Wait + Sync>(rt: &R, task: Task, input: &[u8]) {
     for kind in &TWO_ERRORS {
         for reads in 0..input.len().saturating_add(1) {
@@ -49,7 +49,7 @@ fn reads_no_more<R: AllocGlobal + Abort + Threads + Wait + Sync>(rt: &R, task: T
     }
 }
 
-// Byte by byte it comes to its end, with no call more than are needed.
+// Checks that the task ends byte by byte, with no more calls than it needs.
 fn ends<R: AllocGlobal + Abort + Threads + Wait + Sync>(
     rt: &R,
     task: Task,
@@ -70,12 +70,14 @@ fn ends<R: AllocGlobal + Abort + Threads + Wait + Sync>(
 
 #[test]
 fn ends_byte_by_byte(rt: HostRuntime) {
+    assert!(rt; OPENS_AND_CLOSES.len() == 83);
+    assert!(rt; OPENED_AND_CLOSED.len() == 157);
     for (task, input, output, status) in &DONE {
         ends(&rt, *task, *input, *output, *status);
     }
 }
 
-// Where it is stopped behind this beginning of its output, it leaves just that.
+// Checks that exactly this beginning of the output is left if the writer stops after it.
 fn leaves<R: AllocGlobal + Abort + Threads + Wait + Sync>(
     rt: &R,
     task: Task,
@@ -90,7 +92,7 @@ fn leaves<R: AllocGlobal + Abort + Threads + Wait + Sync>(
     forget(ran);
 }
 
-// So it does behind each beginning, and behind the whole where the flush fails.
+// Checks the same for each beginning, and for the whole output if the flush fails.
 fn writes_no_more<R: AllocGlobal + Abort + Threads + Wait + Sync>(
     rt: &R,
     task: Task,

@@ -1,5 +1,5 @@
-//! Devices that move one byte a call, stop once at a given call, and would then go on; and one that takes all at once.
-//! They count their calls. As a feed and a sink they stand in `Source` and `Target`.
+//! Devices that move one byte in each call, stop once at a given call, and would then go on; and one that takes
+//! everything at once. They count their calls. `Source` and `Target` make a feed and a sink of them.
 
 ghost use Rattle.std.specs.Prelude.{◌≡◌, Some, false};
 
@@ -8,16 +8,16 @@ use std::alloc::Global;
 use std::io;
 use std::io::{ErrorKind, Read, Write};
 
-/// What a device does at the call at which it stops.
+/// The behaviour of a device at the call at which it stops.
 #[derive(Clone, Copy)]
 pub enum Stop {
-    /// The call is an error of this kind.
+    /// The call returns an error of this kind.
     Fails(ErrorKind),
-    /// A write takes no byte; a flush is done all the same.
+    /// A write takes no byte; a flush still succeeds.
     TakesNone,
 }
 
-/// Two kinds of error with which a call stops: one that is final, and one that may be tried again.
+/// Two kinds of error with which a call stops: a final one, and one after which a caller could retry.
 pub const TWO_ERRORS: [ErrorKind; 2] = [ErrorKind::Other, ErrorKind::Interrupted];
 
 /// All kinds.
@@ -66,22 +66,21 @@ pub const ERRORS: [ErrorKind; 42] = [
     ErrorKind::Uncategorized,
 ];
 
-/// A reader of bytes in memory that gives one byte a read, and then none.
+/// A reader of bytes in memory that gives one byte in each read, and then none.
 #[derive(Drop)]
 pub struct OneByteReader<'a> {
-    /// What it still has.
+    /// The bytes that it still has.
     pub bytes: &'a [u8],
-    /// How many reads it still does before the one that stops.
+    /// The number of reads before the one that stops.
     pub reads: usize,
     /// The error of that read.
     pub kind: ErrorKind,
-    /// How often it was asked to read.
+    /// The number of reads that were asked of it.
     pub asked: usize,
 }
 
-/// A feed of these bytes, one byte a read. The read after this many reads is an error of this kind,
-/// and later ones go on; the read that shows the end is one of them, so `bytes.len() + 1` reads are
-/// enough.
+/// Returns a feed of these bytes, one byte in each read. The read after `reads` reads fails with this kind of error,
+/// and later ones go on. The read that shows the end counts too, so `bytes.len() + 1` reads are enough.
 pub fn one_byte_feed(bytes: &[u8], reads: usize, kind: ErrorKind) -> Source<OneByteReader<'_>>
     ensures before_the_end { result.ended ≡ false }
     ensures fine { result.failures ≡ 0 }
@@ -109,20 +108,20 @@ impl Read for OneByteReader<'_> {
     }
 }
 
-/// A writer into memory that takes one byte a write.
+/// A writer into memory that takes one byte in each write.
 #[derive(Drop)]
 pub struct OneByteWriter {
-    /// What it has taken.
+    /// The bytes that it has taken.
     pub taken: Vec<u8>,
-    /// How many writes and flushes it still does before the one that stops.
+    /// The number of writes and flushes before the one that stops.
     pub calls: usize,
     pub stop: Stop,
-    /// How often it was asked to write or to flush.
+    /// The number of writes and flushes that were asked of it.
     pub asked: usize,
 }
 
-/// A sink that takes one byte a write. The write or flush after this many writes stops it, and later
-/// ones go on; for `n` bytes and their flush `n + 1` calls are enough.
+/// Returns a sink that takes one byte in each write. The write or flush after `calls` writes stops, and later ones go
+/// on. For `n` bytes and their flush, `n + 1` calls are enough.
 pub fn one_byte_sink(alloc: Global, calls: usize, stop: Stop) -> Target<OneByteWriter>
     ensures fine { result.failures ≡ 0 }
 {
@@ -167,9 +166,9 @@ impl Write for OneByteWriter {
 /// A writer into memory that takes all that it is given.
 #[derive(Drop)]
 pub struct WholeWriter {
-    /// What it has taken.
+    /// The bytes that it has taken.
     pub taken: Vec<u8>,
-    /// How often it was asked to write or to flush.
+    /// The number of writes and flushes that were asked of it.
     pub asked: usize,
 }
 

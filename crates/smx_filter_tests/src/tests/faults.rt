@@ -1,4 +1,4 @@
-//! What a fault prints, and its status; and what is shown of a line for which memory was wanting.
+//! The words that a fault prints and its status; and the explanation of a line for which memory ran out.
 
 use smx_config::ConfigFault;
 use smx_explain::{FaultExplanation, TextKind};

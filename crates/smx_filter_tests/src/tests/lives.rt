@@ -1,4 +1,4 @@
-//! Live sessions byte by byte, and on devices that stop, with what is wanted typed in from the rules.
+//! Live sessions byte by byte, and on devices that stop. The expected answers were typed in from the rules.
 
 use super::devices::{ERRORS, Stop, TWO_ERRORS};
 use super::tasks::{Task, ends_so, outcome};
@@ -12,7 +12,7 @@ use std::thread::Threads;
 const LINES: &[u8] =
     b"programs 1\ndriver ip mux 4 8 3 16\ndriver eth leaf 2 8 3 16\nshow\n0 clone ip\n64 exit\n0 clone eth\n\n0 close 7\ndriver tty leaf 1 8 3 16\n0 hangup eth 0\n0 link 0 1\nSHOW\nend\nrest";
 
-// What they are answered.
+// The answers to these lines.
 const ANSWERS: &[u8] =
     b"transcript 1\ndriver ip mux 4 8 3 16\ndriver eth leaf 2 8 3 16\nconfig\nnext 1 1\nshown\n0 clone ip = fd 0 0\n? no command\n0 clone eth = fd 1 0\nconfig\nnext 1 1\nfd 0 0 ip 0\nfd 0 1 eth 0\nshown\n0 close 7 = EBADF fd\n? no command\n? no command\n0 link 0 1 = id 1\n? no command\nconfig\nnext 2 1\nfd 0 0 ip 0\nfd 0 1 eth 0\nlink 1 ip 0 eth 0 link\nend\n";
 
@@ -23,13 +23,13 @@ fn answers_byte_by_byte(rt: HostRuntime) {
     let ran = outcome(&rt, Task::Live, LINES, reads, kind, usize::MAX, stop);
     ends_so(&rt, &ran, "", 0, ANSWERS);
     assert!(rt; ran.flushed);
-    // What stands behind the line `end`, which is `rest`, is not asked for.
+    // The session reads nothing after the line `end`.
     assert!(rt; ran.left == 4);
     forget(ran);
 }
 
-// A session of which the read after this many fails has answered the lines before it, and no more: these, where that is
-// told, and they are flushed.
+// Checks that a session whose read after this many fails has answered the lines before it, and no more. These are the
+// answers, if given, and they are flushed.
 fn is_left<R: AllocGlobal + Abort + Threads + Wait + Sync>(
     rt: &R,
     reads: usize,
@@ -54,7 +54,7 @@ fn is_left<R: AllocGlobal + Abort + Threads + Wait + Sync>(
     forget(ran);
 }
 
-// Within the table, behind it, behind the first line and the second, and behind the last but one.
+// Within the table, after it, after the first and the second line, and after the last line but one.
 const BEFORE: [(usize, &[u8]); 6] = [
     (59, b""),
     (63, b""),
@@ -91,7 +91,7 @@ fn leaves_what_was_answered_before_a_failed_read(rt: HostRuntime) {
     }
 }
 
-// A session that is stopped behind this beginning leaves just that.
+// Checks that exactly this beginning is left of a session whose writer stops after it.
 fn leaves<R: AllocGlobal + Abort + Threads + Wait + Sync>(rt: &R, beginning: &[u8], stop: Stop) {
     let (reads, kind) = (usize::MAX, ErrorKind::Other);
     let ran = outcome(rt, Task::Live, LINES, reads, kind, beginning.len(), stop);

@@ -9,9 +9,9 @@ use std::process::Abort;
 
 const INPUTS: [&[u8]; 3] = [b"", b"a", b"abc"];
 
-// They are read in as many reads as there are bytes, and one that shows the end.
+// Checks that these bytes are read in one read for each byte, and one that shows the end.
 fn is_read(rt: &(impl AllocGlobal + Abort), bytes: &[u8]) {
-    let mut feed = one_byte_feed(bytes, 4, ErrorKind::Other);
+    let mut feed = one_byte_feed(bytes, usize::MAX, ErrorKind::Other);
     let read = read_all(rt.alloc(), &mut feed).ok();
     let read = read.expect(rt, "it can be read");
     assert!(rt; read.as_slice() == bytes);
@@ -29,7 +29,7 @@ fn reads_to_the_end(rt: HostRuntime) {
 
 const ABC: &[u8] = b"abc";
 
-// A read that stops fails, and is not tried again: these bytes are left.
+// Checks that a read that stops fails, is not retried, and leaves these bytes.
 fn stops_before(rt: &(impl AllocGlobal + Abort), reads: usize, left: &[u8], kind: ErrorKind) {
     let mut feed = one_byte_feed(ABC, reads, kind);
     let fault = read_all(rt.alloc(), &mut feed).err();
@@ -51,7 +51,7 @@ fn tries_no_read_again(rt: HostRuntime) {
     }
 }
 
-// A reader that counts how often it is asked.
+// A reader that counts its reads.
 #[derive(Drop)]
 struct Counted<R> {
     reader: R,
@@ -80,4 +80,17 @@ fn takes_the_longest_input_in_few_reads_and_none_longer(rt: HostRuntime) {
     let mut feed = Source::new(io::repeat(b'a').take(MAX_INPUT as u64 + 1));
     let answer = read_all(rt.alloc(), &mut feed);
     assert!(rt; matches!(answer, Err(MainFault::TooLong)));
+}
+
+// The longest input takes 16,777,217 reads. The same number shows that an input with one more byte is too long.
+#[test]
+fn takes_the_longest_input_byte_by_byte_and_none_longer(rt: HostRuntime) {
+    let mut input = Vec::new(rt.alloc());
+    assert!(rt; input.resize(16_777_216, b'a').is_ok());
+    is_read(&rt, input.as_slice());
+    assert!(rt; input.push(b'a').is_ok());
+    let mut feed = one_byte_feed(input.as_slice(), usize::MAX, ErrorKind::Other);
+    let answer = read_all(rt.alloc(), &mut feed);
+    assert!(rt; matches!(answer, Err(MainFault::TooLong)));
+    assert!(rt; feed.reader.asked == 16_777_217);
 }

@@ -1,4 +1,4 @@
-//! Sessions by public calls, with what is wanted typed in from the rules.
+//! Sessions through public calls. The expected answers were typed in from the rules.
 
 use smx_session::Session;
 use std::mem::forget;
@@ -6,7 +6,7 @@ use std::process::Abort;
 
 const TABLE: &[u8] = b"programs 1\ndriver ip mux 4 8 3 16\ndriver eth leaf 2 8 3 16\nend\n";
 
-// What each line is answered, in its order.
+// Lines with their answers, in order.
 const ANSWERED: [(&[u8], &[u8]); 4] = [
     (b"0 clone ip", b"0 clone ip = fd 0 0\n"),
     (b"0 clone eth", b"0 clone eth = fd 1 0\n"),

@@ -1,4 +1,4 @@
-//! What the filters and a live session are asked to do.
+//! The tasks of filters and of live sessions.
 
 ghost use Rattle.std.specs.Prelude.{◌≡◌, false};
 
@@ -14,7 +14,7 @@ use std::process::Abort;
 use std::sync::Wait;
 use std::thread::Threads;
 
-/// A filter, or a live session. A run is one on one worker.
+/// A filter, or a live session. A run uses one worker.
 #[derive(Clone, Copy)]
 pub enum Task {
     Run,
@@ -37,7 +37,7 @@ fn judged(outcome: Result<Verdict, MainFault>) -> Result<Done, MainFault> {
     }
 }
 
-// The line on standard error, behind the program's name, and the status.
+// Returns the line on standard error, without the program's name, and the status.
 fn ending(outcome: Result<Done, MainFault>) -> (InlineText<64>, u8) {
     match outcome {
         Ok(done) => (InlineText::of(""), done.status()),
@@ -48,7 +48,8 @@ fn ending(outcome: Result<Done, MainFault>) -> (InlineText<64>, u8) {
     }
 }
 
-// Does this task from a feed to a sink: the line on standard error, behind the program's name, and the status.
+// Does this task from a feed to a sink. Returns the line on standard error, without the program's name, and the
+// status.
 fn perform<R: AllocGlobal + Threads + Wait + Sync, F: Feed, S: Sink>(
     rt: &R,
     task: Task,
@@ -68,23 +69,23 @@ fn perform<R: AllocGlobal + Threads + Wait + Sync, F: Feed, S: Sink>(
     })
 }
 
-/// What came of a task between devices that move one byte a call.
+/// The result of a task between devices that move one byte in each call.
 #[derive(Drop)]
 pub struct Tried {
     line: InlineText<64>,
     status: u8,
-    /// How often the reader was asked.
+    /// The number of reads.
     pub reads: usize,
-    /// How many bytes it still has.
+    /// The number of bytes that the reader still has.
     pub left: usize,
-    /// How often the writer was asked to write or to flush.
+    /// The number of writes and flushes.
     pub calls: usize,
-    /// What it has taken.
+    /// The bytes that were written.
     pub taken: Vec<u8>,
     pub flushed: bool,
 }
 
-/// Does it from a reader whose read after so many is an error of this kind to a writer that stops after so many calls.
+/// Does a task. The read after `reads` reads fails with this kind of error, and the writer stops after `calls` calls.
 pub fn outcome<R: AllocGlobal + Threads + Wait + Sync>(
     rt: &R,
     task: Task,
@@ -108,7 +109,7 @@ pub fn outcome<R: AllocGlobal + Threads + Wait + Sync>(
     }
 }
 
-/// It has left this line and this status, and these bytes are out.
+/// Checks the line and the status of a task, and the bytes that it wrote.
 pub fn ends_so(rt: &impl Abort, tried: &Tried, line: &str, status: u8, taken: &[u8]) {
     let (reads, calls) = (tried.reads, tried.calls);
     assert!(rt;
@@ -125,7 +126,7 @@ pub fn ends_so(rt: &impl Abort, tried: &Tried, line: &str, status: u8, taken: &[
     );
 }
 
-/// The verdict on this transcript is this line.
+/// Checks that the verdict on this transcript is this line.
 pub fn is_judged(rt: &(impl AllocGlobal + Abort), transcript: &[u8], line: &[u8]) {
     let mut sink = Target::new(Vec::new(rt.alloc()));
     let judged = check_text(rt.alloc(), &mut Source::new(transcript), &mut sink);
@@ -133,7 +134,7 @@ pub fn is_judged(rt: &(impl AllocGlobal + Abort), transcript: &[u8], line: &[u8]
     assert!(rt; sink.writer.as_slice() == line);
 }
 
-/// The text of these parts.
+/// Returns the text of these parts.
 pub fn whole(rt: &(impl AllocGlobal + Abort), parts: &[Part]) -> String {
     text_of(rt.alloc(), parts).expect(rt, "there is memory")
 }

@@ -1,9 +1,9 @@
-//! Texts of tests, which were typed in from the rules.
+//! Texts of tests, typed in from the rules.
 
 use smx_samples::Part;
 use smx_samples::Part::{Each, Once};
 
-/// Two processes, each with a stream of its own.
+/// Two processes, each with its own stream.
 pub const TWO_PROCESSES: &[u8] =
     b"transcript 1\ndriver ip mux 4 8 3 16\n0 clone ip = fd 0 0\n1 clone ip = fd 0 1\nconfig\nnext 1 1\nfd 0 0 ip 0\nfd 1 0 ip 1\nend\n";
 
@@ -35,7 +35,7 @@ pub const OPENED_AND_CLOSED: &[u8] =
 pub const IN_TURN: &[u8] =
     b"transcript 1\ndriver ip mux 2 8 3 16\ndriver eth leaf 1 8 3 16\n1 clone ip = fd 0 7\n0 clone ip = EMFILE\n0 clone eth = done 1 2\n1 clone ip = EBADF fd\n0 link 0 1 = id 9\n1 exit = got 1 2 ff\n0 route 0 5 1 = EINVAL id\n1 clone ip = took 4294967295\n1 write 0 5 a1 = EAGAIN full\nconfig\nnext 9 9\nfd 63 4294967295 tr 7\nend\n";
 
-/// What they get.
+/// The replies that they get.
 pub const IN_TURN_REPLAYED: &[u8] =
     b"transcript 1\ndriver ip mux 2 8 3 16\ndriver eth leaf 1 8 3 16\n1 clone ip = fd 0 0\n0 clone ip = fd 0 1\n0 clone eth = fd 1 0\n1 clone ip = ENXIO minor\n0 link 0 1 = id 1\n1 exit = done\n0 route 0 5 1 = done\n1 clone ip = fd 0 0\n1 write 0 5 a1 = took 1\nconfig\nnext 2 2\nfd 0 0 ip 1\nfd 0 1 eth 0\nfd 1 0 ip 0\nlink 1 ip 1 eth 0 link\nroute ip 5 1\nmsg eth 0 w 1 5 a1\nend\n";
 

@@ -1,5 +1,5 @@
-//! Checks, replays, and runs with fronts, that pass with any one growth refused too: tests/refused_growths runs them
-//! so. What is written goes to the stack, so that no growth is a device's.
+//! Checks, replays, and runs with fronts. They also pass if any one allocation fails; tests/refused_growths runs them
+//! so. The output is written to the stack, so no allocation is a device's.
 
 ghost use Rattle.std.specs.Prelude.{◌≤◌};
 
@@ -14,7 +14,7 @@ use std::process::Abort;
 use std::sync::Wait;
 use std::thread::Threads;
 
-// Whether memory was wanting, of which the prover can't tell that it comes only where a growth was refused.
+// Returns whether memory ran out. The prover can't tell that this happens only if an allocation fails.
 fn is_want_of_memory(fault: &MainFault) -> bool {
     matches!(
         fault,
@@ -26,7 +26,7 @@ fn is_want_of_memory(fault: &MainFault) -> bool {
     )
 }
 
-// Whether a check is answered, by this line; else it wanted memory, and has written nothing.
+// Returns whether a check succeeds, with this line. Else it ran out of memory, and has written nothing.
 fn is_answered(rt: &(impl AllocGlobal + Abort), input: &[u8], wanted: &[u8]) -> bool {
     let mut buffer = [0u8; 16];
     let mut sink = Target::new(buffer.as_mut_slice());
@@ -44,7 +44,7 @@ fn is_answered(rt: &(impl AllocGlobal + Abort), input: &[u8], wanted: &[u8]) -> 
     }
 }
 
-// A check that wanted memory, tried again, is answered.
+// Checks that a check that ran out of memory succeeds when it is tried again.
 fn judges(rt: &(impl AllocGlobal + Abort + Print), input: &[u8], wanted: &[u8]) {
     if !is_answered(rt, input, wanted) {
         let _ = println!(rt; "a check wanted memory");
@@ -65,7 +65,7 @@ fn checks(rt: HostRuntime) {
     }
 }
 
-// Whether a replay is answered, by the whole transcript; else it wanted memory, and has written nothing.
+// Returns whether a replay succeeds, with the whole transcript. Else it ran out of memory, and has written nothing.
 fn is_replay_answered(rt: &(impl AllocGlobal + Abort)) -> bool {
     let mut buffer = [0u8; 512];
     let mut sink = Target::new(buffer.as_mut_slice());
@@ -82,7 +82,7 @@ fn is_replay_answered(rt: &(impl AllocGlobal + Abort)) -> bool {
     }
 }
 
-// A replay that wanted memory, tried again, is answered.
+// A replay that ran out of memory succeeds when it is tried again.
 #[test]
 fn a_replay(rt: HostRuntime) {
     if !is_replay_answered(&rt) {
@@ -95,8 +95,8 @@ fn a_replay(rt: HostRuntime) {
 const ONE_OF_TWO: &[u8] =
     b"programs 1\ndriver ip mux 4 8 3 16\nprocess 0\nclone ip\nclone ip\nexit\nprocess 1\nend\n";
 
-// Whether a run of them by so many workers is answered, by fronts that begin so; else it wanted memory, and has written
-// nothing.
+// Returns whether a run of these programs succeeds, with fronts that begin with these bytes. Else it ran out of
+// memory, and has written nothing.
 fn are_fronts_answered<R: AllocGlobal + Abort + Threads + Wait + Sync>(
     rt: &R,
     workers: usize,
@@ -119,7 +119,7 @@ fn are_fronts_answered<R: AllocGlobal + Abort + Threads + Wait + Sync>(
     }
 }
 
-// A run that wanted memory, tried again, is answered.
+// Checks that a run that ran out of memory succeeds when it is tried again.
 fn writes_fronts<R: AllocGlobal + Abort + Print + Threads + Wait + Sync>(rt: &R, workers: usize)
     requires { (1 ≤ workers) × (workers ≤ 64) }
 {

@@ -1,11 +1,12 @@
-//! Runs whose gate waits until as many workers are there as were asked for, and runs that tell their gate.
+//! Runs whose gate waits until all the requested workers are there, and runs that report their commands to a gate.
 
 ghost use Rattle.std.specs.Prelude.{◌≤◌};
 
 use super::tasks::{is_judged, whole};
 use super::texts::TWO_LONG_PROGRAMS;
+use smx_config::ConfigFault;
 use smx_filters::{MainFault, Source, Target, run_text};
-use smx_run::Gate;
+use smx_run::{Gate, RunFault};
 use smx_samples::Part::{Each, Once};
 use smx_text::{Cause, TextFault};
 use smx_types::Process;
@@ -15,15 +16,15 @@ use std::sync::atomic::{AtomicU64, Ordering};
 use std::thread;
 use std::thread::Threads;
 
-// The most turns that a worker waits.
+// The largest number of turns that a worker waits.
 const TURNS: u32 = 100_000_000;
 
-// Each process waits before its first command until so many are there, and after its last one until so many have
-// performed theirs.
+// Each process waits before its first command until the wanted number are there. After its last command it waits
+// until the wanted number have performed theirs.
 #[derive(Drop)]
 struct Meet {
     wanted: u64,
-    // The number of each last command.
+    // The number of each program's last command.
     last: usize,
     inside: AtomicU64,
     // How many have seen all inside.
@@ -42,7 +43,7 @@ impl Meet {
         }
     }
 
-    // Whether all are counted, before the turns are used up.
+    // Returns whether the count is complete before the turns are used up.
     fn are_all(&self, count: &AtomicU64) -> bool {
         for _ in 0..TURNS {
             if count.load(Ordering::SeqCst) == self.wanted {
@@ -64,7 +65,7 @@ impl Gate for Meet {
         }
     }
 
-    // Where they have not met, nobody waits again.
+    // If they have not met, nobody waits again.
     fn after(&self, _process: Process, number: usize) {
         if number == self.last {
             self.ended.fetch_add(1, Ordering::SeqCst);
@@ -73,14 +74,14 @@ impl Gate for Meet {
     }
 }
 
-// So many processes, each of which opens two streams and links one below the other.
+// Returns programs for this number of processes. Each opens two streams and links one below the other.
 fn linking(rt: &(impl AllocGlobal + Abort), count: u32) -> String {
     let begin = Once("programs 1\ndriver ip mux 64 8 3 16\ndriver eth leaf 64 8 3 16\n");
     let processes = Each(0, count, "process {n}\nclone ip\nclone eth\nlink 0 1\n");
     whole(rt, &[begin, processes, Once("end\n")])
 }
 
-// What a run by so many workers writes, all of whom were inside at once.
+// Returns the output of a run in which all these workers were inside at once.
 fn met_and_wrote<R: AllocGlobal + Abort + Threads + Wait + Sync>(
     rt: &R,
     input: &[u8],
@@ -107,8 +108,8 @@ fn met_and_wrote<R: AllocGlobal + Abort + Threads + Wait + Sync>(
     written.writer
 }
 
-// How many workers are asked for, for as many processes, the verdict on what they write, and the front that each of
-// these sees at its end.
+// The number of workers, the verdict on what they write for as many processes, and the front that each process sees
+// at its end.
 const MEETINGS: [(u32, &[u8], &str); 5] = [
     (2, b"legal 6\n", "front {n} 6 2\n"),
     (3, b"legal 9\n", "front {n} 9 3\n"),
@@ -136,7 +137,7 @@ fn two_workers_are_inside_at_once_on_a_long_input(rt: HostRuntime) {
     is_judged(&rt, written.as_slice(), b"legal 10000\n");
 }
 
-// How often it was told that a command is performed next, and that one was.
+// Counts the reports before a command and those after it.
 #[derive(Drop)]
 struct Counts {
     before: AtomicU64,
@@ -157,7 +158,7 @@ impl Gate for Counts {
 const FOUR: &[u8] =
     b"programs 1\ndriver ip mux 4 8 3 16\ndriver eth leaf 2 8 3 16\nprocess 0\nclone ip\nexit\nprocess 1\nclone ip\nexit\nprocess 2\nclone ip\nexit\nprocess 3\nclone ip\nexit\nend\n";
 
-// A run of them by so many workers tells its gate of eight commands.
+// Checks that a run of them by this number of workers reports eight commands to its gate, and writes a legal transcript.
 fn is_told_of_eight<R: AllocGlobal + Abort + Threads + Wait + Sync>(
     rt: &R,
     workers: usize,
@@ -183,6 +184,15 @@ fn is_told_of_eight<R: AllocGlobal + Abort + Threads + Wait + Sync>(
     assert!(rt; ran.is_ok());
     assert!(rt; gate.before.load(Ordering::SeqCst) == 8);
     assert!(rt; gate.after.load(Ordering::SeqCst) == 8);
+    if !fronts {
+        is_judged(rt, written.writer.as_slice(), b"legal 8\n");
+    }
+}
+
+#[test]
+fn four_short_programs_are_inside_at_once(rt: HostRuntime) {
+    let written = met_and_wrote(&rt, FOUR, 4, false, 1);
+    is_judged(&rt, written.as_slice(), b"legal 8\n");
 }
 
 #[test]
@@ -194,17 +204,21 @@ fn workers_tell_the_gate_of_each_command(rt: HostRuntime) {
     }
 }
 
-// The last line of the second of two programs is no command.
-const AT_FAULT: &[u8] =
+// The last line of the second of two programs is not a command.
+const MALFORMED: &[u8] =
     b"programs 1\ndriver ip mux 4 8 3 16\nprocess 0\nclone ip\nexit\nprocess 1\nexit\nexit 0\nend\n";
 
-// A run of it by so many workers is refused for that line; then its gate was told of so many commands.
-fn is_told_before_the_fault<R: AllocGlobal + Abort + Threads + Wait + Sync>(
+// The second driver has the name of the first.
+const SAME_NAME: &[u8] =
+    b"programs 1\ndriver ip mux 4 8 3 16\ndriver ip mux 4 8 3 16\nprocess 0\nexit\nprocess 1\nexit\nend\n";
+
+// Runs an input that is refused. Checks that the gate hears of no command.
+fn refused_unheard<R: AllocGlobal + Abort + Threads + Wait + Sync>(
     rt: &R,
+    input: &[u8],
     workers: usize,
     fronts: bool,
-    commands: u64,
-)
+) -> MainFault
     requires { (1 ≤ workers) × (workers ≤ 64) }
 {
     let gate = Counts {
@@ -212,7 +226,7 @@ fn is_told_before_the_fault<R: AllocGlobal + Abort + Threads + Wait + Sync>(
         after: AtomicU64::new(0),
     };
     let mut written = Target::new(Vec::new(rt.alloc()));
-    let mut feed = Source::new(AT_FAULT);
+    let mut feed = Source::new(input);
     let ran = run_text(
         rt,
         rt.alloc(),
@@ -222,18 +236,38 @@ fn is_told_before_the_fault<R: AllocGlobal + Abort + Threads + Wait + Sync>(
         fronts,
         &gate,
     );
-    let Err(MainFault::Text(TextFault { line, cause })) = ran else {
-        panic!(rt; "no fault of the text")
-    };
-    assert!(rt; (line, cause) == (8, Cause::Form));
-    assert!(rt; gate.before.load(Ordering::SeqCst) == commands);
-    assert!(rt; gate.after.load(Ordering::SeqCst) == commands);
+    assert!(rt; gate.before.load(Ordering::SeqCst) == 0);
+    assert!(rt; gate.after.load(Ordering::SeqCst) == 0);
+    assert!(rt; written.writer.is_empty());
+    match ran {
+        Err(fault) => fault,
+        Ok(()) => panic!(rt; "the input is refused"),
+    }
 }
 
 #[test]
-fn programs_are_read_while_they_run(rt: HostRuntime) {
+fn no_command_is_performed_of_an_invalid_text(rt: HostRuntime) {
     for workers in 1..4 {
-        is_told_before_the_fault(&rt, workers, false, 3);
-        is_told_before_the_fault(&rt, workers, true, 0);
+        for fronts in [false, true] {
+            let fault = refused_unheard(&rt, MALFORMED, workers, fronts);
+            let MainFault::Text(TextFault { line, cause }) = fault else {
+                panic!(rt; "no fault of the text")
+            };
+            assert!(rt; (line, cause) == (8, Cause::Form));
+        }
+    }
+}
+
+#[test]
+fn no_command_is_performed_over_refused_drivers(rt: HostRuntime) {
+    for workers in 1..4 {
+        for fronts in [false, true] {
+            let fault = refused_unheard(&rt, SAME_NAME, workers, fronts);
+            let MainFault::Refused(RunFault::ConfigFault(ConfigFault::SameName(driver))) = fault
+            else {
+                panic!(rt; "no fault of the drivers")
+            };
+            assert!(rt; driver == 1);
+        }
     }
 }

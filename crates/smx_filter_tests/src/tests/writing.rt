@@ -31,7 +31,7 @@ fn writes_all(rt: HostRuntime) {
 
 const ABC: &[u8] = b"abc";
 
-// A write that is stopped behind this beginning fails, and is not tried again.
+// Checks that a write that stops after this beginning fails and is not retried.
 fn stops_behind(rt: &(impl AllocGlobal + Abort), beginning: &[u8], stop: Stop) {
     let calls = beginning.len();
     let mut sink = one_byte_sink(rt.alloc(), calls, stop);
@@ -45,7 +45,7 @@ fn stops_behind(rt: &(impl AllocGlobal + Abort), beginning: &[u8], stop: Stop) {
     assert!(rt; sink.writer.asked == calls.saturating_add(1));
 }
 
-// So it does behind each beginning that is not the whole.
+// Checks the same for each beginning that is not the whole.
 fn stops_behind_each(rt: &(impl AllocGlobal + Abort), stop: Stop) {
     for calls in 0..3 {
         stops_behind(rt, &ABC[..calls], stop);
@@ -58,13 +58,13 @@ fn tries_no_write_and_no_flush_again(rt: HostRuntime) {
         stops_behind_each(&rt, Stop::Fails(*kind));
     }
     stops_behind_each(&rt, Stop::TakesNone);
-    // Nor a flush.
+    // Nor is a flush retried.
     for kind in &ERRORS {
         stops_behind(&rt, ABC, Stop::Fails(*kind));
     }
 }
 
-// A run by so many workers writes once, what begins so, and flushes once.
+// Checks that a run by this number of workers writes once, with this beginning, and flushes once.
 fn writes_once<R: AllocGlobal + Abort + Threads + Wait + Sync>(
     rt: &R,
     input: &[u8],

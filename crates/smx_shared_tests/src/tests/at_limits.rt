@@ -1,13 +1,13 @@
-//! Configurations at their real limits: a chain of links over the most drivers, and the link that would close it; the
-//! most links, descriptors and messages of a queue, and the longest message.
+//! Configurations at their real limits: a chain of links over the largest number of drivers, and the link that would
+//! close it; the largest numbers of links, descriptors and messages in a queue; and the longest message.
 
 use super::worked::is_worked;
 use smx_samples::Part;
 use smx_samples::Part::{Each, Once};
 
-// Each driver over the next one by a persistent link. The stream of the upper driver is of the first driver its first
-// one, and of any other its second one, as the first is below. Once the link in the middle has gone, which is the one
-// of id 64, the last driver may be over the first.
+// Links each driver above the next one by a persistent link. The upper stream is the driver's second one, because its
+// first is below; the first driver's is its first. After the link in the middle, with id 64, is removed, the last
+// driver may be linked above the first.
 const CHAIN: &[Part] = &[
     Once("transcript 2\n"),
     Each(0, 128, "driver d{n} mux 2 8 3 16\n"),
@@ -38,7 +38,7 @@ link 1 d0 0 d1 0 plink
     Once("link 128 d127 1 d0 0 plink\nend\n"),
 ];
 
-// A multiplexer of one stream, with a persistent link to each stream of 16 leaves, and then no more.
+// A multiplexer with one stream gets a persistent link to each stream of 16 leaves, and then no more.
 const MOST_LINKS: &[Part] = &[
     Once("transcript 1\ndriver m mux 1 8 3 16\n"),
     Each(0, 17, "driver l{n} leaf 64 8 3 16\n"),
@@ -64,7 +64,7 @@ const MOST_DESCRIPTORS: &[Part] = &[
     Once("end\n"),
 ];
 
-// A leaf of one stream, whose queues take 4,096 bytes, and as many messages of one byte.
+// A leaf with one stream, whose queues take 4,096 bytes, and as many messages of one byte.
 const MOST_MESSAGES: &[Part] = &[
     Once("transcript 1\ndriver eth leaf 1 4096 0 16\n0 clone eth = fd 0 0\n"),
     Each(1, 4_097, "0 write 0 5 bb = took {n}\n"),

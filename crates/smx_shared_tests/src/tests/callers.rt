@@ -1,4 +1,4 @@
-//! What callers that share a system do in several tests.
+//! Steps of callers that share a system, used in several tests.
 
 ghost use Rattle.std.specs.Prelude.{◌≡◌, ◌≤◌, All, IfOk};
 ghost use Rattle.smx_types.specs.declared.limits.TheConstants.{MAX_PROCESSES};
@@ -8,7 +8,7 @@ use smx_types::{Entry, NoMemory, Reply};
 use std::mem::forget;
 use std::process::Abort;
 
-/// The system is shared by so many processes, of which each has a seat.
+/// Shares the system among this number of processes, and returns a seat for each.
 #[tactic(auto, using(crate::proofs::SeatLemmas::are_of))]
 pub fn start(
     rt: &impl AllocGlobal,
@@ -21,7 +21,18 @@ pub fn start(
     Shared::start(rt.alloc(), system, processes)
 }
 
-/// The last of these seats, which is taken from them.
+/// Returns the first of these seats, and the others in order.
+pub fn first_of(rt: &impl Abort, shared: &Shared, mut seats: Vec<Seat>) -> (Seat, Vec<Seat>)
+    requires { All (λ s. s.shared ≡ shared.now.name) seats.items }
+    ensures first { result.0.shared ≡ shared.now.name }
+    ensures others { All (λ s. s.shared ≡ shared.now.name) result.1.items }
+{
+    assert!(rt; !seats.is_empty());
+    let first = seats.remove(0);
+    (first, seats)
+}
+
+/// Removes the last of these seats and returns it.
 pub fn last_of(rt: &impl Abort, shared: &Shared, seats: &mut Vec<Seat>) -> Seat
     requires { All (λ s. s.shared ≡ shared.now.name) seats.old.items }
     ensures others { All (λ s. s.shared ≡ shared.now.name) seats.new.items }
@@ -30,7 +41,7 @@ pub fn last_of(rt: &impl Abort, shared: &Shared, seats: &mut Vec<Seat>) -> Seat
     seats.pop().expect(rt, "a seat")
 }
 
-/// The last two of these seats, the later one last.
+/// Returns the last two of these seats, in order.
 pub fn last_two(rt: &impl Abort, shared: &Shared, mut seats: Vec<Seat>) -> (Seat, Seat)
     requires { All (λ s. s.shared ≡ shared.now.name) seats.items }
     ensures { (result.0.shared ≡ shared.now.name) × (result.1.shared ≡ shared.now.name) }
@@ -40,12 +51,12 @@ pub fn last_two(rt: &impl Abort, shared: &Shared, mut seats: Vec<Seat>) -> (Seat
     (earlier, later)
 }
 
-/// Whether this is the entry of a process that gets the stream of this minor, as its first.
+/// Returns whether this entry opens the stream with this minor as its process's first.
 pub fn opens(entry: &Entry, minor: u32) -> bool {
     entry.reply == Reply::Fd { fd: 0, minor }
 }
 
-/// The system is shared no longer, and its history has so many entries.
+/// Closes the system and checks that its history has this number of entries.
 pub fn closes_with(rt: &impl Abort, shared: Shared, seat: Seat, entries: usize)
     requires { seat.shared ≡ shared.name }
 {

@@ -1,11 +1,11 @@
-//! Workers at a door of the test's own, whose seats own systems, and what a gate is told of them.
+//! Workers at a door of the test's own, whose seats own systems, and what a gate hears of them.
 
 ghost use Rattle.std.specs.Prelude.{◌≡◌, [], All};
 
 use super::gates::Log;
 use super::gates::Told::{After, Before};
 use super::made::{ip, numbered};
-use smx_run::{SeatedProgram, work};
+use smx_run::{SeatedProgram, run_assigned};
 use smx_shared::{ApplyFault, Door, Front, System};
 use smx_types::{Command, Commands, Entry, Process};
 use std::alloc::Global;
@@ -13,7 +13,6 @@ use std::mem::forget;
 use std::process::Abort;
 use std::sync::Wait;
 use std::sync::atomic::{AtomicU64, Ordering};
-use std::vec::IntoIter;
 
 // Counts the calls of its seats.
 #[derive(Drop)]
@@ -21,7 +20,7 @@ struct OwnDoor {
     calls: AtomicU64,
 }
 
-// A system that nobody else has.
+// A system that is not shared.
 #[derive(Drop)]
 struct OwnSeat {
     process: Process,
@@ -42,8 +41,6 @@ impl Door for OwnDoor {
       seen = s.system.history;
       own = entries_of s.process s.system.history;
     } };
-
-    ghost spells = { λ _ _. Unit {0} };
 
     fn process(seat: &OwnSeat) -> Process {
         seat.process
@@ -69,11 +66,8 @@ impl Door for OwnDoor {
     }
 }
 
-// Three commands for a process, with a seat of its own at a system with no entry, and of one at most.
-fn job_of(
-    rt: &(impl AllocGlobal + Abort),
-    process: u32,
-) -> SeatedProgram<OwnSeat, IntoIter<Command>>
+// Returns three commands for a process, with its own seat at a system that has no entry and takes only one.
+fn job_of(rt: &(impl AllocGlobal + Abort), process: u32) -> SeatedProgram<OwnSeat>
     ensures { result.seat.system.history ≡ [] }
 {
     let mut commands = Commands::new(rt.alloc());
@@ -84,23 +78,23 @@ fn job_of(
     let process = numbered(rt, process);
     SeatedProgram {
         seat: OwnSeat { process, system },
-        program: commands.into_vec().into_iter(),
+        program: commands,
     }
 }
 
-// Two processes of one worker.
-fn hand_of(
+// Returns two processes for one worker.
+fn assigned(
     rt: &(impl AllocGlobal + Abort),
     earlier: u32,
     later: u32,
-) -> Vec<SeatedProgram<OwnSeat, IntoIter<Command>>>
+) -> Vec<SeatedProgram<OwnSeat>>
     ensures { All (λ j. j.seat.system.history ≡ []) result.items }
 {
-    let hand = vec![in rt.alloc(); job_of(rt, earlier), job_of(rt, later)];
-    hand.expect(rt, "room")
+    let both = vec![in rt.alloc(); job_of(rt, earlier), job_of(rt, later)];
+    both.expect(rt, "room")
 }
 
-// Why a worker who has these two processes stops.
+// Returns why a worker with these two processes stops.
 fn works<R: AllocGlobal + Abort + Wait>(
     rt: &R,
     door: &OwnDoor,
@@ -108,11 +102,11 @@ fn works<R: AllocGlobal + Abort + Wait>(
     later: u32,
     log: &Log,
 ) -> Option<ApplyFault> {
-    work(rt, rt.alloc(), door, hand_of(rt, earlier, later), log).err()
+    run_assigned(rt, rt.alloc(), door, assigned(rt, earlier, later), log).err()
 }
 
-// A worker who has these two processes stops where the history of the first is full. The log is told of the command
-// that was performed, of the one that was refused, and of no other.
+// Checks that a worker with these two processes stops when the history of the first is full. The log hears of the
+// command that was performed, of the one that was refused, and of no other.
 fn stops<R: AllocGlobal + Abort + Wait>(rt: &R, earlier: u32, later: u32) {
     let log = Log::of(rt, 12);
     let door = OwnDoor {

@@ -1,4 +1,4 @@
-//! Gates of tests: one at which processes go on one by one, and one that writes down what it is told.
+//! Gates of tests: one at which processes go on one by one, one at which four meet, and one that logs what it hears.
 
 ghost use Rattle.std.specs.Prelude.{◌≤◌};
 
@@ -8,10 +8,10 @@ use std::process::Abort;
 use std::sync::atomic::{AtomicBool, AtomicU32, AtomicU64, AtomicUsize, Ordering};
 use std::thread;
 
-/// The most turns that a thread waits.
+/// The largest number of turns that a thread waits.
 pub const TURNS: u32 = 100_000_000;
 
-/// Whether so many are counted, before the turns are used up.
+/// Returns whether the count reaches `wanted` before the turns are used up.
 pub fn is_reached(count: &AtomicU64, wanted: u64) -> bool {
     for _ in 0..TURNS {
         if count.load(Ordering::SeqCst) >= wanted {
@@ -22,7 +22,7 @@ pub fn is_reached(count: &AtomicU64, wanted: u64) -> bool {
     false
 }
 
-/// What a gate is told, of a process and the number of its command.
+/// A report to a gate about a process and the number of its command.
 #[derive(Clone, Copy, PartialEq, Eq)]
 pub enum Told {
     /// The command is performed next.
@@ -32,7 +32,7 @@ pub enum Told {
 }
 
 impl Told {
-    /// The process that it is of.
+    /// Returns the process that it is about.
     pub fn process(&self) -> u32 {
         match self {
             Told::Before(process, _) | Told::After(process, _) => *process,
@@ -68,15 +68,16 @@ impl Line {
     }
 }
 
-/// Has processes 0 to 4 of two workers go on one by one: before its first command, each but the first and the last
-/// waits until the next one comes to its own, for which the one before it has ended, on the same worker.
+/// Lets processes 0 to 4 of two workers go on one by one. Before its first command, each process except the first and
+/// the last waits until the next one starts. The next one starts when the one before it, on the same worker, has
+/// ended.
 #[derive(Drop)]
 pub struct OneByOne {
     come: AtomicU64,
 }
 
 impl OneByOne {
-    /// None has come yet.
+    /// Creates a gate to which no process has come yet.
     pub fn new() -> OneByOne {
         OneByOne {
             come: AtomicU64::new(0),
@@ -85,7 +86,7 @@ impl OneByOne {
 }
 
 impl Gate for OneByOne {
-    // The first and the second come at once, and then one at a time.
+    // The first and the second process come at once, and then one at a time.
     fn before(&self, process: Process, number: usize) {
         if number == 0 {
             self.come.fetch_add(1, Ordering::SeqCst);
@@ -96,7 +97,42 @@ impl Gate for OneByOne {
     fn after(&self, _process: Process, _number: usize) {}
 }
 
-/// Writes down all that it is told, in order, while it has lines.
+/// Has each process wait before its first command until four are inside, and counts those that saw four.
+#[derive(Drop)]
+pub struct FourInside {
+    inside: AtomicU64,
+    met: AtomicU64,
+}
+
+impl FourInside {
+    /// Creates a gate with no process inside.
+    pub fn new() -> FourInside {
+        FourInside {
+            inside: AtomicU64::new(0),
+            met: AtomicU64::new(0),
+        }
+    }
+
+    /// Returns how many saw four inside.
+    pub fn met(&self) -> u64 {
+        self.met.load(Ordering::SeqCst)
+    }
+}
+
+impl Gate for FourInside {
+    fn before(&self, _process: Process, number: usize) {
+        if number == 0 {
+            self.inside.fetch_add(1, Ordering::SeqCst);
+            if is_reached(&self.inside, 4) {
+                self.met.fetch_add(1, Ordering::SeqCst);
+            }
+        }
+    }
+
+    fn after(&self, _process: Process, _number: usize) {}
+}
+
+/// Logs all that it hears, in order, while it has lines left.
 #[derive(Drop)]
 pub struct Log {
     lines: Vec<Line>,
@@ -104,7 +140,7 @@ pub struct Log {
 }
 
 impl Log {
-    /// A log of so many lines, with nothing in it.
+    /// Creates an empty log with this number of lines.
     pub fn of(rt: &(impl AllocGlobal + Abort), lines: usize) -> Log {
         let mut empty = Vec::new(rt.alloc());
         for _ in 0..lines {
@@ -116,7 +152,7 @@ impl Log {
         }
     }
 
-    /// Whether this worker of so many told it just that, in this order.
+    /// Returns whether this one of `workers` workers reported exactly this, in this order.
     pub fn is_told(&self, worker: u32, workers: u32, wanted: &[Told]) -> bool
         requires { 1 ≤ workers }
     {
@@ -130,12 +166,12 @@ impl Log {
         wanted.next().is_none()
     }
 
-    /// Whether it was told just that, in this order.
+    /// Returns whether exactly this was reported, in this order.
     pub fn has(&self, wanted: &[Told]) -> bool {
         self.is_told(0, 1, wanted)
     }
 
-    // The next line is that.
+    // Writes the next line.
     fn write(&self, process: Process, number: usize, performed: bool) {
         let place = self.count.fetch_add(1, Ordering::SeqCst);
         if let Some(line) = self.lines.get(place) {

@@ -1,5 +1,6 @@
-//! A report of a system and of what its callers were answered, and its copy; and transcripts that it doesn't bear out.
-//! The first test passes with any one growth refused too, and tests/refused_growths runs it so.
+//! A report of a system with three entries and of the replies that its callers got, and its copy; and transcripts
+//! with which the system doesn't agree. `three_seats` does the same for a system that three seats shared. The first
+//! test also passes if any one allocation fails, and tests/refused_growths runs it so.
 
 use super::made::{numbered, read, system_over, tells_of_want};
 use super::systems::{copied, plays};
@@ -9,8 +10,8 @@ use smx_types::{Entries, Transcript};
 use std::mem::forget;
 use std::process::Abort;
 
-// What three processes get, in this order.
-const OPENED: &[u8] = b"transcript 1
+/// The entries of three processes, in this order.
+pub const OPENED: &[u8] = b"transcript 1
 driver ip mux 4 8 3 16
 0 clone ip = fd 0 0
 2 clone ip = fd 0 1
@@ -23,7 +24,7 @@ fd 2 0 ip 1
 end
 ";
 
-// The entries of none, and of each of them.
+// The entries of no process, and of each of the three.
 const BY_NONE: &[u8] = b"transcript 1\nconfig\nnext 1 1\nend\n";
 
 const BY_ZERO: &[u8] = b"transcript 1\n0 clone ip = fd 0 0\nconfig\nnext 1 1\nend\n";
@@ -32,7 +33,7 @@ const BY_ONE: &[u8] = b"transcript 1\n1 clone ip = fd 0 2\nconfig\nnext 1 1\nend
 
 const BY_TWO: &[u8] = b"transcript 1\n2 clone ip = fd 0 1\nconfig\nnext 1 1\nend\n";
 
-// A system whose processes have opened these.
+// Returns a system whose processes have opened these streams.
 fn three_opened(rt: &(impl AllocGlobal + Abort + Print), want: &Transcript) -> System {
     let mut system = system_over(rt, want.drivers.as_slice(), 10);
     plays(rt, &mut system, want.entries.as_slice());
@@ -46,7 +47,7 @@ fn room_for_three(rt: &(impl AllocGlobal + Abort)) -> Vec<Entries> {
     }
 }
 
-// The transcripts of processes 0, 1 and so on.
+// Returns the transcripts of processes 0, 1 and so on.
 fn transcripts_of(rt: &(impl AllocGlobal + Abort), texts: &[&[u8]]) -> Vec<Entries> {
     let mut transcripts = room_for_three(rt);
     for text in texts {
@@ -55,7 +56,7 @@ fn transcripts_of(rt: &(impl AllocGlobal + Abort), texts: &[&[u8]]) -> Vec<Entri
     transcripts
 }
 
-// What comes of the system, of which a copy is given up.
+// Gathers a report of a copy of the system.
 fn gathered_of(
     rt: &(impl AllocGlobal + Abort),
     system: &System,
@@ -65,7 +66,7 @@ fn gathered_of(
     gather(rt.alloc(), copied(rt, system), transcripts)
 }
 
-// The report of the three, gathered again where memory was wanting.
+// Returns the report of the three, gathered again if memory ran out.
 fn gathered(
     rt: &(impl AllocGlobal + Abort + Print),
     system: &System,
@@ -80,7 +81,7 @@ fn gathered(
     }
 }
 
-// A copy, made again where memory was wanting.
+// Returns a copy, made again if memory ran out.
 fn copy_of(rt: &(impl AllocGlobal + Abort + Print), report: &Report) -> Report {
     match report.copy(rt.alloc()) {
         Ok(again) => again,
@@ -97,7 +98,8 @@ fn is_copied(rt: &(impl AllocGlobal + Abort + Print), report: &Report) {
     forget(again);
 }
 
-fn are_reported(rt: &(impl AllocGlobal + Abort + Print), system: &System, want: &Transcript) {
+/// Checks that the transcripts of the three give this report of the system.
+pub fn are_reported(rt: &(impl AllocGlobal + Abort + Print), system: &System, want: &Transcript) {
     let transcripts = transcripts_of(rt, &[BY_ZERO, BY_ONE, BY_TWO]);
     let report = gathered(rt, system, transcripts.as_slice());
     is_copied(rt, &report);
@@ -117,7 +119,7 @@ fn three_entries_are_reported(rt: HostRuntime) {
 }
 
 // Transcripts of the three, and the process whose entries in the history are not its transcript: one is empty, one is
-// not given, two are exchanged.
+// missing, two are exchanged.
 const STRANGE: [(&[&[u8]], u32); 3] = [
     (&[BY_ZERO, BY_NONE, BY_TWO], 1),
     (&[BY_ZERO, BY_ONE], 2),
@@ -131,13 +133,18 @@ fn is_strange(rt: &(impl AllocGlobal + Abort), system: &System, texts: &[&[u8]],
     forget(transcripts);
 }
 
+/// Checks that the system doesn't agree with other transcripts.
+pub fn are_strange(rt: &(impl AllocGlobal + Abort), system: &System) {
+    for (texts, process) in STRANGE {
+        is_strange(rt, system, texts, process);
+    }
+}
+
 #[test]
 fn strange_transcripts(rt: HostRuntime) {
     let want = read(&rt, OPENED);
     let system = three_opened(&rt, &want);
-    for (texts, process) in STRANGE {
-        is_strange(&rt, &system, texts, process);
-    }
+    are_strange(&rt, &system);
     forget(system);
     forget(want);
 }

@@ -1,4 +1,5 @@
-//! What the tests are made of. Where a growth is refused, it is made once more, so that one refusal fails no test.
+//! The values of the tests. If an allocation fails, the value is made once more, so one failed allocation fails no
+//! test.
 
 ghost use Rattle.std.specs.Prelude.{◌≤◌};
 ghost use Rattle.smx_types.specs.declared.limits.TheConstants.{MAX_COMMANDS};
@@ -8,17 +9,17 @@ use smx_text::read_transcript;
 use smx_types::{Command, DriverKind, DriverSpec, Name, Process, Transcript};
 use std::process::Abort;
 
-/// The name that is spelled so.
+/// Returns the name with this spelling.
 pub fn named(rt: &impl Abort, text: &str) -> Name {
     Name::new(text).expect(rt, "a name")
 }
 
-/// The process of this number.
+/// Returns the process with this number.
 pub fn numbered(rt: &impl Abort, number: u32) -> Process {
     Process::new(number).expect(rt, "a process")
 }
 
-/// `driver ip mux M 8 3 16`, of this many minors.
+/// Returns `driver ip mux M 8 3 16` with this number of minors.
 pub fn ip(rt: &impl Abort, minors: u32) -> DriverSpec {
     DriverSpec {
         name: named(rt, "ip"),
@@ -30,14 +31,14 @@ pub fn ip(rt: &impl Abort, minors: u32) -> DriverSpec {
     }
 }
 
-/// `clone NAME`.
+/// Returns `clone NAME`.
 pub fn clone_of(rt: &impl Abort, driver: &str) -> Command {
     Command::OpenClone {
         driver: named(rt, driver),
     }
 }
 
-/// The transcript that this text spells.
+/// Returns the transcript that this text spells.
 pub fn read(rt: &(impl AllocGlobal + Abort), text: &[u8]) -> Transcript {
     match read_transcript(rt.alloc(), text) {
         Ok(transcript) => transcript,
@@ -45,7 +46,7 @@ pub fn read(rt: &(impl AllocGlobal + Abort), text: &[u8]) -> Transcript {
     }
 }
 
-/// The system over these drivers, of at most so many entries.
+/// Returns a system over these drivers, with this limit of entries.
 pub fn system_over(rt: &(impl AllocGlobal + Abort), drivers: &[DriverSpec], limit: usize) -> System
     requires { limit ≤ MAX_COMMANDS }
 {
@@ -55,7 +56,7 @@ pub fn system_over(rt: &(impl AllocGlobal + Abort), drivers: &[DriverSpec], limi
     }
 }
 
-/// So many entries and links, with the turn held or free.
+/// Returns the front with these numbers of entries and links, and the turn held or free.
 pub fn front(entries: u32, links: u32, held: bool) -> Front {
     Front {
         entries,
@@ -64,7 +65,7 @@ pub fn front(entries: u32, links: u32, held: bool) -> Front {
     }
 }
 
-/// Tells that a growth inside of this was refused.
+/// Prints that an allocation for this failed.
 pub fn tells_of_want(rt: &impl Print, what: &str) {
     let _ = println!(rt; "{what} wanted memory");
 }

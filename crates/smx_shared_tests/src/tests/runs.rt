@@ -1,12 +1,11 @@
-//! Runs whose programs are performed when all are read: their fronts, and drivers that are refused.
+//! Runs and their fronts, and a run of four processes that are inside at once.
 
 ghost use Rattle.std.specs.Prelude.{◌≤◌};
 ghost use Rattle.smx_run.specs.declared.run.TheConstants.{MAX_WORKERS};
 
-use super::gates::{Log, OneByOne};
+use super::gates::{FourInside, OneByOne};
 use super::made::front;
-use smx_config::ConfigFault;
-use smx_run::{Gate, NoGate, Report, RunFault, run_programs};
+use smx_run::{Gate, NoGate, Report, run_programs};
 use smx_shared::Front;
 use smx_text::read_programs;
 use std::mem::forget;
@@ -14,7 +13,7 @@ use std::process::Abort;
 use std::sync::Wait;
 use std::thread::Threads;
 
-/// The report of a run of the programs that this text spells, whose gate is told.
+/// Returns the report of a run of the programs in this text. The gate hears of it.
 pub fn report_of<R: AllocGlobal + Abort + Threads + Wait + Sync, G: Gate + Sync>(
     rt: &R,
     text: &[u8],
@@ -25,35 +24,6 @@ pub fn report_of<R: AllocGlobal + Abort + Threads + Wait + Sync, G: Gate + Sync>
 {
     let programs = read_programs(rt.alloc(), text).expect(rt, "programs");
     run_programs(rt, rt.alloc(), programs, workers, gate).expect(rt, "a report")
-}
-
-// Two processes, and two drivers of one name.
-const SAME_NAME: &[u8] = b"programs 1
-driver ip mux 4 8 3 16
-driver ip leaf 1 1 0 1
-process 0
-clone ip
-process 1
-clone ip
-end
-";
-
-// A run is refused for this, and its gate is told of no command.
-fn refuses<R: AllocGlobal + Abort + Threads + Wait + Sync>(rt: &R, workers: usize)
-    requires { (1 ≤ workers) × (workers ≤ MAX_WORKERS) }
-{
-    let log = Log::of(rt, 1);
-    let programs = read_programs(rt.alloc(), SAME_NAME).expect(rt, "programs");
-    let refused = run_programs(rt, rt.alloc(), programs, workers, &log).err();
-    assert!(rt; refused == Some(RunFault::ConfigFault(ConfigFault::SameName(1))));
-    assert!(rt; log.has(&[]));
-    forget(log);
-}
-
-#[test]
-fn refuses_drivers(rt: HostRuntime) {
-    refuses(&rt, 1);
-    refuses(&rt, 2);
 }
 
 const THREE_PROGRAMS: &[u8] = b"programs 1
@@ -94,7 +64,7 @@ link 0 1
 end
 ";
 
-// A run by so many workers has fronts of so many processes, the first of them these.
+// Checks that a run by this number of workers has fronts for this number of processes, starting with these.
 fn begins_with<R: AllocGlobal + Abort + Threads + Wait + Sync, G: Gate + Sync>(
     rt: &R,
     text: &[u8],
@@ -111,11 +81,39 @@ fn begins_with<R: AllocGlobal + Abort + Threads + Wait + Sync, G: Gate + Sync>(
     forget(report);
 }
 
-// On one worker; and of five that go on one by one on two workers three, before which no command of a later one stands.
+// On one worker; and on two workers, with five processes that go on one by one. Each of the first three fronts is seen
+// before a command of a later process is performed.
 #[test]
 fn a_front_is_seen_before_the_next_program_of_its_worker(rt: HostRuntime) {
     let first = [front(2, 0, false), front(2, 0, false), front(3, 0, false)];
     begins_with(&rt, THREE_PROGRAMS, 1, &NoGate, 3, first);
     let first = [front(3, 1, false), front(6, 2, false), front(9, 3, false)];
     begins_with(&rt, FIVE_LINKS, 2, &OneByOne::new(), 5, first);
+}
+
+const FOUR: &[u8] = b"programs 1
+driver ip mux 4 8 3 16
+driver eth leaf 2 8 3 16
+process 0
+clone ip
+exit
+process 1
+clone ip
+exit
+process 2
+clone ip
+exit
+process 3
+clone ip
+exit
+end
+";
+
+#[test]
+fn four_workers_are_inside_at_once(rt: HostRuntime) {
+    let gate = FourInside::new();
+    let report = report_of(&rt, FOUR, 4, &gate);
+    assert!(rt; gate.met() == 4);
+    assert_eq!(rt; report.entries.as_slice().len(), 8);
+    forget(report);
 }

@@ -1,5 +1,5 @@
-//! Seats that call, try and look, each on a thread of its own, where it is dropped: few of them, and many. The last two
-//! tests are of glances and tries in great number, whose times `bench/looks` takes.
+//! Seats that call, try and look, each on its own thread; all but the first are dropped. Some tests use few calls,
+//! and some many. The last two tests make many glances and tries; `bench/looks` takes their times.
 
 ghost use Rattle.std.specs.Prelude.{◌≤◌};
 ghost use Rattle.smx_types.specs.declared.limits.TheConstants.{MAX_COMMANDS, MAX_PROCESSES};
@@ -11,10 +11,10 @@ use std::process::Abort;
 use std::sync::Wait;
 use std::thread::Threads;
 
-// Seats play on this stage, in a system over `driver ip mux 64 8 3 16`, of at most so many entries.
-fn plays_on<R: AllocGlobal + Abort + Threads + Wait + Sync>(
+// Plays this stage with this number of seats, in a system over `driver ip mux 64 8 3 16` with this limit of entries.
+fn comes_to<R: AllocGlobal + Abort + Threads + Wait + Sync>(
     rt: &R,
-    stage: &Stage,
+    stage: Stage,
     limit: usize,
     seats: usize,
     end: End,
@@ -24,56 +24,63 @@ fn plays_on<R: AllocGlobal + Abort + Threads + Wait + Sync>(
 {
     let system = system_over(rt, &[ip(rt, 64)], limit);
     let (shared, seats) = start(rt, system, seats).expect(rt, "a start");
-    is_played(rt, stage, shared, seats, end);
+    is_played(rt, &stage, shared, seats, end);
 }
 
-// What the first so many of these seats do, what the others do, how many have to see the turn held, and what comes of
-// it.
-fn comes_to<R: AllocGlobal + Abort + Threads + Wait + Sync>(
-    rt: &R,
-    first: (u32, Part),
-    others: Part,
-    wanted: u64,
-    limit: usize,
-    seats: usize,
-    end: End,
-)
-    requires few { limit ≤ MAX_COMMANDS }
-    requires some { (1 ≤ seats) × (seats ≤ MAX_PROCESSES) }
-{
-    let stage = Stage::of(rt, first, others, wanted);
-    plays_on(rt, &stage, limit, seats, end);
+// Four seats call twice each at a system with a limit of five entries: five of the eight calls succeed.
+#[test]
+fn four_seats_reach_the_limit(rt: HostRuntime) {
+    let stage = Stage::of(&rt, (4, Part::Calls(2)), Part::Rests, Part::Rests, 0);
+    comes_to(&rt, stage, 5, 4, (5, 0, 5, 3));
 }
 
+// Fifteen seats try a hundred times each while the first one holds the turn: every try finds it held.
+#[test]
+fn fifteen_try_while_one_holds_the_turn(rt: HostRuntime) {
+    let stage = Stage::of(&rt, (1, Part::Holds), Part::Tries(100), Part::Rests, 15);
+    comes_to(&rt, stage, 10, 16, (1, 1_500, 0, 0));
+}
+
+// The second of two seats calls once and is dropped on its thread. Then the first one gets the next stream.
 #[test]
 fn a_thread_that_drops_its_seat(rt: HostRuntime) {
-    let twice = Part::CallsTwice;
-    comes_to(&rt, (1, twice), twice, 0, 10, 2, (2, Some(2), 3, 2, 0));
+    let stage = Stage::of(&rt, (1, Part::Rests), Part::Calls(1), Part::Opens(1), 0);
+    comes_to(&rt, stage, 10, 2, (2, 0, 1, 0));
 }
 
 #[test]
-fn few_and_many_on_threads(rt: HostRuntime) {
-    // Five entries of eight calls.
-    let twice = Part::CallsTwice;
-    comes_to(&rt, (4, twice), twice, 0, 5, 5, (5, None, 5, 5, 3));
-    // Fifteen try while one holds the turn.
-    let tries = (15, Part::Tries(100));
-    comes_to(&rt, tries, Part::Holds, 15, 10, 17, (1, Some(1), 2, 0, 0));
-    // Eight look on while two call.
-    let looks_on = (8, Part::LooksOn);
-    let end = (2002, Some(2), 2003, 0, 0);
-    comes_to(&rt, looks_on, Part::OpensAndCloses, 1, 10_000, 11, end);
+fn eight_look_on_while_two_call(rt: HostRuntime) {
+    let stage = Stage::of(
+        &rt,
+        (8, Part::LooksOn),
+        Part::OpensAndCloses,
+        Part::Opens(2),
+        1,
+    );
+    comes_to(&rt, stage, 10_000, 10, (2_003, 0, 0, 0));
 }
 
 #[test]
 fn ten_million_glances(rt: HostRuntime) {
-    let looks = Part::Looks(10_000_000);
-    comes_to(&rt, (1, looks), looks, 0, 10, 2, (0, Some(0), 1, 0, 0));
+    let stage = Stage::of(
+        &rt,
+        (1, Part::Looks(10_000_000)),
+        Part::Rests,
+        Part::Opens(0),
+        0,
+    );
+    comes_to(&rt, stage, 10, 2, (1, 0, 0, 0));
 }
 
-// While another has the turn.
+// Another seat has the turn.
 #[test]
 fn a_million_tries(rt: HostRuntime) {
-    let tries = (1, Part::Tries(1_000_000));
-    comes_to(&rt, tries, Part::Holds, 1, 10, 3, (1, Some(1), 2, 0, 0));
+    let stage = Stage::of(
+        &rt,
+        (1, Part::Tries(1_000_000)),
+        Part::Holds,
+        Part::Opens(1),
+        1,
+    );
+    comes_to(&rt, stage, 10, 2, (2, 1_000_000, 0, 0));
 }

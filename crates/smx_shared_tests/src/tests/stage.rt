@@ -1,8 +1,8 @@
-//! Seats that each have a thread of their own, and what they do there.
+//! Seats that each have their own thread, and what they do there.
 
 ghost use Rattle.std.specs.Prelude.{◌≡◌, All};
 
-use super::callers::{closes_with, last_of, opens};
+use super::callers::{closes_with, first_of, opens};
 use super::gates::{TURNS, is_reached};
 use super::made::{clone_of, front};
 use smx_shared::{ApplyFault, Door, Hold, Seat, Shared, TryFault};
@@ -12,31 +12,37 @@ use std::process::Abort;
 use std::sync::Wait;
 use std::sync::atomic::{AtomicU64, Ordering};
 use std::thread;
-use std::thread::{Scope, Threads};
+use std::thread::{Scope, Threads, join};
 
-/// What a seat does.
+/// A seat's part in a test.
 #[derive(Clone, Copy)]
 pub enum Part {
-    /// Looks so often, and finds nothing.
+    /// Nothing.
+    Rests,
+    /// Looks this many times, and finds nothing.
     Looks(u32),
-    /// Holds the turn until so many have seen it held as are wanted, and gets the stream of minor 0.
+    /// Holds the turn until the wanted number have seen it held, and gets the stream with minor 0.
     Holds,
-    /// Finds the turn held, with nothing in the history, by a look and then by each of so many tries.
+    /// Finds the turn held, with nothing in the history, by a look and then by each of this many tries.
     Tries(u32),
     /// Looks on until two have ended, and never sees a shorter history.
     LooksOn,
-    /// Opens a stream once somebody has seen the turn free, and then closes it and opens it 500 times.
+    /// Opens a stream after somebody has seen the turn free, and then closes it and opens it 500 times.
     OpensAndCloses,
-    /// Calls twice.
-    CallsTwice,
+    /// Calls this many times.
+    Calls(u32),
+    /// Gets the stream with this minor.
+    Opens(u32),
 }
 
-/// What the first so many seats do, what the others do, and how far they are.
+/// The parts of the first few seats and of the others, which are played at the same time, the part of the very first
+/// seat afterwards, and how far they are.
 #[derive(Drop)]
 pub struct Stage {
     clone_ip: Command,
     first: (u32, Part),
     others: Part,
+    last: Part,
     // How many have to see the turn held before it is given back.
     wanted: u64,
     // Whether the turn is held, or was.
@@ -47,9 +53,11 @@ pub struct Stage {
     held: AtomicU64,
     // How many of those that open and close have ended.
     ended: AtomicU64,
-    // How many of the calls of those that call twice were answered.
+    // How many tries found the turn held.
+    busy: AtomicU64,
+    // How many calls succeeded.
     answered: AtomicU64,
-    // How many of them found the history full.
+    // How many calls found the history full.
     full: AtomicU64,
 }
 
@@ -58,23 +66,25 @@ fn add_one(count: &AtomicU64) {
 }
 
 impl Stage {
-    /// Nothing is done yet. So many have to see the turn held before it is given back.
-    pub fn of(rt: &impl Abort, first: (u32, Part), others: Part, wanted: u64) -> Stage {
+    /// Creates a stage on which nothing is done yet. `wanted` have to see the turn held before it is given back.
+    pub fn of(rt: &impl Abort, first: (u32, Part), others: Part, last: Part, wanted: u64) -> Stage {
         Stage {
             clone_ip: clone_of(rt, "ip"),
             first,
             others,
+            last,
             wanted,
             begun: AtomicU64::new(0),
             free: AtomicU64::new(0),
             held: AtomicU64::new(0),
             ended: AtomicU64::new(0),
+            busy: AtomicU64::new(0),
             answered: AtomicU64::new(0),
             full: AtomicU64::new(0),
         }
     }
 
-    // What the seat of this process does.
+    // Returns what the seat of this process does.
     fn part_of(&self, process: u32) -> Part {
         let (count, part) = self.first;
         if process < count { part } else { self.others }
@@ -88,7 +98,7 @@ impl Hold for Stage {
     }
 }
 
-// Each of so many looks finds nothing.
+// Checks that each of `count` looks finds nothing.
 fn finds_nothing(rt: &impl Abort, shared: &Shared, seat: &mut Seat, count: u32)
     requires { seat.old.shared ≡ shared.now.name }
     ensures { seat.new.shared ≡ shared.now.name }
@@ -98,7 +108,7 @@ fn finds_nothing(rt: &impl Abort, shared: &Shared, seat: &mut Seat, count: u32)
     }
 }
 
-// Holds the turn until so many have seen it held as are wanted, and gets the stream of minor 0.
+// Holds the turn until the wanted number have seen it held, and gets the stream with minor 0.
 fn holds<R: AllocGlobal + Abort + Wait>(rt: &R, shared: &Shared, seat: &mut Seat, stage: &Stage)
     requires { seat.old.shared ≡ shared.now.name }
     ensures { seat.new.shared ≡ shared.now.name }
@@ -109,7 +119,7 @@ fn holds<R: AllocGlobal + Abort + Wait>(rt: &R, shared: &Shared, seat: &mut Seat
     forget(entry);
 }
 
-// A try finds the turn held, with nothing in the history.
+// Checks that a try finds the turn held, with nothing in the history.
 fn is_busy(rt: &(impl AllocGlobal + Abort), shared: &Shared, seat: &mut Seat, stage: &Stage)
     requires { seat.old.shared ≡ shared.now.name }
     ensures { seat.new.shared ≡ shared.now.name }
@@ -118,7 +128,7 @@ fn is_busy(rt: &(impl AllocGlobal + Abort), shared: &Shared, seat: &mut Seat, st
     assert!(rt; fault == Some(TryFault::Busy(front(0, 0, true))));
 }
 
-// It is held, with nothing in the history, in a look and then in each of so many tries.
+// Checks that a look, and then each of this many tries, finds the turn held, with nothing in the history.
 fn tries(
     rt: &(impl AllocGlobal + Abort),
     shared: &Shared,
@@ -129,21 +139,22 @@ fn tries(
     requires { seat.old.shared ≡ shared.now.name }
     ensures { seat.new.shared ≡ shared.now.name }
 {
-    is_reached(&stage.begun, 1);
+    assert!(rt; is_reached(&stage.begun, 1));
     assert!(rt; shared.glance(seat) == front(0, 0, true));
     for _ in 0..count {
         is_busy(rt, shared, seat, stage);
     }
+    stage.busy.fetch_add(u64::from(count), Ordering::SeqCst);
     add_one(&stage.held);
 }
 
-// Whether two have ended. If not, others go on first.
+// Returns whether two have ended. Lets others go on first.
 fn is_ended(stage: &Stage) -> bool {
     thread::yield_now();
     stage.ended.load(Ordering::SeqCst) == 2
 }
 
-// Looks on until two have ended. The history never seems to have become shorter.
+// Looks on until two have ended. Checks that the history never becomes shorter.
 fn looks_on(rt: &impl Abort, shared: &Shared, seat: &mut Seat, stage: &Stage)
     requires { seat.old.shared ≡ shared.now.name }
     ensures { seat.new.shared ≡ shared.now.name }
@@ -161,7 +172,7 @@ fn looks_on(rt: &impl Abort, shared: &Shared, seat: &mut Seat, stage: &Stage)
     panic!(rt; "two have not ended");
 }
 
-// A command is answered.
+// Checks that a command gets an entry.
 fn is_answered<R: AllocGlobal + Abort + Wait>(
     rt: &R,
     shared: &Shared,
@@ -176,7 +187,7 @@ fn is_answered<R: AllocGlobal + Abort + Wait>(
     forget(answer);
 }
 
-// Opens a stream once somebody has seen the turn free, and then closes it and opens one 500 times.
+// Opens a stream after somebody has seen the turn free, and then closes it and opens one 500 times.
 fn opens_and_closes<R: AllocGlobal + Abort + Wait>(
     rt: &R,
     shared: &Shared,
@@ -198,7 +209,7 @@ fn opens_and_closes<R: AllocGlobal + Abort + Wait>(
     add_one(&stage.ended);
 }
 
-// A call, which is counted.
+// Calls, and counts the result.
 fn calls<R: AllocGlobal + Abort + Wait>(rt: &R, shared: &Shared, seat: &mut Seat, stage: &Stage)
     requires { seat.old.shared ≡ shared.now.name }
     ensures { seat.new.shared ≡ shared.now.name }
@@ -212,24 +223,78 @@ fn calls<R: AllocGlobal + Abort + Wait>(rt: &R, shared: &Shared, seat: &mut Seat
     forget(answer);
 }
 
-// This seat does its part, and is dropped.
-fn plays<R: AllocGlobal + Abort + Wait>(rt: &R, shared: &Shared, mut seat: Seat, stage: &Stage)
-    requires { seat.shared ≡ shared.now.name }
+// Calls this many times.
+fn calls_often<R: AllocGlobal + Abort + Wait>(
+    rt: &R,
+    shared: &Shared,
+    seat: &mut Seat,
+    stage: &Stage,
+    count: u32,
+)
+    requires { seat.old.shared ≡ shared.now.name }
+    ensures { seat.new.shared ≡ shared.now.name }
 {
-    match stage.part_of(<Shared as Door>::process(&seat).get()) {
-        Part::Looks(count) => finds_nothing(rt, shared, &mut seat, count),
-        Part::Holds => holds(rt, shared, &mut seat, stage),
-        Part::Tries(count) => tries(rt, shared, &mut seat, stage, count),
-        Part::LooksOn => looks_on(rt, shared, &mut seat, stage),
-        Part::OpensAndCloses => opens_and_closes(rt, shared, &mut seat, stage),
-        Part::CallsTwice => {
-            calls(rt, shared, &mut seat, stage);
-            calls(rt, shared, &mut seat, stage);
-        }
+    for _ in 0..count {
+        calls(rt, shared, seat, stage);
     }
 }
 
-// Each of these seats does its part on a thread of its own.
+// Gets the stream with this minor.
+fn gets<R: AllocGlobal + Abort + Wait>(
+    rt: &R,
+    shared: &Shared,
+    seat: &mut Seat,
+    stage: &Stage,
+    minor: u32,
+)
+    requires { seat.old.shared ≡ shared.now.name }
+    ensures { seat.new.shared ≡ shared.now.name }
+{
+    let entry = shared.call(rt, rt.alloc(), seat, &stage.clone_ip);
+    let entry = entry.expect(rt, "an answer");
+    assert!(rt; opens(&entry, minor));
+    forget(entry);
+}
+
+// Lets this seat do this part.
+fn plays<R: AllocGlobal + Abort + Wait>(
+    rt: &R,
+    shared: &Shared,
+    seat: &mut Seat,
+    stage: &Stage,
+    part: Part,
+)
+    requires { seat.old.shared ≡ shared.now.name }
+    ensures { seat.new.shared ≡ shared.now.name }
+{
+    match part {
+        Part::Rests => {}
+        Part::Looks(count) => finds_nothing(rt, shared, seat, count),
+        Part::Holds => holds(rt, shared, seat, stage),
+        Part::Tries(count) => tries(rt, shared, seat, stage, count),
+        Part::LooksOn => looks_on(rt, shared, seat, stage),
+        Part::OpensAndCloses => opens_and_closes(rt, shared, seat, stage),
+        Part::Calls(count) => calls_often(rt, shared, seat, stage, count),
+        Part::Opens(minor) => gets(rt, shared, seat, stage, minor),
+    }
+}
+
+// Lets this seat do its part, and returns it.
+fn comes_back<R: AllocGlobal + Abort + Wait>(
+    rt: &R,
+    shared: &Shared,
+    mut seat: Seat,
+    stage: &Stage,
+) -> Seat
+    requires { seat.shared ≡ shared.now.name }
+    ensures { result.shared ≡ shared.now.name }
+{
+    let part = stage.part_of(<Shared as Door>::process(&seat).get());
+    plays(rt, shared, &mut seat, stage, part);
+    seat
+}
+
+// Lets each of these seats do its part on its own thread, and drops it there.
 fn start_all<'s, E, R: AllocGlobal + Abort + Threads + Wait + Sync>(
     scope: &'s Scope<'s, E>,
     rt: &'s R,
@@ -243,13 +308,13 @@ fn start_all<'s, E, R: AllocGlobal + Abort + Threads + Wait + Sync>(
         let thread = scope.spawn(
             move ||
                 requires { seat.shared ≡ shared.now.name }
-            { plays(rt, shared, seat, stage) },
+            { drop(comes_back(rt, shared, seat, stage)) },
         );
         drop(thread);
     }
 }
 
-fn all_play<R: AllocGlobal + Abort + Threads + Wait + Sync>(
+fn others_play<R: AllocGlobal + Abort + Threads + Wait + Sync>(
     rt: &R,
     shared: &Shared,
     seats: Vec<Seat>,
@@ -266,52 +331,37 @@ fn all_play<R: AllocGlobal + Abort + Threads + Wait + Sync>(
     );
 }
 
-/// What comes of it when all have played: how many entries one more seat sees, the minor that it then gets, if the
-/// history isn't full, and how many entries there are at the end; and how many calls of those that call twice were
-/// answered, and how many found the history full.
-pub type End = (u32, Option<u32>, usize, u64, u64);
-
-// This seat sees so many entries, and gets a stream or finds the history full.
-fn is_at_end<R: AllocGlobal + Abort + Wait>(
+// Returns the first of these seats, after all have played and it has done its last part.
+fn all_play<R: AllocGlobal + Abort + Threads + Wait + Sync>(
     rt: &R,
     shared: &Shared,
-    seat: &mut Seat,
+    seats: Vec<Seat>,
     stage: &Stage,
-    seen: u32,
-    minor: Option<u32>,
-)
-    requires { seat.old.shared ≡ shared.now.name }
-    ensures { seat.new.shared ≡ shared.now.name }
-{
-    assert!(rt; shared.glance(seat) == front(seen, 0, false));
-    let answer = shared.call(rt, rt.alloc(), seat, &stage.clone_ip);
-    match (&answer, minor) {
-        (Ok(entry), Some(minor)) => assert!(rt; opens(entry, minor)),
-        (Err(fault), None) => assert!(rt; *fault == ApplyFault::HistoryFull),
-        _ => panic!(rt; "another end"),
-    }
-    forget(answer);
-}
-
-// All but the last seat play: the last one, which finds this end.
-fn last_looks<R: AllocGlobal + Abort + Threads + Wait + Sync>(
-    rt: &R,
-    shared: &Shared,
-    mut seats: Vec<Seat>,
-    stage: &Stage,
-    seen: u32,
-    minor: Option<u32>,
 ) -> Seat
     requires { All (λ s. s.shared ≡ shared.now.name) seats.items }
     ensures { result.shared ≡ shared.now.name }
 {
-    let mut last = last_of(rt, shared, &mut seats);
-    all_play(rt, shared, seats, stage);
-    is_at_end(rt, shared, &mut last, stage, seen, minor);
-    last
+    let (zero, others) = first_of(rt, shared, seats);
+    let (mut zero, ()) = join(
+        rt,
+        || -> Seat
+            requires { zero.shared ≡ shared.now.name }
+            ensures { result.shared ≡ shared.entry.now.name }
+        { comes_back(rt, shared, zero, stage) },
+        || -> ()
+            requires { All (λ s. s.shared ≡ shared.now.name) others.items }
+        { others_play(rt, shared, others, stage) },
+    );
+    plays(rt, shared, &mut zero, stage, stage.last);
+    zero
 }
 
-/// All of these seats but the last play, and that one finds this end.
+/// The result when all have played: the number of entries at the end, of tries that found the turn held, of calls
+/// that succeeded, and of calls that found the history full.
+pub type End = (usize, u64, u64, u64);
+
+/// Lets all of these seats play, each on its own thread. The first one comes back and closes. Checks that this is the
+/// end.
 pub fn is_played<R: AllocGlobal + Abort + Threads + Wait + Sync>(
     rt: &R,
     stage: &Stage,
@@ -321,9 +371,10 @@ pub fn is_played<R: AllocGlobal + Abort + Threads + Wait + Sync>(
 )
     requires { All (λ s. s.shared ≡ shared.name) seats.items }
 {
-    let (seen, minor, entries, answered, full) = end;
-    let last = last_looks(rt, &shared, seats, stage, seen, minor);
+    let (entries, busy, answered, full) = end;
+    let zero = all_play(rt, &shared, seats, stage);
+    assert_eq!(rt; stage.busy.load(Ordering::SeqCst), busy);
     assert_eq!(rt; stage.answered.load(Ordering::SeqCst), answered);
     assert_eq!(rt; stage.full.load(Ordering::SeqCst), full);
-    closes_with(rt, shared, last, entries);
+    closes_with(rt, shared, zero, entries);
 }

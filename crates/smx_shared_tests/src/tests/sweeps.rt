@@ -1,4 +1,5 @@
-//! Every number of drivers, and every size of a message: no call of a configuration wants memory at some of them alone.
+//! Every number of drivers, and every size of a message: at none of them a call of a configuration runs out of
+//! memory.
 
 use super::worked::is_worked;
 use smx_samples::Part::{Each, Once};
@@ -14,7 +15,7 @@ fn every_number_of_drivers(rt: HostRuntime) {
     }
 }
 
-// Messages of these bytes go down and come up, and one stays.
+// Sends messages of these bytes down and up; one of them stays.
 fn are_sent(rt: &(impl AllocGlobal + Abort + Print), bytes: Part) {
     let text = [
         Once("transcript 1\ndriver eth0 leaf 64 4096 0 1024\n0 clone eth0 = fd 0 0\n"),
@@ -38,7 +39,7 @@ fn are_sent(rt: &(impl AllocGlobal + Abort + Print), bytes: Part) {
 #[test]
 fn every_size_of_a_message(rt: HostRuntime) {
     for size in 1..1_025u32 {
-        // They differ, and differ from size to size.
+        // The bytes differ, also from size to size.
         let bytes = [Each(size, size.wrapping_mul(2), "{n % 251 hex}")];
         let hex = text_of(rt.alloc(), &bytes).expect(&rt, "there is memory");
         let bytes = Once(hex.as_str());

@@ -1,20 +1,22 @@
-//! Systems: how they play a worked history, commands that are given up, and their copies.
+//! Systems: how they play a worked history, commands that are moved into them, their copies, and one that counts its
+//! entries.
 
 use super::made::{clone_of, numbered, read, system_over, tells_of_want};
-use smx_shared::{ApplyFault, System};
-use smx_types::{Entry, Transcript};
+use smx_config::Config;
+use smx_shared::{ApplyFault, EntryCount, EntrySink, System};
+use smx_types::{DriverSpec, Entry, Transcript};
 use std::mem::forget;
 use std::process::Abort;
 
-/// The same system again.
-pub fn copied(rt: &impl Abort, system: &System) -> System {
-    match system.copy() {
+/// Returns a copy of the system.
+pub fn copied(rt: &(impl AllocGlobal + Abort), system: &System) -> System {
+    match system.copy(rt.alloc()) {
         Ok(again) => again,
-        Err(_) => system.copy().expect(rt, "a copy"),
+        Err(_) => system.copy(rt.alloc()).expect(rt, "a copy"),
     }
 }
 
-// The entry that answers this command, which is asked again where memory was wanting.
+// Returns the entry of this command, which is asked for again if memory ran out.
 fn applied(rt: &(impl Abort + Print), system: &mut System, want: &Entry) -> Entry {
     match system.apply(want.process, &want.command) {
         Ok(entry) => entry,
@@ -26,7 +28,7 @@ fn applied(rt: &(impl Abort + Print), system: &mut System, want: &Entry) -> Entr
     }
 }
 
-/// The commands of these entries are answered so.
+/// Checks that the commands of these entries get these replies.
 pub fn plays(rt: &(impl Abort + Print), system: &mut System, entries: &[Entry]) {
     for number in 0..entries.len() {
         let want = &entries[number];
@@ -49,12 +51,15 @@ fd 0 2 ip 2
 end
 ";
 
-// The commands of these entries are given up.
-fn appends(rt: &(impl Abort + AllocGlobal), system: &mut System, entries: &[Entry]) {
-    assert!(rt; system.reserve(entries.len()).is_ok());
+// Performs the commands of these entries, which are moved into the system.
+fn performs<K: EntrySink>(
+    rt: &(impl Abort + AllocGlobal),
+    system: &mut System<K>,
+    entries: &[Entry],
+) {
     for entry in entries {
-        let mut command = entry.command.copy(rt.alloc()).expect(rt, "a copy");
-        assert!(rt; system.append(entry.process, &mut command, None).is_ok());
+        let command = entry.command.copy(rt.alloc()).expect(rt, "a copy");
+        assert!(rt; system.perform(entry.process, command).is_ok());
     }
 }
 
@@ -63,7 +68,7 @@ fn has(rt: &impl Abort, system: &System, want: &Transcript) {
     assert!(rt; system.config().shows(&want.view));
 }
 
-fn copy_has(rt: &impl Abort, system: &System, want: &Transcript) {
+fn copy_has(rt: &(impl AllocGlobal + Abort), system: &System, want: &Transcript) {
     let again = copied(rt, system);
     has(rt, &again, want);
     forget(again);
@@ -73,14 +78,40 @@ fn copy_has(rt: &impl Abort, system: &System, want: &Transcript) {
 fn commands_that_are_given_up(rt: HostRuntime) {
     let want = read(&rt, THREE);
     let mut system = system_over(&rt, want.drivers.as_slice(), 3);
-    appends(&rt, &mut system, want.entries.as_slice());
+    performs(&rt, &mut system, want.entries.as_slice());
     has(&rt, &system, &want);
     copy_has(&rt, &system, &want);
+    let command = clone_of(&rt, "ip");
+    let refused = system.perform(numbered(&rt, 0), command).err();
+    assert!(rt; refused == Some(ApplyFault::HistoryFull));
+    has(&rt, &system, &want);
     forget(want);
     forget(system);
 }
 
-// The same three are answered, and then the history is full.
+// Returns a system that takes three entries and only counts them.
+fn counting_over(rt: &(impl AllocGlobal + Abort), drivers: &[DriverSpec]) -> System<EntryCount> {
+    let config = Config::new(rt.alloc(), drivers).expect(rt, "a configuration");
+    System::begin(rt.alloc(), config, 3, EntryCount::new())
+}
+
+#[test]
+fn entries_that_are_only_counted(rt: HostRuntime) {
+    let want = read(&rt, THREE);
+    let mut system = counting_over(&rt, want.drivers.as_slice());
+    assert!(rt; system.count() == 0);
+    performs(&rt, &mut system, want.entries.as_slice());
+    assert!(rt; system.count() == 3);
+    let answer = system.apply(numbered(&rt, 0), &clone_of(&rt, "ip"));
+    assert!(rt; answer.err() == Some(ApplyFault::HistoryFull));
+    let (count, config) = system.into_parts();
+    assert!(rt; count.count() == 3);
+    assert!(rt; config.shows(&want.view));
+    forget(config);
+    forget(want);
+}
+
+// The same three commands get entries, and then the history is full.
 #[test]
 fn three_entries_are_the_most(rt: HostRuntime) {
     let want = read(&rt, THREE);
@@ -89,6 +120,7 @@ fn three_entries_are_the_most(rt: HostRuntime) {
     let answer = system.apply(numbered(&rt, 0), &clone_of(&rt, "ip"));
     assert!(rt; answer.err() == Some(ApplyFault::HistoryFull));
     has(&rt, &system, &want);
+    copy_has(&rt, &system, &want);
     forget(want);
     forget(system);
 }

@@ -1,11 +1,14 @@
-//! Three seats, each on a thread of its own: two look on while the third one holds the turn. Then they meet.
+//! Three seats, each on its own thread. Two look on while the third one holds the turn, and one of them also tries. Then
+//! they meet, and a report of the system that they shared is gathered. And a seat meets one that has called on its own
+//! thread.
 
 ghost use Rattle.std.specs.Prelude.{◌≡◌, All};
 
 use super::callers::{last_of, last_two, opens, start};
 use super::gates::is_reached;
-use super::made::{clone_of, front, ip, system_over};
-use smx_shared::{Door, Front, Hold, Seat, Shared, TryFault};
+use super::gathered::{OPENED, are_reported, are_strange};
+use super::made::{clone_of, front, ip, read, system_over};
+use smx_shared::{Door, Hold, Seat, Shared, TryFault};
 use smx_types::Entry;
 use std::mem::forget;
 use std::process::Abort;
@@ -13,7 +16,7 @@ use std::sync::Wait;
 use std::sync::atomic::{AtomicU64, Ordering};
 use std::thread::{Threads, join};
 
-// Whether the turn is held, and how many have seen it held. It is given back when two have.
+// Whether the turn is held, and how many looks and tries have seen it held. It is given back when three have.
 #[derive(Drop)]
 struct Watched {
     held: AtomicU64,
@@ -23,11 +26,11 @@ struct Watched {
 impl Hold for Watched {
     fn inside(&self) {
         self.held.fetch_add(1, Ordering::SeqCst);
-        is_reached(&self.seen, 2);
+        is_reached(&self.seen, 3);
     }
 }
 
-// The seat that holds the turn gets the stream of minor 1.
+// The seat that holds the turn gets the stream with minor 1.
 fn holds<R: AllocGlobal + Abort + Wait>(
     rt: &R,
     shared: &Shared,
@@ -45,26 +48,35 @@ fn holds<R: AllocGlobal + Abort + Wait>(
     seat
 }
 
-// A look and then a try see it held, behind one entry.
-fn sees_it_held(
+// Checks that a look sees it held, after one entry.
+fn sees_it_held(rt: &impl Abort, shared: &Shared, mut seat: Seat, watched: &Watched) -> Seat
+    requires { seat.shared ≡ shared.now.name }
+    ensures { result.shared ≡ shared.now.name }
+{
+    assert!(rt; is_reached(&watched.held, 1));
+    assert!(rt; shared.glance(&mut seat) == front(1, 0, true));
+    watched.seen.fetch_add(1, Ordering::SeqCst);
+    seat
+}
+
+// Checks that a look does so, and then a try.
+fn tries_while_held(
     rt: &(impl AllocGlobal + Abort),
     shared: &Shared,
-    mut seat: Seat,
+    seat: Seat,
     watched: &Watched,
 ) -> Seat
     requires { seat.shared ≡ shared.now.name }
     ensures { result.shared ≡ shared.now.name }
 {
-    let held: Front = front(1, 0, true);
-    assert!(rt; is_reached(&watched.held, 1));
-    assert!(rt; shared.glance(&mut seat) == held);
+    let mut seat = sees_it_held(rt, shared, seat, watched);
     let fault = shared.try_call(rt.alloc(), &mut seat, &clone_of(rt, "ip"));
-    assert!(rt; fault.err() == Some(TryFault::Busy(held)));
+    assert!(rt; fault.err() == Some(TryFault::Busy(front(1, 0, true))));
     watched.seen.fetch_add(1, Ordering::SeqCst);
     seat
 }
 
-// The first two seats, which have both seen it held.
+// Returns the first two seats, which have both seen it held; the second one has tried.
 fn two_look_on<R: AllocGlobal + Abort + Threads + Sync>(
     rt: &R,
     shared: &Shared,
@@ -84,11 +96,11 @@ fn two_look_on<R: AllocGlobal + Abort + Threads + Sync>(
         || -> Seat
             requires { one.shared ≡ shared.now.name }
             ensures { result.shared ≡ shared.entry.now.name }
-        { sees_it_held(rt, shared, one, watched) },
+        { tries_while_held(rt, shared, one, watched) },
     )
 }
 
-// The three seats, of which the last one has held the turn.
+// Returns the three seats; the last one has held the turn.
 fn three_on_threads<R: AllocGlobal + Abort + Threads + Wait + Sync>(
     rt: &R,
     shared: &Shared,
@@ -119,8 +131,8 @@ fn three_on_threads<R: AllocGlobal + Abort + Threads + Wait + Sync>(
     )
 }
 
-// The first one calls; two see the third one hold the turn; the second one tries again, with no look before; the first
-// one looks, and meets the others.
+// The first one calls; two see the third one hold the turn; the second one tries again, without a look before; the
+// first one looks, and meets the others.
 fn three_meet<R: AllocGlobal + Abort + Threads + Wait + Sync>(
     rt: &R,
     shared: &Shared,
@@ -144,7 +156,7 @@ fn three_meet<R: AllocGlobal + Abort + Threads + Wait + Sync>(
     zero
 }
 
-// These are the processes of the entries.
+// Checks that these are the processes of the entries.
 fn are_of(rt: &impl Abort, entries: &[Entry], processes: [u32; 3]) {
     assert_eq!(rt; entries.len(), 3);
     for number in 0..3 {
@@ -158,6 +170,71 @@ fn two_see_the_third_hold_the_turn(rt: HostRuntime) {
     let (shared, seats) = start(&rt, system, 3).expect(&rt, "a start");
     let zero = three_meet(&rt, &shared, seats);
     let system = shared.close(zero).expect(&rt, "nobody has the turn");
+    are_of(&rt, system.entries(), [0, 2, 1]);
+    let want = read(&rt, OPENED);
+    are_reported(&rt, &system, &want);
+    are_strange(&rt, &system);
+    forget(want);
+    forget(system);
+}
+
+// Calls, and gets the stream with this minor.
+fn gets<R: AllocGlobal + Abort + Wait>(rt: &R, shared: &Shared, seat: &mut Seat, minor: u32)
+    requires { seat.old.shared ≡ shared.now.name }
+    ensures { seat.new.shared ≡ shared.now.name }
+{
+    let answer = shared.call(rt, rt.alloc(), seat, &clone_of(rt, "ip"));
+    let entry = answer.expect(rt, "an answer");
+    assert!(rt; opens(&entry, minor));
+    forget(entry);
+}
+
+// Does so and returns the seat.
+fn gets_and_ends<R: AllocGlobal + Abort + Wait>(
+    rt: &R,
+    shared: &Shared,
+    mut seat: Seat,
+    minor: u32,
+) -> Seat
+    requires { seat.shared ≡ shared.now.name }
+    ensures { result.shared ≡ shared.now.name }
+{
+    gets(rt, shared, &mut seat, minor);
+    seat
+}
+
+// The first one calls, and then the third one on its own thread, which returns it. The second one meets the third,
+// and calls.
+fn second_meets_third<R: AllocGlobal + Abort + Threads + Wait + Sync>(
+    rt: &R,
+    shared: &Shared,
+    mut seats: Vec<Seat>,
+) -> Seat
+    requires { All (λ s. s.shared ≡ shared.now.name) seats.items }
+    ensures { result.shared ≡ shared.now.name }
+{
+    let two = last_of(rt, shared, &mut seats);
+    let (mut zero, mut one) = last_two(rt, shared, seats);
+    gets(rt, shared, &mut zero, 0);
+    let (two, ()) = join(
+        rt,
+        || -> Seat
+            requires { two.shared ≡ shared.now.name }
+            ensures { result.shared ≡ shared.entry.now.name }
+        { gets_and_ends(rt, shared, two, 1) },
+        || (),
+    );
+    shared.meet(&mut one, two);
+    gets(rt, shared, &mut one, 2);
+    one
+}
+
+#[test]
+fn a_seat_meets_one_that_called_on_a_thread(rt: HostRuntime) {
+    let system = system_over(&rt, &[ip(&rt, 4)], 10);
+    let (shared, seats) = start(&rt, system, 3).expect(&rt, "a start");
+    let one = second_meets_third(&rt, &shared, seats);
+    let system = shared.close(one).expect(&rt, "nobody has the turn");
     are_of(&rt, system.entries(), [0, 2, 1]);
     forget(system);
 }

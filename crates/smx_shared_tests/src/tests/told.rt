@@ -1,4 +1,4 @@
-//! What a gate is told of a run: each command of each process, right before it and right after it.
+//! The reports that a gate gets of a run: on each command of each process, right before it and right after it.
 
 ghost use Rattle.std.specs.Prelude.{◌≤◌, length};
 ghost use Rattle.smx_run.specs.declared.run.TheConstants.{MAX_WORKERS};
@@ -11,7 +11,7 @@ use std::process::Abort;
 use std::sync::Wait;
 use std::thread::Threads;
 
-/// Six programs, one of them with no command. Those of processes 0 and 2 have a command that is refused.
+/// Six programs, one of them without a command. Those of processes 0 and 2 have a command that is refused.
 pub const SIX: &[u8] = b"programs 1
 driver ip mux 4 8 3 16
 process 0
@@ -36,7 +36,7 @@ exit
 end
 ";
 
-/// What a gate is told of them on one worker.
+/// The reports that a gate gets of them on one worker.
 pub const IN_TURN: [Told; 26] = [
     Before(0, 0),
     After(0, 0),
@@ -66,8 +66,8 @@ pub const IN_TURN: [Told; 26] = [
     After(5, 4),
 ];
 
-// What it is told by each of three workers: by the first of processes 0 and 3, by the second of 1 and 4, and by the
-// third of 2 and 5.
+// The reports of each of three workers: of the first about processes 0 and 3, of the second about 1 and 4, and of the
+// third about 2 and 5.
 const BY_EACH: [&[Told]; 3] = [
     &[
         Before(0, 0),
@@ -98,7 +98,7 @@ const BY_EACH: [&[Told]; 3] = [
     ],
 ];
 
-// The programs are run by as many workers, and each tells a log its part.
+// Runs the programs by one worker for each part. Checks that each worker reports its part to a log.
 fn tells<R: AllocGlobal + Abort + Threads + Wait + Sync>(rt: &R, parts: &[&[Told]])
     requires { (1 ≤ length parts.now) × (length parts.now ≤ MAX_WORKERS) }
 {

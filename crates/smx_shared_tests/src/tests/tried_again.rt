@@ -1,8 +1,9 @@
-//! Worked histories whole. They pass with any one growth refused too, and tests/refused_growths runs them so.
+//! Whole worked histories. They also pass if any one allocation fails, and tests/refused_growths runs them so.
 
 ghost use Rattle.std.specs.Prelude.{◌≡◌, All};
 
 use super::callers::{closes_with, last_two, opens, start};
+use super::hangups::END_OF_FILE;
 use super::made::{clone_of, front, ip, system_over, tells_of_want};
 use super::worked::is_judged;
 use smx_config::Verdict;
@@ -76,26 +77,7 @@ config
 next 1 3
 end
 ",
-    b"transcript 2
-driver ip mux 4 8 3 16
-driver eth leaf 2 8 3 16
-0 clone eth = fd 0 0
-0 inject eth 0 9 aa = took 1
-0 hangup eth 0 = done
-0 hangup eth 0 = done
-0 read 0 = got 1 9 aa
-0 read 0 = eof
-0 clone ip = fd 1 0
-0 plink 1 0 = id 1
-0 read 0 = EINVAL below
-config
-next 2 2
-fd 0 0 eth 0
-fd 0 1 ip 0
-link 1 ip 0 eth 0 plink
-hung eth 0
-end
-",
+    END_OF_FILE,
 ];
 
 #[test]
@@ -105,7 +87,8 @@ fn worked_histories(rt: HostRuntime) {
     }
 }
 
-// A system of at most ten entries over `ip`, shared by two processes. It is started again where memory was wanting.
+// Returns a system over `ip`, with a limit of ten entries, shared by two processes. It is started again if memory ran
+// out.
 fn shared_by_two(rt: &(impl AllocGlobal + Abort)) -> (Shared, Vec<Seat>)
     ensures { All (λ s. s.shared ≡ result.0.name) result.1.items }
 {
@@ -115,7 +98,7 @@ fn shared_by_two(rt: &(impl AllocGlobal + Abort)) -> (Shared, Vec<Seat>)
     }
 }
 
-// A call, which is made again where memory was wanting. The other seat has then seen no entry.
+// Calls, and calls again if memory ran out. Then the other seat has seen no entry.
 fn called(
     rt: &(impl AllocGlobal + Abort + Print + Wait),
     shared: &Shared,
@@ -137,7 +120,7 @@ fn called(
     }
 }
 
-// The same of a try, behind one entry.
+// The same for a try, after one entry.
 fn tried(
     rt: &(impl AllocGlobal + Abort + Print),
     shared: &Shared,
@@ -159,7 +142,7 @@ fn tried(
     }
 }
 
-// A call of the first seat, and then a try of the second: the first.
+// Calls with the first seat, and then tries with the second. Returns the first seat.
 fn both_call(
     rt: &(impl AllocGlobal + Abort + Print + Wait),
     shared: &Shared,
@@ -197,7 +180,7 @@ exit
 end
 ";
 
-// They are read again where memory was wanting.
+// Returns the two programs, read again if memory ran out.
 fn two_programs(rt: &(impl AllocGlobal + Abort)) -> Programs {
     match read_programs(rt.alloc(), TWO) {
         Ok(programs) => programs,
@@ -205,7 +188,7 @@ fn two_programs(rt: &(impl AllocGlobal + Abort)) -> Programs {
     }
 }
 
-// How many entries a run of the two programs on two workers has.
+// Returns the number of entries of a run of the two programs on two workers.
 fn entries_by_two<R: AllocGlobal + Abort + Threads + Wait + Sync>(
     rt: &R,
 ) -> Result<usize, RunFault> {
@@ -215,7 +198,7 @@ fn entries_by_two<R: AllocGlobal + Abort + Threads + Wait + Sync>(
     Ok(count)
 }
 
-// Where memory was wanting, or a worker could not be started, they are run again. No other fault is told.
+// If memory ran out, or a worker could not be started, the programs are run again. No other fault occurs.
 #[test]
 fn a_run_on_two_workers(rt: HostRuntime) {
     let mut entries = entries_by_two(&rt);

@@ -1,14 +1,69 @@
-//! Verdicts on short transcripts, and on the most entries.
+//! Verdicts on short transcripts, and on the largest number of entries.
 
-use super::made::{clone_of, ip, numbered};
 use super::worked::is_judged;
-use smx_config::{Config, ConfigFault, GrowingCheck, Verdict};
+use smx_config::Verdict;
 use smx_samples::Part::{Each, Once};
 use smx_samples::{Part, text_of};
-use smx_types::{Command, Fault, Reply};
-use std::process::Abort;
 
-// What is said of a transcript. The 100,000th entry of the last two is the one that may be wrong.
+const DRIVER: Part = Once("transcript 1\ndriver ip mux 4 8 3 16\n");
+
+const FIRST_TWO: Part = Once("0 clone ip = fd 0 0\n1 clone ip = fd 0 1\n");
+
+const LAST_TWO: Part = Once("0 close 1 = EBADF fd\n1 read 0 = EAGAIN empty\n");
+
+const END: Part = Once("config\nnext 1 1\nfd 0 0 ip 0\nfd 1 0 ip 1\nend\n");
+
+// Verdicts on four entries: all legal, with another view, and wrong at each place.
+const FOUR: [(&[Part], Verdict); 6] = [
+    (&[DRIVER, FIRST_TWO, LAST_TWO, END], Verdict::Legal),
+    (
+        &[
+            DRIVER,
+            FIRST_TWO,
+            LAST_TWO,
+            Once("config\nnext 1 1\nfd 0 0 ip 0\nfd 1 0 ip 2\nend\n"),
+        ],
+        Verdict::ConfigDiffers,
+    ),
+    (
+        &[
+            DRIVER,
+            Once("1 clone ip = fd 0 1\n0 clone ip = fd 0 0\n"),
+            LAST_TWO,
+            END,
+        ],
+        Verdict::Illegal { entry: 1 },
+    ),
+    (
+        &[
+            DRIVER,
+            Once("0 clone ip = fd 0 0\n1 clone ip = fd 0 2\n"),
+            LAST_TWO,
+            END,
+        ],
+        Verdict::Illegal { entry: 2 },
+    ),
+    (
+        &[
+            DRIVER,
+            FIRST_TWO,
+            Once("0 close 1 = done\n1 read 0 = EBADF fd\n"),
+            END,
+        ],
+        Verdict::Illegal { entry: 3 },
+    ),
+    (
+        &[
+            DRIVER,
+            FIRST_TWO,
+            Once("0 close 1 = EBADF fd\n1 read 0 = got 1 5 aa\n"),
+            END,
+        ],
+        Verdict::Illegal { entry: 4 },
+    ),
+];
+
+// Verdicts on transcripts. In the last two the 100,000th entry is the one that may be wrong.
 const JUDGED: [(&[Part], Verdict); 5] = [
     (
         &[Once("transcript 1\nconfig\nnext 1 1\nend\n")],
@@ -42,32 +97,8 @@ const JUDGED: [(&[Part], Verdict); 5] = [
 
 #[test]
 fn on_short_transcripts_and_on_the_most_entries(rt: HostRuntime) {
-    for (text, want) in &JUDGED {
+    for (text, want) in FOUR.iter().chain(&JUDGED) {
         let text = text_of(rt.alloc(), *text).expect(&rt, "there is memory");
         is_judged(&rt, text.as_bytes(), *want);
     }
-}
-
-// What is said of four entries, one by one, of which the third has a wrong reply.
-fn verdict_on_four(rt: &(impl AllocGlobal + Abort)) -> Result<Verdict, ConfigFault> {
-    let mut check = GrowingCheck::new(rt.alloc());
-    check.add_driver(ip(rt, 4))?;
-    let process = numbered(rt, 2);
-    let refused = Reply::Fault(Fault::BadDescriptor);
-    check.add_entry(process, &clone_of(rt, "ip"), &Reply::Fd { fd: 0, minor: 0 });
-    check.add_entry(process, &Command::Close { fd: 1 }, &refused);
-    check.add_entry(process, &Command::Read { fd: 0 }, &refused);
-    check.add_entry(process, &Command::Close { fd: 1 }, &refused);
-    assert!(rt; check.entry_count() == 4);
-    let shown = Config::new(rt.alloc(), &[])?.show()?;
-    check.finish(&shown)
-}
-
-#[test]
-fn on_entries_as_they_come(rt: HostRuntime) {
-    let verdict = match verdict_on_four(&rt) {
-        Ok(verdict) => verdict,
-        Err(_) => verdict_on_four(&rt).expect(&rt, "a verdict"),
-    };
-    assert!(rt; verdict == Verdict::Illegal { entry: 3 });
 }

@@ -1,7 +1,7 @@
-//! How a worked history is tried. It is typed in as a transcript: its entries are legal, its commands get their replies
-//! from `step`, twice from `step_twin`, each in the place of the one before from `step_in`, and from a system, and in
-//! the end just its view is shown, of a copy too, and of one that is given away. What wanted memory is asked again.
-//! What is large is given to `forget`, since a proof grows where such a value is dropped.
+//! How a worked history is tested. It is typed in as a transcript. Its entries are legal; its commands get their
+//! replies from `step`, twice from `step_twin`, and from a system; and in the end exactly its view is shown, also by
+//! a copy and by a configuration that is consumed. Calls that ran out of memory are repeated; after such a step the
+//! view is as before. Large values are given to `forget`, because a proof grows where such a value is dropped.
 
 use super::made::{read, system_over, tells_of_want};
 use super::systems::plays;
@@ -18,61 +18,71 @@ fn config_over(rt: &(impl AllocGlobal + Abort), drivers: &[DriverSpec]) -> Confi
     }
 }
 
-fn reply_to(rt: &(impl Abort + Print), config: &mut Config, entry: &Entry) -> Reply {
+// Just that is shown which another configuration shows after these entries.
+fn is_behind(rt: &(impl AllocGlobal + Abort), config: &Config, entries: &[Entry]) {
+    let mut other = config_over(rt, config.drivers());
+    for entry in entries {
+        let reply = other.step(entry.process, &entry.command);
+        forget(reply.expect(rt, "a reply"));
+    }
+    let (now, want) = (shown(rt, config), shown(rt, &other));
+    assert!(rt; now == want, "behind {} entries", entries.len());
+    forget((other, now, want));
+}
+
+// The reply to the command of an entry behind others.
+fn reply_to(
+    rt: &(impl AllocGlobal + Abort + Print),
+    config: &mut Config,
+    entry: &Entry,
+    others: &[Entry],
+) -> Reply {
     match config.step(entry.process, &entry.command) {
         Ok(reply) => reply,
         Err(_) => {
             tells_of_want(rt, "a step");
+            is_behind(rt, config, others);
             let again = config.step(entry.process, &entry.command);
             again.expect(rt, "a reply")
         }
     }
 }
 
-// The same of a step that is answered twice.
-fn replies_to(rt: &(impl Abort + Print), config: &mut Config, entry: &Entry) -> (Reply, Reply) {
+// The same for a step that returns two replies.
+fn replies_to(
+    rt: &(impl AllocGlobal + Abort + Print),
+    config: &mut Config,
+    entry: &Entry,
+    others: &[Entry],
+) -> (Reply, Reply) {
     match config.step_twin(entry.process, &entry.command) {
         Ok(replies) => replies,
         Err(_) => {
             tells_of_want(rt, "a step");
+            is_behind(rt, config, others);
             let again = config.step_twin(entry.process, &entry.command);
             again.expect(rt, "replies")
         }
     }
 }
 
-fn steps(rt: &(impl Abort + Print), config: &mut Config, entries: &[Entry]) {
+fn steps(rt: &(impl AllocGlobal + Abort + Print), config: &mut Config, entries: &[Entry]) {
     for number in 0..entries.len() {
         let entry = &entries[number];
-        let reply = reply_to(rt, config, entry);
+        let reply = reply_to(rt, config, entry, &entries[..number]);
         assert!(rt; reply == entry.reply, "behind {number} entries");
         forget(reply);
     }
 }
 
-fn steps_twice(rt: &(impl Abort + Print), config: &mut Config, entries: &[Entry]) {
+fn steps_twice(rt: &(impl AllocGlobal + Abort + Print), config: &mut Config, entries: &[Entry]) {
     for number in 0..entries.len() {
         let entry = &entries[number];
-        let (reply, twin) = replies_to(rt, config, entry);
+        let (reply, twin) = replies_to(rt, config, entry, &entries[..number]);
         assert!(rt; reply == entry.reply, "behind {number} entries");
         assert!(rt; twin == entry.reply, "behind {number} entries");
         forget((reply, twin));
     }
-}
-
-fn steps_in_place(rt: &(impl Abort + Print), config: &mut Config, entries: &[Entry]) {
-    let mut reply = Reply::Eof;
-    for number in 0..entries.len() {
-        let entry = &entries[number];
-        let outcome = config.step_in(entry.process, &entry.command, &mut reply);
-        if outcome.is_err() {
-            tells_of_want(rt, "a step");
-            let again = config.step_in(entry.process, &entry.command, &mut reply);
-            again.expect(rt, "a reply");
-        }
-        assert!(rt; reply == entry.reply, "behind {number} entries");
-    }
-    forget(reply);
 }
 
 fn shown(rt: &impl Abort, config: &Config) -> ConfigView {
@@ -82,7 +92,7 @@ fn shown(rt: &impl Abort, config: &Config) -> ConfigView {
     }
 }
 
-// It has these drivers and links, and just this is shown.
+// Checks the drivers and the links of a configuration, and that exactly this view is shown.
 fn is_so(rt: &impl Abort, config: &Config, want: &Transcript) {
     assert!(rt; config.drivers() == want.drivers.as_slice());
     assert!(rt; config.link_count() as usize == want.view.links.as_slice().len());
@@ -92,22 +102,22 @@ fn is_so(rt: &impl Abort, config: &Config, want: &Transcript) {
     forget(view);
 }
 
-fn copied(rt: &impl Abort, config: &Config) -> Config {
-    match config.copy() {
+fn copied(rt: &(impl AllocGlobal + Abort), config: &Config) -> Config {
+    match config.copy(rt.alloc()) {
         Ok(again) => again,
-        Err(_) => config.copy().expect(rt, "a copy"),
+        Err(_) => config.copy(rt.alloc()).expect(rt, "a copy"),
     }
 }
 
-// What is shown of a configuration that is given away. Where that wants memory, another copy is given away.
-fn shown_of_copies(rt: &impl Abort, config: &Config) -> ConfigView {
+// Returns the view of a configuration that is consumed. If memory runs out, another copy is consumed.
+fn shown_of_copies(rt: &(impl AllocGlobal + Abort), config: &Config) -> ConfigView {
     match copied(rt, config).into_view() {
         Ok(view) => view,
         Err(_) => copied(rt, config).into_view().expect(rt, "a view"),
     }
 }
 
-fn copy_is_so(rt: &impl Abort, config: &Config, want: &Transcript) {
+fn copy_is_so(rt: &(impl AllocGlobal + Abort), config: &Config, want: &Transcript) {
     let again = copied(rt, config);
     is_so(rt, &again, want);
     forget(again);
@@ -121,7 +131,6 @@ fn copy_is_so(rt: &impl Abort, config: &Config, want: &Transcript) {
 enum Way {
     OneByOne,
     Twice,
-    InPlace,
 }
 
 fn by_steps(rt: &(impl AllocGlobal + Abort + Print), want: &Transcript, way: Way) {
@@ -130,7 +139,6 @@ fn by_steps(rt: &(impl AllocGlobal + Abort + Print), want: &Transcript, way: Way
     match way {
         Way::OneByOne => steps(rt, &mut config, entries),
         Way::Twice => steps_twice(rt, &mut config, entries),
-        Way::InPlace => steps_in_place(rt, &mut config, entries),
     }
     is_so(rt, &config, want);
     copy_is_so(rt, &config, want);
@@ -156,20 +164,19 @@ fn verdict_on(rt: &(impl AllocGlobal + Abort + Print), want: &Transcript) -> Ver
     }
 }
 
-/// This is the verdict on the transcript of this text. One that is legal is a worked history.
+/// Checks that this is the verdict on the transcript of this text. If it is legal, checks it as a worked history.
 pub fn is_judged(rt: &(impl AllocGlobal + Abort + Print), text: &[u8], want: Verdict) {
     let all = read(rt, text);
     assert!(rt; verdict_on(rt, &all) == want, "of {} bytes", text.len());
     if want == Verdict::Legal {
         by_steps(rt, &all, Way::OneByOne);
         by_steps(rt, &all, Way::Twice);
-        by_steps(rt, &all, Way::InPlace);
         by_a_system(rt, &all);
     }
     forget(all);
 }
 
-/// The transcript of these parts is a worked history.
+/// Checks that the transcript of these parts is a worked history.
 pub fn is_worked(rt: &(impl AllocGlobal + Abort + Print), parts: &[Part]) {
     let text = text_of(rt.alloc(), parts).expect(rt, "there is memory");
     is_judged(rt, text.as_bytes(), Verdict::Legal);

@@ -1,13 +1,9 @@
-use Rattle.std.proofs.Common.{Err, subst}
 use Rattle.smx_filters.proofs.FilterLemmas.{passed_on}
 use Rattle.smx_filters.proofs.check.check_text.Goals as goal
 use Rattle.smx_filters.specs.CheckText.{checking}
-use Rattle.smx_filters.specs.Filters.{Answers}
 
 pub returns-in_err-verdict : goal.returns-in_err-verdict
 returns-in_err-verdict g c =
     let input = c.in_ok-input.ensures in
-    let fault = c.in_err-verdict.field-0.0 in
-    let said = subst (λ bytes. Answers checking bytes (Err fault)) c.as_slice.ensures.value c.in_err-verdict.ensures in
-    passed_on checking _ _ _ _ _ _ _ c.in_ok-input.input input.0 input.1 c.requires.sunk fault _
-    c.from_residual-in_err-verdict.ensures.1 said
+    passed_on checking _ _ _ _ _ _ _ c.in_ok-input.input input.0 input.1 c.requires.sunk
+    c.in_err-verdict.field-0.0 _ c.from_residual-in_err-verdict.ensures.1 c.in_err-verdict.ensures

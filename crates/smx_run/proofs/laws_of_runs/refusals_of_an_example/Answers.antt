@@ -6,6 +6,3 @@ returns-clause-not_no_memory c = one_name
 
 pub returns-clause-not_full : goal.returns-clause-not_full
 returns-clause-not_full c = one_name
-
-pub returns-clause-not_held : goal.returns-clause-not_held
-returns-clause-not_held c = one_name

@@ -1,10 +1,13 @@
-use Rattle.std.proofs.Common.{rules, ◌≡◌, ◌∷◌, [], All, length, refl, subst, sym, ap, arith, ◌∙◌}
+use Rattle.std.proofs.Common.{rules, ◌≡◌, ◌∷◌, ◌++◌, [], All, length, refl, subst, sym, ap, arith, ◌∙◌}
 use Rattle.std.proofs.lemmas.List.{append-nil, length-append}
 use Rattle.std.proofs.lemmas.List.Elements.{All-cons}
-use Rattle.smx_run.specs.Meeting.{IsBorneOutBy}
-use Rattle.smx_run.proofs.HandLemmas.{all_more, first_then_rest}
+use Rattle.smx_shared.specs.Seats.{Seated}
+use Rattle.smx_run.specs.Meeting.{IsBorneOutBy, IsKnownTo}
+use Rattle.smx_run.specs.declared.worker.EndedProgram.{EndedProgram}
+use Rattle.smx_run.proofs.AssignmentLemmas.{all_more, first_then_rest}
 use Rattle.smx_run.proofs.RunLemmas.{still_more, bears_out_first, bears_out_next, map_behind, next_taken}
 use Rattle.smx_run.proofs.RunLemmas.{all_taken_off}
+use Rattle.smx_run.proofs.MeetingLemmas.{known_now, known_still}
 use Rattle.smx_run.proofs.meeting.meet_all.Goals as goal
 
 pub loop-done-preserved : goal.loop-done-preserved
@@ -17,6 +20,11 @@ loop-done-preserved g c =
       others = λ s all.
           let next = bears_out_next s _ _ _ _ met.meets.met all in
           all_more (IsBorneOutBy s) _ _ _ (before.others s next.1) next.0 refl;
+      met = all_more (IsKnownTo c.meet.new.seat) _ _ _
+          (known_still c.loop-done.first c.meet.new.seat c.in-Some.done.seat.known c.in-Some.done.seat.met _
+          met.meets.met met.seen.process before.met)
+          (known_now c.meet.new.seat c.in-Some.done (c.in-Some.done.seat.met ++ c.loop-done.first.met) met.meets.met)
+          refl;
       left = omega (arith, before.left, c.in-Some.ensures.steps.1, ap length c.in-Some.ensures.steps.0);
       rest = next_taken _ _ _ _ _ before.rest c.in-Some.ensures.steps.0;
       room = omega (arith, before.room, c.push_reserved-in-loop-done.ensures.capacity);
@@ -32,7 +40,7 @@ loop-done-preserved g c =
         c.push_reserved-in-loop-done.ensures.len,
         length-append c.loop-done.yielded (c.in-Some.done ∷ []),
       );
-      fronts = map_behind (λ d. d.front) _ _ _ _ c.in-Some.done before.fronts
+      fronts = map_behind (λ (d : EndedProgram Seated). d.front) _ _ _ _ c.in-Some.done before.fronts
           c.push_reserved-in-loop-done.ensures.items;
     }
 
@@ -46,6 +54,17 @@ returns-clause-met g c s ends =
     subst (All (IsBorneOutBy s)) (sym whole)
     (All-cons (IsBorneOutBy s) _ _ (bears_out_first _ _ _ s end.known ends)
     (subst (All (IsBorneOutBy s)) rest (end.others s ends.others)))
+
+pub returns-clause-known : goal.returns-clause-known
+returns-clause-known g c =
+    let end = c.loop-done.invariant in
+    let removed = c.remove-first.ensures in
+    let seat = c.loop-done.first in
+    let whole : c.args.ended.items ≡ c.remove-first.result
+    ∷ c.remove-first.new.self.items = first_then_rest _ _ _ removed.value removed.items (search rules) in
+    let rest = all_taken_off _ _ _ end.rest (omega (arith, end.left, c.in-None.ensures.steps.0)) ∙ sym removed.items in
+    subst (All (IsKnownTo seat)) (sym whole)
+    (All-cons (IsKnownTo seat) _ _ (λ _. sym end.known.process) (subst (All (IsKnownTo seat)) rest end.met))
 
 pub push_reserved-requires-in-loop-done : goal.push_reserved-requires-in-loop-done
 push_reserved-requires-in-loop-done g c =
@@ -62,6 +81,7 @@ loop-done-init g c =
       shared = search rules;
       known = search rules;
       others = λ s met k d lt. absurd (omega arith);
+      met = λ k d lt. absurd (omega arith);
       left = search rules;
       rest = gives.0 ∙ c.remove-first.ensures.items;
       room = omega (arith, c.in_ok-fronts.ensures.capacity, c.len.ensures, c.push_reserved.ensures.capacity);

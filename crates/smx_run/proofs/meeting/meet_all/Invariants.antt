@@ -2,8 +2,9 @@ use Rattle.std.proofs.Common.{◌≡◌, ◌≤◌, ◌+◌, ◌++◌, All, drop
 use Rattle.std.specs.Prelude.{vec_capacity}
 use Rattle.std.specs.Vec.Iter.{into_iter_items, into_iter_len}
 use Rattle.smx_shared.specs.Recorded.{Recorded}
-use Rattle.smx_shared.specs.Seats.{AreMetBy}
-use Rattle.smx_run.specs.Meeting.{IsBorneOutBy}
+use Rattle.smx_shared.specs.Seats.{Seated, AreMetBy}
+use Rattle.smx_run.specs.Meeting.{IsBorneOutBy, IsKnownTo}
+use Rattle.smx_run.specs.declared.worker.EndedProgram.{EndedProgram}
 use Rattle.smx_run.proofs.RunLemmas.{StillKnows}
 use Rattle.smx_run.proofs.meeting.meet_all.Given as goal
 
@@ -12,10 +13,11 @@ invariant-loop-done g l = record {
   shared : l.first.shared ≡ l.shared.name;
   known : StillKnows l.initial.first.known l.first.known;
   others : (s : Recorded) → AreMetBy s l.first.met → All (IsBorneOutBy s) l.yielded;
+  met : All (IsKnownTo l.first) l.yielded;
   left : into_iter_len l.done-iterator ≡ length (into_iter_items l.done-iterator);
   rest : l.yielded ++ into_iter_items l.done-iterator ≡ drop 1 l.fn.ended.items;
   room : vec_len l.fn.ended ≤ vec_capacity l.fronts;
   still : length l.yielded + into_iter_len l.done-iterator + 1 ≡ vec_len l.fn.ended;
   counted : vec_len l.fronts ≡ length l.yielded + 1;
-  fronts : l.fronts.items ≡ l.initial.fronts.items ++ map (λ d. d.front) l.yielded;
+  fronts : l.fronts.items ≡ l.initial.fronts.items ++ map (λ (d : EndedProgram Seated). d.front) l.yielded;
 }

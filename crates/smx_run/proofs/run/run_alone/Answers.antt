@@ -17,7 +17,7 @@ use Rattle.smx_run.proofs.run.run_alone.Goals as goal
 pub loop-commands-preserved : goal.loop-commands-preserved
 loop-commands-preserved g c =
     let before = c.loop-commands.invariant in
-    let did = c.in_ok-append_all.ensures.performed in
+    let did = c.in_ok-perform_all.ensures.performed in
     let commands = c.in-Some.commands in
     let p : ℕ = c.unwrap.result in
     let number : p ≡ 0 + length c.loop-commands.yielded = search rules in
@@ -29,6 +29,7 @@ loop-commands-preserved g c =
     record {
       drivers = did.drivers ∙ before.drivers;
       limit = did.limit ∙ before.limit;
+      sound = c.perform_all.ensures.sound before.sound;
       all = next_taken _ _ _ _ commands before.all c.in-Some.ensures.steps.0;
       counted = omega (arith, before.counted, c.in-Some.ensures.steps.1, ap length c.in-Some.ensures.steps.0);
       within = omega (arith, before.within, ap length c.in-Some.ensures.steps.0);
@@ -52,30 +53,30 @@ returns-in_err-fronts-clause-stops g c =
     (asked, ap (λ (es : List Entry). map call_of es ++ asked) c.requires.empty) in
     rw (err_from_is_err_and c.from_residual.result c.from_residual.ensures.1).1 none
 
-pub returns-in_err-append_all-clause-stops : goal.returns-in_err-append_all-clause-stops
-returns-in_err-append_all-clause-stops g c =
+pub returns-in_err-perform_all-clause-stops : goal.returns-in_err-perform_all-clause-stops
+returns-in_err-perform_all-clause-stops g c =
     let before = c.loop-commands.invariant in
-    let did = c.in_err-append_all.ensures.stops in
+    let did = c.in_err-perform_all.ensures.stops in
     let number : c.unwrap.result ≡ 0 + length c.loop-commands.yielded = search rules in
     let left = left_of c.loop-commands.yielded did.done did.left did.next before.all c.in-Some.ensures.steps.0 did.all
     number before.calls did.came.calls in
-    let begins : BeginsCalls (map call_of c.append_all.new.system.history) 0 c.args.programs =
+    let begins : BeginsCalls (map call_of c.perform_all.new.system.history) 0 c.args.programs =
     ((c.unwrap.result, did.next) ∷ left.0, left.1) in
-    let back = c.from_residual-in_err-append_all in
+    let back = c.from_residual-in_err-perform_all in
     rw (err_from_is_err_and back.result back.ensures.1).1 begins
 
-pub returns-in_err-append_all-clause-refused : goal.returns-in_err-append_all-clause-refused
-returns-in_err-append_all-clause-refused g c =
+pub returns-in_err-perform_all-clause-refused : goal.returns-in_err-perform_all-clause-refused
+returns-in_err-perform_all-clause-refused g c =
     let before = c.loop-commands.invariant in
-    let did = c.in_err-append_all.ensures.stops in
+    let did = c.in_err-perform_all.ensures.stops in
     let number : c.unwrap.result ≡ 0 + length c.loop-commands.yielded = search rules in
     let left = left_of c.loop-commands.yielded did.done did.left did.next before.all c.in-Some.ensures.steps.0 did.all
     number before.calls did.came.calls in
-    let fewer = room_left c.append_all.new.system.history c.args.programs (c.unwrap.result, did.next) left.0 left.1 in
-    let room : c.append_all.new.system.limit ≡ c.args.system.now.limit = did.came.limit ∙ before.limit in
-    let other : c.in_err-append_all.field-0.0 ≢ apply.HistoryFull = λ is.
-    omega (arith, fewer, room, c.requires.room, c.in_err-append_all.ensures.full (ap Err is)) in
-    let fault = memory_left c.in_err-append_all.field-0.0 other in
+    let fewer = room_left c.perform_all.new.system.history c.args.programs (c.unwrap.result, did.next) left.0 left.1 in
+    let room : c.perform_all.new.system.limit ≡ c.args.system.now.limit = did.came.limit ∙ before.limit in
+    let other : c.in_err-perform_all.field-0.0 ≢ apply.HistoryFull = λ is.
+    omega (arith, fewer, room, c.requires.room, c.in_err-perform_all.ensures.full (ap Err is)) in
+    let fault = memory_left c.in_err-perform_all.field-0.0 other in
     search rules
 
 pub push_reserved-requires : goal.push_reserved-requires
@@ -100,6 +101,7 @@ pub loop-commands-init : goal.loop-commands-init
 loop-commands-init g c = record {
   drivers = refl;
   limit = refl;
+  sound = c.requires.sound;
   all = search rules;
   counted = search rules;
   within = search rules;

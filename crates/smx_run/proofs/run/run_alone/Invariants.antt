@@ -3,6 +3,7 @@ use Rattle.std.specs.Prelude.{vec_capacity}
 use Rattle.std.specs.Vec.Iter.{into_iter_items, into_iter_len}
 use Rattle.smx_model.specs.Histories.{call_of}
 use Rattle.smx_types.specs.declared.limits.TheConstants.{MAX_PROCESSES}
+use Rattle.smx_shared.specs.Recorded.{IsSoundSystem}
 use Rattle.smx_run.specs.Fronts.{AreFrontsFrom}
 use Rattle.smx_run.specs.ProgramOrder.{calls_from}
 use Rattle.smx_run.proofs.run.run_alone.Given as goal
@@ -11,6 +12,7 @@ abbrev pub invariant-loop-commands : goal.invariant-loop-commands
 invariant-loop-commands g l = record {
   drivers : l.system.drivers ≡ l.fn.system.drivers;
   limit : l.system.limit ≡ l.fn.system.limit;
+  sound : IsSoundSystem l.system;
   all : l.yielded ++ into_iter_items l.commands-iterator ≡ l.fn.programs;
   counted : into_iter_len l.commands-iterator ≡ length (into_iter_items l.commands-iterator);
   within : l.number + length (into_iter_items l.commands-iterator) ≤ MAX_PROCESSES;

@@ -2,4 +2,4 @@ use Rattle.std.proofs.Common.{vec_len}
 use Rattle.smx_run.proofs.threads.+run_from.Given as goal
 
 abbrev pub decreases-run_from : goal.decreases-run_from
-decreases-run_from g l = vec_len l.hands
+decreases-run_from g l = vec_len l.assignments

@@ -1,17 +1,13 @@
-use Rattle.smx_shared.specs.CommandSources.{IsReading}
-use Rattle.smx_shared.specs.Performed.{HasPerformed}
-use Rattle.smx_run.specs.Hands.{HasCalled}
+use Rattle.std.proofs.Common.{◌≡◌, ◌++◌, length}
+use Rattle.std.specs.Vec.Iter.{into_iter_items, into_iter_len}
+use Rattle.smx_run.specs.Assignments.{HasCalled}
 use Rattle.smx_run.proofs.worker.run_program.Given as goal
 
-abbrev pub invariant-turns : goal.invariant-turns
-invariant-turns g l =
-    let left = g.P.CommandSource.left in
-    record {
-      seat : g.D.Door.is_seat l.door l.seat;
-      reads : IsReading left g.P.CommandSource.size g.P.CommandSource.has_read l.reader;
-      called : HasPerformed left HasCalled (g.D.Door.known l.fn.seat) l.fn.program (g.D.Door.known l.seat)
-          l.reader.unread.value;
-    }
-
-abbrev pub decreases-turns : goal.decreases-turns
-decreases-turns g l = g.P.CommandSource.size l.reader.unread.value
+abbrev pub invariant-loop-command : goal.invariant-loop-command
+invariant-loop-command g l = record {
+  seat : g.D.Door.is_seat l.door l.seat;
+  called : HasCalled (g.D.Door.known l.fn.seat) l.yielded (g.D.Door.known l.seat);
+  numbered : l.number ≡ length l.yielded;
+  all : l.yielded ++ into_iter_items l.command-iterator ≡ l.fn.program;
+  left : into_iter_len l.command-iterator ≡ length (into_iter_items l.command-iterator);
+}

@@ -1,4 +1,4 @@
--- A handle may go to another thread as the box of its session may.
+-- A handle may go to another thread if the box of its session may.
 use base.Shift.{Keyless}
 use denote.Builtin.{RawPtr}
 use denote.Param.Send.{IsSend, owning_send, sendable}

@@ -1,4 +1,4 @@
--- `into_loose` tests the pointer: at null there is nothing, and else what the handle owns goes to the result.
+-- `into_loose` tests the pointer. If it is null, nothing is returned; else the result gets what the handle owns.
 use Rattle.std.proofs.Common.{◌≡◌, List, [], ◌∷◌, ◌++◌, refl, sym, ◌∙◌, subst, lit<}
 use mir.Val.{Val, vptr, vcons, vnil}
 use base.Logic.{SProp, ent, emp, id⊢}

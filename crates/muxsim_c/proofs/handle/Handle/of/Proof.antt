@@ -1,4 +1,4 @@
--- `of` puts the fields of a box together: what the one owns, the other does.
+-- `of` puts the fields of a box together: the handle owns what the box owned.
 use Rattle.std.proofs.Common.{◌≡◌, List, [], ◌∷◌, ◌++◌, refl, sym, subst}
 use mir.Val.{Val, vptr}
 use base.Logic.{SProp, ent, emp, id⊢}

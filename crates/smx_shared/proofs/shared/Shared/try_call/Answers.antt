@@ -17,15 +17,15 @@ returns-in-Err-clause-refused g c =
       found_held _ c.read.result read.1 held.2,
     )
 
-pub returns-in_err-serve-clause-seen : goal.returns-in_err-serve-clause-seen
-returns-in_err-serve-clause-seen g c =
-    let back = c.serve.ensures.rest in
+pub returns-in_err-apply-clause-seen : goal.returns-in_err-apply-clause-seen
+returns-in_err-apply-clause-seen g c =
+    let back = c.apply.ensures.rest in
     rw (← c.seat.view_is) (has_seen_more_by _ _ _ c.try_take.ensures.grown.0 back.1 back.2 c.seat.invariant.1)
 
 pub returns-clause-steps : goal.returns-clause-steps
-returns-clause-steps g c = rw (← c.seat.view_is) (omega (arith, c.serve.ensures.counted, c.try_take.ensures.counted))
+returns-clause-steps g c = rw (← c.seat.view_is) (omega (arith, c.apply.ensures.counted, c.try_take.ensures.counted))
 
 pub returns-clause-seen : goal.returns-clause-seen
 returns-clause-seen g c =
-    let back = c.serve.ensures.rest in
+    let back = c.apply.ensures.rest in
     rw (← c.seat.view_is) (has_seen_more_by _ _ _ c.try_take.ensures.grown.0 back.1 back.2 c.seat.invariant.1)

@@ -3,5 +3,5 @@ use Rattle.smx_shared.proofs.shared.SharedDoor.call.Goals as goal
 
 pub returns-clause-seen : goal.returns-clause-seen
 returns-clause-seen g c =
-    let back = c.serve.ensures.rest in
+    let back = c.apply.ensures.rest in
     rw (← c.seat.view_is) (has_seen_more_by _ _ _ c.take.ensures.grown.0 back.1 back.2 c.seat.invariant.1)

@@ -36,3 +36,10 @@ returns-clause-begun g c =
     rw c.into_system.ensures
     (goes_on_from _ v c.take-slot.result c.in-Some.system end.0 c.in-Some.is
     (end.6 c.if-word-ne0.false) end.7 end.8 end.9)
+
+pub returns-then-word-ne0-clause-alone : goal.returns-then-word-ne0-clause-alone
+returns-then-word-ne0-clause-alone g c all =
+    let v = c.args.token.me.0 in
+    let end = closes _ _ _ _ _ v _ _ c.word-word.result c.take-slot.result c.close_with-closed.ensures.values.2
+    c.requires.rest.0.2 c.word-word.ensures c.take-slot.ensures.value in
+    absurd (c.if-word-ne0.true (end.10 c.requires.rest.1 c.requires.rest.0.1 all))

@@ -15,6 +15,7 @@ loop-preserved g c =
     record {
       table = search rules;
       rest = search rules;
+      named = more.0.named ∙ before.named;
       grown = grown_trans _ _ _ before.grown more.0;
       own = more.1 ∙ before.own;
       tries = search rules;

@@ -5,7 +5,7 @@ use Rattle.smx_shared.proofs.turn_table.TurnTable.try_take.Goals as goal
 
 pub fetch_or-word-requires : goal.fetch_or-word-requires
 fetch_or-word-requires g c =
-    (c.requires.table, search rules, takes_turn _ _ _ _ _ _ _ c.requires.rest.2 c.requires.rest.1)
+    (c.requires.table, search rules, takes_turn _ _ _ _ _ _ _ (c.requires.rest.2, c.requires.named) c.requires.rest.1)
 
 pub returns-then-word-eq0 : goal.returns-then-word-eq0
 returns-then-word-eq0 g c =

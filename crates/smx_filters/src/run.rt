@@ -1,0 +1,120 @@
+//! A run from bytes to bytes.
+
+ghost use Rattle.std.specs.Prelude.{◌≡◌, ◌≤◌, false, IfOk, IfErr, None};
+ghost use Rattle.smx_text.specs.declared.text_fault.TextFault.{TextFault};
+ghost use Rattle.smx_filters.specs.ExplainText.{IsKept, answer_of};
+ghost use Rattle.smx_filters.specs.Filters.{Answers};
+ghost use Rattle.smx_filters.specs.RunText.{IsFrontsTextFor, IsRefusedFor, IsWrittenFor, RunsText};
+ghost use Rattle.smx_filters.specs.RunText.{items_of, running};
+ghost use Rattle.smx_filters.specs.declared.main_fault.MainFault.TheVariants.{Refused, Text};
+ghost use Rattle.smx_run.specs.declared.run_fault.RunFault.{RunFault as AnyFault};
+ghost use Rattle.smx_run.specs.declared.run.TheConstants.{MAX_WORKERS};
+
+use crate::device::{Feed, Sink};
+use crate::entry_lines::EntryLines;
+use crate::fronts_text::fronts_text;
+use crate::input::read_all;
+use crate::main_fault::MainFault;
+use crate::output::write_all;
+use crate::refusal::{Refusal, kept_for};
+use smx_run::{Gate, RunFault, run_system};
+use smx_shared::EntryCount;
+use smx_text::{finish_transcript, read_programs};
+use smx_types::{Copied, DriverSpec, Programs};
+use std::alloc::Global;
+use std::sync::Wait;
+use std::thread::Threads;
+
+/// Reads programs from `feed`, runs them on `workers` workers, 1 to 64, and writes the transcript of the run to
+/// `sink`, in the version of the programs; with `fronts` it writes instead how far the history was when each program
+/// had ended. One worker runs one program after the other, by rising number, so its transcript is determined. Of
+/// several workers, worker `p` modulo `workers` runs process `p`. The gate hears of each command. No command is
+/// performed before the whole text was read and found valid. Requires that neither device has failed before and that
+/// the feed has not ended. Checks for faults in this order: reading, text, drivers, run, writing.
+pub fn run_text<R: Threads + Wait + Sync, F: Feed, S: Sink, G: Gate + Sync>(
+    rt: &R,
+    alloc: Global,
+    feed: &mut F,
+    sink: &mut S,
+    workers: usize,
+    fronts: bool,
+    gate: &G,
+) -> Result<(), MainFault>
+    requires before_the_end { F.ended feed.old ≡ false }
+    requires fed { F.failures feed.old ≡ 0 }
+    requires sunk { S.failures sink.old ≡ 0 }
+    requires workers { (1 ≤ workers) × (workers ≤ MAX_WORKERS) }
+    ensures { RunsText fronts workers (F.remaining feed.old) (F.remaining feed.new) (F.ended feed.new)
+        (F.failures feed.new) (S.contents sink.old) (S.contents sink.new) (S.flushed sink.new)
+        (S.failures sink.new) result }
+{
+    let input = read_all(alloc, feed)?;
+    match text_of_run(rt, alloc, input, workers, fronts, gate) {
+        Ok(output) => write_all(sink, output.as_slice()),
+        Err(refusal) => Err(refusal.fault),
+    }
+}
+
+// Runs the programs that the input spells. Returns the requested text, or the fault, with the input if that is
+// malformed.
+pub(crate) fn text_of_run<R: Threads + Wait + Sync, G: Gate + Sync>(
+    rt: &R,
+    alloc: Global,
+    input: Vec<u8>,
+    workers: usize,
+    fronts: bool,
+    gate: &G,
+) -> Result<Vec<u8>, Refusal>
+    requires { (1 ≤ workers) × (workers ≤ MAX_WORKERS) }
+    ensures answers { Answers (running fronts workers) input.items (items_of (answer_of result)) }
+    ensures kept { IfErr result (λ r. (fault : TextFault) → r.fault ≡ Text fault → IsKept r.text input.items) }
+    ensures given_up { IfErr result (λ r. (f : AnyFault) → r.fault ≡ Refused f → r.text ≡ None) }
+{
+    let programs = match read_programs(alloc, input.as_slice()) {
+        Ok(programs) => programs,
+        Err(fault) => return Err(kept_for(MainFault::Text(fault), input)),
+    };
+    if fronts {
+        drop(input);
+        return Ok(fronts_of_run(rt, alloc, programs, workers, gate)?);
+    }
+    Ok(transcript_of_run(rt, alloc, input, programs, workers, gate)?)
+}
+
+// Runs the programs. Returns the transcript, in their version and in the memory of `room`, whose bytes are discarded.
+// The line of each entry is written when the entry is made, and no entry is kept.
+fn transcript_of_run<R: Threads + Wait + Sync, G: Gate + Sync>(
+    rt: &R,
+    alloc: Global,
+    room: Vec<u8>,
+    programs: Programs,
+    workers: usize,
+    gate: &G,
+) -> Result<Vec<u8>, RunFault>
+    requires { (1 ≤ workers) × (workers ≤ MAX_WORKERS) }
+    ensures written { IfOk result (λ text. IsWrittenFor false workers programs text.items) }
+    ensures refused { IfErr result (IsRefusedFor workers programs) }
+{
+    let version = programs.version();
+    let (system, _fronts) = run_system(rt, alloc, programs, EntryLines::new(room), workers, gate)?;
+    let (lines, config) = system.into_parts();
+    let drivers = DriverSpec::copies(alloc, config.drivers())?;
+    let view = config.into_view()?;
+    Ok(finish_transcript(lines.into_lines()?, version, &drivers, &view)?)
+}
+
+// Runs the programs. Returns the text of the fronts. No entry is kept.
+fn fronts_of_run<R: Threads + Wait + Sync, G: Gate + Sync>(
+    rt: &R,
+    alloc: Global,
+    programs: Programs,
+    workers: usize,
+    gate: &G,
+) -> Result<Vec<u8>, RunFault>
+    requires { (1 ≤ workers) × (workers ≤ MAX_WORKERS) }
+    ensures written { IfOk result (λ text. IsFrontsTextFor workers programs text.items) }
+    ensures refused { IfErr result (IsRefusedFor workers programs) }
+{
+    let (_system, fronts) = run_system(rt, alloc, programs, EntryCount::new(), workers, gate)?;
+    Ok(fronts_text(alloc, fronts.as_slice())?)
+}

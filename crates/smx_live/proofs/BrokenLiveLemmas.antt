@@ -1,0 +1,104 @@
+-- The output of a worked session if memory runs out.
+use Rattle.std.proofs.Common.{◌≡◌, ◌≢◌, ℕ, true, false, List, [], ◌∷◌, ◌++◌, map, refl, sym, ap, ap₂, subst, ◌∙◌}
+use Rattle.std.proofs.Common.{inl, inr, arith, rules}
+use Rattle.std.proofs.lemmas.List.{append-nil}
+use Rattle.std.specs.Prelude.{codes}
+use Rattle.smx_types.specs.ProgramLists.{ProgramLists}
+use Rattle.smx_types.specs.declared.driver.DriverSpec.{DriverSpec}
+use Rattle.smx_types.specs.declared.version.Version.{Version}
+use Rattle.smx_types.specs.declared.version.Version.TheVariants.{V2}
+use Rattle.smx_words.specs.Words.{LINE_FEED}
+use Rattle.smx_text.specs.Grammar.{Spells, beginning}
+use Rattle.smx_text.specs.ProgramsText.{programs_grammar}
+use Rattle.smx_text.specs.TranscriptLines as line
+use Rattle.smx_text.specs.TranscriptText.{transcript_grammar}
+use Rattle.smx_session.specs.Sessions.{IsStartOf}
+use Rattle.smx_session.specs.WorkedSessions.{begun, drivers, opened, table}
+use Rattle.smx_live.specs.LiveText.{HasComeSoFar, IsBroken, IsLive}
+use Rattle.smx_live.specs.Tables.{IsTable, table_text}
+use Rattle.smx_live.specs.Turns.{Turn, asked_text, said_text}
+use Rattle.smx_live.specs.WorkedLives.{worked_answers, worked_input, worked_table}
+use Rattle.smx_live.proofs.OneOutputLemmas.{HasOneReading, asked_cons, table_once, value_once}
+use Rattle.smx_live.proofs.WorkedLiveLemmas.{answered, begins, opening_is, table_over}
+
+-- the opening of the worked session
+abbrev opening : List ℕ
+opening = codes "transcript 2\ndriver eth leaf 2 8 3 16\n"
+
+-- ---- possible output
+
+-- the worked session after its opening, before it takes a line
+begun_alone : IsStartOf table begun
+    → IsLive worked_input false opening begun 0 (codes "3 clone eth\n\nx\nend\n3 exit\n")
+begun_alone start = record {
+  table = worked_table;
+  turns = [];
+  read_is = refl;
+  over = table_over;
+  fits = search arith;
+  programs = start.programs;
+  spelled = start.spelled;
+  drivers = start.drivers;
+  can_be_had = start.can_be_had;
+  answered = tt;
+  few = search arith;
+  opening = opening;
+  begins = begins;
+  written = refl;
+  now = refl;
+  counted = refl;
+}
+
+-- so its opening is possible output
+pub opening_out : IsStartOf table begun → IsBroken worked_input false opening
+opening_out start = inr (begun, 0, codes "3 clone eth\n\nx\nend\n3 exit\n", begun_alone start)
+
+-- and its opening with its answers
+pub answers_out : IsStartOf table begun → IsBroken worked_input false worked_answers
+answers_out start = inr (opened, 1, codes "end\n3 exit\n", answered start)
+
+-- ---- impossible output
+
+-- the worked table has ended if the input ends after it
+over_at_end : IsTable true worked_table []
+over_at_end = record {
+  lines = codes "programs 2" ∷ codes "driver eth leaf 2 8 3 16" ∷ [];
+  cut = [];
+  text = refl;
+  of_table = record { each = search (rules, arith); drivers = (refl, tt); last = inl refl };
+  over = inr (refl, inr (refl, (tt, search arith), inr refl));
+}
+
+-- bytes with a line feed are not empty
+some : (xs after : List ℕ) → xs ++ LINE_FEED ∷ after ≡ [] → ⊥
+some [] after e = absurd (cc e)
+some (x ∷ xs) after e = absurd (cc e)
+
+-- no turn was taken if no line was asked
+no_turns : (ts : List Turn) (held : List ℕ) → asked_text ts ++ held ≡ [] → ts ≡ []
+no_turns [] held e = refl
+no_turns (t ∷ ts) held e = absurd (some t.line (asked_text ts ++ held) (sym (asked_cons t ts held) ∙ e))
+
+-- a session whose input ends after the worked table has written only the opening
+opening_alone : HasOneReading → IsStartOf table begun → (output : List ℕ) → HasComeSoFar worked_table true output
+    → output ≡ opening
+opening_alone reading start output (s, count, held, l) =
+    let read : worked_table ++ [] ≡ l.table ++ (asked_text l.turns ++ held) = append-nil worked_table ∙ l.read_is in
+    let same = table_once true worked_table l.table [] (asked_text l.turns ++ held) over_at_end l.over read in
+    let none : l.turns ≡ [] = no_turns l.turns held (sym same.1) in
+    let spelled : Spells (programs_grammar s.version) table l.programs =
+    subst (λ (t : List ℕ). Spells (programs_grammar s.version) (table_text t) l.programs) (sym same.0) l.spelled in
+    let value : l.programs ≡ start.programs = value_once reading table s.version V2 l.programs start.programs
+    spelled start.spelled in
+    let version : s.version ≡ V2 = sym l.spelled.allowed.version_is
+    ∙ ap (λ (p : ProgramLists). p.version) value ∙ start.spelled.allowed.version_is in
+    let own : s.drivers ≡ drivers = l.drivers ∙ ap (λ (p : ProgramLists). p.drivers) value ∙ sym start.drivers in
+    l.written ∙ ap (λ (ts : List Turn). l.opening ++ said_text ts) none ∙ append-nil l.opening ∙ l.begins.written
+    ∙ ap₂ (λ (v : Version) (ds : List DriverSpec). beginning (transcript_grammar v)
+    (map line.Driver ds ++ map line.Entry [])) version own ∙ sym opening_is
+
+-- so an output that is neither empty nor the opening is impossible
+pub not_out : HasOneReading → IsStartOf table begun → (output : List ℕ) → output ≢ [] → output ≢ opening
+    → IsBroken worked_table true output → ⊥
+not_out reading start output some other (inl none) = some none
+not_out reading start output some other (inr far) = other (opening_alone reading start output far)

@@ -1,5 +1,0 @@
-use Rattle.smx_types.specs.GrowingPrograms.{with_command}
-use Rattle.smx_run.proofs.growing_run.GrowingRun.ask.Given as goal
-
-abbrev pub ghost-new : goal.ghost-new
-ghost-new g a = with_command a._by.now.0.now.value a._by.now.1.now

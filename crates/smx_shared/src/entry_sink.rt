@@ -1,0 +1,58 @@
+//! Receives the entries of a history.
+
+use smx_types::{Command, Entry, NoMemory, Process, Reply};
+
+/// Receives the entries of a history, in order, and keeps of them what it needs.
+pub trait EntrySink: Drop {
+    ghost use Rattle.std.specs.Prelude.{◌≡◌, ◌<◌, ◌++◌, ◌∷◌, [], List, length, OnOk};
+    ghost use Rattle.smx_types.specs.declared.command.Entry.{Entry as Made};
+    ghost use Rattle.smx_types.specs.declared.limits.TheConstants.{MAX_COMMANDS};
+
+    // All entries that it was given.
+    ghost entries: { Self → List Made };
+
+    // It has room for one more.
+    ghost has_room: { Self → Type 0 };
+
+    /// Returns how many entries it was given. Takes no memory.
+    fn count(&self) -> usize
+        ensures { result ≡ length (entries self.now) };
+
+    /// Makes room for one more entry. Fails if an allocation fails. Either way it was given the same entries as before.
+    fn make_room(&mut self) -> Result<(), NoMemory>
+        ensures same { entries self.new ≡ entries self.old }
+        ensures room { OnOk result (has_room self.new) };
+
+    /// Adds the next entry, for which there is room. It can't fail.
+    fn add(&mut self, process: Process, command: Command, reply: Reply)
+        requires room { has_room self.old }
+        requires few { length (entries self.old) < MAX_COMMANDS }
+        ensures { entries self.new ≡ entries self.old
+            ++ record { process = process; command = command; reply = reply } ∷ [] };
+}
+
+/// Keeps all of them.
+impl EntrySink for Vec<Entry> {
+    ghost use Rattle.std.specs.Prelude.{◌<◌, length, vec_capacity};
+
+    ghost entries = { λ v. v.items };
+
+    ghost has_room = { λ v. length v.items < vec_capacity v };
+
+    fn count(&self) -> usize {
+        self.len()
+    }
+
+    fn make_room(&mut self) -> Result<(), NoMemory> {
+        self.reserve(1)?;
+        Ok(())
+    }
+
+    fn add(&mut self, process: Process, command: Command, reply: Reply) {
+        self.push_reserved(Entry {
+            process,
+            command,
+            reply,
+        });
+    }
+}
