@@ -1,4 +1,4 @@
--- What a status tells of what was answered.
+-- The meaning of each exit status.
 use Rattle.std.proofs.Common.{◌≡◌, ◌≢◌, ◌⊎◌, ◌↔◌, ℕ, Bool, true, List, [], ◌++◌, Option, Some, None, Result, Ok}
 use Rattle.std.proofs.Common.{◌+◌, Err, refl, sym, ap, subst, ◌∙◌, arith, inl, inr}
 use Rattle.std.specs.Prelude.{IfSome}
@@ -21,8 +21,8 @@ use Rattle.smx_filters.specs.declared.main_fault.MainFault.TheVariants.{Refused,
 use Rattle.smx_live.specs.LiveText.{AreFine, IsOutcome, IsOver, LivesText}
 use Rattle.muxsim.specs.Ends.{Devices, EndsCheck, EndsDraw, EndsJob, EndsLive, EndsReplay, EndsRun, Writes}
 use Rattle.muxsim.specs.Ends.{outcome_of_check, outcome_of_writing}
-use Rattle.muxsim.specs.declared.jobs.Job.{Job}
-use Rattle.muxsim.specs.declared.jobs.Job.TheVariants.{Run, Check, Replay, Draw, Live}
+use Rattle.smx_command_line.specs.declared.jobs.Job.{Job}
+use Rattle.smx_command_line.specs.declared.jobs.Job.TheVariants.{Run, Check, Replay, Draw, Live}
 
 -- ---- numbers
 
@@ -35,13 +35,13 @@ cause_is cause.Cut = inr refl
 cause_is cause.Trailing = inr refl
 cause_is cause.NoMemory = inl refl
 
--- a verdict has the status 0 where it is that of a legal history, and else 4
+-- the verdict of a legal history has the status 0, and any other the status 4
 verdict_is : (v : Verdict) → ((v ≡ Legal) × (status_of_verdict v ≡ 0)) ⊎ ((v ≢ Legal) × (status_of_verdict v ≡ 4))
 verdict_is Legal = inl (refl, refl)
 verdict_is (Illegal entry) = inr (λ is. cc, refl)
 verdict_is ConfigDiffers = inr (λ is. cc, refl)
 
--- a fault has the status 1, 3 or 5, and the last where a device failed
+-- a fault has the status 5 if a device failed, and else 1 or 3
 fault_is : (e : MainFault) → ((e ≢ ReadFailed) × (e ≢ WriteFailed) × ((status_of e ≡ 1) ⊎ (status_of e ≡ 3)))
     ⊎ (((e ≡ ReadFailed) ⊎ (e ≡ WriteFailed)) × (status_of e ≡ 5))
 fault_is (Refused f) = inl (λ is. cc, λ is. cc, inl refl)
@@ -58,19 +58,19 @@ odd e = elim (fault_is e) [
   | inr (failed, five) ↦ (2, five)
 ]
 
--- a fault has no status that is even
+-- a fault has no even status
 not_even : (e : MainFault) (n k : ℕ) → n ≡ status_of e → n ≡ k + k → ⊥
 not_even e n k is even = let (j, other) = odd e in omega (arith, is, even, other)
 
 -- ---- what a filter says
 
 module _ {V K T : Type 0} (f : Filter V K T) (d : Devices) where
-  -- what a filter has read and written where it answers this
+  -- what a filter has read and written if it returns this result
   abbrev Filtered : Result T MainFault → Type 0
   Filtered answer =
       FiltersText f d.had d.left d.ended d.read_failures d.before d.after d.flushed d.write_failures answer
 
-  -- a filter that gives an answer has written what is given for it
+  -- a filter that succeeds has written what it gives for the input
   gave : (a : T) → Filtered (Ok a) → (input output : List ℕ) → Writes d input output
       → (d.flushed ≡ true) × GivesFor f input a output
   gave a h input output w =
@@ -81,12 +81,12 @@ module _ {V K T : Type 0} (f : Filter V K T) (d : Devices) where
       let out : output ≡ bytes = wrote in
       (flushed, rw (read, out) gives)
 
-  -- no device failed where there is an answer
+  -- if a filter succeeds, no device has failed
   fine : (a : T) → Filtered (Ok a) → (d.read_failures ≡ 1) ⊎ (d.write_failures ≡ 1) → ⊥
   fine a h (inl read) = let told : Ok a ≡ Err ReadFailed = h.read_failed.1 read in absurd cc
   fine a h (inr write) = let told : Ok a ≡ Err WriteFailed = h.write_failed.1 write in absurd cc
 
-  -- a fault has the status 5 just where a device failed
+  -- a fault has the status 5 exactly if a device failed
   broken : (e : MainFault) → Filtered (Err e) → (n : ℕ) → n ≡ status_of e
       → (n ≡ 5) ↔ ((d.read_failures ≡ 1) ⊎ (d.write_failures ≡ 1))
   broken e h n is = (there, back) where
@@ -104,7 +104,7 @@ module _ {V K T : Type 0} (f : Filter V K T) (d : Devices) where
     back (inr write) = let told : Err e ≡ Err WriteFailed = h.write_failed.1 write in
         let which : e ≡ WriteFailed = cc in is ∙ ap status_of which
 
-  -- where a fault has the status 1 or 3, nothing was written
+  -- if a fault has the status 1 or 3, nothing was written
   nothing : (e : MainFault) → Filtered (Err e) → (n : ℕ) → n ≡ status_of e → (n ≡ 1) ⊎ (n ≡ 3) → Keeps d.before d.after
   nothing e h n is low = h.unwritten (not_write low) where
     not_write : (n ≡ 1) ⊎ (n ≡ 3) → e ≢ WriteFailed
@@ -114,7 +114,7 @@ module _ {V K T : Type 0} (f : Filter V K T) (d : Devices) where
 -- ---- what was done
 
 module _ (d : Devices) (code : ExitCode) (input output : List ℕ) (w : Writes d input output) where
-  -- a run, a replay or a drawing with the status 0 wrote what it was asked for
+  -- a run, a replay or a drawing with the status 0 wrote what was asked for
   done_for : {V K : Type 0} (f : Filter V K (Unit {0})) (answer : Result (Unit {0}) MainFault) → Filtered f d answer
       → exit_status code ≡ status_of_outcome (outcome_of_writing answer) → exit_status code ≡ 0
       → (d.flushed ≡ true) × GivesFor f input tt output
@@ -132,7 +132,7 @@ module _ (d : Devices) (code : ExitCode) (input output : List ℕ) (w : Writes d
   ]
   judged explain (Err e) h is zero = absurd (not_even e _ 0 is zero)
 
-  -- a check with the status 4 judged the transcript otherwise than legal
+  -- a check with the status 4 judged the transcript other than legal
   otherwise : (explain : Bool) (answer : Result Verdict MainFault) → Filtered (judging explain) d answer
       → exit_status code ≡ status_of_outcome (outcome_of_check answer) → exit_status code ≡ 4
       → (d.flushed ≡ true) × (v : Verdict) × (v ≢ Legal) × GivesFor (judging explain) input v output
@@ -149,7 +149,7 @@ beginning : (left : Option (List ℕ)) (input read : List ℕ) → Consumes (Som
 beginning None input read consumed = absurd consumed
 beginning (Some rest) input read consumed = (rest, consumed)
 
--- a live session that is done is over
+-- a live session that succeeds has ended
 lived : (d : Devices) (input output : List ℕ) → Writes d input output
     → LivesText d.had d.left d.ended d.read_failures d.before d.after d.flushed d.write_failures (Ok tt)
     → (d.flushed ≡ true) × (read rest : List ℕ) × (input ≡ read ++ rest) × IsOver read d.ended output
@@ -163,7 +163,7 @@ lived d input output w h =
     let front : (rest : List ℕ) × (input ≡ h.read ++ rest) = beginning d.left input h.read consumed in
     (flushed, h.read, front.0, front.1, subst (λ (o : List ℕ). IsOver h.read d.ended o) (sym out) over)
 
--- a run with the status 0 wrote what it was asked for
+-- a run with the status 0 wrote what was asked for
 pub run_done : (fronts : Bool) (workers : ℕ) (d : Devices) (code : ExitCode) (input output : List ℕ)
     → EndsRun fronts workers d code
     → Writes d input output → exit_status code ≡ 0
@@ -171,19 +171,19 @@ pub run_done : (fronts : Bool) (workers : ℕ) (d : Devices) (code : ExitCode) (
 run_done fronts workers d code input output h w =
     done_for d code input output w (running fronts workers) h.answer h.ran h.status
 
--- a replay with the status 0 wrote what it was asked for
+-- a replay with the status 0 wrote what was asked for
 pub replay_done : (d : Devices) (code : ExitCode) (input output : List ℕ) → EndsReplay d code
     → Writes d input output → exit_status code ≡ 0 → (d.flushed ≡ true) × GivesFor replaying input tt output
 replay_done d code input output h w = done_for d code input output w replaying h.answer h.replayed h.status
 
--- a drawing with the status 0 wrote what it was asked for
+-- a drawing with the status 0 wrote what was asked for
 pub draw_done : (form : Form) (d : Devices) (code : ExitCode) (input output : List ℕ) → EndsDraw form d code
     → Writes d input output → exit_status code ≡ 0
     → (d.flushed ≡ true) × GivesFor (drawing form) input tt output
 draw_done form d code input output h w =
     done_for d code input output w (drawing form) h.answer h.drawn h.status
 
--- a live session with the status 0 is over, and wrote its answers
+-- a live session with the status 0 has ended, and wrote its answers
 pub live_done : (d : Devices) (code : ExitCode) (input output : List ℕ) → EndsLive d code
     → Writes d input output → exit_status code ≡ 0
     → (d.flushed ≡ true) × (read rest : List ℕ) × (input ≡ read ++ rest) × IsOver read d.ended output
@@ -201,7 +201,7 @@ pub judged_legal : (explain : Bool) (d : Devices) (code : ExitCode) (input outpu
     → (d.flushed ≡ true) × GivesFor (judging explain) input Legal output
 judged_legal explain d code input output h w = judged d code input output w explain h.answer h.judged h.status
 
--- a check with the status 4 judged the transcript otherwise than legal
+-- a check with the status 4 judged the transcript other than legal
 pub judged_otherwise : (explain : Bool) (d : Devices) (code : ExitCode) (input output : List ℕ)
     → EndsCheck explain d code → Writes d input output → exit_status code ≡ 4
     → (d.flushed ≡ true) × (v : Verdict) × (v ≢ Legal) × GivesFor (judging explain) input v output
@@ -209,13 +209,13 @@ judged_otherwise explain d code input output h w = otherwise d code input output
 
 -- ---- what failed
 
--- what a status tells of any answer, where 1 and 3 tell this
+-- what a status says of any result, if 1 and 3 say `Low`
 record Tells (Low : Type 0) (d : Devices) (n : ℕ) : Type 0 where
   failed : (n ≡ 5) ↔ ((d.read_failures ≡ 1) ⊎ (d.write_failures ≡ 1))
   unwritten : (n ≡ 1) ⊎ (n ≡ 3) → Low
   no_words : n ≡ 2 → ⊥
 
--- what a status that is a multiple of 4 tells of a filter that gave an answer
+-- what a status that is a multiple of 4 says of a filter that succeeded
 of_answer : {V K T : Type 0} (f : Filter V K T) (d : Devices) (a : T) → Filtered f d (Ok a) → (n k : ℕ)
     → n ≡ k + k + k + k → Tells (Keeps d.before d.after) d n
 of_answer f d a h n k fours = record {
@@ -227,7 +227,7 @@ of_answer f d a h n k fours = record {
   no_words = λ is. absurd (omega (arith, fours, is));
 }
 
--- what a status tells of a filter that ended with a fault
+-- what a status says of a filter that ended with a fault
 of_fault : {V K T : Type 0} (f : Filter V K T) (d : Devices) (e : MainFault) → Filtered f d (Err e) → (n : ℕ)
     → n ≡ status_of e → Tells (Keeps d.before d.after) d n
 of_fault f d e h n is = record {
@@ -236,14 +236,14 @@ of_fault f d e h n is = record {
   no_words = not_even e n 1 is;
 }
 
--- what a status tells of a filter that writes
+-- what a status says of a filter that writes
 of_writing : {V K : Type 0} (f : Filter V K (Unit {0})) (d : Devices) (n : ℕ) (answer : Result (Unit {0}) MainFault)
     → Filtered f d answer
     → n ≡ status_of_outcome (outcome_of_writing answer) → Tells (Keeps d.before d.after) d n
 of_writing f d n (Ok done) h is = of_answer f d done h n 0 is
 of_writing f d n (Err e) h is = of_fault f d e h n is
 
--- what a status tells of a filter that judges
+-- what a status says of a filter that judges
 of_judging : {V K : Type 0} (f : Filter V K Verdict) (d : Devices) (n : ℕ) (answer : Result Verdict MainFault)
     → Filtered f d answer
     → n ≡ status_of_outcome (outcome_of_check answer) → Tells (Keeps d.before d.after) d n
@@ -253,12 +253,12 @@ of_judging f d n (Ok v) h is = elim (verdict_is v) [
 ]
 of_judging f d n (Err e) h is = of_fault f d e h n is
 
--- where all devices are fine, none has failed
+-- if no device has failed, neither has
 none_failed : (a b : ℕ) → AreFine a b → (a ≡ 1) ⊎ (b ≡ 1) → ⊥
 none_failed a b fine (inl one) = omega (arith, fine.0, one)
 none_failed a b fine (inr one) = omega (arith, fine.1, one)
 
--- a fault of a live session has the status 5 just where a device failed
+-- a fault of a live session has the status 5 exactly if a device failed
 live_broken : (d : Devices) (read output : List ℕ) (e : MainFault)
     → IsOutcome read output d.ended d.flushed d.read_failures d.write_failures (Err e) → (n : ℕ) → n ≡ status_of e
     → (n ≡ 5) ↔ ((d.read_failures ≡ 1) ⊎ (d.write_failures ≡ 1))
@@ -275,7 +275,7 @@ live_broken d read output (Text f) h n is =
       low (inl one) five = absurd (omega (arith, is, one, five))
       low (inr three) five = absurd (omega (arith, is, three, five))
 
--- what a status tells of a live session, which may have written something before a fault
+-- what a status says of a live session, which may have written something before a fault
 of_living : (d : Devices) (n : ℕ) (answer : Result (Unit {0}) MainFault)
     → LivesText d.had d.left d.ended d.read_failures d.before d.after d.flushed d.write_failures answer
     → n ≡ status_of_outcome (outcome_of_writing answer) → Tells (Unit {0}) d n
@@ -290,7 +290,7 @@ of_living d n (Err e) h is = record {
   no_words = not_even e n 1 is;
 }
 
--- what the statuses 1 and 3 tell of a job: but for a live session, that nothing was written
+-- what the statuses 1 and 3 say of a job: that nothing was written, except by a live session
 abbrev Low : Job → Devices → Type 0
 Low (Run workers fronts explain) d = Keeps d.before d.after
 Low (Check explain) d = Keeps d.before d.after
@@ -298,7 +298,7 @@ Low Replay d = Keeps d.before d.after
 Low (Draw form) d = Keeps d.before d.after
 Low Live d = Unit {0}
 
--- what a status tells of any job
+-- what a status says of any job
 tells : (job : Job) (d : Devices) (code : ExitCode) → EndsJob job d code → Tells (Low job d) d (exit_status code)
 tells Live d code h = of_living d _ h.answer h.lived h.status
 tells (Run workers fronts explain) d code h = of_writing (running fronts workers) d _ h.answer h.ran h.status
@@ -306,12 +306,12 @@ tells (Check explain) d code h = of_judging (judging explain) d _ h.answer h.jud
 tells Replay d code h = of_writing replaying d _ h.answer h.replayed h.status
 tells (Draw form) d code h = of_writing (drawing form) d _ h.answer h.drawn h.status
 
--- the status 5 tells that a device failed
+-- the status is 5 exactly if a device failed
 pub failed : (job : Job) (d : Devices) (code : ExitCode) → EndsJob job d code
     → (exit_status code ≡ 5) ↔ ((d.read_failures ≡ 1) ⊎ (d.write_failures ≡ 1))
 failed job d code h = (tells job d code h).failed
 
--- behind the statuses 1 and 3 nothing was written, unless by a live session
+-- if the status is 1 or 3, nothing was written, except by a live session
 pub unwritten : (job : Job) (d : Devices) (code : ExitCode) → job ≢ Live → EndsJob job d code
     → (exit_status code ≡ 1) ⊎ (exit_status code ≡ 3) → Keeps d.before d.after
 unwritten (Run workers fronts explain) d code other h = (tells (Run workers fronts explain) d code h).unwritten
@@ -320,7 +320,7 @@ unwritten Replay d code other h = (tells Replay d code h).unwritten
 unwritten (Draw form) d code other h = (tells (Draw form) d code h).unwritten
 unwritten Live d code other h = absurd (other refl)
 
--- no job that was begun has the status 2
+-- no job that started has the status 2
 pub no_words : (job : Job) (d : Devices) (code : ExitCode) → EndsJob job d code → exit_status code ≡ 2 → ⊥
 no_words job d code h = (tells job d code h).no_words
 

@@ -1,4 +1,4 @@
--- How the program ends: what came of the job, and the exit status that tells it.
+-- How the program ends: the result of its job, and the exit status for it.
 use Rattle.std.specs.Prelude.{◌≡◌, ℕ, Bool, List, [], Option, Some, Result, Ok, Err}
 use Rattle.std.specs.Process.{exit_status}
 use Rattle.std.specs.declared.process.ExitCode.{ExitCode}
@@ -14,20 +14,20 @@ use Rattle.smx_filters.specs.Statuses.{status_of_outcome}
 use Rattle.smx_filters.specs.declared.done.Done.{Done}
 use Rattle.smx_filters.specs.declared.done.Done.TheVariants.{Finished, Judged}
 use Rattle.smx_filters.specs.declared.main_fault.MainFault.{MainFault}
-use Rattle.muxsim.specs.declared.jobs.Job.{Job}
-use Rattle.muxsim.specs.declared.jobs.Job.TheVariants.{Run, Check, Replay, Draw, Live}
+use Rattle.smx_command_line.specs.declared.jobs.Job.{Job}
+use Rattle.smx_command_line.specs.declared.jobs.Job.TheVariants.{Run, Check, Replay, Draw, Live}
 
--- a run, a replay, a drawing or a live session that was done is finished
+-- a run, a replay, a drawing or a live session that succeeded has finished
 abbrev pub outcome_of_writing : Result (Unit {0}) MainFault → Result Done MainFault
 outcome_of_writing (Ok done) = Ok Finished
 outcome_of_writing (Err fault) = Err fault
 
--- a check that was done has judged
+-- a check that succeeded has judged
 abbrev pub outcome_of_check : Result Verdict MainFault → Result Done MainFault
 outcome_of_check (Ok verdict) = Ok (Judged verdict)
 outcome_of_check (Err fault) = Err fault
 
--- what the reader had, has left and has shown, and how often it failed; the same of the writer
+-- the reader's bytes before and after, whether it has ended, and how often it failed; the same of the writer
 pub record Devices : Type 0 where
   pub had : Option (List ℕ)
   pub left : Option (List ℕ)
@@ -38,7 +38,7 @@ pub record Devices : Type 0 where
   pub flushed : Bool
   pub write_failures : ℕ
 
--- what a reader and a writer had and have, by what is told of each before and now
+-- a reader and a writer before and now, given what is known of each
 abbrev pub devices : {F S : Type 0} → (F → Option (List ℕ)) → (F → Bool) → (F → ℕ) → (S → Option (List ℕ)) → (S → Bool)
     → (S → ℕ) → F → F → S → S → Devices
 devices remaining ended read_failures contents flushed write_failures feed feed_now sink sink_now = record {
@@ -52,45 +52,45 @@ devices remaining ended read_failures contents flushed write_failures feed feed_
   write_failures = write_failures sink_now;
 }
 
--- these bytes were there to read, none had been written, and these are written now
+-- the input was there to read, nothing had been written, and the output is written now
 pub record Writes (d : Devices) (input output : List ℕ) : Type 0 where
   pub had : d.had ≡ Some input
   pub before : d.before ≡ Some []
   pub after : d.after ≡ Some output
 
--- the programs were run, and the status is that of what came of it
+-- the programs were run, and the status is that of the result
 pub record EndsRun (fronts : Bool) (workers : ℕ) (d : Devices) (code : ExitCode) : Type 0 where
   pub answer : Result (Unit {0}) MainFault
   pub ran : RunsText fronts workers d.had d.left d.ended d.read_failures d.before d.after d.flushed d.write_failures
       answer
   pub status : exit_status code ≡ status_of_outcome (outcome_of_writing answer)
 
--- the transcript was judged, and the verdict explained or not, and the status is that of what came of it
+-- the transcript was judged, with or without an explanation, and the status is that of the result
 pub record EndsCheck (explain : Bool) (d : Devices) (code : ExitCode) : Type 0 where
   pub answer : Result Verdict MainFault
   pub judged : FiltersText (judging explain) d.had d.left d.ended d.read_failures d.before d.after d.flushed
       d.write_failures answer
   pub status : exit_status code ≡ status_of_outcome (outcome_of_check answer)
 
--- the transcript was replayed, and the status is that of what came of it
+-- the transcript was replayed, and the status is that of the result
 pub record EndsReplay (d : Devices) (code : ExitCode) : Type 0 where
   pub answer : Result (Unit {0}) MainFault
   pub replayed : ReplaysText d.had d.left d.ended d.read_failures d.before d.after d.flushed d.write_failures answer
   pub status : exit_status code ≡ status_of_outcome (outcome_of_writing answer)
 
--- the configuration of the transcript was drawn, and the status is that of what came of it
+-- the configuration of the transcript was drawn, and the status is that of the result
 pub record EndsDraw (form : Form) (d : Devices) (code : ExitCode) : Type 0 where
   pub answer : Result (Unit {0}) MainFault
   pub drawn : DrawsText form d.had d.left d.ended d.read_failures d.before d.after d.flushed d.write_failures answer
   pub status : exit_status code ≡ status_of_outcome (outcome_of_writing answer)
 
--- the lines were answered, and the status is that of what came of it
+-- the lines were answered, and the status is that of the result
 pub record EndsLive (d : Devices) (code : ExitCode) : Type 0 where
   pub answer : Result (Unit {0}) MainFault
   pub lived : LivesText d.had d.left d.ended d.read_failures d.before d.after d.flushed d.write_failures answer
   pub status : exit_status code ≡ status_of_outcome (outcome_of_writing answer)
 
--- the job was done, and the status is that of what came of it
+-- the job was done, and the status is that of the result
 abbrev pub EndsJob : Job → Devices → ExitCode → Type 0
 EndsJob (Run workers fronts explain) d code = EndsRun fronts workers d code
 EndsJob (Check explain) d code = EndsCheck explain d code

@@ -1,12 +1,12 @@
-//! A job that is done on two devices, and the exit status that tells what came of it.
+//! Does a job on two devices, and gives the exit status for the result.
 
 ghost use Rattle.std.specs.Prelude.{◌≡◌, false, true};
 ghost use Rattle.std.specs.Process.{exit_status};
 ghost use Rattle.muxsim.specs.Ends.{devices, EndsCheck, EndsDraw, EndsJob, EndsLive, EndsReplay, EndsRun};
-ghost use Rattle.muxsim.specs.Jobs.{CanRun};
+ghost use Rattle.smx_command_line.specs.Jobs.{CanRun};
 ghost use Rattle.smx_filters.specs.Statuses.{status_of, status_of_outcome};
 
-use crate::jobs::Job;
+use smx_command_line::Job;
 use smx_draw::Form;
 use smx_explain::{FaultExplanation, TextKind};
 use smx_filters::{
@@ -21,8 +21,8 @@ use std::process::ExitCode;
 use std::sync::Wait;
 use std::thread::Threads;
 
-/// Does the job with what `feed` has, and writes to `sink`. A fault gets its line on standard error. Neither device has
-/// failed before, and no read has shown the end.
+/// Does the job, reading from `feed` and writing to `sink`. Prints a fault on standard error. Requires that neither
+/// device has failed before and that the feed has not ended.
 pub fn do_job<R: Threads + Wait + Sync + Eprint, F: Feed, S: Sink>(
     rt: &R,
     alloc: Global,
@@ -92,7 +92,7 @@ fn check<R: Eprint, F: Feed, S: Sink>(rt: &R, alloc: Global, feed: &mut F, sink:
     }
 }
 
-// Runs the programs, and shows what is wrong with a text that is none.
+// Runs the programs. If the text is malformed, shows what is wrong with it.
 fn explained_run<R: Threads + Wait + Sync + Eprint, F: Feed, S: Sink>(
     rt: &R,
     alloc: Global,
@@ -114,7 +114,7 @@ fn explained_run<R: Threads + Wait + Sync + Eprint, F: Feed, S: Sink>(
     }
 }
 
-// Judges the transcript, and shows where it departs from its replay, or what is wrong with a text that is none.
+// Judges the transcript. Shows where it differs from its replay, or, if the text is malformed, what is wrong with it.
 fn explained_check<R: Eprint, F: Feed, S: Sink>(
     rt: &R,
     alloc: Global,
@@ -133,7 +133,8 @@ fn explained_check<R: Eprint, F: Feed, S: Sink>(
     }
 }
 
-// The status of a fault, with its line on standard error, and below it what is wrong with a text that is refused.
+// Returns the status of a fault. Prints its line on standard error and, below it, what is wrong with a malformed
+// text.
 fn refused<R: Eprint>(rt: &R, kind: TextKind, refusal: Refusal) -> ExitCode
     ensures { exit_status result ≡ status_of refusal.fault }
 {
@@ -154,7 +155,7 @@ fn show<R: Eprint>(rt: &R, kind: TextKind, text: &[u8], fault: Option<TextFault>
     }
 }
 
-// What is wrong with the text, where that is the fault. Want of memory is none of the text's.
+// Returns the fault of the text, if that is the fault. Out-of-memory is not a fault of the text.
 fn fault_of_text(fault: &MainFault) -> Option<TextFault> {
     match fault {
         MainFault::Text(fault) => match fault.cause {
@@ -223,7 +224,7 @@ fn live<R: Eprint, F: Feed, S: Sink>(rt: &R, alloc: Global, feed: &mut F, sink: 
     }
 }
 
-/// The status of what was done, with the line on standard error that says why nothing came of it.
+/// Returns the status of the result. If the job failed, prints the reason on standard error.
 pub fn ended<R: Eprint>(rt: &R, outcome: Result<Done, MainFault>) -> ExitCode
     ensures { exit_status result ≡ status_of_outcome outcome }
 {

@@ -1,6 +1,6 @@
 //! Laws of how the program ends, each the contract of a function that does nothing.
 
-ghost use Rattle.std.specs.Prelude.{◌≡◌, ◌≢◌, ◌⊎◌, ◌↔◌, ◌++◌, ℕ, Bool, true, List, [], Some};
+ghost use Rattle.std.specs.Prelude.{◌≡◌, ◌≢◌, ◌⊎◌, ◌↔◌, ◌++◌, ℕ, Bool, true, List};
 ghost use Rattle.std.specs.Io.KnownBytes.{Keeps};
 ghost use Rattle.std.specs.Process.{exit_status};
 ghost use Rattle.std.specs.declared.process.ExitCode.{ExitCode};
@@ -14,12 +14,12 @@ ghost use Rattle.smx_filters.specs.ReplayText.{replaying};
 ghost use Rattle.smx_filters.specs.RunText.{running};
 ghost use Rattle.smx_live.specs.LiveText.{IsOver};
 ghost use Rattle.muxsim.specs.Ends.{Devices, EndsCheck, EndsDraw, EndsJob, EndsLive, EndsReplay, EndsRun, Writes};
-ghost use Rattle.muxsim.specs.declared.jobs.Job.{Job as AnyJob};
-ghost use Rattle.muxsim.specs.declared.jobs.Job.TheVariants.{Live};
+ghost use Rattle.smx_command_line.specs.declared.jobs.Job.{Job as AnyJob};
+ghost use Rattle.smx_command_line.specs.declared.jobs.Job.TheVariants.{Live};
 
-/// The status 0 tells that the job was done: what was written for the input is what was asked for, all of it, and
-/// flushed. Of a check it tells that the transcript is legal, and the status 4 that it is judged otherwise, whether
-/// that is explained or not. Of a live session it tells that it is over, and that what was written is its answers.
+/// The status 0 means that the job was done: the output is what was asked for, all of it, and flushed. For a check it
+/// means that the transcript is legal, and the status 4 that the verdict is another one, explained or not. For a live
+/// session the status 0 means that it has ended, and that the output is its answers.
 pub fn a_status_tells_what_was_done()
     ensures run { (fronts : Bool) (workers : ℕ) (d : Devices) (code : ExitCode) (input output : List ℕ)
         → EndsRun fronts workers d code → Writes d input output → exit_status code ≡ 0
@@ -41,8 +41,8 @@ pub fn a_status_tells_what_was_done()
         → (d.flushed ≡ true) × (v : Verdict) × (v ≢ Legal) × GivesFor (judging explain) input v output }
 {}
 
-/// The status 5 tells that a device failed, and no other does; 1 and 3 tell that nothing was written, unless by a live
-/// session; 2 is that of no job, and 4 that of no run, no replay, no drawing and no live session.
+/// The status is 5 exactly if a device failed. The statuses 1 and 3 mean that nothing was written, except by a live
+/// session. No job has the status 2, and no run, replay, drawing or live session has the status 4.
 pub fn a_status_tells_what_failed()
     ensures failed { (job : AnyJob) (d : Devices) (code : ExitCode) → EndsJob job d code
         → (exit_status code ≡ 5) ↔ ((d.read_failures ≡ 1) ⊎ (d.write_failures ≡ 1)) }

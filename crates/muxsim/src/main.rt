@@ -2,12 +2,8 @@
 //! answers commands line by line.
 #![tactic(auto)]
 
-mod command_line;
-mod command_list;
 mod doing;
-mod jobs;
 mod laws_of_ends;
-mod subcommands;
 
 ghost use Rattle.std.specs.Prelude.{◌≡◌, ◌≢◌, ◌⊎◌};
 ghost use Rattle.std.specs.IoError.{error_kind};
@@ -15,18 +11,17 @@ ghost use Rattle.std.specs.Process.{exit_status};
 ghost use Rattle.clap.specs.Values.{kind_of};
 
 use clap::error::ErrorKind;
-use command_line::job;
 use doing::{do_job, ended};
+use smx_command_line::job;
 use smx_filters::{Done, MainFault, Source, Target};
 use smx_run::RunFault;
 use std::io::ErrorKind as IoKind;
 use std::process::ExitCode;
 use std::{env, io};
 
-/// Does what the words ask for. The exit status is 0 where that was done, also for help and the
-/// version; 1 where the job is refused, also for want of memory; 2 where the words are
-/// wrong; 3 where the text is; 4 where a transcript is illegal or its configuration differs; and 5
-/// where input or output failed.
+/// Does what the command line asks for. The exit status is 0 if that was done, including help and the version; 1 if
+/// the job is refused, including out-of-memory; 2 if the command line is invalid; 3 if the text is; 4 if a transcript
+/// is illegal or its configuration differs; and 5 if input or output failed.
 fn main(rt: HostRuntime) -> ExitCode {
     let words = match words(&rt) {
         Ok(words) => words,
@@ -43,14 +38,13 @@ fn main(rt: HostRuntime) -> ExitCode {
     }
 }
 
-// The words of the command line, the program's name first.
+// Returns the words of the command line, starting with the program's name.
 fn words(rt: &HostRuntime) -> io::Result<Vec<String>> {
     Ok(env::args(rt)?.collect(rt.alloc())?)
 }
 
-// Prints clap's text, a mistake in the words to standard error and all else to standard output.
-// The status is 1 for want of memory, 2 for a mistake, and 0 for help or the version, or 5 where
-// that could not be shown.
+// Prints clap's text: an error in the command line to standard error, and everything else to standard output. The
+// status is 1 if out of memory, 2 for an error, and 0 for help or the version, or 5 if that could not be printed.
 fn no_job<R: Print + Eprint>(rt: &R, error: &clap::Error) -> ExitCode
     ensures no_memory { kind_of error.now ≡ ErrorKind.OutOfMemory → exit_status result ≡ 1 }
     ensures mistake { kind_of error.now ≢ ErrorKind.OutOfMemory
@@ -73,7 +67,7 @@ fn no_job<R: Print + Eprint>(rt: &R, error: &clap::Error) -> ExitCode
     }
 }
 
-// The words of the command line could not be had: they are no text, or there is no memory.
+// Reports that the words of the command line are not available: they are not valid text, or memory ran out.
 fn no_words<R: Eprint>(rt: &R, error: &io::Error) -> ExitCode
     ensures no_memory { error_kind error.now ≡ IoKind.OutOfMemory → exit_status result ≡ 1 }
     ensures mistake { error_kind error.now ≢ IoKind.OutOfMemory → exit_status result ≡ 2 }

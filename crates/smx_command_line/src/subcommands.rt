@@ -5,14 +5,14 @@ use clap::{Arg, ArgAction, Command, value_parser};
 use smx_run::MAX_WORKERS;
 use std::alloc::{AllocError, Global};
 
-/// What each help ends with.
+/// The last lines of each page of help.
 pub const SEE: &str =
     "Exit status: 0 done or legal, 1 refused, 2 wrong words, 3 wrong text, 4 illegal or differing,
 5 input or output failed.
 More is in muxsim(1), and beside the sources in docs/: the texts in FORMATS.md, commands and replies in
 COMMANDS.md. 'muxsim commands' shows how the texts are written, and the commands of a program.";
 
-/// The one that runs programs.
+/// Returns the subcommand that runs programs.
 pub fn run<'a>(alloc: Global) -> Result<Command<'a>, AllocError> {
     subcommand(
         alloc,
@@ -25,7 +25,7 @@ pub fn run<'a>(alloc: Global) -> Result<Command<'a>, AllocError> {
     .arg(explain(alloc, "Show what is wrong with a text that is refused"))
 }
 
-/// The one that judges a transcript.
+/// Returns the subcommand that judges a transcript.
 pub fn check<'a>(alloc: Global) -> Result<Command<'a>, AllocError> {
     subcommand(
         alloc,
@@ -39,7 +39,7 @@ pub fn check<'a>(alloc: Global) -> Result<Command<'a>, AllocError> {
     ))
 }
 
-/// The one that replays a transcript.
+/// Returns the subcommand that replays a transcript.
 pub fn replay<'a>(alloc: Global) -> Command<'a> {
     subcommand(
         alloc,
@@ -49,7 +49,7 @@ pub fn replay<'a>(alloc: Global) -> Command<'a> {
     .override_usage("muxsim replay < TRANSCRIPT")
 }
 
-/// The one that draws a picture.
+/// Returns the subcommand that draws a picture.
 pub fn draw<'a>(alloc: Global) -> Result<Command<'a>, AllocError> {
     subcommand(
         alloc,
@@ -60,7 +60,7 @@ pub fn draw<'a>(alloc: Global) -> Result<Command<'a>, AllocError> {
     .arg(dot(alloc))
 }
 
-/// The one that answers line by line.
+/// Returns the subcommand that answers line by line.
 pub fn live<'a>(alloc: Global) -> Command<'a> {
     subcommand(
         alloc,
@@ -70,19 +70,19 @@ pub fn live<'a>(alloc: Global) -> Command<'a> {
     .override_usage("muxsim live < LINES")
 }
 
-/// The one that shows the page of the help on the texts and the commands of a program.
+/// Returns the subcommand that shows the page of help on the texts and the commands of a program.
 pub fn commands<'a>(alloc: Global) -> Command<'a> {
     Command::new(alloc, "commands")
         .about("Show how the texts are written, and the commands of a program")
         .override_help(COMMANDS)
 }
 
-// A subcommand without options.
+// Returns a subcommand without options.
 fn subcommand<'a>(alloc: Global, name: &'a str, about: &'a str) -> Command<'a> {
     Command::new(alloc, name).about(about).after_help(SEE)
 }
 
-// The option that says how many workers run the programs.
+// Returns the option for the number of workers.
 fn workers<'a>(alloc: Global) -> Arg<'a> {
     Arg::new(alloc, "workers")
         .long("workers")
@@ -92,7 +92,7 @@ fn workers<'a>(alloc: Global) -> Arg<'a> {
         .default_value("1")
 }
 
-// The option that has the fronts written.
+// Returns the option that writes the fronts.
 fn fronts<'a>(alloc: Global) -> Arg<'a> {
     Arg::new(alloc, "fronts")
         .long("fronts")
@@ -100,7 +100,7 @@ fn fronts<'a>(alloc: Global) -> Arg<'a> {
         .action(ArgAction::SetTrue)
 }
 
-// The option that has faults explained.
+// Returns the option that explains faults.
 fn explain<'a>(alloc: Global, help: &'a str) -> Arg<'a> {
     Arg::new(alloc, "explain")
         .long("explain")
@@ -108,7 +108,7 @@ fn explain<'a>(alloc: Global, help: &'a str) -> Arg<'a> {
         .action(ArgAction::SetTrue)
 }
 
-// The option that has a picture written in Graphviz's language.
+// Returns the option that writes a picture in Graphviz's language.
 fn dot<'a>(alloc: Global) -> Arg<'a> {
     Arg::new(alloc, "dot")
         .long("dot")

@@ -1,6 +1,6 @@
-//! How texts are written and which commands programs have, as `muxsim commands` prints it.
+//! The page that `muxsim commands` prints: how texts are written, and the commands of programs.
 
-/// What the help has of the texts: the lines of each, and each command with its words and what it asks for. The
+/// The page of help on the texts: the lines of each text, and each command with its words and what it asks for. The
 /// words are those of docs/FORMATS.md.
 pub const COMMANDS: &str = "Programs, the input of 'run', are written so:
 

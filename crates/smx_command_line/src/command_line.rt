@@ -1,8 +1,8 @@
-//! What the command line asks for.
+//! The job that the command line asks for.
 
 ghost use Rattle.std.specs.Prelude.{◌≤◌, IfOk};
 ghost use Rattle.smx_run.specs.declared.run.TheConstants.{MAX_WORKERS};
-ghost use Rattle.muxsim.specs.Jobs.{CanRun};
+ghost use Rattle.smx_command_line.specs.Jobs.{CanRun};
 
 use crate::jobs::Job;
 use crate::subcommands::{self, SEE};
@@ -14,24 +14,24 @@ use std::alloc::{AllocError, Global};
 use std::convert::AsStr;
 use std::mem::forget;
 
-// What `--version` shows behind the program's name.
+// What `--version` prints after the program's name.
 const VERSION: &str = "0.1.0";
 
-/// What the words ask for, of which the first is the program's name. Any other words than `run`, with `--workers`,
-/// `--fronts` and `--explain` or without, `check`, with `--explain` or without, `replay`, `draw`, with `--dot` or
-/// without, and `live` are clap's error, and so is a request for help or the version, as `commands`; want of memory is
-/// its kind `OutOfMemory`.
+/// Parses the words of the command line, of which the first is the program's name. They ask for a job by `run`, with
+/// or without `--workers`, `--fronts` and `--explain`; `check`, with or without `--explain`; `replay`; `draw`, with
+/// or without `--dot`; or `live`. Fails with clap's error for any other words, and for a request for help or the
+/// version, such as `commands`. If it is out of memory, the kind of the error is `OutOfMemory`.
 pub fn job<'a, S: AsStr>(alloc: Global, words: &'a [S]) -> Result<Job, Error>
     ensures { IfOk result CanRun }
 {
     let matches = program(alloc)?.try_get_matches_from(words)?;
     let job = job_of(alloc, &matches);
-    // What clap made of the words is small; it stays until the program ends.
+    // clap's matches are small. They stay allocated until the program ends.
     forget(matches);
     job
 }
 
-// What these matches of the words ask for.
+// Returns what these matches of the words ask for.
 fn job_of(alloc: Global, matches: &ArgMatches) -> Result<Job, Error>
     ensures { IfOk result CanRun }
 {
@@ -49,13 +49,13 @@ fn job_of(alloc: Global, matches: &ArgMatches) -> Result<Job, Error>
         Some(("check", check)) => Ok(Job::Check {
             explain: check.get_flag("explain"),
         }),
-        // `commands` is left: clap has refused all others, and words without a subcommand.
+        // Only `commands` is left: clap has rejected all others, and words without a subcommand.
         Some(_) | None => Err(help_of_commands(alloc)?),
     }
 }
 
-// How many workers are asked for. clap has refused what is not 1 to the most already, so what stands here for others
-// is never answered.
+// Returns how many workers are asked for. clap has already rejected any number outside 1 to the most, so the last arm
+// is never reached.
 fn workers_of(run: &ArgMatches) -> usize
     ensures { (1 ≤ result) × (result ≤ MAX_WORKERS) }
 {
@@ -65,7 +65,7 @@ fn workers_of(run: &ArgMatches) -> usize
     }
 }
 
-// In which language a picture is asked for.
+// Returns the requested language of a picture.
 fn form_of(draw: &ArgMatches) -> Form {
     if draw.get_flag("dot") {
         Form::Dot
@@ -74,7 +74,7 @@ fn form_of(draw: &ArgMatches) -> Form {
     }
 }
 
-// What clap answers to `help commands`: the page of help that `commands` by itself asks for too.
+// Returns what clap answers to `help commands`: the page of help that `commands` by itself asks for too.
 fn help_of_commands(alloc: Global) -> Result<Error, AllocError> {
     let mut program = program(alloc)?;
     match program.try_get_matches_from_mut(&["muxsim", "help", "commands"]) {
@@ -90,7 +90,7 @@ fn help_of_commands(alloc: Global) -> Result<Error, AllocError> {
     }
 }
 
-// The program with its subcommands. Its usage names it so, whatever the file is called.
+// Returns the program with its subcommands. Its usage always names it `muxsim`, whatever the file is called.
 fn program<'a>(alloc: Global) -> Result<Command<'a>, AllocError> {
     Command::new(alloc, "muxsim")
         .bin_name("muxsim")?

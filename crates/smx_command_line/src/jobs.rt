@@ -2,10 +2,10 @@
 
 use smx_draw::Form;
 
-/// What the program is asked to do.
+/// A job of the program.
 #[derive(Clone, Copy, Debug, PartialEq, Eq)]
 pub enum Job {
-    /// To run the programs of the input and to write their transcript, or their fronts.
+    /// Runs the programs of the input and writes their transcript, or their fronts.
     Run {
         /// How many workers run them, 1 to 64.
         workers: usize,
@@ -14,18 +14,18 @@ pub enum Job {
         /// Whether a fault of the text is explained.
         explain: bool,
     },
-    /// To judge the transcript of the input and to write the verdict.
+    /// Judges the transcript of the input and writes the verdict.
     Check {
         /// Whether the verdict, or a fault of the text, is explained.
         explain: bool,
     },
-    /// To perform the commands of the transcript of the input and to write the transcript that they give.
+    /// Performs the commands of the transcript of the input and writes the transcript that they give.
     Replay,
-    /// To draw the configuration that the transcript of the input shows.
+    /// Draws the configuration that the transcript of the input shows.
     Draw {
-        /// In which language.
+        /// The language of the picture.
         form: Form,
     },
-    /// To answer the lines of the input one by one, at once.
+    /// Answers the lines of the input one by one, at once.
     Live,
 }
