@@ -23,8 +23,8 @@ enum { ROOM = 1 << 20 };
 static char input[ROOM];
 static char transcripts[2][ROOM];
 
-// Which growth is refused, from 1 on, or 0 for none; and how many were asked for. The program is linked so that malloc
-// and realloc are the two below.
+// The number of the allocation that fails, from 1 on, or 0 for none; and the number of allocations so far. The program
+// is linked so that malloc and realloc are the two below.
 static size_t refused;
 static size_t asked;
 
@@ -225,8 +225,8 @@ static void do_next(struct work *work, size_t number, struct muxsim_text *text) 
     fwrite(text->bytes, 1, text->len, stdout);
 }
 
-// Performs every other command, each once the one before it was performed. That is told by a number that orders nothing
-// else, so what threads see of the session is ordered by its lock alone.
+// Performs every other command, each after the one before it was performed. A number says so, which orders nothing
+// else: only the lock orders what threads see of the session.
 static void *by_turns(void *data) {
     struct worker *worker = data;
     struct work *work = worker->work;
@@ -336,8 +336,8 @@ static size_t performs_scarce(struct work *work, size_t len, size_t number, char
     return at;
 }
 
-// The words of why there is no session, where each growth is refused in turn. Where memory is wanting for the words
-// alone, the code stays, and they are asked for again.
+// Asks why there is no session, with each allocation failing in turn. If only the allocation for the words fails, the
+// code is the same, and they are asked for again.
 static void reasons_scarce(struct work *work) {
     size_t wordless = 0;
     for (size_t i = 0; i < sizeof refusals / sizeof *refusals; i++) {

@@ -6,7 +6,7 @@ MOST_DESCRIPTORS = 16
 MOST_LINKS = 1024
 LARGEST = 4294967295
 
-# What stands behind the word of a command, and how often the command is drawn.
+# The words after that of a command, and how often the command is drawn.
 COMMANDS = {
     "clone": (["driver"], 6), "open": (["new"], 4), "dup": (["fd"], 2), "close": (["fd"], 2), "exit": ([], 0.2),
     "link": (["fd", "fd"], 10), "plink": (["fd", "fd"], 8), "unlink": (["fd", "which"], 3), "punlink": (["fd", "which"], 1),

@@ -1,5 +1,5 @@
-/* Preloaded before a program: each thread that it starts is told by a byte on descriptor 4, and waits before its first
-   step until descriptor 3 has no writer any more. */
+/* Preloaded before a program: each thread that it starts writes a byte to descriptor 4, and waits before its first step
+   until descriptor 3 has no writer any more. */
 
 typedef unsigned long size_t;
 

@@ -4,10 +4,10 @@ A text is a string. Histories are of version 2 and over the drivers `ip` and `et
 
 IP_AND_ETH = "driver ip mux 4 8 3 16\ndriver eth leaf 2 8 3 16\n"
 
-# A stream hangs up wherever it may stand: the entries, and what is shown in the end.
+# A stream hangs up in each of its positions: the entries, and the configuration at the end.
 HANGUPS = [
-    # What is refused for a hangup and what is not. A message waits for what was routed to the stream that hung up,
-    # which has gone since. Then, a stream is read to its end, and stays hung up below a link.
+    # Commands that are refused because of a hangup, and commands that are not. A message waits: it was routed to the
+    # stream that hung up, which has ended since. Then a stream is read to its end, and stays hung up below a link.
     ("""\
 0 clone ip = fd 0 0
 0 clone eth = fd 1 0
@@ -169,7 +169,7 @@ hung eth 0
 0 close 0 = done 2
 """,
      "next 1 3\n"),
-    # It is routed to: what goes there waits, holds up what is behind it, and goes on by another route.
+    # A route leads to it: a message for it waits, holds up the messages after it, and goes on by another route.
     ("""\
 0 clone ip = fd 0 0
 0 clone eth = fd 1 0
@@ -221,7 +221,7 @@ msg eth 0 w 1 5 0102030405060708
 full eth 0 w
 hung eth 0
 """),
-    # Settling comes to it behind the first of three messages.
+    # Settling reaches it after the first of three messages.
     ("""\
 0 clone ip = fd 0 0
 0 clone eth = fd 1 0
@@ -252,7 +252,7 @@ route ip 6 1
 msg eth 0 w 3 5 cc
 hung eth 1
 """),
-    # What came in from it still moves up.
+    # The messages that came in from it still move up.
     ("""\
 0 clone ip = fd 0 0
 0 clone eth = fd 1 0
@@ -392,7 +392,7 @@ route ip 5 2
 msg eth 0 w 1 5 aa
 hung eth 0
 """),
-    # Of messages that were held up together, the third has another address, and goes elsewhere.
+    # The third of some messages that were held up together has another address, and goes elsewhere.
     ("""\
 0 clone ip = fd 0 0
 0 clone eth = fd 1 0
@@ -425,7 +425,7 @@ link 2 ip 0 eth 1 link
 route ip 5 1
 route ip 6 2
 """),
-    # Two of three that were held up go on, since the place is full then; and a fourth waits behind the third.
+    # Two of three that were held up go on, since the place is full then; and a fourth waits after the third.
     ("""\
 0 clone ip = fd 0 0
 0 clone eth = fd 1 0
@@ -553,7 +553,7 @@ AFTER_BOTH = "next 1 1\nfd 0 0 eth 0\nfd 0 1 eth 1\nhung eth 0\nhung eth 1\n"
 
 AFTER_BOUND = "next 1 1\nfd 0 0 ip 0\nbind ip 9 0\n"
 
-# What stands in the view after the marks were met, and what is claimed in its place.
+# Lines of the view after the marks were reached, and the lines that the transcript claims in their place.
 OF_MARKS = [
     ("next 2 6", "next 3 6"),
     ("next 2 6", "next 2 5"),
@@ -593,7 +593,7 @@ OF_MARKS = [
     ("full eth 0 w", "full ip 0 w\nfull eth 0 w"),
 ]
 
-# The same where an address is bound.
+# The same with an address that is bound.
 OF_BOUND = [
     ("bind ip 9 0\n", ""),
     ("bind ip 9 0", "bind eth 9 0"),
@@ -601,7 +601,7 @@ OF_BOUND = [
     ("bind ip 9 0", "bind ip 9 1"),
 ]
 
-# The same behind two hangups.
+# The same after two hangups.
 OF_BOTH = [
     ("hung eth 0\n", ""),
     ("hung eth 1\n", ""),
@@ -611,7 +611,7 @@ OF_BOTH = [
     ("hung eth 1", "hung eth 2"),
 ]
 
-# Behind both hangups, a last entry whose reply is another one than it gets.
+# After both hangups, a last entry with a wrong reply.
 ILLEGAL = [
     "0 hangup eth 0 = ENXIO hangup\n",
     "0 hangup eth 0 = done 1\n",
@@ -633,8 +633,8 @@ def waiting_for_a_device():
     down = ["0 clone top = fd 0 0", "0 clone mid = fd 1 0", "0 clone eth = fd 2 0", "0 link 1 2 = id 1",
             "0 route 1 5 1 = done", "0 link 0 1 = id 2", "0 route 0 5 2 = done"]
     streams = [f"{n} clone top = fd 0 {n}" for n in range(1, 64)]
-    # The first messages of stream 0 fill the places behind the streams. Two rounds of messages wait behind them, one
-    # from each in a round, the last stream first.
+    # The first messages of stream 0 fill the places below the streams. Two rounds of messages wait after them, one from
+    # each stream in a round, the last stream first.
     first = ["0 write 0 5 00 = took 1", "0 write 0 5 00 = took 2"]
     rounds = [f"{63 - n} write 0 5 {63 - n:02x} = took {n + before}" for before in [3, 67] for n in range(64)]
     opened = ["fd 0 0 top 0", "fd 0 1 mid 0", "fd 0 2 eth 0", *(f"fd {n} 0 top {n}" for n in range(1, 64))]

@@ -160,7 +160,7 @@ fd 63 4294967295 tr 7
 end
 """
 
-# What they get.
+# The replies that they get.
 IN_TURN_REPLAYED = """\
 transcript 1
 driver ip mux 2 8 3 16
@@ -221,7 +221,7 @@ SHOW
 end
 rest"""
 
-# What they are answered.
+# The answers to them.
 ANSWERS = """\
 transcript 1
 driver ip mux 4 8 3 16
@@ -350,7 +350,7 @@ end
      4),
 ]
 
-# What is no transcript to any job that reads one, and the line that says so.
+# Texts that are not transcripts to any job that reads one, and the line that says so.
 NO_TRANSCRIPTS = [
     ("", "line 1: cut"),
     ("""\
@@ -404,7 +404,7 @@ end
      "line 5: trailing"),
 ]
 
-# Transcripts over drivers that can't be had, whatever the entries say, and the line that says which.
+# Transcripts with invalid drivers, whatever the entries say, and the line that names the driver.
 NO_DRIVERS = [
     ("""\
 transcript 1
@@ -603,7 +603,7 @@ end
     (HANGUPS_AND_NOTHING, HANGUP_END_OF_FILE),
 ]
 
-# Programs over drivers that can't be had, and the line that says which.
+# Programs with invalid drivers, and the line that names the driver.
 NOT_RUN = [
     ("""\
 programs 1
@@ -741,7 +741,7 @@ replay: fd 1 0 ip 1
 """),
 ]
 
-# What is no programs, and the line that says so.
+# Texts that are not programs, and the line that says so.
 NO_PROGRAMS = [
     ("", "line 1: cut"),
     ("programs 3\n", "line 1: header"),
@@ -775,7 +775,7 @@ end
     ("programs 1\ndriver ip mux 2 8 3 16\ndriver ip leaf 1 1 0 1\nprocess 0\nexit\nexit 0\nend\n", "line 6: form"),
 ]
 
-# Lines that are no command of version 1.
+# Lines that are not commands of version 1.
 NO_COMMANDS = [
     "hangup ip 0",
     "dup 00",
@@ -806,7 +806,7 @@ NO_COMMANDS = [
 
 # Live sessions that end otherwise, and what they write.
 ANSWERED = [
-    # The end of the input ends the transcript too, behind a table and behind a line that is cut.
+    # The end of the input ends the transcript too, after a table and after a line that is cut.
     ("programs 1\n",
      """\
 transcript 1
@@ -848,7 +848,7 @@ config
 next 1 1
 end
 """),
-    # A line of no bytes but a carriage return is no empty line.
+    # A line with only a carriage return is not an empty line.
     ("programs 1\n\r\nend\n",
      """\
 transcript 1
@@ -879,10 +879,10 @@ end
 """),
 ]
 
-# Lines of a live session of version 1 that are no process and command. (An empty line asks for the configuration.)
+# Lines of a live session of version 1 that are not a process and a command. (An empty line asks for the configuration.)
 NO_LINES = ["0", "64 exit", "00 exit", "0 exit ", "0 exit = done", "0 hangup eth 0", "clone ip", "0 write 0 5 C0"]
 
-# Tables that are none, the line that says so, and the status.
+# Texts that are not tables, the line that says so, and the status.
 NO_TABLES = [
     ("", "line 1: cut", 3),
     ("programs 1", "line 1: cut", 3),
@@ -926,7 +926,7 @@ driver ip mux 4 8 3 16
      1),
 ]
 
-# A job, a text that it refuses, the line at fault and why, and what is shown of it.
+# A job, a text that it refuses, the invalid line with its cause, and the lines that explain it.
 SHOWN = [
     ("run",
      """\
@@ -1140,8 +1140,8 @@ these are programs, for 'muxsim run'
 """),
 ]
 
-# The lines of a transcript below its header, up to one that is well-formed and may not stand where it does, and what is
-# said of that.
+# The lines of a transcript below its header, up to one that is well-formed but not allowed at its place, and the reason
+# that is shown.
 MISPLACED = [
     (["0 exit = done", "driver ip mux 4 8 3 16"], "the drivers stand above the entries and above 'config'"),
     (["config", "driver ip mux 4 8 3 16"], "the drivers stand above the entries and above 'config'"),
@@ -1159,7 +1159,7 @@ MISPLACED = [
     (["config", "end"], "'config' and 'next' stand above 'end'"),
 ]
 
-# The lines below `next`, in their order; the last of them in version 2 alone.
+# The lines below `next`, in their order; the last of them only in version 2.
 GROUPS = [
     "fd 0 0 ip 0",
     "link 1 ip 0 eth 0 plink",
@@ -1170,13 +1170,13 @@ GROUPS = [
     "hung eth 0",
 ]
 
-# What is said of one of them that may not stand where it does, in both versions.
+# The reason that is shown if one of them is not allowed at its place, in both versions.
 OTHER_GROUPS = [
     "below 'next' stand 'fd', 'link', 'bind', 'route', 'msg' and 'full' lines, in this order",
     "below 'next' stand 'fd', 'link', 'bind', 'route', 'msg', 'full' and 'hung' lines, in this order",
 ]
 
-# A job, a header and a line behind it that stops being one, and what may stand there.
+# A job, a header and a malformed line after it, and the column with the words that may be there.
 WANTED = [
     ("run", "programs 1", "clone 9a", "column 7: a name of 1 to 8 small letters and digits, a letter first, is wanted"),
     ("run", "programs 1", "driver ip tree 4 8 3 16", "column 11: 'leaf' or 'mux' is wanted"),
@@ -1227,7 +1227,7 @@ WANTED = [
      "column 17: a number from 0 to 4294967295, or the end of the line is wanted"),
 ]
 
-# Lines of programs, and what is shown of each: 80 columns at the most, with each byte that can't be seen by its digits.
+# Lines of programs, and the text that is shown of each: at most 80 columns, with the digits of each invisible byte.
 CUT = [
     ("12345678901234567890123456789012345678901234567890123456789012345678901234567890",
      "12345678901234567890123456789012345678901234567890123456789012345678901234567890"),
@@ -1244,8 +1244,8 @@ CUT = [
     ("\r", "\\x0d"),
 ]
 
-# Lines of a transcript in which '=' is wanted, the column at which it is, and what is shown of each: where the first 80
-# columns leave that one out, from 60 bytes before it on.
+# Lines of a transcript that lack '=', the column at which it should be, and the text that is shown of each: if that
+# column is not in the first 80, the text begins 60 bytes before it.
 FAR = [
     ("0 write 0 5 " + "ab" * 33 + " is took 1", 80, "0 write 0 5 " + "ab" * 33 + " i.."),
     ("0 write 0 5 " + "ab" * 34 + " is took 1", 82, "..b" + "ab" * 29 + " is took 1"),
@@ -1254,7 +1254,7 @@ FAR = [
     # A byte that takes four columns fits, or doesn't.
     ("0 write 0 5 " + "ab" * 31 + " \x09took 1", 76, "0 write 0 5 " + "ab" * 31 + " \\x09t.."),
     ("0 write 0 5 " + "ab" * 32 + " \x09took 1", 78, "..b" + "ab" * 29 + " \\x09took 1"),
-    # The word is wanting at the end of the line.
+    # The word is missing at the end of the line.
     ("0 write 0 5 " + "ab" * 34, 82, "0 write 0 5 " + "ab" * 34),
     ("0 write 0 5 " + "ab" * 35, 84, "..b" + "ab" * 29),
     ("0 write 0 5 " + "ab" * 33 + " ", 80, "..b" + "ab" * 29 + "\\x20"),
