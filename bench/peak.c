@@ -1,4 +1,4 @@
-/* Preloaded before a program: as it ends, what /proc tells of it stands on descriptor 3, its peak memory among it. */
+/* Preloaded before a program: as it ends, it writes what /proc says of it to descriptor 3, with its peak memory. */
 
 typedef unsigned long size_t;
 
