@@ -4,7 +4,7 @@ ghost use Rattle.std.specs.Prelude.{◌≡◌, [], All};
 
 use super::gates::Log;
 use super::gates::Told::{After, Before};
-use super::made::{ip, numbered};
+use super::made::{clone_of, ip, numbered};
 use smx_run::{SeatedProgram, run_assigned};
 use smx_shared::{ApplyFault, Door, Front, System};
 use smx_types::{Command, Commands, Entry, Process};
@@ -66,13 +66,13 @@ impl Door for OwnDoor {
     }
 }
 
-// Returns three commands for a process, with its own seat at a system that has no entry and takes only one.
+// Returns `clone ip` three times for a process, with its own seat at a system that has no entry and takes only one.
 fn job_of(rt: &(impl AllocGlobal + Abort), process: u32) -> SeatedProgram<OwnSeat>
     ensures { result.seat.system.history ≡ [] }
 {
     let mut commands = Commands::new(rt.alloc());
-    for fd in 0..3 {
-        assert!(rt; commands.push(Command::Close { fd }).is_ok());
+    for _ in 0..3 {
+        assert!(rt; commands.push(clone_of(rt, "ip")).is_ok());
     }
     let system = System::new(rt.alloc(), &[ip(rt, 4)], 1).expect(rt, "a system");
     let process = numbered(rt, process);
