@@ -19,7 +19,7 @@ use Rattle.smx_tables.proofs.DriverListLemmas.{taken_name}
 abbrev HasSameName : List DriverSpec → ℕ → DriverSpec → Type 0
 HasSameName ds i d = Any (λ e. e.name ≡ d.name) (take i ds)
 
--- a driver of a list that can be had is good, and has a name of its own
+-- a driver of a valid list passes the check, and has a name of its own
 good : (ds : List DriverSpec) (i : ℕ) (d : DriverSpec) → slice_get ds i ≡ Some d → IsDriverList ds
     → (spec_check d ≡ Ok tt) × (HasSameName ds i d → ⊥)
 good ds i d here h =
@@ -27,7 +27,7 @@ good ds i d here h =
     let at : get_or ds i d ≡ d = same_Some _ _ (sym (slice_get-get_or ds i d within) ∙ here) in
     (subst (λ e. spec_check e ≡ Ok tt) at (h.each i d within), λ same. taken_name ds i d within (sym at) same h)
 
--- where the drivers before one can be had, each of them passes the check, and none has the name of an earlier one
+-- if the drivers before one are a valid list, each of them passes the check, and has a name of its own
 good_before : (ds : List DriverSpec) (i j : ℕ) (d e : DriverSpec) → slice_get ds i ≡ Some d → slice_get ds j ≡ Some e
     → i < j → IsDriverList (take j ds) → (spec_check d ≡ Ok tt) × (HasSameName ds i d → ⊥)
 good_before ds i j d e here later before h =
@@ -68,7 +68,7 @@ one_driver : (ds : List DriverSpec) (i j : ℕ) (d e : DriverSpec) → IsFirstBa
 one_driver ds i j d e first other same =
     same_Some _ _ (sym first.here ∙ ap (slice_get ds) same ∙ other.here)
 
--- a list that can be had has none
+-- a valid list has none
 none_spoils : (ds : List DriverSpec) (i : ℕ) (d : DriverSpec) → IsFirstBad ds i d → Spoils ds i d → IsDriverList ds → ⊥
 none_spoils ds i d first bad h = bad (good ds i d first.here h)
 

@@ -147,7 +147,7 @@ least_is drivers c m n p sound h there least moves = marked_is_least drivers c (
         | inr f ↦ f
       ]
 
--- a first message that is told not to be there is none
+-- if a test finds no first message, the option is empty
 pub told_none : (o : Option Message) → false ≡ is_some o → None ≡ o
 told_none None h = refl
 told_none (Some m) h = absurd (false≢true h)

@@ -52,7 +52,7 @@ none_found drivers p r is known n at = nothing r is (known (number_known drivers
   nothing None e some = absurd cc
   nothing (Some m) e some = absurd cc
 
--- a place that has no number is none of those that have one
+-- a place that has no number differs from each place that has one
 pub is_another : (drivers : List DriverSpec) (n : ℕ) (p q : Place) → ((m : ℕ) → IsAt drivers m p → ⊥) → IsAt drivers n q
     → same_place p q ≡ true → ⊥
 is_another drivers n p q none there same = none n (subst (IsAt drivers n) (sym (place_is p q same)) there)

@@ -1,4 +1,4 @@
--- What waits for places that are not full any more, and what a change keeps of the marks.
+-- The places that wait for one that is not full any more, and the marks that a change keeps.
 use Rattle.std.proofs.Common.{◌≡◌, ℕ, suc, ◌<◌, Bool, true, false, not, List, length, set, None, Some}
 use Rattle.std.proofs.Common.{refl, sym, ap, ◌∙◌, subst, arith, inl, inr}
 use Rattle.std.specs.Prelude.{◌≢◌, ◌⊎◌}

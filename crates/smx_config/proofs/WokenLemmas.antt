@@ -1,4 +1,4 @@
--- What a command turns and frees is among what it may wake.
+-- The places that a command turns and frees are among those that it may wake.
 use Rattle.std.proofs.Common.{◌≡◌, ℕ, Bool, true, false, ◌&&◌, ◌||◌, not, eqb, List, [], ◌∷◌, filter, Option, Some}
 use Rattle.std.proofs.Common.{None, Result, Ok, Err, refl, sym, ap, ◌∙◌, subst, inl, inr}
 use Rattle.std.specs.Prelude.{◌⊎◌, IfOk, if◌then◌else◌}
@@ -102,7 +102,7 @@ route_keeps_both drivers c process fd addr id x h e =
 
 -- ---- the turned places
 
--- where what is turned at each stream is told by what to wake there, it is told at the stream of a look-up
+-- if `g` names each place that `f` turns at a stream, it also does so at the stream of a look-up
 turned_on : (r : Result StreamId Fault) (f : StreamId → Place → Bool) (g : StreamId → Wakes) (d : Configuration)
     (p : Place) → ((s : StreamId) → f s p ≡ true → turned_under d (g s) p ≡ true) → of_stream r f p ≡ true
     → turned_under d (on_stream r g) p ≡ true
@@ -154,7 +154,7 @@ turns drivers c process (command.Transmit name minor) x h e p t =
 turns drivers c process command.CloseAll x h e p t = absurd (false≢true t)
 turns drivers c process k x h e p t = absurd (false≢true t)
 
--- but for the places that `wakes_of` says may be turned, an accepted command turns none
+-- an accepted command turns only places that `wakes_of` says may be turned
 pub turns_few : (drivers : List DriverSpec) (c : Configuration) (process : ℕ) (k : Command) (x : Configuration × Reply)
     → IsSwept drivers c → outcome drivers c process k ≡ Ok x
     → TurnsOnly drivers c x.0 (turned_by drivers c process k)
@@ -169,7 +169,7 @@ turns_few drivers c process k x h e only p f = elim (cases_Bool (turned_by drive
 
 -- ---- the freed places
 
--- where what is freed at each stream is told by what to wake there, it is told at the stream of a look-up
+-- if `g` names each place that `f` frees at a stream, it also does so at the stream of a look-up
 freed_on : (x : Reply) (r : Result StreamId Fault) (f : StreamId → Place → Bool) (g : StreamId → Wakes) (p : Place)
     → ((s : StreamId) → f s p ≡ true → freed_under x (g s) p ≡ true) → of_stream r f p ≡ true
     → freed_under x (on_stream r g) p ≡ true

@@ -13,8 +13,8 @@ pub record IsFirstBad (drivers : List DriverSpec) (i : ℕ) (d : DriverSpec) : T
   pub here : slice_get drivers i ≡ Some d
   pub before : IsDriverList (take i drivers)
 
--- There are too many; or else the least number of a driver that can't be had, or that has the name of an earlier one:
--- a bad driver before a same name.
+-- There are too many drivers; or else the first one that spoils the list is invalid, or is valid and has the name of an
+-- earlier one. Only a list that a configuration can have is refused as out of memory.
 abbrev pub RefusesDrivers : List DriverSpec → ConfigFault → Type 0
 RefusesDrivers drivers TooMany = MAX_DRIVERS < length drivers
 RefusesDrivers drivers (BadSpec i f) = (d : DriverSpec) × IsFirstBad drivers i d × (spec_check d ≡ Err f)

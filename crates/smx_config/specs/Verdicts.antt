@@ -1,4 +1,4 @@
--- What is said of a history and of the view that is claimed of its end.
+-- The verdict on a history and on the view that is claimed of its end.
 use Rattle.std.specs.Prelude.{◌≡◌, ◌≢◌, List}
 use Rattle.smx_types.specs.declared.command.Entry.{Entry}
 use Rattle.smx_types.specs.declared.driver.DriverSpec.{DriverSpec}

@@ -1,4 +1,4 @@
--- What a command may wake, as it is told before the command is done. No public clause needs this.
+-- The places that a command may wake, by what is known before it is performed. No public clause needs this.
 use Rattle.std.specs.Prelude.{ℕ, Bool, true, false, if◌then◌else◌, List, [], ◌∷◌, Result, Ok, Err}
 use Rattle.std.specs.Option.{is_some}
 use Rattle.smx_types.specs.declared.command.Command.{Command}

@@ -77,7 +77,7 @@ same_below old new n (suc k) others le =
     ap (λ (c : ℕ). c + cond (bit_of new k) 1 0) (same_below old new n k others (omega arith))
     ∙ ap (λ (b : Bool). count_below old k + cond b 1 0) (others k (λ e. omega (arith, e, le)))
 
--- and one less below each number behind it
+-- and one less below each number after it
 less_below : (old new : List ℕ) (n k : ℕ) → ((m : ℕ) → m ≢ n → bit_of new m ≡ bit_of old m)
     → bit_of new n ≡ false → bit_of old n ≡ true → n < k → count_below new k < count_below old k
 less_below old new n zero others gone was lt = absurd (omega (arith, lt))

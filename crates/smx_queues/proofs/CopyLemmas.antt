@@ -57,7 +57,7 @@ copying_goes_on old mid new to all rest m later there full c are put =
           (ap (λ q. with_arrival q m) e ∙ arrives_full (queue_at old to) c.done m full) ∙ set-set old to _ _;
     }
 
--- a message that stands behind some has bytes that fit where each has
+-- if each of these messages has bytes that fit, so has the one in the middle
 one_has : (done : List Message) (m : Message) (later : List Message) → All HasBytesThatFit (done ++ m ∷ later)
     → HasBytesThatFit m
 one_has done m later have = subst HasBytesThatFit (get_or-append_seam done m later m)
@@ -97,14 +97,14 @@ pub set_last : (queues : List (Option Queue)) (a b : Option Queue) (n : ℕ) →
 set_last [] a b n e = rw e refl
 set_last (x ∷ queues) a b n e = rw e (ap (λ rest. x ∷ rest) (set_last queues a b (length queues) refl))
 
--- behind all others a place has come with these messages
+-- a place with this queue was added after all others
 pub record IsCopied (old new : List (Option Queue)) (to : ℕ) (q : Queue) : Type 0 where
   pub there : IsPlace new to
   pub at : queue_at new to ≡ q
   pub marked : (full : Bool) → set new to (Some (record (queue_at new to) { full = full }))
       ≡ old ++ Some (record q { full = full }) ∷ []
 
--- a place that came behind all others, and then got these messages, was copied with them
+-- a place that was added after all others, and then got these messages, was copied with them
 pub copied_is : (old mid new : List (Option Queue)) (to : ℕ) (q : Queue) (all : List Message) → to ≡ length old
     → mid ≡ old ++ Some q ∷ [] → new ≡ set mid to (Some (record (queue_at mid to) { messages = all }))
     → IsCopied old new to (record q { messages = all })
@@ -125,7 +125,7 @@ copied_is old mid new to q all last pushed copied =
     queue_last : (old : List (Option Queue)) (q : Queue) (n : ℕ) → n ≡ length old → queue_at (old ++ Some q ∷ []) n ≡ q
     queue_last old q n last = rw (get_or_push old (Some q) None n (sym last)) refl
 
--- the queue of a place that is there is the one that stands at its number
+-- the queue of a place that is there is the one at its number
 pub there_is : (queues : List (Option Queue)) (p : ℕ) → IsPlace queues p
     → Some (queue_at queues p) ≡ get_or queues p None
 there_is [] p is = absurd (cc)

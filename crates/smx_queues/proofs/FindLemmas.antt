@@ -1,4 +1,4 @@
--- What the chain of a number says of the slot of that number, and how many messages all chains have.
+-- The slot of a number, by the chain of that number, and the number of messages in all chains.
 use Rattle.std.proofs.Common.{◌≡◌, ℕ, zero, suc, ◌+◌, ◌<◌, ◌≤◌, Bool, true, false, ◌&&◌, List, [], ◌∷◌, length, map}
 use Rattle.std.proofs.Common.{get_or}
 use Rattle.std.proofs.Common.{Option, None, refl, sym, ap, ◌∙◌, subst, arith, inl, inr}

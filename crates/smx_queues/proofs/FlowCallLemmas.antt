@@ -1,4 +1,4 @@
--- What a call on the queue of a number says of the flow and the full places.
+-- The flow and the full places, before and after a call on the queue of a number.
 use Rattle.std.proofs.Common.{◌≡◌, ◌≢◌, ℕ, zero, suc, ◌<◌, arith, false, List, [], ◌∷◌, length, Option, Some, None}
 use Rattle.std.proofs.Common.{IsSome, refl, sym, ap, ◌∙◌, subst, inl, inr}
 use Rattle.std.proofs.lemmas.Bool.{cases_Bool}
@@ -217,7 +217,7 @@ taken_by ds old new t place i (Some m) h seen at first left none =
     let a = take_is ds old.queues new.queues old.spare t place i m h seen at (sym first) left in
     record { sound = a.sound; is = a.is new.spare }
 
--- ---- a place that is none of them
+-- ---- a place that the drivers don't have
 
 -- without a place that the drivers don't have, the lists are as they were
 pub drop_none_is : (ds : List DriverSpec) (all : List (Option Queue)) (n : ℕ) (t : FlowLists) (place : Place)

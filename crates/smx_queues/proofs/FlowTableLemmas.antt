@@ -1,4 +1,4 @@
--- What a change of the queue of one place comes to in the flow and the full places.
+-- The flow and the full places after a change of the queue of one place.
 use Rattle.std.proofs.Common.{◌≡◌, ◌≢◌, ℕ, zero, suc, ◌<◌, Bool, false, not, List, [], ◌∷◌, ◌++◌, length, drop, filter}
 use Rattle.std.proofs.Common.{set, get_or, Option, Some, None, refl, sym, ap, ◌∙◌, subst, arith, inl, inr}
 use Rattle.std.specs.Prelude.{slice_get}
@@ -134,7 +134,7 @@ left_now ds all n place i m h at first =
           queue_now ds all place i _ h at f (without_front f.q) refl refl refl flow
           (ap (λ (b : Bool). with_mark place b (fulls_of (places_of ds) all)) (rw (mark, ← flow, bytes, ← f.low) refl))
 
--- where a message came to the queue of a place's number, the lists are those with it
+-- if a message arrived in the queue of a place's number, the lists are those with it
 pub arrived_now : (ds : List DriverSpec) (all : List (Option Queue)) (n : ℕ) (place : Place) (i : ℕ) (m : Message)
     → IsFlow ds all → slice_get (places_of ds) i ≡ Some place
     → IsNow ds (with_queue all i (with_arrival (queue_at all i) m)) (after_arrival (lists_of ds all n) place m)
@@ -214,9 +214,9 @@ pub queues_yet : (drivers : List DriverSpec) (places : List Place)
 queues_yet drivers [] = tt
 queues_yet drivers (p ∷ places) = (refl, refl, queues_yet drivers places)
 
--- ---- a place that is none of them
+-- ---- a place that is not in the list
 
--- the flow has nothing at a place that is none of these, so nothing to leave out
+-- the flow has no message at a place that is not in the list, so there is nothing to leave out
 pub flow_without : (p : Place) (places : List Place) (queues : List (Option Queue))
     → list_any (same_place p) places ≡ false → flow_of places queues ≡ filter (not_at p) (flow_of places queues)
 flow_without p [] queues h = refl
@@ -226,7 +226,7 @@ flow_without p (r ∷ places) (q ∷ queues) h =
     ap (λ (xs : List QueuedMessage). messages_at r (messages_in q) ++ xs) (flow_without p places queues b.1)
     ∙ sym (keep_other p r (messages_in q) (flow_of places queues) (same_turned r p ∙ b.0))
 
--- a place that is none of these is not full, so nothing to leave out
+-- a place that is not in the list is not full, so there is nothing to leave out
 pub fulls_without : (p : Place) (places : List Place) (queues : List (Option Queue))
     → list_any (same_place p) places ≡ false → fulls_of places queues
     ≡ filter (λ q. not (same_place q p)) (fulls_of places queues)

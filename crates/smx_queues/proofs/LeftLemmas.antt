@@ -1,4 +1,4 @@
--- What is left of a walk over places, of which some are passed by.
+-- The rest of a walk over places, which skips some of them.
 use Rattle.std.proofs.Common.{◌≡◌, ℕ, zero, suc, ◌+◌, ◌<◌, ◌≤◌, ltb, Bool, false, List, [], ◌∷◌, length}
 use Rattle.std.proofs.Common.{drop, get_or, Option, Some, None, refl, sym, ap, ◌∙◌, arith}
 use Rattle.std.proofs.Common.{length-append}
@@ -61,7 +61,7 @@ skip_to shown passes past (p ∷ places) (y ∷ ys) (suc n) (suc i) skips le bel
     skip_to shown passes past places ys n i skips (omega arith) (omega arith) (omega arith)
     (λ k a b. none (suc k) (omega arith) (omega arith))
 
--- what is shown from a number on is what its place and what stands there show before the rest
+-- from a number on, the lists begin with the place and the element of that number
 first_left : {X Y : Type 0} (shown : List Place → List Y → List X) (past : Y) (places : List Place)
     (ys : List Y) (i : ℕ) (p : Place) → i < length ys → slice_get places i ≡ Some p
     → shown (drop i places) (drop i ys) ≡ shown (p ∷ drop (i + 1) places) (get_or ys i past ∷ drop (i + 1) ys)
@@ -71,7 +71,7 @@ first_left shown past places ys i p below at =
     let there : drop i ys ≡ get_or ys i past ∷ drop (i + 1) ys = drop_more ys i past below in
     ap (λ (ps : List Place). shown ps (drop i ys)) here ∙ ap (shown (p ∷ drop (i + 1) places)) there
 
--- from a number on, what is shown begins with what stands at the least number there that passes
+-- from a number on, the first element that is shown is the first one there that passes the test
 pub next_shown : {X Y : Type 0} (shown : List Place → List Y → List X) (passes : Y → Bool) (past : Y)
     (places : List Place) (ys : List Y) (n i : ℕ) (p : Place) → Skips shown passes
     → length ys ≡ length places → IsLeastIn past passes ys n (Some i) → slice_get places i ≡ Some p
@@ -100,7 +100,7 @@ where_next passes past places xs n i p many least at =
 
 -- ---- places without messages
 
--- messages of which there are not more than 0 are none
+-- a list of not more than 0 messages is empty
 none_of : (ms : List Message) → ltb 0 (length ms) ≡ false → ms ≡ []
 none_of [] e = refl
 none_of (m ∷ ms) e = absurd (grind (arith, nat_tests))

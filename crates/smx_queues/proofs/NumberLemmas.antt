@@ -19,19 +19,19 @@ use Rattle.smx_queues.proofs.PlaceLemmas.{lower_driver, lower_minor, place_at}
 
 -- ---- elements of two lists
 
--- what stands behind a list stands so many places past the list's end
+-- the element at index k of an appended list is at index k past the end of the first list
 pub get_right : {X : Type 0} (xs ys : List X) (n k : ℕ) → n ≡ length xs + k → slice_get (xs ++ ys) n ≡ slice_get ys k
 get_right [] ys n k e = ap (slice_get ys) (omega arith)
 get_right (x ∷ xs) ys zero k e = absurd (omega arith)
 get_right (x ∷ xs) ys (suc n) k e = get_right xs ys n k (omega arith)
 
--- at an index within a list stands the same with another list behind it
+-- within a list, the element at an index is the same if another list is appended
 pub left_only : {X : Type 0} (xs ys : List X) (i : ℕ) → i < length xs → slice_get (xs ++ ys) i ≡ slice_get xs i
 left_only [] ys i lt = absurd (omega arith)
 left_only (x ∷ xs) ys zero lt = refl
 left_only (x ∷ xs) ys (suc i) lt = left_only xs ys i (omega arith)
 
--- what stands in a list stands at the same index with another list behind it
+-- an element of a list is at the same index if another list is appended
 pub get_left : {X : Type 0} (xs ys : List X) (i : ℕ) (x : X) → slice_get xs i ≡ Some x → slice_get (xs ++ ys) i ≡ Some x
 get_left xs ys i x at = left_only xs ys i (slice_get_within xs i x at) ∙ at
 
@@ -50,7 +50,7 @@ last_two : (driver n : ℕ) (s : Side)
 last_two driver n side.Write = refl
 last_two driver n side.Read = refl
 
--- a side of a minor stands at twice that minor and the number of the side
+-- the index of a side is twice its minor plus the number of the side
 pub sides_at : (driver n m : ℕ) (s : Side) → m < n
     → slice_get (sides_of driver n) (2 * m + side_number s) ≡ Some (place_at driver m s)
 sides_at driver zero m s lt = absurd (omega arith)
@@ -74,7 +74,7 @@ sides_below driver (suc n) m lt = All-append (IsBelow m) (sides_of driver n)
     (place_at driver n side.Write ∷ place_at driver n side.Read ∷ []) (sides_below driver n m lt)
     (All-from_recursion (IsBelow m) (place_at driver n side.Write ∷ place_at driver n side.Read ∷ []) (lt, (lt, tt)))
 
--- ---- lists that rise, one behind the other
+-- ---- two lists that rise, one after the other
 
 -- a place that comes before all of two lists comes before all of both together
 pub before_more : (p : Place) (xs ys : List Place) → ComesBefore place_before p xs → ComesBefore place_before p ys

@@ -104,13 +104,13 @@ row_minors first (d ∷ drivers) zero row at =
     ap (λ (r : DriverRow). r.minors) (sym (same_Some (driver_row first d.minors) row at))
 row_minors first (d ∷ drivers) (suc k) row at = row_minors (first + 2 * d.minors) drivers k row at
 
--- the place stands as far from the first one as its number is from that one's
+-- the place is as far from the first one as its number is from that one's
 pub record IsNumbered (first n : ℕ) (drivers : List DriverSpec) (number : ℕ) (p : Place) : Type 0 where
   pub index : ℕ
   pub number_is : number ≡ first + index
   pub stands : slice_get (places_from n drivers) index ≡ Some p
 
--- it does, where the row of its driver has its minor and gives the number
+-- it is, if the row of its driver has its minor and gives the number
 row_number : (first n : ℕ) (drivers : List DriverSpec) (p : Place) (k : ℕ) (row : DriverRow)
     → slice_get (rows_from first drivers) k ≡ Some row → p.stream.driver ≡ n + k → p.stream.minor < row.minors
     → IsNumbered first n drivers (number_in row p) p
@@ -199,7 +199,7 @@ side_is driver (suc n) i p at = elim (cases_lt i (length (sides_of driver n))) [
   last (suc zero) e = is_last (place_at driver n side.Read) (same_Some (place_at driver n side.Read) p e) refl refl
   last (suc (suc k)) e = absurd cc
 
--- a place that stands among those of drivers is a side of a stream that they have
+-- each of the places of some drivers is a side of a stream that they have
 from_known : (n : ℕ) (drivers : List DriverSpec) (i : ℕ) (p : Place) → slice_get (places_from n drivers) i ≡ Some p
     → (k : ℕ) × ((p.stream.driver ≡ n + k) × (k < length drivers) × (p.stream.minor < minors_of drivers k))
 from_known n [] i p at = absurd cc
@@ -250,7 +250,7 @@ past_row_unknown drivers rows places p row h at past known =
     (sym h.rows_are) ∙ sym at) in
     omega (arith, past, known.1, minors)
 
--- such a place is none of theirs
+-- the drivers don't have such a place
 pub no_row_absent : (drivers : List DriverSpec) (rows : List DriverRow) (places : List Place) (p : Place)
     → ArePlaces drivers rows places → None ≡ slice_get rows p.stream.driver
     → list_any (same_place p) (places_of drivers) ≡ false

@@ -27,7 +27,7 @@ rank_h rank p h differ = rw (ne_eqb h p differ, eq-eqb h h refl) refl
 rank_other : (rank : ℕ → ℕ) (p h i : ℕ) → i ≢ p → i ≢ h → ranks rank p h i ≡ rank i
 rank_other rank p h i not_p not_h = rw (ne_eqb i p not_p, ne_eqb i h not_h) refl
 
--- where a number that was in no ring comes behind the beginning of one, the rings are linked
+-- if a number that was in no ring is put after the beginning of one, the rings are linked
 pub inserted : (count : ℕ) (owners next previous : List ℕ) (p q : ℕ) → AreRings count owners next previous → p < count
     → q < count → at owners p ≡ 0
     → AreRings count (set owners p (suc q)) (linked next p (at next (count + q)) (count + q))
@@ -150,7 +150,7 @@ inserted count owners next previous p q h lt_p lt_q none = record {
             ))
       ]
 
--- the same, where the node behind the beginning was read first
+-- the same, if the node after the beginning was read first
 pub inserted_now : (count : ℕ) (owners next previous : List ℕ) (p q head f : ℕ) (owners2 next2 previous2 : List ℕ)
     → AreRings count owners next previous → p < count → q < count → at owners p ≡ 0 → head ≡ count + q
     → f ≡ get_or next head f → owners2 ≡ set owners p (q + 1) → next2 ≡ linked next p f head
@@ -322,7 +322,7 @@ at_first count owners next previous small many many_next same none begins each =
   twice : (i : ℕ) → i < count + count → at previous (at next i) ≡ i
   twice i lt = ap (at previous) (each i lt) ∙ it i lt
 
--- with the next number at the end, each number still stands at its own
+-- with the next number at the end, each number is still at its own index
 pub one_pushed : (old new : List ℕ) (n : ℕ) → new ≡ old ++ n ∷ [] → length old ≡ n
     → ((k : ℕ) → k < n → at old k ≡ k)
     → record { count : length new ≡ n + 1; each : (k : ℕ) → k < n + 1 → at new k ≡ k }

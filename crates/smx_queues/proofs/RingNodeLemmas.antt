@@ -8,30 +8,30 @@ use Rattle.smx_queues.specs.Rings.{AreRings, LeadsBack, RingTable, at, linked, u
 
 -- ---- lists of which two elements are set
 
--- behind p stands f
+-- p leads to f
 pub linked_p : (xs : List ℕ) (p f h : ℕ) → p < length xs → p ≢ h → at (linked xs p f h) p ≡ f
 linked_p xs p f h below differ =
     get_or-set_other (set xs p f) h p p 0 differ ∙ get_or-set_same xs p f 0 below
 
--- behind h stands p
+-- h leads to p
 pub linked_h : (xs : List ℕ) (p f h : ℕ) → h < length xs → at (linked xs p f h) h ≡ p
 linked_h xs p f h below = get_or-set_same (set xs p f) h p 0 (omega (arith, below, length-set xs p f))
 
--- behind each other one stands what stood there
+-- each other node leads to the same one as before
 pub linked_other : (xs : List ℕ) (p f h k : ℕ) → k ≢ p → k ≢ h → at (linked xs p f h) k ≡ at xs k
 linked_other xs p f h k not_p not_h =
     get_or-set_other (set xs p f) h k p 0 not_h ∙ get_or-set_other xs p k f 0 not_p
 
--- behind p stands p
+-- p leads to itself
 pub unlinked_p : (xs : List ℕ) (a b p : ℕ) → p < length xs → at (unlinked xs a b p) p ≡ p
 unlinked_p xs a b p below = get_or-set_same (set xs a b) p p 0 (omega (arith, below, length-set xs a b))
 
--- behind a stands b
+-- a leads to b
 pub unlinked_a : (xs : List ℕ) (a b p : ℕ) → a < length xs → a ≢ p → at (unlinked xs a b p) a ≡ b
 unlinked_a xs a b p below differ =
     get_or-set_other (set xs a b) p a p 0 differ ∙ get_or-set_same xs a b 0 below
 
--- behind each other one stands what stood there
+-- each other node leads to the same one as before
 pub unlinked_other : (xs : List ℕ) (a b p k : ℕ) → k ≢ a → k ≢ p → at (unlinked xs a b p) k ≡ at xs k
 unlinked_other xs a b p k not_a not_p =
     get_or-set_other (set xs a b) p k p 0 not_p ∙ get_or-set_other xs a k b 0 not_a
@@ -46,7 +46,7 @@ from many xs ys i j k back below to is = sym (back i below).1 ∙ (ap (at ys) to
 
 -- ---- a number comes between two nodes
 
--- where p stood alone and comes between h and f, each node leads to one that leads back
+-- if p was alone and is put between h and f, each node leads to one that leads back
 pub link_leads : (many : ℕ) (xs ys : List ℕ) (p f h : ℕ) → length xs ≡ many → length ys ≡ many → p < many → f < many
     → h < many → p ≢ h → p ≢ f → at xs h ≡ f → at ys p ≡ p → LeadsBack many xs ys
     → LeadsBack many (linked xs p f h) (linked ys p h f)
@@ -70,7 +70,7 @@ link_leads many xs ys p f h as_many as_many2 lt_p lt_f lt_h not_h not_f leads al
 
 -- ---- a number leaves its neighbours
 
--- where p stood between a and b and stands alone, each node leads to one that leads back
+-- if p was between a and b and is now alone, each node leads to one that leads back
 pub unlink_leads : (many : ℕ) (xs ys : List ℕ) (p a b : ℕ) → length xs ≡ many → length ys ≡ many → p < many → a < many
     → b < many → p ≢ a → p ≢ b → at xs a ≡ p → at xs p ≡ b → at ys p ≡ a → LeadsBack many xs ys
     → LeadsBack many (unlinked xs a b p) (unlinked ys b a p)
@@ -94,7 +94,7 @@ unlink_leads many xs ys p a b as_many as_many2 lt_p lt_a lt_b not_a not_b to lea
 
 -- ---- what the rings say of one node
 
--- the ring of q begins at a node behind all numbers
+-- the ring of q begins at one of the nodes after the numbers
 pub head_below : (count q : ℕ) → q < count → count + q < count + count
 head_below count q lt = omega arith
 
@@ -117,7 +117,7 @@ pub alone_back : (count : ℕ) (owners next previous : List ℕ) (p : ℕ) → A
 alone_back count owners next previous p h lt none =
     let self = h.alone p lt none in ap (at previous) (sym self) ∙ (h.forth p (omega arith)).1
 
--- what is behind a number in a ring is not that number
+-- the node after a number in a ring is not that number
 pub next_differs : (count : ℕ) (owners next previous : List ℕ) (p q : ℕ) → AreRings count owners next previous
     → p < count
     → at owners p ≡ suc q → p ≢ at next p
@@ -126,13 +126,13 @@ next_differs count owners next previous p q h lt own same = elim (h.behind p q (
   | inr later ↦ let less = later.2 in let e = ap h.rank same in omega (arith, less, e)
 ]
 
--- what is before a number in a ring is not that number
+-- the node before a number in a ring is not that number
 pub previous_differs : (count : ℕ) (owners next previous : List ℕ) (p q : ℕ) → AreRings count owners next previous
     → p < count → at owners p ≡ suc q → p ≢ at previous p
 previous_differs count owners next previous p q h lt own same = next_differs count owners next previous p q h lt own
     (sym (ap (at next) same ∙ (h.back p (omega arith)).1))
 
--- where nothing is behind the beginning of a ring, no number is in it
+-- if the beginning of a ring leads to itself, no number is in the ring
 pub none_in : (count : ℕ) (owners next previous : List ℕ) (q : ℕ) → AreRings count owners next previous → q < count
     → at next (count + q) ≡ count + q → (p : ℕ) → p < count → at owners p ≡ suc q → ⊥
 none_in count owners next previous q h lt empty p below own = by (suc (h.rank p)) p (omega arith) below own where
@@ -146,7 +146,7 @@ none_in count owners next previous q h lt empty p below own = by (suc (h.rank p)
     | inr later ↦ by n (at next p) (omega (arith, less, later.2)) later.0 later.1
   ]
 
--- where something is behind the beginning of a ring, that is a number in it
+-- if the beginning of a ring leads to another node, that is a number in the ring
 pub first_in : (count : ℕ) (owners next previous : List ℕ) (q : ℕ) → AreRings count owners next previous → q < count
     → at next (count + q) ≢ count + q
     → (at next (count + q) < count) × (at owners (at next (count + q)) ≡ suc q)
@@ -156,18 +156,18 @@ first_in count owners next previous q h lt some =
       | inr first ↦ (first.0, first.1)
     ]
 
--- what was read at a node stands there
+-- the value that was read at a node is the one there
 pub read_at : (xs : List ℕ) (i x : ℕ) → i < length xs → x ≡ get_or xs i x → x ≡ at xs i
 read_at xs i x below read = read ∙ get_or_default xs i x 0 below
 
--- where the node that was read behind the beginning of a ring is that beginning, no number is in the ring
+-- if the node that was read after the beginning of a ring is that beginning, no number is in the ring
 pub none_read : (count : ℕ) (owners next previous : List ℕ) (q x : ℕ) → AreRings count owners next previous
     → q < count → x ≡ get_or next (count + q) x → x ≡ count + q → (p : ℕ) → p < count → at owners p ≡ suc q → ⊥
 none_read count owners next previous q x h lt read is =
     none_in count owners next previous q h lt
     (sym (read_at next (count + q) x (omega (arith, h.many_next, lt)) read) ∙ is)
 
--- where it is another one, that is a number in the ring
+-- if it is another one, that is a number in the ring
 pub first_read : (count : ℕ) (owners next previous : List ℕ) (q x : ℕ) → AreRings count owners next previous
     → q < count → x ≡ get_or next (count + q) x → (x ≡ count + q → ⊥) → (x < count) × (at owners x ≡ suc q)
 first_read count owners next previous q x h lt read other =
@@ -175,14 +175,14 @@ first_read count owners next previous q x h lt read other =
     subst (λ (y : ℕ). (y < count) × (at owners y ≡ suc q)) (sym e)
     (first_in count owners next previous q h lt (λ same. other (e ∙ same)))
 
--- what is told anew twice is told as the second time
+-- if the ring of a number is set twice, it is the one of the second time
 pub entered : (old mid new : RingTable) (p n : ℕ) → mid ≡ record old { owners = set old.owners p 0 }
     → new ≡ record mid { owners = set mid.owners p n } → new ≡ record old { owners = set old.owners p n }
 entered old mid new p n first second = second
     ∙ subst (λ (m : RingTable). record m { owners = set m.owners p n } ≡ record old { owners = set old.owners p n })
     (sym first) (ap (λ (xs : List ℕ). record old { owners = xs }) (set-set old.owners p 0 n))
 
--- a number that is told already stays
+-- a number that is in the ring already stays there
 pub owned_already : (t : RingTable) (p n x : ℕ) → x ≡ get_or t.owners p x → x ≡ n
     → t ≡ record t { owners = set t.owners p n }
 owned_already t p n x read is = ap (λ (xs : List ℕ). record t { owners = xs })

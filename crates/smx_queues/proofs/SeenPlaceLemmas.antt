@@ -1,4 +1,4 @@
--- What a contract sees where a place comes, goes, has another mark or is copied.
+-- Places as contracts see them, after one was added, removed, marked or copied.
 use Rattle.std.proofs.Common.{◌≡◌, ℕ, ◌<◌, ◌≤◌, Bool, true, false, List, [], ◌∷◌, ◌++◌, length, map, get_or}
 use Rattle.std.proofs.Common.{set, Option, Some, None, refl, sym, ap, subst, ◌∙◌, arith}
 use Rattle.std.proofs.lemmas.List.{get_or_default}
@@ -64,7 +64,7 @@ seen_gone s chains sound view is p there none chain read =
     seen_reset s chains sound view is p there none (record chain { there = false })
     (record { count = bare.count; bytes = bare.bytes; high_bounded = bare.high_bounded; low_below = bare.low_below })
 
--- with a chain without nodes behind all others, a contract sees its queue behind the rest
+-- with a chain without nodes after all others, a contract sees its queue after the rest
 pub seen_push : (s : Slab Node) (chains : List Chain) (sound : IsSound s chains) (view : List (Option Queue))
     → map (slot_of s) chains ≡ view → (after : Chain) → IsBare after
     → IsSeen s (chains ++ after ∷ []) (view ++ slot after (bare_queue after) ∷ [])

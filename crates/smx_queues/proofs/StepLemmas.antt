@@ -1,4 +1,4 @@
--- What a walk over places meets next, in lists as which the tables are seen.
+-- The next element of a walk over places, in the lists that contracts see.
 use Rattle.std.proofs.Common.{◌≡◌, ℕ, zero, suc, ◌+◌, ◌<◌, List, [], ◌∷◌, ◌++◌, length, map, drop}
 use Rattle.std.proofs.Common.{get_or, Option, Some, None, refl, sym, ap, ◌∙◌, subst, arith, append-nil}
 use Rattle.std.specs.Prelude.{slice_get}
@@ -39,9 +39,9 @@ pub full_steps : (ds : List DriverSpec) (all : List (Option Queue)) (n i : ℕ) 
 full_steps ds all n i place now h seen least at =
     sym seen ∙ where_next is_marked None (places_of ds) all n i place (many ds all h) least at
 
--- ---- nothing at a place that is none of them
+-- ---- nothing at a place that the drivers don't have
 
--- the serials of no messages, behind others, add none
+-- the serials of no messages, appended to others, add none
 pub nothing_added : (xs : List ℕ) (ms : List Message) → [] ≡ ms → xs ≡ xs ++ map (λ m. m.serial) ms
 nothing_added xs ms e = subst (λ (ns : List Message). xs ≡ xs ++ map (λ m. m.serial) ns) e (sym (append-nil xs))
 
@@ -50,7 +50,7 @@ pub driver_at : (ds : List DriverSpec) (i : ℕ) (d : Place) → i < length (pla
     → (get_or (places_of ds) i d).stream.driver < length ds
 driver_at ds i d lt = (number_known ds i (get_or (places_of ds) i d) (slice_get-get_or (places_of ds) i d lt)).0
 
--- ---- what stands at a number
+-- ---- the messages at a number
 
 -- the slot of a number has the messages of the queue of that number
 slot_messages : (all : List (Option Queue)) (i : ℕ) → messages_in (get_or all i None) ≡ (queue_at all i).messages

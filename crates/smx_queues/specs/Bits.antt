@@ -1,4 +1,4 @@
--- What a contract sees of marks by number.
+-- Marks by number, as contracts see them.
 use Rattle.std.specs.Prelude.{◌≡◌, ℕ, zero, suc, ◌+◌, ◌*◌, ◌/◌, ◌%◌, ◌<◌, ◌≤◌, ◌^◌, Bool, true, false, ◌&&◌, ◌==◌, not}
 use Rattle.std.specs.Prelude.{if◌then◌else◌, List, length, slice_index}
 use Rattle.std.specs.Int.{bit_at}

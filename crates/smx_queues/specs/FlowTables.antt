@@ -1,4 +1,4 @@
--- What a contract sees of the queued messages and full marks of all places, by place.
+-- The queued messages and full marks of all places, by place, as contracts see them.
 use Rattle.std.specs.Prelude.{◌≡◌, ℕ, not, List, [], ◌∷◌, ◌++◌, map, filter, Option, Some, None}
 use Rattle.std.specs.List.{list_any}
 use Rattle.smx_types.specs.declared.driver.DriverSpec.{DriverSpec}

@@ -48,7 +48,7 @@ pub record ArePlaces (drivers : List DriverSpec) (rows : List DriverRow) (places
   pub rows_are : rows ≡ rows_of drivers
   pub places_are : places ≡ places_of drivers
 
--- those places at whose number stands what passes the test
+-- the places whose numbers have elements that pass the test
 abbrev pub places_where : {X : Type 0} → (X → Bool) → List Place → List X → List Place
 places_where passes [] xs = []
 places_where passes (p ∷ places) [] = []

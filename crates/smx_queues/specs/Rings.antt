@@ -1,14 +1,14 @@
--- Which numbers stand in which ring, and how the rings are linked.
+-- The ring that each number is in, and the links of the rings.
 use Rattle.std.specs.Prelude.{◌≡◌, ◌⊎◌, ℕ, suc, ◌+◌, ◌<◌, ◌^◌, ◌==◌, not, List, length, count_by}
 use Rattle.std.specs.Prelude.{slice_index_or, slice_set}
 
--- so many numbers; and for each of them 0, if it is in no ring, and else 1 more than the number whose ring it is in. As
--- many nodes follow, at which the rings begin, each in its own
+-- a count of numbers; and for each of them 0 if it is in no ring, otherwise 1 more than the number whose ring it is in.
+-- As many nodes follow, at which the rings begin, each in its own
 pub record RingTable : Type 0 where
   pub count : ℕ
   pub owners : List ℕ
 
--- what stands at an index, and 0 past the end
+-- the element at an index, and 0 past the end
 abbrev pub at : List ℕ → ℕ → ℕ
 at xs i = slice_index_or xs i 0
 
@@ -16,19 +16,19 @@ at xs i = slice_index_or xs i 0
 abbrev pub ring_count : RingTable → ℕ
 ring_count t = count_by (λ n. not (n == 0)) t.owners
 
--- with p behind h, and f behind p
+-- the same links, except that h leads to p, and p to f
 abbrev pub linked : List ℕ → ℕ → ℕ → ℕ → List ℕ
 linked xs p f h = slice_set (slice_set xs p f) h p
 
--- with b behind a, and p behind itself
+-- the same links, except that a leads to b, and p to itself
 abbrev pub unlinked : List ℕ → ℕ → ℕ → ℕ → List ℕ
 unlinked xs a b p = slice_set (slice_set xs a b) p p
 
--- of so many nodes each leads by the first list to one that leads back by the second
+-- each of the first `many` nodes leads by the first list to one that leads back by the second
 abbrev pub LeadsBack : ℕ → List ℕ → List ℕ → Type 0
 LeadsBack many xs ys = (i : ℕ) → i < many → (at xs i < many) × (at ys (at xs i) ≡ i)
 
--- in the ring of q, j comes behind i: the ring begins at j, or j is a number of a lower rank in it
+-- in the ring of q, j may follow i: the ring begins at j, or j is a number of a lower rank in it
 abbrev pub IsBehind : ℕ → List ℕ → (ℕ → ℕ) → ℕ → ℕ → ℕ → Type 0
 IsBehind count owners rank q i j = (j ≡ count + q) ⊎ ((j < count) × (at owners j ≡ suc q) × (rank j < rank i))
 
