@@ -35,7 +35,7 @@ pub struct Config {
 }
 
 impl Drop for Config {
-    // One call in each body that has one, however many ways it ends, in place of a drop for each part.
+    // Written by hand: a body drops a configuration by one call, and not part by part.
     fn drop(self) {
         let Config {
             tables: _tables,
@@ -57,9 +57,9 @@ impl Model for Config {
 }
 
 impl Config {
-    /// The empty configuration over these drivers, which keeps the allocator for all that it makes. Refused where there
-    /// are more than 128; or else at the least number of a driver that can't be had, or that has the name of an earlier
-    /// one; or else for want of memory.
+    /// Makes the empty configuration over these drivers, which keeps the allocator for all that it makes. Fails if
+    /// there are more than 128; or else for the first driver that is invalid or has the name of an earlier one; or else
+    /// if an allocation fails.
     pub fn new(alloc: Global, drivers: &[DriverSpec]) -> Result<Config, ConfigFault>
         ensures drivers { IfOk result (λ c. (c.drivers ≡ drivers.now) × IsDriverList drivers.now) }
         ensures empty { IfOk result (λ c. c.configuration ≡ empty) }
@@ -73,18 +73,18 @@ impl Config {
         Ok(Config { tables, marks })
     }
 
-    /// Does a command of a process: its reply and the new configuration are those of the command table. A fault for a
-    /// reply changes nothing, and neither does want of memory. `dup`, `unbind`, `unroute`, `read`, `transmit`, `hangup`
-    /// and every refusal take no memory, so they are always answered.
+    /// Performs a command of a process: its reply and the new configuration are those of the command table. Nothing
+    /// changes if the reply is a fault, or if an allocation fails. `dup`, `unbind`, `unroute`, `read`, `transmit`,
+    /// `hangup` and every refusal take no memory, so they are always answered.
     pub fn step(&mut self, process: Process, command: &Command) -> Result<Reply, NoMemory>
-        // What it does.
+        // Its effect.
         ensures drivers { self.new.drivers ≡ self.old.drivers }
         ensures ok { IfOk result (λ r.
             step self.old.drivers self.old.configuration process command.now ≡ (self.new.configuration, r)) }
-        // What changes nothing.
+        // Answers after which nothing has changed.
         ensures fault { IfOk result (λ r. (f : Fault) → r ≡ replies.Fault f → self.new ≡ self.old) }
         ensures err { IfErr result (λ _. self.new ≡ self.old) }
-        // What is always answered.
+        // Commands that are always answered.
         ensures in_place { IsTrue (takes_no_memory command.now) → IsOk result }
         ensures refused { IsErr (outcome self.old.drivers self.old.configuration process command.now) → IsOk result }
     {
@@ -110,23 +110,23 @@ impl Config {
         }
     }
 
-    /// `step` with its reply twice. The memory of the second one is taken before the first change too, so that `read`
-    /// and `transmit` take some, for a message that they deliver. `dup`, `unbind`, `unroute`, `hangup` and every
-    /// refusal take no memory, so they are always answered.
+    /// Performs a command as `step` does, and returns its reply twice. Memory for the second reply is allocated before
+    /// the first change, so `read` and `transmit` allocate if they deliver a message. `dup`, `unbind`, `unroute`,
+    /// `hangup` and every refusal take no memory, so they are always answered.
     pub fn step_twin(
         &mut self,
         process: Process,
         command: &Command,
     ) -> Result<(Reply, Reply), NoMemory>
-        // What it does.
+        // Its effect.
         ensures drivers { self.new.drivers ≡ self.old.drivers }
         ensures ok { IfOk result (λ r.
             step self.old.drivers self.old.configuration process command.now ≡ (self.new.configuration, r.0)) }
         ensures twice { IfOk result (λ r. r.1 ≡ r.0) }
-        // What changes nothing.
+        // Answers after which nothing has changed.
         ensures fault { IfOk result (λ r. (f : Fault) → r.0 ≡ replies.Fault f → self.new ≡ self.old) }
         ensures err { IfErr result (λ _. self.new ≡ self.old) }
-        // What is always answered.
+        // Commands that are always answered.
         ensures in_place { IsTrue (takes_no_memory command.now)
             → delivered_by (step self.old.drivers self.old.configuration process command.now).1 ≡ [] → IsOk result }
         ensures refused { IsErr (outcome self.old.drivers self.old.configuration process command.now) → IsOk result }
@@ -152,8 +152,8 @@ impl Config {
         self.tables.show()
     }
 
-    /// What `show` answers, of a configuration that nobody needs any more: no message is copied. Fails only for want of
-    /// memory.
+    /// Returns what `show` would return, for a configuration that is no longer needed: no message is copied. Fails only
+    /// if out of memory.
     pub fn into_view(self) -> Result<ConfigView, NoMemory>
         ensures { IfOk result (λ v. v ≡ view self.drivers self.configuration) }
     {
@@ -164,14 +164,14 @@ impl Config {
         tables.into_view()
     }
 
-    /// Whether `show` would answer just this view. It is compared line by line where it stands: that takes no memory.
+    /// Returns whether `show` would return exactly this view. Compares it line by line in place, and takes no memory.
     pub fn shows(&self, shown: &ConfigView) -> bool
         ensures { IsTrue result ↔ (shown.now ≡ view self.now.drivers self.now.configuration) }
     {
         self.tables.shows(shown)
     }
 
-    /// How many links stand, which are no more than 1,024. Takes no memory.
+    /// Returns the number of links, at most 1,024. Takes no memory.
     pub fn link_count(&self) -> u32
         ensures { result ≡ length self.now.configuration.links }
     {
@@ -179,7 +179,7 @@ impl Config {
         self.tables.links().len() as u32
     }
 
-    /// The drivers that it was made with, which no command changes. Takes no memory.
+    /// Returns the drivers that it was made with, which no command changes. Takes no memory.
     pub fn drivers(&self) -> &[DriverSpec]
         ensures value { result.now ≡ self.now.drivers }
         ensures list { IsDriverList self.now.drivers }

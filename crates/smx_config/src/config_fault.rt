@@ -7,13 +7,13 @@ use std::fmt;
 /// `driver 3 same name`, `too many drivers`, `no memory`.
 #[derive(Clone, Copy, Debug, PartialEq, Eq)]
 pub enum ConfigFault {
-    /// The driver of this number can't be had.
+    /// The driver with this number is invalid.
     BadSpec(usize, SpecFault),
-    /// The driver of this number has the name of an earlier one.
+    /// The driver with this number has the name of an earlier one.
     SameName(usize),
     /// There are more than 128 drivers.
     TooMany,
-    /// A growth was refused.
+    /// An allocation failed.
     NoMemory,
 }
 

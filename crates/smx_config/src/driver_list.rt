@@ -1,4 +1,4 @@
-//! Which drivers a configuration can have.
+//! The drivers that a configuration can have.
 
 ghost use Rattle.std.specs.Prelude.{◌≡◌, ◌≢◌, ◌↔◌, Any, IfErr, IsOk, IsTrue, ◌<◌, Err};
 ghost use Rattle.smx_model.specs.DriverList.{IsDriverList};

@@ -7,8 +7,8 @@ ghost use Rattle.smx_config.specs.DriverFaults.{RefusesDrivers};
 ghost use Rattle.smx_commands.specs.Machine.{takes_no_memory};
 ghost use Rattle.smx_config.specs.declared.config_fault.ConfigFault.{ConfigFault};
 
-/// A list of drivers has one fault at most, and none where a configuration can have it: want of memory alone is told
-/// of such a list.
+/// A list of drivers has one fault at most. If a configuration can have the list, its only fault is that an allocation
+/// failed.
 pub fn drivers_have_one_fault()
     ensures { (drivers : List DriverSpec) (f g : ConfigFault)
         → RefusesDrivers drivers f → RefusesDrivers drivers g → f ≡ g }

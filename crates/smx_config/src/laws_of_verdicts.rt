@@ -24,13 +24,13 @@ pub fn there_is_one_verdict()
     legal_or_first_illegal();
 }
 
-/// What a run reports is judged legal.
+/// Every report of programs is judged legal.
 pub fn reports_are_judged_legal()
     ensures { (programs : ProgramLists) (report : Transcript) → IsReportOf programs report
         → IsVerdict report.drivers report.entries report.view Legal }
 {}
 
-/// Of the worked history whose second entry is the first illegal one just that is said, whatever view is claimed.
+/// The worked history whose second entry is the first illegal one is judged exactly so, whatever view is claimed.
 pub fn the_second_is_judged_illegal()
     ensures second { (shown : ConfigView) → IsVerdict drivers history shown (Illegal 2) }
     ensures not_legal { (shown : ConfigView) → IsVerdict drivers history shown Legal → ⊥ }

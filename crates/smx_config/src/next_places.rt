@@ -1,4 +1,4 @@
-//! Where messages go next.
+//! The places to which messages go next.
 
 ghost use Rattle.std.specs.Prelude.{◌≡◌, IfNone, IfSome, Some};
 ghost use Rattle.smx_types.specs.declared.stream.Place.{Place as PlaceValue};
@@ -22,8 +22,8 @@ pub fn asks_for(tables: &Tables, n: usize, addr: u32) -> bool
     }
 }
 
-// The number of the place where the first message at that of a number goes next, whether that is full or not, if there
-// is one.
+// Returns the number of the place to which the first message at place `n` goes next, if there is one. That place may be
+// full.
 pub fn next_of_first(tables: &Tables, n: usize) -> Option<usize>
     requires sound { IsSound tables.now.drivers tables.now.configuration }
     requires number { IsNumber tables.now.drivers n }

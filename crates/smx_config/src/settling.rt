@@ -21,7 +21,7 @@ pub struct Move {
     pub to: usize,
 }
 
-// The run mark of a place that can't be moved from is cleared. If a full place holds it up, it waits for that.
+// Clears the run mark of a place whose first message can't move on. If its next place is full, it waits for that one.
 fn clear_mark(tables: &Tables, marks: &mut Marks, from: usize, next: Option<usize>)
     requires marks { AreMarks tables.now.drivers tables.now.configuration marks.old }
     requires number { IsNumber tables.now.drivers from }
@@ -40,8 +40,8 @@ fn clear_mark(tables: &Tables, marks: &mut Marks, from: usize, next: Option<usiz
     }
 }
 
-// The least movable place, with where its first message goes. Only places with a run mark are looked at, and the
-// marks of those that come before it are cleared.
+// Returns the least movable place, and the place to which its first message goes. Looks only at places with a run mark,
+// and clears the marks of those that come before it.
 #[inline(always)]
 fn next_move(tables: &Tables, marks: &mut Marks) -> Option<Move>
     requires sound { IsSound tables.now.drivers tables.now.configuration }
@@ -70,7 +70,7 @@ fn mark_unless(filled: bool, run: &mut Bits, n: usize)
     }
 }
 
-// A place that has no message left has no run mark.
+// Clears the run mark of a place that has no message left.
 fn clear_if_empty(tables: &Tables, marks: &mut Marks, n: usize)
     requires number { IsNumber tables.now.drivers n }
     requires marks { AreMarks tables.now.drivers tables.now.configuration marks.old }
@@ -81,7 +81,7 @@ fn clear_if_empty(tables: &Tables, marks: &mut Marks, n: usize)
     }
 }
 
-// The first message of a place moves on to its next place, and what that wakes is marked.
+// Moves the first message of a place on to its next place, and marks the places that this wakes.
 fn move_on(tables: &mut Tables, marks: &mut Marks, next: Move)
     requires sound { IsSound tables.old.drivers tables.old.configuration }
     requires marks { AreMarks tables.old.drivers tables.old.configuration marks.old }
@@ -118,7 +118,7 @@ fn settle_marked(tables: &mut Tables, marks: &mut Marks)
     let _none = next_move(tables, marks);
 }
 
-// Moves messages on until none can, and no run mark is left. Where there was none, nothing moves.
+// Moves messages on until none can, and no run mark is left. Nothing moves if there was none.
 pub fn settle(tables: &mut Tables, marks: &mut Marks)
     requires sound { IsSound tables.old.drivers tables.old.configuration }
     requires marks { AreMarks tables.old.drivers tables.old.configuration marks.old }

@@ -1,6 +1,6 @@
 //! The verdict on a history.
 
-/// What is said of a history, and of the view that is claimed of its end.
+/// The verdict on a history, and on the view that is claimed of its end.
 #[derive(Clone, Copy, Debug, PartialEq, Eq)]
 pub enum Verdict {
     /// Each reply is the one that its command gets, and the view is that of the configuration after the last entry.

@@ -1,4 +1,4 @@
-//! What a command may wake.
+//! The places that a command may wake.
 
 ghost use Rattle.std.specs.Prelude.{◌≡◌};
 ghost use Rattle.smx_commands.specs.MessageStreams.{message_stream};
@@ -8,7 +8,7 @@ ghost use Rattle.smx_config.specs.declared.wakes.Wakes.TheVariants as wakes;
 use smx_commands::Tables;
 use smx_types::{Command, Fault, Place, Process, Side, StreamId};
 
-/// What a command may wake, if it is accepted.
+/// The places that a command may wake, if it is accepted.
 #[derive(Clone, Copy)]
 pub enum Wakes {
     // No message can move on that could not before.
@@ -78,8 +78,8 @@ fn turns_reads(stream: Result<StreamId, Fault>, addr: u32) -> Wakes
     }
 }
 
-// What a message wakes that arrives at a side of the stream. The first message of a place that has one stays the
-// first.
+// Returns the place that a message wakes when it arrives at a side of the stream. If the place had messages, its first
+// one stays the first, and the arrival wakes nothing.
 fn arrives(tables: &Tables, stream: Result<StreamId, Fault>, side: Side) -> Wakes
     ensures { result ≡ on_stream stream (λ s. arrives tables.now.configuration (record { stream = s; side = side })) }
 {

@@ -1,4 +1,4 @@
-//! What a change wakes is marked.
+//! Marks for the places that a change wakes.
 
 ghost use Rattle.std.specs.Prelude.{◌≡◌, ℕ, ◌<◌, false, true, length, IfSome, IfNone, List};
 ghost use Rattle.smx_types.specs.declared.driver.DriverSpec.{DriverSpec};
@@ -20,7 +20,7 @@ use smx_commands::Tables;
 use smx_queues::Bits;
 use smx_types::{Place, Reply, Side, StreamId};
 
-// What waits for the number has a run mark, and waits no longer.
+// Gives a run mark to each place that waits for the one with this number, and ends its wait.
 fn mark_waiters(marks: &mut Marks, n: usize)
     requires over { AreFor marks.old.run.count marks.old }
     requires number { n < marks.old.run.count }
@@ -33,7 +33,7 @@ fn mark_waiters(marks: &mut Marks, n: usize)
     }
 }
 
-// A place that is not full is wanted no more, and what waits for it has a run mark.
+// Clears the wanted mark of a place that is not full, and gives a run mark to each place that waits for it.
 fn release(marks: &mut Marks, n: usize)
     requires over { AreFor marks.old.run.count marks.old }
     requires number { n < marks.old.run.count }
@@ -46,7 +46,7 @@ fn release(marks: &mut Marks, n: usize)
     marks.wanted.clear(n);
 }
 
-// So it is with the place of the number, if it is wanted and not full.
+// Does the same if the place of the number is wanted and not full.
 pub fn release_if_open(tables: &Tables, marks: &mut Marks, n: usize)
     requires over { AreOver tables.now.drivers marks.old }
     requires number { IsNumber tables.now.drivers n }
@@ -59,7 +59,7 @@ pub fn release_if_open(tables: &Tables, marks: &mut Marks, n: usize)
     }
 }
 
-// So it is with the place.
+// Does so for the place.
 fn release_place(tables: &Tables, marks: &mut Marks, place: Place)
     requires over { AreOver tables.now.drivers marks.old }
     requires listed { IsListed marks.old }
@@ -70,7 +70,7 @@ fn release_place(tables: &Tables, marks: &mut Marks, place: Place)
     }
 }
 
-// So it is with either side of the stream.
+// Does so for both sides of the stream.
 fn release_sides(tables: &Tables, marks: &mut Marks, stream: StreamId)
     requires over { AreOver tables.now.drivers marks.old }
     requires listed { IsListed marks.old }
@@ -103,7 +103,7 @@ fn first_open(tables: &Tables, wanted: &Bits) -> Option<usize>
     None
 }
 
-// So it is with each place.
+// Does so for all places.
 fn release_all(tables: &Tables, marks: &mut Marks)
     requires over { AreOver tables.now.drivers marks.old }
     requires listed { IsListed marks.old }
@@ -124,8 +124,8 @@ fn drops_none(reply: &Reply) -> bool
     }
 }
 
-// So it is with either side of the stream whose messages may have been dropped. A full place has messages, so where
-// none was dropped it is full still, and is not looked at.
+// Does so for both sides of the stream, if messages were dropped. A full place has messages, so if none was dropped, it
+// is still full, and is not looked at.
 fn release_emptied(tables: &Tables, marks: &mut Marks, stream: StreamId, reply: &Reply)
     requires over { AreOver tables.now.drivers marks.old }
     requires listed { IsListed marks.old }
@@ -136,7 +136,7 @@ fn release_emptied(tables: &Tables, marks: &mut Marks, stream: StreamId, reply: 
     }
 }
 
-// And so with each place.
+// Does so for all places, if messages were dropped.
 fn release_dropped(tables: &Tables, marks: &mut Marks, reply: &Reply)
     requires over { AreOver tables.now.drivers marks.old }
     requires listed { IsListed marks.old }
@@ -184,7 +184,7 @@ fn mark_turned(tables: &Tables, run: &mut Bits, wakes: Wakes)
     }
 }
 
-// Marks what a command woke that had this reply, and takes the wanted marks of the places that it freed.
+// Marks the places that a command with this reply woke, and clears the wanted marks of the places that it freed.
 pub fn wake(tables: &Tables, marks: &mut Marks, wakes: Wakes, reply: &Reply)
     requires over { AreOver tables.now.drivers marks.old }
     requires listed { IsListed marks.old }

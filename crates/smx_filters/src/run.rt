@@ -27,7 +27,7 @@ use std::thread::Threads;
 
 /// Reads programs from `feed`, runs them on `workers` workers, 1 to 64, and writes the transcript of the run to
 /// `sink`, in the version of the programs; with `fronts` it writes instead how far the history was when each program
-/// had ended. One worker runs one program after the other, by rising number, so its transcript is determined. Of
+/// had ended. One worker runs one program after the other, by rising number, so its transcript is determined. With
 /// several workers, worker `p` modulo `workers` runs process `p`. The gate hears of each command. No command is
 /// performed before the whole text was read and found valid. Requires that neither device has failed before and that
 /// the feed has not ended. Checks for faults in this order: reading, text, drivers, run, writing.

@@ -1,4 +1,4 @@
-//! A mark for each of so many numbers.
+//! A mark for each number below a count.
 
 ghost use Rattle.std.specs.Prelude.{◌≡◌, ◌≢◌, ℕ, ◌+◌, ◌*◌, ◌<◌, ◌≤◌, ◌^◌, false, true, length, slice_index};
 ghost use Rattle.std.specs.Prelude.{IfNone, IfOk, IfSome};
@@ -8,7 +8,7 @@ use smx_types::NoMemory;
 use std::alloc::Global;
 use std::marker::Model;
 
-/// A mark for each of so many numbers, of which the least one is found fast. A contract sees which numbers are marked.
+/// A mark for each number below `count`. The least marked number is found fast. Contracts see which ones are marked.
 #[derive(Debug, Drop)]
 pub struct Bits {
     count: usize,
@@ -28,7 +28,8 @@ impl Model for Bits {
     ghost invariant = { λ b. AreBits b.first b.count b.words.items };
 }
 
-// The first word from this one on that has a mark; the number of words, or this one, where none has.
+// Returns the first word from `start` on that has a mark, or if none has, the number of words or `start`, whichever is
+// larger.
 fn first_word(words: &[u64], start: usize) -> usize
     ensures zero { (w : ℕ) → start ≤ w → w < result → slice_index words.now w ≡ 0 }
     ensures some { result < length words.now → slice_index words.now result ≢ 0 }
@@ -47,7 +48,7 @@ fn first_word(words: &[u64], start: usize) -> usize
 }
 
 impl Bits {
-    /// No marks, for so many numbers. Fails only for want of memory.
+    /// Makes a table for the numbers below `count`, without marks. Fails only if out of memory.
     pub fn new(alloc: Global, count: usize) -> Result<Bits, NoMemory>
         requires { count < 2 ^ 63 }
         ensures count { IfOk result (λ b. b.count ≡ count) }
@@ -74,7 +75,7 @@ impl Bits {
         self.first = self.first.min(n / 64);
     }
 
-    /// Takes away the mark of the number, if it has one. Takes no memory.
+    /// Clears the mark of the number, if it has one. Takes no memory.
     pub fn clear(&mut self, n: usize)
         requires { n < self.old.count }
         ensures gone { (m : ℕ) → has_bit self.new m ≡ has_bit_but self.old n m }
@@ -131,7 +132,7 @@ impl Bits {
         least
     }
 
-    /// The same marks again. Fails only for want of memory.
+    /// Copies the marks. Fails only if out of memory.
     pub fn copy(&self, alloc: Global) -> Result<Bits, NoMemory>
         ensures { IfOk result (λ b. b ≡ self.now) }
     {

@@ -30,7 +30,7 @@ pub struct FlowTable {
 }
 
 impl Drop for FlowTable {
-    // One call in each body that has one, however many ways it ends, in place of a drop for each part.
+    // Written by hand: a body drops a table by one call, and not part by part.
     fn drop(self) {
         let FlowTable {
             places: _places,
@@ -56,7 +56,7 @@ impl Model for FlowTable {
 }
 
 impl FlowTable {
-    /// No messages, over these drivers. Fails only for want of memory.
+    /// Makes a table over these drivers, without messages. Fails only if out of memory.
     pub fn new(alloc: Global, drivers: &[DriverSpec]) -> Result<FlowTable, NoMemory>
         requires { IsDriverList drivers.now }
         ensures drivers { IfOk result (λ t. t.drivers ≡ drivers.now) }
@@ -156,7 +156,7 @@ impl FlowTable {
         }
     }
 
-    /// Room for one message more. Fails only for want of memory.
+    /// Makes room for one more message. Fails only if out of memory.
     pub fn reserve_one(&mut self) -> Result<(), NoMemory>
         ensures room { OnOk result (0 < self.new.spare) }
         ensures unchanged { self.new ≡ record self.old { spare = self.new.spare } }
@@ -188,8 +188,7 @@ impl FlowTable {
         }
     }
 
-    /// The first message leaves the place of one number and arrives at that of another, which is not full. Takes no
-    /// memory.
+    /// Moves the first message at the place of one number to that of another, which is not full. Takes no memory.
     #[inline(always)]
     pub fn move_front_at(&mut self, from: usize, to: usize)
         requires from { from < length (places_of self.old.drivers) }
@@ -206,8 +205,8 @@ impl FlowTable {
         self.queues.move_front(from, to);
     }
 
-    /// The messages at the place are dropped, and it is not full. Their serials come behind those of a list that has
-    /// room for them. Takes no memory.
+    /// Drops the messages at the place, which is then not full. Appends their serials to a list that has room for them.
+    /// Takes no memory.
     pub fn drop_at(&mut self, place: Place, dropped: &mut Vec<u32>)
         requires { length dropped.old.items + length (queue self.old.flow place) ≤ vec_capacity dropped.old }
         ensures gone { self.new ≡ record (without_place self.old place) { spare = self.new.spare } }
@@ -242,7 +241,7 @@ impl FlowTable {
         FullPlaces::new(&self.places, &self.queues)
     }
 
-    /// The same messages and marks again. Fails only for want of memory.
+    /// Copies the messages and the marks. Fails only if out of memory.
     pub fn copy(&self, alloc: Global) -> Result<FlowTable, NoMemory>
         ensures { IfOk result (λ t. t ≡ record self.now { spare = t.spare }) }
     {

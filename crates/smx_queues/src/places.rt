@@ -13,8 +13,7 @@ use smx_types::{DriverSpec, NoMemory, Place, Side, StreamId};
 use std::alloc::Global;
 use std::marker::Model;
 
-/// The number of a driver's first place, and how many minors it has: all that has to be known of a driver to number its
-/// places.
+/// The number of a driver's first place, and the number of its minors. They determine the numbers of all its places.
 #[derive(Clone, Copy, Debug)]
 pub struct DriverRow {
     pub first: usize,
@@ -79,7 +78,7 @@ fn minors_at(drivers: &[DriverSpec], driver: usize) -> u8
     drivers[driver].minors as u8
 }
 
-// Both sides of so many minors of a driver come behind the others.
+// Appends both sides of the first `minors` minors of a driver.
 fn push_sides(places: &mut Vec<Place>, driver: u8, minors: u8) -> Result<(), NoMemory>
     ensures { OnOk result (places.new.items ≡ places.old.items ++ sides_of driver minors) }
 {
@@ -98,7 +97,7 @@ fn push_sides(places: &mut Vec<Place>, driver: u8, minors: u8) -> Result<(), NoM
 }
 
 impl Places {
-    /// The places of these drivers. Fails only for want of memory.
+    /// Makes the places of these drivers. Fails only if out of memory.
     pub fn new(alloc: Global, drivers: &[DriverSpec]) -> Result<Places, NoMemory>
         requires { IsDriverList drivers.now }
         ensures { IfOk result (λ p. p ≡ drivers.now) }
@@ -156,7 +155,7 @@ impl Places {
         self.places[number]
     }
 
-    /// A queue for each place, without messages, with the water marks of its driver. Fails only for want of memory.
+    /// Makes a queue for each place, without messages, with the water marks of its driver. Fails only if out of memory.
     pub fn new_queues(&self, alloc: Global) -> Result<Queues, NoMemory>
         requires { IsDriverList self.now }
         ensures { IfOk result (λ q. q.queues ≡ new_queues self.now (places_of self.now)) }
@@ -169,7 +168,7 @@ impl Places {
         Ok(made)
     }
 
-    /// The same places again. Fails only for want of memory.
+    /// Copies the places. Fails only if out of memory.
     pub fn copy(&self, alloc: Global) -> Result<Places, NoMemory>
         ensures { IfOk result (λ p. p ≡ self.now) }
     {

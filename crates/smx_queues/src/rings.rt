@@ -7,14 +7,14 @@ use smx_types::NoMemory;
 use std::alloc::Global;
 use std::marker::Model;
 
-/// So many numbers, each in the ring of another one or in none. A contract sees which ring each is in.
+/// The numbers below `count`, each in the ring of one of them or in none. Contracts see the ring that each is in.
 #[derive(Debug, Drop)]
 pub struct Rings {
     count: usize,
-    // For each node 0, if it is in no ring, and else 1 more than the number of its ring. Of n numbers, node i is number
-    // i, and the ring of number i begins at node n + i.
+    // For each node 0 if it is in no ring, otherwise 1 more than the number of its ring. With n numbers, node i is
+    // number i, and the ring of number i begins at node n + i.
     owners: Vec<usize>,
-    // The nodes behind and before each node.
+    // The node after each node, and the one before it.
     next: Vec<usize>,
     previous: Vec<usize>,
 }
@@ -29,7 +29,7 @@ impl Model for Rings {
     ghost invariant = { λ r. AreRings r.count r.owners.items r.next.items r.previous.items };
 }
 
-// Puts p behind h, and f behind p.
+// Lets h lead to p, and p to f.
 fn link(nodes: &mut Vec<usize>, p: usize, f: usize, h: usize)
     requires p { p < length nodes.old.items }
     requires h { h < length nodes.old.items }
@@ -39,7 +39,7 @@ fn link(nodes: &mut Vec<usize>, p: usize, f: usize, h: usize)
     nodes[h] = p;
 }
 
-// Puts b behind a, and p behind itself.
+// Lets a lead to b, and p to itself.
 fn unlink(nodes: &mut Vec<usize>, a: usize, b: usize, p: usize)
     requires a { a < length nodes.old.items }
     requires p { p < length nodes.old.items }
@@ -49,7 +49,7 @@ fn unlink(nodes: &mut Vec<usize>, a: usize, b: usize, p: usize)
     nodes[p] = p;
 }
 
-// The numbers from 0 on, so many.
+// Returns the numbers below `count`, in order.
 fn numbers(alloc: Global, count: usize) -> Result<Vec<usize>, NoMemory>
     ensures count { IfOk result (λ v. length v.items ≡ count) }
     ensures each { IfOk result (λ v. (i : ℕ) → i < count → at v.items i ≡ i) }
@@ -61,7 +61,7 @@ fn numbers(alloc: Global, count: usize) -> Result<Vec<usize>, NoMemory>
     Ok(numbers)
 }
 
-// No number is in a ring, and each ring begins in itself.
+// Returns the owners for the case that no number is in a ring. The beginning of each ring is in that ring.
 fn first_owners(alloc: Global, count: usize) -> Result<Vec<usize>, NoMemory>
     requires { count < 2 ^ 63 }
     ensures count { IfOk result (λ v. length v.items ≡ count + count) }
@@ -76,7 +76,7 @@ fn first_owners(alloc: Global, count: usize) -> Result<Vec<usize>, NoMemory>
 }
 
 impl Rings {
-    /// So many numbers, in no ring. Fails only for want of memory.
+    /// Makes rings for the numbers below `count`, with no number in a ring. Fails only if out of memory.
     pub fn new(alloc: Global, count: usize) -> Result<Rings, NoMemory>
         requires { count < 2 ^ 63 }
         ensures count { IfOk result (λ r. r.count ≡ count) }
@@ -131,7 +131,7 @@ impl Rings {
         }
     }
 
-    /// The number p is in the ring of q, and no longer in another. Takes no memory.
+    /// Puts number p into the ring of q, and takes it out of any other. Takes no memory.
     pub fn enter(&mut self, p: usize, q: usize)
         requires p { p < self.old.count }
         requires q { q < self.old.count }
@@ -162,7 +162,7 @@ impl Rings {
         Some(p)
     }
 
-    /// The same rings again. Fails only for want of memory.
+    /// Copies the rings. Fails only if out of memory.
     pub fn copy(&self, alloc: Global) -> Result<Rings, NoMemory>
         ensures { IfOk result (λ r. r ≡ self.now) }
     {

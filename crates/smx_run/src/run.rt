@@ -33,9 +33,9 @@ pub const MAX_WORKERS: usize = 64;
 
 /// Runs the programs by `workers` workers, 1 to 64, and reports the one history that they make. Worker `p` modulo
 /// `workers` runs process `p`; a worker runs its processes by rising number, each to its end, and the gate hears of
-/// each command. One worker, or one process, starts no thread. Fails before any command is performed if the drivers
-/// are not valid; if it is out of memory, which includes that a worker can't be started; and, on several workers, for
-/// a full history. The report has the front that was seen after each program had ended.
+/// each command. One worker, or one process, starts no thread. Fails if the drivers are invalid, before any command is
+/// performed; as out of memory, also if a worker can't be started; and, on several workers, if the history is full.
+/// The report has the front that was seen after each program had ended.
 pub fn run_programs<R: Threads + Wait + Sync, G: Gate + Sync>(
     rt: &R,
     alloc: Global,
@@ -56,7 +56,7 @@ pub fn run_programs<R: Threads + Wait + Sync, G: Gate + Sync>(
     Ok(report(alloc, system, fronts)?)
 }
 
-/// Runs the programs as `run_programs` does, at a new system whose entries go to `sink`. Returns the system after all
+/// Runs the programs as `run_programs` does, on a new system whose entries go to `sink`. Returns the system after all
 /// commands, and the front that was seen after each program had ended. With one worker, or one process, it is a loop
 /// on this thread.
 pub fn run_system<R: Threads + Wait + Sync, K: EntrySink + Send, G: Gate + Sync>(

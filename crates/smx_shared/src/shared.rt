@@ -88,8 +88,8 @@ impl<K: EntrySink> Shared<K> {
         Ok((Shared { turns }, seats))
     }
 
-    /// Performs a command as `call` does, without waiting. Fails with no entry added if another seat has the turn, as
-    /// the returned front shows, or as `call` does. The allocator isn't used: the system has one already.
+    /// Performs a command as `call` does, without waiting. Fails if another seat has the turn, with a front that shows
+    /// it, or else as `call` does; then no entry is added. The allocator isn't used: the system has one already.
     pub fn try_call(
         &self,
         _alloc: Global,

@@ -1,4 +1,4 @@
-//! What a place has: its messages, its mark, its bytes.
+//! Reading a place: its messages, its mark, its bytes.
 
 ghost use Rattle.std.specs.Prelude.{◌≡◌, ◌+◌, ◌≤◌, [], ◌++◌, length, map, Some, None, IfOk, option_copied};
 ghost use Rattle.std.specs.Prelude.{slice_get, vec_capacity, Option};
@@ -23,7 +23,7 @@ impl Queues {
         Some(&self.nodes[chain.first].message)
     }
 
-    /// The message with so many before it, if there is one. Takes no memory.
+    /// Returns the message with `i` others before it, if there is one. Takes no memory.
     pub fn nth(&self, p: PlaceId, i: usize) -> Option<&Message>
         requires { IsPlace self.now.queues p }
         ensures { option_copied result ≡ slice_get (queue_at self.now.queues p).messages i }
@@ -87,7 +87,7 @@ impl Queues {
         }
     }
 
-    /// The serials of the messages at the place, from the front on. Fails only for want of memory.
+    /// Returns the serials of the messages at the place, from the front on. Fails only if out of memory.
     pub fn serials(&self, p: PlaceId) -> Result<Vec<u32>, NoMemory>
         requires { IsPlace self.now.queues p }
         ensures { IfOk result (λ v. v.items ≡ map (λ m. m.serial) (queue_at self.now.queues p).messages) }
@@ -97,7 +97,7 @@ impl Queues {
         Ok(serials)
     }
 
-    /// The serials of the messages at the place, from the front on, added to a list that has room for them. Takes no
+    /// Appends the serials of the messages at the place, from the front on, to a list that has room for them. Takes no
     /// memory.
     pub fn add_serials(&self, p: PlaceId, serials: &mut Vec<u32>)
         requires place { IsPlace self.now.queues p }
