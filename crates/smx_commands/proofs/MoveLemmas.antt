@@ -5,10 +5,9 @@ use Rattle.smx_types.specs.declared.driver.DriverSpec.{DriverSpec}
 use Rattle.smx_types.specs.declared.message.Message.{Message}
 use Rattle.smx_types.specs.declared.stream.Place.{Place}
 use Rattle.smx_model.specs.Configuration.{Configuration}
-use Rattle.smx_model.specs.LoneMessages.{after_move_between}
 use Rattle.smx_model.specs.Queues.{first_message}
 use Rattle.smx_model.specs.Queues as model
-use Rattle.smx_model.specs.Settling.{after_move_to}
+use Rattle.smx_model.specs.Settling.{after_move_between, after_move_to}
 use Rattle.smx_queues.specs.FlowTables.{FlowLists, after_arrival, after_leaving}
 use Rattle.smx_tables.specs.ModelOfLists.{configuration_of}
 use Rattle.smx_tables.specs.declared.lists.Lists.{Lists}

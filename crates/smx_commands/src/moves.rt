@@ -3,7 +3,7 @@
 ghost use Rattle.std.specs.Prelude.{◌≡◌, ◌≢◌, ◌<◌, false, length, slice_get, IsSome, Some};
 ghost use Rattle.smx_types.specs.declared.stream.Place.{Place as PlaceValue};
 ghost use Rattle.smx_queues.specs.PlaceLists.{places_of};
-ghost use Rattle.smx_model.specs.LoneMessages.{after_move_between};
+ghost use Rattle.smx_model.specs.Settling.{after_move_between};
 ghost use Rattle.smx_model.specs.Queues.{first_message, is_full};
 
 use crate::tables::Tables;

@@ -146,12 +146,6 @@ released_both drivers c these those old mid new a b = record {
   ];
 }
 
--- where nothing is freed, nothing is released
-pub none_released : (drivers : List DriverSpec) (c : Configuration) (m : Marks) → IsListed m
-    → IsReleased drivers c nowhere m m
-none_released drivers c m listed =
-    record { kept = all_kept m listed; gone = λ i j q there noted f. absurd (false≢true f) }
-
 -- where no wanted place is left that is not full, all are released
 pub all_released : (drivers : List DriverSpec) (c : Configuration) (old new : Marks) → AreKept old new
     → ((n : ℕ) → has_bit new.wanted n ≡ true → IsFullAt drivers c n) → IsReleased drivers c everywhere old new

@@ -44,13 +44,9 @@ pub mod FeederLemmas
 pub mod TurningCommandLemmas
 pub mod KnownPlaceLemmas
 pub mod SettlingByMarksLemmas
-pub mod MoveBetweenLemmas
-pub mod LoneWaitingLemmas
-pub mod LoneMessageLemmas
 pub mod MarkedPlaceLemmas
 pub mod FreedPlaceLemmas
 pub mod UndroppedLemmas
-pub mod NearMarkLemmas
 pub mod MarkedCommandLemmas
 pub mod HungStreamLemmas
 pub mod QuietHistoryLemmas

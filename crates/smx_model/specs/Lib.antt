@@ -14,8 +14,6 @@ pub mod Settling
 pub mod LeastMovable
 pub mod RunMarks
 pub mod SettlingByMarks
-pub mod LoneMessages
-pub mod NearMarks
 pub mod Removal
 pub mod MeantLinks
 pub mod Outcomes

@@ -70,6 +70,10 @@ after_move_to drivers c p (Some q) (Some m) = after_arrival drivers (after_leavi
 after_move_to drivers c p (Some q) None = c
 after_move_to drivers c p None m = c
 
+-- the configuration with the first message of one place moved to the end of another's queue
+abbrev pub after_move_between : List DriverSpec → Configuration → Place → Place → Configuration
+after_move_between drivers c p q = after_move_to drivers c p (Some q) (first_message c.flow p)
+
 -- the first message of a place leaves it and arrives at its next place
 abbrev pub after_move : List DriverSpec → Configuration → Place → Configuration
 after_move drivers c p = after_move_to drivers c p (next_open_place drivers c p) (first_message c.flow p)

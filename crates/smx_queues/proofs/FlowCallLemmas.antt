@@ -291,13 +291,3 @@ pub moved_by : (ds : List DriverSpec) (old new : QueueTable) (t : FlowLists) (fr
     → new.spare ≡ old.spare → IsMovedOn ds new.queues new.spare t from to
 moved_by ds old new t from to i j some h seen at there differ moved same =
     moved_some ds old new t from to i j (first_message t.flow from) refl some h seen at there differ moved same
-
--- where it can't be that a place has no number, it has one
-pub has_number : {A : Type 0} (o : Option ℕ) → IfNone o A → (A → ⊥) → IsSome o
-has_number None none some = absurd (some none)
-has_number (Some i) none some = refl
-
--- where there is no message, it can't be that there is one
-pub none_some : (o : Option Message) → None ≡ o → IsSome o → ⊥
-none_some None e some = cc
-none_some (Some m) e some = cc

@@ -63,12 +63,6 @@ same_rows d (x ∷ xs) (y ∷ ys) long each =
 none_before : (x : StreamId) → pair_before x.driver x.minor 0 0 ≡ false
 none_before x = grind (arith, nat_tests)
 
--- exactly one more stream is before the next minor
-next_before : (x s : StreamId)
-    → pair_before x.driver x.minor s.driver (s.minor + 1) ≡ (if same_stream x s then true else
-    pair_before x.driver x.minor s.driver s.minor)
-next_before x s = grind (arith, nat_tests)
-
 -- a stream is not before itself
 not_before : (s : StreamId) → pair_before s.driver s.minor s.driver s.minor ≡ false
 not_before s = grind (arith, nat_tests)
@@ -84,67 +78,6 @@ none_copied u v own rows minors none hungs = record {
   holds = λ x. rw (none_before x) (none x).1;
   hungs = λ x. rw (none_before x) (hungs x);
 }
-
--- one more stream
-
--- the number or flag at a stream, after one more stream is copied
-one_more : {X : Type 0} (x s : StreamId) (none own was new old : X) → new ≡ (if same_stream x s then own else was)
-    → was ≡ (if pair_before x.driver x.minor s.driver s.minor then old else none)
-    → (same_stream x s ≡ true → own ≡ old)
-    → new ≡ (if pair_before x.driver x.minor s.driver (s.minor + 1) then old else none)
-one_more x s none own was new old set before same = elim (cases_Bool (same_stream x s)) [
-  | inl t ↦ rw (next_before x s, t) (set ∙ rw t (same t))
-  | inr f ↦ rw (next_before x s, f) (set ∙ rw f before)
-]
-
--- the number or flag at a stream, if the next stream has nothing to copy
-none_more : {X : Type 0} (x s : StreamId) (none new old : X)
-    → new ≡ (if pair_before x.driver x.minor s.driver s.minor then old else none)
-    → (same_stream x s ≡ true → none ≡ old)
-    → new ≡ (if pair_before x.driver x.minor s.driver (s.minor + 1) then old else none)
-none_more x s none new old before same = elim (cases_Bool (same_stream x s)) [
-  | inl t ↦ rw (next_before x s, t) (before
-      ∙ rw (ap (λ (y : StreamId). pair_before y.driver y.minor s.driver s.minor) (same_is x s t) ∙ not_before s)
-      (same t))
-  | inr f ↦ rw (next_before x s, f) before
-]
-
--- the stream's record is copied
-pub record_copied : (u v w : Uses) (s : StreamId) (r : Record) → IsCopyBefore u s.driver s.minor v
-    → IsRecordOf u s (Some r) → HasRows w → AreSet v s r.opens r.holds r.hung w
-    → IsCopyBefore u s.driver (s.minor + 1) w
-record_copied u v w s r h is rows set = record {
-  rows = (h.rows.0, rows);
-  minors = set.minors ∙ h.minors;
-  opens = λ x. one_more x s 0 r.opens (number_at v.opens x) (number_at w.opens x) (number_at u.opens x)
-      (set.opens_now x) (h.opens x) (λ t. is.opens ∙ ap (number_at u.opens) (sym (same_is x s t)));
-  holds = λ x. one_more x s 0 r.holds (number_at v.holds x) (number_at w.holds x) (number_at u.holds x)
-      (set.holds_now x) (h.holds x) (λ t. is.holds ∙ ap (number_at u.holds) (sym (same_is x s t)));
-  hungs = λ x. one_more x s false r.hung (flag_at v.hungs x) (flag_at w.hungs x) (flag_at u.hungs x)
-      (set.hungs_now x) (h.hungs x) (λ t. is.hung ∙ ap (flag_at u.hungs) (sym (same_is x s t)));
-}
-
--- the stream has no record to copy
-pub none_to_copy : (u v : Uses) (s : StreamId) → IsCopyBefore u s.driver s.minor v → IsRecordOf u s None
-    → IsCopyBefore u s.driver (s.minor + 1) v
-none_to_copy u v s h is = record {
-  rows = h.rows;
-  minors = h.minors;
-  opens = λ x. none_more x s 0 (number_at v.opens x) (number_at u.opens x) (h.opens x)
-      (λ t. is.opens ∙ ap (number_at u.opens) (sym (same_is x s t)));
-  holds = λ x. none_more x s 0 (number_at v.holds x) (number_at u.holds x) (h.holds x)
-      (λ t. is.holds ∙ ap (number_at u.holds) (sym (same_is x s t)));
-  hungs = λ x. none_more x s false (flag_at v.hungs x) (flag_at u.hungs x) (h.hungs x)
-      (λ t. is.hung ∙ ap (flag_at u.hungs) (sym (same_is x s t)));
-}
-
--- the copy has nothing at a stream that is not before the minor
-pub not_yet : (u v : Uses) (s : StreamId) → IsCopyBefore u s.driver s.minor v
-    → number_at v.opens s + number_at v.holds s ≡ 0
-not_yet u v s h =
-    let opens : number_at v.opens s ≡ 0 = h.opens s ∙ rw (not_before s) refl in
-    let holds : number_at v.holds s ≡ 0 = h.holds s ∙ rw (not_before s) refl in
-    omega (arith, opens, holds)
 
 -- the end of a driver's row
 

@@ -1,5 +1,5 @@
 -- The places that some commands of worked histories turn and free, and the moves of settling that result.
-use Rattle.std.specs.Prelude.{◌≡◌, ℕ, Bool, true, false, List, [], ◌∷◌, Option, Some, None, filter, if◌then◌else◌, map}
+use Rattle.std.specs.Prelude.{◌≡◌, ℕ, Bool, true, false, List, [], ◌∷◌, filter, map}
 use Rattle.std.specs.Prelude.{refl, take}
 use Rattle.std.specs.List.{list_all}
 use Rattle.smx_types.specs.declared.command.Command.{Command}
@@ -9,7 +9,6 @@ use Rattle.smx_types.specs.declared.stream.Side.{Side}
 use Rattle.smx_types.specs.declared.stream.Side.TheVariants as side
 use Rattle.smx_model.specs.Configuration.{Configuration, same_place}
 use Rattle.smx_model.specs.FreedPlaces.{freed_by}
-use Rattle.smx_model.specs.NearMarks.{awaits}
 use Rattle.smx_model.specs.Queues.{after_leaving}
 use Rattle.smx_model.specs.RunMarks.{can_feed, is_freed, wanted_after, woken_by}
 use Rattle.smx_model.specs.Settling.{after_move}
@@ -198,11 +197,3 @@ pub what_can_feed : map (λ q. filter (can_feed full q) places)
     (eth_0_write ∷ ip_0_read ∷ eth_1_write ∷ eth_0_read ∷ ip_0_write ∷ [])
     ≡ (ip_0_write ∷ ip_1_write ∷ []) ∷ (eth_0_read ∷ []) ∷ [] ∷ [] ∷ [] ∷ []
 what_can_feed = refl
-
--- the places known to wait for a place are those whose known place is that place
-abbrev pub known_in_it : Place → Option Place
-known_in_it p = if same_place p ip_0_write then Some eth_0_write else None
-
-pub one_awaits : map (λ q. filter (awaits known_in_it q) places) (eth_0_write ∷ eth_1_write ∷ [])
-    ≡ (ip_0_write ∷ []) ∷ [] ∷ []
-one_awaits = refl
