@@ -18,7 +18,7 @@ use crate::tables::{Tables, tells_existing};
 use smx_tables::arrivals::{arrive, leave};
 use smx_tables::driver_specs::max_of;
 use smx_tables::dropped_messages::drop_sides;
-use smx_tables::sweep::{reserve_for_dropped, sweep_nothing_and_reply};
+use smx_tables::sweep::{reserve_for_sweep, sweep_and_reply};
 use smx_types::{
     Bytes, DriverSpec, Fault, Message, NUMBER_END, Place, Process, Reply, Side, Sides, StreamId,
 };
@@ -163,9 +163,9 @@ impl Tables {
     {
         let stream = self.live_stream(process, fd)?;
         tells_existing(&self.drivers, &self.lists);
-        let dropped = &mut self.room.dropped;
-        reserve_for_dropped(dropped, &self.lists)?;
-        drop_sides(&mut self.lists.queues, stream, sides, dropped);
-        Ok(sweep_nothing_and_reply(&self.drivers, &self.lists, dropped))
+        let room = &mut self.room;
+        reserve_for_sweep(room, &self.lists, 0)?;
+        drop_sides(&mut self.lists.queues, stream, sides, &mut room.dropped);
+        Ok(sweep_and_reply(&self.drivers, &mut self.lists, room))
     }
 }

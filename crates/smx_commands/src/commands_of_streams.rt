@@ -19,9 +19,7 @@ use crate::step_error::StepError;
 use crate::tables::{Tables, tells_existing};
 use smx_streams::Streams;
 use smx_tables::standing;
-use smx_tables::sweep::{
-    reserve_for_dropped, reserve_for_sweep, sweep_alone_and_reply, sweep_and_reply,
-};
+use smx_tables::sweep::{reserve_for_sweep, sweep_and_reply};
 use smx_types::{Fault, MAX_DESCRIPTORS, Name, Process, Reply, StreamId};
 
 // Returns the reply that names a descriptor and its stream's minor.
@@ -87,8 +85,7 @@ impl Tables {
         Ok(fd_reply(opened))
     }
 
-    // Closes the last descriptor of a stream that isn't held, and sweeps. If the stream's driver is above no link, only
-    // what belongs to this stream is swept.
+    // Closes the last descriptor of a stream that isn't held, and sweeps.
     fn close_last(
         &mut self,
         process: Process,
@@ -101,12 +98,6 @@ impl Tables {
             (closing self.old.drivers self.old.configuration process fd) result }
     {
         tells_existing(&self.drivers, &self.lists);
-        if !self.lists.links.is_upper(stream.driver) {
-            reserve_for_dropped(&mut self.room.dropped, &self.lists)?;
-            let _gone = self.lists.streams.close_fd(process, fd);
-            let dropped = &mut self.room.dropped;
-            return Ok(sweep_alone_and_reply(&self.drivers, &mut self.lists, stream, dropped));
-        }
         reserve_for_sweep(&mut self.room, &self.lists, 1)?;
         let _closed = self.lists.streams.close_fd(process, fd);
         self.room.touched.push_reserved(stream);

@@ -28,4 +28,3 @@ pub mod AddressLineLemmas
 pub mod DriverListLemmas
 pub mod WalkLemmas
 pub mod KeptLemmas
-pub mod AloneLemmas

@@ -1,6 +1,6 @@
 //! The sweep: removes what belongs to streams that no longer exist, and replies with the dropped messages.
 
-ghost use Rattle.std.specs.Prelude.{◌≡◌, ◌≤◌, true, false, not, filter, length, OnOk, List, [], ◌∷◌};
+ghost use Rattle.std.specs.Prelude.{◌≡◌, ◌≤◌, true, not, filter, length, OnOk, List, [], ◌∷◌};
 ghost use Rattle.std.specs.List.{list_all};
 ghost use Rattle.smx_types.specs.declared.driver.DriverSpec.{DriverSpec as DriverValue};
 ghost use Rattle.smx_types.specs.declared.stream.StreamId.{StreamId};
@@ -8,7 +8,6 @@ ghost use Rattle.smx_model.specs.KnownStreams.{AreControllingKnown};
 ghost use Rattle.smx_model.specs.Removal.{without_dead_streams, without_links, after_sweep};
 ghost use Rattle.smx_addresses.specs.BindingLists.{is_binding_of};
 ghost use Rattle.smx_streams.specs.StreamTables.{LeavesHungs, exists as is_there};
-ghost use Rattle.smx_links.specs.LinkLists.{is_upper};
 ghost use Rattle.smx_tables.specs.DroppedMessages.{AreDropped, DropsMore, HasRoom, NamesDropped};
 ghost use Rattle.smx_tables.specs.ExistingStreams.{TellsExisting};
 ghost use Rattle.smx_tables.specs.ListedLinks.{is_orphaned};
@@ -162,9 +161,9 @@ fn sweep(drivers: &[DriverSpec], lists: &mut Lists, room: &mut SweepReserve)
     drop_dead(lists, &room.seen, &mut room.dropped);
 }
 
-/// Clears the list, and reserves room in it for the serials of all messages. Fails only if out of memory.
+// Clears the list, and reserves room in it for the serials of all messages. Fails only if out of memory.
 #[tactic(auto, using(crate::proofs::DropLemmas::none_dropped))]
-pub fn reserve_for_dropped(dropped: &mut Vec<u32>, lists: &Lists) -> Result<(), AllocError>
+fn reserve_for_dropped(dropped: &mut Vec<u32>, lists: &Lists) -> Result<(), AllocError>
     ensures room { OnOk result (HasRoom dropped.new lists.now.queues.flow) }
     ensures none { OnOk result (AreDropped lists.now.queues.flow lists.now.queues.flow dropped.new.items) }
 {
@@ -209,45 +208,4 @@ pub fn sweep_and_reply(drivers: &[DriverSpec], lists: &mut Lists, room: &mut Swe
 {
     sweep(drivers, lists, room);
     name_dropped(&mut room.dropped)
-}
-
-/// Does the same after a change that touched only this stream, whose driver is above no link. Only the stream can cease
-/// to exist, with what belongs to it. The list has room for the serials of all messages.
-pub fn sweep_alone_and_reply(
-    drivers: &[DriverSpec],
-    lists: &mut Lists,
-    stream: StreamId,
-    dropped: &mut Vec<u32>,
-) -> Reply
-    requires kept { KeepsHolds lists.old }
-    requires known { AreControllingKnown drivers.now lists.old.links.links }
-    requires touched { IsTouched lists.old.streams (stream ∷ []) (configuration_of lists.old) }
-    requires lower { is_upper lists.old.links.links stream.driver ≡ false }
-    requires room { HasRoom dropped.old lists.old.queues.flow }
-    ensures value { configuration_of lists.new ≡ after_sweep drivers.now (configuration_of lists.old) }
-    ensures reply { NamesDropped lists.old.queues.flow dropped.old.items lists.new.queues.flow result }
-    ensures kept { KeepsHolds lists.new }
-    ensures drivers { sizes_of lists.new ≡ sizes_of lists.old }
-{
-    tells_existing(drivers, lists);
-    drop_dead(lists, &[stream], dropped);
-    name_dropped(dropped)
-}
-
-/// Returns the same reply after a change that touched no stream, so that there is nothing to sweep.
-pub fn sweep_nothing_and_reply(
-    drivers: &[DriverSpec],
-    lists: &Lists,
-    dropped: &mut Vec<u32>,
-) -> Reply
-    requires kept { KeepsHolds lists.now }
-    requires known { AreControllingKnown drivers.now lists.now.links.links }
-    requires touched { IsTouched lists.now.streams [] (configuration_of lists.now) }
-    ensures value { configuration_of lists.now ≡ after_sweep drivers.now (configuration_of lists.now) }
-    ensures reply { NamesDropped lists.now.queues.flow dropped.old.items lists.now.queues.flow result }
-{
-    lists.streams.is_sound();
-    sweeping_again_changes_nothing();
-    tells_existing(drivers, lists);
-    name_dropped(dropped)
 }

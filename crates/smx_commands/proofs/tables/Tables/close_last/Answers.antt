@@ -1,4 +1,4 @@
-use Rattle.std.proofs.Common.{List, [], ◌∷◌, ap, ◌∙◌}
+use Rattle.std.proofs.Common.{List, ap, ◌∙◌}
 use Rattle.std.specs.List.{list_any}
 use Rattle.smx_types.specs.declared.stream.StreamId.{StreamId}
 use Rattle.smx_model.specs.Configuration.{same_stream}
@@ -7,24 +7,6 @@ use Rattle.smx_tables.proofs.WatchLemmas.{listed_last}
 use Rattle.smx_commands.proofs.ClosingLemmas.{close_touches, closes_last}
 use Rattle.smx_commands.proofs.TablesLemmas.{sound_inside}
 use Rattle.smx_commands.proofs.tables.Tables.close_last.Goals as goal
-
-pub sweep_alone_and_reply-requires-clause-touched : goal.sweep_alone_and_reply-requires-clause-touched
-sweep_alone_and_reply-requires-clause-touched c =
-    let sound = sound_inside c.self.inside c.args.self.now c.self.view_is c.requires.sound in
-    close_touches c.self.inside.drivers.items (configuration_of c.self.inside.lists) c.self.inside.lists.streams
-    c.close_fd-gone.new.self c.args.process c.args.fd c.args.stream (c.args.stream ∷ [])
-    (rw (← c.deref.ensures.value) c.tells_existing.ensures) sound.swept (rw (← c.self.view_is) at c.requires.there)
-    (listed_last [] c.args.stream) c.close_fd-gone.ensures.went
-
-pub returns-then-not-is_upper : goal.returns-then-not-is_upper
-returns-then-not-is_upper c =
-    let old = configuration_of c.self.inside.lists in
-    let sound = sound_inside c.self.inside c.args.self.now c.self.view_is c.requires.sound in
-    closes_last c.self.inside c.args.self.now c.args.process c.args.fd c.close_fd-gone.new.self
-    c.deref-then-not-is_upper.result.now _ c.sweep_alone_and_reply.result c.self.view_is c.self.invariant
-    c.close_fd-gone.ensures.rest c.deref-then-not-is_upper.ensures.value c.sweep_alone_and_reply.ensures.value
-    (c.sweep_alone_and_reply.ensures.reply old.flow sound.serials.apart
-    c.in_ok-reserve_for_dropped.ensures.none)
 
 pub sweep_and_reply-requires-clause-touched : goal.sweep_and_reply-requires-clause-touched
 sweep_and_reply-requires-clause-touched c =

@@ -1,4 +1,4 @@
-use Rattle.std.proofs.Common.{◌≡◌, ◌&&◌, [], ap, refl, sym, ◌∙◌}
+use Rattle.std.proofs.Common.{◌≡◌, ◌&&◌, ap, refl, sym, ◌∙◌}
 use Rattle.std.proofs.lemmas.Bool.{or_left}
 use Rattle.smx_types.specs.declared.stream.Place.{Place}
 use Rattle.smx_model.specs.Commands.{done_outcome, is_side}
@@ -10,15 +10,16 @@ use Rattle.smx_commands.proofs.DoneLemmas.{swept_is}
 use Rattle.smx_commands.proofs.TablesLemmas.{accepted, sound_inside}
 use Rattle.smx_commands.proofs.tables.Tables.flush.Goals as goal
 
-pub sweep_nothing_and_reply-requires-clause-touched : goal.sweep_nothing_and_reply-requires-clause-touched
-sweep_nothing_and_reply-requires-clause-touched c =
+pub sweep_and_reply-requires-clause-touched : goal.sweep_and_reply-requires-clause-touched
+sweep_and_reply-requires-clause-touched c =
     let old = configuration_of c.self.inside.lists in
     let t = c.self.inside.lists.streams in
+    let touched = c.reserve_for_sweep.new.room.touched.items in
     let goes = λ (p : Place). same_stream p.stream c.in_ok-stream.stream && is_side c.args.sides p.side in
     let sound = sound_inside c.self.inside c.args.self.now c.self.view_is c.requires in
     rw (c.drop_sides.ensures.flow, c.drop_sides.ensures.fulls)
-    (touched_emptied t [] old goes
-    (touched_by c.self.inside.drivers.items old t t []
+    (touched_emptied t touched old goes
+    (touched_by c.self.inside.drivers.items old t t touched
     (rw (← c.deref.ensures.value) c.tells_existing.ensures) sound.swept
     (λ s there. or_left _ _ there)))
 
@@ -34,8 +35,8 @@ returns c =
     (λ m. done_outcome m.drivers m.configuration (without_queues_at m.configuration goes)) _ c.self.view_is
     (swept_is c.self.inside.drivers.items c.deref-2.result.now old (without_queues_at old goes)
     (record old { flow = c.drop_sides.new.queues.flow; fulls = c.drop_sides.new.queues.fulls }) _
-    c.sweep_nothing_and_reply.result
-    c.deref-2.ensures.value c.sweep_nothing_and_reply.ensures.value
+    c.sweep_and_reply.result
+    c.deref-2.ensures.value c.sweep_and_reply.ensures.value
     (ap (after_sweep c.self.inside.drivers.items) emptied)
-    (c.sweep_nothing_and_reply.ensures.reply old.flow sound.serials.apart
-    (c.drop_sides.ensures.dropped old.flow c.in_ok-reserve_for_dropped.ensures.none))))
+    (c.sweep_and_reply.ensures.reply old.flow sound.serials.apart
+    (c.drop_sides.ensures.dropped old.flow c.in_ok-reserve_for_sweep.ensures.none))))
