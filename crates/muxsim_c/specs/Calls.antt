@@ -7,7 +7,7 @@ use Rattle.smx_session.specs.FaultWords.{start_fault_words}
 use Rattle.smx_session.specs.declared.line_fault.LineFault.{LineFault}
 use Rattle.smx_session.specs.declared.start_fault.StartFault.{StartFault}
 use Rattle.smx_session.specs.declared.start_fault.StartFault.TheVariants.{NoMemory as memory}
-use Rattle.muxsim_c.specs.Codes.{Outcome, code, told_of_line, told_of_start}
+use Rattle.muxsim_c.specs.Codes.{Outcome, code, fault_of_line, fault_of_start}
 use Rattle.muxsim_c.specs.declared.call_fault.CallFault.{CallFault}
 use Rattle.muxsim_c.specs.declared.call_fault.CallFault.TheVariants.{NoMemory, NoEntry, NoRoom, Closed, IsOpen}
 
@@ -17,7 +17,7 @@ Answers n Holds = (outcome : Outcome) × Holds outcome × (n ≡ code outcome)
 
 -- the text's first fault, or that of its drivers, or out-of-memory, as C gets it
 abbrev pub HasFault : List ℕ → CallFault → Type 0
-HasFault text t = (fault : StartFault) × StartsAs text (Err fault) × (t ≡ told_of_start fault)
+HasFault text t = (fault : StartFault) × StartsAs text (Err fault) × (t ≡ fault_of_start fault)
 
 -- if there is no session, one over the drivers of the text; if there is one, it stays
 abbrev pub Opens : Option State → List ℕ → Option State → Outcome → Type 0
@@ -33,7 +33,7 @@ Performs None line new outcome = (new ≡ None) × (outcome ≡ Err Closed)
 Performs (Some s) line (Some n) (Ok _) = Steps s line n
 Performs (Some s) line None (Ok _) = ⊥
 Performs (Some s) line new (Err t) =
-    (new ≡ Some s) × (fault : LineFault) × IsNotPerformed s.version line fault × (t ≡ told_of_line fault)
+    (new ≡ Some s) × (fault : LineFault) × IsNotPerformed s.version line fault × (t ≡ fault_of_line fault)
 
 -- the text is at the start of the buffer; or it is longer than the buffer, which is unchanged
 abbrev pub Copies : List ℕ → List ℕ → List ℕ → ℕ → Outcome → Type 0

@@ -27,17 +27,17 @@ code (Err Closed) = pos 7
 code (Err IsOpen) = pos 8
 
 -- the fault that C gets if no session starts
-abbrev pub told_of_start : StartFault → CallFault
-told_of_start start.NoMemory = NoMemory
-told_of_start (start.Text fault) = Text
-told_of_start (start.Drivers fault) = Drivers
+abbrev pub fault_of_start : StartFault → CallFault
+fault_of_start start.NoMemory = NoMemory
+fault_of_start (start.Text fault) = Text
+fault_of_start (start.Drivers fault) = Drivers
 
 -- the fault that C gets if a line is not performed
-abbrev pub told_of_line : LineFault → CallFault
-told_of_line line.NoMemory = NoMemory
-told_of_line line.NoCommand = Line
+abbrev pub fault_of_line : LineFault → CallFault
+fault_of_line line.NoMemory = NoMemory
+fault_of_line line.NoCommand = Line
 
 -- the fault that C gets if no entry is written
-abbrev pub told_of_entry : EntryFault → CallFault
-told_of_entry entry.NoMemory = NoMemory
-told_of_entry entry.NoEntry = NoEntry
+abbrev pub fault_of_entry : EntryFault → CallFault
+fault_of_entry entry.NoMemory = NoMemory
+fault_of_entry entry.NoEntry = NoEntry

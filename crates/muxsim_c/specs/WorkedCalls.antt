@@ -8,7 +8,7 @@ use Rattle.smx_session.specs.declared.line_fault.LineFault.TheVariants as line
 use Rattle.smx_session.specs.declared.start_fault.StartFault.TheVariants as start
 use Rattle.smx_text.specs.declared.text_fault.Cause.TheVariants as cause
 use Rattle.smx_types.specs.declared.driver.SpecFault.TheVariants.{BadMarks}
-use Rattle.muxsim_c.specs.Codes.{code, told_of_entry, told_of_line, told_of_start}
+use Rattle.muxsim_c.specs.Codes.{code, fault_of_entry, fault_of_line, fault_of_start}
 use Rattle.muxsim_c.specs.declared.call_fault.CallFault.TheVariants.{NoMemory, Text, Drivers, Line, NoEntry}
 use Rattle.muxsim_c.specs.declared.call_fault.CallFault.TheVariants.{NoRoom, Closed, IsOpen}
 
@@ -19,16 +19,16 @@ pub codes_of_the_header : map code (Ok tt ∷ Err NoMemory ∷ Err Text ∷ Err 
 codes_of_the_header = refl
 
 -- the faults that C gets for those of a line
-pub line_faults_are_told : map told_of_line (line.NoMemory ∷ line.NoCommand ∷ []) ≡ NoMemory ∷ Line ∷ []
-line_faults_are_told = refl
+pub line_faults_are_reported : map fault_of_line (line.NoMemory ∷ line.NoCommand ∷ []) ≡ NoMemory ∷ Line ∷ []
+line_faults_are_reported = refl
 
 -- the faults that C gets for those of an entry
-pub entry_faults_are_told : map told_of_entry (entry.NoMemory ∷ entry.NoEntry ∷ []) ≡ NoMemory ∷ NoEntry ∷ []
-entry_faults_are_told = refl
+pub entry_faults_are_reported : map fault_of_entry (entry.NoMemory ∷ entry.NoEntry ∷ []) ≡ NoMemory ∷ NoEntry ∷ []
+entry_faults_are_reported = refl
 
 -- the fault that C gets if memory runs out for a session
-pub start_is_told : told_of_start start.NoMemory ≡ NoMemory
-start_is_told = refl
+pub start_is_reported : fault_of_start start.NoMemory ≡ NoMemory
+start_is_reported = refl
 
 -- a command before the first process
 abbrev pub without_a_process : List ℕ

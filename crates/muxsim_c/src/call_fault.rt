@@ -46,9 +46,9 @@ pub fn code_of(outcome: &Result<(), CallFault>) -> i32
 
 impl From<StartFault> for CallFault {
     ghost use Rattle.std.specs.Prelude.{◌≡◌};
-    ghost use Rattle.muxsim_c.specs.Codes.{told_of_start};
+    ghost use Rattle.muxsim_c.specs.Codes.{fault_of_start};
 
-    ghost from_gives = { λ fault f. f ≡ told_of_start fault };
+    ghost from_gives = { λ fault f. f ≡ fault_of_start fault };
 
     fn from(fault: StartFault) -> CallFault {
         match fault {
@@ -61,9 +61,9 @@ impl From<StartFault> for CallFault {
 
 impl From<LineFault> for CallFault {
     ghost use Rattle.std.specs.Prelude.{◌≡◌};
-    ghost use Rattle.muxsim_c.specs.Codes.{told_of_line};
+    ghost use Rattle.muxsim_c.specs.Codes.{fault_of_line};
 
-    ghost from_gives = { λ fault f. f ≡ told_of_line fault };
+    ghost from_gives = { λ fault f. f ≡ fault_of_line fault };
 
     fn from(fault: LineFault) -> CallFault {
         match fault {
@@ -75,9 +75,9 @@ impl From<LineFault> for CallFault {
 
 impl From<EntryFault> for CallFault {
     ghost use Rattle.std.specs.Prelude.{◌≡◌};
-    ghost use Rattle.muxsim_c.specs.Codes.{told_of_entry};
+    ghost use Rattle.muxsim_c.specs.Codes.{fault_of_entry};
 
-    ghost from_gives = { λ fault f. f ≡ told_of_entry fault };
+    ghost from_gives = { λ fault f. f ≡ fault_of_entry fault };
 
     fn from(fault: EntryFault) -> CallFault {
         match fault {

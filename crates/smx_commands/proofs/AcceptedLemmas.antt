@@ -2,6 +2,7 @@
 use Rattle.std.proofs.Common.{◌≡◌, ℕ, Bool, true, false, not, List, Option, Some, None}
 use Rattle.std.proofs.Common.{Result, Ok, refl, ap, ◌∙◌, subst}
 use Rattle.std.proofs.lemmas.Bool.{not-false}
+use Rattle.std.specs.Option.{ok_or}
 use Rattle.smx_types.specs.declared.driver.DriverSpec.{DriverSpec}
 use Rattle.smx_types.specs.declared.reply.Fault.{Fault}
 use Rattle.smx_types.specs.declared.reply.Fault.TheVariants.{BadDescriptor, Below}
@@ -10,7 +11,7 @@ use Rattle.smx_types.specs.declared.stream.StreamId.{StreamId}
 use Rattle.smx_model.specs.Configuration.{Configuration}
 use Rattle.smx_model.specs.DriverList.{is_mux}
 use Rattle.smx_model.specs.Lookups.{driver_of, free_stream, leaf_stream, stream_of}
-use Rattle.smx_model.specs.Outcomes.{◌>>=◌, or_fault, refuse}
+use Rattle.smx_model.specs.Outcomes.{◌>>=◌, refuse}
 use Rattle.smx_model.specs.Standing.{exists, is_below}
 -- if a result is accepted, so is the look-up before it
 pub use Rattle.smx_model.proofs.LookupLemmas.{looked_up as bound}
@@ -27,7 +28,7 @@ accepted x y h = cc
 -- ---- look-ups
 
 -- a look-up of a descriptor that isn't refused has found this stream
-pub fd_at : (o : Option StreamId) (s : StreamId) → or_fault BadDescriptor o ≡ Ok s → o ≡ Some s
+pub fd_at : (o : Option StreamId) (s : StreamId) → ok_or o BadDescriptor ≡ Ok s → o ≡ Some s
 fd_at None s e = absurd cc
 fd_at (Some x) s e = ap (λ (y : StreamId). Some y) (accepted x s e)
 

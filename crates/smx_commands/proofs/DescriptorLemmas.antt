@@ -5,6 +5,7 @@ use Rattle.std.specs.Prelude.{IsOk, nat_le, slice_index}
 use Rattle.std.specs.List.{range_with_len}
 use Rattle.std.proofs.lemmas.Bool.{cases_Bool}
 use Rattle.std.proofs.lemmas.Bool.Decides.{nat_tests}
+use Rattle.std.specs.Option.{ok_or}
 use Rattle.smx_types.specs.declared.command.Command.TheVariants as command
 use Rattle.smx_types.specs.declared.driver.DriverSpec.{DriverSpec}
 use Rattle.smx_types.specs.declared.reply.Fault.TheVariants.{NoMinor, TooManyDescriptors}
@@ -15,7 +16,7 @@ use Rattle.smx_model.specs.Commands.{outcome, with_fd}
 use Rattle.smx_model.specs.Configuration.{Configuration}
 use Rattle.smx_model.specs.DriverList.{minors_of}
 use Rattle.smx_model.specs.Lookups.{driver_of, free_fd, free_minor}
-use Rattle.smx_model.specs.Outcomes.{Outcome, or_fault}
+use Rattle.smx_model.specs.Outcomes.{Outcome}
 use Rattle.smx_model.specs.Standing.{exists, is_below}
 use Rattle.smx_streams.specs.StreamTables.{Answer, StreamTable, IsRefused, is_in_range, clone_answer}
 use Rattle.smx_streams.specs.StreamTables.{minor_answer, least_fd, least_minor, exists as is_there}
@@ -100,9 +101,10 @@ has_driver drivers t n minors lt =
 
 -- the free descriptor number of the model is the lowest free number of the table
 number : (c : Configuration) (t : StreamTable) (process : ℕ) → t.fds ≡ c.fds → (k : Option ℕ)
-    → least_fd t.fds process ≡ k → free_fd c process ≡ or_fault TooManyDescriptors k
+    → least_fd t.fds process ≡ k → free_fd c process ≡ ok_or k TooManyDescriptors
 number c t process same k e =
-    ap (or_fault TooManyDescriptors) (ap (λ (fds : List Descriptor). least_fd fds process) (sym same) ∙ e)
+    ap (λ (o : Option ℕ). ok_or o TooManyDescriptors)
+    (ap (λ (fds : List Descriptor). least_fd fds process) (sym same) ∙ e)
 
 -- the answer of the table of streams to a clone open agrees with the outcome of the command
 pub clone_agrees : (drivers : List DriverSpec) (c : Configuration) (t : StreamTable) (process n : ℕ) (name : List ℕ)
@@ -111,8 +113,8 @@ pub clone_agrees : (drivers : List DriverSpec) (c : Configuration) (t : StreamTa
     → Agrees c process (clone_answer t process n) (outcome drivers c process (command.OpenClone name))
 clone_agrees drivers c t process n name minors told same found lt =
     by (least_minor t n) (least_fd t.fds process) refl refl where
-      free : (o : Option ℕ) → least_minor t n ≡ o → free_minor drivers c n ≡ or_fault NoMinor o
-      free o e = ap (or_fault NoMinor) (sym (least_same drivers c t n minors told) ∙ e)
+      free : (o : Option ℕ) → least_minor t n ≡ o → free_minor drivers c n ≡ ok_or o NoMinor
+      free o e = ap (λ (k : Option ℕ). ok_or k NoMinor) (sym (least_same drivers c t n minors told) ∙ e)
 
       by : (o k : Option ℕ) → least_minor t n ≡ o → least_fd t.fds process ≡ k
           → Agrees c process (clone_answer t process n) (outcome drivers c process (command.OpenClone name))

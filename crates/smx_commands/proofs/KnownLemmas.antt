@@ -1,7 +1,7 @@
 -- A stream that exists has a driver and a minor that the list of drivers has.
 use Rattle.std.proofs.Common.{◌≡◌, ℕ, zero, suc, ◌<◌, ◌≤◌, Bool, true, false, ◌&&◌, not, List, [], ◌∷◌, length, find}
 use Rattle.std.proofs.Common.{Ok, subst, arith, inl, inr}
-use Rattle.std.specs.Option.{option_map}
+use Rattle.std.specs.Option.{option_map, ok_or}
 use Rattle.std.specs.List.{list_any, AllByRecursion}
 use Rattle.std.proofs.lemmas.Bool.{cases_Bool, and_parts, or_cases, false_from_ne_true}
 use Rattle.std.proofs.lemmas.List.Elements.{recursion_from_All}
@@ -14,7 +14,6 @@ use Rattle.smx_model.specs.Configuration.{Configuration, is_fd, same_stream}
 use Rattle.smx_model.specs.DriverList.{minors_of}
 use Rattle.smx_model.specs.KnownStreams.{IsKnown, AreStreamsKnown}
 use Rattle.smx_model.specs.Lookups.{stream_of}
-use Rattle.smx_model.specs.Outcomes.{or_fault}
 use Rattle.smx_model.specs.Standing.{is_persistent, is_named, stands_within, exists}
 use Rattle.smx_tables.proofs.AboveLemmas.{stream_is}
 
@@ -64,7 +63,7 @@ unknown_is_not drivers c s k past =
 -- the stream of a descriptor is known, if the streams of all descriptors are
 found_known : (drivers : List DriverSpec) (process fd : ℕ) (fds : List Descriptor) (s : StreamId)
     → AllByRecursion (λ d. IsKnown drivers d.stream) fds
-    → or_fault BadDescriptor (option_map (λ d. d.stream) (find (is_fd process fd) fds)) ≡ Ok s → IsKnown drivers s
+    → ok_or (option_map (λ d. d.stream) (find (is_fd process fd) fds)) BadDescriptor ≡ Ok s → IsKnown drivers s
 found_known drivers process fd [] s k h = absurd cc
 found_known drivers process fd (d ∷ ds) s k h = elim (cases_Bool (is_fd process fd d)) [
   | inl t ↦ let e : Ok d.stream ≡ Ok s = rw t at h in let same : d.stream ≡ s = cc in subst (IsKnown drivers) same k.0

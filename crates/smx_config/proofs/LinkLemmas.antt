@@ -1,7 +1,7 @@
 -- A command that takes a message leaves the links as they are.
 use Rattle.std.proofs.Common.{◌≡◌, Bool, true, false, ◌&&◌, not, List, rules}
 use Rattle.std.proofs.Common.{Ok, refl, subst}
-use Rattle.std.specs.Option.{is_some}
+use Rattle.std.specs.Option.{is_some, ok_or}
 use Rattle.smx_types.specs.declared.driver.DriverSpec.{DriverSpec}
 use Rattle.smx_types.specs.declared.reply.Fault.TheVariants.{Empty}
 use Rattle.smx_types.specs.declared.reply.Reply.{Reply}
@@ -10,7 +10,7 @@ use Rattle.smx_types.specs.declared.stream.StreamId.{StreamId}
 use Rattle.smx_model.specs.Commands.{read_outcome, receive_outcome}
 use Rattle.smx_model.specs.Configuration.{Configuration, read_side}
 use Rattle.smx_model.specs.Hangups.{is_hung}
-use Rattle.smx_model.specs.Outcomes.{Outcome, or_fault}
+use Rattle.smx_model.specs.Outcomes.{Outcome}
 use Rattle.smx_model.specs.Queues.{first_message}
 use Rattle.smx_commands.proofs.AcceptedLemmas.{accepted, bound}
 
@@ -18,7 +18,7 @@ use Rattle.smx_commands.proofs.AcceptedLemmas.{accepted, bound}
 pub received_links : (drivers : List DriverSpec) (c : Configuration) (p : Place) (x : Configuration × Reply)
     → receive_outcome drivers c p ≡ Ok x → x.0.links ≡ c.links
 received_links drivers c p x e =
-    let found = bound (or_fault Empty (first_message c.flow p)) _ x e in
+    let found = bound (ok_or (first_message c.flow p) Empty) _ x e in
     subst (λ (y : Configuration × Reply). y.0.links ≡ c.links) (accepted _ x found.2) (search rules)
 
 -- a read at a stream leaves the links as they are

@@ -148,9 +148,9 @@ least_is drivers c m n p sound h there least moves = marked_is_least drivers c (
       ]
 
 -- if a test finds no first message, the option is empty
-pub told_none : (o : Option Message) → false ≡ is_some o → None ≡ o
-told_none None h = refl
-told_none (Some m) h = absurd (false≢true h)
+pub none_if_not_some : (o : Option Message) → false ≡ is_some o → None ≡ o
+none_if_not_some None h = refl
+none_if_not_some (Some m) h = absurd (false≢true h)
 
 -- what holds where nothing was found
 pub if_none : (r : Option ℕ) (P : Type 0) → is_some r ≡ false → IfNone r P → P

@@ -46,8 +46,8 @@ HasOneReading = (bytes : List ℕ) (r s : Result Transcript TextFault) → Reads
     → IfErr r (λ f. f.cause ≢ NoMemory) → IfErr s (λ f. f.cause ≢ NoMemory) → r ≡ s
 
 -- a replay of an allowed transcript is allowed, if it can be spelled
-abbrev CanBeTold : Type 0
-CanBeTold = (t r : Transcript) → IsAllowed t.version t → IsReplayOf t r → IsSpellable r → IsAllowed r.version r
+abbrev CanBeExpressed : Type 0
+CanBeExpressed = (t r : Transcript) → IsAllowed t.version t → IsReplayOf t r → IsSpellable r → IsAllowed r.version r
 
 -- a transcript has at most one replay
 abbrev HasOneReplay : Type 0
@@ -75,8 +75,9 @@ abbrev EntriesAreWords : Type 0
 EntriesAreWords = (e : Entry) → FitsEntry e → AreWords (entry_words e)
 
 -- no two entries have the same line
-abbrev EntriesAreTold : Type 0
-EntriesAreTold = (d e : Entry) → FitsEntry d → FitsEntry e → line_of (entry_words d) ≡ line_of (entry_words e) → d ≡ e
+abbrev EntriesAreReported : Type 0
+EntriesAreReported =
+    (d e : Entry) → FitsEntry d → FitsEntry e → line_of (entry_words d) ≡ line_of (entry_words e) → d ≡ e
 
 -- ---- neither text goes on where the other ends
 
@@ -133,9 +134,9 @@ alike_same reading t r allowed also h =
 module _ (t : Transcript) (text replayed : List ℕ) (spells : SpellsTranscript text t)
     (h : IsReplayText t replayed) where
   -- if no line differs, the explanation is empty
-  pub told_nothing : HasOneReading → CanBeTold → (output : List ℕ) → AreAlike text replayed → output ≡ []
+  pub reports_nothing : HasOneReading → CanBeExpressed → (output : List ℕ) → AreAlike text replayed → output ≡ []
       → IsExplanation t output
-  told_nothing reading can output alike none =
+  reports_nothing reading can output alike none =
       let also = can t h.replay spells.allowed h.replays h.spellable in
       let both = subst (λ (one : List ℕ). AreAlike one (transcript_text h.replay)) spells.text
       (subst (λ (other : List ℕ). AreAlike text other) h.written alike) in
@@ -143,35 +144,35 @@ module _ (t : Transcript) (text replayed : List ℕ) (spells : SpellsTranscript 
         replay = h.replay;
         replays = h.replays;
         spellable = h.spellable;
-        told = inl (alike_same reading t h.replay spells.allowed also both, none);
+        shown = inl (alike_same reading t h.replay spells.allowed also both, none);
       }
 
 -- ---- the explanation below each verdict
 
 -- the text of a difference is not empty
-some_told : (number : ℕ) (told has : List ℕ) → difference_text number told has ≡ [] → ⊥
-some_told number told has e = absurd (cc e)
+some_reported : (number : ℕ) (told has : List ℕ) → difference_text number told has ≡ [] → ⊥
+some_reported number told has e = absurd (cc e)
 
 -- below the verdict `legal` the explanation is empty
-pub legal_told : HasOneReplay → IsItsOwn → (t : Transcript) (output : List ℕ) → IsExplanation t output
+pub legal_reported : HasOneReplay → IsItsOwn → (t : Transcript) (output : List ℕ) → IsExplanation t output
     → IsVerdict t.drivers t.entries t.view Legal → output ≡ []
-legal_told one own t output h verdict =
-    elim h.told [
+legal_reported one own t output h verdict =
+    elim h.shown [
       | inl same ↦ same.1
       | inr (number, told, has, first, is) ↦
-          let same : t ≡ h.replay = one t t h.replay (own t h.replays.can_be_had verdict) h.replays in
+          let same : t ≡ h.replay = one t t h.replay (own t h.replays.valid_drivers verdict) h.replays in
           absurd (no_difference (transcript_text t) (transcript_text h.replay) number told has first
           (ap transcript_text same))
     ]
 
 -- if the explanation is empty, the verdict is legal
-pub nothing_told : IsJudgedLegal → (t : Transcript) (output : List ℕ) → IsExplanation t output → output ≡ []
+pub nothing_reported : IsJudgedLegal → (t : Transcript) (output : List ℕ) → IsExplanation t output → output ≡ []
     → IsVerdict t.drivers t.entries t.view Legal
-nothing_told judged t output h none =
-    elim h.told [
+nothing_reported judged t output h none =
+    elim h.shown [
       | inl same ↦ subst (λ (r : Transcript). IsVerdict r.drivers r.entries r.view Legal) same.0
           (judged t h.replay h.replays)
-      | inr (number, told, has, first, is) ↦ absurd (some_told number told has (sym is ∙ none))
+      | inr (number, told, has, first, is) ↦ absurd (some_reported number told has (sym is ∙ none))
     ]
 
 -- the header of a transcript is one line
@@ -247,7 +248,7 @@ front_long (x ∷ es) (suc b) e here = let more = front_long es b e here in omeg
 module _ (driver : DriversAreWords) (entry : EntriesAreWords) (t : Transcript) (allowed : IsAllowed t.version t)
     (output : List ℕ) (h : IsExplanation t output) where
   -- the text and that of the replay first differ in the line of the first illegal entry
-  entry_differs : EntriesAreTold → (number : ℕ) (first : IsFirstIllegal t.drivers t.entries number)
+  entry_differs : EntriesAreReported → (number : ℕ) (first : IsFirstIllegal t.drivers t.entries number)
       → IsFirstDifference (transcript_text t) (transcript_text h.replay) (length t.drivers + number + 1)
       (line_of (entry_words first.entry))
       (line_of (entry_words (answered t.drivers (after t.drivers (take first.before t.entries)) first.entry)))
@@ -296,12 +297,12 @@ module _ (driver : DriversAreWords) (entry : EntriesAreWords) (t : Transcript) (
       }
 
   -- below `illegal`, the explanation shows the line of the first illegal entry and that of its replay
-  pub illegal_told : EntriesAreTold → (number : ℕ) (first : IsFirstIllegal t.drivers t.entries number)
+  pub illegal_reported : EntriesAreReported → (number : ℕ) (first : IsFirstIllegal t.drivers t.entries number)
       → output ≡ difference_text (length t.drivers + number + 1) (line_of (entry_words first.entry))
       (line_of (entry_words (answered t.drivers (after t.drivers (take first.before t.entries)) first.entry)))
-  illegal_told apart number first =
+  illegal_reported apart number first =
       let there = entry_differs apart number first in
-      elim h.told [
+      elim h.shown [
         | inl same ↦ absurd (no_difference _ _ _ _ _ there (ap transcript_text (sym same.0)))
         | inr (n, told, has, other, is) ↦
             let one = one_difference (transcript_text t) (transcript_text h.replay) n _ told has _ _ other there in
@@ -354,10 +355,10 @@ module _ (driver : DriversAreWords) (entry : EntriesAreWords) (t : Transcript) (
       (config_line, tt))
 
   -- below `config differs`, the explanation shows a line below the line `config`
-  pub differs_told : AreDetermined → IsVerdict t.drivers t.entries t.view ConfigDiffers
+  pub differs_reported : AreDetermined → IsVerdict t.drivers t.entries t.view ConfigDiffers
       → (number : ℕ) × (told has : List ℕ) × (output ≡ difference_text number told has)
       × (length t.drivers + length t.entries + 2 < number)
-  differs_told determined verdict =
+  differs_reported determined verdict =
       let r = h.replay in
       let entries : r.entries ≡ t.entries = determined t.drivers r.entries t.entries h.replays.legal verdict.0
       h.replays.calls in
@@ -374,7 +375,7 @@ module _ (driver : DriversAreWords) (entry : EntriesAreWords) (t : Transcript) (
       let as_it = subst (λ (es : List Entry). transcript_text r
       ≡ lines_text (lines_before (transcript_grammar t.version) (lines_above t.drivers es)) ++ at_too.0)
       entries as_drivers in
-      elim h.told [
+      elim h.shown [
         | inl same ↦
             let shown = subst (λ (u : Transcript). u.view ≡ view t.drivers (after t.drivers u.entries)) same.0
             h.replays.shown in

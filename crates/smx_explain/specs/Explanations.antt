@@ -25,4 +25,4 @@ pub record IsExplanation (t : Transcript) (output : List ℕ) : Type 0 where
   pub spellable : IsSpellable replay
   -- The replay is the transcript itself, and the output is empty; or the output shows the first line in which they
   -- differ.
-  pub told : ((replay ≡ t) × (output ≡ [])) ⊎ TellsDifference (transcript_text t) (transcript_text replay) output
+  pub shown : ((replay ≡ t) × (output ≡ [])) ⊎ TellsDifference (transcript_text t) (transcript_text replay) output

@@ -7,7 +7,7 @@ ghost use Rattle.smx_text.specs.TranscriptText.{SpellsTranscript};
 
 use crate::differences::{difference_text, first_difference};
 use smx_config::ConfigFault;
-use smx_replay::laws_of_replays::replays_can_be_told;
+use smx_replay::laws_of_replays::replays_can_be_expressed;
 use smx_replay::replay;
 use smx_text::laws::one_transcript_has_one_reading;
 use smx_types::Transcript;
@@ -21,7 +21,7 @@ pub fn explain(alloc: Global, text: &[u8], transcript: Transcript) -> Result<Vec
     ensures told { IfOk result (λ told. IsExplanation transcript told.items) }
     ensures refused { IfErr result (RefusesDrivers transcript.drivers) }
 {
-    replays_can_be_told();
+    replays_can_be_expressed();
     one_transcript_has_one_reading();
     let replayed = replay(alloc, transcript, Vec::new(alloc))?;
     match first_difference(text, replayed.as_slice()) {

@@ -58,7 +58,7 @@ pub fn a_legal_transcript_needs_none()
 
 /// Below the verdict that an entry is the first illegal one, the explanation shows its line, by its number in the
 /// text, and the same entry with the reply that the model gives its command after the entries before it.
-pub fn an_illegal_entry_is_told()
+pub fn an_illegal_entry_is_reported()
     ensures { (t : Transcript) (output : List ℕ) → IsAllowed t.version t → IsExplanation t output
         → (number : ℕ) (first : IsFirstIllegal t.drivers t.entries number)
         → output ≡ difference_text (length t.drivers + number + 1) (line_of (entry_words first.entry))
@@ -69,7 +69,7 @@ pub fn an_illegal_entry_is_told()
 }
 
 /// Below the verdict that the configuration differs, the explanation shows a line below `config`.
-pub fn a_differing_line_is_told()
+pub fn a_differing_line_is_reported()
     ensures { (t : Transcript) (output : List ℕ) → IsAllowed t.version t → IsExplanation t output
         → IsVerdict t.drivers t.entries t.view ConfigDiffers
         → (number : ℕ) × (told has : List ℕ) × (output ≡ difference_text number told has)

@@ -32,7 +32,7 @@ use Rattle.smx_filters.proofs.ReplayTextLemmas.{HasOneReplay}
 use Rattle.smx_explain.specs.Explanations.{IsExplanation}
 use Rattle.smx_filters.specs.CheckText.{checking, verdict_line}
 use Rattle.smx_filters.specs.ExplainText.{explaining}
-use Rattle.smx_filters.specs.Filters.{Answers, Filter, GivesFor, HadMemory, RefusesFor}
+use Rattle.smx_filters.specs.Filters.{Answers, Filter, GivesFor, HasEnoughMemory, RefusesFor}
 use Rattle.smx_filters.specs.ReplayText.{replaying}
 use Rattle.smx_filters.specs.RunText.{IsTranscriptFor, IsWrittenFor, running}
 use Rattle.smx_filters.specs.declared.main_fault.MainFault.{MainFault}
@@ -89,7 +89,7 @@ module _ {V K T : Type 0} (filter : Filter V K T) (reading : HasOneReading filte
 
   -- so it has only one answer
   pub one_answer : (one other : Result (T × List ℕ) MainFault) → Answers filter input one → Answers filter input other
-      → HadMemory one → HadMemory other → one ≡ other
+      → HasEnoughMemory one → HasEnoughMemory other → one ≡ other
   one_answer (Ok (a, x)) (Ok (b, y)) h k known known_too =
       let (answer, output) = given_once a b x y h k in
       let rest : Result (T × List ℕ) MainFault = Ok (b, y) in
@@ -118,13 +118,14 @@ module _ {V K T : Type 0} (filter : Filter V K T) (reading : HasOneReading filte
 -- ---- refusals
 
 -- drivers that are valid are refused only for lack of memory
-pub drivers_had : HaveOneFault → (drivers : List DriverSpec) → IsDriverList drivers → (r : RunFault)
+pub only_memory_refuses : HaveOneFault → (drivers : List DriverSpec) → IsDriverList drivers → (r : RunFault)
     → RefusesAlone drivers r → r ≡ run.NoMemory
-drivers_had determined drivers had run.NoMemory h = refl
-drivers_had determined drivers had (run.Strange p) h = absurd h
-drivers_had determined drivers had (run.ConfigFault f) h = absurd (h.1 (determined drivers f config.NoMemory h.0 had))
-drivers_had determined drivers had run.HistoryFull h = absurd h
-drivers_had determined drivers had run.Held h = absurd h
+only_memory_refuses determined drivers had run.NoMemory h = refl
+only_memory_refuses determined drivers had (run.Strange p) h = absurd h
+only_memory_refuses determined drivers had (run.ConfigFault f) h =
+    absurd (h.1 (determined drivers f config.NoMemory h.0 had))
+only_memory_refuses determined drivers had run.HistoryFull h = absurd h
+only_memory_refuses determined drivers had run.Held h = absurd h
 
 -- other drivers are refused for only one fault
 refused_alone : (drivers : List DriverSpec) (r s : RunFault) → RefusesAlone drivers r
@@ -146,12 +147,12 @@ refused_alone drivers (run.ConfigFault f) run.Held h k known known_too = absurd 
 pub checked : HasOneReading transcript_grammar → HasOneVerdict
     → (input : List ℕ) (one other : Result (Verdict × List ℕ) MainFault)
     → Answers checking input one → Answers checking input other
-    → HadMemory one → HadMemory other → one ≡ other
+    → HasEnoughMemory one → HasEnoughMemory other → one ≡ other
 checked reading judged input = one_answer checking reading (λ t. Unit {0})
     (λ t fits v w x y h k. let same = judged t.drivers t.entries t.view v w h.judged k.judged in
     (same, h.written ∙ ap (verdict_line (length t.entries)) same ∙ sym k.written))
     (λ t fits r s. refused_alone t.drivers r s)
-    (λ t fits v x r h refuses. drivers_had one_refusal t.drivers h.can_be_had r refuses)
+    (λ t fits v x r h refuses. only_memory_refuses one_refusal t.drivers h.valid_drivers r refuses)
     input (λ version t spells. tt)
 
 -- a check with an explanation
@@ -159,24 +160,24 @@ pub explained : HasOneReading transcript_grammar → HasOneVerdict
     → ((t : Transcript) (one other : List ℕ) → IsExplanation t one → IsExplanation t other → one ≡ other)
     → (input : List ℕ) (one other : Result (Verdict × List ℕ) MainFault)
     → Answers explaining input one → Answers explaining input other
-    → HadMemory one → HadMemory other → one ≡ other
-explained reading judged told_once input = one_answer explaining reading (λ t. Unit {0})
+    → HasEnoughMemory one → HasEnoughMemory other → one ≡ other
+explained reading judged same_output input = one_answer explaining reading (λ t. Unit {0})
     (λ t fits v w x y h k.
     let same = judged t.drivers t.entries t.view v w h.judged.judged k.judged.judged in
-    let told = told_once t h.told k.told h.explained k.explained in (
+    let told = same_output t h.explanation k.explanation h.explained k.explained in (
       same,
-      h.written ∙ ap (λ (verdict : Verdict). verdict_line (length t.entries) verdict ++ h.told) same
+      h.written ∙ ap (λ (verdict : Verdict). verdict_line (length t.entries) verdict ++ h.explanation) same
           ∙ ap (λ (bytes : List ℕ). verdict_line (length t.entries) w ++ bytes) told ∙ sym k.written,
     ))
     (λ t fits r s. refused_alone t.drivers r s)
-    (λ t fits v x r h refuses. drivers_had one_refusal t.drivers h.judged.can_be_had r refuses)
+    (λ t fits v x r h refuses. only_memory_refuses one_refusal t.drivers h.judged.valid_drivers r refuses)
     input (λ version t spells. tt)
 
 -- a replay
 pub replayed : HasOneReading transcript_grammar → HasOneReplay
     → (input : List ℕ) (one other : Result (Unit {0} × List ℕ) MainFault)
     → Answers replaying input one → Answers replaying input other
-    → HadMemory one → HadMemory other → one ≡ other
+    → HasEnoughMemory one → HasEnoughMemory other → one ≡ other
 replayed reading replay input = one_answer replaying reading (λ t. Unit {0})
     (λ t fits a b x y h k. (
       refl,
@@ -184,16 +185,16 @@ replayed reading replay input = one_answer replaying reading (λ t. Unit {0})
           ∙ sym k.written.text,
     ))
     (λ t fits r s. refused_alone t.drivers r s)
-    (λ t fits a x r h refuses. drivers_had one_refusal t.drivers h.replays.can_be_had r refuses)
+    (λ t fits a x r h refuses. only_memory_refuses one_refusal t.drivers h.replays.valid_drivers r refuses)
     input (λ version t spells. tt)
 
 -- ---- what a run writes
 
 -- reports with the same calls have the same output
-told_once : (workers : ℕ) (programs : ProgramLists) (one other : List ℕ) (a : IsTranscriptFor workers programs one)
+same_output : (workers : ℕ) (programs : ProgramLists) (one other : List ℕ) (a : IsTranscriptFor workers programs one)
     (b : IsTranscriptFor workers programs other)
     → map call_of a.report.entries ≡ map call_of b.report.entries → one ≡ other
-told_once workers programs one other a b calls =
+same_output workers programs one other a b calls =
     let alike = one_report programs a.report b.report a.promised b.promised calls in
     let same = alike ∙ ap (λ (v : Version). record b.report { version = v }) (a.version ∙ sym b.version) in
     a.written.text ∙ ap transcript_text same ∙ sym b.written.text
@@ -202,32 +203,32 @@ told_once workers programs one other a b calls =
 pub in_turn_once : (programs : ProgramLists) (one other : List ℕ) → IsTranscriptFor 1 programs one
     → IsTranscriptFor 1 programs other → one ≡ other
 in_turn_once programs one other a b =
-    told_once 1 programs one other a b (a.in_turn (omega arith) ∙ sym (b.in_turn (omega arith)))
+    same_output 1 programs one other a b (a.in_turn (omega arith) ∙ sym (b.in_turn (omega arith)))
 
 -- any number of workers always write the same for one process
 one_process_once : (workers : ℕ) (programs : ProgramLists) → length programs.programs ≤ 1
     → (one other : List ℕ)
     → IsWrittenFor false workers programs one → IsWrittenFor false workers programs other → one ≡ other
 one_process_once workers programs few one other a b =
-    told_once workers programs one other a b (in_turn programs.programs a.report.entries few a.promised.holds
+    same_output workers programs one other a b (in_turn programs.programs a.report.entries few a.promised.holds
     ∙ sym (in_turn programs.programs b.report.entries few b.promised.holds))
 
 -- the drivers of a run that has an output are valid
-run_had : (fronts : Bool) (workers : ℕ) (programs : ProgramLists) (output : List ℕ)
+run_drivers_valid : (fronts : Bool) (workers : ℕ) (programs : ProgramLists) (output : List ℕ)
     → IsWrittenFor fronts workers programs output → IsDriverList programs.drivers
-run_had true workers programs output h = h.promised.can_be_had
-run_had false workers programs output h = h.promised.can_be_had
+run_drivers_valid true workers programs output h = h.promised.valid_drivers
+run_drivers_valid false workers programs output h = h.promised.valid_drivers
 
 -- ---- a run
 
 -- a run on one worker
 pub run_by_one : HasOneReading programs_grammar → (input : List ℕ) (one other : Result (Unit {0} × List ℕ) MainFault)
     → Answers (running false 1) input one → Answers (running false 1) input other
-    → HadMemory one → HadMemory other → one ≡ other
+    → HasEnoughMemory one → HasEnoughMemory other → one ≡ other
 run_by_one reading input = one_answer (running false 1) reading (λ p. Unit {0})
     (λ p fits a b x y h k. (refl, in_turn_once p x y h k))
     (λ p fits r s h k. refused_alone p.drivers r s (h.1 (inl (omega arith))) (k.1 (inl (omega arith))))
-    (λ p fits a x r h refuses. drivers_had one_refusal p.drivers h.promised.can_be_had r
+    (λ p fits a x r h refuses. only_memory_refuses one_refusal p.drivers h.promised.valid_drivers r
     (refuses.1 (inl (omega arith))))
     input (λ version p spells. tt)
 
@@ -236,12 +237,13 @@ pub run_of_one : HasOneReading programs_grammar → (workers : ℕ) (input : Lis
     (one other : Result (Unit {0} × List ℕ) MainFault)
     → ((version : Version) (p : ProgramLists) → Spells (programs_grammar version) input p → length p.programs ≤ 1)
     → Answers (running false workers) input one → Answers (running false workers) input other
-    → HadMemory one → HadMemory other → one ≡ other
+    → HasEnoughMemory one → HasEnoughMemory other → one ≡ other
 run_of_one reading workers input one other few =
     one_answer (running false workers) reading (λ p. length p.programs ≤ 1)
     (λ p fits a b x y h k. (refl, one_process_once workers p fits x y h k))
     (λ p fits r s h k. refused_alone p.drivers r s (h.1 (inr fits)) (k.1 (inr fits)))
-    (λ p fits a x r h refuses. drivers_had one_refusal p.drivers (run_had false workers p x h) r (refuses.1 (inr fits)))
+    (λ p fits a x r h refuses.
+    only_memory_refuses one_refusal p.drivers (run_drivers_valid false workers p x h) r (refuses.1 (inr fits)))
     input few one other
 
 -- the drivers of a run that has an output are not refused
@@ -253,7 +255,7 @@ run_or_refused reading fronts workers input output done fault (v, p, spells, giv
     (w, q, spells_too, refuses) =
     let same : p ≡ q = one_value programs_grammar reading input v w p q spells spells_too in
     let had : IsDriverList q.drivers = subst (λ (u : ProgramLists). IsDriverList u.drivers) same
-    (run_had fronts workers p output gives) in
+    (run_drivers_valid fronts workers p output gives) in
     refuses.0.1 (one_refusal q.drivers fault config.NoMemory refuses.0.0 had)
 
 -- ---- the transcript that a run writes
@@ -269,7 +271,7 @@ run_is_legal legal workers programs output t = (
     t.report,
     t.written,
     record {
-      can_be_had = rw t.promised.drivers t.promised.can_be_had;
+      valid_drivers = rw t.promised.drivers t.promised.valid_drivers;
       judged = legal programs t.report t.promised;
       written = refl;
     },

@@ -28,10 +28,10 @@ is_check none false input output verdict (version, t, spells, judged) =
     (output, [], (version, t, spells, judged), sym (append-nil output), λ legal. refl)
 is_check none true input output verdict (version, t, spells, h) = (
   _,
-  h.told,
+  h.explanation,
   (version, t, spells, h.judged),
   h.written,
-  λ legal. none t h.told h.explained
+  λ legal. none t h.explanation h.explained
       (subst (λ (v : Verdict). IsVerdict t.drivers t.entries t.view v) legal h.judged.judged),
 )
 

@@ -22,8 +22,8 @@ use Rattle.smx_filters.proofs.FilterLemmas.{are_read, at_answer}
 pub is_explained : (t : Transcript) (verdict : Verdict) (line told output : List ℕ) → IsJudged t verdict line
     → IsExplanation t told → output ≡ line ++ told → IsExplained t verdict output
 is_explained t verdict line told output judged explained written = record {
-  judged = record { can_be_had = judged.can_be_had; judged = judged.judged; written = refl };
-  told = told;
+  judged = record { valid_drivers = judged.valid_drivers; judged = judged.judged; written = refl };
+  explanation = told;
   explained = explained;
   written = written ∙ ap (λ (front : List ℕ). front ++ told) judged.written;
 }

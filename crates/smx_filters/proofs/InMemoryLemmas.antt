@@ -82,7 +82,7 @@ module _ {V K T : Type 0} (f : Filter V K T) (input left output : List ℕ) (end
       let is : e ≡ WriteFailed = cc in
       let (whole, given, bytes, gives, beginning) = h.cut_short is in
       record {
-        told = told;
+        failed = told;
         given = given;
         whole = bytes;
         gives = rw whole.1 gives;

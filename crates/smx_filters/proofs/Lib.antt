@@ -4,7 +4,7 @@ pub mod FilterLemmas
 pub mod CheckTextLemmas
 pub mod InMemoryLemmas
 pub mod FrontsTextLemmas
-pub mod ToldLemmas
+pub mod InVersionLemmas
 pub mod ReadingLemmas
 pub mod ReplayTextLemmas
 pub mod WritingFilterLemmas

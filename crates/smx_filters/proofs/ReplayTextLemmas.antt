@@ -26,8 +26,8 @@ use Rattle.smx_filters.proofs.ReadingLemmas.{HasOneReading, one_value}
 -- ---- what other crates' laws say
 
 -- a replay of an allowed transcript is within the limits of its own version, if it can be spelled
-abbrev CanBeTold : Type 0
-CanBeTold = (t r : Transcript) → IsAllowed t.version t → IsReplayOf t r → IsSpellable r → IsAllowed r.version r
+abbrev CanBeExpressed : Type 0
+CanBeExpressed = (t r : Transcript) → IsAllowed t.version t → IsReplayOf t r → IsSpellable r → IsAllowed r.version r
 
 -- a transcript has only one replay
 abbrev pub HasOneReplay : Type 0
@@ -49,7 +49,7 @@ allowed_of : (version : Version) (bytes : List ℕ) (t : Transcript) → Spells 
 allowed_of version bytes t h = subst (λ (v : Version). IsAllowed v t) (sym h.allowed.version_is) h.allowed
 
 -- the text of the replay of what was read
-pub gives : CanBeTold → (bytes input : List ℕ) → bytes ≡ input → (t : Transcript)
+pub gives : CanBeExpressed → (bytes input : List ℕ) → bytes ≡ input → (t : Transcript)
     → ReadsAny transcript_grammar bytes (Ok t)
     → (text : Vec ℕ Global) → IsReplayText t text.items → Answers replaying input (items_of (Ok text))
 gives told bytes input same t read text h = (
@@ -103,7 +103,7 @@ pub given_back : HasOneReading transcript_grammar → HasOneReplay → IsItsOwn
 given_back reading determined own input line output done (v, t, spells, judged) (w, u, spells_too, k) =
     let same : u ≡ t = one_value transcript_grammar reading input w v u t spells_too spells in
     let replays : IsReplayOf t k.replay = subst (λ (x : Transcript). IsReplayOf x k.replay) same k.replays in
-    k.written.text ∙ ap transcript_text (determined t k.replay t replays (own t judged.can_be_had judged.judged))
+    k.written.text ∙ ap transcript_text (determined t k.replay t replays (own t judged.valid_drivers judged.judged))
     ∙ sym (its_text v input t spells)
 
 -- the output of a replay is legal
@@ -116,7 +116,7 @@ judged_legal legal input output done (v, t, spells, h) = (
     h.replay,
     h.written,
     record {
-      can_be_had = rw h.replays.drivers h.replays.can_be_had;
+      valid_drivers = rw h.replays.drivers h.replays.valid_drivers;
       judged = legal t h.replay h.replays;
       written = refl;
     },

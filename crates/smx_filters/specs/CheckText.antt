@@ -31,7 +31,7 @@ verdict_line entries verdict = line_of (verdict_words entries verdict) ++ LINE_F
 -- the verdict on a transcript, and its line
 pub record IsJudged (t : Transcript) (verdict : Verdict) (output : List ℕ) : Type 0 where
   -- The drivers of the transcript are valid.
-  pub can_be_had : IsDriverList t.drivers
+  pub valid_drivers : IsDriverList t.drivers
   -- The verdict is the one on its entries and its view.
   pub judged : IsVerdict t.drivers t.entries t.view verdict
   -- The output is the line of that verdict, with the number of the entries, and nothing else.

@@ -23,10 +23,10 @@ pub record IsExplained (t : Transcript) (verdict : Verdict) (output : List ℕ) 
   -- The line is what a check writes.
   pub judged : IsJudged t verdict (verdict_line (length t.entries) verdict)
   -- The explanation compares the transcript with its replay.
-  pub told : List ℕ
-  pub explained : IsExplanation t told
+  pub explanation : List ℕ
+  pub explained : IsExplanation t explanation
   -- The output is both, and nothing else.
-  pub written : output ≡ verdict_line (length t.entries) verdict ++ told
+  pub written : output ≡ verdict_line (length t.entries) verdict ++ explanation
 
 -- A check that explains its verdict reads a transcript, answers the verdict on it, and writes the verdict with the
 -- explanation below it. Or it refuses the drivers, or is out of memory.

@@ -1,30 +1,29 @@
 -- A filter reads the whole input, and then writes the output for it.
 use Rattle.std.specs.Prelude.{◌≡◌, ◌≢◌, ℕ, ◌+◌, ◌<◌, ◌≤◌, ◌↔◌, ◌⊎◌, Bool, true, false, List, length, Option, Result, Ok}
-use Rattle.std.specs.Prelude.{Err, IfOk, IfErr, IsErrOf}
+use Rattle.std.specs.Prelude.{Err, IfOk, IfErr, IsErrOf, take}
 use Rattle.std.specs.Io.KnownBytes.{Consumes, Appends, Keeps}
 use Rattle.smx_types.specs.declared.version.Version.{Version}
-use Rattle.smx_text.specs.Grammar.{Grammar, ReadsAny, Spells}
+use Rattle.smx_text.specs.Grammar.{Grammar, IsFault, Spells}
 use Rattle.smx_text.specs.declared.text_fault.Cause.TheVariants as cause
 use Rattle.smx_text.specs.declared.text_fault.TextFault.{TextFault}
 use Rattle.smx_run.specs.declared.run_fault.RunFault.{RunFault}
 use Rattle.smx_run.specs.declared.run_fault.RunFault.TheVariants as run
 use Rattle.smx_filters.specs.Input.{IsWhole}
-use Rattle.smx_filters.specs.Output.{AppendsBeginning}
 use Rattle.smx_filters.specs.declared.main_fault.MainFault.{MainFault}
 use Rattle.smx_filters.specs.declared.main_fault.MainFault.TheVariants.{Refused, Text, TooLong, ReadFailed, WriteFailed}
 use Rattle.smx_filters.specs.declared.input.TheConstants.{MAX_INPUT}
 
 -- memory ran out, while the text was read or later
-abbrev pub IsWantOfMemory : MainFault → Type 0
-IsWantOfMemory (Refused fault) = fault ≡ run.NoMemory
-IsWantOfMemory (Text fault) = fault.cause ≡ cause.NoMemory
-IsWantOfMemory TooLong = ⊥
-IsWantOfMemory ReadFailed = ⊥
-IsWantOfMemory WriteFailed = ⊥
+abbrev pub IsOutOfMemory : MainFault → Type 0
+IsOutOfMemory (Refused fault) = fault ≡ run.NoMemory
+IsOutOfMemory (Text fault) = fault.cause ≡ cause.NoMemory
+IsOutOfMemory TooLong = ⊥
+IsOutOfMemory ReadFailed = ⊥
+IsOutOfMemory WriteFailed = ⊥
 
 -- memory did not run out
-abbrev pub HadMemory : {T : Type 0} → Result T MainFault → Type 0
-HadMemory answer = IfErr answer (λ fault. IsWantOfMemory fault → ⊥)
+abbrev pub HasEnoughMemory : {T : Type 0} → Result T MainFault → Type 0
+HasEnoughMemory answer = IfErr answer (λ fault. IsOutOfMemory fault → ⊥)
 
 -- One kind of filter. Its inputs spell values of `V` in lines of `K`, and its answers are in `T`.
 pub record Filter (V K T : Type 0) : Type 1 where
@@ -47,7 +46,8 @@ module _ {V K T : Type 0} (f : Filter V K T) where
 
   -- the text goes wrong at this line for this cause in some version; if the fault is in its header, in every version
   abbrev pub IsFaultOf : List ℕ → TextFault → Type 0
-  IsFaultOf input fault = ReadsAny f.grammar input (Err fault)
+  IsFaultOf input fault = (version : Version) × IsFault (f.grammar version) input fault.line fault.cause
+      × (fault.cause ≡ cause.Header → (other : Version) → IsFault (f.grammar other) input fault.line cause.Header)
 
   -- the allowed results for an input that was read completely
   abbrev pub Answers : List ℕ → Result (T × List ℕ) MainFault → Type 0
@@ -86,6 +86,6 @@ module _ {V K T : Type 0} (f : Filter V K T) where
     -- input was then written.
     pub write_failed : IsErrOf answer WriteFailed ↔ (write_failures ≡ 1)
     pub cut_short : IfErr answer (λ e. e ≡ WriteFailed → IsWhole had ended read
-        × (a : T) × (output : List ℕ) × GivesFor read a output × AppendsBeginning before after output)
+        × (a : T) × (output : List ℕ) × GivesFor read a output × ((n : ℕ) × Appends before after (take n output)))
     -- On every other fault nothing was written.
     pub unwritten : IfErr answer (λ e. e ≢ WriteFailed → Keeps before after)

@@ -14,10 +14,6 @@ abbrev pub front_lines : ℕ → List Front → List ℕ
 front_lines n [] = []
 front_lines n (front ∷ fronts) = front_line n front ++ front_lines (n + 1) fronts
 
--- the first line, with the version
-abbrev pub fronts_header : List ℕ
-fronts_header = codes "fronts 1" ++ LINE_FEED ∷ []
-
--- the whole text: a line for each process by rising number, and the end line
+-- the whole text: the first line, with the version; a line for each process by rising number; and the end line
 abbrev pub fronts_text : List Front → List ℕ
-fronts_text fronts = fronts_header ++ front_lines 0 fronts ++ codes "end" ++ LINE_FEED ∷ []
+fronts_text fronts = codes "fronts 1\n" ++ front_lines 0 fronts ++ codes "end\n"

@@ -25,7 +25,7 @@ module _ {V K T : Type 0} (f : Filter V K T) where
 
   -- if the writer fails: the input, and what was written, which is a beginning of what the filter gives for it
   pub record IsCutShort (input output : List ℕ) (answer : Result T MainFault) : Type 0 where
-    pub told : answer ≡ Err WriteFailed
+    pub failed : answer ≡ Err WriteFailed
     pub given : T
     pub whole : List ℕ
     pub gives : GivesFor f input given whole

@@ -17,7 +17,7 @@ ghost use Rattle.smx_run.specs.ProgramOrder.{calls_from};
 ghost use Rattle.smx_run.specs.declared.run_fault.RunFault.TheVariants as run;
 ghost use Rattle.smx_filters.specs.CheckText.{checking};
 ghost use Rattle.smx_filters.specs.ExplainText.{explaining};
-ghost use Rattle.smx_filters.specs.Filters.{Answers, GivesFor, HadMemory, RefusesFor};
+ghost use Rattle.smx_filters.specs.Filters.{Answers, GivesFor, HasEnoughMemory, RefusesFor};
 ghost use Rattle.smx_filters.specs.FrontsText.{fronts_text};
 ghost use Rattle.smx_filters.specs.ReplayText.{replaying};
 ghost use Rattle.smx_filters.specs.RunText.{IsWrittenFor, running};
@@ -34,16 +34,16 @@ use smx_text::laws::{one_text_has_one_reading, one_transcript_has_one_reading};
 pub fn an_input_has_one_answer()
     ensures checked { (input : List ℕ) (one other : Result (Verdict × List ℕ) MainFault)
         → Answers checking input one → Answers checking input other
-        → HadMemory one → HadMemory other → one ≡ other }
+        → HasEnoughMemory one → HasEnoughMemory other → one ≡ other }
     ensures replayed { (input : List ℕ) (one other : Result (Unit {0} × List ℕ) MainFault)
         → Answers replaying input one → Answers replaying input other
-        → HadMemory one → HadMemory other → one ≡ other }
+        → HasEnoughMemory one → HasEnoughMemory other → one ≡ other }
     ensures explained { (input : List ℕ) (one other : Result (Verdict × List ℕ) MainFault)
         → Answers explaining input one → Answers explaining input other
-        → HadMemory one → HadMemory other → one ≡ other }
+        → HasEnoughMemory one → HasEnoughMemory other → one ≡ other }
     ensures run { (input : List ℕ) (one other : Result (Unit {0} × List ℕ) MainFault)
         → Answers (running false 1) input one → Answers (running false 1) input other
-        → HadMemory one → HadMemory other → one ≡ other }
+        → HasEnoughMemory one → HasEnoughMemory other → one ≡ other }
 {
     there_is_one_verdict();
     a_transcript_has_one_replay();
@@ -57,7 +57,7 @@ pub fn a_run_of_one_process_has_one_answer()
     ensures { (workers : ℕ) (input : List ℕ) (one other : Result (Unit {0} × List ℕ) MainFault)
         → ((version : Version) (p : ProgramLists) → Spells (programs_grammar version) input p → length p.programs ≤ 1)
         → Answers (running false workers) input one → Answers (running false workers) input other
-        → HadMemory one → HadMemory other → one ≡ other }
+        → HasEnoughMemory one → HasEnoughMemory other → one ≡ other }
 {
     one_text_has_one_reading();
 }

@@ -9,7 +9,7 @@ use crate::device::{Feed, Sink};
 use crate::input::read_all;
 use crate::main_fault::MainFault;
 use crate::output::write_all;
-use smx_replay::laws_of_replays::replays_can_be_told;
+use smx_replay::laws_of_replays::replays_can_be_expressed;
 use smx_replay::replay;
 use smx_text::read_transcript;
 use std::alloc::Global;
@@ -39,7 +39,7 @@ pub fn replay_text<F: Feed, S: Sink>(
 fn text_of_replay(alloc: Global, input: Vec<u8>) -> Result<Vec<u8>, MainFault>
     ensures { Answers replaying input.items (items_of result) }
 {
-    replays_can_be_told();
+    replays_can_be_expressed();
     let transcript = read_transcript(alloc, input.as_slice())?;
     let text = replay(alloc, transcript, input)?;
     Ok(text)

@@ -76,7 +76,7 @@ quiet ds h [] was = refl
 quiet ds h (t ∷ ts) was = one t.answer was.1 (quiet ds (h ++ entries_in t.answer) ts was.2) where
   one : (a : Answer) → IsAnswer V1 ds h t.line a → list_any (λ e. is_hangup e.command) (entries_of ts) ≡ false
       → list_any (λ e. is_hangup e.command) (entries_in a ++ entries_of ts) ≡ false
-  one (Entered e) is behind = or_from (is_hangup e.command) _ is.told.1 behind
+  one (Entered e) is behind = or_from (is_hangup e.command) _ is.in_version.1 behind
   one (Shown s) is behind = behind
   one (NotDone w) is behind = behind
 

@@ -110,7 +110,7 @@ module _ (further : OneFurther) {read : List ℕ} {ended : Bool} {output : List 
         programs = l.programs;
         spelled = l.spelled;
         drivers = l.drivers;
-        can_be_had = l.can_be_had;
+        valid_drivers = l.valid_drivers;
         answered = answered_more s.version s.drivers [] l.turns (turn a) l.answered short right;
         few = subst (λ (es : List Entry). length es ≤ MAX_COMMANDS) (sym same) l.few;
         opening = l.opening;
@@ -136,7 +136,7 @@ module _ (further : OneFurther) {read : List ℕ} {ended : Bool} {output : List 
       ∙ subst (λ (x : Entry). step s.drivers s.configuration x.process x.command ≡ (next.configuration, x.reply)) same
       p.does in
       let right : IsEntryOf s.version s.drivers es (take n held) e = record {
-        told = subst (λ (x : Entry). FitsCallIn s.version (call_of x)) same p.fits;
+        in_version = subst (λ (x : Entry). FitsCallIn s.version (call_of x)) same p.fits;
         is_read = subst (λ (x : Entry). take n held ≡ line_of (call_words (call_of x))) same p.is_read;
         legal = ap (λ (x : Configuration × Reply). x.1) does;
         spelled = h.spelled;
@@ -156,7 +156,7 @@ module _ (further : OneFurther) {read : List ℕ} {ended : Bool} {output : List 
         spelled = subst (λ (v : Version). Spells (programs_grammar v) (table_text l.table) l.programs) (sym p.version)
             l.spelled;
         drivers = p.drivers ∙ l.drivers;
-        can_be_had = rw p.drivers l.can_be_had;
+        valid_drivers = rw p.drivers l.valid_drivers;
         answered = rw (p.version, p.drivers) answered;
         few = omega (arith, length_is, h.room, l.counted);
         opening = l.opening;
@@ -225,7 +225,7 @@ begun {table = table} {opening = opening} parts over fits start begins = record 
   programs = start.programs;
   spelled = start.spelled;
   drivers = start.drivers;
-  can_be_had = start.can_be_had;
+  valid_drivers = start.valid_drivers;
   answered = tt;
   few = omega arith;
   opening = opening;
@@ -253,7 +253,7 @@ with_more more {ended} {now} {held = held} l stays =
       programs = l.programs;
       spelled = l.spelled;
       drivers = l.drivers;
-      can_be_had = l.can_be_had;
+      valid_drivers = l.valid_drivers;
       answered = l.answered;
       few = l.few;
       opening = l.opening;

@@ -34,11 +34,12 @@ use Rattle.smx_run.specs.declared.run_fault.RunFault.{RunFault}
 use Rattle.smx_run.specs.declared.run_fault.RunFault.TheVariants as run
 use Rattle.smx_session.specs.Sessions.{State}
 use Rattle.smx_filters.specs.declared.input.TheConstants.{MAX_INPUT}
-use Rattle.smx_filters.proofs.AnswerLemmas.{HaveOneFault, drivers_had}
+use Rattle.smx_filters.proofs.AnswerLemmas.{HaveOneFault, only_memory_refuses}
 use Rattle.smx_live.specs.Inboxes.{HasLine, IsShort}
 use Rattle.smx_live.specs.LiveText.{HasComeSoFar, IsAtEnd, IsLive, IsOver, RefusesDriversOf}
 use Rattle.smx_live.specs.Tables.{AreOfTable, HasTableOf, IsCutDriver, IsOverAt, IsTable, begins_driver, table_text}
-use Rattle.smx_live.specs.Turns.{Answer, AreAnswered, AsksToShow, Entered, HadMemory, IsAnswer, IsEntryOf, NotDone}
+use Rattle.smx_live.specs.Turns.{Answer, AreAnswered, AsksToShow, Entered, HasEnoughMemory, IsAnswer, IsEntryOf}
+use Rattle.smx_live.specs.Turns.{NotDone}
 use Rattle.smx_live.specs.Turns.{Shown, Turn, asked_text, entries_in, entries_of, said_text}
 use Rattle.smx_live.specs.declared.turn_fault.TurnFault.TheVariants.{NoCommand, NoMemory, Full}
 
@@ -51,8 +52,8 @@ HasOneReading = (bytes : List ℕ) (r s : Result ProgramLists TextFault) → Rea
     → IfErr s (λ f. f.cause ≢ cause.NoMemory) → r ≡ s
 
 -- no two calls have the same line
-abbrev pub AreToldApart : Type 0
-AreToldApart =
+abbrev pub AreDistinguished : Type 0
+AreDistinguished =
     (x y : ℕ × Command) → FitsCall x → FitsCall y → line_of (call_words x) ≡ line_of (call_words y) → x ≡ y
 
 -- ---- lines
@@ -240,38 +241,38 @@ module _ (c : ℕ × Command) (fits : FitsCall c) where
 module _ (version : Version) (drivers : List DriverSpec) (history : List Entry) (l : List ℕ) where
   -- a line that asks for the configuration is not that of an entry
   not_shown : (e : Entry) → IsEntryOf version drivers history l e → AsksToShow l → ⊥
-  not_shown e is (inl none) = some_call (call_of e) is.told.0 (sym is.is_read ∙ none)
+  not_shown e is (inl none) = some_call (call_of e) is.in_version.0 (sym is.is_read ∙ none)
   not_shown e is (inr show) =
-      no_call (call_of e) is.told.0 115 (codes "how") (λ ds h. absurd (cc h)) (sym is.is_read ∙ show)
+      no_call (call_of e) is.in_version.0 115 (codes "how") (λ ds h. absurd (cc h)) (sym is.is_read ∙ show)
 
   -- the line `end` is not that of an entry
   not_ended : (e : Entry) → IsEntryOf version drivers history l e → l ≡ codes "end" → ⊥
   not_ended e is end =
-      no_call (call_of e) is.told.0 101 (codes "nd") (λ ds h. absurd (cc h)) (sym is.is_read ∙ end)
+      no_call (call_of e) is.in_version.0 101 (codes "nd") (λ ds h. absurd (cc h)) (sym is.is_read ∙ end)
 
   -- the entry of a call and its reply
   abbrev entry_with : ℕ × Command → Reply → Entry
   entry_with call reply = record { process = call.0; command = call.1; reply = reply }
 
   -- a line is that of at most one entry
-  entry_once : AreToldApart → (e f : Entry) → IsEntryOf version drivers history l e
+  entry_once : AreDistinguished → (e f : Entry) → IsEntryOf version drivers history l e
       → IsEntryOf version drivers history l f → e ≡ f
   entry_once told_apart e f is is_too =
-      let call : call_of e ≡ call_of f = told_apart (call_of e) (call_of f) is.told.0 is_too.told.0
+      let call : call_of e ≡ call_of f = told_apart (call_of e) (call_of f) is.in_version.0 is_too.in_version.0
       (sym is.is_read ∙ is_too.is_read) in
       let reply : e.reply ≡ f.reply = sym is.legal
       ∙ ap (λ (c : ℕ × Command). (step drivers (after drivers history) c.0 c.1).1) call ∙ is_too.legal in
       ap (λ (c : ℕ × Command). entry_with c e.reply) call ∙ ap (λ (r : Reply). entry_with (call_of f) r) reply
 
   -- a line has at most one answer, apart from out-of-memory
-  answer_once : AreToldApart → (a b : Answer) → IsAnswer version drivers history l a
+  answer_once : AreDistinguished → (a b : Answer) → IsAnswer version drivers history l a
       → IsAnswer version drivers history l b
       → a ≢ NotDone NoMemory → b ≢ NotDone NoMemory → a ≡ b
   answer_once told_apart (Entered e) (Entered f) is is_too had had_too = ap Entered
       (entry_once told_apart e f is is_too)
   answer_once told_apart (Entered e) (Shown v) is is_too had had_too = absurd (not_shown e is is_too.0)
   answer_once told_apart (Entered e) (NotDone NoCommand) is is_too had had_too =
-      absurd (is_too.1 (call_of e) is.told is.is_read)
+      absurd (is_too.1 (call_of e) is.in_version is.is_read)
   answer_once told_apart (Entered e) (NotDone NoMemory) is is_too had had_too = absurd (had_too refl)
   answer_once told_apart (Entered e) (NotDone Full) is is_too had had_too = absurd (omega (arith, is.room, is_too.1))
   answer_once told_apart (Shown v) (Entered e) is is_too had had_too = absurd (not_shown e is_too is.0)
@@ -281,7 +282,7 @@ module _ (version : Version) (drivers : List DriverSpec) (history : List Entry) 
   answer_once told_apart (Shown v) (NotDone Full) is is_too had had_too = absurd (is_too.0.0 is.0)
   answer_once told_apart (NotDone NoMemory) b is is_too had had_too = absurd (had refl)
   answer_once told_apart (NotDone NoCommand) (Entered e) is is_too had had_too =
-      absurd (is.1 (call_of e) is_too.told is_too.is_read)
+      absurd (is.1 (call_of e) is_too.in_version is_too.is_read)
   answer_once told_apart (NotDone NoCommand) (Shown v) is is_too had had_too = absurd (is.0.0 is_too.0)
   answer_once told_apart (NotDone NoCommand) (NotDone NoCommand) is is_too had had_too = refl
   answer_once told_apart (NotDone NoCommand) (NotDone NoMemory) is is_too had had_too = absurd (had_too refl)
@@ -324,7 +325,7 @@ words_once ended held words said (inl (more, is, none)) (inr (end, short, cut)) 
 words_once ended held words said (inr (end, short, cut)) (inl (more, is, none)) = absurd (no_end more held short.0 is)
 words_once ended held words said (inr (end, short, cut)) (inr (end_too, short_too, cut_too)) = cut ∙ sym cut_too
 
-module _ (version : Version) (drivers : List DriverSpec) (told_apart : AreToldApart) (ended : Bool) where
+module _ (version : Version) (drivers : List DriverSpec) (told_apart : AreDistinguished) (ended : Bool) where
   -- no line is answered at the end of a session
   none_behind : (history : List Entry) (u : Turn) (rest held words : List ℕ) → IsAtEnd ended held words
       → held ≡ u.line ++ LINE_FEED ∷ rest → IsShort u.line → IsAnswer version drivers history u.line u.answer
@@ -337,7 +338,8 @@ module _ (version : Version) (drivers : List DriverSpec) (told_apart : AreToldAp
 
   -- turns with the same lines are the same
   turns_once : (history : List Entry) (ts us : List Turn) (held more words said : List ℕ)
-      → AreAnswered version drivers history ts → AreAnswered version drivers history us → HadMemory ts → HadMemory us
+      → AreAnswered version drivers history ts → AreAnswered version drivers history us
+      → HasEnoughMemory ts → HasEnoughMemory us
       → IsAtEnd ended held words → IsAtEnd ended more said → asked_text ts ++ held ≡ asked_text us ++ more
       → (ts ≡ us) × (words ≡ said)
   turns_once history [] [] held more words said was was_too had had_too at at_too e =
@@ -394,9 +396,9 @@ value_once reading text v w x y h k =
     let same : one ≡ other = reading text one other (v, h, tt) (w, k, tt) tt tt in cc
 
 -- two sessions that ended over the same bytes, and never ran out of memory, have written the same
-pub one_output : HasOneReading → AreToldApart → (read : List ℕ) (ended : Bool) (one other : List ℕ)
-    (o : IsOver read ended one) (p : IsOver read ended other) → HadMemory o.live.turns → HadMemory p.live.turns
-    → one ≡ other
+pub one_output : HasOneReading → AreDistinguished → (read : List ℕ) (ended : Bool) (one other : List ℕ)
+    (o : IsOver read ended one) (p : IsOver read ended other) → HasEnoughMemory o.live.turns
+    → HasEnoughMemory p.live.turns → one ≡ other
 one_output reading told_apart read ended one other o p had had_too =
     output_is read ended one o ∙ ap (λ (v : Version). whole_output v o.s.drivers o.live.turns o.words) version
     ∙ ap (λ (ds : List DriverSpec). whole_output p.s.version ds o.live.turns o.words) drivers
@@ -451,7 +453,7 @@ no_refusal reading determined read output ended fault (s, count, held, l)
     let programs : p ≡ l.programs = value_once reading (table_text l.table) version s.version p l.programs there
     l.spelled in
     let drivers : p.drivers ≡ s.drivers = ap (λ (x : ProgramLists). x.drivers) programs ∙ sym l.drivers in
-    drivers_had determined s.drivers l.can_be_had fault
+    only_memory_refuses determined s.drivers l.valid_drivers fault
     (subst (λ (ds : List DriverSpec). RefusesAlone ds fault) drivers refused)
 
 -- each line that was answered is within the limit

@@ -48,8 +48,8 @@ pub not_yet_full : IsRefusedFor V2 99999 (codes "x") Full → ⊥
 not_yet_full is = omega (arith, is.1)
 
 -- if the history is full, a line that is not a command is not refused as such
-pub full_is_told : IsRefusedFor V2 100000 (codes "x") NoCommand → ⊥
-full_is_told is = omega (arith, is.2)
+pub full_is_reported : IsRefusedFor V2 100000 (codes "x") NoCommand → ⊥
+full_is_reported is = omega (arith, is.2)
 
 -- the configuration is shown even if the history is full
 pub shown_when_full : IsRefusedFor V2 100000 (codes "show") Full → ⊥
@@ -65,7 +65,7 @@ no_command = (x_asks, x_is_none V2, search arith)
 
 -- a command may be refused for lack of memory
 pub no_memory : IsAnswer V2 drivers [] (codes "3 clone eth") (NotDone NoMemory)
-no_memory asks = ((call_of (3 does OpenClone eth gets Fd 0 0), cloned.told, cloned.is_read), search arith)
+no_memory asks = ((call_of (3 does OpenClone eth gets Fd 0 0), cloned.in_version, cloned.is_read), search arith)
 
 -- so may a command of version 1, up to the last entry
 pub no_memory_up_to_the_last : IsCallLine V1 (codes "63 dup 0") → IsRefusedFor V1 99999 (codes "63 dup 0") NoMemory

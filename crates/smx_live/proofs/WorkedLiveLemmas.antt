@@ -180,7 +180,7 @@ not_full is = omega (arith, is.1)
 -- the line `x` is not answered by an entry
 pub not_performed : (e : Entry) → IsAnswer V2 drivers [] (codes "x") (Entered e) → ⊥
 not_performed e is =
-    no_call (call_of e) is.told.0 120 [] (λ ds h. absurd (cc h)) (sym is.is_read)
+    no_call (call_of e) is.in_version.0 120 [] (λ ds h. absurd (cc h)) (sym is.is_read)
 
 -- ---- the session
 
@@ -205,8 +205,8 @@ clone_asks_for_neither = (
 )
 
 -- if the history is full, the line `3 clone eth` is not refused for lack of memory
-pub full_is_told : IsRefusedFor V2 MAX_COMMANDS (codes "3 clone eth") NoMemory → ⊥
-full_is_told is = omega (arith, (is clone_asks_for_neither).1)
+pub full_is_reported : IsRefusedFor V2 MAX_COMMANDS (codes "3 clone eth") NoMemory → ⊥
+full_is_reported is = omega (arith, (is clone_asks_for_neither).1)
 
 -- the line `x` is not a command of a process in version 2
 x_is_none : IsNoCallLine V2 (codes "x")
@@ -226,7 +226,7 @@ clone_line = refl
 -- the line `3 clone eth` is that of the entry of a clone by process 3, with the model's reply
 pub cloned : IsEntryOf V2 drivers [] (codes "3 clone eth") (3 does OpenClone eth gets Fd 0 0)
 cloned = record {
-  told = search (rules, arith);
+  in_version = search (rules, arith);
   is_read = clone_line;
   legal = refl;
   spelled = search (rules, arith);
@@ -284,7 +284,7 @@ answered start = record {
   programs = start.programs;
   spelled = start.spelled;
   drivers = start.drivers;
-  can_be_had = start.can_be_had;
+  valid_drivers = start.valid_drivers;
   answered = (
     (one_clone, search arith),
     cloned,

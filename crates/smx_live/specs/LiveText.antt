@@ -45,7 +45,7 @@ pub record IsLive (read : List ℕ) (ended : Bool) (output : List ℕ) (s : Stat
   pub programs : ProgramLists
   pub spelled : Spells (programs_grammar s.version) (table_text table) programs
   pub drivers : s.drivers ≡ programs.drivers
-  pub can_be_had : IsDriverList s.drivers
+  pub valid_drivers : IsDriverList s.drivers
   -- Each line is answered by the entry of its command, by the configuration, or by why it is refused.
   pub answered : AreAnswered s.version s.drivers [] turns
   pub few : length (entries_of turns) ≤ MAX_COMMANDS

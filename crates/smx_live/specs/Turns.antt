@@ -73,7 +73,7 @@ AsksToShow line = (line ≡ []) ⊎ (line ≡ codes "show")
 -- `history`
 pub record IsEntryOf (version : Version) (drivers : List DriverSpec) (history : List Entry) (line : List ℕ)
     (e : Entry) : Type 0 where
-  pub told : FitsCallIn version (call_of e)
+  pub in_version : FitsCallIn version (call_of e)
   pub is_read : line ≡ line_of (call_words (call_of e))
   pub legal : (step drivers (after drivers history) e.process e.command).1 ≡ e.reply
   pub spelled : FitsEntry e
@@ -105,8 +105,8 @@ AreAnswered version drivers history (t ∷ ts) = IsShort t.line × IsAnswer vers
     × AreAnswered version drivers (history ++ entries_in t.answer) ts
 
 -- none of these turns is refused for lack of memory
-abbrev pub HadMemory : List Turn → Type 0
-HadMemory turns = AllByRecursion (λ t. t.answer ≢ NotDone NoMemory) turns
+abbrev pub HasEnoughMemory : List Turn → Type 0
+HasEnoughMemory turns = AllByRecursion (λ t. t.answer ≢ NotDone NoMemory) turns
 
 -- ---- how a session takes a turn
 

@@ -39,40 +39,40 @@ abbrev pub minorless_text : List ℕ
 minorless_text = codes "programs 2\ndriver eth leaf 0 8 3 16\nend\n"
 
 -- the answer to a clone is the line of its entry
-pub entry_told : answer_text (Entered (3 does OpenClone eth gets Fd 0 0)) ≡ codes "3 clone eth = fd 0 0\n"
+pub entry_shown : answer_text (Entered (3 does OpenClone eth gets Fd 0 0)) ≡ codes "3 clone eth = fd 0 0\n"
 unfolding digits
-entry_told = refl
+entry_shown = refl
 
 -- the answer to an empty line is the configuration, followed by `shown`
-pub view_told : answer_text (Shown (view drivers hung.configuration))
+pub view_shown : answer_text (Shown (view drivers hung.configuration))
     ≡ codes "config\nnext 1 1\nfd 3 0 eth 0\nhung eth 0\nshown\n"
 unfolding digits
-view_told = refl
+view_shown = refl
 
 -- the last lines of a session without an entry
-pub end_told : closing_text begun ≡ codes "config\nnext 1 1\nend\n"
+pub end_shown : closing_text begun ≡ codes "config\nnext 1 1\nend\n"
 unfolding digits
-end_told = refl
+end_shown = refl
 
 -- a line that is not a command is refused in these words
-pub no_command_told : fault_line NoCommand ≡ codes "? no command\n"
-no_command_told = refl
+pub no_command_shown : fault_line NoCommand ≡ codes "? no command\n"
+no_command_shown = refl
 
 -- a line for which there is no memory is refused in these words
-pub no_memory_told : fault_line NoMemory ≡ codes "? no memory\n"
-no_memory_told = refl
+pub no_memory_shown : fault_line NoMemory ≡ codes "? no memory\n"
+no_memory_shown = refl
 
 -- a command for which the history is full is refused in these words
-pub full_told : fault_line Full ≡ codes "? history full\n"
-full_told = refl
+pub full_shown : fault_line Full ≡ codes "? history full\n"
+full_shown = refl
 
 -- the answer to a last line without a line feed is in these words
-pub cut_told : cut_words (codes "en") ≡ codes "? cut\n"
-cut_told = refl
+pub cut_shown : cut_words (codes "en") ≡ codes "? cut\n"
+cut_shown = refl
 
 -- there is no such answer if there is no such line
-pub no_cut_told : cut_words [] ≡ []
-no_cut_told = refl
+pub no_cut_shown : cut_words [] ≡ []
+no_cut_shown = refl
 
 -- the text of a table ends with the line `end`
 pub table_ends : table_text worked_table ≡ codes "programs 2\ndriver eth leaf 2 8 3 16\nend\n"

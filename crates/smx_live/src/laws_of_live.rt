@@ -21,14 +21,14 @@ ghost use Rattle.smx_live.specs.Inboxes.{HasLine, IsTooLong};
 ghost use Rattle.smx_live.specs.LiveText.{HasComeSoFar, IsBroken, IsLegalTranscript, IsLive, IsOutcome, IsOver};
 ghost use Rattle.smx_live.specs.LiveText.{RefusesDriversOf};
 ghost use Rattle.smx_live.specs.Tables.{HasTableOf, IsEndlessTable, IsTable, IsUnfinished, table_text};
-ghost use Rattle.smx_live.specs.Turns.{Entered, HadMemory, IsAnswer, IsRefusedFor, NotDone};
+ghost use Rattle.smx_live.specs.Turns.{Entered, HasEnoughMemory, IsAnswer, IsRefusedFor, NotDone};
 ghost use Rattle.smx_live.specs.WorkedLives.{minorless_text, worked_answers, worked_input, worked_output};
 ghost use Rattle.smx_live.specs.WorkedLives.{worked_table};
 ghost use Rattle.smx_live.specs.declared.turn_fault.TurnFault.TheVariants.{NoCommand, NoMemory, Full};
 
 use smx_config::laws_of_drivers::drivers_have_one_fault;
 use smx_model::laws::one_entry_more;
-use smx_model::laws_of_hangups::without_a_hangup_none_is_told;
+use smx_model::laws_of_hangups::without_a_hangup_none_is_reported;
 use smx_session::laws_of_sessions::a_worked_session;
 use smx_text::laws::one_text_has_one_reading;
 use smx_text::worked_texts::wrong_programs;
@@ -41,14 +41,14 @@ pub fn live_sessions_are_legal_transcripts()
     ensures { (read : List ℕ) (ended : Bool) (output : List ℕ) (o : IsOver read ended output) → IsLegalTranscript o }
 {
     one_entry_more();
-    without_a_hangup_none_is_told();
+    without_a_hangup_none_is_reported();
 }
 
 /// The bytes that a session has read determine its output, if the session has ended and no line was refused
 /// for lack of memory.
 pub fn a_session_has_one_output()
     ensures { (read : List ℕ) (ended : Bool) (one other : List ℕ) (o : IsOver read ended one)
-        (p : IsOver read ended other) → HadMemory o.live.turns → HadMemory p.live.turns → one ≡ other }
+        (p : IsOver read ended other) → HasEnoughMemory o.live.turns → HasEnoughMemory p.live.turns → one ≡ other }
 {
     one_text_has_one_reading();
     one_value_each();
@@ -144,7 +144,7 @@ pub fn a_worked_live_session()
     ensures show_is_asked { IsAnswer V2 drivers [] (codes "show") (NotDone NoCommand) → ⊥ }
     ensures end_is_asked { IsAnswer V2 drivers [] (codes "end") (NotDone NoCommand) → ⊥ }
     ensures not_full { IsAnswer V2 drivers [] (codes "x") (NotDone Full) → ⊥ }
-    ensures full_is_told { IsRefusedFor V2 MAX_COMMANDS (codes "3 clone eth") NoMemory → ⊥ }
+    ensures full_is_reported { IsRefusedFor V2 MAX_COMMANDS (codes "3 clone eth") NoMemory → ⊥ }
     ensures no_memory_for_no_command { IsRefusedFor V2 0 (codes "x") NoMemory → ⊥ }
     ensures not_performed { (e : Entry) → IsAnswer V2 drivers [] (codes "x") (Entered e) → ⊥ }
 {
@@ -175,7 +175,7 @@ pub fn what_is_out_when_memory_runs_out()
 pub fn why_lines_are_refused()
     ensures full { IsRefusedFor V2 100000 (codes "x") Full }
     ensures not_yet_full { IsRefusedFor V2 99999 (codes "x") Full → ⊥ }
-    ensures full_is_told { IsRefusedFor V2 100000 (codes "x") NoCommand → ⊥ }
+    ensures full_is_reported { IsRefusedFor V2 100000 (codes "x") NoCommand → ⊥ }
     ensures shown_when_full { IsRefusedFor V2 100000 (codes "show") Full → ⊥ }
     ensures ended_when_full { IsRefusedFor V2 100000 (codes "end") Full → ⊥ }
     ensures no_command { IsRefusedFor V2 99999 (codes "x") NoCommand }

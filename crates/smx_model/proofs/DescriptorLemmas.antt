@@ -3,6 +3,7 @@ use Rattle.std.proofs.Common.{◌≡◌, ◌↔◌, ℕ, Bool, true, false, not,
 use Rattle.std.proofs.Common.{Ok, Err, refl, rules, sym, subst, inl, inr}
 use Rattle.std.specs.List.{All, Contains, list_any}
 use Rattle.std.proofs.lemmas.Bool.{cases_Bool}
+use Rattle.std.specs.Option.{ok_or}
 use Rattle.smx_types.specs.declared.command.Command.{Command}
 use Rattle.smx_types.specs.declared.command.Command.TheVariants as command
 use Rattle.smx_types.specs.declared.driver.DriverSpec.{DriverSpec}
@@ -12,7 +13,7 @@ use Rattle.smx_types.specs.declared.stream.StreamId.{StreamId}
 use Rattle.smx_model.specs.Commands.{outcome, step, after_outcome, done_outcome}
 use Rattle.smx_model.specs.Commands.{with_fd}
 use Rattle.smx_model.specs.Configuration.{Configuration, fd_before, is_fd}
-use Rattle.smx_model.specs.Outcomes.{Outcome, ◌>>=◌, or_fault}
+use Rattle.smx_model.specs.Outcomes.{Outcome, ◌>>=◌}
 use Rattle.smx_model.specs.Removal.{after_sweep}
 use Rattle.smx_model.specs.Settling.{after_settling}
 use Rattle.smx_model.proofs.MemberLemmas.{all_in, filtered_passes, in_filtered, in_placed, none_in}
@@ -57,8 +58,8 @@ close_shuts drivers c process fd = all_in _ c.fds (by (find (is_fd process fd) c
   by : (o : Option Descriptor) → find (is_fd process fd) c.fds ≡ o
       → LosesDescriptors c
       (after_outcome drivers c
-      (or_fault BadDescriptor
-      (found o) >>= (λ s. done_outcome drivers c (record c { fds = filter (λ d. not (is_fd process fd d)) c.fds })))).0
+      (ok_or (found o) BadDescriptor
+      >>= (λ s. done_outcome drivers c (record c { fds = filter (λ d. not (is_fd process fd d)) c.fds })))).0
       (is_fd process fd)
   by None e = shut_none c (is_fd process fd) (none_found (is_fd process fd) c.fds e)
   by (Some d) e = shut_done drivers c (is_fd process fd)

@@ -2,7 +2,7 @@
 use Rattle.std.proofs.Common.{◌≡◌, ◌≢◌, ℕ, ◌≤◌, ◌⊎◌, Bool, true, false, ◌||◌, not, List, length, find, Option, Some}
 use Rattle.std.proofs.Common.{None, Result, Ok, Err, refl, inl, inr}
 use Rattle.std.specs.Prelude.{◌==◌, nat_le}
-use Rattle.std.specs.Option.{option_map}
+use Rattle.std.specs.Option.{option_map, ok_or}
 use Rattle.std.proofs.lemmas.Bool.{leb-true}
 use Rattle.smx_types.specs.declared.driver.DriverSpec.{DriverSpec}
 use Rattle.smx_types.specs.declared.limits.TheConstants.{MAX_LINKS, NUMBER_END}
@@ -16,7 +16,7 @@ use Rattle.smx_model.specs.Commands.{link_outcome}
 use Rattle.smx_model.specs.Configuration.{Configuration, is_fd}
 use Rattle.smx_model.specs.DriverList.{is_mux}
 use Rattle.smx_model.specs.Lookups.{stream_of}
-use Rattle.smx_model.specs.Outcomes.{◌>>=◌, or_fault, refuse, Outcome}
+use Rattle.smx_model.specs.Outcomes.{◌>>=◌, refuse, Outcome}
 use Rattle.smx_model.specs.Paths.{reaches}
 use Rattle.smx_model.specs.Standing.{is_below}
 use Rattle.smx_model.specs.Hangups.{is_hung}
@@ -36,7 +36,7 @@ other_refusal f false other e = absurd cc
 -- the look-up of a descriptor's stream is never refused for too many links
 no_stream : (c : Configuration) (process fd : ℕ) → stream_of c process fd ≡ Err TooManyLinks → ⊥
 no_stream c process fd = by (option_map (λ d. d.stream) (find (is_fd process fd) c.fds)) where
-  by : (o : Option StreamId) → or_fault BadDescriptor o ≡ Err TooManyLinks → ⊥
+  by : (o : Option StreamId) → ok_or o BadDescriptor ≡ Err TooManyLinks → ⊥
   by None e = absurd cc
   by (Some s) e = absurd cc
 

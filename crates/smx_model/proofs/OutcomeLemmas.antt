@@ -1,10 +1,11 @@
 -- Properties of every accepted outcome.
 use Rattle.std.proofs.Common.{◌≡◌, Bool, true, false, Option, Some, None, Result, Ok, Err, refl}
 use Rattle.std.specs.Prelude.{if◌then◌else◌, IfOk}
+use Rattle.std.specs.Option.{ok_or}
 use Rattle.smx_types.specs.declared.reply.Fault.{Fault}
 use Rattle.smx_types.specs.declared.reply.Reply.{Reply}
 use Rattle.smx_model.specs.Configuration.{Configuration}
-use Rattle.smx_model.specs.Outcomes.{◌>>=◌, or_fault, refuse, Outcome}
+use Rattle.smx_model.specs.Outcomes.{◌>>=◌, refuse, Outcome}
 
 -- P holds of the configuration and the reply, if the outcome is accepted
 abbrev of_accepted : (Configuration → Reply → Type 0) → Outcome → Type 0
@@ -33,7 +34,7 @@ after_test P fault false f h = h refl
 
 -- P holds of an outcome after an optional value, if it holds with any such value
 pub after_some : {A : Type 0} (P : Configuration → Reply → Type 0) (fault : Fault) (o : Option A) (f : A → Outcome)
-    → ((x : A) → o ≡ Some x → IfAccepted P (f x)) → IfAccepted P (or_fault fault o >>= f)
+    → ((x : A) → o ≡ Some x → IfAccepted P (f x)) → IfAccepted P (ok_or o fault >>= f)
 after_some P fault (Some x) f h = h x refl
 after_some P fault None f h = record { holds = tt }
 

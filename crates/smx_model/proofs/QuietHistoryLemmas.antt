@@ -3,11 +3,11 @@ use Rattle.std.proofs.Common.{◌≡◌, ℕ, zero, suc, Bool, true, false, ◌&
 use Rattle.std.proofs.Common.{filter, Option, Some, None, Result, Ok, Err, refl, rules, sym, ap, ◌∙◌, inl, inr}
 use Rattle.std.specs.Prelude.{slice_index_or, if◌then◌else◌}
 use Rattle.std.specs.List.{list_any}
-use Rattle.std.specs.Option.{is_some}
+use Rattle.std.specs.Option.{is_some, ok_or}
 use Rattle.std.proofs.lemmas.Bool.{both_ways, cases_Bool, and_from, eq-eqb, false_from_ne_true, false≢true, or_cases}
 use Rattle.std.proofs.lemmas.Bool.{or_from, or_left, or_parts, or_right}
 use Rattle.smx_types.specs.ProgramLists.{ProgramLists}
-use Rattle.smx_types.specs.Versions.{are_more_drivers, is_hangup, is_hung_up, is_of_hangup, least_of_programs}
+use Rattle.smx_types.specs.Versions.{are_more_drivers, is_hangup, is_of_hangup, least_of_programs}
 use Rattle.smx_types.specs.Versions.{least_of_transcript, tells_of_hangup, version_2_where}
 use Rattle.smx_types.specs.declared.command.Command.{Command}
 use Rattle.smx_types.specs.declared.command.Command.TheVariants as command
@@ -34,7 +34,7 @@ use Rattle.smx_model.specs.Histories.{after, after_from, commands_of, HoldsProgr
 use Rattle.smx_model.specs.KeptConfigurations.{IsKept}
 use Rattle.smx_model.specs.Lookups.{free_stream, live_leaf, live_stream}
 use Rattle.smx_model.specs.Lookups.{mux_stream}
-use Rattle.smx_model.specs.Outcomes.{Outcome, ◌>>=◌, or_fault, refuse}
+use Rattle.smx_model.specs.Outcomes.{Outcome, ◌>>=◌, refuse}
 use Rattle.smx_model.specs.Queues.{first_message}
 use Rattle.smx_model.specs.Removal.{without_links}
 use Rattle.smx_model.specs.Standing.{exists}
@@ -46,7 +46,7 @@ use Rattle.smx_model.proofs.KeptLemmas.{empty_kept, step_keeps}
 -- calm by a test: an accepted value fails the test, and a refusal is not for a hangup
 abbrev calm_of : {A : Type 0} → (A → Bool) → Result A Fault → Type 0
 calm_of tells (Ok x) = tells x ≡ false
-calm_of tells (Err f) = is_hung_up f ≡ false
+calm_of tells (Err f) = tells_of_hangup (reply.Fault f) ≡ false
 
 -- the same as `calm_of`, as a record, so that a search finds the parts of the outcome
 record IsCalm {A : Type 0} (tells : A → Bool) (r : Result A Fault) : Type 0 where
@@ -57,13 +57,14 @@ calm_ok : {A : Type 0} (tells : A → Bool) (x : A) → tells x ≡ false → Is
 calm_ok tells x h = record { told = h }
 
 -- an optional value is calm, if the fault for its absence is not that of a hangup
-calm_some : {A : Type 0} (g : Fault) (o : Option A) → is_hung_up g ≡ false → IsCalm (λ x. false) (or_fault g o)
+calm_some : {A : Type 0} (g : Fault) (o : Option A) → tells_of_hangup (reply.Fault g) ≡ false
+    → IsCalm (λ x. false) (ok_or o g)
 calm_some g (Some x) h = record { told = refl }
 calm_some g None h = record { told = h }
 
 -- a refusal that is not for a hangup, followed by a calm result, is calm
 calm_test : {A : Type 0} (tells : A → Bool) (g : Fault) (b : Bool) (f : Unit {0} → Result A Fault)
-    → is_hung_up g ≡ false → IsCalm tells (f tt) → IsCalm tells (refuse g b >>= f)
+    → tells_of_hangup (reply.Fault g) ≡ false → IsCalm tells (f tt) → IsCalm tells (refuse g b >>= f)
 calm_test tells g false f h k = k
 calm_test tells g true f h k = record { told = h }
 

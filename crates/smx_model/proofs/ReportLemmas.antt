@@ -44,7 +44,7 @@ pub report_of : (programs : ProgramLists) (r : Transcript) → r.drivers ≡ pro
     → r.view ≡ view programs.drivers (after programs.drivers r.entries) → IsReportOf programs r
 report_of programs r same can legal holds shown = record {
   drivers = same;
-  can_be_had = can;
+  valid_drivers = can;
   legal = legal;
   holds = holds;
   shown = shown;

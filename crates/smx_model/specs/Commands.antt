@@ -2,7 +2,7 @@
 use Rattle.std.specs.Prelude.{ℕ, ◌+◌, Bool, true, ◌&&◌, ◌||◌, not, ◌==◌, nat_lt, nat_le, if◌then◌else◌, List, [], ◌∷◌}
 use Rattle.std.specs.Prelude.{◌++◌, length, filter, Ok, Err}
 use Rattle.std.specs.List.{list_any}
-use Rattle.std.specs.Option.{is_some}
+use Rattle.std.specs.Option.{is_some, ok_or}
 use Rattle.smx_types.specs.declared.command.Command.{Command}
 use Rattle.smx_types.specs.declared.command.Command.TheVariants as command
 use Rattle.smx_types.specs.declared.command.Sides.{Sides}
@@ -30,7 +30,7 @@ use Rattle.smx_model.specs.Hangups.{is_hung, with_hung}
 use Rattle.smx_model.specs.Lookups.{driver_of, stream_of, free_fd, free_minor, free_stream, live_stream, mux_stream}
 use Rattle.smx_model.specs.Lookups.{leaf_stream, live_leaf}
 use Rattle.smx_model.specs.Ordered.{with_inserted}
-use Rattle.smx_model.specs.Outcomes.{Outcome, ◌>>=◌, or_fault, refuse}
+use Rattle.smx_model.specs.Outcomes.{Outcome, ◌>>=◌, refuse}
 use Rattle.smx_model.specs.Paths.{reaches}
 use Rattle.smx_model.specs.Queues.{is_full, first_message, after_arrival, after_leaving}
 use Rattle.smx_model.specs.Removal.{without_queues_at, without_links, after_sweep, serials_that_left}
@@ -44,9 +44,9 @@ with_fd c process fd s =
 
 -- `done`: the new configuration is swept, and the reply names the serials that left the flow
 abbrev pub done_outcome : List DriverSpec → Configuration → Configuration → Outcome
-done_outcome drivers c new = with_serials (after_sweep drivers new) where
-  with_serials : Configuration → Outcome
-  with_serials d = Ok (d, reply.Done (serials_that_left c.flow d.flow))
+done_outcome drivers c new =
+    let swept : Configuration = after_sweep drivers new in
+    Ok (swept, reply.Done (serials_that_left c.flow swept.flow))
 
 -- links the stream of `arg` below the driver of `fd`, under the next id (streamio(7), I_LINK and I_PLINK)
 abbrev pub link_outcome : List DriverSpec → Configuration → ℕ → ℕ → ℕ → LinkKind → Outcome
@@ -90,16 +90,15 @@ send_outcome drivers c p addr bytes = do
 -- delivers the first message of a place
 abbrev pub receive_outcome : List DriverSpec → Configuration → Place → Outcome
 receive_outcome drivers c p = do
-  m ← or_fault Empty (first_message c.flow p)
+  m ← ok_or (first_message c.flow p) Empty
   Ok (after_leaving drivers c p, reply.Got m.serial m.addr m.bytes)
 
 -- delivers the first message of a stream's read side; without one, reports end of file if the device has hung up
 -- (STREAMS guide, M_HANGUP; read(2))
 abbrev pub read_outcome : List DriverSpec → Configuration → StreamId → Outcome
-read_outcome drivers c s = at (read_side s) where
-  at : Place → Outcome
-  at p = if is_hung c.hungs s && not (is_some (first_message c.flow p)) then Ok (c, reply.Eof)
-      else receive_outcome drivers c p
+read_outcome drivers c s =
+    if is_hung c.hungs s && not (is_some (first_message c.flow (read_side s))) then Ok (c, reply.Eof)
+    else receive_outcome drivers c (read_side s)
 
 -- the side is one of those that the command names (streamio(7), I_FLUSH)
 abbrev pub is_side : Sides → Side → Bool

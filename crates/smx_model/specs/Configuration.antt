@@ -91,17 +91,14 @@ bind_before b c = pair_before b.driver b.addr c.driver c.addr
 abbrev pub route_before : Route → Route → Bool
 route_before r s = pair_before r.driver r.addr s.driver s.addr
 
--- the write side comes before the read side
-abbrev pub side_before : Side → Side → Bool
-side_before s t = nat_lt (side_number s) (side_number t)
-
 -- by driver and minor
 abbrev pub stream_before : StreamId → StreamId → Bool
 stream_before s t = pair_before s.driver s.minor t.driver t.minor
 
 -- by stream, and the write side before the read side
 abbrev pub place_before : Place → Place → Bool
-place_before p q = stream_before p.stream q.stream || (same_stream p.stream q.stream && side_before p.side q.side)
+place_before p q = stream_before p.stream q.stream
+    || (same_stream p.stream q.stream && nat_lt (side_number p.side) (side_number q.side))
 
 -- by place
 abbrev pub queued_before : QueuedMessage → QueuedMessage → Bool

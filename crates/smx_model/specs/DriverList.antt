@@ -3,19 +3,14 @@ use Rattle.std.specs.Prelude.{◌≡◌, ◌≢◌, ℕ, ◌≤◌, Bool, true, 
 use Rattle.std.specs.List.{All, AllPairs}
 use Rattle.std.specs.Option.{option_map_or}
 use Rattle.smx_types.specs.Drivers.{spec_check}
-use Rattle.smx_types.specs.declared.driver.DriverKind.{DriverKind}
 use Rattle.smx_types.specs.declared.driver.DriverKind.TheVariants as driver
 use Rattle.smx_types.specs.declared.driver.DriverSpec.{DriverSpec}
 use Rattle.smx_types.specs.declared.limits.TheConstants.{MAX_DRIVERS}
 
--- it is a multiplexing driver
-abbrev pub kind_is_mux : DriverKind → Bool
-kind_is_mux driver.Mux = true
-kind_is_mux driver.Leaf = false
-
 -- streams can be linked below it (STREAMS guide, multiplexing)
 abbrev pub is_mux : List DriverSpec → ℕ → Bool
-is_mux drivers n = option_map_or (λ d. kind_is_mux d.kind) (slice_get drivers n) false
+is_mux drivers n =
+    option_map_or (λ d. elim d.kind [ driver.Mux ↦ true | driver.Leaf ↦ false ]) (slice_get drivers n) false
 
 -- the number of minors of a driver
 abbrev pub minors_of : List DriverSpec → ℕ → ℕ

@@ -12,7 +12,7 @@ use Rattle.smx_model.specs.Views.{view}
 pub record IsReportOf (programs : ProgramLists) (report : Transcript) : Type 0 where
   -- The drivers are those of the programs, and a configuration can have them.
   pub drivers : report.drivers ≡ programs.drivers
-  pub can_be_had : IsDriverList programs.drivers
+  pub valid_drivers : IsDriverList programs.drivers
   -- The entries are one history of the sequential configuration, with its replies and faults.
   pub legal : IsLegal programs.drivers report.entries
   -- It holds each program's commands in order, each once, and no others.

@@ -1,6 +1,6 @@
 -- Lawful histories: links form no cycle, no stream is below two links, and no message is lost or duplicated.
 use Rattle.std.specs.Prelude.{◌≡◌, ◌≢◌, ◌⊎◌, ℕ, Bool, true, false, IsTrue, List, [], ◌∷◌, ◌++◌}
-use Rattle.std.specs.List.{All, AllPairs, Contains}
+use Rattle.std.specs.List.{All, AllPairs, Contains, flat_map}
 use Rattle.std.specs.List.Sorted.{IsPermutation}
 use Rattle.smx_types.specs.declared.command.Command.{Command}
 use Rattle.smx_types.specs.declared.command.Command.TheVariants as command
@@ -16,55 +16,27 @@ use Rattle.smx_model.specs.Removal.{serials}
 
 -- the serial of the message that was accepted, if one was
 abbrev pub taken_by : Reply → List ℕ
-taken_by (reply.Fd fd minor) = []
-taken_by (reply.Id id) = []
 taken_by (reply.Took serial) = serial ∷ []
-taken_by (reply.Got serial addr bytes) = []
-taken_by (reply.Done gone) = []
-taken_by reply.Eof = []
-taken_by (reply.Fault fault) = []
+taken_by other = []
 
 -- the serial of the message that was delivered, if one was
 abbrev pub delivered_by : Reply → List ℕ
-delivered_by (reply.Fd fd minor) = []
-delivered_by (reply.Id id) = []
-delivered_by (reply.Took serial) = []
 delivered_by (reply.Got serial addr bytes) = serial ∷ []
-delivered_by (reply.Done gone) = []
-delivered_by reply.Eof = []
-delivered_by (reply.Fault fault) = []
+delivered_by other = []
 
 -- the serials of the messages that were dropped
 abbrev pub dropped_by : Reply → List ℕ
-dropped_by (reply.Fd fd minor) = []
-dropped_by (reply.Id id) = []
-dropped_by (reply.Took serial) = []
-dropped_by (reply.Got serial addr bytes) = []
 dropped_by (reply.Done gone) = gone
-dropped_by reply.Eof = []
-dropped_by (reply.Fault fault) = []
+dropped_by other = []
 
 -- unlink, punlink, close, exit and flush may drop messages: they remove links, close streams or empty queues
 abbrev pub may_drop : Command → Bool
-may_drop (command.OpenClone name) = false
-may_drop (command.OpenMinor name minor) = false
-may_drop (command.Dup fd) = false
 may_drop (command.Close fd) = true
 may_drop command.CloseAll = true
-may_drop (command.Link fd arg) = false
-may_drop (command.Plink fd arg) = false
 may_drop (command.Unlink fd w) = true
 may_drop (command.Punlink fd w) = true
-may_drop (command.Bind fd addr) = false
-may_drop (command.Unbind fd) = false
-may_drop (command.Route fd addr id) = false
-may_drop (command.Unroute fd addr) = false
-may_drop (command.Write fd addr bytes) = false
-may_drop (command.Read fd) = false
 may_drop (command.Flush fd w) = true
-may_drop (command.Inject name minor addr bytes) = false
-may_drop (command.Transmit name minor) = false
-may_drop (command.Hangup name minor) = false
+may_drop other = false
 
 -- only commands that may drop messages name dropped ones
 abbrev pub AreDropsAllowed : List Entry → Type 0
@@ -72,18 +44,15 @@ AreDropsAllowed history = All (λ e. dropped_by e.reply ≢ [] → IsTrue (may_d
 
 -- the serials of the accepted messages: those of the `Took` replies, in order
 abbrev pub taken_serials : List Entry → List ℕ
-taken_serials [] = []
-taken_serials (e ∷ es) = taken_by e.reply ++ taken_serials es
+taken_serials history = flat_map (λ e. taken_by e.reply) history
 
 -- the serials of the delivered messages: those of the `Got` replies, in order
 abbrev pub delivered_serials : List Entry → List ℕ
-delivered_serials [] = []
-delivered_serials (e ∷ es) = delivered_by e.reply ++ delivered_serials es
+delivered_serials history = flat_map (λ e. delivered_by e.reply) history
 
 -- the serials of the dropped messages, in the `Done` replies
 abbrev pub dropped_serials : List Entry → List ℕ
-dropped_serials [] = []
-dropped_serials (e ∷ es) = dropped_by e.reply ++ dropped_serials es
+dropped_serials history = flat_map (λ e. dropped_by e.reply) history
 
 -- the command writes or injects these bytes to this address
 abbrev pub Sends : Command → ℕ → List ℕ → Type 0

@@ -1,5 +1,5 @@
 -- The outcome of a command: a new configuration with a reply, or the first refusal that applies.
-use Rattle.std.specs.Prelude.{Bool, true, false, Option, Some, None, Result, Ok, Err}
+use Rattle.std.specs.Prelude.{Bool, true, false, Result, Ok, Err}
 use Rattle.smx_types.specs.declared.reply.Fault.{Fault}
 use Rattle.smx_types.specs.declared.reply.Reply.{Reply}
 use Rattle.smx_model.specs.Configuration.{Configuration}
@@ -15,12 +15,11 @@ abbrev pub ◌>>=◌ : {A B : Type 0} → Result A Fault → (A → Result B Fau
 (Ok x) >>= f = f x
 (Err e) >>= f = Err e
 
--- the value, or this fault if there is none
-abbrev pub or_fault : {A : Type 0} → Fault → Option A → Result A Fault
-or_fault f (Some x) = Ok x
-or_fault f None = Err f
-
 -- refuses with this fault if the test holds
 abbrev pub refuse : Fault → Bool → Result (Unit {0}) Fault
 refuse f true = Err f
 refuse f false = Ok tt
+
+-- the value, or a refusal with this fault if the test holds for it
+abbrev pub unless : {A : Type 0} → Fault → (A → Bool) → A → Result A Fault
+unless f test x = refuse f (test x) >>= (λ passed. Ok x)

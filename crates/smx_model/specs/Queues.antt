@@ -30,39 +30,24 @@ first_message flow p = option_map (λ h. h.message) (find (is_at p) flow)
 abbrev pub is_full : Configuration → Place → Bool
 is_full c p = list_any (same_place p) c.fulls
 
--- after an arrival a place is full if it was, or if it now has at least as many bytes as its high water mark (STREAMS
--- guide, flow control; the exact rule is specific to this project)
-abbrev pub full_after_arrival : Bool → ℕ → ℕ → Bool
-full_after_arrival was high bytes = was || nat_le high bytes
-
--- after a message leaves, a place is full if it was and still has more bytes than its low water mark (STREAMS guide,
--- flow control; the exact rule is specific to this project)
-abbrev pub full_after_leaving : Bool → ℕ → ℕ → Bool
-full_after_leaving was low bytes = was && nat_lt low bytes
-
 -- the list with the place marked as full, or not
 abbrev pub with_mark : Place → Bool → List Place → List Place
 with_mark p full fulls =
-    if full then with_inserted place_before (without_mark p fulls) p else without_mark p fulls where
-      without_mark : Place → List Place → List Place
-      without_mark p fulls = filter (λ q. not (same_place p q)) fulls
+    let others : List Place = filter (λ q. not (same_place p q)) fulls in
+    if full then with_inserted place_before others p else others
 
--- a message arrives at a place
+-- A message arrives at a place. The place is then full if it was, or if it now has at least as many bytes as its high
+-- water mark (STREAMS guide, flow control; the exact rule is specific to this project).
 abbrev pub after_arrival : List DriverSpec → Configuration → Place → Message → Configuration
-after_arrival drivers c p m = now (with_inserted queued_before c.flow (record { place = p; message = m })) where
-  now : List QueuedMessage → Configuration
-  now flow = record c {
-    flow = flow;
-    fulls = with_mark p
-        (full_after_arrival (is_full c p) (high_of drivers p.stream.driver) (bytes_at flow p)) c.fulls;
-  }
+after_arrival drivers c p m =
+    let flow : List QueuedMessage = with_inserted queued_before c.flow (record { place = p; message = m }) in
+    let full : Bool = is_full c p || nat_le (high_of drivers p.stream.driver) (bytes_at flow p) in
+    record c { flow = flow; fulls = with_mark p full c.fulls }
 
--- the first message leaves a place
+-- The first message leaves a place. The place is then full if it was, and still has more bytes than its low water mark
+-- (STREAMS guide, flow control; the exact rule is specific to this project).
 abbrev pub after_leaving : List DriverSpec → Configuration → Place → Configuration
-after_leaving drivers c p = now (without_first (is_at p) c.flow) where
-  now : List QueuedMessage → Configuration
-  now flow = record c {
-    flow = flow;
-    fulls = with_mark p
-        (full_after_leaving (is_full c p) (low_of drivers p.stream.driver) (bytes_at flow p)) c.fulls;
-  }
+after_leaving drivers c p =
+    let flow : List QueuedMessage = without_first (is_at p) c.flow in
+    let full : Bool = is_full c p && nat_lt (low_of drivers p.stream.driver) (bytes_at flow p) in
+    record c { flow = flow; fulls = with_mark p full c.fulls }

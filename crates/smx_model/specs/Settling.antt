@@ -67,8 +67,7 @@ least_movable drivers c = option_map (λ h. h.place) (find (λ h. is_movable dri
 -- a message moves from one place to another, if both exist
 abbrev pub after_move_to : List DriverSpec → Configuration → Place → Option Place → Option Message → Configuration
 after_move_to drivers c p (Some q) (Some m) = after_arrival drivers (after_leaving drivers c p) q m
-after_move_to drivers c p (Some q) None = c
-after_move_to drivers c p None m = c
+after_move_to drivers c p to m = c
 
 -- the configuration with the first message of one place moved to the end of another's queue
 abbrev pub after_move_between : List DriverSpec → Configuration → Place → Place → Configuration

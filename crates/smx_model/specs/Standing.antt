@@ -3,7 +3,6 @@ use Rattle.std.specs.Prelude.{◌≡◌, ℕ, zero, suc, Bool, true, false, ◌&
 use Rattle.std.specs.List.{list_any}
 use Rattle.smx_types.specs.declared.driver.DriverSpec.{DriverSpec}
 use Rattle.smx_types.specs.declared.link.Link.{Link}
-use Rattle.smx_types.specs.declared.link.LinkKind.{LinkKind}
 use Rattle.smx_types.specs.declared.link.LinkKind.TheVariants as kind
 use Rattle.smx_types.specs.declared.stream.Descriptor.{Descriptor}
 use Rattle.smx_types.specs.declared.stream.StreamId.{StreamId}
@@ -11,10 +10,7 @@ use Rattle.smx_model.specs.Configuration.{Configuration, same_stream}
 
 -- the link exists until it is removed (streamio(7), I_PLINK)
 abbrev pub is_persistent : Link → Bool
-is_persistent l = persistent l.kind where
-  persistent : LinkKind → Bool
-  persistent kind.Persistent = true
-  persistent kind.Ordinary = false
+is_persistent l = elim l.kind [ kind.Persistent ↦ true | kind.Ordinary ↦ false ]
 
 -- a descriptor names the stream
 abbrev pub is_named : List Descriptor → StreamId → Bool

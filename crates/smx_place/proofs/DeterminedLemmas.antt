@@ -9,7 +9,7 @@ use Rattle.std.proofs.lemmas.Slice.Eq.{bytes_eq-Decides}
 use Rattle.smx_types.specs.declared.version.Version.{Version}
 use Rattle.smx_types.specs.declared.version.Version.TheVariants.{V1, V2}
 use Rattle.smx_words.proofs.NumberLemmas.{own}
-use Rattle.smx_place.specs.Rows.{GoesOn, IsChosen, IsFixed, IsOther, IsRow, WordRow, told_rows}
+use Rattle.smx_place.specs.Rows.{GoesOn, IsChosen, IsFixed, IsOther, IsRow, WordRow, rows_in}
 use Rattle.smx_place.specs.declared.kinds.Choice.{Choice}
 use Rattle.smx_place.specs.declared.kinds.Choice.TheVariants.{ProgramsLine, TranscriptLine, Command, Equals}
 use Rattle.smx_place.specs.declared.kinds.Choice.TheVariants.{Serials}
@@ -79,13 +79,13 @@ in_one (k ∷ ks) ls h word values next others then (inr more) is_too =
     in_one ks ls (both (is_new k.0 (ks ++ ls)) (differ (ks ++ ls)) h).1 word values next others then more is_too
 
 -- the words of each table differ
-all_differ : (version : Version) (choice : Choice) → differ (told_rows version choice) ≡ true
+all_differ : (version : Version) (choice : Choice) → differ (rows_in version choice) ≡ true
 all_differ V1 ProgramsLine = refl
 all_differ V2 ProgramsLine = refl
 all_differ version choice = refl
 
 -- the words of the lines of programs and those of the commands differ from one another
-lines_differ : (version : Version) → differ (told_rows version ProgramsLine ++ told_rows version Command) ≡ true
+lines_differ : (version : Version) → differ (rows_in version ProgramsLine ++ rows_in version Command) ≡ true
 lines_differ V1 = refl
 lines_differ V2 = refl
 
@@ -108,7 +108,7 @@ no_number (k ∷ ks) h n small word values next number (inr more) =
     no_number ks (both (not (all_ascii_digits k.0)) (no_digits ks) h).1 n small word values next number more
 
 -- no fixed word at the start of a transcript's line consists of digits
-no_line_digits : (version : Version) → no_digits (told_rows version TranscriptLine) ≡ true
+no_line_digits : (version : Version) → no_digits (rows_in version TranscriptLine) ≡ true
 no_line_digits V1 = refl
 no_line_digits V2 = refl
 
@@ -119,10 +119,10 @@ module _ (version : Version) (word : List ℕ) where
   fixed_alone : (choice : Choice) (values : List Value) (next : Choice) (others : List Value) (then : Choice)
       → IsFixed version choice word values next → IsOther version choice word others then → ⊥
   fixed_alone ProgramsLine values next others then is other =
-      in_one (told_rows version ProgramsLine) (told_rows version Command) (lines_differ version) word values next others
+      in_one (rows_in version ProgramsLine) (rows_in version Command) (lines_differ version) word values next others
       Equals is other.0
   fixed_alone TranscriptLine values next others then is ((process, small, number), none, chosen) =
-      no_number (told_rows version TranscriptLine) (no_line_digits version) process (omega (arith, small)) word values
+      no_number (rows_in version TranscriptLine) (no_line_digits version) process (omega (arith, small)) word values
       next number is
   fixed_alone Serials values next others then is other = no_serials version is where
     no_serials : (v : Version) → IsFixed v Serials word values next → ⊥
@@ -135,7 +135,7 @@ module _ (version : Version) (word : List ℕ) where
       → IsOther version choice word values next → IsOther version choice word others then
       → Same values next others then
   one_other ProgramsLine values next others then is is_too = (
-    (one_row (told_rows version Command) (all_differ version Command) word values Equals others Equals is.0 is_too.0).0,
+    (one_row (rows_in version Command) (all_differ version Command) word values Equals others Equals is.0 is_too.0).0,
     is.1 ∙ sym is_too.1,
   )
   one_other TranscriptLine values next others then is is_too = (is.1 ∙ sym is_too.1, is.2 ∙ sym is_too.2)
@@ -147,7 +147,7 @@ module _ (version : Version) (word : List ℕ) where
       → IsChosen version choice word values next → IsChosen version choice word others then
       → Same values next others then
   one_choice choice values next others then (inl is) (inl is_too) =
-      one_row (told_rows version choice) (all_differ version choice) word values next others then is is_too
+      one_row (rows_in version choice) (all_differ version choice) word values next others then is is_too
   one_choice choice values next others then (inl is) (inr is_too) =
       absurd (fixed_alone choice values next others then is is_too)
   one_choice choice values next others then (inr is) (inl is_too) =

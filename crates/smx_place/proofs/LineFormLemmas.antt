@@ -16,7 +16,7 @@ use Rattle.smx_words.specs.HexWords.{hex_word}
 use Rattle.smx_words.specs.Spellable.{CanTell, FitsCommandIn, FitsDriver, FitsEntryIn, FitsHung, FitsReplyIn}
 use Rattle.smx_words.specs.Spelling.{command_words, entry_words, hung_words, kind_word, link_kind_word, reply_words}
 use Rattle.smx_words.specs.Spelling.{side_word}
-use Rattle.smx_words.proofs.ToldLemmas.{can_tell_both, can_tell_each}
+use Rattle.smx_words.proofs.InVersionLemmas.{can_tell_both, can_tell_each}
 use Rattle.smx_text.specs.ProgramLines.{Line}
 use Rattle.smx_text.specs.ProgramLines as line
 use Rattle.smx_text.specs.ProgramsText as programs

@@ -3,7 +3,7 @@ use Rattle.std.proofs.Common.{◌≡◌, ℕ, true, List, [], ◌∷◌, map, re
 use Rattle.std.specs.Prelude.{codes}
 use Rattle.std.specs.Fmt.{decimal}
 use Rattle.std.specs.List.{AllByRecursion}
-use Rattle.smx_types.specs.Versions.{is_hung_up}
+use Rattle.smx_types.specs.Versions.{tells_of_hangup}
 use Rattle.smx_types.specs.declared.reply.Fault.{Fault}
 use Rattle.smx_types.specs.declared.reply.Fault.TheVariants as fault
 use Rattle.smx_types.specs.declared.reply.Reply.{Reply as AnyReply}
@@ -43,7 +43,8 @@ module _ (version : Version) where
         of_version_2 V2 told = ([], End, inl (inl (refl, refl, refl)), tt)
 
   -- the words of a fault of a version complete a reply
-  fault_spelled : (f : Fault) → CanTell version (is_hung_up f) → Spells version [] Reply (fault_words f)
+  fault_spelled : (f : Fault) → CanTell version (tells_of_hangup (reply.Fault f))
+      → Spells version [] Reply (fault_words f)
   fault_spelled fault.BadDescriptor told = both (codes "EBADF") BadDescriptor (codes "fd") (search rules) (search rules)
   fault_spelled fault.Below told = both (codes "EINVAL") Invalid (codes "below") (search rules) (search rules)
   fault_spelled fault.NotMux told = both (codes "EINVAL") Invalid (codes "notmux") (search rules) (search rules)
@@ -99,7 +100,7 @@ IsReply version words = (r : AnyReply) × FitsReplyIn version r × (reply_words 
 
 -- a fault of a version has these words
 abbrev IsFault : Version → List (List ℕ) → Type 0
-IsFault version words = (f : Fault) × CanTell version (is_hung_up f) × (fault_words f ≡ words)
+IsFault version words = (f : Fault) × CanTell version (tells_of_hangup (reply.Fault f)) × (fault_words f ≡ words)
 
 module _ (version : Version) where
   -- if the line ends after a word, nothing follows it

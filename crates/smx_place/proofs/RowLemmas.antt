@@ -12,7 +12,7 @@ use Rattle.smx_words.specs.LineReading.{IsSpelled}
 use Rattle.smx_words.specs.Spellable.{FitsNumber, FitsProcess}
 use Rattle.smx_types.specs.declared.version.Version.{Version}
 use Rattle.smx_types.specs.declared.version.Version.TheVariants.{V1, V2}
-use Rattle.smx_place.specs.Rows.{IsFixed, IsNoRow, IsRow, rows_of, told_rows}
+use Rattle.smx_place.specs.Rows.{IsFixed, IsNoRow, IsRow, rows_of, rows_in}
 use Rattle.smx_place.specs.Rows.{WordRow}
 use Rattle.smx_place.specs.declared.kinds.Choice.{Choice}
 use Rattle.smx_place.specs.declared.kinds.Choice.TheVariants.{Command, Equals}
@@ -79,11 +79,11 @@ chosen_by_all (k ∷ ks) next all word values found (inl is) = is.2 ∙ all.0
 chosen_by_all (k ∷ ks) next all word values found (inr more) = chosen_by_all ks next all.1 word values found more
 
 -- after each command of a version the equals sign is expected
-all_equals : (version : Version) → AllChoose Equals (told_rows version Command)
+all_equals : (version : Version) → AllChoose Equals (rows_in version Command)
 all_equals V1 = search rules
 all_equals V2 = search rules
 
 -- after each command comes an equals sign
 pub equals_behind : (version : Version) (word : List ℕ) (values : List Value) (next : Choice)
     → IsFixed version Command word values next → next ≡ Equals
-equals_behind version = chosen_by_all (told_rows version Command) Equals (all_equals version)
+equals_behind version = chosen_by_all (rows_in version Command) Equals (all_equals version)

@@ -4,7 +4,7 @@ use Rattle.smx_types.specs.declared.version.Version.{Version}
 use Rattle.smx_types.specs.declared.version.Version.TheVariants.{V1, V2}
 use Rattle.smx_words.specs.Spellable.{CanTell, FitsNumber}
 use Rattle.std.specs.Fmt.{decimal}
-use Rattle.smx_place.specs.Rows.{IsFixed, IsRow, IsValue, WordRow, later_rows, rows, told_rows}
+use Rattle.smx_place.specs.Rows.{IsFixed, IsRow, IsValue, WordRow, later_rows, rows, rows_in}
 use Rattle.smx_place.specs.declared.kinds.Choice.{Choice}
 use Rattle.smx_place.specs.declared.kinds.Choice.TheVariants.{End}
 use Rattle.smx_place.specs.declared.kinds.Value.{Value}
@@ -70,7 +70,7 @@ module _ (version : Version) where
   pub no_more : (words : List (List ℕ)) → Spells version [] End words → words ≡ []
   no_more [] h = refl
   no_more (word ∷ words) (values, next, inl is, h) = absurd (none version is) where
-    none : (v : Version) → IsRow (told_rows v End) word values next → ⊥
+    none : (v : Version) → IsRow (rows_in v End) word values next → ⊥
     none V1 is = is
     none V2 is = is
   no_more (word ∷ words) (values, next, inr is, h) = absurd is

@@ -5,7 +5,7 @@ use Rattle.std.specs.Fmt.{digits}
 use Rattle.smx_types.specs.declared.version.Version.{Version}
 use Rattle.smx_types.specs.declared.version.Version.TheVariants.{V1, V2}
 use Rattle.smx_place.specs.Places.{IsPlace, IsWhole}
-use Rattle.smx_place.specs.Rows.{GoesOn, IsFixed, IsOther, told_rows}
+use Rattle.smx_place.specs.Rows.{GoesOn, IsFixed, IsOther, rows_in}
 use Rattle.smx_place.specs.WorkedPlaces.{choice_at, value_at}
 use Rattle.smx_place.specs.declared.kinds.Choice.{Choice}
 use Rattle.smx_place.specs.declared.kinds.Choice.TheVariants as choice
@@ -42,8 +42,8 @@ pub empty : IsPlace Programs V1 (codes "") (choice_at 1 choice.ProgramsLine)
 empty =
     stops_here Programs V1 (codes "") 1 (Some (seen (codes ""))) [] choice.ProgramsLine
     (at_begin Programs V1 (seen (codes ""))) (seen (codes "")) refl (codes "") None tt refl
-    (no_line (codes "") (λ values then. not_new (told_rows V1 choice.ProgramsLine) (codes "") values then refl)
-    (λ values then. not_new (told_rows V1 choice.Command) (codes "") values then refl))
+    (no_line (codes "") (λ values then. not_new (rows_in V1 choice.ProgramsLine) (codes "") values then refl)
+    (λ values then. not_new (rows_in V1 choice.Command) (codes "") values then refl))
 
 -- version 1 has no hangup
 pub of_version_2 : IsPlace Programs V1 (codes "hangup eth 0") (choice_at 1 choice.ProgramsLine)
@@ -52,12 +52,12 @@ of_version_2 =
     (at_begin Programs V1 (seen (codes "hangup eth 0"))) (seen (codes "hangup eth 0")) refl (codes "hangup")
     (Some (seen (codes "eth 0"))) (search (rules, arith)) refl
     (no_line (codes "hangup")
-    (λ values then. not_new (told_rows V1 choice.ProgramsLine) (codes "hangup") values then refl)
-    (λ values then. not_new (told_rows V1 choice.Command) (codes "hangup") values then refl))
+    (λ values then. not_new (rows_in V1 choice.ProgramsLine) (codes "hangup") values then refl)
+    (λ values then. not_new (rows_in V1 choice.Command) (codes "hangup") values then refl))
 
 -- `dup` lacks a number
-pub word_wanting : IsPlace Programs V1 (codes "dup") (value_at 5 value.Number)
-word_wanting =
+pub missing_word : IsPlace Programs V1 (codes "dup") (value_at 5 value.Number)
+missing_word =
     ends_here Programs V1 (codes "dup") 5 None (value.Number ∷ []) choice.End
     (one_more Programs V1 (codes "dup") 1 (Some (seen (codes "dup"))) [] choice.ProgramsLine
     (at_begin Programs V1 (seen (codes "dup"))) (seen (codes "dup")) refl (codes "dup") None (search (rules, arith))
@@ -122,7 +122,7 @@ no_equals =
     (behind_exit V2 (codes "0 exit done") (codes "done") refl (search rules)) (seen (codes "done")) refl
     (codes "done") None
     (search (rules, arith)) refl
-    (neither V2 choice.Equals (codes "done") (λ values then. not_new (told_rows V2 choice.Equals) (codes "done")
+    (neither V2 choice.Equals (codes "done") (λ values then. not_new (rows_in V2 choice.Equals) (codes "done")
     values then refl)
     (λ values then is. is))
 
@@ -144,7 +144,7 @@ other_cause =
     (codes "EBADF")
     (Some (seen (codes "full"))) (search (rules, arith)) refl [] choice.BadDescriptor (inl (search rules)) 16 refl)
     (seen (codes "full")) refl (codes "full") None (search (rules, arith)) refl
-    (neither V1 choice.BadDescriptor (codes "full") (λ values then. not_new (told_rows V1 choice.BadDescriptor)
+    (neither V1 choice.BadDescriptor (codes "full") (λ values then. not_new (rows_in V1 choice.BadDescriptor)
     (codes "full") values then refl)
     (λ values then is. is))
 

@@ -139,9 +139,9 @@ later_rows Serials = []
 later_rows End = []
 
 -- the fixed words of a choice in this version
-abbrev pub told_rows : Version → Choice → List WordRow
-told_rows V1 choice = rows choice
-told_rows V2 choice = later_rows choice ++ rows choice
+abbrev pub rows_in : Version → Choice → List WordRow
+rows_in V1 choice = rows choice
+rows_in V2 choice = later_rows choice ++ rows choice
 
 -- some row has this word, these values and this choice
 abbrev pub IsRow : List WordRow → List ℕ → List Value → Choice → Type 0
@@ -163,7 +163,7 @@ rows_of (row ∷ rows) = (row.0.now, row.1.now, row.2) ∷ rows_of rows
 
 -- the word is a fixed one
 abbrev pub IsFixed : Version → Choice → List ℕ → List Value → Choice → Type 0
-IsFixed version choice word values next = IsRow (told_rows version choice) word values next
+IsFixed version choice word values next = IsRow (rows_in version choice) word values next
 
 -- The word is of another kind: a line of programs may be a command, a line of a transcript may begin with the process
 -- of an entry, and another serial may follow a serial.

@@ -29,7 +29,7 @@ pub fn a_line_has_one_place()
 /// Worked lines and their places, typed in by hand; and one line that is valid.
 pub fn worked_places()
     ensures empty { IsPlace Programs V1 (codes "") (choice_at 1 choice.ProgramsLine) }
-    ensures word_wanting { IsPlace Programs V1 (codes "dup") (value_at 5 value.Number) }
+    ensures missing_word { IsPlace Programs V1 (codes "dup") (value_at 5 value.Number) }
     ensures word_too_many { IsPlace Programs V1 (codes "exit 0") (choice_at 6 choice.End) }
     ensures two_spaces { IsPlace Programs V1 (codes "clone  ip") (value_at 7 value.Name) }
     ensures of_version_2 { IsPlace Programs V1 (codes "hangup eth 0") (choice_at 1 choice.ProgramsLine) }

@@ -2,7 +2,7 @@
 
 ghost use Rattle.std.specs.Prelude.{◌≡◌, MatchBool, MatchOption, List, []};
 ghost use Rattle.smx_place.specs.Rows.{GoesOn, IsChosen, IsFixed, IsNoRow, IsOther, IsRow, IsValue, MayEnd};
-ghost use Rattle.smx_place.specs.Rows.{later_rows, rows, rows_of, told_rows};
+ghost use Rattle.smx_place.specs.Rows.{later_rows, rows, rows_of, rows_in};
 ghost use Rattle.smx_place.specs.declared.kinds.Choice.{Choice as AnyChoice};
 ghost use Rattle.smx_place.specs.declared.kinds.Value.{Value as AnyValue};
 
@@ -254,7 +254,7 @@ fn later_rows(choice: Choice) -> &'static [(&'static str, &'static [Value], Choi
 
 // Returns how a line goes on after a fixed word.
 fn fixed(version: Version, choice: Choice, word: &[u8]) -> Option<FoundRow>
-    ensures { MatchOption result (IsNoRow (told_rows version choice) word.now)
+    ensures { MatchOption result (IsNoRow (rows_in version choice) word.now)
         (λ row. IsFixed version choice word.now row.values.now row.next) }
 {
     match version {

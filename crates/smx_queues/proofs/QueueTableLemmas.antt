@@ -7,8 +7,9 @@ use Rattle.std.proofs.lemmas.List.Sums.{prefix_len_passes}
 use Rattle.std.proofs.lemmas.List.Quantifiers.{position-Some}
 use Rattle.std.proofs.lemmas.List.{get_or-set_same, set-set, length-drop}
 use Rattle.std.proofs.lemmas.Bool.{not-false, not-true}
+use Rattle.std.specs.Prelude.{◌&&◌}
 use Rattle.smx_types.specs.declared.message.Message.{Message}
-use Rattle.smx_model.specs.Queues.{bytes_of, full_after_leaving}
+use Rattle.smx_model.specs.Queues.{bytes_of}
 use Rattle.smx_queues.specs.declared.chain.Chain.{Chain}
 use Rattle.smx_queues.specs.QueueTable.{Queue, QueueTable, IsPlace, queue_at, least_vacant, with_place, without_front}
 use Rattle.smx_queues.specs.QueueTable.{without_messages}
@@ -77,7 +78,7 @@ clearing_goes_on old mid new p m below c taken gone room =
     let some = first_some c.messages m (taken ∙ ap (λ (q : Queue). slice_get q.messages 0) e) in
     record {
       messages = drop 1 c.messages;
-      full = full_after_leaving c.full (queue_at old.queues p).low (bytes_of (drop 1 c.messages));
+      full = c.full && nat_lt (queue_at old.queues p).low (bytes_of (drop 1 c.messages));
       queues = gone ∙ same_set _ _ p _ _ c.queues (ap without_front e) ∙ set-set old.queues p _ _;
       spare = omega (arith, room, c.spare, some, length-drop 1 c.messages);
     }

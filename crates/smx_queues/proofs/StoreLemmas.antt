@@ -11,7 +11,7 @@ use Rattle.std.proofs.lemmas.List.Elements.{All-nil, All-push, All-tail}
 use Rattle.std.proofs.lemmas.List.Sums.{sum_by-set, sum_by_push, sum_by-append, sum_by-cons}
 use Rattle.slab.specs.Slab.{Slab, get, slab_len, Updates}
 use Rattle.smx_types.specs.declared.message.Message.{Message}
-use Rattle.smx_model.specs.Queues.{bytes_of, full_after_leaving}
+use Rattle.smx_model.specs.Queues.{bytes_of}
 use Rattle.smx_queues.specs.declared.node.Node.{Node}
 use Rattle.smx_queues.specs.declared.chain.Chain.{Chain}
 use Rattle.smx_queues.specs.QueueTable.{Queue, with_arrival}
@@ -26,7 +26,7 @@ size m = length m.bytes
 
 -- the queue with these messages left
 abbrev pub left_with : Queue → List Message → Queue
-left_with q rest = record q { messages = rest; full = full_after_leaving q.full q.low (bytes_of rest) }
+left_with q rest = record q { messages = rest; full = q.full && nat_lt q.low (bytes_of rest) }
 
 -- a change that affects no node of a place keeps its queue
 pub queue_kept : (own own' : ℕ → ℕ × ℕ) (s s' : Slab Node) (p : ℕ) (chain : Chain) (q : Queue)

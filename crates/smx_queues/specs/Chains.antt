@@ -1,12 +1,12 @@
 -- How the nodes of the store and the chains of the places make the queues. No public clause needs this.
 use Rattle.std.specs.Prelude.{◌≡◌, ℕ, zero, suc, ◌+◌, ◌-◌, ◌<◌, ◌≤◌, ◌^◌, ◌==◌, true, false, if◌then◌else◌, List, []}
-use Rattle.std.specs.Prelude.{◌∷◌, length, Option, Some, None, slice_index_or}
+use Rattle.std.specs.Prelude.{◌∷◌, length, Option, Some, None, slice_index_or, nat_lt, nat_le, ◌&&◌, ◌||◌}
 use Rattle.std.specs.List.{All, sum_by}
 use Rattle.slab.specs.Slab.{Slab, get, slab_len, with_value}
 use Rattle.smx_types.specs.declared.message.Message.{Message}
 use Rattle.smx_queues.specs.declared.chain.Chain.{Chain}
 use Rattle.smx_queues.specs.declared.node.Node.{Node}
-use Rattle.smx_model.specs.Queues.{bytes_of, full_after_arrival, full_after_leaving}
+use Rattle.smx_model.specs.Queues.{bytes_of}
 use Rattle.smx_queues.specs.QueueTable.{Queue, empty_queue}
 
 -- the message of a node, and those from the next key on
@@ -62,7 +62,7 @@ chain_to_fill chain = record {
 abbrev pub chain_with_last : Chain → ℕ → ℕ → Chain
 chain_with_last chain key size = record {
   there = chain.there;
-  full = full_after_arrival chain.full chain.high (chain.bytes + size);
+  full = chain.full || nat_le chain.high (chain.bytes + size);
   first = if chain.count == 0 then key else chain.first;
   last = key;
   count = chain.count + 1;
@@ -75,7 +75,7 @@ chain_with_last chain key size = record {
 abbrev pub chain_without_first : Chain → ℕ → ℕ → Chain
 chain_without_first chain next size = record {
   there = chain.there;
-  full = full_after_leaving chain.full chain.low (chain.bytes - size);
+  full = chain.full && nat_lt chain.low (chain.bytes - size);
   first = next;
   last = chain.last;
   count = chain.count - 1;

@@ -1,5 +1,6 @@
 -- The queued messages and full marks of all places, by place, as contracts see them.
-use Rattle.std.specs.Prelude.{◌≡◌, ℕ, not, List, [], ◌∷◌, ◌++◌, map, filter, Option, Some, None}
+use Rattle.std.specs.Prelude.{◌≡◌, ℕ, ◌&&◌, ◌||◌, not, nat_lt, nat_le, List, [], ◌∷◌, ◌++◌, map, filter}
+use Rattle.std.specs.Prelude.{Option, Some, None}
 use Rattle.std.specs.List.{list_any}
 use Rattle.smx_types.specs.declared.driver.DriverSpec.{DriverSpec}
 use Rattle.smx_types.specs.declared.message.Message.{Message}
@@ -7,7 +8,7 @@ use Rattle.smx_types.specs.declared.stream.Place.{Place}
 use Rattle.smx_model.specs.Configuration.{QueuedMessage, is_at, queued_before, same_place}
 use Rattle.smx_model.specs.DriverList.{high_of, low_of}
 use Rattle.smx_model.specs.Ordered.{with_inserted, without_first}
-use Rattle.smx_model.specs.Queues.{bytes_at, full_after_arrival, full_after_leaving, with_mark}
+use Rattle.smx_model.specs.Queues.{bytes_at, with_mark}
 use Rattle.smx_queues.specs.PlaceLists.{places_of, places_where}
 use Rattle.smx_queues.specs.QueueTable.{Queue}
 use Rattle.smx_queues.specs.Slots.{is_marked, messages_in}
@@ -64,8 +65,8 @@ after_arrival t p m = now (with_inserted queued_before t.flow (record { place = 
   now flow =
       record t {
         flow = flow;
-        fulls = with_mark p (full_after_arrival (list_any (same_place p) t.fulls) (high_of t.drivers p.stream.driver)
-            (bytes_at flow p)) t.fulls;
+        fulls = with_mark p
+            (list_any (same_place p) t.fulls || nat_le (high_of t.drivers p.stream.driver) (bytes_at flow p)) t.fulls;
       }
 
 -- the first message leaves a place, as in the model
@@ -75,8 +76,8 @@ after_leaving t p = now (without_first (is_at p) t.flow) where
   now flow =
       record t {
         flow = flow;
-        fulls = with_mark p (full_after_leaving (list_any (same_place p) t.fulls) (low_of t.drivers p.stream.driver)
-            (bytes_at flow p)) t.fulls;
+        fulls = with_mark p
+            (list_any (same_place p) t.fulls && nat_lt (low_of t.drivers p.stream.driver) (bytes_at flow p)) t.fulls;
       }
 
 -- without the messages and the mark of a place

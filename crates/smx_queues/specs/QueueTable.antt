@@ -1,8 +1,8 @@
 -- The value of the queues of all places, as contracts see it.
-use Rattle.std.specs.Prelude.{ℕ, suc, Bool, false, List, [], ◌∷◌, ◌++◌, Option, Some, None, IsSome, drop}
-use Rattle.std.specs.Prelude.{slice_index_or, slice_set}
+use Rattle.std.specs.Prelude.{ℕ, suc, Bool, false, List, [], ◌∷◌, ◌++◌, Option, Some, None, IsSome, drop, nat_lt, ◌&&◌}
+use Rattle.std.specs.Prelude.{slice_index_or, slice_set, nat_le, ◌||◌}
 use Rattle.smx_types.specs.declared.message.Message.{Message}
-use Rattle.smx_model.specs.Queues.{bytes_of, full_after_arrival, full_after_leaving}
+use Rattle.smx_model.specs.Queues.{bytes_of}
 
 -- the queue of a place: its messages, in order of arrival, its full mark and its water marks
 pub record Queue : Type 0 where
@@ -52,13 +52,13 @@ with_queue queues p q = slice_set queues p (Some q)
 abbrev pub with_arrival : Queue → Message → Queue
 with_arrival q m = now (q.messages ++ m ∷ []) where
   now : List Message → Queue
-  now messages = record q { messages = messages; full = full_after_arrival q.full q.high (bytes_of messages) }
+  now messages = record q { messages = messages; full = q.full || nat_le q.high (bytes_of messages) }
 
 -- the queue without the message at the front
 abbrev pub without_front : Queue → Queue
 without_front q = now (drop 1 q.messages) where
   now : List Message → Queue
-  now messages = record q { messages = messages; full = full_after_leaving q.full q.low (bytes_of messages) }
+  now messages = record q { messages = messages; full = q.full && nat_lt q.low (bytes_of messages) }
 
 -- the queue without messages, and not full
 abbrev pub without_messages : Queue → Queue

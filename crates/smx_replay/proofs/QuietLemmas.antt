@@ -59,9 +59,9 @@ quiet tells leaves t r h least =
     ap version_2_where (or_from _ _ few (or_from _ _ (tells t.drivers r.entries h.legal none) shown))
 
 -- a replay of an allowed transcript is allowed in its version, if it can be spelled
-pub can_be_told : TellsOfNone → LeavesNone → (t r : Transcript) → IsAllowed t.version t → IsReplayOf t r → IsSpellable r
-    → IsAllowed r.version r
-can_be_told tells leaves t r allowed h spellable =
+pub can_be_expressed : TellsOfNone → LeavesNone → (t r : Transcript) → IsAllowed t.version t → IsReplayOf t r
+    → IsSpellable r → IsAllowed r.version r
+can_be_expressed tells leaves t r allowed h spellable =
     let as_many : length (map call_of r.entries)
     ≡ length (map call_of t.entries) = ap (λ (calls : List (ℕ × Command)). length calls) h.calls in
     let was = (allowed_spellable t.version t allowed).1 in

@@ -65,7 +65,7 @@ pub replayed : (t : Transcript) (shown : ConfigView) → IsDriverList t.drivers
 replayed t shown can is = record {
   version = refl;
   drivers = refl;
-  can_be_had = can;
+  valid_drivers = can;
   calls = calls_from t.drivers empty t.entries;
   legal = legal_from t.drivers empty t.entries;
   shown = is ∙ ap (view t.drivers) (sym (led_from t.drivers empty t.entries));
@@ -101,7 +101,7 @@ pub calls_alone : (t u r : Transcript) → u.version ≡ t.version → u.drivers
 calls_alone t u r version drivers calls h = record {
   version = h.version ∙ sym version;
   drivers = h.drivers ∙ sym drivers;
-  can_be_had = rw drivers h.can_be_had;
+  valid_drivers = rw drivers h.valid_drivers;
   calls = h.calls ∙ sym calls;
   legal = rw drivers h.legal;
   shown = rw drivers h.shown;

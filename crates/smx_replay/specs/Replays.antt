@@ -11,7 +11,7 @@ pub record IsReplayOf (t replay : Transcript) : Type 0 where
   -- Version and drivers are those of the transcript, and the drivers are valid.
   pub version : replay.version ≡ t.version
   pub drivers : replay.drivers ≡ t.drivers
-  pub can_be_had : IsDriverList t.drivers
+  pub valid_drivers : IsDriverList t.drivers
   -- The entries are the legal history of its calls: the same commands of the same processes, in the same order.
   pub calls : map call_of replay.entries ≡ map call_of t.entries
   pub legal : IsLegal t.drivers replay.entries

@@ -7,12 +7,12 @@ use Rattle.smx_model.specs.Worked.Common.{OpenClone, Dup, CloseAll, Fd, Done, En
 use Rattle.smx_model.specs.Worked.SecondIsIllegal.{drivers, history}
 
 -- these entries and this view, over the drivers of the worked history
-abbrev pub told : List Entry → ConfigView → Transcript
-told entries shown = record { version = V1; drivers = drivers; entries = entries; view = shown }
+abbrev pub worked_transcript : List Entry → ConfigView → Transcript
+worked_transcript entries shown = record { version = V1; drivers = drivers; entries = entries; view = shown }
 
 -- the transcript claims minor 2 in place of 1, descriptor 2 in place of 1, and nothing open at the end
 abbrev pub claimed : Transcript
-claimed = told history (no_lines 7 9)
+claimed = worked_transcript history (no_lines 7 9)
 
 -- process 0 opens minor 0
 abbrev pub opened : Entry
@@ -36,13 +36,13 @@ two = record (no_lines 1 1) { fds = fd_of 0 0 ip 0 ∷ fd_of 0 1 ip 0 ∷ [] }
 
 -- the replay: what the calls give
 abbrev pub put_right : Transcript
-put_right = told (opened ∷ another ∷ copied ∷ exited ∷ []) two
+put_right = worked_transcript (opened ∷ another ∷ copied ∷ exited ∷ []) two
 
 -- the replay without the last call
 abbrev pub left_out : Transcript
-left_out = told (opened ∷ another ∷ copied ∷ [])
+left_out = worked_transcript (opened ∷ another ∷ copied ∷ [])
     (record (no_lines 1 1) { fds = fd_of 0 0 ip 0 ∷ fd_of 0 1 ip 0 ∷ fd_of 1 0 ip 1 ∷ [] })
 
 -- the replay with two calls exchanged
 abbrev pub exchanged : Transcript
-exchanged = told (opened ∷ copied ∷ another ∷ exited ∷ []) two
+exchanged = worked_transcript (opened ∷ copied ∷ another ∷ exited ∷ []) two

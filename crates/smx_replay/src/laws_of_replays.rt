@@ -12,7 +12,7 @@ ghost use Rattle.smx_replay.specs.WorkedReplays.{claimed, exchanged, left_out, p
 ghost use Rattle.smx_text.specs.TranscriptText.{IsAllowed, IsSpellable};
 
 use smx_model::laws::{histories_are_determined, lawful_after_each_entry};
-use smx_model::laws_of_hangups::without_a_hangup_none_is_told;
+use smx_model::laws_of_hangups::without_a_hangup_none_is_reported;
 use smx_model::laws_of_messages::few_commands_drop;
 
 /// A transcript with valid drivers has exactly one replay. Transcripts with the same version, drivers and calls have
@@ -44,10 +44,10 @@ pub fn replays_are_lawful()
 
 /// A replay is within the limits of its transcript and needs no later version. If no device hangs up, no reply of the
 /// replay and no line of its view reports a hangup.
-pub fn replays_can_be_told()
+pub fn replays_can_be_expressed()
     ensures { (t r : Transcript) → IsAllowed t.version t → IsReplayOf t r → IsSpellable r → IsAllowed r.version r }
 {
-    without_a_hangup_none_is_told();
+    without_a_hangup_none_is_reported();
 }
 
 /// The replay of the worked history corrects it from its second entry on, which is illegal. The history is not its

@@ -6,10 +6,9 @@ use Rattle.std.proofs.lemmas.List.{length-append}
 use Rattle.smx_types.specs.declared.command.Command.{Command}
 use Rattle.smx_types.specs.declared.command.Entry.{Entry}
 use Rattle.smx_model.specs.DriverList.{IsDriverList}
-use Rattle.smx_model.specs.Histories.{commands_of}
+use Rattle.smx_model.specs.Histories.{after, commands_of}
 use Rattle.smx_model.specs.Worked.Common.{OpenClone, Dup, ip, mux}
 use Rattle.smx_model.specs.Worked.Reports.{drivers, opened, exited, copied}
-use Rattle.smx_shared.specs.Fronts.{links_after}
 use Rattle.smx_shared.specs.Seats.{IsBeginningOf}
 use Rattle.smx_shared.specs.declared.front.Front.{Front}
 use Rattle.smx_run.specs.Fronts.{IsFrontAfter}
@@ -55,8 +54,8 @@ past_the_end process program front same h =
 pub with_a_link : (process : ℕ) (program : List Command) (front : Front) → front.entries ≡ 3 → front.links ≡ 1
     → IsFrontAfter drivers whole process program front → ⊥
 with_a_link process program front same link h =
-    let e : 0 ≡ 1 = ap (λ (es : List Entry). links_after drivers es) (sym (is_of process 3 program front same h))
-    ∙ (sym h.numbers.links ∙ link) in
+    let e : 0 ≡ 1 = ap (λ (es : List Entry). length (after drivers es).links)
+    (sym (is_of process 3 program front same h)) ∙ (sym h.numbers.links ∙ link) in
     absurd (omega (arith, e))
 
 -- two drivers have the same name

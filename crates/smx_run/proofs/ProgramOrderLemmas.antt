@@ -85,7 +85,7 @@ pub report_of : (programs : ProgramLists) (s : Recorded) (t : Transcript) → Is
     → HoldsPrograms s.history programs.programs → IsReportOf programs t
 report_of programs s t sound drivers entries shown same holds = record {
   drivers = drivers ∙ same;
-  can_be_had = rw (← same) sound.can_be_had;
+  valid_drivers = rw (← same) sound.valid_drivers;
   legal = rw (← same, entries) sound.legal;
   holds = rw entries holds;
   shown = rw (← same, entries) shown;

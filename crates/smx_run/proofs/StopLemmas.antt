@@ -101,7 +101,7 @@ alone_refuses drivers run.Held h = absurd h
 pub sound_at_first : (s : Recorded) → s.history ≡ [] → s.limit ≡ MAX_COMMANDS → IsDriverList s.drivers
     → IsSoundSystem s
 sound_at_first s none limit drivers = record {
-  can_be_had = drivers;
+  valid_drivers = drivers;
   within = rw none (omega arith);
   limited = omega (arith, limit);
   legal = rw none tt;

@@ -1,11 +1,10 @@
 -- The fronts of a run: how far the history was when each program ended.
-use Rattle.std.specs.Prelude.{◌≡◌, ℕ, ◌+◌, List, [], ◌∷◌}
+use Rattle.std.specs.Prelude.{◌≡◌, ℕ, ◌+◌, List, [], ◌∷◌, ◌++◌}
 use Rattle.smx_types.specs.declared.command.Command.{Command}
 use Rattle.smx_types.specs.declared.command.Entry.{Entry}
 use Rattle.smx_types.specs.declared.driver.DriverSpec.{DriverSpec}
 use Rattle.smx_model.specs.Histories.{commands_of}
 use Rattle.smx_shared.specs.Fronts.{IsFrontOf}
-use Rattle.smx_shared.specs.Seats.{IsBeginningOf}
 use Rattle.smx_shared.specs.declared.front.Front.{Front}
 
 -- a front that was seen after the program of a process had ended
@@ -13,7 +12,7 @@ pub record IsFrontAfter (drivers : List DriverSpec) (history : List Entry) (proc
     (front : Front) : Type 0 where
   -- It is that of a beginning of the history,
   pub before : List Entry
-  pub begins : IsBeginningOf before history
+  pub begins : (more : List Entry) × (before ++ more ≡ history)
   pub numbers : IsFrontOf front drivers before
   -- which holds all commands of the program.
   pub holds : commands_of process before ≡ program
@@ -23,5 +22,4 @@ abbrev pub AreFrontsFrom : List DriverSpec → List Entry → ℕ → List (List
 AreFrontsFrom drivers history n [] [] = Unit {0}
 AreFrontsFrom drivers history n (program ∷ programs) (front ∷ fronts) =
     IsFrontAfter drivers history n program front × AreFrontsFrom drivers history (n + 1) programs fronts
-AreFrontsFrom drivers history n [] (front ∷ fronts) = ⊥
-AreFrontsFrom drivers history n (program ∷ programs) [] = ⊥
+AreFrontsFrom drivers history n programs fronts = ⊥

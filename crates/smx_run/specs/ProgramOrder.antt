@@ -13,7 +13,7 @@ calls_of process commands = map (λ command. (process, command)) commands
 -- the calls of process `n`, then those of the next, and so on
 abbrev pub calls_from : ℕ → List (List Command) → List (ℕ × Command)
 calls_from n [] = []
-calls_from n (commands ∷ programs) = calls_of n commands ++ calls_from (n + 1) programs
+calls_from n (commands ∷ programs) = map (λ command. (n, command)) commands ++ calls_from (n + 1) programs
 
 -- these are the first of these calls, or all of them
 abbrev pub BeginsCalls : List (ℕ × Command) → ℕ → List (List Command) → Type 0

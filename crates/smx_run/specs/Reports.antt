@@ -17,8 +17,8 @@ transcript_of version report = record {
 }
 
 -- the drivers, the history and the view after it of a system, as a transcript in a text of this version
-abbrev pub told_by : Version → Recorded → Transcript
-told_by version s = record {
+abbrev pub transcript_in : Version → Recorded → Transcript
+transcript_in version s = record {
   version = version;
   drivers = s.drivers;
   entries = s.history;

@@ -25,15 +25,10 @@ fault_of_worker apply.NoMemory = run.NoMemory
 -- the drivers are refused, with their fault; or they are valid, and memory ran out
 abbrev pub RefusesAlone : List DriverSpec → RunFault → Type 0
 RefusesAlone drivers run.NoMemory = IsDriverList drivers
-RefusesAlone drivers (run.Strange process) = ⊥
 RefusesAlone drivers (run.ConfigFault f) = RefusesDrivers drivers f × (f ≢ config.NoMemory)
-RefusesAlone drivers run.HistoryFull = ⊥
-RefusesAlone drivers run.Held = ⊥
+RefusesAlone drivers other = ⊥
 
 -- The drivers are refused, with their fault. Or they are valid, and memory ran out, or the workers met a full history.
 abbrev pub RefusesRun : List DriverSpec → RunFault → Type 0
-RefusesRun drivers run.NoMemory = IsDriverList drivers
-RefusesRun drivers (run.Strange process) = ⊥
-RefusesRun drivers (run.ConfigFault f) = RefusesDrivers drivers f × (f ≢ config.NoMemory)
 RefusesRun drivers run.HistoryFull = IsDriverList drivers
-RefusesRun drivers run.Held = ⊥
+RefusesRun drivers other = RefusesAlone drivers other

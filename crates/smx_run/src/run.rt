@@ -12,7 +12,7 @@ ghost use Rattle.smx_shared.specs.declared.shared_fault.ApplyFault.TheVariants a
 ghost use Rattle.smx_run.specs.Alone.{PerformedAlone, StopsAmong};
 ghost use Rattle.smx_run.specs.Fronts.{AreFrontsFrom};
 ghost use Rattle.smx_run.specs.ProgramOrder.{calls_from, BeginsCalls};
-ghost use Rattle.smx_run.specs.Reports.{told_by, transcript_of};
+ghost use Rattle.smx_run.specs.Reports.{transcript_in, transcript_of};
 ghost use Rattle.smx_run.specs.RunFaults.{RefusesAlone, RefusesRun};
 ghost use Rattle.smx_run.specs.declared.run.TheConstants.{MAX_WORKERS};
 
@@ -69,7 +69,7 @@ pub fn run_system<R: Threads + Wait + Sync, K: EntrySink + Send, G: Gate + Sync>
 ) -> Result<(System<K>, Fronts), RunFault>
     requires sink { K.entries sink ≡ [] }
     requires workers { (1 ≤ workers) × (workers ≤ MAX_WORKERS) }
-    ensures report { IfOk result (λ r. IsReportOf programs (told_by programs.version r.0)) }
+    ensures report { IfOk result (λ r. IsReportOf programs (transcript_in programs.version r.0)) }
     ensures few { IfOk result (λ r. length r.0.history ≤ MAX_COMMANDS) }
     ensures fronts { IfOk result (λ r. AreFrontsFrom r.0.drivers r.0.history 0 programs.programs r.1) }
     ensures refused { IfErr result (RefusesRun programs.drivers) }

@@ -36,8 +36,8 @@ HasOneReading = (bytes : List ℕ) (r s : Result ProgramLists TextFault) → Rea
     → IfErr s (λ f. f.cause ≢ cause.NoMemory) → r ≡ s
 
 -- out-of-memory is reported only before the line at which any other reading of a programs text ends
-abbrev pub IsToldBefore : Type 0
-IsToldBefore = (version : Version) (bytes : List ℕ) (line : ℕ) (r : Result ProgramLists TextFault)
+abbrev pub IsReportedBefore : Type 0
+IsReportedBefore = (version : Version) (bytes : List ℕ) (line : ℕ) (r : Result ProgramLists TextFault)
     → IsFault (programs_grammar version) bytes line cause.NoMemory → ReadsAny programs_grammar bytes r
     → IfErr r (λ f. f.cause ≢ cause.NoMemory) → line < last_line (programs_grammar version) r
 
@@ -47,8 +47,8 @@ HaveOneFault =
     (drivers : List DriverSpec) (f g : ConfigFault) → RefusesDrivers drivers f → RefusesDrivers drivers g → f ≡ g
 
 -- no two calls have the same line
-abbrev pub AreToldApart : Type 0
-AreToldApart =
+abbrev pub AreDistinguished : Type 0
+AreDistinguished =
     (x y : ℕ × Command) → FitsCall x → FitsCall y → line_of (call_words x) ≡ line_of (call_words y) → x ≡ y
 
 -- each line is a call, or not a call
@@ -110,7 +110,7 @@ module _ (text : List ℕ) (reading : HasOneReading) where
       (h.no_entry ∙ sym k.no_entry)
 
   -- out-of-memory is not reported for a text whose first or second line has a fault
-  pub before_the_fault : IsToldBefore → (fault : TextFault) → StartsAs text (Err (Text fault))
+  pub before_the_fault : IsReportedBefore → (fault : TextFault) → StartsAs text (Err (Text fault))
       → StartsAs text (Err NoMemory) → 2 < fault.line
   before_the_fault told fault (reads, known) (inl (want, (v, is, other), memory)) =
       let at : IsFault (programs_grammar v) text want.line cause.NoMemory =
@@ -127,7 +127,7 @@ module _ (text : List ℕ) (reading : HasOneReading) where
     none_refused a f h (v, p, spelled, bad) known =
         let same : h.programs ≡ p = one_value a.version v h.programs p h.spelled spelled in
         let can : IsDriverList p.drivers =
-        subst IsDriverList (h.drivers ∙ ap (λ (q : ProgramLists). q.drivers) same) h.can_be_had in
+        subst IsDriverList (h.drivers ∙ ap (λ (q : ProgramLists). q.drivers) same) h.valid_drivers in
         known (one_fault p.drivers f config.NoMemory bad can)
 
     -- the drivers of a text are refused for at most one fault
@@ -166,7 +166,7 @@ abbrev pub entry_with : ℕ × Command → Reply → Entry
 entry_with call reply = record { process = call.0; command = call.1; reply = reply }
 
 -- a line is performed in only one way
-pub one_step : AreToldApart → (old new other : State) (line : List ℕ) → Performs old line new
+pub one_step : AreDistinguished → (old new other : State) (line : List ℕ) → Performs old line new
     → Performs old line other → new ≡ other
 one_step apart old new other line h k =
     let call : call_of h.entry ≡ call_of k.entry =

@@ -52,7 +52,7 @@ started text p v ds m read version drivers same can nothing =
       programs = p;
       spelled = subst (λ (x : Version). Spells (programs_grammar x) text p) is spelled;
       drivers = same ∙ drivers;
-      can_be_had = rw same can;
+      valid_drivers = rw same can;
       nothing = nothing;
       no_entry = refl;
     }

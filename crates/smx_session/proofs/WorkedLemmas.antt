@@ -15,7 +15,7 @@ use Rattle.smx_words.specs.Words.{line_of}
 use Rattle.smx_session.specs.Sessions.{IsLastLine, IsStartOf, Performs, StartsAs, State}
 use Rattle.smx_session.specs.WorkedSessions.{begun, drivers, hung, opened, table}
 use Rattle.smx_session.specs.declared.start_fault.StartFault.TheVariants.{NoMemory}
-use Rattle.smx_session.proofs.LawLemmas.{AreToldApart, HasOneReading, IsToldBefore, before_the_fault, one_step}
+use Rattle.smx_session.proofs.LawLemmas.{AreDistinguished, HasOneReading, IsReportedBefore, before_the_fault, one_step}
 
 -- programs of the worked drivers, without a process
 abbrev programs : ProgramLists
@@ -37,21 +37,21 @@ starts =
       programs = programs;
       spelled = spelled;
       drivers = refl;
-      can_be_had = search (rules, arith);
+      valid_drivers = search (rules, arith);
       nothing = refl;
       no_entry = refl;
     }
 
 -- memory may run out for the drivers of the worked table
 pub no_memory : StartsAs table (Err NoMemory)
-no_memory = inr (V2, programs, spelled, starts.can_be_had)
+no_memory = inr (V2, programs, spelled, starts.valid_drivers)
 
 -- the header of a third version is wrong
 abbrev wrong_header : TextFault
 wrong_header = record { line = 1; cause = cause.Header }
 
 -- out-of-memory is not reported for a text with a wrong header
-pub no_memory_for_a_wrong_header : HasOneReading → IsToldBefore
+pub no_memory_for_a_wrong_header : HasOneReading → IsReportedBefore
     → ReadsAny programs_grammar (codes "programs 3\n") (Err wrong_header)
     → StartsAs (codes "programs 3\n") (Err NoMemory) → ⊥
 no_memory_for_a_wrong_header reading told wrong wants =
@@ -142,14 +142,14 @@ process_of (Some e) = e.process
 process_of None = 64
 
 -- `2 clone eth` doesn't open a stream for process 3
-pub no_other_process : AreToldApart → Performs begun (codes "2 clone eth") opened → ⊥
+pub no_other_process : AreDistinguished → Performs begun (codes "2 clone eth") opened → ⊥
 no_other_process apart h =
     let same : opened_by_2 ≡ opened = one_step apart begun opened_by_2 opened (codes "2 clone eth") opens_by_2 h in
     let numbers : 2 ≡ 3 = ap (λ (s : State). process_of s.last) same in
     omega (arith, numbers)
 
 -- a command that was performed has changed the state
-pub not_undone : AreToldApart → Performs begun (codes "3 clone eth") begun → ⊥
+pub not_undone : AreDistinguished → Performs begun (codes "3 clone eth") begun → ⊥
 not_undone apart h =
     let same : opened ≡ begun = one_step apart begun opened begun (codes "3 clone eth") opens h in
     let numbers : 3 ≡ 64 = ap (λ (s : State). process_of s.last) same in

@@ -40,7 +40,7 @@ pub record IsStartOf (text : List ℕ) (s : State) : Type 0 where
   pub programs : ProgramLists
   pub spelled : Spells (programs_grammar s.version) text programs
   pub drivers : s.drivers ≡ programs.drivers
-  pub can_be_had : IsDriverList s.drivers
+  pub valid_drivers : IsDriverList s.drivers
   pub nothing : s.configuration ≡ empty
   pub no_entry : s.last ≡ None
 

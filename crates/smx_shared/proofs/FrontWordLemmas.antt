@@ -6,7 +6,8 @@ use Rattle.std.specs.Int.Bits.{or_step}
 use Rattle.std.proofs.lemmas.Nat.{or_shifted}
 use Rattle.smx_types.specs.declared.command.Entry.{Entry}
 use Rattle.smx_types.specs.declared.driver.DriverSpec.{DriverSpec}
-use Rattle.smx_shared.specs.Fronts.{front_of, links_after, word_of, turn_bit, IsFrontOf}
+use Rattle.smx_model.specs.Histories.{after}
+use Rattle.smx_shared.specs.Fronts.{front_of, word_of, turn_bit, IsFrontOf}
 use Rattle.smx_shared.specs.TurnRule.{Turn, free, held, bit_of}
 use Rattle.smx_shared.specs.declared.front.Front.{Front}
 
@@ -54,19 +55,19 @@ front_and_bit drivers n h (held j) e =
 
 -- a history within these limits of entries and links has a small word
 pub word_small : (drivers : List DriverSpec) (n : ℕ) (h : List Entry) → n ≡ front_of drivers h + n % 2
-    → length h ≤ 100000 → links_after drivers h ≤ 1024 → n < 4096 * 4294967296
+    → length h ≤ 100000 → length (after drivers h).links ≤ 1024 → n < 4096 * 4294967296
 unfolding front_of
 word_small drivers n h is few links = omega arith
 
 -- a word is read as the front from which it was made
 pub reads_front : (drivers : List DriverSpec) (n : ℕ) (h : List Entry) (front : Front) → n ≡ front_of drivers h + n % 2
-    → links_after drivers h ≤ 1024 → word_of front ≡ n → front.links < 2048
+    → length (after drivers h).links ≤ 1024 → word_of front ≡ n → front.links < 2048
     → IsFrontOf front drivers h × (turn_bit front.held ≡ n % 2)
 unfolding front_of
 reads_front drivers n h front is links word few =
     let bit : turn_bit front.held ≤ 1 = bit_small front.held in
     let e : 4096 * front.entries + 2 * front.links + turn_bit front.held ≡ n = word in
-    let same : n ≡ 4096 * length h + 2 * links_after drivers h + n % 2 = is in
+    let same : n ≡ 4096 * length h + 2 * length (after drivers h).links + n % 2 = is in
     (record { entries = omega arith; links = omega arith }, omega arith)
   where
     bit_small : (b : Bool) → turn_bit b ≤ 1

@@ -19,7 +19,7 @@ pub none_yet : (m : Machine) (drivers : List DriverSpec) (limit : ℕ) (es : Lis
     IsRecord m limit es
 none_yet m drivers limit es none few can is_empty = rw none (record {
   sound = record {
-    can_be_had = rw can.0 can.1;
+    valid_drivers = rw can.0 can.1;
     within = omega arith;
     limited = few;
     legal = tt;
@@ -40,7 +40,7 @@ one_entry_more m new limit es more e h room same did added =
     let legal : IsLegal m.drivers (es ++ e ∷ []) = legal_push m.drivers es e h.sound.legal reply in
     rw (added, same) (record {
       sound = record {
-        can_be_had = h.sound.can_be_had;
+        valid_drivers = h.sound.valid_drivers;
         within = omega (arith, room, length-append es (e ∷ []));
         limited = h.sound.limited;
         legal = legal;

@@ -248,7 +248,7 @@ met_all m m1 m2 w n r join t =
         own = refl;
         seen = t'.2.grown;
         met = refl;
-        told = t'.2.met;
+        all_met = t'.2.met;
       },
     )
 

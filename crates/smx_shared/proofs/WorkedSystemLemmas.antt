@@ -25,4 +25,4 @@ with_one enough limit some few =
 
 -- two drivers have the same name
 pub one_name : IsSoundSystem of_one_name → ⊥
-one_name h = h.can_be_had.names 0 1 (mux ip 4) (omega arith) (omega arith) refl
+one_name h = h.valid_drivers.names 0 1 (mux ip 4) (omega arith) (omega arith) refl

@@ -19,7 +19,7 @@ pub record Recorded : Type 0 where
 -- what holds of every system, after any commands
 pub record IsSoundSystem (s : Recorded) : Type 0 where
   -- Its drivers are valid.
-  pub can_be_had : IsDriverList s.drivers
+  pub valid_drivers : IsDriverList s.drivers
   -- It has at most as many entries as its limit allows, and that is at most 100,000.
   pub within : length s.history ≤ s.limit
   pub limited : s.limit ≤ MAX_COMMANDS

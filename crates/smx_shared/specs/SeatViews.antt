@@ -175,7 +175,7 @@ pub record HasMet (v other w : SeatView) : Type 0 where
   pub own : w.own ≡ v.own
   pub seen : IsBeginningOf v.seen w.seen
   pub met : w.met ≡ met_seat (known_of other) ∷ other.met ++ v.met
-  pub told : AreMetBy (system_of w) w.met
+  pub all_met : AreMetBy (system_of w) w.met
 
 -- ---- what contracts see
 

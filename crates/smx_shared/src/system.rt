@@ -119,7 +119,7 @@ impl<K: EntrySink> System<K> {
     /// Makes a system of an empty configuration and a sink that was given no entry. Takes no memory.
     pub fn begin(alloc: Global, config: Config, limit: usize, sink: K) -> System<K>
         requires limited { limit ≤ MAX_COMMANDS }
-        requires can_be_had { IsDriverList config.drivers }
+        requires valid_drivers { IsDriverList config.drivers }
         requires fresh { config.configuration ≡ empty }
         requires unused { K.entries sink ≡ [] }
         ensures drivers { result.drivers ≡ config.drivers }

@@ -4,7 +4,7 @@ use Rattle.std.proofs.Common.{length, find, get_or, Option, Some, None, Ok, Err,
 use Rattle.std.proofs.Common.{ap, subst, ◌∙◌, arith, inl, inr}
 use Rattle.std.proofs.Math.Bool.{or-false}
 use Rattle.std.specs.Prelude.{nat_lt}
-use Rattle.std.specs.Option.{option_map}
+use Rattle.std.specs.Option.{option_map, ok_or}
 use Rattle.std.specs.List.{All, AllByRecursion, list_any, list_all}
 use Rattle.std.proofs.lemmas.Bool.{cases_Bool, and_parts, and_from, or_cases, or_left, or_right, false_from_ne_true}
 use Rattle.std.proofs.lemmas.Bool.{false≢true}
@@ -21,7 +21,6 @@ use Rattle.smx_types.specs.declared.stream.Descriptor.{Descriptor}
 use Rattle.smx_types.specs.declared.stream.StreamId.{StreamId}
 use Rattle.smx_model.specs.Configuration.{Configuration, is_fd, same_stream}
 use Rattle.smx_model.specs.KnownStreams.{IsKnown}
-use Rattle.smx_model.specs.Outcomes.{or_fault}
 use Rattle.smx_model.specs.Paths.{HasNoCycle, reaches}
 use Rattle.smx_model.specs.SoundLinks.{AreLinksSound}
 use Rattle.smx_model.specs.Standing.{exists, is_below, is_named, is_persistent, stands_within}
@@ -295,8 +294,8 @@ held_by_one_more old new ctl lower kind t u free is held h = λ s.
 
 -- the stream of a descriptor is in the table
 pub fd_is_there : (t : StreamTable) (process fd : ℕ) (s : StreamId)
-    → or_fault BadDescriptor (stream_at t.fds process fd) ≡ Ok s → is_there t s ≡ true
+    → ok_or (stream_at t.fds process fd) BadDescriptor ≡ Ok s → is_there t s ≡ true
 fd_is_there t process fd s h = or_left _ _ (named_stream process fd t.fds s (some (stream_at t.fds process fd) h)) where
-  some : (o : Option StreamId) → or_fault BadDescriptor o ≡ Ok s → o ≡ Some s
+  some : (o : Option StreamId) → ok_or o BadDescriptor ≡ Ok s → o ≡ Some s
   some None e = absurd cc
   some (Some x) e = let same : x ≡ s = cc in ap (λ (y : StreamId). Some y) same

@@ -1,8 +1,9 @@
 //! The properties of drivers, by number.
 
-ghost use Rattle.std.specs.Prelude.{◌≡◌, ◌<◌, position, length, IfOk, IsTrue, Ok};
+ghost use Rattle.std.specs.Prelude.{◌≡◌, ◌<◌, true, false, position, length, IfOk, IsTrue, Ok};
 ghost use Rattle.std.specs.Str.{bytes_eq};
-ghost use Rattle.smx_model.specs.DriverList.{kind_is_mux, is_mux, minors_of, max_of, IsDriverList};
+ghost use Rattle.smx_types.specs.declared.driver.DriverKind.TheVariants as driver;
+ghost use Rattle.smx_model.specs.DriverList.{is_mux, minors_of, max_of, IsDriverList};
 ghost use Rattle.smx_model.specs.Lookups.{driver_of};
 
 use smx_types::{DriverKind, DriverSpec, Fault, Name};
@@ -38,7 +39,7 @@ pub fn is_driver_named(drivers: &[DriverSpec], driver: usize, name: &Name) -> bo
 }
 
 fn kind_is_mux(kind: DriverKind) -> bool
-    ensures { result ≡ kind_is_mux kind }
+    ensures { result ≡ elim kind [ driver.Mux ↦ true | driver.Leaf ↦ false ] }
 {
     match kind {
         DriverKind::Mux => true,

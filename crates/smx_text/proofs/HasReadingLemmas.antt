@@ -62,10 +62,10 @@ module _ {V K : Type 0} (g : Grammar V K) (made : IsWellMade g) (decides : (line
   goes (suc n) bytes rest lines number short at = elim (first_line rest) [
     | inl one ↦ stops bytes number cause.Cut (cut_at g bytes rest lines number at one) (λ c. cc)
     | inr (text, after, one, e) ↦ elim (decides lines at.begun text) [
-      | inl (longer, goes_on) ↦
+      | inl (k, is, begun) ↦ let longer = lines ++ k ∷ [] in
           goes n bytes after longer (number + 1)
           (omega (arith, ap (length {A = ℕ}) e, length-append text (LINE_FEED ∷ after)))
-          (one_more g bytes rest lines number text after at (one, e) longer goes_on)
+          (one_more g bytes rest lines number text after at (one, e) longer (k, is, refl, begun))
       | inr (inl form) ↦ stops bytes number cause.Form
           (refused g bytes rest lines number text after at (one, e) cause.Form form) (λ c. cc)
       | inr (inr (inl many)) ↦ stops bytes number cause.Many

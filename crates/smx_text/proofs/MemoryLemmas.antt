@@ -1,5 +1,5 @@
 -- A reader reports out of memory only before any fault, for texts in which a line's text determines the line.
-use Rattle.std.proofs.Common.{◌≡◌, ◌≢◌, ℕ, ◌+◌, ◌<◌, ◌≤◌, List, ◌∷◌, ◌++◌, length, Result, Ok, Err, refl}
+use Rattle.std.proofs.Common.{◌≡◌, ◌≢◌, ℕ, ◌+◌, ◌<◌, ◌≤◌, List, [], ◌∷◌, ◌++◌, length, Result, Ok, Err, refl}
 use Rattle.std.proofs.Common.{sym, ap, subst, ◌∙◌, arith, inl, inr}
 use Rattle.std.specs.Prelude.{IfErr}
 use Rattle.std.proofs.lemmas.List.{length-append}
@@ -63,13 +63,13 @@ module _ {V K : Type 0} (g : Grammar V K) (made : IsWellMade g) where
       → Reads g bytes r
       → IfErr r (λ f. f.cause ≢ cause.NoMemory) → n < last_line g r
   comes_before bytes n r (lines, text, at, more) reads ample =
-      let longer = more.0 in
+      let longer = lines ++ more.0 ∷ [] in
       let after = at.next.0 in
       let between : IsBetween g bytes (text ++ LINE_FEED ∷ after) lines n =
       record { begun = at.begun; parts = at.next.2; numbered = at.numbered } in
       let next =
       one_more g bytes (text ++ LINE_FEED ∷ after) lines n text after between (at.next.1, refl)
-      longer more.1 in
+      longer (more.0, more.1, refl, more.2) in
       let last =
       placed bytes longer after r next.begun (next.parts ∙ beginning_and g made longer after)
       (place g made bytes r reads ample) in

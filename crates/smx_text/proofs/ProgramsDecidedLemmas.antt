@@ -1,5 +1,5 @@
 -- Every text after the lines of some programs is decided.
-use Rattle.std.proofs.Common.{◌≡◌, ◌≢◌, ℕ, List, [], ◌∷◌, ◌++◌, Option, refl, sym}
+use Rattle.std.proofs.Common.{◌≡◌, ◌≢◌, ℕ, List, [], Option, refl, sym}
 use Rattle.std.proofs.Common.{subst, arith, rules, inl, inr}
 use Rattle.std.specs.List.{sum_by}
 use Rattle.std.proofs.lemmas.List.{append-nil}
@@ -26,7 +26,7 @@ use Rattle.smx_words.proofs.DecidedCommandLemmas.{command_reading}
 use Rattle.smx_words.proofs.DecidedLineLemmas.{driver_reading, process_reading}
 use Rattle.smx_types.specs.declared.version.Version.{Version}
 use Rattle.smx_types.specs.Versions.{most_drivers}
-use Rattle.smx_words.proofs.ToldLemmas.{told_command}
+use Rattle.smx_words.proofs.InVersionLemmas.{command_in}
 
 -- a line may follow the lines of some programs, or it may not
 stands_or_not : (v : ProgramLists) (k : Line) → MayStand v k ⊎ (MayStand v k → ⊥)
@@ -40,9 +40,9 @@ stands_or_not v (line.Command c) =
 stands_or_not v line.End = inl tt
 
 -- any bytes read as a command that this version can express, or as none
-told_reading : (version : Version) (text : List ℕ)
+command_reading_in : (version : Version) (text : List ℕ)
     → (o : Option Command) × IsReadAs (FitsCommandIn version) command_words text o
-told_reading version text = let c = command_reading text in told_command version text c.0 c.1
+command_reading_in version text = let c = command_reading text in command_in version text c.0 c.1
 
 -- programs have room for a line other than the end, or the limit for its kind is reached
 room_or_many : (version : Version) → (v : ProgramLists) (k : Line) → k ≢ line.End
@@ -67,7 +67,7 @@ judged version v allowed text k other fits is = elim (stands_or_not v k) [
     | inr many ↦ inr (inr (inl (refused_line version (body v) k text fits is cause.Many
         (too_many version v k may many))))
     | inl room ↦ let begun = begun_by version v allowed in
-        inl (body v ++ k ∷ [], (k, is, refl, longer_begun version v k allowed.version_is begun may room fits))
+        inl (k, is, longer_begun version v k allowed.version_is begun may room fits)
   ]
 ]
 
@@ -79,7 +79,7 @@ behind version v allowed text =
     elim (same_or_not text (line_text (programs_grammar version) line.End)) [
       | inl end ↦ inr (inr (inr (end, v, allowed, refl)))
       | inr other ↦
-          by_reading command_words (told_reading version text) (λ c. read (line.Command c) (λ e. cc)) (λ commands.
+          by_reading command_words (command_reading_in version text) (λ c. read (line.Command c) (λ e. cc)) (λ commands.
           by_reading driver_words (driver_reading text) (λ d. read (line.Driver d) (λ e. cc)) (λ drivers.
           by_reading process_words (process_reading text) (λ n. read (line.Process n) (λ e. cc)) (λ processes.
           inr (inl (no_line version (body v) text commands drivers processes other)))))

@@ -89,11 +89,11 @@ programs_again n (p ∷ ps) =
     ) refl
 
 -- the programs of this version with the drivers and programs in some lines
-abbrev told_of : Version → List Line → ProgramLists
-told_of version ls = record { version = version; drivers = drivers_of ls; programs = programs_of ls }
+abbrev programs_of_lines : Version → List Line → ProgramLists
+programs_of_lines version ls = record { version = version; drivers = drivers_of ls; programs = programs_of ls }
 
 -- the lines of programs, read in their version, give the programs themselves
-pub told : (v : ProgramLists) → told_of v.version (body v) ≡ v
+pub told : (v : ProgramLists) → programs_of_lines v.version (body v) ≡ v
 told v = rw (
   drivers_again v.drivers (program_lines 0 v.programs),
   no_drivers 0 v.programs,
@@ -104,8 +104,8 @@ told v = rw (
 
 -- two programs values of one version with the same lines are equal
 pub one_value : (v w : ProgramLists) → v.version ≡ w.version → body v ≡ body w → v ≡ w
-one_value v w same e = sym (told v) ∙ ap (told_of v.version) e
-    ∙ ap (λ (n : Version). told_of n (body w)) same ∙ told w
+one_value v w same e = sym (told v) ∙ ap (programs_of_lines v.version) e
+    ∙ ap (λ (n : Version). programs_of_lines n (body w)) same ∙ told w
 
 -- ---- a prefix of the lines of programs is the lines of some programs
 

@@ -17,32 +17,32 @@ use Rattle.smx_text.proofs.LeastVersionLemmas.{few_drivers, is_first, not_more}
 -- ---- programs whose lines fit version 1 need no later version
 
 -- if lines of commands followed by others fit version 1, no command is a hangup, and the others fit version 1
-told_commands : (cs : List Command) (rest : List Line)
+commands_fit : (cs : List Command) (rest : List Line)
     → AllByRecursion (FitsLine V1) (map line.Command cs ++ rest)
     → (list_any is_hangup cs ≡ false) × AllByRecursion (FitsLine V1) rest
-told_commands [] rest h = (refl, h)
-told_commands (c ∷ cs) rest h = let more = told_commands cs rest h.1 in (rw (h.0.1, more.0) refl, more.1)
+commands_fit [] rest h = (refl, h)
+commands_fit (c ∷ cs) rest h = let more = commands_fit cs rest h.1 in (rw (h.0.1, more.0) refl, more.1)
 
 -- programs whose lines fit version 1 have no hangup
-told_programs : (n : ℕ) (ps : List (List Command)) → AllByRecursion (FitsLine V1) (program_lines n ps)
+none_hangs_up : (n : ℕ) (ps : List (List Command)) → AllByRecursion (FitsLine V1) (program_lines n ps)
     → list_any (list_any is_hangup) ps ≡ false
-told_programs n [] h = refl
-told_programs n (p ∷ ps) h =
-    let own = told_commands p (program_lines (n + 1) ps) h.1 in
-    rw (own.0, told_programs (n + 1) ps own.1) refl
+none_hangs_up n [] h = refl
+none_hangs_up n (p ∷ ps) h =
+    let own = commands_fit p (program_lines (n + 1) ps) h.1 in
+    rw (own.0, none_hangs_up (n + 1) ps own.1) refl
 
 -- if lines of drivers followed by others fit version 1, the others fit version 1
-told_behind : (ds : List DriverSpec) (rest : List Line) → AllByRecursion (FitsLine V1) (map line.Driver ds ++ rest)
+others_fit : (ds : List DriverSpec) (rest : List Line) → AllByRecursion (FitsLine V1) (map line.Driver ds ++ rest)
     → AllByRecursion (FitsLine V1) rest
-told_behind [] rest h = h
-told_behind (d ∷ ds) rest h = told_behind ds rest h.1
+others_fit [] rest h = h
+others_fit (d ∷ ds) rest h = others_fit ds rest h.1
 
 -- programs that are allowed in version 1 need no later version
 pub least_is_first : (v : ProgramLists) → IsAllowed V1 v → least_of_programs v.drivers v.programs ≡ V1
 least_is_first v allowed =
     let few = few_drivers v.drivers allowed.drivers in
     let none =
-    told_programs 0 v.programs (told_behind v.drivers (program_lines 0 v.programs) allowed.fits) in
+    none_hangs_up 0 v.programs (others_fit v.drivers (program_lines 0 v.programs) allowed.fits) in
     rw (few, none) refl
 
 -- ---- the lines of programs that need no later version fit version 1

@@ -11,8 +11,8 @@ use Rattle.smx_text.specs.declared.text_fault.Cause.{Cause}
 use Rattle.smx_text.specs.declared.text_fault.Cause.TheVariants as cause
 use Rattle.smx_text.specs.declared.text_fault.TextFault.{TextFault}
 use Rattle.smx_text.specs.Grammar.{Grammar, IsOneLine, header, line_text, beginning, full_text, IsBegun}
-use Rattle.smx_text.specs.Grammar.{Continues, IsNoLine, MayFollow, Reaches, IsFault, Reads, ReadsAny}
-use Rattle.smx_text.specs.Reading.{Refuses, RefusesLine, EndsText, AnswersLine, AnswersText}
+use Rattle.smx_text.specs.Grammar.{IsNoLine, MayFollow, Reaches, IsFault, Reads, ReadsAny}
+use Rattle.smx_text.specs.Reading.{Continues, Refuses, RefusesLine, EndsText, AnswersLine, AnswersText}
 
 -- the text of two joined lists of lines is the text of the first followed by that of the second
 pub texts_append : (ls ks : List (List (List ℕ))) → text_of (ls ++ ks) ≡ text_of ls ++ text_of ks
@@ -137,7 +137,7 @@ module _ {V K : Type 0} (g : Grammar V K) where
   refuses tells_apart lines k text fits is cause.Form h = λ l also may same.
       h (subst (λ (x : K). MayFollow g lines x) (tells_apart l k also fits (sym same ∙ is)) may)
   refuses tells_apart lines k text fits is cause.Many h = (k, is, fits, h.0, h.1)
-  refuses tells_apart lines k text fits is cause.NoMemory h = (lines ++ k ∷ [], (k, is, refl, h))
+  refuses tells_apart lines k text fits is cause.NoMemory h = (k, is, h)
   refuses tells_apart lines k text fits is why h = absurd h
 
   -- if a line's text determines the line, a result for a parsed line is a result for its text

@@ -1,5 +1,5 @@
 -- Every text after the lines of a transcript that is being read is decided.
-use Rattle.std.proofs.Common.{◌≡◌, ◌≢◌, ℕ, Bool, true, false, List, [], ◌∷◌, ◌++◌, Option, Some, None, refl}
+use Rattle.std.proofs.Common.{◌≡◌, ◌≢◌, ℕ, Bool, true, false, List, Option, Some, None, refl}
 use Rattle.std.proofs.Common.{sym, subst, inl, inr}
 use Rattle.smx_types.specs.declared.command.Entry.{Entry}
 use Rattle.smx_types.specs.declared.version.Version.{Version}
@@ -13,7 +13,7 @@ use Rattle.smx_words.proofs.DecidedCommandLemmas.{entry_reading}
 use Rattle.smx_words.proofs.DecidedLineLemmas.{driver_reading, next_reading, descriptor_reading}
 use Rattle.smx_words.proofs.DecidedLineLemmas.{link_reading, bind_reading, route_reading, message_reading}
 use Rattle.smx_words.proofs.DecidedLineLemmas.{full_reading, hung_reading}
-use Rattle.smx_words.proofs.ToldLemmas.{told_entry}
+use Rattle.smx_words.proofs.InVersionLemmas.{entry_in}
 use Rattle.smx_text.specs.declared.text_fault.Cause.TheVariants as cause
 use Rattle.smx_text.specs.declared.transcript.draft.Stage.{Stage}
 use Rattle.smx_text.specs.declared.transcript.draft.Stage.TheVariants as stage
@@ -30,15 +30,15 @@ use Rattle.smx_text.proofs.TranscriptGrammarLemmas.{refused_line, not_at_end, we
 use Rattle.smx_text.proofs.TranscriptLemmas.{misplaced, too_many, longer_begun, whole, begun_is_draft, nothing_begun}
 
 -- any bytes read as an entry that this version can express, or as none
-told_entry_reading : (version : Version) (text : List ℕ)
+entry_reading_in : (version : Version) (text : List ℕ)
     → (o : Option Entry) × IsReadAs (FitsEntryIn version) entry_words text o
-told_entry_reading version text = let e = entry_reading text in told_entry version text e.0 e.1
+entry_reading_in version text = let e = entry_reading text in entry_in version text e.0 e.1
 
 -- any bytes read as a hung-up stream that this version can express, or as none
-told_hung_reading : (version : Version) (text : List ℕ)
+hung_reading_in : (version : Version) (text : List ℕ)
     → (o : Option HungLine) × IsReadAs (FitsHungIn version) hung_words text o
-told_hung_reading V1 text = (None, λ x told e. absurd (cc told.1))
-told_hung_reading V2 text =
+hung_reading_in V1 text = (None, λ x told e. absurd (cc told.1))
+hung_reading_in V2 text =
     by_reading hung_words (hung_reading text) (λ x fits is. (Some x, ((fits, tt), is)))
     (λ none. (None, λ x told e. none x told.0 e))
 
@@ -50,7 +50,7 @@ judged d begun text k other fits is = by_place (takes d k) refl where
   by_room : takes d k ≡ true → (b : Bool) → is_full d k ≡ b → Decision (grammar_of d) (lines d) text
   by_room may true full = inr (inr (inl (refused_line d.transcript.version (lines d) k text fits is cause.Many
       (too_many d k may full))))
-  by_room may false room = inl (lines d ++ k ∷ [], (k, is, refl, longer_begun d k begun may room fits other))
+  by_room may false room = inl (k, is, longer_begun d k begun may room fits other)
 
   by_place : (b : Bool) → takes d k ≡ b → Decision (grammar_of d) (lines d) text
   by_place true may = by_room may (is_full d k) refl
@@ -81,7 +81,7 @@ behind d begun text =
     elim (same_or_not text (line_text (grammar_of d) line.End)) [
       | inl end ↦ at_end d begun text end
       | inr other ↦
-          by_reading entry_words (told_entry_reading version text) (λ x. read (line.Entry x) (λ e. cc)) (λ entries.
+          by_reading entry_words (entry_reading_in version text) (λ x. read (line.Entry x) (λ e. cc)) (λ entries.
           by_reading message_words (message_reading text) (λ x. read (line.Msg x) (λ e. cc)) (λ messages.
           by_reading driver_words (driver_reading text) (λ x. read (line.Driver x) (λ e. cc)) (λ drivers.
           elim (same_or_not text (line_text (grammar_of d) line.Config)) [
@@ -93,7 +93,7 @@ behind d begun text =
                 by_reading bind_words (bind_reading text) (λ x. read (line.Bind x) (λ e. cc)) (λ binds.
                 by_reading route_words (route_reading text) (λ x. read (line.Route x) (λ e. cc)) (λ routes.
                 by_reading full_words (full_reading text) (λ x. read (line.Full x) (λ e. cc)) (λ fulls.
-                by_reading hung_words (told_hung_reading version text) (λ x. read (line.Hung x) (λ e. cc)) (λ hungs.
+                by_reading hung_words (hung_reading_in version text) (λ x. read (line.Hung x) (λ e. cc)) (λ hungs.
                 inr (inl (no_line version (lines d) text entries messages drivers config nexts fds links binds routes
                 fulls hungs other)))))))))
           ])))

@@ -13,68 +13,68 @@ use Rattle.smx_words.specs.Spellable.{CanTell}
 use Rattle.smx_text.proofs.LeastVersionLemmas.{few_drivers, is_first}
 
 -- this version can express each entry
-abbrev pub AreToldEntries : Version → List Entry → Type 0
-AreToldEntries version es = AllByRecursion (λ e. CanTell version (is_of_hangup e)) es
+abbrev pub AreEntriesIn : Version → List Entry → Type 0
+AreEntriesIn version es = AllByRecursion (λ e. CanTell version (is_of_hangup e)) es
 
 -- this version can express each hung-up stream
-abbrev pub AreToldHungs : Version → List HungLine → Type 0
-AreToldHungs version hs = AllByRecursion (λ h. CanTell version true) hs
+abbrev pub AreHungsIn : Version → List HungLine → Type 0
+AreHungsIn version hs = AllByRecursion (λ h. CanTell version true) hs
 
 -- version 2 can express all entries
-each_entry : (es : List Entry) → AreToldEntries V2 es
+each_entry : (es : List Entry) → AreEntriesIn V2 es
 each_entry [] = tt
 each_entry (e ∷ es) = (tt, each_entry es)
 
 -- version 2 can express all hung-up streams
-each_hung : (hs : List HungLine) → AreToldHungs V2 hs
+each_hung : (hs : List HungLine) → AreHungsIn V2 hs
 each_hung [] = tt
 each_hung (h ∷ hs) = (tt, each_hung hs)
 
 -- ---- version 1 can express a transcript that needs no later version
 
 -- version 1 can express entries if none involves a hangup
-none_of_hangup : (es : List Entry) → list_any is_of_hangup es ≡ false → AreToldEntries V1 es
+none_of_hangup : (es : List Entry) → list_any is_of_hangup es ≡ false → AreEntriesIn V1 es
 none_of_hangup [] h = tt
 none_of_hangup (e ∷ es) h =
     let both = or_parts (is_of_hangup e) (list_any is_of_hangup es) h in
     (both.0, none_of_hangup es both.1)
 
 -- version 1 can express the hung-up streams if there are none
-none_hung : (hs : List HungLine) → nat_lt 0 (length hs) ≡ false → AreToldHungs V1 hs
+none_hung : (hs : List HungLine) → nat_lt 0 (length hs) ≡ false → AreHungsIn V1 hs
 none_hung [] h = tt
 none_hung (x ∷ hs) h = let some : nat_lt 0 (length (x ∷ hs)) ≡ true = grind (arith, nat_tests) in absurd cc
 
 -- a version not before the earliest one for a transcript can express its entries
-pub told_entries : (version : Version) (t : Transcript) → (version ≡ V1 → least_of_transcript t ≡ V1)
-    → AreToldEntries version t.entries
-told_entries V1 t told =
+pub entries_expressed : (version : Version) (t : Transcript) → (version ≡ V1 → least_of_transcript t ≡ V1)
+    → AreEntriesIn version t.entries
+entries_expressed V1 t told =
     let two = or_parts (are_more_drivers t.drivers) _ (is_first _ (told refl)) in
     none_of_hangup t.entries (or_parts (list_any is_of_hangup t.entries) _ two.1).0
-told_entries V2 t told = each_entry t.entries
+entries_expressed V2 t told = each_entry t.entries
 
 -- a version not before the earliest one for a transcript can express its hung-up streams
-pub told_hungs : (version : Version) (t : Transcript) → (version ≡ V1 → least_of_transcript t ≡ V1)
-    → AreToldHungs version t.view.hungs
-told_hungs V1 t told =
+pub hungs_expressed : (version : Version) (t : Transcript) → (version ≡ V1 → least_of_transcript t ≡ V1)
+    → AreHungsIn version t.view.hungs
+hungs_expressed V1 t told =
     let two = or_parts (are_more_drivers t.drivers) _ (is_first _ (told refl)) in
     none_hung t.view.hungs (or_parts (list_any is_of_hangup t.entries) _ two.1).1
-told_hungs V2 t told = each_hung t.view.hungs
+hungs_expressed V2 t told = each_hung t.view.hungs
 
 -- ---- a transcript whose lines fit version 1 needs no later version
 
 -- if version 1 can express the entries, none involves a hangup
-no_hangup : (es : List Entry) → AreToldEntries V1 es → list_any is_of_hangup es ≡ false
+no_hangup : (es : List Entry) → AreEntriesIn V1 es → list_any is_of_hangup es ≡ false
 no_hangup [] h = refl
 no_hangup (e ∷ es) h = rw (h.0, no_hangup es h.1) refl
 
 -- if version 1 can express the hung-up streams, there are none
-no_hung : (hs : List HungLine) → AreToldHungs V1 hs → nat_lt 0 (length hs) ≡ false
+no_hung : (hs : List HungLine) → AreHungsIn V1 hs → nat_lt 0 (length hs) ≡ false
 no_hung [] h = refl
 no_hung (x ∷ hs) h = absurd (cc h.0)
 
 -- a transcript whose drivers, entries and hung-up streams version 1 can express needs no later version
 pub needs_no_later : (version : Version) (t : Transcript) → length t.drivers ≤ most_drivers version
-    → AreToldEntries version t.entries → AreToldHungs version t.view.hungs
+    → AreEntriesIn version t.entries → AreHungsIn version t.view.hungs
     → version ≡ V1 → least_of_transcript t ≡ V1
 needs_no_later V1 t few entries hungs is =
     rw (few_drivers t.drivers few, no_hangup t.entries entries, no_hung t.view.hungs hungs) refl

@@ -19,7 +19,7 @@ use Rattle.smx_text.specs.TranscriptText.{IsSpellable, IsSpellableView, FitsLine
 use Rattle.smx_text.proofs.TranscriptDrafts.{new_view}
 use Rattle.smx_text.proofs.EachLemmas.{all_left, all_right, all_append, all_map, of_map, all_both, all_parts}
 use Rattle.smx_text.proofs.TranscriptDraftLemmas.{draft}
-use Rattle.smx_text.proofs.TranscriptVersionLemmas.{AreToldHungs, told_entries, told_hungs}
+use Rattle.smx_text.proofs.TranscriptVersionLemmas.{AreHungsIn, entries_expressed, hungs_expressed}
 use Rattle.smx_text.proofs.TranscriptVersionLemmas.{needs_no_later}
 use Rattle.smx_text.specs.Drafts.{lines}
 
@@ -82,9 +82,10 @@ module _ (version : Version) where
   fits_body : (t : Transcript) → IsSpellable t → (version ≡ V1 → least_of_transcript t ≡ V1) → AreFit (body t)
   fits_body t fit told =
       let view = fit.view in
-      let hungs = all_both FitsHung (λ h. CanTell version true) t.view.hungs view.hungs (told_hungs version t told) in
+      let hungs = all_both FitsHung (λ h. CanTell version true) t.view.hungs view.hungs
+      (hungs_expressed version t told) in
       let entries = all_both FitsEntry (λ e. CanTell version (is_of_hangup e)) t.entries fit.entries
-      (told_entries version t told) in
+      (entries_expressed version t told) in
       joined line.Driver _ _ fit.drivers (joined line.Entry _ _ entries (
         tt,
         (
@@ -96,7 +97,7 @@ module _ (version : Version) where
       ))
 
   -- if the lines of a view fit, the view can be spelled, and this version can express its hung-up streams
-  view_fits : (v : ConfigView) → AreFit (view_body v) → IsSpellableView v × AreToldHungs version v.hungs
+  view_fits : (v : ConfigView) → AreFit (view_body v) → IsSpellableView v × AreHungsIn version v.hungs
   view_fits v h =
       let fds = parted line.Fd v.fds _ h.1 in
       let links = parted line.Link v.links _ fds.1 in

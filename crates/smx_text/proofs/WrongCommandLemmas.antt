@@ -187,9 +187,9 @@ nine_letters (command.OpenClone d) fits v e = no_name (codes "ninelette") d refl
 nine_letters c fits v e = absurd (cc v)
 
 -- `link` has two descriptors, not one
-pub word_wanting : IsNone verb.Link (codes "0" ∷ [])
-word_wanting (command.Link n m) fits v e = omega (arith, ap (length {A = List ℕ}) e)
-word_wanting c fits v e = absurd (cc v)
+pub missing_word : IsNone verb.Link (codes "0" ∷ [])
+missing_word (command.Link n m) fits v e = omega (arith, ap (length {A = List ℕ}) e)
+missing_word c fits v e = absurd (cc v)
 
 -- the word for all links is in lower case
 pub capitals : IsNone verb.Unlink (codes "0" ∷ codes "ALL" ∷ [])
@@ -212,9 +212,9 @@ odd_digits (command.Write n m bs) fits v e = no_odd_digits bs fits.2 (cc e)
 odd_digits c fits v e = absurd (cc v)
 
 -- `write` has a word for its bytes even if there are none
-pub bytes_wanting : IsNone verb.Write (codes "0" ∷ codes "5" ∷ [])
-bytes_wanting (command.Write n m bs) fits v e = omega (arith, ap (length {A = List ℕ}) e)
-bytes_wanting c fits v e = absurd (cc v)
+pub missing_bytes : IsNone verb.Write (codes "0" ∷ codes "5" ∷ [])
+missing_bytes (command.Write n m bs) fits v e = omega (arith, ap (length {A = List ℕ}) e)
+missing_bytes c fits v e = absurd (cc v)
 
 -- an empty line is no command
 pub no_word : AreWrongPrograms (with_line_4 []) 4 cause.Form

@@ -44,7 +44,7 @@ use Rattle.smx_text.proofs.TranscriptGrammarLemmas.{spelling}
 use Rattle.smx_text.proofs.TranscriptLemmas.{misplaced, nothing_begun}
 use Rattle.smx_text.proofs.LineWordLemmas.{first_word, differ}
 use Rattle.smx_text.proofs.WorkedFaultLemmas.{told, wrong_transcript, wrong_transcript_in_each}
-use Rattle.smx_words.proofs.ToldLemmas.{no_told_entry}
+use Rattle.smx_words.proofs.InVersionLemmas.{no_entry_in}
 
 -- ---- the lines before the fault
 
@@ -164,9 +164,9 @@ abbrev descriptor : TranscriptLine
 descriptor = line.Fd (record { process = 0; fd = 0; driver = codes "ip"; minor = 0 })
 
 -- after `config` come the next id and serial, before any descriptor
-pub next_wanting : IsWrongTranscript (codes "transcript 1\nconfig\nfd 0 0 ip 0\nend\n") 3 cause.Form
+pub missing_next : IsWrongTranscript (codes "transcript 1\nconfig\nfd 0 0 ip 0\nend\n") 3 cause.Form
 unfolding digits
-next_wanting =
+missing_next =
     wrong_below_config (codes "fd 0 0 ip 0") (codes "end\n") (search rules)
     (refused_line V1 (lines below_config) descriptor (codes "fd 0 0 ip 0") (search (rules, arith)) refl
     cause.Form (misplaced below_config descriptor refl))
@@ -300,32 +300,32 @@ half_a_fault =
 -- ---- lines of version 2 only
 
 -- an entry of version 2 only, as line 3 of a text of version 1
-told_later : (x : AnyEntry) → FitsEntry x → is_of_hangup x ≡ true
+later_entry : (x : AnyEntry) → FitsEntry x → is_of_hangup x ≡ true
     → AllByRecursion (IsFree SPACE) (entry_words x) × (0 < length (entry_words x)) → IsOneLine (line_of (entry_words x))
     → kind_at (first_word (entry_words x)) ≡ 0 → IsWrongTranscript (with_line_3 (line_of (entry_words x))) 3 cause.Form
-told_later x fits hangup free one digit =
+later_entry x fits hangup free one digit =
     wrong_at_3 (line_of (entry_words x)) one (no_entry (entry_words x) free digit (λ e told same.
-    no_told_entry V1 (line_of (entry_words x)) x fits refl (λ can. absurd (cc (can, hangup))) e told (ap line_of same)))
+    no_entry_in V1 (line_of (entry_words x)) x fits refl (λ can. absurd (cc (can, hangup))) e told (ap line_of same)))
 
 -- version 1 has no entry of a hangup
-pub told_hangup : IsWrongTranscript (with_line_3 (codes "0 hangup ip 0 = done")) 3 cause.Form
+pub hangup_in_version_1 : IsWrongTranscript (with_line_3 (codes "0 hangup ip 0 = done")) 3 cause.Form
 unfolding digits
-told_hangup =
-    told_later (record { process = 0; command = command.Hangup (codes "ip") 0; reply = reply.Done [] })
+hangup_in_version_1 =
+    later_entry (record { process = 0; command = command.Hangup (codes "ip") 0; reply = reply.Done [] })
     (search (rules, arith)) refl (search rules, omega arith) (search rules) refl
 
 -- version 1 has no reply `eof`
 pub end_of_file : IsWrongTranscript (with_line_3 (codes "0 read 0 = eof")) 3 cause.Form
 unfolding digits
 end_of_file =
-    told_later (record { process = 0; command = command.Read 0; reply = reply.Eof })
+    later_entry (record { process = 0; command = command.Read 0; reply = reply.Eof })
     (search (rules, arith)) refl (search rules, omega arith) (search rules) refl
 
 -- version 1 has no refusal for a hangup
 pub refusal : IsWrongTranscript (with_line_3 (codes "0 read 0 = ENXIO hangup")) 3 cause.Form
 unfolding digits
 refusal =
-    told_later (record { process = 0; command = command.Read 0; reply = reply.Fault fault.HungUp })
+    later_entry (record { process = 0; command = command.Read 0; reply = reply.Fault fault.HungUp })
     (search (rules, arith)) refl (search rules, omega arith) (search rules) refl
 
 -- version 1 has no hung-up stream in a view

@@ -1,7 +1,8 @@
 -- A kind of text: the one text of each value, and where other bytes are invalid. No reader is mentioned.
 use Rattle.std.specs.Prelude.{◌≡◌, ◌≢◌, ℕ, ◌+◌, List, [], ◌∷◌, ◌++◌, length, map, ◌⊎◌, Result, Ok, Err, IfErr}
+use Rattle.std.specs.List.{AllByRecursion}
 use Rattle.smx_types.specs.declared.version.Version.{Version}
-use Rattle.smx_words.specs.Words.{LINE_FEED, IsFree, line_of, text_of}
+use Rattle.smx_words.specs.Words.{LINE_FEED, line_of, text_of}
 use Rattle.smx_text.specs.declared.text_fault.Cause.{Cause}
 use Rattle.smx_text.specs.declared.text_fault.Cause.TheVariants as cause
 use Rattle.smx_text.specs.declared.text_fault.TextFault.{TextFault}
@@ -23,7 +24,7 @@ pub record Grammar (V K : Type 0) : Type 1 where
 
 -- these bytes contain no line feed
 abbrev pub IsOneLine : List ℕ → Type 0
-IsOneLine text = IsFree LINE_FEED text
+IsOneLine text = AllByRecursion (λ b. b ≢ LINE_FEED) text
 
 -- `bytes` start with `before`, followed by the whole line `text`; any bytes may follow
 abbrev pub HasNext : List ℕ → List ℕ → List ℕ → Type 0
@@ -79,13 +80,9 @@ module _ {V K : Type 0} (g : Grammar V K) where
   abbrev pub IsOneTooMany : List K → List ℕ → Type 0
   IsOneTooMany lines text = (k : K) × (text ≡ line_text k) × g.FitsLine k × MayFollow lines k × IsFull lines k
 
-  -- `text` spells a line that some allowed value has after `lines`; `longer` is `lines` with that line added
-  abbrev pub Continues : List K → List ℕ → List K → Type 0
-  Continues lines text longer = (k : K) × (text ≡ line_text k) × (longer ≡ lines ++ k ∷ []) × IsBegun longer
-
   -- `text` spells a line that some allowed value has after `lines`
   abbrev pub IsOneMore : List K → List ℕ → Type 0
-  IsOneMore lines text = (longer : List K) × Continues lines text longer
+  IsOneMore lines text = (k : K) × (text ≡ line_text k) × IsBegun (lines ++ k ∷ [])
 
   -- ---- where a text is invalid
 

@@ -2,12 +2,12 @@
 use Rattle.std.specs.Prelude.{◌≡◌, ℕ, ◌+◌, ◌≤◌, List, [], ◌∷◌, ◌++◌, length, map, codes}
 use Rattle.std.specs.List.{AllByRecursion, sum_by}
 use Rattle.smx_types.specs.ProgramLists.{ProgramLists}
-use Rattle.smx_types.specs.Versions.{most_drivers}
+use Rattle.smx_types.specs.Versions.{is_hangup, most_drivers}
 use Rattle.smx_types.specs.declared.command.Command.{Command}
 use Rattle.smx_types.specs.declared.limits.TheConstants.{MAX_COMMANDS, MAX_PROCESSES}
 use Rattle.smx_types.specs.declared.version.Version.{Version}
 use Rattle.smx_words.specs.Spelling.{driver_words, process_words, command_words}
-use Rattle.smx_words.specs.Spellable.{FitsNumber, FitsDriver, FitsCommandIn}
+use Rattle.smx_words.specs.Spellable.{CanTell, FitsNumber, FitsDriver, FitsCommand}
 use Rattle.smx_text.specs.Grammar.{Grammar, full_text, Spells}
 use Rattle.smx_text.specs.ProgramLines.{Line}
 use Rattle.smx_text.specs.ProgramLines as line
@@ -24,7 +24,7 @@ line_words line.End = codes "end" ∷ []
 abbrev pub FitsLine : Version → Line → Type 0
 FitsLine version (line.Driver d) = FitsDriver d
 FitsLine version (line.Process number) = FitsNumber number
-FitsLine version (line.Command c) = FitsCommandIn version c
+FitsLine version (line.Command c) = FitsCommand c × CanTell version (is_hangup c)
 FitsLine version line.End = Unit {0}
 
 -- starting at process n: the line of each process, followed by its commands

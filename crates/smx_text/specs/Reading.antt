@@ -4,7 +4,6 @@ use Rattle.smx_text.specs.declared.text_fault.Cause.{Cause}
 use Rattle.smx_text.specs.declared.text_fault.Cause.TheVariants as cause
 use Rattle.smx_text.specs.declared.text_fault.TextFault.{TextFault}
 use Rattle.smx_text.specs.Grammar.{Grammar, line_text, IsBegun, MayFollow, IsFull, IsNoLine, IsOneTooMany, IsOneMore}
-use Rattle.smx_text.specs.Grammar.{Continues}
 
 module _ {V K : Type 0} (g : Grammar V K) where
   -- ---- a line as bytes
@@ -53,7 +52,11 @@ module _ {V K : Type 0} (g : Grammar V K) where
   AnswersLine lines k longer (Ok x) = AddsLine lines k longer
   AnswersLine lines k longer (Err why) = RefusesLine lines k why
 
+  -- `text` spells a line that some allowed value has after `lines`; `longer` is `lines` with that line added
+  abbrev pub Continues : List K → List ℕ → List K → Type 0
+  Continues lines text longer = (k : K) × (text ≡ line_text g k) × (longer ≡ lines ++ k ∷ []) × IsBegun g longer
+
   -- for a line as bytes: some allowed value has it after `lines`, or the cause of its refusal
   abbrev pub AnswersText : {A : Type 0} → List K → List ℕ → List K → Result A Cause → Type 0
-  AnswersText lines text longer (Ok x) = Continues g lines text longer
+  AnswersText lines text longer (Ok x) = Continues lines text longer
   AnswersText lines text longer (Err why) = Refuses lines text why

@@ -1,7 +1,7 @@
 -- The transcript text: drivers, history, and the final configuration.
 use Rattle.std.specs.Prelude.{◌≡◌, ◌≤◌, ℕ, true, List, [], ◌∷◌, ◌++◌, length, map, codes}
 use Rattle.std.specs.List.{AllByRecursion}
-use Rattle.smx_types.specs.Versions.{most_drivers}
+use Rattle.smx_types.specs.Versions.{is_of_hangup, most_drivers}
 use Rattle.smx_types.specs.declared.limits.TheConstants.{MAX_COMMANDS}
 use Rattle.smx_types.specs.declared.transcript.Transcript.{Transcript}
 use Rattle.smx_types.specs.declared.version.Version.{Version}
@@ -9,7 +9,7 @@ use Rattle.smx_types.specs.declared.view.ConfigView.{ConfigView}
 use Rattle.smx_types.specs.declared.view.HungLine.{HungLine}
 use Rattle.smx_words.specs.Spelling.{driver_words, entry_words, next_words, descriptor_words, link_words}
 use Rattle.smx_words.specs.Spelling.{bind_words, route_words, message_words, full_words, hung_words}
-use Rattle.smx_words.specs.Spellable.{CanTell, FitsNumber, FitsDriver, FitsEntry, FitsEntryIn, FitsNext}
+use Rattle.smx_words.specs.Spellable.{CanTell, FitsNumber, FitsDriver, FitsEntry}
 use Rattle.smx_words.specs.Spellable.{FitsDescriptor, FitsLink, FitsBinding, FitsRoute, FitsMessage, FitsFull, FitsHung}
 use Rattle.smx_words.specs.Words.{text_of}
 use Rattle.smx_text.specs.Grammar.{Grammar, full_text, Spells}
@@ -36,20 +36,19 @@ line_words line.End = codes "end" ∷ []
 abbrev pub FitsHungIn : Version → HungLine → Type 0
 FitsHungIn version h = FitsHung h × CanTell version true
 
--- the line can be spelled, and this version can express it
+-- the line can be spelled, and this version can express it; `config` and `end` have no contents
 abbrev pub FitsLine : Version → TranscriptLine → Type 0
 FitsLine version (line.Driver d) = FitsDriver d
-FitsLine version (line.Entry e) = FitsEntryIn version e
-FitsLine version line.Config = Unit {0}
-FitsLine version (line.Next id serial) = FitsNext (id, serial)
+FitsLine version (line.Entry e) = FitsEntry e × CanTell version (is_of_hangup e)
+FitsLine version (line.Next id serial) = FitsNumber id × FitsNumber serial
 FitsLine version (line.Fd d) = FitsDescriptor d
 FitsLine version (line.Link l) = FitsLink l
 FitsLine version (line.Bind b) = FitsBinding b
 FitsLine version (line.Route r) = FitsRoute r
 FitsLine version (line.Msg m) = FitsMessage m
 FitsLine version (line.Full f) = FitsFull f
-FitsLine version (line.Hung h) = FitsHungIn version h
-FitsLine version line.End = Unit {0}
+FitsLine version (line.Hung h) = FitsHung h × CanTell version true
+FitsLine version other = Unit {0}
 
 -- the next id and serial, then descriptors, links, bindings, routes, messages, full places and hung-up streams
 abbrev pub view_body : ConfigView → List TranscriptLine

@@ -22,7 +22,7 @@ pub fn right_texts()
 pub fn right_texts_of_version_2()
     ensures hangups { SpellsPrograms hangups_bytes hangups }
     ensures shortest { SpellsPrograms (codes "programs 2\nend\n") (raised (program_lists [] [])) }
-    ensures told_hangups { SpellsTranscript transcript_of_hangups_bytes transcript_of_hangups }
+    ensures hangups_spelled { SpellsTranscript transcript_of_hangups_bytes transcript_of_hangups }
     ensures shortest_transcript { SpellsTranscript
         (codes "transcript 2\nconfig\nnext 1 1\nend\n") shortest_transcript }
 {}
@@ -37,12 +37,12 @@ pub fn wrong_commands()
     ensures large_number { AreWrongPrograms (with_line_4 (codes "open ip 4294967296")) 4 Form }
     ensures digit_first { AreWrongPrograms (with_line_4 (codes "open 9a 0")) 4 Form }
     ensures nine_letters { AreWrongPrograms (with_line_4 (codes "clone ninelette")) 4 Form }
-    ensures word_wanting { AreWrongPrograms (with_line_4 (codes "link 0")) 4 Form }
+    ensures missing_word { AreWrongPrograms (with_line_4 (codes "link 0")) 4 Form }
     ensures capitals { AreWrongPrograms (with_line_4 (codes "unlink 0 ALL")) 4 Form }
     ensures sides_turned { AreWrongPrograms (with_line_4 (codes "flush 0 wr")) 4 Form }
     ensures capital_digits { AreWrongPrograms (with_line_4 (codes "write 0 5 AA")) 4 Form }
     ensures odd_digits { AreWrongPrograms (with_line_4 (codes "write 0 5 aab")) 4 Form }
-    ensures bytes_wanting { AreWrongPrograms (with_line_4 (codes "write 0 5")) 4 Form }
+    ensures missing_bytes { AreWrongPrograms (with_line_4 (codes "write 0 5")) 4 Form }
     ensures no_word { AreWrongPrograms (with_line_4 []) 4 Form }
 {}
 
@@ -72,7 +72,7 @@ pub fn wrong_transcripts()
     ensures version_2_alone { IsWrongTranscript (codes "transcript 2\n") 2 Cut }
     ensures process_64 { IsWrongTranscript (with_line_3 (codes "64 clone ip = fd 0 0")) 3 Form }
     ensures half_a_fault { IsWrongTranscript (with_line_3 (codes "0 clone ip = EINVAL")) 3 Form }
-    ensures next_wanting { IsWrongTranscript (codes "transcript 1\nconfig\nfd 0 0 ip 0\nend\n") 3 Form }
+    ensures missing_next { IsWrongTranscript (codes "transcript 1\nconfig\nfd 0 0 ip 0\nend\n") 3 Form }
     ensures end_too_early { IsWrongTranscript (codes "transcript 1\nconfig\nend\n") 3 Form }
     ensures two_nexts { IsWrongTranscript (with_line_5 (codes "next 2 1")) 5 Form }
     ensures late_entry { IsWrongTranscript (with_line_5 (codes "0 exit = done")) 5 Form }
@@ -85,7 +85,7 @@ pub fn wrong_transcripts()
 /// No text of version 1 has a hangup, or a 65th driver. In version 2 the 129th driver is over the limit.
 pub fn wrong_for_their_version()
     ensures hangup { AreWrongPrograms (with_line_4 (codes "hangup ip 0")) 4 Form }
-    ensures told_hangup { IsWrongTranscript (with_line_3 (codes "0 hangup ip 0 = done")) 3 Form }
+    ensures hangup_in_version_1 { IsWrongTranscript (with_line_3 (codes "0 hangup ip 0 = done")) 3 Form }
     ensures end_of_file { IsWrongTranscript (with_line_3 (codes "0 read 0 = eof")) 3 Form }
     ensures refusal { IsWrongTranscript (with_line_3 (codes "0 read 0 = ENXIO hangup")) 3 Form }
     ensures hung_up_stream { IsWrongTranscript (with_line_5 (codes "hung eth 0")) 5 Form }

@@ -4,7 +4,7 @@ ghost use Rattle.std.specs.Prelude.{◌≡◌, ◌≤◌, ◌↔◌, length, nat
 ghost use Rattle.std.specs.Int.{to_le_bytes, w64};
 ghost use Rattle.std.specs.Cmp.Lexicographic.{pointwise};
 ghost use Rattle.std.specs.List.{list_all};
-ghost use Rattle.smx_types.specs.Names.{is_letter, is_name_byte, is_name, padded};
+ghost use Rattle.smx_types.specs.Names.{is_name_byte, is_name, padded};
 
 use std::marker::Model;
 
@@ -75,7 +75,7 @@ impl Name {
         ensures valid { IsSome result ↔ IsTrue (is_name bytes.now) }
         ensures value { IfSome result (λ n. n ≡ bytes.now) }
     {
-        if bytes.is_empty() || !is_letter(bytes[0]) || bytes.len() > 8 {
+        if bytes.is_empty() || !bytes[0].is_ascii_lowercase() || bytes.len() > 8 {
             return None;
         }
         let word = word_of(bytes)?;
@@ -103,16 +103,10 @@ impl Name {
     }
 }
 
-fn is_letter(byte: u8) -> bool
-    ensures { result ≡ is_letter byte }
-{
-    byte.is_ascii_lowercase()
-}
-
 fn is_name_byte(byte: u8) -> bool
     ensures { result ≡ is_name_byte byte }
 {
-    is_letter(byte) || byte.is_ascii_digit()
+    byte.is_ascii_lowercase() || byte.is_ascii_digit()
 }
 
 // Returns the number with these bytes, the first of which is the lowest, if all of them are allowed in a name. This

@@ -12,7 +12,7 @@ pub mod SameWordLemmas
 pub mod SameCommandLemmas
 pub mod SameReplyLemmas
 pub mod LawLemmas
-pub mod ToldLemmas
+pub mod InVersionLemmas
 pub mod DecidedLemmas
 pub mod DecidedWordLemmas
 pub mod DecidedLineLemmas

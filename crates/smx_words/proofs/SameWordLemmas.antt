@@ -68,11 +68,11 @@ few {X} same tells spelling all found s = by_first (first_of_these same spelling
       let bad : None ≡ Some x = sym e ∙ ap (first_of_these same spelling all) is ∙ found x in absurd (cc bad))
 
 -- the value is found in this list by its word, which is a word
-abbrev IsTold : {X : Type 0} → (X → List ℕ) → List X → X → Type 0
-IsTold word all x = (first_of_these bytes_eq word all (word x) ≡ Some x) × IsWord (word x)
+abbrev IsFound : {X : Type 0} → (X → List ℕ) → List X → X → Type 0
+IsFound word all x = (first_of_these bytes_eq word all (word x) ≡ Some x) × IsWord (word x)
 
 -- a few values, each found by its word, have words of their own, and it is decided whether a word is one of theirs
-word_of_few : {X : Type 0} (word : X → List ℕ) (all : List X) → ((x : X) → IsTold word all x) → HasWord FitsAlways word
+word_of_few : {X : Type 0} (word : X → List ℕ) (all : List X) → ((x : X) → IsFound word all x) → HasWord FitsAlways word
 word_of_few word all found = record {
   answer = few bytes_eq bytes_eq-Decides word all (λ x. (found x).0);
   one = λ x y h k e. told bytes_eq word all (λ x. (found x).0) x y e;
@@ -82,28 +82,28 @@ word_of_few word all found = record {
 -- the two kinds of drivers have words of their own, and it is decided whether a word is one of these
 pub driver_kind : HasWord FitsAlways kind_word
 driver_kind = word_of_few kind_word (kind.Leaf ∷ kind.Mux ∷ []) found where
-  found : (k : DriverKind) → IsTold kind_word (kind.Leaf ∷ kind.Mux ∷ []) k
+  found : (k : DriverKind) → IsFound kind_word (kind.Leaf ∷ kind.Mux ∷ []) k
   found kind.Leaf = search rules
   found kind.Mux = search rules
 
 -- the two kinds of links have words of their own, and it is decided whether a word is one of these
 pub link_kind : HasWord FitsAlways link_kind_word
 link_kind = word_of_few link_kind_word (link.Ordinary ∷ link.Persistent ∷ []) found where
-  found : (k : LinkKind) → IsTold link_kind_word (link.Ordinary ∷ link.Persistent ∷ []) k
+  found : (k : LinkKind) → IsFound link_kind_word (link.Ordinary ∷ link.Persistent ∷ []) k
   found link.Ordinary = search rules
   found link.Persistent = search rules
 
 -- the two sides of a stream have words of their own, and it is decided whether a word is one of these
 pub stream_side : HasWord FitsAlways side_word
 stream_side = word_of_few side_word (side.Write ∷ side.Read ∷ []) found where
-  found : (s : Side) → IsTold side_word (side.Write ∷ side.Read ∷ []) s
+  found : (s : Side) → IsFound side_word (side.Write ∷ side.Read ∷ []) s
   found side.Write = search rules
   found side.Read = search rules
 
 -- the choices of a flush have words of their own, and it is decided whether a word is one of these
 pub flush_sides : HasWord FitsAlways sides_word
 flush_sides = word_of_few sides_word (sides.R ∷ sides.W ∷ sides.RW ∷ []) found where
-  found : (s : Sides) → IsTold sides_word (sides.R ∷ sides.W ∷ sides.RW ∷ []) s
+  found : (s : Sides) → IsFound sides_word (sides.R ∷ sides.W ∷ sides.RW ∷ []) s
   found sides.R = search rules
   found s = search rules
 

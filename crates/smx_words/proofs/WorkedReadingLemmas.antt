@@ -112,9 +112,9 @@ no_large_dup (c, fits, e) =
 -- ---- lines of a call
 
 -- words with the line of a call are the words of that call
-told_call : (ws : List (List ℕ)) (c : ℕ × Command) → AreWords ws → FitsCall c → line_of ws ≡ line_of (call_words c)
+call_in : (ws : List (List ℕ)) (c : ℕ × Command) → AreWords ws → FitsCall c → line_of ws ≡ line_of (call_words c)
     → ws ≡ call_words c
-told_call ws c are fits e = same_words ws (call_words c) are.0 (call_spelled c fits).0 e
+call_in ws c are fits e = same_words ws (call_words c) are.0 (call_spelled c fits).0 e
 
 -- `63 dup 0` is the line of a call of version 1
 pub dup_call : IsCallLine V1 (codes "63 dup 0")
@@ -135,7 +135,7 @@ hangup_is c v = absurd (cc v)
 pub no_early_hangup : IsCallLine V1 (codes "0 hangup ip 0") → ⊥
 no_early_hangup (c, fits, e) =
     let ws : List (List ℕ) = codes "hangup" ∷ codes "ip" ∷ codes "0" ∷ [] in
-    let same = told_call (codes "0" ∷ ws) c (search (rules, arith)) fits.0 e in
+    let same = call_in (codes "0" ∷ ws) c (search (rules, arith)) fits.0 e in
     let hangup : is_hangup c.1 ≡ true =
     hangup_is c.1 (verb_is c.1 verb.Hangup (codes "ip" ∷ codes "0" ∷ []) (cc same)) in
     absurd (cc (sym hangup ∙ fits.1))
@@ -143,7 +143,7 @@ no_early_hangup (c, fits, e) =
 -- `64 dup 0`, whose process is over the limit, is not the line of a call
 pub no_call_of_64 : IsCallLine V2 (codes "64 dup 0") → ⊥
 no_call_of_64 (c, fits, e) =
-    let same = told_call (codes "64" ∷ codes "dup" ∷ codes "0" ∷ []) c (search (rules, arith)) fits.0 e in
+    let same = call_in (codes "64" ∷ codes "dup" ∷ codes "0" ∷ []) c (search (rules, arith)) fits.0 e in
     let process : codes "64" ≡ decimal c.0 = cc same in
     let is : 64 ≡ c.0 = worth (codes "64") c.0 (omega (arith, fits.0.0)) process in
     omega (arith, is, fits.0.0)
@@ -156,7 +156,7 @@ no_number c e = cc e
 -- `dup 0`, which has no process, is not the line of a call
 pub no_call_without_process : IsCallLine V2 (codes "dup 0") → ⊥
 no_call_without_process (c, fits, e) =
-    let same = told_call (codes "dup" ∷ codes "0" ∷ []) c (search (rules, arith)) fits.0 e in
+    let same = call_in (codes "dup" ∷ codes "0" ∷ []) c (search (rules, arith)) fits.0 e in
     no_number c.1 (cc same)
 
 -- no `dup` has four words
@@ -169,6 +169,6 @@ long_dup c v e = absurd (cc v)
 pub no_call_with_reply : IsCallLine V2 (codes "0 dup 0 = done") → ⊥
 no_call_with_reply (c, fits, e) =
     let ws : List (List ℕ) = codes "0" ∷ codes "=" ∷ codes "done" ∷ [] in
-    let same = told_call (codes "0" ∷ codes "dup" ∷ ws) c (search (rules, arith)) fits.0 e in
+    let same = call_in (codes "0" ∷ codes "dup" ∷ ws) c (search (rules, arith)) fits.0 e in
     let words : codes "dup" ∷ ws ≡ command_words c.1 = cc same in
     long_dup c.1 (verb_is c.1 verb.Dup ws words) words

@@ -93,8 +93,7 @@ FitsReply (reply.Id id) = FitsNumber id
 FitsReply (reply.Took serial) = FitsNumber serial
 FitsReply (reply.Got serial addr bytes) = FitsNumber serial × FitsNumber addr × FitsBytes bytes
 FitsReply (reply.Done dropped) = AllByRecursion FitsNumber dropped
-FitsReply reply.Eof = Unit {0}
-FitsReply (reply.Fault f) = Unit {0}
+FitsReply other = Unit {0}
 
 -- this version can express the value: only version 2 can express hangups
 abbrev pub CanTell : Version → Bool → Type 0

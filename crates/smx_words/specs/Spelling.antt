@@ -118,9 +118,9 @@ reply_words (reply.Done dropped) = codes "done" ∷ map decimal dropped
 reply_words reply.Eof = codes "eof" ∷ []
 reply_words (reply.Fault f) = fault_words f
 
--- the call, an equals sign, and the reply
+-- the process, its command, an equals sign, and the reply
 abbrev pub entry_words : Entry → List (List ℕ)
-entry_words e = call_words (e.process, e.command) ++ codes "=" ∷ reply_words e.reply
+entry_words e = decimal e.process ∷ (command_words e.command ++ codes "=" ∷ reply_words e.reply)
 
 -- the line of an entry, with its line feed
 abbrev pub entry_line : Entry → List ℕ

@@ -31,11 +31,11 @@ pub fn each_line_has_a_reading()
     ensures process { (line : List ℕ) → (o : Option ℕ) × IsReadAs FitsNumber process_words line o }
     ensures command { (line : List ℕ) → (o : Option Command) × IsReadAs FitsCommand command_words line o }
     ensures entry { (line : List ℕ) → (o : Option Entry) × IsReadAs FitsEntry entry_words line o }
-    ensures told_command { (v : Version) (line : List ℕ) → (o : Option Command)
+    ensures command_in { (v : Version) (line : List ℕ) → (o : Option Command)
         × IsReadAs (FitsCommandIn v) command_words line o }
-    ensures told_entry { (v : Version) (line : List ℕ) → (o : Option Entry)
+    ensures entry_in { (v : Version) (line : List ℕ) → (o : Option Entry)
         × IsReadAs (FitsEntryIn v) entry_words line o }
-    ensures told_call { (v : Version) (line : List ℕ) → (o : Option (ℕ × Command))
+    ensures call_in { (v : Version) (line : List ℕ) → (o : Option (ℕ × Command))
         × IsReadAs (FitsCallIn v) call_words line o }
     ensures next { (line : List ℕ) → (o : Option (ℕ × ℕ)) × IsReadAs FitsNext next_words line o }
     ensures descriptor { (line : List ℕ) → (o : Option DescriptorLine)

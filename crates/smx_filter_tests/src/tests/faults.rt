@@ -75,7 +75,7 @@ fn each_fault_has_its_words_and_its_status(rt: HostRuntime) {
 }
 
 #[test]
-fn memory_was_wanting_for_a_line(rt: HostRuntime) {
+fn memory_ran_out_at_a_line(rt: HostRuntime) {
     let explanation = FaultExplanation {
         kind: TextKind::Programs,
         text: b"programs 1\nprocess 0\nclone ip\nend\n",

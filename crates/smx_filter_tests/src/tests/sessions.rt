@@ -38,7 +38,7 @@ fn shows(rt: &(impl AllocGlobal + Abort), session: &Session) {
 
 #[test]
 fn lines_are_answered_and_the_configuration_is_shown(rt: HostRuntime) {
-    let mut session = Session::new(rt.alloc(), TABLE).expect(&rt, "the drivers can be had");
+    let mut session = Session::new(rt.alloc(), TABLE).expect(&rt, "the drivers are valid");
     opens(&rt, &session);
     for (line, entry) in &ANSWERED {
         answers(&rt, &mut session, *line, *entry);

@@ -159,7 +159,7 @@ const FOUR: &[u8] =
     b"programs 1\ndriver ip mux 4 8 3 16\ndriver eth leaf 2 8 3 16\nprocess 0\nclone ip\nexit\nprocess 1\nclone ip\nexit\nprocess 2\nclone ip\nexit\nprocess 3\nclone ip\nexit\nend\n";
 
 // Checks that a run of them by this number of workers reports eight commands to its gate, and writes a legal transcript.
-fn is_told_of_eight<R: AllocGlobal + Abort + Threads + Wait + Sync>(
+fn reports_all_eight<R: AllocGlobal + Abort + Threads + Wait + Sync>(
     rt: &R,
     workers: usize,
     fronts: bool,
@@ -199,7 +199,7 @@ fn four_short_programs_are_inside_at_once(rt: HostRuntime) {
 fn workers_tell_the_gate_of_each_command(rt: HostRuntime) {
     for workers in [1, 2, 3, 64] {
         for fronts in [false, true] {
-            is_told_of_eight(&rt, workers, fronts);
+            reports_all_eight(&rt, workers, fronts);
         }
     }
 }

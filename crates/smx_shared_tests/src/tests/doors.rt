@@ -3,7 +3,7 @@
 ghost use Rattle.std.specs.Prelude.{◌≡◌, [], All};
 
 use super::gates::Log;
-use super::gates::Told::{After, Before};
+use super::gates::Reported::{After, Before};
 use super::made::{clone_of, ip, numbered};
 use smx_run::{SeatedProgram, run_assigned};
 use smx_shared::{ApplyFault, Door, Front, System};

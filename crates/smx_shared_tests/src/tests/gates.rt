@@ -24,18 +24,18 @@ pub fn is_reached(count: &AtomicU64, wanted: u64) -> bool {
 
 /// A report to a gate about a process and the number of its command.
 #[derive(Clone, Copy, PartialEq, Eq)]
-pub enum Told {
+pub enum Reported {
     /// The command is performed next.
     Before(u32, usize),
     /// The command was performed, or refused.
     After(u32, usize),
 }
 
-impl Told {
+impl Reported {
     /// Returns the process that it is about.
     pub fn process(&self) -> u32 {
         match self {
-            Told::Before(process, _) | Told::After(process, _) => *process,
+            Reported::Before(process, _) | Reported::After(process, _) => *process,
         }
     }
 }
@@ -57,13 +57,13 @@ impl Line {
         }
     }
 
-    fn told(&self) -> Told {
+    fn reported(&self) -> Reported {
         let process = self.process.load(Ordering::SeqCst);
         let number = self.number.load(Ordering::SeqCst);
         if self.performed.load(Ordering::SeqCst) {
-            Told::After(process, number)
+            Reported::After(process, number)
         } else {
-            Told::Before(process, number)
+            Reported::Before(process, number)
         }
     }
 }
@@ -153,13 +153,13 @@ impl Log {
     }
 
     /// Returns whether this one of `workers` workers reported exactly this, in this order.
-    pub fn is_told(&self, worker: u32, workers: u32, wanted: &[Told]) -> bool
+    pub fn has_reports(&self, worker: u32, workers: u32, wanted: &[Reported]) -> bool
         requires { 1 ≤ workers }
     {
         let mut wanted = wanted.iter();
         for line in self.lines.iter().take(self.count.load(Ordering::SeqCst)) {
-            let told = line.told();
-            if told.process() % workers == worker && wanted.next() != Some(&told) {
+            let reported = line.reported();
+            if reported.process() % workers == worker && wanted.next() != Some(&reported) {
                 return false;
             }
         }
@@ -167,8 +167,8 @@ impl Log {
     }
 
     /// Returns whether exactly this was reported, in this order.
-    pub fn has(&self, wanted: &[Told]) -> bool {
-        self.is_told(0, 1, wanted)
+    pub fn has(&self, wanted: &[Reported]) -> bool {
+        self.has_reports(0, 1, wanted)
     }
 
     // Writes the next line.

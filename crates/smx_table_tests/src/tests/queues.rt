@@ -23,7 +23,7 @@ enum Act {
     Has(usize, usize, bool, &'static [u32]),
 }
 
-fn is_wanting(rt: &(impl Abort + Print)) {
+fn is_out_of_memory(rt: &(impl Abort + Print)) {
     assert!(rt; println!(rt; "a call wanted memory").is_ok());
 }
 
@@ -38,7 +38,7 @@ pub fn adds(
     assert!(rt; low < high && high <= 4096);
     let mut added = queues.add_place(high, low).ok();
     if added.is_none() {
-        is_wanting(rt);
+        is_out_of_memory(rt);
         added = queues.add_place(high, low).ok();
     }
     assert!(rt; added == Some(number));
@@ -48,7 +48,7 @@ fn reserves(rt: &(impl Abort + Print), queues: &mut Queues) {
     if queues.reserve_one().is_ok() {
         return;
     }
-    is_wanting(rt);
+    is_out_of_memory(rt);
     assert!(rt; queues.reserve_one().is_ok());
 }
 
@@ -116,7 +116,7 @@ fn listed(rt: &(impl Abort + Print), queues: &Queues, p: usize) -> Vec<u32> {
     if let Ok(made) = queues.serials(p) {
         return made;
     }
-    is_wanting(rt);
+    is_out_of_memory(rt);
     queues.serials(p).expect(rt, "memory")
 }
 
@@ -145,7 +145,7 @@ fn copied(rt: &(impl AllocGlobal + Abort + Print), queues: &Queues) -> Queues {
     if let Ok(made) = queues.copy(rt.alloc()) {
         return made;
     }
-    is_wanting(rt);
+    is_out_of_memory(rt);
     queues.copy(rt.alloc()).expect(rt, "memory")
 }
 

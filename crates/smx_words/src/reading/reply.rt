@@ -27,14 +27,14 @@ pub fn reply_of(alloc: Global, version: Version, line: &[u8]) -> Result<Option<R
     match first_reply_verb(line) {
         Some((verb, rest)) => reply_after(alloc, verb, rest),
         None => match lone_reply(alloc, line) {
-            Some(reply) => Ok(told(version, reply)),
+            Some(reply) => Ok(reply_in(version, reply)),
             None => Ok(None),
         },
     }
 }
 
 // Returns the reply, if this version can express it.
-fn told(version: Version, reply: Reply) -> Option<Reply>
+fn reply_in(version: Version, reply: Reply) -> Option<Reply>
     ensures { MatchOption result (CanTell version (tells_of_hangup reply) → ⊥)
         (λ r. (r ≡ reply) × CanTell version (tells_of_hangup reply)) }
 {

@@ -1,6 +1,6 @@
 use Rattle.std.proofs.Common.{◌∙◌, ap, sym, arith}
 use Rattle.smx_model.specs.RunMarks.{next_of}
-use Rattle.smx_config.proofs.NextMoveLemmas.{told_none, unmarked}
+use Rattle.smx_config.proofs.NextMoveLemmas.{none_if_not_some, unmarked}
 use Rattle.smx_config.proofs.PlaceNumberLemmas.{place_of_number}
 use Rattle.smx_config.proofs.settling.clear_if_empty.Goals as goal
 
@@ -11,5 +11,5 @@ returns-then-not-has_messages_at c =
     let there = place_of_number drivers c.args.n c.requires.number in
     unmarked drivers now c.args.n there.0 c.args.marks.now c.clear.new.self c.requires.marks there.1
     (ap (next_of drivers now there.0)
-    (sym (told_none _ (sym c.if-not-has_messages_at.true ∙ c.has_messages_at.ensures there.0 there.1))))
+    (sym (none_if_not_some _ (sym c.if-not-has_messages_at.true ∙ c.has_messages_at.ensures there.0 there.1))))
     c.clear.ensures.gone c.clear.ensures.count

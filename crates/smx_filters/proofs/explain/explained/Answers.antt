@@ -13,7 +13,7 @@ returns-in_err-verdict c =
 pub returns-in_err-output : goal.returns-in_err-output
 returns-in_err-output c =
     not_explained _ c.in_ok-transcript.transcript c.in_ok-transcript.ensures (Refused NoMemory) _
-    c.from_residual-in_err-output.ensures.1 (NoMemory, refl, c.in_ok-verdict.ensures.judged.can_be_had)
+    c.from_residual-in_err-output.ensures.1 (NoMemory, refl, c.in_ok-verdict.ensures.judged.valid_drivers)
 
 pub returns : goal.returns
 returns c = (

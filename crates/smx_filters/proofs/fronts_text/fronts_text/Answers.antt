@@ -1,6 +1,6 @@
 use Rattle.std.proofs.Common.{rules, ◌≡◌, length, take, arith}
+use Rattle.std.specs.Prelude.{codes}
 use Rattle.std.proofs.lemmas.List.{take_more, length-take-le}
-use Rattle.smx_filters.specs.FrontsText.{fronts_header}
 use Rattle.smx_filters.proofs.FrontsTextLemmas.{line_behind}
 use Rattle.smx_filters.proofs.fronts_text.fronts_text.Goals as goal
 
@@ -13,6 +13,6 @@ loop-front-preserved c =
     (arith, before.process, c.loop-front-test.true, length-take-le i fronts (omega (arith, c.loop-front-test.true))) in
     record {
       process = search rules;
-      text = line_behind fronts_header _ _ c.loop-front.process _ _ _ before.text c.in_ok-add_front.ensures number
-          (take_more fronts i _ c.loop-front-test.true);
+      text = line_behind (codes "fronts 1\n") _ _ c.loop-front.process _ _ _ before.text
+          c.in_ok-add_front.ensures number (take_more fronts i _ c.loop-front-test.true);
     }

@@ -14,5 +14,5 @@ returns-in_err-text c =
     c.from_residual-in_err-text.ensures.1 c.in_err-text.ensures.refused
 
 pub returns : goal.returns
-returns c = gives c.replays_can_be_told.ensures _ _ c.as_slice.ensures.value c.in_ok-transcript.transcript
+returns c = gives c.replays_can_be_expressed.ensures _ _ c.as_slice.ensures.value c.in_ok-transcript.transcript
     c.in_ok-transcript.ensures c.in_ok-text.text c.in_ok-text.ensures.written

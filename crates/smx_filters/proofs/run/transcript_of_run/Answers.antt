@@ -3,7 +3,7 @@ use Rattle.smx_types.specs.declared.command.Entry.{Entry}
 use Rattle.smx_model.specs.Histories.{after}
 use Rattle.smx_model.specs.Views.{view}
 use Rattle.smx_text.specs.GrowingTranscripts.{AreEntryLines}
-use Rattle.smx_filters.proofs.ToldLemmas.{transcript_written}
+use Rattle.smx_filters.proofs.InVersionLemmas.{transcript_written}
 use Rattle.smx_filters.proofs.run.transcript_of_run.Goals as goal
 
 pub returns-clause-written : goal.returns-clause-written

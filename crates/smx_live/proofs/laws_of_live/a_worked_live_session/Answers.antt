@@ -31,8 +31,8 @@ returns-clause-not_full c = worked.not_full
 pub returns-clause-not_performed : goal.returns-clause-not_performed
 returns-clause-not_performed c = worked.not_performed
 
-pub returns-clause-full_is_told : goal.returns-clause-full_is_told
-returns-clause-full_is_told c = worked.full_is_told
+pub returns-clause-full_is_reported : goal.returns-clause-full_is_reported
+returns-clause-full_is_reported c = worked.full_is_reported
 
 pub returns-clause-no_memory_for_no_command : goal.returns-clause-no_memory_for_no_command
 returns-clause-no_memory_for_no_command c = worked.no_memory_for_no_command

@@ -3,4 +3,4 @@ use Rattle.smx_live.proofs.laws_of_live.live_sessions_are_legal_transcripts.Goal
 
 pub returns : goal.returns
 returns c = λ read ended output o. is_legal c.one_entry_more.ensures.legal
-    c.without_a_hangup_none_is_told.ensures.replies c.without_a_hangup_none_is_told.ensures.streams o
+    c.without_a_hangup_none_is_reported.ensures.replies c.without_a_hangup_none_is_reported.ensures.streams o

@@ -7,8 +7,8 @@ returns-clause-full c = line.full
 pub returns-clause-not_yet_full : goal.returns-clause-not_yet_full
 returns-clause-not_yet_full c = line.not_yet_full
 
-pub returns-clause-full_is_told : goal.returns-clause-full_is_told
-returns-clause-full_is_told c = line.full_is_told
+pub returns-clause-full_is_reported : goal.returns-clause-full_is_reported
+returns-clause-full_is_reported c = line.full_is_reported
 
 pub returns-clause-shown_when_full : goal.returns-clause-shown_when_full
 returns-clause-shown_when_full c = line.shown_when_full

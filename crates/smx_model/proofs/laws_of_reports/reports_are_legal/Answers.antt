@@ -2,7 +2,7 @@ use Rattle.smx_model.proofs.ReportLemmas.{report_of}
 use Rattle.smx_model.proofs.laws_of_reports.reports_are_legal.Goals as goal
 
 pub returns-clause-drivers : goal.returns-clause-drivers
-returns-clause-drivers c programs r h = (h.drivers, h.can_be_had)
+returns-clause-drivers c programs r h = (h.drivers, h.valid_drivers)
 
 pub returns-clause-legal : goal.returns-clause-legal
 returns-clause-legal c programs r h = h.legal

@@ -4,8 +4,8 @@ use Rattle.smx_place.proofs.laws_of_places.worked_places.Goals as goal
 pub returns-clause-empty : goal.returns-clause-empty
 returns-clause-empty c = worked.empty
 
-pub returns-clause-word_wanting : goal.returns-clause-word_wanting
-returns-clause-word_wanting c = worked.word_wanting
+pub returns-clause-missing_word : goal.returns-clause-missing_word
+returns-clause-missing_word c = worked.missing_word
 
 pub returns-clause-word_too_many : goal.returns-clause-word_too_many
 returns-clause-word_too_many c = worked.word_too_many

@@ -1,7 +1,7 @@
 use Rattle.std.proofs.Common.{rules, ◌≡◌, refl, sym, subst}
 use Rattle.smx_model.specs.DriverList.{IsDriverList}
 use Rattle.smx_model.specs.Histories.{HoldsPrograms}
-use Rattle.smx_run.specs.Reports.{told_by}
+use Rattle.smx_run.specs.Reports.{transcript_in}
 use Rattle.smx_run.proofs.ProgramOrderLemmas.{holds, report_of}
 use Rattle.smx_run.proofs.StopLemmas.{sound_at_first}
 use Rattle.smx_run.proofs.run.run_system.Goals as goal
@@ -10,15 +10,15 @@ pub returns-then-workers-lt2-clause-report : goal.returns-then-workers-lt2-claus
 returns-then-workers-lt2-clause-report g c =
     let s = c.run_alone.new.system in
     let drivers : s.drivers ≡ c.args.programs.drivers = search rules in
-    report_of c.args.programs s (told_by c.args.programs.version s) c.in_ok-fronts.ensures.sound refl refl refl drivers
-    (subst (HoldsPrograms s.history) c.into_parts-drivers.ensures.programs (holds _ _ c.in_ok-fronts.ensures.calls))
+    report_of c.args.programs s (transcript_in c.args.programs.version s) c.in_ok-fronts.ensures.sound refl refl refl
+    drivers (subst (HoldsPrograms s.history) c.into_parts-drivers.ensures.programs (holds _ _ c.in_ok-fronts.ensures.calls))
 
 pub returns-clause-report : goal.returns-clause-report
 returns-clause-report g c =
     let s = c.in_ok-run_together.field-0.0 in
     let run = c.in_ok-run_together.ensures in
     let drivers : s.drivers ≡ c.args.programs.drivers = search rules in
-    report_of c.args.programs s (told_by c.args.programs.version s) run.sound refl refl refl drivers
+    report_of c.args.programs s (transcript_in c.args.programs.version s) run.sound refl refl refl drivers
     (subst (HoldsPrograms s.history) c.into_parts-drivers.ensures.programs run.holds)
 
 pub run_alone-requires-clause-sound : goal.run_alone-requires-clause-sound

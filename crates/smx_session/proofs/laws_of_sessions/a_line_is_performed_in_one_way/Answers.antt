@@ -8,4 +8,4 @@ pub returns-clause-not_both : goal.returns-clause-not_both
 returns-clause-not_both c = not_both
 
 pub returns-clause-always : goal.returns-clause-always
-returns-clause-always c = always c.each_line_has_a_reading.ensures.told_call
+returns-clause-always c = always c.each_line_has_a_reading.ensures.call_in

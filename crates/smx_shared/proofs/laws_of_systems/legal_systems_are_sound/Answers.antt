@@ -2,7 +2,7 @@ use Rattle.smx_shared.proofs.laws_of_systems.legal_systems_are_sound.Goals as go
 
 pub returns : goal.returns
 returns c = λ s can limited within legal. record {
-  can_be_had = can;
+  valid_drivers = can;
   within = within;
   limited = limited;
   legal = legal;

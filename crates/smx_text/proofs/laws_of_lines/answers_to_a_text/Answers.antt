@@ -44,7 +44,6 @@ returns-clause-no_memory c = λ longer.
     refused_line V1 (idle_lines 1) dup (codes "dup 0") dup_fits dup_is cause.NoMemory dup_begun
 
 pub returns-clause-not_for_memory : goal.returns-clause-not_for_memory
-returns-clause-not_for_memory c = λ longer (lines, (k, is, last, begun)).
-    let alone = subst (IsBegun grammar) last begun in
+returns-clause-not_for_memory c = λ longer (k, is, alone).
     let same = tells_apart V1 k dup (begun_fits k alone) dup_fits (sym is ∙ dup_is) in
     out_of_place (goes_on grammar [] dup (subst (λ (l : Line). IsBegun grammar (l ∷ [])) same alone))

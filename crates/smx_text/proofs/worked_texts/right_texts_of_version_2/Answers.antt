@@ -7,6 +7,6 @@ pub returns : goal.returns
 returns c = record {
   hangups = record { allowed = search (rules, arith); text = sym is_text_of_hangups };
   shortest = record { allowed = search (rules, arith); text = sym is_raised_text };
-  told_hangups = record { allowed = search (rules, arith); text = sym is_transcript_of_hangups };
+  hangups_spelled = record { allowed = search (rules, arith); text = sym is_transcript_of_hangups };
   shortest_transcript = record { allowed = search (rules, arith); text = sym is_shortest_transcript };
 }

@@ -1,5 +1,5 @@
 use Rattle.smx_text.proofs.WrongTranscriptLemmas.{other_header, version_3, version_2_alone, process_64}
-use Rattle.smx_text.proofs.WrongTranscriptLemmas.{half_a_fault, next_wanting, end_too_early, two_nexts, late_entry}
+use Rattle.smx_text.proofs.WrongTranscriptLemmas.{half_a_fault, missing_next, end_too_early, two_nexts, late_entry}
 use Rattle.smx_text.proofs.WrongTranscriptLemmas.{late_descriptor, late_full_place, no_end}
 use Rattle.smx_text.proofs.worked_texts.wrong_transcripts.Goals as goal
 
@@ -10,7 +10,7 @@ returns c = record {
   version_2_alone = version_2_alone;
   process_64 = process_64;
   half_a_fault = half_a_fault;
-  next_wanting = next_wanting;
+  missing_next = missing_next;
   end_too_early = end_too_early;
   two_nexts = two_nexts;
   late_entry = late_entry;

@@ -1,6 +1,6 @@
 use Rattle.std.proofs.Common.{refl, sym, ◌∙◌, arith}
 use Rattle.smx_words.proofs.EntryLemmas.{call_line, process_of}
-use Rattle.smx_words.proofs.ToldLemmas.{told_call_is}
+use Rattle.smx_words.proofs.InVersionLemmas.{call_in_is}
 use Rattle.smx_words.proofs.reading.call.call_of_line.Goals as goal
 
 pub returns-in_default-clause-reading : goal.returns-in_default-clause-reading
@@ -25,13 +25,13 @@ pub returns-in-Err-clause-wanted : goal.returns-in-Err-clause-wanted
 returns-in-Err-clause-wanted c =
     let some = c.in-Err.ensures.wanted in
     let call =
-    told_call_is c.args.version c.args.line.now c.in-Some.rest.now c.in-Some.number c.in-Some-new.process some.0
+    call_in_is c.args.version c.args.line.now c.in-Some.rest.now c.in-Some.number c.in-Some-new.process some.0
     c.in-Some-new.ensures.value (c.in-Some-new.ensures.valid.0 refl) c.in-Some.ensures.1 some.1 some.2 in
     ((c.in-Some-new.process, some.0), call.0, call.1)
 
 pub returns-in-Ok-Some-clause-reading : goal.returns-in-Ok-Some-clause-reading
 returns-in-Ok-Some-clause-reading c =
     let read = rw c.in-Ok-Some.field-0-is at c.in-Ok-Some.ensures.reading in
-    told_call_is c.args.version c.args.line.now c.in-Some.rest.now c.in-Some.number c.in-Some-new.process
+    call_in_is c.args.version c.args.line.now c.in-Some.rest.now c.in-Some.number c.in-Some-new.process
     c.in-Ok-Some.command c.in-Some-new.ensures.value (c.in-Some-new.ensures.valid.0 refl) c.in-Some.ensures.1 read.0
     read.1

@@ -1,7 +1,7 @@
 use Rattle.std.proofs.Common.{None, refl}
 use Rattle.std.proofs.lemmas.Result.{IfErr-weaker, IfOk-weaker}
 use Rattle.smx_words.proofs.EntryLemmas.{each_side, no_sides}
-use Rattle.smx_words.proofs.ToldLemmas.{call_fits, no_reply, told_entry_is, told_entry_spelled}
+use Rattle.smx_words.proofs.InVersionLemmas.{call_fits, no_reply, entry_in_is, entry_in_spelled}
 use Rattle.smx_words.proofs.reading.entry.entry_of.Goals as goal
 
 pub returns-in_default-clause-reading : goal.returns-in_default-clause-reading
@@ -11,7 +11,7 @@ pub returns-in-Ok-Some-reply_of-clause-reading : goal.returns-in-Ok-Some-reply_o
 returns-in-Ok-Some-reply_of-clause-reading c =
     let asked = rw c.in-Ok-Some.field-0-is at c.in-Ok-Some.ensures.reading in
     let answered = rw c.in-Ok-Some-reply_of.field-0-is at c.in-Ok-Some-reply_of.ensures.reading in
-    told_entry_is c.args.version c.args.line.now c.in-Some.call.now c.in-Some.reply.now _ c.in-Some.ensures.1 asked
+    entry_in_is c.args.version c.args.line.now c.in-Some.call.now c.in-Some.reply.now _ c.in-Some.ensures.1 asked
     answered
 
 pub returns-in-Ok-None-reply_of-clause-reading : goal.returns-in-Ok-None-reply_of-clause-reading
@@ -23,7 +23,7 @@ returns-in-Ok-None-reply_of-clause-reading c =
 pub returns-in-Err-reply_of-clause-wanted : goal.returns-in-Err-reply_of-clause-wanted
 returns-in-Err-reply_of-clause-wanted c =
     let asked = rw c.in-Ok-Some.field-0-is at c.in-Ok-Some.ensures.reading in
-    told_entry_spelled c.args.version c.args.line.now c.in-Some.call.now c.in-Some.reply.now c.in-Some.ensures.1
+    entry_in_spelled c.args.version c.args.line.now c.in-Some.call.now c.in-Some.reply.now c.in-Some.ensures.1
     (_, asked.0, asked.1) c.in-Err-reply_of.ensures.wanted
 
 pub returns-in-Ok-None-clause-reading : goal.returns-in-Ok-None-clause-reading
@@ -43,5 +43,5 @@ returns-in-Err-clause-reading c =
 pub returns-in-Err-clause-wanted : goal.returns-in-Err-clause-wanted
 returns-in-Err-clause-wanted c =
     IfErr-weaker c.unless_no_reply.result _ _ (λ e some.
-    told_entry_spelled c.args.version c.args.line.now c.in-Some.call.now c.in-Some.reply.now c.in-Some.ensures.1
+    entry_in_spelled c.args.version c.args.line.now c.in-Some.call.now c.in-Some.reply.now c.in-Some.ensures.1
     c.in-Err.ensures.wanted some) c.unless_no_reply.ensures.wanted

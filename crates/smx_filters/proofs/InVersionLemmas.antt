@@ -16,7 +16,7 @@ use Rattle.smx_model.specs.Histories.{after, call_of}
 use Rattle.smx_model.specs.Views.{view}
 use Rattle.smx_shared.specs.Recorded.{Recorded}
 use Rattle.smx_run.specs.ProgramOrder.{calls_from}
-use Rattle.smx_run.specs.Reports.{told_by}
+use Rattle.smx_run.specs.Reports.{transcript_in}
 use Rattle.smx_text.specs.GrowingTranscripts.{transcript_with, AreEntryLines}
 use Rattle.smx_filters.specs.RunText.{IsWrittenFor}
 use Rattle.smx_text.specs.TranscriptText.{IsAllowed, IsSpellable, SpellsTranscript, transcript_text}
@@ -40,9 +40,9 @@ pub told : (p : ProgramLists) (r : Transcript) → AreWithinLimits p → IsRepor
 told p r within report same is = report_is_quiet p r report (within.version (sym same ∙ is))
 
 -- the transcript of such a report is within the limits of its version
-pub can_be_told : (p : ProgramLists) (r : Transcript) → AreWithinLimits p → IsReportOf p r
+pub can_be_expressed : (p : ProgramLists) (r : Transcript) → AreWithinLimits p → IsReportOf p r
     → r.version ≡ p.version → length r.entries ≤ MAX_COMMANDS → IsSpellable r → IsAllowed r.version r
-can_be_told p r within report same few spellable =
+can_be_expressed p r within report same few spellable =
     spellable_allowed r.version r refl
     (few_drivers r.version r.drivers
     (subst (λ (ds : List DriverSpec). length ds ≤ MAX_DRIVERS) (sym report.drivers) within.drivers)
@@ -54,14 +54,14 @@ pub spelled : (p : ProgramLists) (r : Transcript) → AreWithinLimits p → IsRe
     → bytes ≡ transcript_text r
     → SpellsTranscript bytes r
 spelled p r within report same few spellable bytes is = record {
-  allowed = can_be_told p r within report same few spellable;
+  allowed = can_be_expressed p r within report same few spellable;
   text = is;
 }
 
 -- the transcript of a run, from the lines of the entries that it made
 pub transcript_written : (workers : ℕ) (p : ProgramLists) (s : Recorded) (version : Version)
     (drivers : List DriverSpec) (shown : ConfigView) (lines output : List ℕ)
-    → AreWithinLimits p → IsReportOf p (told_by p.version s) → length s.history ≤ MAX_COMMANDS
+    → AreWithinLimits p → IsReportOf p (transcript_in p.version s) → length s.history ≤ MAX_COMMANDS
     → version ≡ p.version → drivers ≡ s.drivers → shown ≡ view s.drivers (after s.drivers s.history)
     → AreEntryLines s.history lines
     → ((es : List Entry) → AreEntryLines es lines
@@ -70,7 +70,7 @@ pub transcript_written : (workers : ℕ) (p : ProgramLists) (s : Recorded) (vers
     → (workers ≤ 1 → map call_of s.history ≡ calls_from 0 p.programs)
     → IsWrittenFor false workers p output
 transcript_written workers p s version drivers shown lines output within promised few v d w are text fits in_turn =
-    let report = told_by p.version s in
+    let report = transcript_in p.version s in
     let same : transcript_with version drivers s.history shown ≡ report = rw (v, d, w) refl in
     record {
       report = report;

@@ -3,8 +3,8 @@
 ghost use Rattle.std.specs.Prelude.{◌≤◌, length};
 ghost use Rattle.smx_run.specs.declared.run.TheConstants.{MAX_WORKERS};
 
-use super::gates::Told::{After, Before};
-use super::gates::{Log, Told};
+use super::gates::Reported::{After, Before};
+use super::gates::{Log, Reported};
 use super::runs::report_of;
 use std::mem::forget;
 use std::process::Abort;
@@ -37,7 +37,7 @@ end
 ";
 
 /// The reports that a gate gets of them on one worker.
-pub const IN_TURN: [Told; 26] = [
+pub const IN_TURN: [Reported; 26] = [
     Before(0, 0),
     After(0, 0),
     Before(0, 1),
@@ -68,7 +68,7 @@ pub const IN_TURN: [Told; 26] = [
 
 // The reports of each of three workers: of the first about processes 0 and 3, of the second about 1 and 4, and of the
 // third about 2 and 5.
-const BY_EACH: [&[Told]; 3] = [
+const BY_EACH: [&[Reported]; 3] = [
     &[
         Before(0, 0),
         After(0, 0),
@@ -99,13 +99,13 @@ const BY_EACH: [&[Told]; 3] = [
 ];
 
 // Runs the programs by one worker for each part. Checks that each worker reports its part to a log.
-fn tells<R: AllocGlobal + Abort + Threads + Wait + Sync>(rt: &R, parts: &[&[Told]])
+fn tells<R: AllocGlobal + Abort + Threads + Wait + Sync>(rt: &R, parts: &[&[Reported]])
     requires { (1 ≤ length parts.now) × (length parts.now ≤ MAX_WORKERS) }
 {
     let log = Log::of(rt, 40);
     forget(report_of(rt, SIX, parts.len(), &log));
     for (worker, part) in parts.iter().enumerate() {
-        assert!(rt; log.is_told(worker as u32, parts.len() as u32, part));
+        assert!(rt; log.has_reports(worker as u32, parts.len() as u32, part));
     }
     forget(log);
 }

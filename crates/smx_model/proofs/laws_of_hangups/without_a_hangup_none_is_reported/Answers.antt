@@ -1,5 +1,5 @@
 use Rattle.smx_model.proofs.QuietHistoryLemmas.{quiet_replies, quiet_streams}
-use Rattle.smx_model.proofs.laws_of_hangups.without_a_hangup_none_is_told.Goals as goal
+use Rattle.smx_model.proofs.laws_of_hangups.without_a_hangup_none_is_reported.Goals as goal
 
 pub returns-clause-replies : goal.returns-clause-replies
 returns-clause-replies c = quiet_replies

@@ -1,7 +1,0 @@
-use Rattle.smx_explain.proofs.ExplanationLemmas.{differs_told}
-use Rattle.smx_explain.proofs.laws_of_explanations.a_differing_line_is_told.Goals as goal
-
-pub returns : goal.returns
-returns c = λ t output allowed h.
-    differs_told c.spellings_are_words.ensures.driver c.spellings_are_words.ensures.entry t allowed output h
-    c.histories_are_determined.ensures

@@ -1,7 +1,0 @@
-use Rattle.smx_explain.proofs.ExplanationLemmas.{illegal_told}
-use Rattle.smx_explain.proofs.laws_of_explanations.an_illegal_entry_is_told.Goals as goal
-
-pub returns : goal.returns
-returns c = λ t output allowed h.
-    illegal_told c.spellings_are_words.ensures.driver c.spellings_are_words.ensures.entry t allowed output h
-    c.one_value_each.ensures.entry
