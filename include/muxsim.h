@@ -1,4 +1,5 @@
-/* muxsim as a library for C: a configuration that performs one command after the other, for any number of threads.
+/* muxsim as a library for C: a configuration that performs one command after the other, for any number of threads. The
+ * header is C99, and also compiles as C++. muxsim/stropts.h beside it has the calls of STREAMS over it.
  *
  *     static struct muxsim shared = MUXSIM_CLOSED_SESSION;
  *     struct muxsim_text text = {0};
@@ -9,10 +10,11 @@
  *     } else {
  *         fwrite(text.bytes, 1, text.len, stderr);             // the reason why it is refused
  *     }
- *     free(text.bytes);
+ *     muxsim_text_free(&text);
  *
- * Each call returns a code, and none aborts. Link libmuxsim_c.a, which `rt lib` makes in crates/muxsim_c/out, the kit's
- * c/liblibc_c.a, and POSIX threads; crates/muxsim_c/README.md has the line.
+ * Each call returns a code, and none aborts. Link libmuxsim.a, which ./install installs, and POSIX threads: the words
+ * are those of `pkg-config --cflags --libs --static muxsim`. Without it, link libmuxsim_c.a, which `rt lib` makes in
+ * crates/muxsim_c/out, and the kit's c/liblibc_c.a; crates/muxsim_c/README.md has the line.
  *
  * Threads may share a session: each call uses it only under the session's lock. Sessions are independent of each other.
  * Don't copy or move a session, since its lock can't be copied. `muxsim_init` makes one on the heap, or wherever it is,
@@ -39,10 +41,14 @@
 #ifndef MUXSIM_H
 #define MUXSIM_H
 
+#include <errno.h>
 #include <pthread.h>
 #include <stddef.h>
 #include <stdint.h>
 #include <stdlib.h>
+#include <string.h>
+
+#define MUXSIM_VERSION "0.1.0"
 
 #ifdef __cplusplus
 extern "C" {
@@ -61,6 +67,15 @@ enum {
     MUXSIM_NO_LOCK = 9,   /* the lock can't be made, taken or destroyed */
     MUXSIM_NO_LINE = 10   /* the command was performed, but an allocation for its line failed */
 };
+
+/* Returns what a code means, such as "out of memory". */
+static inline const char *muxsim_strerror(int32_t code) {
+    static const char *const words[] = {
+        "done", "out of memory", "not a programs text", "invalid drivers", "not a process with a command", "no entry",
+        "the buffer is too short", "no session", "there is a session already", "locking failed",
+        "performed, but out of memory for its line"};
+    return code >= 0 && (size_t)code < sizeof words / sizeof *words ? words[code] : "unknown code";
+}
 
 /* The library's own handle: a session, or null. The calls with this handle are proved. They take no lock, so make only
  * one at a time for each session. If the code isn't MUXSIM_DONE, the session is unchanged. */
@@ -111,6 +126,13 @@ struct muxsim_text {
     uint8_t *bytes;
     size_t room, len;
 };
+
+/* Frees the bytes of a text, which is then as one that starts with {0}. */
+static inline void muxsim_text_free(struct muxsim_text *text) {
+    free(text->bytes);
+    text->bytes = NULL;
+    text->room = text->len = 0;
+}
 
 static inline int32_t muxsim_text_grow(struct muxsim_text *text, size_t room) {
     if (room <= text->room) return MUXSIM_DONE;
@@ -227,6 +249,116 @@ static inline int32_t muxsim_close(struct muxsim *shared) {
 static inline int32_t muxsim_destroy(struct muxsim *shared) {
     if (muxsim_close(shared) == MUXSIM_NO_LOCK) return MUXSIM_NO_LOCK;
     return pthread_mutex_destroy(&shared->lock) == 0 ? MUXSIM_DONE : MUXSIM_NO_LOCK;
+}
+
+/* Makes a struct muxsim on the heap: a lock, and no session. Returns null if an allocation fails, or if the lock can't
+ * be made. */
+static inline struct muxsim *muxsim_new(void) {
+    struct muxsim *shared = (struct muxsim *)malloc(sizeof *shared);
+    if (shared != NULL && muxsim_init(shared) == MUXSIM_DONE) return shared;
+    free(shared);
+    return NULL;
+}
+
+/* Ends a struct muxsim that muxsim_new made, as muxsim_destroy does, and frees it. Null is allowed. */
+static inline int32_t muxsim_free(struct muxsim *shared) {
+    int32_t code = shared == NULL ? MUXSIM_DONE : muxsim_destroy(shared);
+    free(shared);
+    return code;
+}
+
+/* The kinds of replies. */
+enum {
+    MUXSIM_FD = 1,     /* a new descriptor: fd and minor */
+    MUXSIM_ID = 2,     /* a new link: id */
+    MUXSIM_TOOK = 3,   /* a message was accepted: serial */
+    MUXSIM_GOT = 4,    /* a message was delivered: serial, address, and `count` bytes */
+    MUXSIM_OK = 5,     /* the command succeeded, and dropped the messages of `count` serials */
+    MUXSIM_EOF = 6,    /* end of file */
+    MUXSIM_REFUSED = 7 /* a refusal: error and cause */
+};
+
+/* A reply to a command. The members that its kind doesn't name are 0. */
+struct muxsim_reply {
+    int32_t kind;
+    int32_t error;       /* such as EINVAL */
+    char cause[12];      /* the second word of the refusal, such as "below", or "" */
+    uint32_t process;    /* the process whose command it was */
+    uint32_t fd, minor, id, serial, address;
+    size_t count;        /* of GOT the number of bytes, of OK that of dropped messages */
+    const uint8_t *rest; /* their words, within the text of the entry */
+};
+
+/* Reads a number, and returns the byte after it and after the space or line feed that follows it. */
+static inline const uint8_t *muxsim_number(const uint8_t *at, const uint8_t *end, uint32_t *number) {
+    *number = 0;
+    while (at < end && *at >= '0' && *at <= '9') *number = *number * 10 + (uint32_t)(*at++ - '0');
+    return at < end ? at + 1 : at;
+}
+
+/* Returns the byte after this word, or null if another word is there. */
+static inline const uint8_t *muxsim_word(const uint8_t *at, const uint8_t *end, const char *word) {
+    size_t len = strlen(word);
+    if ((size_t)(end - at) <= len || memcmp(at, word, len) != 0 || (at[len] != ' ' && at[len] != '\n')) return NULL;
+    return at + len + 1;
+}
+
+/* Reads the reply of an entry: the line that muxsim_perform or muxsim_entry wrote. The code is MUXSIM_LINE if the text
+ * is not an entry. Keep the text unchanged while the two calls below need it. The three are tested, and not proved. */
+static inline int32_t muxsim_read_reply(const struct muxsim_text *text, struct muxsim_reply *reply) {
+    static const struct {
+        const char *word;
+        int32_t error;
+    } errors[] = {{"EBADF", EBADF},   {"EINVAL", EINVAL}, {"EAGAIN", EAGAIN},         {"ENXIO", ENXIO},
+                  {"EMFILE", EMFILE}, {"ERANGE", ERANGE}, {"EADDRINUSE", EADDRINUSE}};
+    const uint8_t *at = text->bytes, *end = at == NULL ? at : at + text->len, *next;
+    memset(reply, 0, sizeof *reply);
+    if (at == NULL) return MUXSIM_LINE;
+    muxsim_number(at, end, &reply->process);
+    while (at < end && *at != '=') at++;
+    at = end - at < 3 ? end : at + 2;
+    if ((next = muxsim_word(at, end, "fd")) != NULL) {
+        reply->kind = MUXSIM_FD;
+        muxsim_number(muxsim_number(next, end, &reply->fd), end, &reply->minor);
+    } else if ((next = muxsim_word(at, end, "id")) != NULL) {
+        reply->kind = MUXSIM_ID;
+        muxsim_number(next, end, &reply->id);
+    } else if ((next = muxsim_word(at, end, "took")) != NULL) {
+        reply->kind = MUXSIM_TOOK;
+        muxsim_number(next, end, &reply->serial);
+    } else if ((next = muxsim_word(at, end, "got")) != NULL) {
+        reply->kind = MUXSIM_GOT;
+        reply->rest = muxsim_number(muxsim_number(next, end, &reply->serial), end, &reply->address);
+        reply->count = (size_t)(end - reply->rest) / 2;
+    } else if ((next = muxsim_word(at, end, "done")) != NULL) {
+        reply->kind = MUXSIM_OK;
+        reply->rest = next;
+        for (; at < end; at++) reply->count += *at == ' ';
+    } else if (muxsim_word(at, end, "eof") != NULL) {
+        reply->kind = MUXSIM_EOF;
+    }
+    for (size_t i = 0; i < sizeof errors / sizeof *errors && reply->kind == 0; i++) {
+        if ((next = muxsim_word(at, end, errors[i].word)) == NULL) continue;
+        reply->kind = MUXSIM_REFUSED;
+        reply->error = errors[i].error;
+        for (size_t j = 0; j + 1 < sizeof reply->cause && next < end && *next != '\n'; j++)
+            reply->cause[j] = (char)*next++;
+    }
+    return reply->kind == 0 ? MUXSIM_LINE : MUXSIM_DONE;
+}
+
+/* Writes the `count` bytes of a message that was delivered. */
+static inline void muxsim_reply_bytes(const struct muxsim_reply *reply, uint8_t *bytes) {
+    for (size_t i = 0; i < 2 * reply->count; i++) {
+        uint8_t digit = reply->rest[i], four = (uint8_t)(digit <= '9' ? digit - '0' : digit - 'a' + 10);
+        bytes[i / 2] = (uint8_t)(i % 2 == 0 ? four << 4 : bytes[i / 2] | four);
+    }
+}
+
+/* Writes the `count` serials of the messages that a command dropped. They rise. */
+static inline void muxsim_reply_dropped(const struct muxsim_reply *reply, uint32_t *serials) {
+    const uint8_t *at = reply->rest;
+    for (size_t i = 0; i < reply->count; i++) at = muxsim_number(at, at + 11, &serials[i]);
 }
 
 #ifdef __cplusplus

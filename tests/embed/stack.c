@@ -199,6 +199,75 @@ static void on_the_heap(void) {
     free(shared);
 }
 
+// Entries as structs, the words for codes, and an opaque session.
+static void replies(void) {
+    static const struct {
+        const char *entry;
+        struct muxsim_reply reply;
+    } entries[] = {
+        {"0 clone ip = fd 15 63\n", {.kind = MUXSIM_FD, .fd = 15, .minor = 63}},
+        {"63 link 0 1 = id 4294967294\n", {.kind = MUXSIM_ID, .process = 63, .id = 4294967294}},
+        {"0 write 0 5 aa = took 7\n", {.kind = MUXSIM_TOOK, .serial = 7}},
+        {"1 read 0 = got 7 4294967295 00ff10\n",
+         {.kind = MUXSIM_GOT, .process = 1, .serial = 7, .address = 4294967295, .count = 3}},
+        {"0 exit = done\n", {.kind = MUXSIM_OK}},
+        {"0 exit = done 1 4294967294\n", {.kind = MUXSIM_OK, .count = 2}},
+        {"0 read 0 = eof\n", {.kind = MUXSIM_EOF}},
+        {"0 close 0 = EBADF fd\n", {.kind = MUXSIM_REFUSED, .error = EBADF, .cause = "fd"}},
+        {"0 unroute 0 5 = EINVAL unrouted\n", {.kind = MUXSIM_REFUSED, .error = EINVAL, .cause = "unrouted"}},
+        {"0 read 0 = EAGAIN empty\n", {.kind = MUXSIM_REFUSED, .error = EAGAIN, .cause = "empty"}},
+        {"0 clone x = ENXIO driver\n", {.kind = MUXSIM_REFUSED, .error = ENXIO, .cause = "driver"}},
+        {"0 dup 0 = EMFILE\n", {.kind = MUXSIM_REFUSED, .error = EMFILE}},
+        {"0 bind 0 9 = EADDRINUSE\n", {.kind = MUXSIM_REFUSED, .error = EADDRINUSE}},
+        {"0 write 0 5 - = ERANGE\n", {.kind = MUXSIM_REFUSED, .error = ERANGE}},
+    };
+    const char *others[] = {"", "0", "0 exit", "0 exit =", "0 exit = ", "0 exit = do", "0 exit = well\n", "=", "= fd"};
+    struct muxsim_text text = {0};
+    struct muxsim_reply reply;
+    wants(muxsim_read_reply(&text, &reply), MUXSIM_LINE, "an empty text");
+    for (size_t i = 0; i < sizeof entries / sizeof *entries; i++) {
+        const struct muxsim_reply *wanted = &entries[i].reply;
+        wants(muxsim_text_grow(&text, 64), MUXSIM_DONE, "grow");
+        text.len = strlen(entries[i].entry);
+        memcpy(text.bytes, entries[i].entry, text.len);
+        wants(muxsim_read_reply(&text, &reply), MUXSIM_DONE, entries[i].entry);
+        wants(reply.kind == wanted->kind && reply.error == wanted->error && strcmp(reply.cause, wanted->cause) == 0 &&
+                  reply.process == wanted->process && reply.fd == wanted->fd && reply.minor == wanted->minor &&
+                  reply.id == wanted->id && reply.serial == wanted->serial && reply.address == wanted->address &&
+                  reply.count == wanted->count,
+              1, entries[i].entry);
+        uint8_t bytes[3] = {0};
+        uint32_t serials[2] = {1, 4294967294};
+        if (reply.kind == MUXSIM_GOT) muxsim_reply_bytes(&reply, bytes);
+        wants(memcmp(bytes, reply.kind == MUXSIM_GOT ? "\0\377\20" : "\0\0\0", 3) == 0, 1, "the bytes of a message");
+        if (reply.kind == MUXSIM_OK) muxsim_reply_dropped(&reply, serials);
+        wants(serials[0] == 1 && serials[1] == 4294967294, 1, "the serials of dropped messages");
+    }
+    for (size_t i = 0; i < sizeof others / sizeof *others; i++) {
+        muxsim_text_free(&text);
+        wants(text.bytes == NULL && text.room == 0 && text.len == 0, 1, "a text that was freed");
+        text.len = text.room = strlen(others[i]);
+        text.bytes = malloc(text.room > 0 ? text.room : 1);
+        if (text.bytes == NULL) exit(2);
+        memcpy(text.bytes, others[i], text.len);
+        wants(muxsim_read_reply(&text, &reply), MUXSIM_LINE, others[i]);
+    }
+    muxsim_text_free(&text);
+    wants(strcmp(muxsim_strerror(MUXSIM_DONE), "done"), 0, "the words of a code");
+    wants(strcmp(muxsim_strerror(MUXSIM_NO_LINE), "performed, but out of memory for its line"), 0, "the last code");
+    wants(strcmp(muxsim_strerror(MUXSIM_NO_LINE + 1), "unknown code"), 0, "above the last code");
+    wants(strcmp(muxsim_strerror(-1), "unknown code"), 0, "below the first code");
+    struct muxsim *shared = muxsim_new();
+    wants(shared != NULL, 1, "new");
+    wants(open_with(shared, "programs 1\nend\n", &text), MUXSIM_DONE, "new: open");
+    wants(muxsim_free(shared), MUXSIM_DONE, "free");
+    wants(muxsim_free(NULL), MUXSIM_DONE, "free nothing");
+    refused = 1, asked = 0;
+    wants(muxsim_new() == NULL, 1, "new without memory");
+    refused = 0;
+    free(text.bytes);
+}
+
 struct work {
     struct muxsim shared;
     bool is_locked;
@@ -390,6 +459,7 @@ int main(int argc, char **argv) {
     buffers();
     reasons();
     on_the_heap();
+    replies();
     if (strcmp(how, "scarce") == 0) {
         reasons_scarce(&work);
         performs_each_scarce(&work, len);
