@@ -1,6 +1,6 @@
-"""Makes the manual page of muxsim, docs/muxsim.1, from docs/MUXSIM.md and from those sections of docs/FORMATS.md and
-docs/COMMANDS.md that its users need beside it. It knows only the Markdown that these pages use: sections, paragraphs,
-lists, tables, definitions, code, bold words and links."""
+"""Makes the manual pages of muxsim: docs/muxsim.1 from docs/MUXSIM.md and from those sections of docs/FORMATS.md and
+docs/COMMANDS.md that its users need beside it, and docs/muxsim.3, on the library for C, from docs/EMBED.md. It knows only
+the Markdown that these pages use: sections, paragraphs, lists, tables, definitions, code, bold words and links."""
 import re
 
 # The sections that come after OPTIONS.
@@ -13,6 +13,27 @@ FIRST = r"""'\" t
 .nh
 .ad l
 """
+
+FIRST_OF_LIBRARY = r"""'\" t
+.\" Made from docs/EMBED.md by tests/documents/run --make.
+.TH MUXSIM 3 "" "muxsim 0.1.0" "Library Functions"
+.\" A terminal has no pages, so that no row of a table is split.
+.if n .pl 9999
+.nh
+.ad l
+.SH NAME
+muxsim \- a STREAMS multiplexer configuration for programs in C
+.SH SYNOPSIS
+.nf
+\fB#include <muxsim.h>\fR
+\fB#include <muxsim/stropts.h>\fR
+
+cc prog.c $(pkg\-config \-\-cflags \-\-libs \-\-static muxsim)
+.fi
+"""
+
+# The sections of docs/EMBED.md that the page of the library has.
+OF_LIBRARY = ["C", "The calls of STREAMS", "Calls and commands", "Refusals and errno"]
 
 BLOCK = r"```\n(?:.*\n)*?```\n|(?:(?:    .*)?\n)*    .*\n|(?:.+\n)+"
 
@@ -110,3 +131,10 @@ def manual_page(muxsim, formats, commands):
         if title == "OPTIONS":
             made += [section(name.upper(), others[name]) for name in TEXTS]
     return "".join(made)
+
+
+def library_page(embed):
+    """Returns the manual page of the library for the text of docs/EMBED.md."""
+    texts = sections(embed)
+    others = ".SH SEE ALSO\nmuxsim(1). The headers describe each call.\n"
+    return FIRST_OF_LIBRARY + "".join(section(name.upper(), texts[name]) for name in OF_LIBRARY) + others
