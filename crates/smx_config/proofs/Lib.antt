@@ -1,4 +1,3 @@
-pub mod LinkLemmas
 pub mod DriverFaultLemmas
 pub mod VerdictLemmas
 pub mod RunMarkLemmas
@@ -9,4 +8,5 @@ pub mod WokenLemmas
 pub mod NextMoveLemmas
 pub mod SettleLemmas
 pub mod MoveLemmas
+pub mod WayLemmas
 pub mod NextPlaceLemmas

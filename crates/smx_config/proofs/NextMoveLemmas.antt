@@ -1,7 +1,7 @@
 -- The least number with a run mark, and what is left of the marks where its place can't be moved from.
 use Rattle.std.proofs.Common.{◌≡◌, ℕ, suc, ◌<◌, Bool, true, false, cond, List, length, set, Option, Some, None}
 use Rattle.std.proofs.Common.{refl, sym, ap, ◌∙◌, subst, inl, inr, arith}
-use Rattle.std.specs.Prelude.{◌≢◌, IfNone, IfSome, IsSome}
+use Rattle.std.specs.Prelude.{◌≢◌, IfNone}
 use Rattle.std.specs.Option.{is_some}
 use Rattle.std.proofs.lemmas.Bool.{and_from, cases_Bool, cases_eq, false≢true, ne_eqb}
 use Rattle.std.proofs.lemmas.List.{get_or-set_other, get_or-set_same, length-set}
@@ -24,7 +24,7 @@ use Rattle.smx_queues.proofs.PlacesOfLemmas.{before_lower, known_number}
 use Rattle.smx_config.specs.declared.marks.Marks.{Marks}
 use Rattle.smx_config.specs.declared.settling.Move.{Move}
 use Rattle.smx_config.specs.Marking.{AreFor, AreMarks, HasNoBit, IsAt, IsNotedFor}
-use Rattle.smx_config.specs.Moves.{IsLeastMove, IsNextOf}
+use Rattle.smx_config.specs.Moves.{IsLeastMove}
 use Rattle.smx_config.specs.Wakes.{everywhere}
 use Rattle.smx_config.proofs.PlaceNumberLemmas.{one_place}
 
@@ -98,12 +98,6 @@ all_wait drivers c p stays = by (next_of_first drivers c p) refl where
     | inl t ↦ and_from _ _ t refl
     | inr f ↦ absurd (false≢true (sym stays ∙ movable_to drivers c p q (moves_to drivers c p q e f)))
   ]
-
--- where a first message goes next has the number that was found for it
-pub goes_to : (drivers : List DriverSpec) (c : Configuration) (p q : Place) (r : Option ℕ)
-    → next_of_first drivers c p ≡ Some q → IsSome r → IfSome r (λ n. IsAt drivers n q) → IsNextOf drivers c p r
-goes_to drivers c p q None next some found = absurd cc
-goes_to drivers c p q (Some n) next some found = record { place = q; there = found; next = next }
 
 -- ---- what the marks say
 

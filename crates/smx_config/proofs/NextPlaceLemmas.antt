@@ -97,12 +97,12 @@ only_if true o x e = e
 only_if false o x e = absurd cc
 
 -- the next place on either side of a stream is one that the drivers have, and is of another driver
-next_by : (drivers : List DriverSpec) (c : Configuration) (stream : StreamId) (s : Side) (addr : ℕ) (q : Place)
+pub next_known : (drivers : List DriverSpec) (c : Configuration) (stream : StreamId) (s : Side) (addr : ℕ) (q : Place)
     → IsSound drivers c → next_place drivers c (record { stream = stream; side = s }) addr ≡ Some q
     → IsNext drivers (record { stream = stream; side = s }) q
-next_by drivers c stream side.Write addr q h e = next_below drivers c (record { stream = stream; side = side.Write })
+next_known drivers c stream side.Write addr q h e = next_below drivers c (record { stream = stream; side = side.Write })
     addr q h (only_if (is_mux drivers stream.driver) (place_below c.links c.routes c.hungs stream.driver addr) q e)
-next_by drivers c stream side.Read addr q h e =
+next_known drivers c stream side.Read addr q h e =
     next_above drivers c (record { stream = stream; side = side.Read }) addr q h e
 
 -- where a message may go on to
@@ -120,7 +120,7 @@ open_next drivers c p q h e =
     (λ m. next_place drivers c p m.addr >>= (λ r. cond (is_full c r) None (Some r))) q e in
     let n = bound (next_place drivers c p m.0.addr) (λ r. cond (is_full c r) None (Some r)) q m.2 in
     let o = open_is (is_full c n.0) n.0 q n.2 in
-    let next = subst (λ (x : Place). IsNext drivers p x) o.1 (next_by drivers c p.stream p.side m.0.addr n.0 h n.1) in
+    let next = subst (λ (x : Place). IsNext drivers p x) o.1 (next_known drivers c p.stream p.side m.0.addr n.0 h n.1) in
     record {
       some = rw m.1 refl;
       known = next.known;

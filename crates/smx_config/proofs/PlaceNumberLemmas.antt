@@ -1,7 +1,7 @@
 -- Places and their numbers.
 use Rattle.std.proofs.Common.{◌≡◌, ℕ, zero, suc, ◌<◌, true, List, [], ◌∷◌, length, Option, None, Some}
 use Rattle.std.proofs.Common.{refl, sym, ap, ◌∙◌, subst, arith}
-use Rattle.std.specs.Prelude.{IfSome, IsSome, slice_get}
+use Rattle.std.specs.Prelude.{IsSome, slice_get}
 use Rattle.std.proofs.lemmas.Option.{same_Some, slice_get_within}
 use Rattle.smx_types.specs.declared.driver.DriverSpec.{DriverSpec}
 use Rattle.smx_types.specs.declared.stream.Place.{Place}
@@ -37,12 +37,6 @@ pub one_number : (drivers : List DriverSpec) (m n : ℕ) (p q : Place) → IsAt 
     → same_place p q ≡ true → m ≡ n
 one_number drivers m n p q at there same =
     same_number drivers m n p at (subst (IsAt drivers n) (sym (place_is p q same)) there)
-
--- a number that was found for a place is one
-pub found_number : (drivers : List DriverSpec) (p : Place) (r : Option ℕ) → IfSome r (λ n. IsAt drivers n p)
-    → IfSome r (IsNumber drivers)
-found_number drivers p None found = tt
-found_number drivers p (Some n) found = at_number drivers n p found
 
 -- a place for which no number was found has none
 pub none_found : (drivers : List DriverSpec) (p : Place) (r : Option ℕ) → r ≡ None

@@ -24,7 +24,7 @@ use Rattle.smx_model.specs.RunMarks.{next_of, next_of_first}
 use Rattle.smx_model.specs.Standing.{is_below}
 use Rattle.smx_model.specs.TurnedPlaces.{of_stream}
 use Rattle.smx_commands.proofs.AcceptedLemmas.{bound, free_says, leaf_says}
-use Rattle.smx_config.proofs.LinkLemmas.{read_links}
+use Rattle.smx_config.proofs.WayLemmas.{read_keeps}
 use Rattle.smx_queues.proofs.PlaceLemmas.{place_is}
 
 -- ---- what an accepted lookup says
@@ -79,7 +79,7 @@ pub read_stays : (drivers : List DriverSpec) (c : Configuration) (process fd : �
     → next_of_first drivers x.0 p ≡ None
 read_stays drivers c process fd x p e t =
     let found = bound (free_stream c process fd) _ x e in
-    let links = read_links drivers c found.0 x found.2 in
+    let links = (read_keeps drivers c found.0 x found.2).links in
     stays_at drivers x.0 (read_side found.0) p (rw found.1 at t)
     (read_side_stays drivers x.0 (read_side found.0) refl
     (subst (λ (ls : List Link). is_below ls found.0 ≡ false) (sym links) (free_says c process fd found.0 found.1).1))

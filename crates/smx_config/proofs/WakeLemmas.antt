@@ -1,6 +1,6 @@
 -- The places that wait for one that is not full any more, and the marks that a change keeps.
-use Rattle.std.proofs.Common.{◌≡◌, ℕ, suc, ◌<◌, Bool, true, false, not, List, length, set, None, Some}
-use Rattle.std.proofs.Common.{refl, sym, ap, ◌∙◌, subst, arith, inl, inr}
+use Rattle.std.proofs.Common.{◌≡◌, ℕ, suc, ◌<◌, Bool, true, false, not, List, length, set, Some}
+use Rattle.std.proofs.Common.{sym, ap, ◌∙◌, subst, arith, inl, inr}
 use Rattle.std.specs.Prelude.{◌≢◌, ◌⊎◌}
 use Rattle.std.proofs.lemmas.Bool.{and_from, cases_Bool, cases_eq, false≢true, ne_eqb}
 use Rattle.std.proofs.lemmas.List.{get_or-set_other, get_or-set_same, length-set}
@@ -10,7 +10,7 @@ use Rattle.smx_types.specs.declared.stream.Place.{Place}
 use Rattle.smx_model.specs.Configuration.{Configuration, same_place}
 use Rattle.smx_model.specs.FreedPlaces.{FreesOnly}
 use Rattle.smx_model.specs.Queues.{is_full}
-use Rattle.smx_model.specs.RunMarks.{TurnsOnly, either, next_of_first, nowhere}
+use Rattle.smx_model.specs.RunMarks.{TurnsOnly, either, next_of_first}
 use Rattle.smx_queues.specs.Bits.{BitTable, has_bit, has_bit_but}
 use Rattle.smx_queues.specs.Rings.{RingTable, at}
 use Rattle.smx_queues.proofs.PlaceLemmas.{place_is}

@@ -2,6 +2,7 @@ pub mod Machine
 pub mod DriverFaults
 pub mod FaultWords
 pub mod Marking
+pub mod Ways
 pub mod Moves
 pub mod Wakes
 pub mod ModelOfConfig

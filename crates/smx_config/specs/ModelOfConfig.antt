@@ -4,6 +4,7 @@ use Rattle.smx_model.specs.FreedPlaces.{HaveFullPlacesMessages}
 use Rattle.smx_model.specs.KeptConfigurations.{IsKept}
 use Rattle.smx_commands.specs.Machine.{Machine}
 use Rattle.smx_config.specs.Marking.{AreMarks, HasNoBit}
+use Rattle.smx_config.specs.Ways.{AreHops}
 
 -- the tables are the value that a contract sees: the marks beside them tell nothing more
 abbrev pub machine_of : Inside → Machine
@@ -17,5 +18,7 @@ pub record ConfigInvariant (c : Inside) : Type 0 where
   pub filled : HaveFullPlacesMessages c.tables.configuration
   -- each place without a run mark whose first message has a next place waits for that, which is full and wanted
   pub marks : AreMarks c.tables.drivers c.tables.configuration c.marks
+  -- the hops of this age lead where messages go next
+  pub hops : AreHops c.tables.drivers c.tables.configuration c.hops
   -- none has a run mark
   pub none : HasNoBit c.marks.run

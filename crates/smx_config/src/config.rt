@@ -14,6 +14,7 @@ ghost use Rattle.smx_commands.specs.Machine.{takes_no_memory};
 
 use crate::config_fault::ConfigFault;
 use crate::driver_list::check_drivers;
+use crate::hops::{Hops, copy_hops, forget_changed, no_hops};
 use crate::marks::{Marks, copy_marks, no_marks};
 use crate::settling::settle;
 use crate::wakes::wakes_of;
@@ -32,6 +33,7 @@ use std::marker::Model;
 pub struct Config {
     tables: Tables,
     marks: Marks,
+    hops: Hops,
 }
 
 impl Drop for Config {
@@ -40,6 +42,7 @@ impl Drop for Config {
         let Config {
             tables: _tables,
             marks: _marks,
+            hops: _hops,
         } = self;
     }
 }
@@ -69,8 +72,14 @@ impl Config {
         full_places_have_messages();
         check_drivers(drivers)?;
         let tables = Tables::new(alloc, drivers)?;
-        let marks = no_marks(alloc, tables.place_count())?;
-        Ok(Config { tables, marks })
+        let count = tables.place_count();
+        let marks = no_marks(alloc, count)?;
+        let hops = no_hops(alloc, count)?;
+        Ok(Config {
+            tables,
+            marks,
+            hops,
+        })
     }
 
     /// Performs a command of a process: its reply and the new configuration are those of the command table. Nothing
@@ -97,8 +106,9 @@ impl Config {
         let wakes = wakes_of(&self.tables, process, command, named);
         let answer = self.tables.perform(process, command, named, &mut reply);
         if answer.is_ok() {
+            forget_changed(&mut self.hops, command);
             wake(&self.tables, &mut self.marks, wakes, &reply);
-            settle(&mut self.tables, &mut self.marks);
+            settle(&mut self.tables, &mut self.marks, &mut self.hops);
         }
         match answer {
             Ok(()) => {
@@ -160,6 +170,7 @@ impl Config {
         let Config {
             tables,
             marks: _marks,
+            hops: _hops,
         } = self;
         tables.into_view()
     }
@@ -194,6 +205,7 @@ impl Config {
         Ok(Config {
             tables: self.tables.copy(alloc)?,
             marks: copy_marks(alloc, &self.marks)?,
+            hops: copy_hops(alloc, &self.hops)?,
         })
     }
 }

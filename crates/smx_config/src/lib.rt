@@ -5,6 +5,7 @@ mod config;
 mod config_fault;
 mod driver_list;
 mod history;
+mod hops;
 pub mod laws_of_drivers;
 pub mod laws_of_verdicts;
 mod marks;

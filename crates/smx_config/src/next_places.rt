@@ -7,7 +7,9 @@ ghost use Rattle.smx_model.specs.Queues.{first_message};
 ghost use Rattle.smx_model.specs.RunMarks.{has_addr};
 ghost use Rattle.smx_config.specs.Marking.{IsAt, IsNumber};
 ghost use Rattle.smx_config.specs.Moves.{IsFullAt, IsNextOf, IsOpenAt};
+ghost use Rattle.smx_config.specs.Ways.{AreHops, IsWay};
 
+use crate::hops::{Hops, known_hop, note_hop};
 use smx_commands::Tables;
 
 // Whether the first message at the place of a number has this address.
@@ -22,18 +24,50 @@ pub fn asks_for(tables: &Tables, n: usize, addr: u32) -> bool
     }
 }
 
-// Returns the number of the place to which the first message at place `n` goes next, if there is one. That place may be
-// full.
-pub fn next_of_first(tables: &Tables, n: usize) -> Option<usize>
+// Looks up the number of the next place of messages with this address, from the place with number `n`.
+#[inline(never)]
+fn look_up(tables: &Tables, n: usize, addr: u32) -> Option<usize>
     requires sound { IsSound tables.now.drivers tables.now.configuration }
     requires number { IsNumber tables.now.drivers n }
+    ensures { (p : PlaceValue) → IsAt tables.now.drivers n p
+        → IsWay tables.now.drivers tables.now.configuration p addr result }
+{
+    let next = tables.next_place(tables.place_at(n), addr)?;
+    tables.number(next)
+}
+
+// Returns the same number, from the hops if it is known there.
+#[inline(always)]
+fn way_from(tables: &Tables, hops: &mut Hops, n: usize, addr: u32) -> Option<usize>
+    requires sound { IsSound tables.now.drivers tables.now.configuration }
+    requires number { IsNumber tables.now.drivers n }
+    requires hops { AreHops tables.now.drivers tables.now.configuration hops.old }
+    ensures value { (p : PlaceValue) → IsAt tables.now.drivers n p
+        → IsWay tables.now.drivers tables.now.configuration p addr result }
+    ensures hops { AreHops tables.now.drivers tables.now.configuration hops.new }
+{
+    if let Some(to) = known_hop(hops, n, addr) {
+        return Some(to);
+    }
+    let to = look_up(tables, n, addr)?;
+    note_hop(hops, n, addr, to);
+    Some(to)
+}
+
+// Returns the number of the place to which the first message at place `n` goes next, if there is one. That place may be
+// full.
+#[inline(always)]
+pub fn next_of_first(tables: &Tables, hops: &mut Hops, n: usize) -> Option<usize>
+    requires sound { IsSound tables.now.drivers tables.now.configuration }
+    requires number { IsNumber tables.now.drivers n }
+    requires hops { AreHops tables.now.drivers tables.now.configuration hops.old }
     ensures value { (p : PlaceValue) → IsAt tables.now.drivers n p
         → IsNextOf tables.now.drivers tables.now.configuration p result }
     ensures number { IfSome result (IsNumber tables.now.drivers) }
+    ensures hops { AreHops tables.now.drivers tables.now.configuration hops.new }
 {
     let message = tables.front_at(n)?;
-    let next = tables.next_place(tables.place_at(n), message.addr)?;
-    tables.number(next)
+    way_from(tables, hops, n, message.addr)
 }
 
 // The number, unless its place is full.

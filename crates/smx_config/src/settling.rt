@@ -7,7 +7,9 @@ ghost use Rattle.smx_model.specs.Settling.{after_move, after_settling};
 ghost use Rattle.smx_queues.specs.Bits.{bit_count, has_bit};
 ghost use Rattle.smx_config.specs.Marking.{AreMarks, HasNoBit, IsAt, IsMarkedUnless, IsNumber};
 ghost use Rattle.smx_config.specs.Moves.{IsFullAt, IsLeastMove, IsNextOf, IsOpenMove};
+ghost use Rattle.smx_config.specs.Ways.{AreHops};
 
+use crate::hops::Hops;
 use crate::marks::Marks;
 use crate::next_places::{if_open, next_of_first};
 use crate::waking::release_if_open;
@@ -43,15 +45,17 @@ fn clear_mark(tables: &Tables, marks: &mut Marks, from: usize, next: Option<usiz
 // Returns the least movable place, and the place to which its first message goes. Looks only at places with a run mark,
 // and clears the marks of those that come before it.
 #[inline(always)]
-fn next_move(tables: &Tables, marks: &mut Marks) -> Option<Move>
+fn next_move(tables: &Tables, marks: &mut Marks, hops: &mut Hops) -> Option<Move>
     requires sound { IsSound tables.now.drivers tables.now.configuration }
     requires marks { AreMarks tables.now.drivers tables.now.configuration marks.old }
+    requires hops { AreHops tables.now.drivers tables.now.configuration hops.old }
     ensures least { IsLeastMove tables.now.drivers tables.now.configuration result }
     ensures marks { AreMarks tables.now.drivers tables.now.configuration marks.new }
+    ensures hops { AreHops tables.now.drivers tables.now.configuration hops.new }
     ensures none { IfNone result (HasNoBit marks.new.run) }
 {
     while let Some(from) = marks.run.first() {
-        let next = next_of_first(tables, from);
+        let next = next_of_first(tables, hops, from);
         if let Some(to) = if_open(tables, next) {
             return Some(Move { from, to });
         }
@@ -99,35 +103,39 @@ fn move_on(tables: &mut Tables, marks: &mut Marks, next: Move)
 
 // Moves messages on until none can, where some place may have a run mark.
 #[inline(never)]
-fn settle_marked(tables: &mut Tables, marks: &mut Marks)
+fn settle_marked(tables: &mut Tables, marks: &mut Marks, hops: &mut Hops)
     requires sound { IsSound tables.old.drivers tables.old.configuration }
     requires marks { AreMarks tables.old.drivers tables.old.configuration marks.old }
+    requires hops { AreHops tables.old.drivers tables.old.configuration hops.old }
     ensures value { tables.new
         ≡ record tables.old { configuration = after_settling tables.old.drivers tables.old.configuration } }
     ensures marks { AreMarks tables.new.drivers tables.new.configuration marks.new }
+    ensures hops { AreHops tables.new.drivers tables.new.configuration hops.new }
     ensures none { HasNoBit marks.new.run }
 {
     let mut left = tables.queues().len() as u128 * tables.drivers().len() as u128;
     while left > 0 {
-        let Some(next) = next_move(tables, marks) else {
+        let Some(next) = next_move(tables, marks, hops) else {
             return;
         };
         move_on(tables, marks, next);
         left -= 1;
     }
-    let _none = next_move(tables, marks);
+    let _none = next_move(tables, marks, hops);
 }
 
 // Moves messages on until none can, and no run mark is left. Nothing moves if there was none.
-pub fn settle(tables: &mut Tables, marks: &mut Marks)
+pub fn settle(tables: &mut Tables, marks: &mut Marks, hops: &mut Hops)
     requires sound { IsSound tables.old.drivers tables.old.configuration }
     requires marks { AreMarks tables.old.drivers tables.old.configuration marks.old }
+    requires hops { AreHops tables.old.drivers tables.old.configuration hops.old }
     ensures value { tables.new
         ≡ record tables.old { configuration = after_settling tables.old.drivers tables.old.configuration } }
     ensures marks { AreMarks tables.new.drivers tables.new.configuration marks.new }
+    ensures hops { AreHops tables.new.drivers tables.new.configuration hops.new }
     ensures none { HasNoBit marks.new.run }
 {
     if marks.run.first().is_some() {
-        settle_marked(tables, marks);
+        settle_marked(tables, marks, hops);
     }
 }

@@ -1,4 +1,4 @@
-use Rattle.std.proofs.Common.{◌≡◌, ◌∙◌, ap, sym, subst, arith, Option, Some, ℕ}
+use Rattle.std.proofs.Common.{subst, Option, ℕ}
 use Rattle.std.specs.Prelude.{IfSome}
 use Rattle.smx_config.specs.Moves.{IsFullAt, IsNextOf}
 use Rattle.smx_config.proofs.NextMoveLemmas.{held_up, unmarked}

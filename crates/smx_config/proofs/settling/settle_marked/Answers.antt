@@ -7,6 +7,7 @@ use Rattle.smx_commands.specs.Machine.{Machine}
 use Rattle.smx_config.specs.Marking.{HasNoBit}
 use Rattle.smx_config.proofs.SettleLemmas.{settled_one, settled_to, within_zero}
 use Rattle.smx_config.proofs.NextMoveLemmas.{none_left}
+use Rattle.smx_config.proofs.WayLemmas.{hops_kept, move_keeps}
 use Rattle.smx_config.proofs.settling.settle_marked.Goals as goal
 
 pub overflow_mul-left : goal.overflow_mul-left
@@ -23,6 +24,8 @@ loop-left-preserved c =
           least.moves.from (omega arith) least.least refl ∙ c.loop-left.invariant.comes_to);
       sound = rw value (moved_sound old.drivers old.configuration least.moves.from c.loop-left.invariant.sound);
       marks = c.move_on.ensures.marks;
+      hops = rw value (hops_kept old.drivers old.configuration _ c.next_move.new.hops
+          (move_keeps old.drivers old.configuration least.moves.from) c.next_move.ensures.hops);
     }
 
 pub returns-clause-value : goal.returns-clause-value

@@ -2,6 +2,7 @@ use Rattle.std.proofs.Common.{◌≡◌}
 use Rattle.smx_model.specs.KeptConfigurations.{IsSound}
 use Rattle.smx_model.specs.Settling.{after_settling, after_settling_within}
 use Rattle.smx_config.specs.Marking.{AreMarks}
+use Rattle.smx_config.specs.Ways.{AreHops}
 use Rattle.smx_config.proofs.settling.settle_marked.Given as goal
 
 abbrev pub decreases-loop-left : goal.decreases-loop-left
@@ -14,4 +15,5 @@ invariant-loop-left l = record {
       ≡ after_settling l.initial.tables.drivers l.initial.tables.configuration;
   sound : IsSound l.tables.drivers l.tables.configuration;
   marks : AreMarks l.tables.drivers l.tables.configuration l.marks;
+  hops : AreHops l.tables.drivers l.tables.configuration l.hops;
 }

@@ -1,5 +1,13 @@
+use Rattle.smx_config.proofs.WayLemmas.{hops_copied}
 use Rattle.smx_config.proofs.config.Config.copy.Goals as goal
 
 pub invariant_of-result : goal.invariant_of-result
-invariant_of-result c =
-    rw (c.in_ok-copy.ensures, c.in_ok-copy_marks.ensures) c.self.invariant
+invariant_of-result c = record {
+  kept = rw c.in_ok-copy.ensures c.self.invariant.kept;
+  filled = rw c.in_ok-copy.ensures c.self.invariant.filled;
+  marks = rw (c.in_ok-copy.ensures, c.in_ok-copy_marks.ensures) c.self.invariant.marks;
+  hops = rw c.in_ok-copy.ensures (hops_copied c.self.inside.tables.drivers c.self.inside.tables.configuration
+      c.self.inside.hops c.in_ok-copy_hops.field-0 c.in_ok-copy_hops.ensures.hops c.in_ok-copy_hops.ensures.age
+      c.self.invariant.hops);
+  none = rw c.in_ok-copy_marks.ensures c.self.invariant.none;
+}

@@ -1,4 +1,5 @@
 use Rattle.std.proofs.Common.{◌≡◌, ℕ, ◌<◌, length, subst, ap, ◌∙◌}
+use Rattle.smx_model.specs.Configuration.{empty}
 use Rattle.smx_queues.specs.PlaceLists.{places_of}
 use Rattle.smx_queues.specs.Rings.{at}
 use Rattle.smx_commands.specs.Machine.{Machine}
@@ -8,8 +9,8 @@ use Rattle.smx_config.proofs.config.Config.new.Goals as goal
 
 pub invariant_of-result : goal.invariant_of-result
 invariant_of-result c =
-    let many : c.place_count.result ≡ length (places_of c.args.drivers.now) =
-    c.place_count.ensures.count ∙ ap (λ (m : Machine). length (places_of m.drivers)) c.in_ok-tables.ensures in
+    let many : c.place_count-count.result ≡ length (places_of c.args.drivers.now) =
+    c.place_count-count.ensures.count ∙ ap (λ (m : Machine). length (places_of m.drivers)) c.in_ok-tables.ensures in
     record {
       kept = rw c.in_ok-tables.ensures (c.empty_is_kept.ensures c.args.drivers.now);
       filled = rw c.in_ok-tables.ensures c.full_places_have_messages.ensures.empty;
@@ -17,5 +18,6 @@ invariant_of-result c =
           (subst (λ (k : ℕ). AreFor k c.in_ok-marks.marks) many c.in_ok-marks.ensures.many)
           (subst (λ (k : ℕ). (n : ℕ) → n < k → at c.in_ok-marks.marks.waits.owners n ≡ 0) many
           c.in_ok-marks.ensures.waits));
+      hops = rw c.in_ok-tables.ensures (c.in_ok-hops.ensures c.args.drivers.now empty many);
       none = c.in_ok-marks.ensures.run;
     }

@@ -3,6 +3,7 @@ use Rattle.smx_types.specs.declared.driver.DriverSpec.{DriverSpec}
 use Rattle.smx_commands.specs.Refinement.{answer_of}
 use Rattle.smx_commands.specs.declared.step_error.StepError.{StepError}
 use Rattle.smx_config.specs.Marking.{AreOver}
+use Rattle.smx_config.proofs.WayLemmas.{performed}
 use Rattle.smx_config.proofs.WokenLemmas.{fault_keeps, is_ok_of, same_drivers, unchanged, woken_if}
 use Rattle.smx_config.proofs.config.Config.step.Goals as goal
 use Rattle.smx_config.proofs.config.Config.step.Goals.{then-is_ok, else-is_ok}
@@ -23,6 +24,14 @@ settle-requires-clause-marks c =
     (sym c.is_ok.ensures.value ∙ c.if-is_ok.true) c.perform-answer.ensures.refines c.wakes_of-wakes.ensures
     c.self.invariant.kept.sound c.self.invariant.filled c.self.invariant.marks c.wake.ensures
 
+pub settle-requires-clause-hops : goal.settle-requires-clause-hops
+settle-requires-clause-hops c =
+    let old = c.self.inside.tables in
+    performed old c.perform-answer.new.self c.args.process c.args.command.now c.perform-answer.result
+    c.perform-answer.new.reply c.forget_changed.new.hops (sym c.is_ok.ensures.value ∙ c.if-is_ok.true)
+    c.perform-answer.ensures.refines (λ d is. c.forget_changed.ensures old.drivers old.configuration d c.args.process
+    c.perform-answer.new.reply c.self.invariant.kept.sound.swept c.self.invariant.hops is)
+
 pub invariant_of-self-else-is_ok : goal.invariant_of-self-else-is_ok
 invariant_of-self-else-is_ok c =
     let there = c.perform-answer.new.reply in
@@ -34,6 +43,7 @@ invariant_of-self-else-is_ok c =
       kept = rw same c.self.invariant.kept;
       filled = rw same c.self.invariant.filled;
       marks = rw same c.self.invariant.marks;
+      hops = rw same c.self.invariant.hops;
       none = c.self.invariant.none;
     }
 

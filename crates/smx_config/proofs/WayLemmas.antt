@@ -1,0 +1,183 @@
+-- Commands and moves that keep where messages go next, and the hops after them.
+use Rattle.std.proofs.Common.{◌≡◌, ℕ, ◌<◌, Bool, true, false, ◌&&◌, ◌||◌, eqb, not, List, length, get_or, Option, None}
+use Rattle.std.proofs.Common.{Some, Result, Ok, Err, refl, sym, ap, ◌∙◌, subst, arith}
+use Rattle.std.specs.Prelude.{IfSome, IsSome, nat_le, nat_lt}
+use Rattle.std.specs.Option.{is_some, ok_or}
+use Rattle.std.specs.Result.{is_ok}
+use Rattle.std.proofs.lemmas.Bool.{false≢true}
+use Rattle.smx_types.specs.declared.command.Command.{Command}
+use Rattle.smx_types.specs.declared.command.Command.TheVariants as command
+use Rattle.smx_types.specs.declared.driver.DriverSpec.{DriverSpec}
+use Rattle.smx_types.specs.declared.limits.TheConstants.{NUMBER_END}
+use Rattle.smx_types.specs.declared.message.Message.{Message}
+use Rattle.smx_types.specs.declared.reply.Fault.TheVariants.{BadSize, Empty, Full}
+use Rattle.smx_types.specs.declared.reply.Reply.{Reply}
+use Rattle.smx_types.specs.declared.stream.Place.{Place}
+use Rattle.smx_types.specs.declared.stream.Side.{Side}
+use Rattle.smx_types.specs.declared.stream.Side.TheVariants as side
+use Rattle.smx_types.specs.declared.stream.StreamId.{StreamId}
+use Rattle.smx_model.specs.Commands.{done_outcome, outcome, read_outcome, receive_outcome, send_outcome}
+use Rattle.smx_model.specs.Configuration.{Configuration, read_side, write_side}
+use Rattle.smx_model.specs.DriverList.{max_of}
+use Rattle.smx_model.specs.Hangups.{is_hung}
+use Rattle.smx_model.specs.Lookups.{free_stream, live_leaf, live_stream}
+use Rattle.smx_model.specs.Outcomes.{Outcome, refuse}
+use Rattle.smx_model.specs.Queues.{first_message, is_full}
+use Rattle.smx_model.specs.Removal.{without_queues_at}
+use Rattle.smx_model.specs.RunMarks.{next_of}
+use Rattle.smx_model.specs.Settling.{after_move, after_move_to, next_open_place, next_place}
+use Rattle.smx_model.specs.Swept.{IsSwept}
+use Rattle.smx_model.proofs.IdleSweepLemmas.{swept_idle}
+use Rattle.smx_model.proofs.WaitingLemmas.{next_by, next_is}
+use Rattle.smx_queues.specs.PlaceLists.{places_of}
+use Rattle.smx_commands.specs.Machine.{Machine}
+use Rattle.smx_commands.specs.Refinement.{Refines, answer_of}
+use Rattle.smx_commands.specs.declared.step_error.StepError.{StepError}
+use Rattle.smx_commands.proofs.AcceptedLemmas.{accepted, bound}
+use Rattle.smx_config.specs.declared.hops.Hop.{Hop}
+use Rattle.smx_config.specs.declared.hops.Hops.{Hops}
+use Rattle.smx_config.specs.Marking.{IsAt}
+use Rattle.smx_config.specs.Moves.{IsNextOf}
+use Rattle.smx_config.specs.Ways.{AreHops, IsWay, KeepsWays, LeadsTo, hop_at, keeps_ways}
+use Rattle.smx_config.proofs.PlaceNumberLemmas.{at_number}
+
+-- ---- what keeps where messages go next
+
+-- a message that is sent to a place
+pub send_keeps : (drivers : List DriverSpec) (c : Configuration) (p : Place) (addr : ℕ) (bytes : List ℕ)
+    (x : Configuration × Reply) → send_outcome drivers c p addr bytes ≡ Ok x → KeepsWays c x.0
+send_keeps drivers c p addr bytes x e =
+    let size = bound
+    (refuse BadSize ((eqb (length bytes) 0) || nat_lt (max_of drivers p.stream.driver) (length bytes))) _ x e in
+    let room = bound (refuse Full (is_full c p || nat_le NUMBER_END c.next_serial)) _ x size.2 in
+    subst (λ (y : Configuration × Reply). KeepsWays c y.0) (accepted _ x room.2)
+    (record { links = refl; routes = refl; binds = refl; hungs = refl })
+
+-- a message that is taken from its place
+pub receive_keeps : (drivers : List DriverSpec) (c : Configuration) (p : Place) (x : Configuration × Reply)
+    → receive_outcome drivers c p ≡ Ok x → KeepsWays c x.0
+receive_keeps drivers c p x e =
+    let found = bound (ok_or (first_message c.flow p) Empty) _ x e in
+    subst (λ (y : Configuration × Reply). KeepsWays c y.0) (accepted _ x found.2)
+    (record { links = refl; routes = refl; binds = refl; hungs = refl })
+
+-- a read at a stream
+pub read_keeps : (drivers : List DriverSpec) (c : Configuration) (s : StreamId) (x : Configuration × Reply)
+    → read_outcome drivers c s ≡ Ok x → KeepsWays c x.0
+read_keeps drivers c s x e = by (is_hung c.hungs s && not (is_some (first_message c.flow (read_side s)))) refl where
+  by : (b : Bool) → (is_hung c.hungs s && not (is_some (first_message c.flow (read_side s)))) ≡ b → KeepsWays c x.0
+  by true t = let k : ◌≡◌ {A = Outcome} (Ok (c, _)) (Ok x) = rw t at e in
+      subst (λ (y : Configuration × Reply). KeepsWays c y.0) (accepted _ x k)
+      (record { links = refl; routes = refl; binds = refl; hungs = refl })
+  by false f = let k : receive_outcome drivers c (read_side s) ≡ Ok x = rw f at e in
+      receive_keeps drivers c (read_side s) x k
+
+-- messages that are dropped, where there is nothing to sweep
+pub drop_keeps : (drivers : List DriverSpec) (c : Configuration) (goes : Place → Bool) (x : Configuration × Reply)
+    → IsSwept drivers c → done_outcome drivers c (without_queues_at c goes) ≡ Ok x → KeepsWays c x.0
+drop_keeps drivers c goes x h e =
+    let is = ap (λ (y : Configuration × Reply). y.0) (sym (accepted _ x e)) in
+    let idle = swept_idle drivers c h in
+    record {
+      links = ap (λ (d : Configuration). d.links) is ∙ ap (λ (d : Configuration). d.links) idle;
+      routes = ap (λ (d : Configuration). d.routes) is ∙ ap (λ (d : Configuration). d.routes) idle;
+      binds = ap (λ (d : Configuration). d.binds) is ∙ ap (λ (d : Configuration). d.binds) idle;
+      hungs = ap (λ (d : Configuration). d.hungs) is ∙ ap (λ (d : Configuration). d.hungs) idle;
+    }
+
+-- a command that only adds or removes messages
+pub ways_kept : (drivers : List DriverSpec) (c d : Configuration) (process : ℕ) (k : Command) (r : Reply)
+    → keeps_ways k ≡ true → IsSwept drivers c → outcome drivers c process k ≡ Ok (d, r) → KeepsWays c d
+ways_kept drivers c d process (command.Write fd addr bytes) r t h e =
+    let s = bound (live_stream c process fd) _ (d, r) e in
+    send_keeps drivers c (write_side s.0) addr bytes (d, r) s.2
+ways_kept drivers c d process (command.Read fd) r t h e =
+    let s = bound (free_stream c process fd) _ (d, r) e in read_keeps drivers c s.0 (d, r) s.2
+ways_kept drivers c d process (command.Flush fd w) r t h e =
+    let s = bound (live_stream c process fd) _ (d, r) e in drop_keeps drivers c _ (d, r) h s.2
+ways_kept drivers c d process (command.Inject name minor addr bytes) r t h e =
+    let s = bound (live_leaf drivers c name minor) _ (d, r) e in
+    send_keeps drivers c (read_side s.0) addr bytes (d, r) s.2
+ways_kept drivers c d process (command.Transmit name minor) r t h e =
+    let s = bound (live_leaf drivers c name minor) _ (d, r) e in receive_keeps drivers c (write_side s.0) (d, r) s.2
+ways_kept drivers c d process command.CloseAll r t h e = absurd (false≢true t)
+ways_kept drivers c d process k r t h e = absurd (false≢true t)
+
+-- a move
+pub move_keeps : (drivers : List DriverSpec) (c : Configuration) (p : Place) → KeepsWays c (after_move drivers c p)
+move_keeps drivers c p = by (next_open_place drivers c p) (first_message c.flow p) where
+  by : (o : Option Place) (m : Option Message) → KeepsWays c (after_move_to drivers c p o m)
+  by (Some q) (Some m) = record { links = refl; routes = refl; binds = refl; hungs = refl }
+  by (Some q) None = record { links = refl; routes = refl; binds = refl; hungs = refl }
+  by None m = record { links = refl; routes = refl; binds = refl; hungs = refl }
+
+-- ---- hops
+
+-- where messages go next is kept
+pub same_way : (drivers : List DriverSpec) (c d : Configuration) (p : Place) (addr : ℕ) → KeepsWays c d
+    → next_place drivers d p addr ≡ next_place drivers c p addr
+same_way drivers c d p addr k =
+    next_is drivers d p addr ∙ (by p.side ∙ sym (next_is drivers c p addr)) where
+      by : (s : Side) → next_by drivers d p.stream addr s ≡ next_by drivers c p.stream addr s
+      by side.Write = rw (k.links, k.routes, k.hungs) refl
+      by side.Read = rw (k.links, k.binds) refl
+
+-- and so the hops are
+pub hops_kept : (drivers : List DriverSpec) (c d : Configuration) (h : Hops) → KeepsWays c d → AreHops drivers c h
+    → AreHops drivers d h
+hops_kept drivers c d h k a = record {
+  many = a.many;
+  young = a.young;
+  right = λ i p there age last.
+      let way = a.right i p there age last in
+      record {
+        place = way.place;
+        there = way.there;
+        next = same_way drivers c d p (hop_at h i).addr k ∙ way.next;
+      };
+}
+
+-- copies of hops are as the hops are
+pub hops_copied : (drivers : List DriverSpec) (c : Configuration) (old new : Hops) → new.hops.items ≡ old.hops.items
+    → new.age ≡ old.age → AreHops drivers c old → AreHops drivers c new
+hops_copied drivers c old new same age a = record {
+  many = ap (λ (xs : List Hop). length xs) same ∙ a.many;
+  young = λ i. let y = a.young i in let e = ap (λ (x : Hop). x.age) (at i) in omega (arith, y, e, age);
+  right = λ i p there now last. subst (λ (x : Hop). LeadsTo drivers c p x.addr x.to) (sym (at i))
+      (a.right i p there (ap (λ (x : Hop). x.age) (sym (at i)) ∙ now ∙ age) (omega (arith, last, age)));
+} where
+  at : (i : ℕ) → hop_at new i ≡ hop_at old i
+  at i = ap (λ (xs : List Hop). get_or xs i (record { addr = 0; to = 0; age = 0 })) same
+
+-- ---- the number of a next place
+
+-- the number that was found for a next place leads there
+pub way_to : (drivers : List DriverSpec) (c : Configuration) (p q : Place) (addr : ℕ) (r : Option ℕ)
+    → next_place drivers c p addr ≡ Some q → IsSome r → IfSome r (λ n. IsAt drivers n q) → IsWay drivers c p addr r
+way_to drivers c p q addr None next some found = absurd cc
+way_to drivers c p q addr (Some n) next some found = record { place = q; there = found; next = next }
+
+-- where messages of the address of the first one go next, that one does
+pub way_of_first : (drivers : List DriverSpec) (c : Configuration) (p : Place) (m : Message) (r : Option ℕ)
+    → first_message c.flow p ≡ Some m → IsWay drivers c p m.addr r → IsNextOf drivers c p r
+way_of_first drivers c p m None first way = ap (next_of drivers c p) first ∙ way
+way_of_first drivers c p m (Some n) first way =
+    record { place = way.place; there = way.there; next = ap (next_of drivers c p) first ∙ way.next }
+
+-- a place to which messages go next has a number
+pub next_number : (drivers : List DriverSpec) (c : Configuration) (p : Place) (r : Option ℕ)
+    → IsNextOf drivers c p r → IfSome r (λ n. n < length (places_of drivers))
+next_number drivers c p None way = tt
+next_number drivers c p (Some n) way = at_number drivers n way.place way.there
+
+-- ---- after a command
+
+-- what holds of each accepted outcome holds where it was performed
+pub performed : (old new : Machine) (process : ℕ) (k : Command) (answer : Result (Unit {0}) StepError) (r : Reply)
+    (h : Hops) → is_ok answer ≡ true → Refines old new process k (answer_of answer r)
+    → ((d : Configuration) → outcome old.drivers old.configuration process k ≡ Ok (d, r) → AreHops old.drivers d h)
+    → AreHops new.drivers new.configuration h
+performed old new process k (Ok u) r h is refines right =
+    subst (λ (ds : List DriverSpec). AreHops ds new.configuration h) (sym refines.0)
+    (right new.configuration refines.1)
+performed old new process k (Err e) r h is refines right = absurd (false≢true is)
