@@ -89,7 +89,8 @@ fn put_stream(out: &mut Vec<u8>, word: &[u8], driver: &Name, minor: u32) -> Resu
     put_spaced(out, minor)
 }
 
-// Appends a word and a number.
+// Appends a word and a number. Inlined: each caller's word is a constant, so its bytes are stored without a call.
+#[inline(always)]
 fn put_one(out: &mut Vec<u8>, word: &[u8], a: u32) -> Result<(), NoMemory>
     ensures written { OnOk result (out.new.items
         ≡ out.old.items ++ line_of (word.now ∷ decimal a ∷ [])) }

@@ -31,7 +31,8 @@ pub fn write_next(out: &mut Vec<u8>, id: u32, serial: u32) -> Result<(), NoMemor
     put_last(out, serial)
 }
 
-/// Appends a space and the digits of a number.
+/// Appends a space and the digits of a number. Inlined: short commands run as fast as in bench/plain only with that.
+#[inline(always)]
 pub(super) fn put_spaced(out: &mut Vec<u8>, n: u32) -> Result<(), NoMemory>
     ensures written { OnOk result (out.new.items ≡ out.old.items ++ SPACE ∷ decimal n) }
     ensures fits { FitsNumber n }
