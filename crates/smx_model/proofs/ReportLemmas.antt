@@ -99,7 +99,7 @@ pub of_another : IsReportOf programs (report_with (opened ∷ copied ∷ another
 of_another h = let e : CloseAll ∷ [] ≡ [] = h.holds 7 in absurd cc
 
 -- the example with another reply to the dup is not a report
-pub another_reply : IsReportOf programs (report_with (opened ∷ too_early ∷ exited ∷ []) one) → ⊥
+pub another_reply : IsReportOf programs (report_with (opened ∷ too_early ∷ exited ∷ []) two) → ⊥
 another_reply h = let e : Fd 1 0 ≡ Fault BadDescriptor = h.legal.1.0 in absurd cc
 
 -- the example with a view of one descriptor, where there are two, is not a report

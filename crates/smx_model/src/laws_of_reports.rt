@@ -53,6 +53,6 @@ pub fn others_are_none()
     ensures done_twice { IsReportOf programs (report_with (opened ∷ copied ∷ once_more ∷ exited ∷ []) three) → ⊥ }
     ensures exchanged { IsReportOf programs (report_with (too_early ∷ opened ∷ exited ∷ []) one) → ⊥ }
     ensures of_another { IsReportOf programs (report_with (opened ∷ copied ∷ another_exited ∷ []) two) → ⊥ }
-    ensures another_reply { IsReportOf programs (report_with (opened ∷ too_early ∷ exited ∷ []) one) → ⊥ }
+    ensures another_reply { IsReportOf programs (report_with (opened ∷ too_early ∷ exited ∷ []) two) → ⊥ }
     ensures another_view { IsReportOf programs (report_with (opened ∷ copied ∷ exited ∷ []) one) → ⊥ }
 {}

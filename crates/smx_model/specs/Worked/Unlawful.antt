@@ -23,10 +23,10 @@ end_with links = record empty { links = links }
 
 -- driver 1 below itself; a cycle of drivers 1, 2 and 3; and the stream of driver 3 below drivers 0 and 2
 abbrev pub below_itself : List Link
-below_itself = link 1 0 1 ∷ link 2 1 1 ∷ []
+below_itself = link 1 0 2 ∷ link 2 1 1 ∷ []
 
 abbrev pub in_a_round : List Link
-in_a_round = link 1 0 1 ∷ link 2 1 2 ∷ link 3 2 3 ∷ link 4 3 1 ∷ []
+in_a_round = link 1 0 4 ∷ link 2 1 2 ∷ link 3 2 3 ∷ link 4 3 1 ∷ []
 
 abbrev pub below_two : List Link
 below_two = link 1 0 3 ∷ link 2 0 1 ∷ link 3 2 3 ∷ []
