@@ -51,6 +51,7 @@ pub of_one_report : (workers : ℕ) (programs : ProgramLists) (output : List ℕ
     → IsWrittenFor true workers programs output
     → (report : Transcript) × (fronts : List Front) × IsReportOf programs report × (output ≡ fronts_text fronts)
     × (length fronts ≡ length programs.programs) × All (λ f. f.entries ≤ length report.entries) fronts
+    × AreFrontsFrom report.drivers report.entries 0 programs.programs fronts
     × (workers ≤ 1 → map call_of report.entries ≡ calls_from 0 programs.programs)
 of_one_report workers programs output h = (
   h.report,
@@ -59,5 +60,6 @@ of_one_report workers programs output h = (
   h.written,
   as_many h.report.drivers h.report.entries 0 programs.programs h.fronts h.seen,
   none_past h.report.drivers h.report.entries 0 programs.programs h.fronts h.seen,
+  h.seen,
   h.in_turn,
 )

@@ -1,6 +1,6 @@
 -- The results of a filter for an input in memory.
 use Rattle.std.proofs.Common.{◌≡◌, ◌≢◌, ℕ, ◌+◌, ◌≤◌, ltb, Bool, List, [], ◌++◌, length, drop, Some, Result, Ok, Err}
-use Rattle.std.proofs.Common.{sym, ap, ◌∙◌, arith, inl, inr, length-append, refl}
+use Rattle.std.proofs.Common.{sym, ap, ◌∙◌, arith, inl, inr, length-append, refl, true}
 use Rattle.std.proofs.lemmas.Bool.{cases_Bool}
 use Rattle.std.proofs.lemmas.Bool.Decides.{nat_tests}
 use Rattle.std.proofs.lemmas.List.{drop_at, nil_from_length}
@@ -71,6 +71,15 @@ module _ {V K T : Type 0} (f : Filter V K T) (input left output : List ℕ) (end
   unread (Err e) h =
       let told : Err e ≡ Err ReadFailed = h.read_failed.1 refl in
       (told, h.unwritten (λ is. cc))
+
+  -- if the writer fails, the end of the input was seen
+  pub seen_whole : (answer : Result T MainFault)
+      → FiltersText f (Some input) (Some left) ended 0 (Some []) (Some output) flushed 1 answer
+      → ended ≡ true
+  seen_whole (Ok a) h = let told : Ok a ≡ Err WriteFailed = h.write_failed.1 refl in absurd cc
+  seen_whole (Err e) h =
+      let told : Err e ≡ Err WriteFailed = h.write_failed.1 refl in
+      let is : e ≡ WriteFailed = cc in (h.cut_short is).0.0
 
   -- the writer fails
   pub cut_short : (answer : Result T MainFault)

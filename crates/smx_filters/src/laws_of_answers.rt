@@ -13,6 +13,7 @@ ghost use Rattle.smx_config.specs.declared.config_fault.ConfigFault.{ConfigFault
 ghost use Rattle.smx_config.specs.declared.verdict.Verdict.{Verdict};
 ghost use Rattle.smx_config.specs.declared.verdict.Verdict.TheVariants.{Legal};
 ghost use Rattle.smx_shared.specs.declared.front.Front.{Front};
+ghost use Rattle.smx_run.specs.Fronts.{AreFrontsFrom};
 ghost use Rattle.smx_run.specs.ProgramOrder.{calls_from};
 ghost use Rattle.smx_run.specs.declared.run_fault.RunFault.TheVariants as run;
 ghost use Rattle.smx_filters.specs.CheckText.{checking};
@@ -85,11 +86,12 @@ pub fn a_run_writes_one_legal_transcript()
     one_transcript_has_one_reading();
 }
 
-/// The fronts that a run writes are those of one report of the programs: one for each process, and none past the
-/// report's end. On one worker the report has one program after the other.
+/// The fronts that a run writes are those of one report of the programs: one for each process, none past the report's
+/// end, each after all commands of its process. On one worker the report has one program after the other.
 pub fn a_run_writes_the_fronts_of_one_report()
     ensures { (workers : ℕ) (programs : ProgramLists) (output : List ℕ) → IsWrittenFor true workers programs output
         → (report : Transcript) × (fronts : List Front) × IsReportOf programs report × (output ≡ fronts_text fronts)
         × (length fronts ≡ length programs.programs) × All (λ f. f.entries ≤ length report.entries) fronts
+        × AreFrontsFrom report.drivers report.entries 0 programs.programs fronts
         × (workers ≤ 1 → map call_of report.entries ≡ calls_from 0 programs.programs) }
 {}

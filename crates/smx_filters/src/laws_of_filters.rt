@@ -1,6 +1,6 @@
 //! Laws of runs, checks, replays and drawings over memory, each the contract of a function that does nothing.
 
-ghost use Rattle.std.specs.Prelude.{◌≡◌, ℕ, Bool, false, List, [], Result, Some, Err};
+ghost use Rattle.std.specs.Prelude.{◌≡◌, ℕ, Bool, true, false, List, [], Result, Some, Err};
 ghost use Rattle.smx_types.specs.ProgramLists.{ProgramLists};
 ghost use Rattle.smx_config.specs.declared.verdict.Verdict.{Verdict};
 ghost use Rattle.smx_draw.specs.declared.form.Form.{Form};
@@ -13,7 +13,8 @@ ghost use Rattle.smx_filters.specs.declared.main_fault.MainFault.{MainFault};
 ghost use Rattle.smx_filters.specs.declared.main_fault.MainFault.TheVariants.{ReadFailed};
 
 /// The results of a run for an input in memory, if no device fails. If the reader fails, the run reports that and
-/// writes nothing; if the writer fails, the run has written a beginning of its output.
+/// writes nothing; if the writer fails, the run has seen the end of the input, and has written a beginning of its
+/// output.
 pub fn runs_end_in_memory()
     ensures ends { (input left output : List ℕ) (workers : ℕ) (fronts ended flushed : Bool)
         (answer : Result (Unit {0}) MainFault)
@@ -26,7 +27,7 @@ pub fn runs_end_in_memory()
     ensures cut_short { (input left output : List ℕ) (workers : ℕ) (fronts ended flushed : Bool)
         (answer : Result (Unit {0}) MainFault)
         → RunsText fronts workers (Some input) (Some left) ended 0 (Some []) (Some output) flushed 1 answer
-        → IsCutShort (running fronts workers) input output answer }
+        → (ended ≡ true) × IsCutShort (running fronts workers) input output answer }
 {}
 
 /// One worker writes only one transcript for given programs.

@@ -104,18 +104,21 @@ taken_more version v w k is same begun may room fits =
 
 -- ---- the end
 
+-- allowed programs are within the limits
+pub allowed_within : (v : ProgramLists) → IsAllowed v.version v → AreWithinLimits v
+allowed_within v own = record {
+  drivers = few v.version own.drivers;
+  programs = own.programs;
+  commands = own.commands;
+  version = λ first. least_is_first v (subst (λ (n : Version). IsAllowed n v) first own);
+} where
+  few : (version : Version) → length v.drivers ≤ most_drivers version → length v.drivers ≤ MAX_DRIVERS
+  few V1 h = search rules
+  few V2 h = h
+
 -- programs whose lines are a prefix of allowed programs are within the limits
 pub begun_within : (v : ProgramLists) → IsBegun (programs_grammar v.version) (body v) → AreWithinLimits v
-begun_within v begun =
-    let own = allowed_of v.version v refl begun in record {
-      drivers = few v.version own.drivers;
-      programs = own.programs;
-      commands = own.commands;
-      version = λ first. least_is_first v (subst (λ (n : Version). IsAllowed n v) first own);
-    } where
-      few : (version : Version) → length v.drivers ≤ most_drivers version → length v.drivers ≤ MAX_DRIVERS
-      few V1 h = search rules
-      few V2 h = h
+begun_within v begun = allowed_within v (allowed_of v.version v refl begun)
 
 -- programs whose lines are a prefix of allowed programs may end there
 pub finished : (v w : ProgramLists) → w ≡ v → IsBegun (programs_grammar v.version) (body v)

@@ -1,7 +1,7 @@
 //! The laws of both texts, in each version.
 
 ghost use Rattle.std.specs.Prelude.{◌≡◌, ◌≢◌, ◌<◌, ◌≤◌, List, ℕ, Result, Ok, MatchResult, IfErr, length};
-ghost use Rattle.smx_types.specs.ProgramLists.{ProgramLists};
+ghost use Rattle.smx_types.specs.ProgramLists.{AreWithinLimits, ProgramLists};
 ghost use Rattle.smx_text.specs.declared.text_fault.TextFault.{TextFault};
 ghost use Rattle.smx_text.specs.declared.text_fault.Cause.TheVariants.{NoMemory};
 ghost use Rattle.smx_types.specs.declared.transcript.Transcript.{Transcript};
@@ -9,10 +9,10 @@ ghost use Rattle.smx_types.specs.Versions.{least_of_transcript, most_drivers};
 ghost use Rattle.smx_types.specs.declared.limits.TheConstants.{MAX_COMMANDS};
 ghost use Rattle.smx_types.specs.declared.version.Version.{Version};
 ghost use Rattle.smx_types.specs.declared.version.Version.TheVariants.{V1};
-ghost use Rattle.smx_text.specs.TranscriptText.{transcript_grammar, transcript_text};
+ghost use Rattle.smx_text.specs.TranscriptText.{transcript_grammar, transcript_text, SpellsTranscript};
 ghost use Rattle.smx_text.specs.TranscriptText.{IsAllowed as TranscriptIsAllowed, IsSpellable};
 ghost use Rattle.smx_text.specs.Grammar.{IsFault, ReadsAny, last_line};
-ghost use Rattle.smx_text.specs.ProgramsText.{IsAllowed, programs_grammar, programs_text};
+ghost use Rattle.smx_text.specs.ProgramsText.{IsAllowed, SpellsPrograms, programs_grammar, programs_text};
 
 /// The text that `write_programs` writes is read as the same programs, unless memory runs out.
 pub fn written_is_read()
@@ -92,4 +92,11 @@ pub fn transcript_want_of_memory_comes_before()
     ensures { (version : Version) (bytes : List ℕ) (line : ℕ) (r : Result Transcript TextFault)
         → IsFault (transcript_grammar version) bytes line NoMemory → ReadsAny transcript_grammar bytes r
         → IfErr r (λ f. f.cause ≢ NoMemory) → line < last_line (transcript_grammar version) r }
+{}
+
+/// Bytes spell only programs within the limits, and only transcripts of at most 100,000 entries.
+pub fn what_is_spelled_is_within_the_limits()
+    ensures programs { (bytes : List ℕ) (v : ProgramLists) → SpellsPrograms bytes v → AreWithinLimits v }
+    ensures entries { (bytes : List ℕ) (t : Transcript) → SpellsTranscript bytes t
+        → length t.entries ≤ MAX_COMMANDS }
 {}

@@ -10,4 +10,6 @@ returns-clause-unread c =
 
 pub returns-clause-cut_short : goal.returns-clause-cut_short
 returns-clause-cut_short c =
-    λ input left output workers fronts ended flushed. memory.cut_short _ input left output ended flushed
+    λ input left output workers fronts ended flushed answer h.
+    (memory.seen_whole _ input left output ended flushed answer h,
+    memory.cut_short _ input left output ended flushed answer h)
