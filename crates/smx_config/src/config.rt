@@ -37,7 +37,7 @@ pub struct Config {
 }
 
 impl Drop for Config {
-    // Written by hand: a body drops a configuration by one call, and not part by part.
+    // Written by hand, so functions drop a configuration by one call, not by parts.
     fn drop(self) {
         let Config {
             tables: _tables,
@@ -60,9 +60,9 @@ impl Model for Config {
 }
 
 impl Config {
-    /// Makes the empty configuration over these drivers, which keeps the allocator for all that it makes. Fails if
-    /// there are more than 128; or else for the first driver that is invalid or has the name of an earlier one; or else
-    /// if an allocation fails.
+    /// Makes the empty configuration over these drivers. It keeps the allocator for all that it makes. Fails if there
+    /// are more than 128; or else for the first driver that is invalid or has the name of an earlier one; or else if
+    /// an allocation fails.
     pub fn new(alloc: Global, drivers: &[DriverSpec]) -> Result<Config, ConfigFault>
         ensures drivers { IfOk result (λ c. (c.drivers ≡ drivers.now) × IsDriverList drivers.now) }
         ensures empty { IfOk result (λ c. c.configuration ≡ empty) }

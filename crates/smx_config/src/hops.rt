@@ -23,7 +23,7 @@ pub struct Hop {
 }
 
 /// The last hop that was found for each place, by number. A hop of an earlier age is out of date. No hop is used at the
-/// last possible age, at which the age stops to rise.
+/// last possible age, since that can't rise.
 #[derive(Debug, Drop)]
 pub struct Hops {
     pub hops: Vec<Hop>,

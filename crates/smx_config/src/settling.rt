@@ -64,7 +64,7 @@ fn next_move(tables: &Tables, marks: &mut Marks, hops: &mut Hops) -> Option<Move
     None
 }
 
-// Marks the number of a place where a message arrived, unless the place had one before.
+// Marks the number of a place where a message arrived, unless it had others before.
 fn mark_unless(filled: bool, run: &mut Bits, n: usize)
     requires { n < run.old.count }
     ensures { IsMarkedUnless filled n run.old run.new }
@@ -101,7 +101,7 @@ fn move_on(tables: &mut Tables, marks: &mut Marks, next: Move)
     clear_if_empty(tables, marks, next.from);
 }
 
-// Moves messages on until none can, where some place may have a run mark.
+// Moves messages on until none can. Called if a place has a run mark.
 #[inline(never)]
 fn settle_marked(tables: &mut Tables, marks: &mut Marks, hops: &mut Hops)
     requires sound { IsSound tables.old.drivers tables.old.configuration }
@@ -124,7 +124,7 @@ fn settle_marked(tables: &mut Tables, marks: &mut Marks, hops: &mut Hops)
     let _none = next_move(tables, marks, hops);
 }
 
-// Moves messages on until none can, and no run mark is left. Nothing moves if there was none.
+// Moves messages on until none can, and no run mark is left. Without a mark nothing moves.
 pub fn settle(tables: &mut Tables, marks: &mut Marks, hops: &mut Hops)
     requires sound { IsSound tables.old.drivers tables.old.configuration }
     requires marks { AreMarks tables.old.drivers tables.old.configuration marks.old }

@@ -103,7 +103,7 @@ fn first_open(tables: &Tables, wanted: &Bits) -> Option<usize>
     None
 }
 
-// Does so for all places.
+// Releases open places.
 fn release_all(tables: &Tables, marks: &mut Marks)
     requires over { AreOver tables.now.drivers marks.old }
     requires listed { IsListed marks.old }
@@ -114,7 +114,7 @@ fn release_all(tables: &Tables, marks: &mut Marks)
     }
 }
 
-// Whether it is done, and no message was dropped.
+// Whether the reply is `Done` with no serials.
 fn drops_none(reply: &Reply) -> bool
     ensures { result ≡ drops_none reply.now }
 {
@@ -124,8 +124,8 @@ fn drops_none(reply: &Reply) -> bool
     }
 }
 
-// Does so for both sides of the stream, if messages were dropped. A full place has messages, so if none was dropped, it
-// is still full, and is not looked at.
+// Releases both sides of the stream, if messages were dropped. A full place has messages, so if none was dropped, it is
+// still full, and is not looked at.
 fn release_emptied(tables: &Tables, marks: &mut Marks, stream: StreamId, reply: &Reply)
     requires over { AreOver tables.now.drivers marks.old }
     requires listed { IsListed marks.old }

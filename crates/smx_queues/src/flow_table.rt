@@ -30,7 +30,7 @@ pub struct FlowTable {
 }
 
 impl Drop for FlowTable {
-    // Written by hand: a body drops a table by one call, and not part by part.
+    // Written by hand, so functions drop a table by one call, not by parts.
     fn drop(self) {
         let FlowTable {
             places: _places,

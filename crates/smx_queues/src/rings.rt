@@ -7,12 +7,12 @@ use smx_types::NoMemory;
 use std::alloc::Global;
 use std::marker::Model;
 
-/// The numbers below `count`, each in the ring of one of them or in none. Contracts see the ring that each is in.
+/// Each number below `count` has a ring, and is in one ring or none. Contracts see the ring that each is in.
 #[derive(Debug, Drop)]
 pub struct Rings {
     count: usize,
-    // For each node 0 if it is in no ring, otherwise 1 more than the number of its ring. With n numbers, node i is
-    // number i, and the ring of number i begins at node n + i.
+    // With n numbers, node i is number i, and the ring of number i begins at node n + i. For each node 0 if it is in no
+    // ring, otherwise 1 more than the number of its ring.
     owners: Vec<usize>,
     // The node after each node, and the one before it.
     next: Vec<usize>,

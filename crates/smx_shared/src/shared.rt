@@ -89,7 +89,7 @@ impl<K: EntrySink> Shared<K> {
     }
 
     /// Performs a command as `call` does, without waiting. Fails if another seat has the turn, with a front that shows
-    /// it, or else as `call` does; then no entry is added. The allocator isn't used: the system has one already.
+    /// it; else as `call` does. A failure adds no entry. The allocator isn't used: the system has one already.
     pub fn try_call(
         &self,
         _alloc: Global,

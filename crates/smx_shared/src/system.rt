@@ -28,7 +28,7 @@ pub struct System<K: EntrySink = Vec<Entry>> {
 }
 
 impl<K: EntrySink> Drop for System<K> {
-    // Written by hand: a body drops a system by one call, and not part by part.
+    // Written by hand, so functions drop a system by one call, not by parts.
     fn drop(self) {
         let System {
             alloc: _,
@@ -134,9 +134,9 @@ impl<K: EntrySink> System<K> {
         }
     }
 
-    /// Performs one command, adds its entry with the reply to the history, and returns that same entry. Fails with
-    /// nothing changed exactly if the history is full, which is tested first; or if an allocation fails, even for a
-    /// command that the configuration would refuse, since that gets an entry too.
+    /// Performs one command, adds its entry with the reply to the history, and returns that same entry. Fails as full
+    /// exactly if the history is full, which is tested first; or if an allocation fails, even for a command that would
+    /// be refused: that gets an entry too. A failure changes nothing.
     pub fn apply(&mut self, process: Process, command: &Command) -> Result<Entry, ApplyFault>
         // The effect.
         ensures answer { IfOk result (λ e. e ≡ next_entry self.old process command.now) }
