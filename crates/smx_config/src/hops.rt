@@ -1,4 +1,4 @@
-//! Where messages go next, as it was last found.
+//! The next places of messages, as they were last found.
 
 ghost use Rattle.std.specs.Prelude.{◌≡◌, ℕ, ◌<◌, length, IfOk, IfSome, List, Ok};
 ghost use Rattle.smx_types.specs.declared.driver.DriverSpec.{DriverSpec};

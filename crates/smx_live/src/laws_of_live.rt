@@ -116,9 +116,8 @@ pub fn what_is_too_long()
     ensures no_end { (read output : List ℕ) (ended : Bool) (o : IsOver read ended output) → IsTooLong o.held → ⊥ }
 {}
 
-/// A table that has ended is unfinished only if the input has ended and no whole line follows the table. A
-/// line belongs to a table if it begins with `driver`, as a word or as the start of a longer one; `drive` is
-/// not enough.
+/// If a table has ended and each whole line read belongs to it, the input has ended. A line belongs to a table if it
+/// begins with `driver`, as a word or as the start of a longer one; `drive` is not enough.
 pub fn where_a_table_is_over()
     ensures finished { (ended : Bool) (table rest : List ℕ) → IsTable ended table rest
         → IsUnfinished (table ++ rest) → (ended ≡ true) × IsOneLine rest }

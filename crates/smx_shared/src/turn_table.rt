@@ -34,7 +34,7 @@ pub struct TurnTable<K: EntrySink> {
 }
 
 impl<K: EntrySink> Drop for TurnTable<K> {
-    // Written by hand: a body drops a table by one call, and not part by part.
+    // Written by hand, so functions drop a table by one call, not by parts.
     fn drop(self) {
         let TurnTable { table: _table } = self;
     }

@@ -10,6 +10,7 @@ returns-clause-unread c =
 
 pub returns-clause-cut_short : goal.returns-clause-cut_short
 returns-clause-cut_short c =
-    λ input left output workers fronts ended flushed answer h.
-    (memory.seen_whole _ input left output ended flushed answer h,
-    memory.cut_short _ input left output ended flushed answer h)
+    λ input left output workers fronts ended flushed answer h. (
+      memory.seen_whole _ input left output ended flushed answer h,
+      memory.cut_short _ input left output ended flushed answer h,
+    )
