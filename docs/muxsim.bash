@@ -21,7 +21,7 @@ _muxsim() {
             draw) words='--dot --help' ;;
             help) ((COMP_CWORD == 2)) && words='run check replay draw live commands' ;;
         esac
-        # Each option may stand once.
+        # Each option may be given once.
         local given
         for given in "${COMP_WORDS[@]:2:COMP_CWORD - 2}"; do
             words=" $words "

@@ -171,7 +171,7 @@ def histories():
 
 
 def views():
-    """What stands below 'config': each number, name, bytes and side of each line, and the groups in any order."""
+    """The lines below 'config': each number, name, bytes and side of each line, and the groups in any order."""
     ends = ["NUM ip 0 ip 1", "1 NAME 0 ip 1", "1 ip NUM ip 1", "1 ip 0 NAME 1", "1 ip 0 ip NUM"]
     below = filled(
         *(f"link {end} {kind}" for end in ends for kind in ["link", "plink"]),

@@ -1001,7 +1001,7 @@ the first line has to be 'programs 1' or 'programs 2'
      "programs 1\nend\n ",
      3,
      "trailing",
-     "line 3: \\x20\nnothing may stand below the line 'end'\n"),
+     "line 3: \\x20\nnothing may follow the line 'end'\n"),
     ("run",
      "programs 1\n0123456789012345678901234567890123456789012345678901234567890123456789012345678\x09\nend\n",
      2,
@@ -1034,7 +1034,7 @@ end
      "form",
      """\
 line 2: exit
-a command stands below the line of its process
+a command follows the line of its process
 """),
     ("run",
      "programs 1\n" + "".join(f"driver d{number} leaf 1 8 3 16\n" for number in range(65)) + "end\n",
@@ -1042,7 +1042,7 @@ a command stands below the line of its process
      "many",
      """\
 line 66: driver d64 leaf 1 8 3 16
-at most 64 drivers may stand in version 1
+at most 64 drivers are allowed in version 1
 """),
     ("run",
      "programs 2\n" + "".join(f"driver d{number} leaf 1 8 3 16\n" for number in range(129)) + "end\n",
@@ -1050,7 +1050,7 @@ at most 64 drivers may stand in version 1
      "many",
      """\
 line 130: driver d128 leaf 1 8 3 16
-at most 128 drivers may stand in version 2
+at most 128 drivers are allowed in version 2
 """),
     ("run",
      "programs 1\n" + "".join(f"process {number}\n" for number in range(65)) + "end\n",
@@ -1058,7 +1058,7 @@ at most 128 drivers may stand in version 2
      "many",
      """\
 line 66: process 64
-at most 64 processes may stand
+at most 64 processes are allowed
 """),
     ("run",
      "programs 2\nprocess 0\n" + "exit\n" * 100_001 + "end\n",
@@ -1066,7 +1066,7 @@ at most 64 processes may stand
      "many",
      """\
 line 100003: exit
-at most 100,000 commands may stand
+at most 100,000 commands are allowed
 """),
     ("check",
      "transcript 1\n" + "".join(f"driver d{number} leaf 1 8 3 16\n" for number in range(65)) + "config\nnext 1 1\nend\n",
@@ -1074,7 +1074,7 @@ at most 100,000 commands may stand
      "many",
      """\
 line 66: driver d64 leaf 1 8 3 16
-at most 64 drivers may stand in version 1
+at most 64 drivers are allowed in version 1
 """),
     ("check",
      "transcript 2\n" + "".join(f"driver d{number} leaf 1 8 3 16\n" for number in range(129))
@@ -1083,7 +1083,7 @@ at most 64 drivers may stand in version 1
      "many",
      """\
 line 130: driver d128 leaf 1 8 3 16
-at most 128 drivers may stand in version 2
+at most 128 drivers are allowed in version 2
 """),
     ("check",
      "transcript 1\n" + "0 exit = done\n" * 100_001 + "config\nnext 1 1\nend\n",
@@ -1091,7 +1091,7 @@ at most 128 drivers may stand in version 2
      "many",
      """\
 line 100002: 0 exit = done
-at most 100,000 entries may stand
+at most 100,000 entries are allowed
 """),
     ("run",
      """\
@@ -1114,7 +1114,7 @@ end
      "trailing",
      """\
 line 3: 
-nothing may stand below the line 'end'
+nothing may follow the line 'end'
 """),
     ("run",
      """\
@@ -1143,20 +1143,20 @@ these are programs, for 'muxsim run'
 # The lines of a transcript below its header, up to one that is well-formed but not allowed at its place, and the reason
 # that is shown.
 MISPLACED = [
-    (["0 exit = done", "driver ip mux 4 8 3 16"], "the drivers stand above the entries and above 'config'"),
-    (["config", "driver ip mux 4 8 3 16"], "the drivers stand above the entries and above 'config'"),
-    (["config", "next 1 1", "driver ip mux 4 8 3 16"], "the drivers stand above the entries and above 'config'"),
-    (["config", "0 exit = done"], "the entries stand above 'config'"),
-    (["config", "next 1 1", "fd 0 0 ip 0", "63 exit = done"], "the entries stand above 'config'"),
-    (["config", "config"], "'config' stands once, below the entries"),
-    (["config", "next 1 1", "config"], "'config' stands once, below the entries"),
-    (["next 1 1"], "'next' stands once, just below 'config'"),
-    (["0 exit = done", "next 1 1"], "'next' stands once, just below 'config'"),
-    (["config", "next 1 1", "next 1 1"], "'next' stands once, just below 'config'"),
-    (["config", "next 1 1", "fd 0 0 ip 0", "next 1 1"], "'next' stands once, just below 'config'"),
-    (["end"], "'config' and 'next' stand above 'end'"),
-    (["driver ip mux 4 8 3 16", "0 exit = done", "end"], "'config' and 'next' stand above 'end'"),
-    (["config", "end"], "'config' and 'next' stand above 'end'"),
+    (["0 exit = done", "driver ip mux 4 8 3 16"], "the drivers come before the entries and before 'config'"),
+    (["config", "driver ip mux 4 8 3 16"], "the drivers come before the entries and before 'config'"),
+    (["config", "next 1 1", "driver ip mux 4 8 3 16"], "the drivers come before the entries and before 'config'"),
+    (["config", "0 exit = done"], "the entries come before 'config'"),
+    (["config", "next 1 1", "fd 0 0 ip 0", "63 exit = done"], "the entries come before 'config'"),
+    (["config", "config"], "'config' comes once, after the entries"),
+    (["config", "next 1 1", "config"], "'config' comes once, after the entries"),
+    (["next 1 1"], "'next' comes once, right after 'config'"),
+    (["0 exit = done", "next 1 1"], "'next' comes once, right after 'config'"),
+    (["config", "next 1 1", "next 1 1"], "'next' comes once, right after 'config'"),
+    (["config", "next 1 1", "fd 0 0 ip 0", "next 1 1"], "'next' comes once, right after 'config'"),
+    (["end"], "'config' and 'next' come before 'end'"),
+    (["driver ip mux 4 8 3 16", "0 exit = done", "end"], "'config' and 'next' come before 'end'"),
+    (["config", "end"], "'config' and 'next' come before 'end'"),
 ]
 
 # The lines below `next`, in their order; the last of them only in version 2.
@@ -1172,8 +1172,8 @@ GROUPS = [
 
 # The reason that is shown if one of them is not allowed at its place, in both versions.
 OTHER_GROUPS = [
-    "below 'next' stand 'fd', 'link', 'bind', 'route', 'msg' and 'full' lines, in this order",
-    "below 'next' stand 'fd', 'link', 'bind', 'route', 'msg', 'full' and 'hung' lines, in this order",
+    "after 'next' come 'fd', 'link', 'bind', 'route', 'msg' and 'full' lines, in this order",
+    "after 'next' come 'fd', 'link', 'bind', 'route', 'msg', 'full' and 'hung' lines, in this order",
 ]
 
 # A job, a header and a malformed line after it, and the column with the words that may be there.

@@ -38,8 +38,8 @@ impl FaultExplanation<'_> {
             Cause::Form => order_reason(self.kind, version_of(self.text), line),
             Cause::Many => limit_reason(self.kind, version_of(self.text), line),
             Cause::Cut => "the text ends before a line 'end' that is whole",
-            Cause::Trailing => "nothing may stand below the line 'end'",
-            Cause::NoMemory => "memory was wanting",
+            Cause::Trailing => "nothing may follow the line 'end'",
+            Cause::NoMemory => "out of memory",
         }
     }
 }

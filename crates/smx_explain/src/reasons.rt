@@ -31,31 +31,31 @@ pub fn limit_reason(kind: TextKind, version: Version, line: &[u8]) -> &'static s
         return limit_of_drivers(version);
     }
     match kind {
-        TextKind::Programs if is_process(line) => "at most 64 processes may stand",
-        TextKind::Programs => "at most 100,000 commands may stand",
-        TextKind::Transcript => "at most 100,000 entries may stand",
+        TextKind::Programs if is_process(line) => "at most 64 processes are allowed",
+        TextKind::Programs => "at most 100,000 commands are allowed",
+        TextKind::Transcript => "at most 100,000 entries are allowed",
     }
 }
 
 // Returns where a line of programs may be.
 fn order_of_programs(line: &[u8]) -> &'static str {
     if is_driver(line) {
-        "the drivers stand above the first process"
+        "the drivers come before the first process"
     } else if is_process(line) {
         "the processes are numbered 0, 1, 2 and so on"
     } else {
-        "a command stands below the line of its process"
+        "a command follows the line of its process"
     }
 }
 
 // Returns where a line of a transcript may be. Among these lines only an entry begins with a digit.
 fn order_of_transcript(version: Version, line: &[u8]) -> &'static str {
     match line {
-        [b'0'..=b'9', ..] => "the entries stand above 'config'",
-        b"config" => "'config' stands once, below the entries",
-        b"end" => "'config' and 'next' stand above 'end'",
-        _ if is_driver(line) => "the drivers stand above the entries and above 'config'",
-        _ if line.starts_with(b"next ") => "'next' stands once, just below 'config'",
+        [b'0'..=b'9', ..] => "the entries come before 'config'",
+        b"config" => "'config' comes once, after the entries",
+        b"end" => "'config' and 'next' come before 'end'",
+        _ if is_driver(line) => "the drivers come before the entries and before 'config'",
+        _ if line.starts_with(b"next ") => "'next' comes once, right after 'config'",
         _ => order_of_groups(version),
     }
 }
@@ -64,10 +64,10 @@ fn order_of_transcript(version: Version, line: &[u8]) -> &'static str {
 fn order_of_groups(version: Version) -> &'static str {
     match version {
         Version::V1 => {
-            "below 'next' stand 'fd', 'link', 'bind', 'route', 'msg' and 'full' lines, in this order"
+            "after 'next' come 'fd', 'link', 'bind', 'route', 'msg' and 'full' lines, in this order"
         }
         Version::V2 => {
-            "below 'next' stand 'fd', 'link', 'bind', 'route', 'msg', 'full' and 'hung' lines, in this order"
+            "after 'next' come 'fd', 'link', 'bind', 'route', 'msg', 'full' and 'hung' lines, in this order"
         }
     }
 }
@@ -75,8 +75,8 @@ fn order_of_groups(version: Version) -> &'static str {
 // Returns how many drivers a text may have.
 fn limit_of_drivers(version: Version) -> &'static str {
     match version {
-        Version::V1 => "at most 64 drivers may stand in version 1",
-        Version::V2 => "at most 128 drivers may stand in version 2",
+        Version::V1 => "at most 64 drivers are allowed in version 1",
+        Version::V2 => "at most 128 drivers are allowed in version 2",
     }
 }
 

@@ -85,5 +85,5 @@ fn memory_ran_out_at_a_line(rt: HostRuntime) {
         },
     };
     let printed = format!(in rt.alloc(); "{explanation}").expect(&rt, "there is memory");
-    assert!(rt; printed.as_str() == "line 3: clone ip\nmemory was wanting\n");
+    assert!(rt; printed.as_str() == "line 3: clone ip\nout of memory\n");
 }
