@@ -10,6 +10,8 @@ TEXTS = ["Lines and words", "Versions", "Programs text", "Transcript text", "Liv
 FIRST = r"""'\" t
 .\" Made from docs/MUXSIM.md, docs/FORMATS.md and docs/COMMANDS.md by tests/documents/run --make.
 .TH MUXSIM 1 "" "muxsim 0.1.0" "User Commands"
+.\" A terminal has no pages, so that no row of a table is split.
+.if n .pl 9999
 .nh
 .ad l
 """
