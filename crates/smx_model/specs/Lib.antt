@@ -12,6 +12,7 @@ pub mod FlowOrder
 pub mod OrderedParts
 pub mod Settling
 pub mod LeastMovable
+pub mod Waits
 pub mod RunMarks
 pub mod SettlingByMarks
 pub mod Removal
@@ -26,5 +27,6 @@ pub mod IllegalEntries
 pub mod LawfulHistories
 pub mod KeptConfigurations
 pub mod Views
+pub mod Changes
 pub mod Headline
 pub mod Worked

@@ -44,3 +44,5 @@ pub mod HangupRefusals
 pub mod EndOfFile
 pub mod AHungUpStreamIsPassedBy
 pub mod HungUpStreamsInOrder
+pub mod ChangesOfEntries
+pub mod WaitsOfQueues
