@@ -1,18 +1,37 @@
 //! The next places of messages.
 
 ghost use Rattle.std.specs.Prelude.{◌≡◌};
+ghost use Rattle.std.specs.Option.{option_copied};
+ghost use Rattle.smx_model.specs.Hangups.{is_hung};
 ghost use Rattle.smx_model.specs.Settling.{live_write_side, place_below, place_above, next_place};
+ghost use Rattle.smx_model.specs.Waits.{routed_link};
 
 use crate::tables::Tables;
 use smx_tables::driver_specs::is_mux;
-use smx_types::{Place, Side, StreamId};
+use smx_types::{Link, Place, Side, StreamId};
 
 impl Tables {
+    /// Returns whether the stream's device has hung up. Does not allocate.
+    pub fn is_hung(&self, stream: StreamId) -> bool
+        ensures { result ≡ is_hung self.now.configuration.hungs stream }
+    {
+        self.lists.streams.is_hung(stream)
+    }
+
+    /// Returns the link that the driver's route for the address names, if there is one. Does not allocate.
+    pub fn routed_link(&self, driver: u8, addr: u32) -> Option<&Link>
+        ensures { option_copied result
+            ≡ routed_link self.now.configuration.links self.now.configuration.routes driver addr }
+    {
+        let route = self.lists.routes.at(driver, addr)?;
+        self.lists.links.get(route.id)
+    }
+
     // Returns the write side of the stream, unless its device has hung up.
     fn live_write_side(&self, stream: StreamId) -> Option<Place>
         ensures { result ≡ live_write_side self.now.configuration.hungs stream }
     {
-        if self.lists.streams.is_hung(stream) {
+        if self.is_hung(stream) {
             return None;
         }
         let side = Side::Write;

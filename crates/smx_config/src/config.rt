@@ -1,14 +1,19 @@
 //! The sequential configuration.
 
+ghost use Rattle.std.specs.Option.{option_copied};
 ghost use Rattle.std.specs.Prelude.{◌≡◌, ◌↔◌, [], length, IfOk, IfErr, IsOk, IsErr, IsTrue, OnOk, OnErr};
 ghost use Rattle.smx_types.specs.declared.reply.Fault.{Fault};
 ghost use Rattle.smx_types.specs.declared.reply.Reply.TheVariants as replies;
 ghost use Rattle.smx_model.specs.Commands.{outcome, step};
 ghost use Rattle.smx_model.specs.Configuration.{empty};
 ghost use Rattle.smx_model.specs.DriverList.{IsDriverList};
+ghost use Rattle.smx_model.specs.Hangups.{is_hung};
 ghost use Rattle.smx_model.specs.KeptConfigurations.{IsKept};
 ghost use Rattle.smx_model.specs.LawfulHistories.{delivered_by};
+ghost use Rattle.smx_model.specs.Queues.{first_message};
+ghost use Rattle.smx_model.specs.Settling.{next_place};
 ghost use Rattle.smx_model.specs.Views.{view};
+ghost use Rattle.smx_model.specs.Waits.{link_above, routed_link};
 ghost use Rattle.smx_config.specs.DriverFaults.{RefusesDrivers};
 ghost use Rattle.smx_commands.specs.Machine.{takes_no_memory};
 
@@ -24,7 +29,9 @@ use smx_model::laws_of_marks::full_places_have_messages;
 use smx_model::laws_of_steps::{
     commands_keep, empty_is_kept, outcomes_are_sound, refusals_change_nothing,
 };
-use smx_types::{Command, ConfigView, DriverSpec, NoMemory, Process, Reply};
+use smx_types::{
+    Command, ConfigView, DriverSpec, Link, Message, NoMemory, Place, Process, Reply, StreamId,
+};
 use std::alloc::Global;
 use std::marker::Model;
 
@@ -188,6 +195,42 @@ impl Config {
     {
         self.tables.links().is_sound();
         self.tables.links().len() as u32
+    }
+
+    /// Returns the first message at the place, if there is one. Takes no memory.
+    pub fn first_message(&self, place: Place) -> Option<&Message>
+        ensures { option_copied result ≡ first_message self.now.configuration.flow place }
+    {
+        self.tables.queues().front(place)
+    }
+
+    /// Returns the next place of a message with this address, full or not. Takes no memory.
+    pub fn next_place(&self, place: Place, addr: u32) -> Option<Place>
+        ensures { result ≡ next_place self.now.drivers self.now.configuration place addr }
+    {
+        self.tables.next_place(place, addr)
+    }
+
+    /// Returns the link that the driver's route for the address names, if there is one. Takes no memory.
+    pub fn routed_link(&self, driver: u8, addr: u32) -> Option<&Link>
+        ensures { option_copied result
+            ≡ routed_link self.now.configuration.links self.now.configuration.routes driver addr }
+    {
+        self.tables.routed_link(driver, addr)
+    }
+
+    /// Returns the link that has the stream below, if there is one. Takes no memory.
+    pub fn link_above(&self, stream: StreamId) -> Option<&Link>
+        ensures { option_copied result ≡ link_above self.now.configuration.links stream }
+    {
+        self.tables.links().above(stream)
+    }
+
+    /// Returns whether the stream's device has hung up. Takes no memory.
+    pub fn is_hung(&self, stream: StreamId) -> bool
+        ensures { result ≡ is_hung self.now.configuration.hungs stream }
+    {
+        self.tables.is_hung(stream)
     }
 
     /// Returns the drivers that it was made with, which no command changes. Takes no memory.

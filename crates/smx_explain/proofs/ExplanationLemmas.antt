@@ -29,8 +29,8 @@ use Rattle.smx_model.specs.IllegalEntries.{IsFirstIllegal}
 use Rattle.smx_model.specs.Views.{view}
 use Rattle.smx_config.specs.Verdicts.{IsVerdict}
 use Rattle.smx_config.specs.declared.verdict.Verdict.TheVariants.{ConfigDiffers, Legal}
-use Rattle.smx_replay.specs.Answers.{answered}
-use Rattle.smx_replay.specs.Replays.{IsReplayOf, IsReplayText}
+use Rattle.smx_trace.specs.Answers.{answered}
+use Rattle.smx_trace.specs.Replays.{IsReplayOf, IsReplayText}
 use Rattle.smx_explain.specs.Differences.{AreAlike, IsFirstDifference}
 use Rattle.smx_explain.specs.Explanations.{IsExplanation, difference_text}
 use Rattle.smx_explain.proofs.HistoryLemmas.{stands_in}

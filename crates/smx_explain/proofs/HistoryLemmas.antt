@@ -8,7 +8,7 @@ use Rattle.smx_types.specs.declared.reply.Reply.{Reply}
 use Rattle.smx_model.specs.Commands.{step}
 use Rattle.smx_model.specs.Configuration.{Configuration}
 use Rattle.smx_model.specs.Histories.{after_from, call_of, IsLegalFrom}
-use Rattle.smx_replay.specs.Answers.{answered}
+use Rattle.smx_trace.specs.Answers.{answered}
 
 -- entries with the same parts are the same
 same_entry : (d e : Entry) → call_of d ≡ call_of e → d.reply ≡ e.reply → d ≡ e

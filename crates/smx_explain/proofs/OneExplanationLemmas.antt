@@ -2,7 +2,7 @@
 use Rattle.std.proofs.Common.{◌≡◌, ℕ, List, [], sym, ap, subst, ◌∙◌, inl, inr}
 use Rattle.std.specs.Prelude.{◌⊎◌}
 use Rattle.smx_types.specs.declared.transcript.Transcript.{Transcript}
-use Rattle.smx_replay.specs.Replays.{IsReplayOf}
+use Rattle.smx_trace.specs.Replays.{IsReplayOf}
 use Rattle.smx_text.specs.TranscriptText.{transcript_text}
 use Rattle.smx_explain.specs.Explanations.{IsExplanation, TellsDifference, difference_text}
 use Rattle.smx_explain.proofs.LineLemmas.{no_difference, one_difference}

@@ -4,7 +4,7 @@ use Rattle.std.specs.Fmt.{decimal}
 use Rattle.smx_types.specs.declared.transcript.Transcript.{Transcript}
 use Rattle.smx_words.specs.Words.{LINE_FEED}
 use Rattle.smx_text.specs.TranscriptText.{IsSpellable, transcript_text}
-use Rattle.smx_replay.specs.Replays.{IsReplayOf}
+use Rattle.smx_trace.specs.Replays.{IsReplayOf}
 use Rattle.smx_explain.specs.Differences.{IsFirstDifference}
 
 -- two lines: line `number` of a text, and the same line of its replay

@@ -8,13 +8,13 @@ ghost use Rattle.smx_explain.specs.Differences.{AreAlike, IsFirstDifference, IsF
 ghost use Rattle.smx_explain.specs.Explanations.{IsExplanation, difference_text};
 ghost use Rattle.smx_model.specs.Histories.{after};
 ghost use Rattle.smx_model.specs.IllegalEntries.{IsFirstIllegal};
-ghost use Rattle.smx_replay.specs.Answers.{answered};
+ghost use Rattle.smx_trace.specs.Answers.{answered};
 ghost use Rattle.smx_text.specs.TranscriptText.{IsAllowed};
 ghost use Rattle.smx_words.specs.Spelling.{entry_words};
 ghost use Rattle.smx_words.specs.Words.{line_of};
 
 use smx_model::laws::histories_are_determined;
-use smx_replay::laws_of_replays::{a_transcript_has_one_replay, replays_are_the_legal_transcripts};
+use smx_trace::laws_of_replays::{a_transcript_has_one_replay, replays_are_the_legal_transcripts};
 use smx_text::laws::one_transcript_has_one_reading;
 use smx_words::laws::{one_value_each, spellings_are_words};
 

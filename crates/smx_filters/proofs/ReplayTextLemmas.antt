@@ -12,7 +12,7 @@ use Rattle.smx_config.specs.DriverFaults.{RefusesDrivers}
 use Rattle.smx_config.specs.Verdicts.{IsVerdict}
 use Rattle.smx_config.specs.declared.config_fault.ConfigFault.{ConfigFault}
 use Rattle.smx_config.specs.declared.verdict.Verdict.TheVariants.{Legal}
-use Rattle.smx_replay.specs.Replays.{IsReplayOf, IsReplayText}
+use Rattle.smx_trace.specs.Replays.{IsReplayOf, IsReplayText}
 use Rattle.smx_run.specs.RunFaults.{run_fault_of}
 use Rattle.smx_filters.specs.CheckText.{checking, verdict_line}
 use Rattle.smx_filters.specs.Filters.{Answers, GivesFor}

@@ -1,7 +1,7 @@
 -- A replay: its answer to the bytes that it read, and its output.
 use Rattle.std.specs.Prelude.{ℕ, Bool, List, Option, Result}
 use Rattle.smx_types.specs.declared.transcript.Transcript.{Transcript}
-use Rattle.smx_replay.specs.Replays.{IsReplayOf}
+use Rattle.smx_trace.specs.Replays.{IsReplayOf}
 use Rattle.smx_run.specs.RunFaults.{RefusesAlone}
 use Rattle.smx_text.specs.TranscriptLines.{TranscriptLine}
 use Rattle.smx_text.specs.TranscriptText.{transcript_grammar, SpellsTranscript}

@@ -26,7 +26,7 @@ ghost use Rattle.smx_filters.specs.declared.main_fault.MainFault.{MainFault};
 
 use smx_config::laws_of_verdicts::{reports_are_judged_legal, there_is_one_verdict};
 use smx_explain::laws_of_explanations::a_transcript_has_one_explanation;
-use smx_replay::laws_of_replays::a_transcript_has_one_replay;
+use smx_trace::laws_of_replays::a_transcript_has_one_replay;
 use smx_text::laws::{one_text_has_one_reading, one_transcript_has_one_reading};
 
 /// A check, with or without an explanation, a replay, and a run on one worker each have only one answer to an input,

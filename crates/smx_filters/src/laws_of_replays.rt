@@ -6,7 +6,7 @@ ghost use Rattle.smx_filters.specs.CheckText.{checking};
 ghost use Rattle.smx_filters.specs.Filters.{GivesFor};
 ghost use Rattle.smx_filters.specs.ReplayText.{replaying};
 
-use smx_replay::laws_of_replays::{a_transcript_has_one_replay, replays_are_the_legal_transcripts};
+use smx_trace::laws_of_replays::{a_transcript_has_one_replay, replays_are_the_legal_transcripts};
 use smx_text::laws::one_transcript_has_one_reading;
 
 /// If a check judges an input legal, a replay gives it back, to the byte.

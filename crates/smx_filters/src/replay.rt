@@ -9,8 +9,8 @@ use crate::device::{Feed, Sink};
 use crate::input::read_all;
 use crate::main_fault::MainFault;
 use crate::output::write_all;
-use smx_replay::laws_of_replays::replays_can_be_expressed;
-use smx_replay::replay;
+use smx_trace::laws_of_replays::replays_can_be_expressed;
+use smx_trace::replay;
 use smx_text::read_transcript;
 use std::alloc::Global;
 

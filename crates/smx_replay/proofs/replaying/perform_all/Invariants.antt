@@ -1,8 +1,0 @@
-use Rattle.std.specs.Prelude.{List, []}
-use Rattle.smx_types.specs.declared.driver.DriverSpec.{DriverSpec}
-use Rattle.smx_replay.specs.Answers.{HasCome}
-use Rattle.smx_replay.proofs.replaying.perform_all.Given as goal
-
-abbrev pub invariant-loop-entry : goal.invariant-loop-entry
-invariant-loop-entry l = (drivers : List DriverSpec) → HasCome drivers [] l.fn.config []
-    → HasCome drivers l.yielded l.config l.lines.items

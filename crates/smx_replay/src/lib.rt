@@ -1,7 +1,0 @@
-//! The replay of a transcript: its commands are performed in its order, whatever replies it had.
-#![tactic(auto)]
-
-pub mod laws_of_replays;
-mod replaying;
-
-pub use replaying::replay;

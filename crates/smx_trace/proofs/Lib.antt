@@ -1,0 +1,3 @@
+pub mod ReplayLemmas
+pub mod QuietLemmas
+pub mod MissingLemmas

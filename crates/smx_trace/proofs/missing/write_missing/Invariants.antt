@@ -1,0 +1,13 @@
+use Rattle.std.specs.Prelude.{◌≡◌, ◌++◌, take, drop}
+use Rattle.std.specs.List.{flat_map}
+use Rattle.smx_model.specs.Changes.{missing_from}
+use Rattle.smx_trace.specs.Missing.{ComesTo}
+use Rattle.smx_trace.specs.TraceWords.{marked}
+use Rattle.smx_trace.proofs.missing.write_missing.Given as goal
+
+abbrev pub invariant-loop-line : goal.invariant-loop-line
+invariant-loop-line g l = record {
+  merged : ComesTo (g.T.Ranked.rank l.drivers) l.others (drop l.line-index l.lines) l.rest;
+  written : l.out.items ≡ l.initial.out.items ++ flat_map (λ line. marked l.mark (g.T.Spell.words line))
+      (missing_from g.T.PartialEq.eq (take l.line-index l.lines) l.others);
+}

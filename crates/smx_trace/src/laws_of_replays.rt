@@ -1,0 +1,60 @@
+//! Laws of replays, each the contract of a function that does nothing.
+
+ghost use Rattle.std.specs.Prelude.{◌≡◌, map};
+ghost use Rattle.smx_types.specs.declared.transcript.Transcript.{Transcript};
+ghost use Rattle.smx_model.specs.DriverList.{IsDriverList};
+ghost use Rattle.smx_model.specs.Histories.{call_of};
+ghost use Rattle.smx_model.specs.LawfulHistories.{AreDropsAllowed, IsLawfulThroughout};
+ghost use Rattle.smx_config.specs.Verdicts.{IsVerdict};
+ghost use Rattle.smx_config.specs.declared.verdict.Verdict.TheVariants.{Legal};
+ghost use Rattle.smx_trace.specs.Replays.{IsReplayOf};
+ghost use Rattle.smx_trace.specs.WorkedReplays.{claimed, exchanged, left_out, put_right};
+ghost use Rattle.smx_text.specs.TranscriptText.{IsAllowed, IsSpellable};
+
+use smx_model::laws::{histories_are_determined, lawful_after_each_entry};
+use smx_model::laws_of_hangups::without_a_hangup_none_is_reported;
+use smx_model::laws_of_messages::few_commands_drop;
+
+/// A transcript with valid drivers has exactly one replay. Transcripts with the same version, drivers and calls have
+/// the same one, whatever their replies and their views.
+pub fn a_transcript_has_one_replay()
+    ensures always { (t : Transcript) → IsDriverList t.drivers → (r : Transcript) × IsReplayOf t r }
+    ensures one { (t r s : Transcript) → IsReplayOf t r → IsReplayOf t s → r ≡ s }
+    ensures calls_alone { (t u r : Transcript) → u.version ≡ t.version → u.drivers ≡ t.drivers
+        → map call_of u.entries ≡ map call_of t.entries → IsReplayOf t r → IsReplayOf u r }
+{
+    histories_are_determined();
+}
+
+/// A transcript whose verdict is legal is its own replay, and the verdict on every replay is legal.
+pub fn replays_are_the_legal_transcripts()
+    ensures own { (t : Transcript) → IsDriverList t.drivers → IsVerdict t.drivers t.entries t.view Legal
+        → IsReplayOf t t }
+    ensures legal { (t r : Transcript) → IsReplayOf t r → IsVerdict r.drivers r.entries r.view Legal }
+{}
+
+/// A replay is lawful after each entry, and few of its commands drop messages.
+pub fn replays_are_lawful()
+    ensures lawful { (t r : Transcript) → IsReplayOf t r → IsLawfulThroughout r.drivers r.entries }
+    ensures drops { (t r : Transcript) → IsReplayOf t r → AreDropsAllowed r.entries }
+{
+    lawful_after_each_entry();
+    few_commands_drop();
+}
+
+/// A replay is within the limits of its transcript and needs no later version. If no device hangs up, no reply of the
+/// replay and no line of its view reports a hangup.
+pub fn replays_can_be_expressed()
+    ensures { (t r : Transcript) → IsAllowed t.version t → IsReplayOf t r → IsSpellable r → IsAllowed r.version r }
+{
+    without_a_hangup_none_is_reported();
+}
+
+/// The replay of the worked history corrects it from its second entry on, which is illegal. The history is not its
+/// own replay. Nor is one that leaves out an entry, or one that exchanges two of them.
+pub fn the_second_is_put_right()
+    ensures right { IsReplayOf claimed put_right }
+    ensures not_itself { IsReplayOf claimed claimed → ⊥ }
+    ensures not_left_out { IsReplayOf claimed left_out → ⊥ }
+    ensures not_exchanged { IsReplayOf claimed exchanged → ⊥ }
+{}

@@ -1,0 +1,93 @@
+//! The lines of one view that another doesn't have.
+
+ghost use Rattle.std.specs.Prelude.{◌≡◌, ◌∷◌, ◌++◌, [], IfOk, MatchOption, OnOk, Some, slice_get};
+ghost use Rattle.std.specs.List.{flat_map};
+ghost use Rattle.smx_model.specs.Changes.{missing_from};
+ghost use Rattle.smx_trace.specs.Missing.{ComesTo, StartsAt, StepsTo};
+ghost use Rattle.smx_trace.specs.Ranks.{IsRanked};
+ghost use Rattle.smx_trace.specs.TraceWords.{marked};
+
+use crate::pieces::put;
+use crate::ranks::{Ranked, pair_before};
+use smx_text::Same;
+use smx_types::{DriverSpec, NoMemory};
+use smx_words::Spell;
+
+// Returns the lines from the first one on that is this line or comes after it.
+fn lines_from<'a, T: Ranked>(drivers: &[DriverSpec], lines: &'a [T], line: &T) -> &'a [T]
+    ensures passed { ComesTo (T.rank drivers.now) lines.now (line.now ∷ []) result.now }
+    ensures starts { StartsAt (T.rank drivers.now) line.now result.now }
+{
+    let mut rest = lines;
+    'lines: while let Some((first, more)) = rest.split_first() {
+        // No number of a driver is looked up for a line that stays.
+        if first.is_same(line) || !pair_before(first.rank_of(drivers), line.rank_of(drivers)) {
+            break 'lines;
+        }
+        rest = more;
+    }
+    rest
+}
+
+// Returns the lines after this one, if it is the first of them.
+fn lines_after<'a, T: Same>(lines: &'a [T], line: &T) -> Option<&'a [T]>
+    ensures { MatchOption result (slice_get lines.now 0 ≡ Some line.now → ⊥) (λ rest. lines.now ≡ line.now ∷ rest.now) }
+{
+    let (first, rest) = lines.split_first()?;
+    if first.is_same(line) {
+        Some(rest)
+    } else {
+        None
+    }
+}
+
+// Appends the line after a mark. Fails only if out of memory.
+fn write_marked<T: Spell>(out: &mut Vec<u8>, mark: &[u8], line: &T) -> Result<(), NoMemory>
+    ensures { OnOk result (out.new.items ≡ out.old.items ++ marked mark.now (T.words line.now)) }
+{
+    put(out, mark)?;
+    line.write_line(out)?;
+    Ok(())
+}
+
+// Appends the line after a mark, unless it is among others that rise. Returns those of them among which later lines
+// can be. Fails only if out of memory.
+fn write_if_missing<'a, T: Ranked>(
+    out: &mut Vec<u8>,
+    drivers: &[DriverSpec],
+    mark: &[u8],
+    line: &T,
+    others: &'a [T],
+) -> Result<&'a [T], NoMemory>
+    ensures { IfOk result (λ rest. StepsTo (T.rank drivers.now) T.eq (λ line. marked mark.now (T.words line))
+        line.now others.now rest.now out.old.items out.new.items) }
+{
+    let rest = lines_from(drivers, others, line);
+    match lines_after(rest, line) {
+        Some(more) => Ok(more),
+        None => {
+            write_marked(out, mark, line)?;
+            Ok(rest)
+        }
+    }
+}
+
+/// Appends each of the lines, after a mark, that is not one of the others. Both rise. Fails only if out of memory.
+pub fn write_missing<T: Ranked>(
+    out: &mut Vec<u8>,
+    drivers: &[DriverSpec],
+    mark: &[u8],
+    lines: &[T],
+    others: &[T],
+) -> Result<(), NoMemory>
+    requires lines { IsRanked (T.rank drivers.now) lines.now }
+    requires others { IsRanked (T.rank drivers.now) others.now }
+    ensures { OnOk result (out.new.items ≡ out.old.items
+        ++ flat_map (λ line. marked mark.now (T.words line)) (missing_from T.eq lines.now others.now)) }
+{
+    let mut rest = others;
+    for line in lines {
+        rest = write_if_missing(out, drivers, mark, line, rest)?;
+    }
+    Ok(())
+}

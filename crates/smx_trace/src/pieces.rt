@@ -1,0 +1,85 @@
+//! The pieces of a line of a trace.
+
+ghost use Rattle.std.specs.Prelude.{◌≡◌, ◌++◌, OnOk};
+ghost use Rattle.std.specs.Fmt.{decimal};
+ghost use Rattle.smx_model.specs.DriverList.{name_of};
+ghost use Rattle.smx_words.specs.Spelling.{side_word};
+ghost use Rattle.smx_words.specs.Words.{line_of};
+ghost use Rattle.smx_trace.specs.TraceWords.{place_words, stream_words};
+
+use itoa::Buffer;
+use smx_types::{DriverSpec, NoMemory, Place, Side, StreamId};
+
+/// Appends these bytes.
+pub fn put(out: &mut Vec<u8>, text: &[u8]) -> Result<(), NoMemory>
+    ensures { OnOk result (out.new.items ≡ out.old.items ++ text.now) }
+{
+    out.extend_from_slice(text)?;
+    Ok(())
+}
+
+/// Appends a number, in decimal.
+pub fn put_number(out: &mut Vec<u8>, number: u32) -> Result<(), NoMemory>
+    ensures { OnOk result (out.new.items ≡ out.old.items ++ decimal number) }
+{
+    put(out, Buffer::new().format(number).as_bytes())
+}
+
+// Returns the word of a side.
+fn word_of_side(side: Side) -> &'static [u8]
+    ensures { result.now ≡ side_word side }
+{
+    match side {
+        Side::Write => b"w",
+        Side::Read => b"r",
+    }
+}
+
+/// Appends a driver's name, a minor and a side: the words of a place.
+pub fn put_place_words(
+    out: &mut Vec<u8>,
+    name: &[u8],
+    minor: u32,
+    side: Side,
+) -> Result<(), NoMemory>
+    ensures { OnOk result (out.new.items ≡ out.old.items ++ line_of (place_words name.now minor side)) }
+{
+    put(out, name)?;
+    put(out, b" ")?;
+    put_number(out, minor)?;
+    put(out, b" ")?;
+    put(out, word_of_side(side))
+}
+
+/// Appends the name of the driver with this number.
+pub fn put_name(out: &mut Vec<u8>, drivers: &[DriverSpec], driver: u8) -> Result<(), NoMemory>
+    ensures { OnOk result (out.new.items ≡ out.old.items ++ name_of drivers.now driver) }
+{
+    match drivers.get(driver as usize) {
+        Some(d) => put(out, d.name.as_bytes()),
+        None => Ok(()),
+    }
+}
+
+/// Appends the words of a stream.
+pub fn put_stream(
+    out: &mut Vec<u8>,
+    drivers: &[DriverSpec],
+    stream: StreamId,
+) -> Result<(), NoMemory>
+    ensures { OnOk result (out.new.items ≡ out.old.items ++ line_of (stream_words drivers.now stream)) }
+{
+    put_name(out, drivers, stream.driver)?;
+    put(out, b" ")?;
+    put_number(out, u32::from(stream.minor))
+}
+
+/// Appends the words of a place.
+pub fn put_place(out: &mut Vec<u8>, drivers: &[DriverSpec], place: Place) -> Result<(), NoMemory>
+    ensures { OnOk result (out.new.items ≡ out.old.items ++ line_of (
+        place_words (name_of drivers.now place.stream.driver) place.stream.minor place.side)) }
+{
+    put_stream(out, drivers, place.stream)?;
+    put(out, b" ")?;
+    put(out, word_of_side(place.side))
+}

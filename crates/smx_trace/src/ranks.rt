@@ -1,0 +1,105 @@
+//! The order in which a view lists the lines of a group.
+
+ghost use Rattle.std.specs.Prelude.{◌≡◌, ◌<◌, ◌^◌, IfOk, length};
+ghost use Rattle.smx_model.specs.Configuration.{pair_before};
+ghost use Rattle.smx_trace.specs.Ranks.{number_of};
+
+use smx_tables::driver_specs::driver_of;
+use smx_text::Same;
+use smx_types::{
+    BindingLine, DescriptorLine, DriverSpec, FullLine, HungLine, LinkLine, Name, RouteLine, Side,
+};
+use smx_words::Spell;
+
+/// A line of a group that rises in each view, by two numbers.
+pub trait Ranked: Same + Spell {
+    ghost use Rattle.std.specs.Prelude.{◌≡◌, ℕ, List};
+    ghost use Rattle.smx_types.specs.declared.driver.DriverSpec.{DriverSpec as AnyDriver};
+
+    ghost rank: { List AnyDriver → Self → ℕ × ℕ };
+
+    /// Returns the numbers by which the line has its place in a view over these drivers.
+    fn rank_of(&self, drivers: &[DriverSpec]) -> (u64, u64)
+        ensures { result ≡ rank drivers.now self.now };
+}
+
+/// Returns whether the first two numbers come before the others.
+pub fn pair_before(a: (u64, u64), b: (u64, u64)) -> bool
+    ensures { result ≡ pair_before a.0 a.1 b.0 b.1 }
+{
+    a.0 < b.0 || (a.0 == b.0 && a.1 < b.1)
+}
+
+// Returns the number of the driver with this name.
+fn number_of(drivers: &[DriverSpec], name: &Name) -> u64
+    ensures { result ≡ number_of drivers.now name.now }
+{
+    match driver_of(drivers, name) {
+        Ok(number) => number as u64,
+        Err(_) => 0,
+    }
+}
+
+impl Ranked for DescriptorLine {
+    ghost use Rattle.smx_trace.specs.Ranks.{fd_rank};
+
+    ghost rank = { fd_rank };
+
+    fn rank_of(&self, _drivers: &[DriverSpec]) -> (u64, u64) {
+        (u64::from(self.process.get()), u64::from(self.fd))
+    }
+}
+
+impl Ranked for LinkLine {
+    ghost use Rattle.smx_trace.specs.Ranks.{link_rank};
+
+    ghost rank = { link_rank };
+
+    fn rank_of(&self, _drivers: &[DriverSpec]) -> (u64, u64) {
+        (u64::from(self.id), 0)
+    }
+}
+
+impl Ranked for BindingLine {
+    ghost use Rattle.smx_trace.specs.Ranks.{bind_rank};
+
+    ghost rank = { bind_rank };
+
+    fn rank_of(&self, drivers: &[DriverSpec]) -> (u64, u64) {
+        (number_of(drivers, &self.driver), u64::from(self.addr))
+    }
+}
+
+impl Ranked for RouteLine {
+    ghost use Rattle.smx_trace.specs.Ranks.{route_rank};
+
+    ghost rank = { route_rank };
+
+    fn rank_of(&self, drivers: &[DriverSpec]) -> (u64, u64) {
+        (number_of(drivers, &self.driver), u64::from(self.addr))
+    }
+}
+
+impl Ranked for FullLine {
+    ghost use Rattle.smx_trace.specs.Ranks.{full_rank};
+
+    ghost rank = { full_rank };
+
+    fn rank_of(&self, drivers: &[DriverSpec]) -> (u64, u64) {
+        let side = match self.side {
+            Side::Write => 0,
+            Side::Read => 1,
+        };
+        (number_of(drivers, &self.driver), 2 * u64::from(self.minor) + side)
+    }
+}
+
+impl Ranked for HungLine {
+    ghost use Rattle.smx_trace.specs.Ranks.{hung_rank};
+
+    ghost rank = { hung_rank };
+
+    fn rank_of(&self, drivers: &[DriverSpec]) -> (u64, u64) {
+        (number_of(drivers, &self.driver), u64::from(self.minor))
+    }
+}

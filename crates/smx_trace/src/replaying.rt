@@ -1,0 +1,64 @@
+//! A replay, from the transcript that was read to the text of the transcript that its commands give.
+
+ghost use Rattle.std.specs.Prelude.{◌∷◌, ◌++◌, [], List, IfOk, IfErr, OnOk};
+ghost use Rattle.smx_types.specs.declared.command.Entry.{Entry as AnyEntry};
+ghost use Rattle.smx_types.specs.declared.driver.DriverSpec.{DriverSpec as AnyDriver};
+ghost use Rattle.smx_config.specs.DriverFaults.{RefusesDrivers};
+ghost use Rattle.smx_trace.specs.Answers.{HasCome};
+ghost use Rattle.smx_trace.specs.Replays.{IsReplayText};
+
+use smx_config::{Config, ConfigFault};
+use smx_text::{add_entry_line, finish_transcript};
+use smx_types::{Entries, Entry, NoMemory, Transcript};
+use std::alloc::Global;
+
+/// Performs the commands of a transcript, each for its process, in order, starting with the empty configuration.
+/// Ignores the replies and the configuration of the transcript. Returns the text of the transcript that the commands
+/// give, in the same version; it reuses the memory of `room`, whose bytes are discarded. Fails if the drivers are not
+/// valid, or if it is out of memory.
+pub fn replay(alloc: Global, transcript: Transcript, room: Vec<u8>) -> Result<Vec<u8>, ConfigFault>
+    ensures written { IfOk result (λ text. IsReplayText transcript text.items) }
+    ensures refused { IfErr result (RefusesDrivers transcript.drivers) }
+{
+    let Transcript {
+        version,
+        drivers,
+        entries,
+        ..
+    } = transcript;
+    let mut config = Config::new(alloc, drivers.as_slice())?;
+    let lines = perform_all(&mut config, entries, room)?;
+    let view = config.into_view()?;
+    Ok(finish_transcript(lines, version, drivers.as_slice(), &view)?)
+}
+
+// Performs the commands of all entries. Returns the line of each, with the reply that it gets. Fails only if it is
+// out of memory.
+fn perform_all(config: &mut Config, entries: Entries, room: Vec<u8>) -> Result<Vec<u8>, NoMemory>
+    ensures { IfOk result (λ lines. (drivers : List AnyDriver) → HasCome drivers [] config.old []
+        → HasCome drivers entries config.new lines.items) }
+{
+    let mut lines = room;
+    lines.clear();
+    for entry in entries.into_vec() {
+        perform_again(config, entry, &mut lines)?;
+    }
+    Ok(lines)
+}
+
+// Performs the command of an entry again, and appends its line with the reply that it gets. Fails only if it is out
+// of memory.
+fn perform_again(config: &mut Config, entry: Entry, lines: &mut Vec<u8>) -> Result<(), NoMemory>
+    ensures { OnOk result ((drivers : List AnyDriver) (asked : List AnyEntry)
+        → HasCome drivers asked config.old lines.old.items
+        → HasCome drivers (asked ++ entry ∷ []) config.new lines.new.items) }
+{
+    let Entry {
+        process,
+        command,
+        ..
+    } = entry;
+    let reply = config.step(process, &command)?;
+    add_entry_line(lines, process, &command, &reply)?;
+    Ok(())
+}
