@@ -1,3 +1,15 @@
+pub mod RowLemmas
+pub mod Spelling
+pub mod CompleteLemmas
+pub mod DeterminedLemmas
+pub mod WalkLemmas
+pub mod ShapeLemmas
+pub mod CommandFormLemmas
+pub mod ReplyFormLemmas
+pub mod LineFormLemmas
+pub mod ColumnLemmas
+pub mod OneColumnLemmas
+pub mod WorkedColumnLemmas
 pub mod DifferenceLemmas
 pub mod LineLemmas
 pub mod TextLemmas

@@ -1,9 +1,10 @@
 //! Explains why a text is malformed.
 
+use crate::columns::{LineColumn, column_of};
+use crate::kinds::{Choice, TextKind, Wanted};
 use crate::lines::line_at;
 use crate::reasons::{header_reason, limit_reason, order_reason};
 use crate::shown::write_line;
-use smx_place::{Choice, LinePlace, TextKind, Wanted, place_of};
 use smx_text::{Cause, TextFault};
 use smx_types::Version;
 use std::fmt;
@@ -23,15 +24,15 @@ pub struct FaultExplanation<'a> {
 }
 
 impl FaultExplanation<'_> {
-    // Returns the place at which the line becomes invalid, if it is malformed by itself.
-    fn place(&self, line: &[u8]) -> Option<LinePlace> {
+    // Returns the column in which the line becomes invalid, if it is malformed by itself.
+    fn column(&self, line: &[u8]) -> Option<LineColumn> {
         match self.fault.cause {
-            Cause::Form => place_of(self.kind, version_of(self.text), line),
+            Cause::Form => column_of(self.kind, version_of(self.text), line),
             Cause::Header | Cause::Many | Cause::Cut | Cause::Trailing | Cause::NoMemory => None,
         }
     }
 
-    // Returns what is wrong with a line that has no such place.
+    // Returns what is wrong with a line that has no such column.
     fn reason(&self, line: &[u8]) -> &'static str {
         match self.fault.cause {
             Cause::Header => header_reason(self.kind, line),
@@ -49,8 +50,8 @@ impl fmt::Display for FaultExplanation<'_> {
         let number = self.fault.line;
         let line = line_at(self.text, number);
         write!(f, "line {number}: ")?;
-        match self.place(line) {
-            Some(place) => write_place(f, line, place),
+        match self.column(line) {
+            Some(at) => write_column(f, line, at),
             None => {
                 write_line(f, line, 1)?;
                 writeln!(f, "\n{}", self.reason(line))
@@ -67,14 +68,14 @@ fn version_of(text: &[u8]) -> Version {
     }
 }
 
-// Writes a malformed line, and below it the place at which it becomes invalid and what is expected there. If a space
+// Writes a malformed line, and below it the column in which it becomes invalid and what is expected there. If a space
 // at the end is all that is wrong with the line, says so.
-fn write_place<W: fmt::Write>(
+fn write_column<W: fmt::Write>(
     f: &mut fmt::Formatter<W>,
     line: &[u8],
-    place: LinePlace,
+    at: LineColumn,
 ) -> fmt::Result {
-    let LinePlace { column, wanted } = place;
+    let LineColumn { column, wanted } = at;
     write_line(f, line, column)?;
     write!(f, "\ncolumn {column}: {wanted} is wanted")?;
     if wanted == Wanted::Choice(Choice::End) && line.len() < column {

@@ -1,6 +1,6 @@
 //! Why a text is refused, if no word of the malformed line is reported.
 
-use smx_place::TextKind;
+use crate::kinds::TextKind;
 use smx_types::Version;
 
 /// Returns the reason for a first line that is the header of the other text, or of neither.

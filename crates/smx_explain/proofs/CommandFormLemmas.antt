@@ -1,0 +1,194 @@
+-- The words of a command, by the table of commands.
+use Rattle.std.proofs.Common.{◌≡◌, ℕ, true, List, [], ◌∷◌, refl, inl, inr, rules}
+use Rattle.std.specs.Prelude.{codes}
+use Rattle.std.specs.Fmt.{decimal}
+use Rattle.smx_types.specs.declared.command.Command.{Command as AnyCommand}
+use Rattle.smx_types.specs.declared.command.Command.TheVariants as command
+use Rattle.smx_types.specs.declared.version.Version.{Version}
+use Rattle.smx_types.specs.declared.version.Version.TheVariants.{V1, V2}
+use Rattle.smx_words.specs.Spellable.{CanTell, FitsCommandIn}
+use Rattle.smx_words.specs.Spelling.{command_words}
+use Rattle.smx_explain.specs.Rows.{IsFixed, IsRow, commands}
+use Rattle.smx_explain.specs.declared.kinds.Choice.{Choice}
+use Rattle.smx_explain.specs.declared.kinds.Choice.TheVariants.{Command, Equals}
+use Rattle.smx_explain.specs.declared.kinds.Value.{Value}
+use Rattle.smx_explain.specs.declared.kinds.Value.TheVariants.{Name, Number, Which, Sides, Bytes}
+use Rattle.smx_explain.proofs.CompleteLemmas.{fixed_in}
+use Rattle.smx_explain.proofs.ShapeLemmas.{given}
+use Rattle.smx_explain.proofs.Spelling.{Takes}
+use Rattle.smx_explain.proofs.WalkLemmas.{number, tells}
+
+-- a word of the table, and words for the values after it
+pub record HasForm (version : Version) (c : AnyCommand) : Type 0 where
+  pub word : List ℕ
+  pub args : List (List ℕ)
+  pub values : List Value
+  pub are : command_words c ≡ word ∷ args
+  pub fixed : IsFixed version Command word values Equals
+  pub takes : Takes values args
+
+-- ---- each command has a form
+
+module _ (version : Version) where
+  -- a command whose words are those of a row, and words for its values, has a form
+  formed : (c : AnyCommand) (word : List ℕ) (values : List Value) (args : List (List ℕ))
+      → command_words c ≡ word ∷ args → IsRow commands word values Equals → Takes values args → HasForm version c
+  formed c word values args are is takes = record {
+    word = word;
+    args = args;
+    values = values;
+    are = are;
+    fixed = fixed_in version Command word values Equals is;
+    takes = takes;
+  }
+
+  -- each command of a version has a form
+  pub form : (c : AnyCommand) → FitsCommandIn version c → HasForm version c
+  form (command.OpenClone driver) (fits, told) =
+      formed _ (codes "clone") (Name ∷ []) _ refl (search rules) (fits, tt)
+  form (command.OpenMinor driver minor) (fits, told) =
+      formed _ (codes "open") (Name ∷ Number ∷ []) _ refl (search rules) (fits.0, (number minor fits.1, tt))
+  form (command.Dup fd) (fits, told) =
+      formed _ (codes "dup") (Number ∷ []) _ refl (search rules) (number fd fits, tt)
+  form (command.Close fd) (fits, told) =
+      formed _ (codes "close") (Number ∷ []) _ refl (search rules) (number fd fits, tt)
+  form command.CloseAll (fits, told) = formed _ (codes "exit") [] _ refl (search rules) tt
+  form (command.Link fd arg) (fits, told) =
+      formed _ (codes "link") (Number ∷ Number ∷ []) _ refl (search rules) (number fd fits.0, (number arg fits.1, tt))
+  form (command.Plink fd arg) (fits, told) =
+      formed _ (codes "plink") (Number ∷ Number ∷ []) _ refl (search rules)
+      (number fd fits.0, (number arg fits.1, tt))
+  form (command.Unlink fd which) (fits, told) =
+      formed _ (codes "unlink") (Number ∷ Which ∷ []) _ refl (search rules)
+      (number fd fits.0, ((which, fits.1, refl), tt))
+  form (command.Punlink fd which) (fits, told) =
+      formed _ (codes "punlink") (Number ∷ Which ∷ []) _ refl (search rules)
+      (number fd fits.0, ((which, fits.1, refl), tt))
+  form (command.Bind fd addr) (fits, told) =
+      formed _ (codes "bind") (Number ∷ Number ∷ []) _ refl (search rules)
+      (number fd fits.0, (number addr fits.1, tt))
+  form (command.Unbind fd) (fits, told) =
+      formed _ (codes "unbind") (Number ∷ []) _ refl (search rules) (number fd fits, tt)
+  form (command.Route fd addr id) (fits, told) =
+      formed _ (codes "route") (Number ∷ Number ∷ Number ∷ []) _ refl (search rules)
+      (number fd fits.0, (number addr fits.1, (number id fits.2, tt)))
+  form (command.Unroute fd addr) (fits, told) =
+      formed _ (codes "unroute") (Number ∷ Number ∷ []) _ refl (search rules)
+      (number fd fits.0, (number addr fits.1, tt))
+  form (command.Write fd addr bytes) (fits, told) =
+      formed _ (codes "write") (Number ∷ Number ∷ Bytes ∷ []) _ refl (search rules)
+      (number fd fits.0, (number addr fits.1, ((bytes, fits.2, refl), tt)))
+  form (command.Read fd) (fits, told) =
+      formed _ (codes "read") (Number ∷ []) _ refl (search rules) (number fd fits, tt)
+  form (command.Flush fd sides) (fits, told) =
+      formed _ (codes "flush") (Number ∷ Sides ∷ []) _ refl (search rules) (number fd fits, ((sides, tt, refl), tt))
+  form (command.Inject driver minor addr bytes) (fits, told) =
+      formed _ (codes "inject") (Name ∷ Number ∷ Number ∷ Bytes ∷ []) _ refl (search rules)
+      (fits.0, (number minor fits.1, (number addr fits.2, ((bytes, fits.3, refl), tt))))
+  form (command.Transmit driver minor) (fits, told) =
+      formed _ (codes "transmit") (Name ∷ Number ∷ []) _ refl (search rules) (fits.0, (number minor fits.1, tt))
+  form (command.Hangup driver minor) (fits, told) = of_version_2 version told where
+    of_version_2 : (v : Version) → CanTell v true → HasForm v (command.Hangup driver minor)
+    of_version_2 V1 told = absurd (cc told)
+    of_version_2 V2 told = record {
+      word = codes "hangup";
+      args = driver ∷ decimal minor ∷ [];
+      values = Name ∷ Number ∷ [];
+      are = refl;
+      fixed = inl (refl, refl, refl);
+      takes = (fits.0, (number minor fits.1, tt));
+    }
+
+-- ---- each form is a command's
+
+-- a command of a version has these words
+abbrev pub IsCommand : Version → List (List ℕ) → Type 0
+IsCommand version words = (c : AnyCommand) × FitsCommandIn version c × (command_words c ≡ words)
+
+module _ (version : Version) where
+  -- a word of version 1's commands, and words for the values after it, are the words of a command
+  of_row : (word : List ℕ) (values : List Value) (next : Choice) (args : List (List ℕ))
+      → IsRow commands word values next → Takes values args → IsCommand version (word ∷ args)
+  of_row word values next args (inl is) takes =
+      let (((a, is_a), end), are) = given (Name ∷ []) args is.1 takes in
+      (command.OpenClone a, (is_a, tells version), cc (is.0, are))
+  of_row word values next args (inr (inl is)) takes =
+      let (((a, is_a), ((b, is_b), end)), are) = given (Name ∷ Number ∷ []) args is.1 takes in
+      (command.OpenMinor a is_b.0, ((is_a, is_b.1), tells version), cc (is.0, are, is_b.2))
+  of_row word values next args (inr (inr (inl is))) takes =
+      let (((a, is_a), end), are) = given (Number ∷ []) args is.1 takes in
+      (command.Dup is_a.0, (is_a.1, tells version), cc (is.0, are, is_a.2))
+  of_row word values next args (inr (inr (inr (inl is)))) takes =
+      let (((a, is_a), end), are) = given (Number ∷ []) args is.1 takes in
+      (command.Close is_a.0, (is_a.1, tells version), cc (is.0, are, is_a.2))
+  of_row word values next args (inr (inr (inr (inr (inl is))))) takes =
+      let (end, are) = given [] args is.1 takes in
+      (command.CloseAll, (tt, tells version), cc (is.0, are))
+  of_row word values next args (inr (inr (inr (inr (inr (inl is)))))) takes =
+      let (((a, is_a), ((b, is_b), end)), are) = given (Number ∷ Number ∷ []) args is.1 takes in
+      (command.Link is_a.0 is_b.0, ((is_a.1, is_b.1), tells version), cc (is.0, are, is_a.2, is_b.2))
+  of_row word values next args (inr (inr (inr (inr (inr (inr (inl is))))))) takes =
+      let (((a, is_a), ((b, is_b), end)), are) = given (Number ∷ Number ∷ []) args is.1 takes in
+      (command.Plink is_a.0 is_b.0, ((is_a.1, is_b.1), tells version), cc (is.0, are, is_a.2, is_b.2))
+  of_row word values next args (inr (inr (inr (inr (inr (inr (inr (inl is)))))))) takes =
+      let (((a, is_a), ((b, is_b), end)), are) = given (Number ∷ Which ∷ []) args is.1 takes in
+      (command.Unlink is_a.0 is_b.0, ((is_a.1, is_b.1), tells version), cc (is.0, are, is_a.2, is_b.2))
+  of_row word values next args (inr (inr (inr (inr (inr (inr (inr (inr (inl is))))))))) takes =
+      let (((a, is_a), ((b, is_b), end)), are) = given (Number ∷ Which ∷ []) args is.1 takes in
+      (command.Punlink is_a.0 is_b.0, ((is_a.1, is_b.1), tells version), cc (is.0, are, is_a.2, is_b.2))
+  of_row word values next args (inr (inr (inr (inr (inr (inr (inr (inr (inr (inl is)))))))))) takes =
+      let (((a, is_a), ((b, is_b), end)), are) = given (Number ∷ Number ∷ []) args is.1 takes in
+      (command.Bind is_a.0 is_b.0, ((is_a.1, is_b.1), tells version), cc (is.0, are, is_a.2, is_b.2))
+  of_row word values next args (inr (inr (inr (inr (inr (inr (inr (inr (inr (inr (inl is))))))))))) takes =
+      let (((a, is_a), end), are) = given (Number ∷ []) args is.1 takes in
+      (command.Unbind is_a.0, (is_a.1, tells version), cc (is.0, are, is_a.2))
+  of_row word values next args (inr (inr (inr (inr (inr (inr (inr (inr (inr (inr (inr (inl is)))))))))))) takes =
+      let (((a, is_a), ((b, is_b), ((c, is_c), end))), are) = given (Number ∷ Number ∷ Number ∷ []) args is.1 takes in (
+        command.Route is_a.0 is_b.0 is_c.0,
+        ((is_a.1, is_b.1, is_c.1), tells version),
+        cc (is.0, are, is_a.2, is_b.2, is_c.2),
+      )
+  of_row word values next args (inr (inr (inr (inr (inr (inr (inr (inr (inr (inr (inr (inr (inl is))))))))))))) takes =
+      let (((a, is_a), ((b, is_b), end)), are) = given (Number ∷ Number ∷ []) args is.1 takes in
+      (command.Unroute is_a.0 is_b.0, ((is_a.1, is_b.1), tells version), cc (is.0, are, is_a.2, is_b.2))
+  of_row word values next args
+      (inr (inr (inr (inr (inr (inr (inr (inr (inr (inr (inr (inr (inr (inl is)))))))))))))) takes =
+      let (((a, is_a), ((b, is_b), ((c, is_c), end))), are) = given (Number ∷ Number ∷ Bytes ∷ []) args is.1 takes in (
+        command.Write is_a.0 is_b.0 is_c.0,
+        ((is_a.1, is_b.1, is_c.1), tells version),
+        cc (is.0, are, is_a.2, is_b.2, is_c.2),
+      )
+  of_row word values next args
+      (inr (inr (inr (inr (inr (inr (inr (inr (inr (inr (inr (inr (inr (inr (inl is))))))))))))))) takes =
+      let (((a, is_a), end), are) = given (Number ∷ []) args is.1 takes in
+      (command.Read is_a.0, (is_a.1, tells version), cc (is.0, are, is_a.2))
+  of_row word values next args
+      (inr (inr (inr (inr (inr (inr (inr (inr (inr (inr (inr (inr (inr (inr (inr (inl is)))))))))))))))) takes =
+      let (((a, is_a), ((b, is_b), end)), are) = given (Number ∷ Sides ∷ []) args is.1 takes in
+      (command.Flush is_a.0 is_b.0, (is_a.1, tells version), cc (is.0, are, is_a.2, is_b.2))
+  of_row word values next args
+      (inr (inr (inr (inr (inr (inr (inr (inr (inr (inr (inr (inr (inr (inr (inr (inr (inl is))))))))))))))))) takes =
+      let (((a, is_a), ((b, is_b), ((c, is_c), ((d, is_d), end)))), are) =
+      given (Name ∷ Number ∷ Number ∷ Bytes ∷ []) args is.1 takes in (
+        command.Inject a is_b.0 is_c.0 is_d.0,
+        ((is_a, is_b.1, is_c.1, is_d.1), tells version),
+        cc (is.0, are, is_b.2, is_c.2, is_d.2),
+      )
+  of_row word values next args
+      (inr (inr (inr (inr (inr (inr (inr (inr (inr (inr (inr (inr (inr (inr (inr (inr (inr (inl is))))))))))))))))))
+      takes =
+      let (((a, is_a), ((b, is_b), end)), are) = given (Name ∷ Number ∷ []) args is.1 takes in
+      (command.Transmit a is_b.0, ((is_a, is_b.1), tells version), cc (is.0, are, is_b.2))
+  of_row word values next args
+      (inr (inr (inr (inr (inr (inr (inr (inr (inr (inr (inr (inr (inr (inr (inr (inr (inr (inr is))))))))))))))))))
+      takes =
+      absurd is
+
+-- a fixed word of a command, and words for the values after it, are the words of a command of that version
+pub of_form : (version : Version) (word : List ℕ) (values : List Value) (next : Choice) (args : List (List ℕ))
+    → IsFixed version Command word values next → Takes values args → IsCommand version (word ∷ args)
+of_form V1 word values next args is takes = of_row V1 word values next args is takes
+of_form V2 word values next args (inl is) takes =
+    let (((a, is_a), ((b, is_b), end)), are) = given (Name ∷ Number ∷ []) args is.1 takes in
+    (command.Hangup a is_b.0, ((is_a, is_b.1), tt), cc (is.0, are, is_b.2))
+of_form V2 word values next args (inr is) takes = of_row V2 word values next args is takes

@@ -1,0 +1,130 @@
+-- A line becomes invalid in at most one column.
+use Rattle.std.proofs.Common.{◌≡◌, ℕ, ◌+◌, List, [], ◌∷◌, ◌++◌, length, refl, sym, ap, subst, ◌∙◌, append_assoc}
+use Rattle.std.proofs.Common.{inl, inr}
+use Rattle.std.proofs.lemmas.List.{append-nil}
+use Rattle.std.specs.List.{AllByRecursion}
+use Rattle.std.specs.Prelude.{◌⊎◌, ◌↔◌}
+use Rattle.smx_types.specs.declared.version.Version.{Version}
+use Rattle.smx_words.specs.Words.{IsFree, SPACE}
+use Rattle.smx_words.proofs.CutLemmas.{apart}
+use Rattle.smx_explain.specs.Columns.{AreParts, Begins, EndsThere, IsLine, IsColumn, IsWanted, IsWhole, Stops, spaced}
+use Rattle.smx_explain.specs.declared.kinds.TextKind.{TextKind}
+use Rattle.smx_explain.specs.declared.columns.LineColumn.{LineColumn}
+
+-- parts, each followed by a space, are the first with its space, then the others with theirs
+first_part : (part : List ℕ) (parts : List (List ℕ)) → spaced (part ∷ parts) ≡ part ++ SPACE ∷ spaced parts
+first_part part parts = append_assoc part (SPACE ∷ []) (spaced parts)
+
+-- a part with its space is not empty
+some_bytes : (part rest : List ℕ) → part ++ SPACE ∷ rest ≡ [] → ⊥
+some_bytes [] rest e = absurd (cc e)
+some_bytes (b ∷ part) rest e = absurd (cc e)
+
+-- bytes can be split at their spaces in only one way
+one_cut : (xs ys : List (List ℕ)) → AllByRecursion (IsFree SPACE) xs → AllByRecursion (IsFree SPACE) ys
+    → spaced xs ≡ spaced ys → xs ≡ ys
+one_cut [] [] all all_too e = refl
+one_cut [] (y ∷ ys) all all_too e = absurd (some_bytes y (spaced ys) (sym (e ∙ first_part y ys)))
+one_cut (x ∷ xs) [] all all_too e = absurd (some_bytes x (spaced xs) (sym (first_part x xs) ∙ e))
+one_cut (x ∷ xs) (y ∷ ys) all all_too e =
+    let t = apart SPACE x y (spaced xs) (spaced ys) all.0 all_too.0 (sym (first_part x xs) ∙ e ∙ first_part y ys) in
+    ap (λ (z : List ℕ). z ∷ xs) t.0 ∙ ap (λ (zs : List (List ℕ)). y ∷ zs) (one_cut xs ys all.1 all_too.1 t.1)
+
+-- a line has only one list of parts
+one_line : (line : List ℕ) (xs ys : List (List ℕ)) → AreParts line xs → AreParts line ys → xs ≡ ys
+one_line line xs ys parts others = one_cut xs ys parts.0 others.0 (sym parts.1 ∙ others.1)
+
+-- of two fronts of the same parts, the first goes on to the second with the part after it
+record GoesTo (front behind other : List (List ℕ)) : Type 0 where
+  word : List ℕ
+  rest : List (List ℕ)
+  more : List (List ℕ)
+  is : behind ≡ word ∷ rest
+  to : other ≡ (front ++ word ∷ []) ++ more
+
+-- two fronts of the same parts are the same, or one of them goes on to the other
+two_fronts : (xs ws ys bs : List (List ℕ)) → xs ++ ws ≡ ys ++ bs
+    → (xs ≡ ys) ⊎ (GoesTo xs ws ys ⊎ GoesTo ys bs xs)
+two_fronts [] ws [] bs e = inl refl
+two_fronts [] ws (y ∷ ys) bs e = inr (inl (record { word = y; rest = ys ++ bs; more = ys; is = e; to = refl }))
+two_fronts (x ∷ xs) ws [] bs e = inr (inr (record { word = x; rest = xs ++ ws; more = xs; is = sym e; to = refl }))
+two_fronts (x ∷ xs) ws (y ∷ ys) bs e =
+    let first : x ≡ y = cc in
+    let rest : xs ++ ws ≡ ys ++ bs = cc in
+    elim (two_fronts xs ws ys bs rest) [
+      | inl same ↦ inl (ap (λ (z : List ℕ). z ∷ xs) first ∙ ap (λ (zs : List (List ℕ)). y ∷ zs) same)
+      | inr (inl h) ↦ inr (inl (record {
+        word = h.word;
+        rest = h.rest;
+        more = h.more;
+        is = h.is;
+        to = ap (λ (z : List ℕ). z ∷ ys) (sym first) ∙ ap (λ (zs : List (List ℕ)). x ∷ zs) h.to;
+      }))
+      | inr (inr h) ↦ inr (inr (record {
+        word = h.word;
+        rest = h.rest;
+        more = h.more;
+        is = h.is;
+        to = ap (λ (z : List ℕ). z ∷ xs) first ∙ ap (λ (zs : List (List ℕ)). y ∷ zs) h.to;
+      }))
+    ]
+
+module _ (kind : TextKind) (version : Version) where
+  -- a line begins with the front of its words
+  begins_with : (front more : List (List ℕ)) → Begins kind version (front ++ more) → Begins kind version front
+  begins_with front more (rest, is) =
+      (more ++ rest, subst (IsLine kind version) (append_assoc front more rest) is)
+
+  -- if no line goes on, none goes on any further
+  stops_all : (front behind other : List (List ℕ)) → Stops kind version front behind → Begins kind version other
+      → GoesTo front behind other → ⊥
+  stops_all front behind other stops begun h =
+      subst (Stops kind version front) h.is stops
+      (begins_with (front ++ h.word ∷ []) h.more (subst (Begins kind version) h.to begun))
+
+  -- if no line goes on after a front, the line is not valid
+  stops_whole : (front behind : List (List ℕ)) → Stops kind version front behind
+      → IsLine kind version (front ++ behind) → ⊥
+  stops_whole front [] stops is = stops (subst (IsLine kind version) (append-nil front) is)
+  stops_whole front (word ∷ behind) stops is =
+      stops (behind, subst (IsLine kind version) (sym (append_assoc front (word ∷ []) behind)) is)
+
+  module _ (line : List ℕ) where
+    -- a line that becomes invalid is not valid
+    pub not_both : (at : LineColumn) → IsColumn kind version line at → IsWhole kind version line → ⊥
+    not_both at h (parts, are, is) =
+        stops_whole h.front h.behind h.stops
+        (subst (IsLine kind version) (one_line line parts (h.front ++ h.behind) are h.parts) is)
+
+    -- the parts before both columns are the same
+    module _ (one other : LineColumn) (h : IsColumn kind version line one) (k : IsColumn kind version line other) where
+      same_front : h.front ≡ k.front
+      same_front =
+          elim (two_fronts h.front h.behind k.front k.behind
+          (one_line line (h.front ++ h.behind) (k.front ++ k.behind) h.parts k.parts)) [
+            | inl same ↦ same
+            | inr (inl goes) ↦ absurd (stops_all h.front h.behind k.front h.stops k.begun goes)
+            | inr (inr goes) ↦ absurd (stops_all k.front k.behind h.front k.stops h.begun goes)
+          ]
+
+      -- both columns are the same
+      pub same_column : one.column ≡ other.column
+      same_column = h.column ∙ ap (λ (front : List (List ℕ)). length (spaced front) + 1) same_front ∙ sym k.column
+
+      -- the same words are expected at both
+      pub same_words : (word : List ℕ) → IsWanted version one.wanted word ↔ IsWanted version other.wanted word
+      same_words word = (
+        λ is. (k.wanted word).0
+            (subst (λ (front : List (List ℕ)). Begins kind version (front ++ word ∷ [])) same_front
+            ((h.wanted word).1 is)),
+        λ is. (h.wanted word).0
+            (subst (λ (front : List (List ℕ)). Begins kind version (front ++ word ∷ [])) (sym same_front)
+            ((k.wanted word).1 is)),
+      )
+
+      -- a line may end at both or at neither
+      pub same_ends : EndsThere one.wanted ↔ EndsThere other.wanted
+      same_ends = (
+        λ is. k.ends.0 (subst (IsLine kind version) same_front (h.ends.1 is)),
+        λ is. h.ends.0 (subst (IsLine kind version) (sym same_front) (k.ends.1 is)),
+      )

@@ -1,0 +1,20 @@
+-- The words that complete a line from some values and then a choice.
+use Rattle.std.proofs.Common.{ℕ, List, [], ◌∷◌}
+use Rattle.smx_types.specs.declared.version.Version.{Version}
+use Rattle.smx_explain.specs.Columns.{EndsThere, wanted_of}
+use Rattle.smx_explain.specs.Rows.{GoesOn, IsValue}
+use Rattle.smx_explain.specs.declared.kinds.Choice.{Choice}
+use Rattle.smx_explain.specs.declared.kinds.Value.{Value}
+
+-- the words complete the line
+abbrev pub Spells : Version → List Value → Choice → List (List ℕ) → Type 0
+Spells version values choice [] = EndsThere (wanted_of values choice)
+Spells version values choice (word ∷ words) = (behind : List Value) × (next : Choice)
+    × GoesOn version values choice word behind next × Spells version behind next words
+
+-- a word for each of the values
+abbrev pub Takes : List Value → List (List ℕ) → Type 0
+Takes [] [] = Unit {0}
+Takes [] (word ∷ words) = ⊥
+Takes (value ∷ values) [] = ⊥
+Takes (value ∷ values) (word ∷ words) = IsValue value word × Takes values words

@@ -1,0 +1,98 @@
+-- How a line goes on through the expected values and then a choice.
+use Rattle.std.proofs.Common.{◌≡◌, ℕ, false, List, [], ◌∷◌, ◌++◌, refl, ap, subst, ◌∙◌, append-nil, inl, inr}
+use Rattle.smx_types.specs.declared.version.Version.{Version}
+use Rattle.smx_types.specs.declared.version.Version.TheVariants.{V1, V2}
+use Rattle.smx_words.specs.Spellable.{CanTell, FitsNumber}
+use Rattle.std.specs.Fmt.{decimal}
+use Rattle.smx_explain.specs.Rows.{IsFixed, IsRow, IsValue, WordRow, later_rows, rows, rows_in}
+use Rattle.smx_explain.specs.declared.kinds.Choice.{Choice}
+use Rattle.smx_explain.specs.declared.kinds.Choice.TheVariants.{End}
+use Rattle.smx_explain.specs.declared.kinds.Value.{Value}
+use Rattle.smx_explain.specs.declared.kinds.Value.TheVariants.{Number}
+use Rattle.smx_explain.proofs.CompleteLemmas.{fixed_in}
+use Rattle.smx_explain.proofs.ShapeLemmas.{Words, given, words_of}
+use Rattle.smx_explain.proofs.Spelling.{Spells, Takes}
+
+-- each version can spell what has no hangup in it
+pub tells : (version : Version) → CanTell version false
+tells V1 = refl
+tells V2 = tt
+
+-- the word of a 32-bit number is a word for a number
+pub number : (n : ℕ) → FitsNumber n → IsValue Number (decimal n)
+number n fits = (n, fits, refl)
+
+module _ (version : Version) where
+  -- words for the expected values, and then words that complete the line from the choice, complete the line from both
+  pub with_args : (values : List Value) (args : List (List ℕ)) (next : Choice) (rest : List (List ℕ))
+      → Takes values args → Spells version [] next rest → Spells version values next (args ++ rest)
+  with_args [] [] next rest takes more = more
+  with_args [] (arg ∷ args) next rest takes more = absurd takes
+  with_args (value ∷ values) [] next rest takes more = absurd takes
+  with_args (value ∷ values) (arg ∷ args) next rest takes more =
+      (values, next, (takes.0, refl, refl), with_args values args next rest takes.1 more)
+
+  -- a fixed word, words for its values, and words that complete the line after them, complete the line from the
+  -- choice
+  pub from_row : (choice : Choice) (word : List ℕ) (values : List Value) (next : Choice) (args rest : List (List ℕ))
+      → IsRow (rows choice) word values next → Takes values args → Spells version [] next rest
+      → Spells version [] choice (word ∷ (args ++ rest))
+  from_row choice word values next args rest is takes more =
+      (values, next, inl (fixed_in version choice word values next is), with_args values args next rest takes more)
+
+  -- words that begin with those of the values
+  pub record Cut (values : List Value) (next : Choice) (words : List (List ℕ)) : Type 0 where
+    pub args : List (List ℕ)
+    pub rest : List (List ℕ)
+    pub are : words ≡ args ++ rest
+    pub takes : Takes values args
+    pub more : Spells version [] next rest
+
+  -- words that complete the line from some values begin with a word for each of the values
+  pub cut : (values : List Value) (next : Choice) (words : List (List ℕ)) → Spells version values next words
+      → Cut values next words
+  cut [] next words h = record { args = []; rest = words; are = refl; takes = tt; more = h }
+  cut (value ∷ values) next [] h = absurd h
+  cut (value ∷ values) next (word ∷ words) (behind, then, (is, same, same_too), h) =
+      let t = cut values next words (subst_both behind values then next words same same_too h) in
+      record {
+        args = word ∷ t.args;
+        rest = t.rest;
+        are = ap (λ (ws : List (List ℕ)). word ∷ ws) t.are;
+        takes = (is, t.takes);
+        more = t.more;
+      } where
+        subst_both : (behind values : List Value) (then next : Choice) (words : List (List ℕ)) → behind ≡ values
+            → then ≡ next → Spells version behind then words → Spells version values next words
+        subst_both behind values then next words same same_too h = rw (← same, ← same_too) h
+
+  -- if the line ends here, there is no further word
+  pub no_more : (words : List (List ℕ)) → Spells version [] End words → words ≡ []
+  no_more [] h = refl
+  no_more (word ∷ words) (values, next, inl is, h) = absurd (none version is) where
+    none : (v : Version) → IsRow (rows_in v End) word values next → ⊥
+    none V1 is = is
+    none V2 is = is
+  no_more (word ∷ words) (values, next, inr is, h) = absurd is
+
+  -- if the line ends after some values, its words are those of the values
+  pub ended : (values : List Value) (next : Choice) (words : List (List ℕ)) (wanted : List Value) → values ≡ wanted
+      → next ≡ End → Spells version values next words → Takes wanted words
+  ended values next words wanted same then h =
+      let t = cut wanted End words (rw (← same, ← then) h) in
+      let whole : words ≡ t.args = t.are ∙ ap (λ (rest : List (List ℕ)). t.args ++ rest) (no_more t.rest t.more)
+      ∙ append-nil t.args in
+      rw whole t.takes
+
+  -- if the line ends after some values, it has one word for each of them
+  pub ended_as : (values : List Value) (next : Choice) (words : List (List ℕ)) (wanted : List Value)
+      → values ≡ wanted → next ≡ End → Spells version values next words
+      → (ws : Words wanted) × (words ≡ words_of wanted ws)
+  ended_as values next words wanted same then h = given wanted words refl (ended values next words wanted same then h)
+
+-- a fixed word of a choice to which version 2 adds nothing is one of the rows of version 1
+pub plain : (version : Version) (choice : Choice) → later_rows choice ≡ [] → (word : List ℕ) (values : List Value)
+    (next : Choice) → IsFixed version choice word values next → IsRow (rows choice) word values next
+plain V1 choice none word values next is = is
+plain V2 choice none word values next is =
+    subst (λ (ks : List WordRow). IsRow (ks ++ rows choice) word values next) none is

@@ -1,0 +1,173 @@
+-- The worked columns, word by word.
+use Rattle.std.proofs.Common.{◌≡◌, ℕ, List, [], ◌∷◌, ◌++◌, Some, None, refl, inl, inr, Bor, arith, rules}
+use Rattle.std.specs.Prelude.{codes}
+use Rattle.std.specs.Fmt.{digits}
+use Rattle.smx_types.specs.declared.version.Version.{Version}
+use Rattle.smx_types.specs.declared.version.Version.TheVariants.{V1, V2}
+use Rattle.smx_explain.specs.Columns.{IsColumn, IsWhole}
+use Rattle.smx_explain.specs.Rows.{GoesOn, IsFixed, IsOther, rows_in}
+use Rattle.smx_explain.specs.WorkedColumns.{choice_at, value_at}
+use Rattle.smx_explain.specs.declared.kinds.Choice.{Choice}
+use Rattle.smx_explain.specs.declared.kinds.Choice.TheVariants as choice
+use Rattle.smx_explain.specs.declared.kinds.TextKind.TheVariants.{Programs, Transcript}
+use Rattle.smx_explain.specs.declared.kinds.Value.{Value}
+use Rattle.smx_explain.specs.declared.kinds.Value.TheVariants as value
+use Rattle.smx_explain.proofs.DeterminedLemmas.{not_new}
+use Rattle.smx_explain.proofs.ColumnLemmas.{HasCome, at_begin, ends_here, one_more, stops_here, whole_here}
+
+-- bytes as the code sees them
+abbrev seen : List ℕ → Bor (List ℕ)
+seen bytes = record { ref_ptr = (0, 0); now = bytes }
+
+-- a word of neither kind goes on in no way
+neither : (version : Version) (next : Choice) (word : List ℕ)
+    → ((values : List Value) (then : Choice) → IsFixed version next word values then → ⊥)
+    → ((values : List Value) (then : Choice) → IsOther version next word values then → ⊥)
+    → (values : List Value) (then : Choice) → GoesOn version [] next word values then → ⊥
+neither version next word fixed other values then (inl is) = fixed values then is
+neither version next word fixed other values then (inr is) = other values then is
+
+-- no line of programs begins with these words
+no_line : (word : List ℕ) → ((values : List Value) (then : Choice) → IsFixed V1 choice.ProgramsLine word values then
+    → ⊥)
+    → ((values : List Value) (then : Choice) → IsFixed V1 choice.Command word values then → ⊥)
+    → (values : List Value) (then : Choice) → GoesOn V1 [] choice.ProgramsLine word values then → ⊥
+no_line word fixed command =
+    neither V1 choice.ProgramsLine word fixed (λ values then is. command values choice.Equals is.0)
+
+-- ---- programs
+
+-- an empty line lacks its first word
+pub empty : IsColumn Programs V1 (codes "") (choice_at 1 choice.ProgramsLine)
+empty =
+    stops_here Programs V1 (codes "") 1 (Some (seen (codes ""))) [] choice.ProgramsLine
+    (at_begin Programs V1 (seen (codes ""))) (seen (codes "")) refl (codes "") None tt refl
+    (no_line (codes "") (λ values then. not_new (rows_in V1 choice.ProgramsLine) (codes "") values then refl)
+    (λ values then. not_new (rows_in V1 choice.Command) (codes "") values then refl))
+
+-- version 1 has no hangup
+pub of_version_2 : IsColumn Programs V1 (codes "hangup eth 0") (choice_at 1 choice.ProgramsLine)
+of_version_2 =
+    stops_here Programs V1 (codes "hangup eth 0") 1 (Some (seen (codes "hangup eth 0"))) [] choice.ProgramsLine
+    (at_begin Programs V1 (seen (codes "hangup eth 0"))) (seen (codes "hangup eth 0")) refl (codes "hangup")
+    (Some (seen (codes "eth 0"))) (search (rules, arith)) refl
+    (no_line (codes "hangup")
+    (λ values then. not_new (rows_in V1 choice.ProgramsLine) (codes "hangup") values then refl)
+    (λ values then. not_new (rows_in V1 choice.Command) (codes "hangup") values then refl))
+
+-- `dup` lacks a number
+pub missing_word : IsColumn Programs V1 (codes "dup") (value_at 5 value.Number)
+missing_word =
+    ends_here Programs V1 (codes "dup") 5 None (value.Number ∷ []) choice.End
+    (one_more Programs V1 (codes "dup") 1 (Some (seen (codes "dup"))) [] choice.ProgramsLine
+    (at_begin Programs V1 (seen (codes "dup"))) (seen (codes "dup")) refl (codes "dup") None (search (rules, arith))
+    refl
+    (value.Number ∷ []) choice.End (inr (search rules, refl)) 5 refl) refl (λ ends. ends)
+
+-- nothing may follow `exit`
+pub word_too_many : IsColumn Programs V1 (codes "exit 0") (choice_at 6 choice.End)
+word_too_many =
+    stops_here Programs V1 (codes "exit 0") 6 (Some (seen (codes "0"))) [] choice.End
+    (one_more Programs V1 (codes "exit 0") 1 (Some (seen (codes "exit 0"))) [] choice.ProgramsLine
+    (at_begin Programs V1 (seen (codes "exit 0"))) (seen (codes "exit 0")) refl (codes "exit") (Some (seen (codes "0")))
+    (search (rules, arith)) refl [] choice.End (inr (search rules, refl)) 6 refl)
+    (seen (codes "0")) refl (codes "0") None (search (rules, arith)) refl
+    (neither V1 choice.End (codes "0") (λ values then is. is) (λ values then is. is))
+
+-- between two spaces is an empty word
+pub two_spaces : IsColumn Programs V1 (codes "clone  ip") (value_at 7 value.Name)
+two_spaces =
+    stops_here Programs V1 (codes "clone  ip") 7 (Some (seen (codes " ip"))) (value.Name ∷ []) choice.End
+    (one_more Programs V1 (codes "clone  ip") 1 (Some (seen (codes "clone  ip"))) [] choice.ProgramsLine
+    (at_begin Programs V1 (seen (codes "clone  ip"))) (seen (codes "clone  ip")) refl (codes "clone")
+    (Some (seen (codes " ip"))) (search (rules, arith)) refl (value.Name ∷ []) choice.End (inr (search rules, refl)) 7
+    refl)
+    (seen (codes " ip")) refl (codes "") (Some (seen (codes "ip"))) tt refl
+    (λ values then goes. absurd (cc goes.0))
+
+-- version 2 has a hangup, which lacks a minor here
+pub in_version_2 : IsColumn Programs V2 (codes "hangup eth") (value_at 12 value.Number)
+in_version_2 =
+    ends_here Programs V2 (codes "hangup eth") 12 None (value.Number ∷ []) choice.End
+    (one_more Programs V2 (codes "hangup eth") 8 (Some (seen (codes "eth"))) (value.Name ∷ value.Number ∷ []) choice.End
+    (one_more Programs V2 (codes "hangup eth") 1 (Some (seen (codes "hangup eth"))) [] choice.ProgramsLine
+    (at_begin Programs V2 (seen (codes "hangup eth"))) (seen (codes "hangup eth")) refl (codes "hangup")
+    (Some (seen (codes "eth"))) (search (rules, arith)) refl (value.Name ∷ value.Number ∷ []) choice.End
+    (inr (search rules, refl)) 8 refl)
+    (seen (codes "eth")) refl (codes "eth") None (search (rules, arith)) refl (value.Number ∷ []) choice.End
+    (refl, refl, refl) 12 refl) refl (λ ends. ends)
+
+-- ---- transcripts
+
+-- after `0 exit ` the line of an entry goes on in column 8, with the equals sign
+behind_exit : (version : Version) (line rest : List ℕ) → line ≡ codes "0 exit " ++ rest
+    → IsFixed version choice.Command (codes "exit") [] choice.Equals
+    → HasCome Transcript version line 8 (Some (seen rest)) [] choice.Equals
+unfolding digits
+behind_exit version line rest is fixed =
+    rw is (one_more Transcript version (codes "0 exit " ++ rest) 3 (Some (seen (codes "exit " ++ rest))) []
+    choice.Command
+    (one_more Transcript version (codes "0 exit " ++ rest) 1 (Some (seen (codes "0 exit " ++ rest))) []
+    choice.TranscriptLine (at_begin Transcript version (seen (codes "0 exit " ++ rest)))
+    (seen (codes "0 exit " ++ rest))
+    refl (codes "0") (Some (seen (codes "exit " ++ rest))) (search (rules, arith)) refl [] choice.Command
+    (inr ((0, omega arith, refl), refl, refl)) 3 refl)
+    (seen (codes "exit " ++ rest)) refl (codes "exit") (Some (seen rest)) (search (rules, arith)) refl [] choice.Equals
+    (inl fixed) 8 refl)
+
+-- after an entry's command the sign is expected
+pub no_equals : IsColumn Transcript V2 (codes "0 exit done") (choice_at 8 choice.Equals)
+no_equals =
+    stops_here Transcript V2 (codes "0 exit done") 8 (Some (seen (codes "done"))) [] choice.Equals
+    (behind_exit V2 (codes "0 exit done") (codes "done") refl (search rules)) (seen (codes "done")) refl
+    (codes "done") None
+    (search (rules, arith)) refl
+    (neither V2 choice.Equals (codes "done") (λ values then. not_new (rows_in V2 choice.Equals) (codes "done")
+    values then refl)
+    (λ values then is. is))
+
+-- after `0 exit = ` the line of an entry goes on in column 10, with a reply
+behind_equals : (line rest : List ℕ) → line ≡ codes "0 exit = " ++ rest
+    → HasCome Transcript V1 line 10 (Some (seen rest)) [] choice.Reply
+behind_equals line rest is =
+    one_more Transcript V1 line 8 (Some (seen (codes "= " ++ rest))) [] choice.Equals
+    (behind_exit V1 line (codes "= " ++ rest) is (search rules)) (seen (codes "= " ++ rest)) refl (codes "=")
+    (Some (seen rest))
+    (search (rules, arith)) refl [] choice.Reply (inl (search rules)) 10 refl
+
+-- after `EBADF` its own reason is expected
+pub other_cause : IsColumn Transcript V1 (codes "0 exit = EBADF full") (choice_at 16 choice.BadDescriptor)
+other_cause =
+    stops_here Transcript V1 (codes "0 exit = EBADF full") 16 (Some (seen (codes "full"))) [] choice.BadDescriptor
+    (one_more Transcript V1 (codes "0 exit = EBADF full") 10 (Some (seen (codes "EBADF full"))) [] choice.Reply
+    (behind_equals (codes "0 exit = EBADF full") (codes "EBADF full") refl) (seen (codes "EBADF full")) refl
+    (codes "EBADF")
+    (Some (seen (codes "full"))) (search (rules, arith)) refl [] choice.BadDescriptor (inl (search rules)) 16 refl)
+    (seen (codes "full")) refl (codes "full") None (search (rules, arith)) refl
+    (neither V1 choice.BadDescriptor (codes "full") (λ values then. not_new (rows_in V1 choice.BadDescriptor)
+    (codes "full") values then refl)
+    (λ values then is. is))
+
+-- the word `7` may be a serial, and more serials may follow
+seven : GoesOn V1 [] choice.Serials (codes "7") [] choice.Serials
+unfolding digits
+seven = inr ((7, omega arith, refl), refl, refl)
+
+-- the word `5` may be a serial, and more serials may follow
+five : GoesOn V1 [] choice.Serials (codes "5") [] choice.Serials
+unfolding digits
+five = inr ((5, omega arith, refl), refl, refl)
+
+-- `done` takes any number of serials
+pub serials : IsWhole Transcript V1 (codes "0 exit = done 7 5")
+serials =
+    whole_here Transcript V1 (codes "0 exit = done 7 5") 19 None [] choice.Serials
+    (one_more Transcript V1 (codes "0 exit = done 7 5") 17 (Some (seen (codes "5"))) [] choice.Serials
+    (one_more Transcript V1 (codes "0 exit = done 7 5") 15 (Some (seen (codes "7 5"))) [] choice.Serials
+    (one_more Transcript V1 (codes "0 exit = done 7 5") 10 (Some (seen (codes "done 7 5"))) [] choice.Reply
+    (behind_equals (codes "0 exit = done 7 5") (codes "done 7 5") refl) (seen (codes "done 7 5")) refl (codes "done")
+    (Some (seen (codes "7 5"))) (search (rules, arith)) refl [] choice.Serials (inl (search rules)) 15 refl)
+    (seen (codes "7 5")) refl (codes "7") (Some (seen (codes "5"))) (search (rules, arith)) refl [] choice.Serials
+    seven 17
+    refl)
+    (seen (codes "5")) refl (codes "5") None (search (rules, arith)) refl [] choice.Serials five 19 refl) refl tt

@@ -1,4 +1,0 @@
-pub mod Rows
-pub mod Places
-pub mod WorkedPlaces
-pub mod PlaceWords
