@@ -10,7 +10,7 @@ use crate::texts::copy_out;
 use smx_session::Session;
 use std::alloc::Global;
 
-/// Creates a session over the drivers of a programs text.
+/// Creates a session with the drivers of a programs text.
 pub fn open(alloc: Global, handle: &mut Handle, programs: &[u8]) -> Result<(), CallFault>
     ensures { Opens handle.old.value programs.now handle.new.value result }
 {

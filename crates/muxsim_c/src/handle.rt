@@ -1,4 +1,4 @@
-//! A session as the pointer that C has.
+//! A session as C has it: a pointer.
 
 ghost use Rattle.std.specs.Prelude.{◌≡◌, None, Some, MatchOption, Option};
 ghost use Rattle.smx_session.specs.Sessions.{State};
@@ -9,7 +9,7 @@ use std::alloc::Global;
 use std::marker::{Model, Send};
 use std::ptr::null_mut;
 
-/// A session on the heap, or null. A contract sees the session or its absence.
+/// A pointer to a session on the heap, or null. Contracts see the session, or no session.
 #[repr(C)]
 pub struct Handle {
     at: *mut u8,

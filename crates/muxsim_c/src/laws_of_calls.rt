@@ -27,7 +27,7 @@ pub fn copies_keep_the_rest()
     ensures length_told { Copies (codes "ab") (codes "w") (codes "w") 1 (Err NoRoom) → ⊥ }
 {}
 
-/// A text has only one answer to why it makes no session: the words of its first fault, or none if it makes one.
+/// There is only one reason why a text makes no session: the words of its first fault, or no words if it makes one.
 pub fn words_are_those_of_the_text()
     ensures { (text one other : List ℕ) → IsWhy text one → IsWhy text other → one ≡ other }
 {

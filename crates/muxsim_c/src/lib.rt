@@ -19,9 +19,11 @@ use handle::Handle;
 use reasons::why;
 use std::alloc::Global;
 
-/// Creates a session over the drivers of a programs text; the programs aren't run. Returns 0; 1 if out of memory, 2
-/// if the bytes are not a programs text, or 3 if its drivers are not valid, and then there is no session; or 8 if
-/// there is a session already, which is unchanged.
+/// Creates a session with the drivers of a programs text. The programs are not run. Returns 0 on success, or one of
+/// these codes:
+///
+/// - 1: out of memory, 2: the bytes are not a programs text, or 3: its drivers are not valid. There is no session then.
+/// - 8: there is a session already. It is unchanged.
 #[unsafe(no_mangle)]
 pub extern "C" fn muxsim_session_open(alloc: Global, handle: &mut Handle, programs: &[u8]) -> i32
     ensures { Answers result (Opens handle.old.value programs.now handle.new.value) }
@@ -29,10 +31,13 @@ pub extern "C" fn muxsim_session_open(alloc: Global, handle: &mut Handle, progra
     code_of(&open(alloc, handle, programs))
 }
 
-/// Writes why [`muxsim_session_open`] rejects a text, such as `line 2: form` or `driver 0 marks`, without a line
-/// feed; or no byte, if it accepts the text. Returns 0, with the words at the start of the buffer, the rest of the
-/// buffer unchanged, and their number of bytes in the length; 6 if they are longer than the buffer, which is
-/// unchanged, with their length too; or 1 if out of memory, with buffer and length unchanged.
+/// Writes why [`muxsim_session_open`] rejects a text, such as `line 2: form` or `driver 0 marks`, without a line feed.
+/// Writes no byte if that call accepts the text. Returns one of these codes:
+///
+/// - 0: the words are at the start of the buffer, and their number of bytes is written to `len`. The rest of the buffer
+///   is unchanged.
+/// - 6: the words are longer than the buffer, which is unchanged. Their number of bytes is written to `len`.
+/// - 1: out of memory. Buffer and `len` are unchanged.
 #[unsafe(no_mangle)]
 pub extern "C" fn muxsim_session_why(
     alloc: Global,
@@ -45,8 +50,10 @@ pub extern "C" fn muxsim_session_why(
     code_of(&why(alloc, programs, text, len))
 }
 
-/// Performs the command of a line, such as `0 clone ip`. Returns 0; 1 if out of memory, or 4 if the line is not a
-/// process with a command, and then the session is unchanged; or 7 if there is no session.
+/// Performs the command of a line, such as `0 clone ip`. Returns 0 on success, or one of these codes:
+///
+/// - 1: out of memory, or 4: the line is not a process with a command. The session is then unchanged.
+/// - 7: there is no session.
 #[unsafe(no_mangle)]
 pub extern "C" fn muxsim_session_perform(alloc: Global, handle: &mut Handle, line: &[u8]) -> i32
     ensures { Answers result (Performs handle.old.value line.now handle.new.value) }
@@ -54,10 +61,13 @@ pub extern "C" fn muxsim_session_perform(alloc: Global, handle: &mut Handle, lin
     code_of(&perform(alloc, handle, line))
 }
 
-/// Writes the line of the last entry, with its line feed. Returns 0, with the line at the start of the buffer, the
-/// rest of the buffer unchanged, and the line's length; 6 if it is longer than the buffer, which is unchanged, with
-/// its length too; or 1 if out of memory, 5 if no command was performed yet, or 7 if there is no session, with buffer
-/// and length unchanged. The session is unchanged in every case.
+/// Writes the line of the last entry, with its line feed. The session is unchanged in every case. Returns one of these
+/// codes:
+///
+/// - 0: the line is at the start of the buffer, and its number of bytes is written to `len`. The rest of the buffer is
+///   unchanged.
+/// - 6: the line is longer than the buffer, which is unchanged. Its number of bytes is written to `len`.
+/// - 1: out of memory, 5: no command was performed yet, or 7: there is no session. Buffer and `len` are then unchanged.
 #[unsafe(no_mangle)]
 pub extern "C" fn muxsim_session_entry(
     alloc: Global,
@@ -71,10 +81,13 @@ pub extern "C" fn muxsim_session_entry(
     code_of(&entry(alloc, handle, text, len))
 }
 
-/// Writes the lines of the configuration, from `config` on, without `end`. Returns 0, with the lines at the start of
-/// the buffer, the rest of the buffer unchanged, and their length; 6 if they are longer than the buffer, which is
-/// unchanged, with their length too; or 1 if out of memory, or 7 if there is no session, with buffer and length
-/// unchanged. The session is unchanged in every case.
+/// Writes the lines of the configuration, from `config` on, without `end`. The session is unchanged in every case.
+/// Returns one of these codes:
+///
+/// - 0: the lines are at the start of the buffer, and their number of bytes is written to `len`. The rest of the buffer
+///   is unchanged.
+/// - 6: the lines are longer than the buffer, which is unchanged. Their number of bytes is written to `len`.
+/// - 1: out of memory, or 7: there is no session. Buffer and `len` are then unchanged.
 #[unsafe(no_mangle)]
 pub extern "C" fn muxsim_session_show(
     alloc: Global,

@@ -68,15 +68,16 @@ impl Bindings {
         })
     }
 
-    /// Returns whether the stream's driver has bound the address, or the stream has an address. Does two look-ups.
+    /// Returns whether a stream of this driver is bound to the address, or this stream is bound to any address. Does
+    /// two look-ups.
     pub fn is_taken(&self, stream: StreamId, addr: u32) -> bool
         ensures { result ≡ is_taken self.now stream addr }
     {
         self.minors.contains_key(&(stream.driver, addr)) || self.addrs.contains_key(&key_of(stream))
     }
 
-    /// Binds a stream that has no address to an address that its driver has not bound. Fails only if out of memory,
-    /// and then changes nothing.
+    /// Binds a stream to an address. The stream must not be bound, and no stream of its driver may be bound to the
+    /// address. Fails only if out of memory, and then changes nothing.
     pub fn bind(&mut self, stream: StreamId, addr: u32) -> Result<(), NoMemory>
         requires { is_taken self.old stream addr ≡ false }
         ensures ok { OnOk result (self.new ≡ with_inserted bind_before self.old

@@ -7,7 +7,8 @@ ghost use Rattle.smx_types.specs.declared.link.Route.{Route};
 ghost use Rattle.smx_model.specs.Configuration.{bind_before, route_before};
 ghost use Rattle.smx_model.specs.Ordered.{IsRising};
 
-/// If bindings are in order, as many as a list has, and each is found in the list at its address, they are that list.
+/// Bindings are a given list if they are in order, as many as the list has, and each of them is found in the list at
+/// its address.
 pub fn look_ups_tell_bindings()
     ensures { (xs ys : List Binding) → IsRising bind_before xs → IsRising bind_before ys → length xs ≡ length ys
         → All (λ x. find (λ b. (b.driver == x.driver) && (b.addr == x.addr)) ys ≡ Some x) xs → xs ≡ ys }

@@ -1,4 +1,4 @@
-//! The stream that each address of a driver is bound to, and the link that it is routed to.
+//! The bindings and routes of all drivers: the stream and the link for each address.
 #![tactic(auto)]
 
 mod bindings;

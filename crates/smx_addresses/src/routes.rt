@@ -72,8 +72,8 @@ impl Routes {
         Some(Route { driver, addr, id })
     }
 
-    /// Routes a driver's address to a link, in place of the route that it has. Fails only if out of memory, and
-    /// then changes nothing.
+    /// Routes a driver's address to a link, and replaces an earlier route. Fails only if out of memory, and then
+    /// changes nothing.
     pub fn route(&mut self, driver: u8, addr: u32, id: u32) -> Result<(), NoMemory>
         ensures ok { OnOk result (self.new ≡ with_inserted route_before
             (filter (λ r. not (is_route driver addr r)) self.old)

@@ -9,7 +9,7 @@ use crate::spare_sets::SpareSets;
 use indexmap::{IndexMap, IndexSet};
 use smx_types::NoMemory;
 
-/// A set of keys at the id of each link that has had a route since it was made.
+/// For each link that has had a route, by its id, the set of the keys that are routed to it now.
 pub type Targets = IndexMap<u32, IndexSet<Key>>;
 
 // Adds a key to a link's set, if it isn't there. A link without a set gets one, which reuses a kept set if

@@ -1,4 +1,4 @@
-//! Results of commands: a refusal, or a reply without dropped messages.
+//! Two results of commands: a refusal, and `done` without dropped messages.
 
 ghost use Rattle.std.specs.Prelude.{◌≡◌, []};
 ghost use Rattle.smx_types.specs.declared.reply.Reply.TheVariants.{Done};

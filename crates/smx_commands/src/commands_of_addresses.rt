@@ -11,7 +11,7 @@ use crate::step_error::StepError;
 use crate::tables::Tables;
 use smx_types::{Fault, Process, Reply};
 
-// None of these commands leaves anything to sweep: the stream exists, and a route holds no stream.
+// None of these commands leaves anything to sweep: the stream exists before and after, and a route holds no stream.
 impl Tables {
     pub(crate) fn bind(&mut self, process: Process, fd: u32, addr: u32) -> Result<Reply, StepError>
         requires { IsSound self.old.drivers self.old.configuration }

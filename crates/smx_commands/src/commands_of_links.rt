@@ -20,7 +20,7 @@ use smx_tables::sweep::{reserve_for_sweep, sweep_and_reply};
 use smx_types::{Fault, Link, LinkKind, Process, Reply, StreamId, Which};
 use std::alloc::{AllocError, Global};
 
-// Returns whether the command that removes links of this kind may remove `link` through `stream`.
+// Returns whether `unlink` (for ordinary links) or `punlink` (for persistent ones) may remove `link` through `stream`.
 fn may_unlink(kind: LinkKind, stream: StreamId, link: &Link) -> bool
     ensures { result ≡ may_unlink kind stream link.now }
 {
@@ -30,7 +30,7 @@ fn may_unlink(kind: LinkKind, stream: StreamId, link: &Link) -> bool
     }
 }
 
-// Returns the ids of all links that this command may remove through `stream`.
+// Returns the ids of all links that the command for this kind may remove through `stream`.
 fn all_targets(
     alloc: Global,
     links: &LinkTable,
@@ -107,7 +107,8 @@ impl Tables {
         Ok(Reply::Id(id))
     }
 
-    // Fails if the command names an id, and may remove no link with this id. Without an id there need not be a link.
+    // Fails if the command names an id, and may not remove a link with this id. If the command names `all`, there need
+    // not be a link.
     pub(crate) fn check_targets(
         &self,
         which: Which,

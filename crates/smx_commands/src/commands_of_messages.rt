@@ -1,4 +1,4 @@
-//! Writing, reading and flushing messages, and the device's side.
+//! Writing, reading and flushing messages, and the messages that devices bring and take.
 
 ghost use Rattle.std.specs.Prelude.{◌≡◌, ◌≢◌, ◌==◌, ◌||◌, nat_lt, nat_le, length, IfOk, Err};
 ghost use Rattle.smx_types.specs.declared.command.Command.TheVariants.{Flush};
@@ -108,7 +108,7 @@ impl Tables {
         Ok(())
     }
 
-    // Returns whether the stream has hung up and there is nothing to read.
+    // Returns whether the stream is hung up and there is nothing to read.
     pub(crate) fn is_at_end(&self, stream: StreamId) -> bool
         ensures { result ≡ is_at_end self.now.configuration stream }
     {
@@ -117,8 +117,8 @@ impl Tables {
             && !self.lists.queues.has_messages(Place { stream, side })
     }
 
-    // Replies with the first message on the read side of the stream that the command names, and removes it. If the
-    // stream has hung up and has no message there, replies with the end of file.
+    // Removes the first message on the read side of the stream that the command names, and replies with it. If the
+    // stream is hung up and has no message there, replies with the end of file.
     pub(crate) fn read(
         &mut self,
         named: Result<StreamId, Fault>,
@@ -137,7 +137,7 @@ impl Tables {
         self.receive_from(Place { stream, side }, reply)
     }
 
-    // Replies with the first message on a side of the stream that the command names, and removes it.
+    // Removes the first message on a side of the stream that the command names, and replies with it.
     pub(crate) fn receive(
         &mut self,
         named: Result<StreamId, Fault>,

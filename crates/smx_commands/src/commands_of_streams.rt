@@ -104,7 +104,7 @@ impl Tables {
         Ok(sweep_and_reply(&self.drivers, &mut self.lists, &mut self.room))
     }
 
-    // If the stream stays, nothing is removed except the descriptor, and nothing is allocated.
+    // If the stream outlives the close, only the descriptor is removed, and nothing is allocated.
     pub(crate) fn close(&mut self, process: Process, fd: u32) -> Result<Reply, StepError>
         requires { IsSound self.old.drivers self.old.configuration }
         ensures { Refines self.old self.new process (Close fd) result }

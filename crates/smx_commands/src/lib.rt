@@ -1,4 +1,4 @@
-//! The tables of a configuration over its drivers, and the effect of each command on them before messages move on.
+//! The tables of a configuration, and the effect of each command on them before messages move on.
 #![tactic(auto)]
 
 mod answers;

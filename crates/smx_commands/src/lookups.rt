@@ -69,8 +69,8 @@ impl Tables {
         Ok(stream)
     }
 
-    /// Returns the stream of a descriptor. Fails as `stream_of` does, or if the stream is below a link, or else if its
-    /// device has hung up. Does not allocate.
+    /// Returns the stream of a descriptor. Fails with the first of these: there is no such descriptor; the stream is
+    /// below a link; its device has hung up. Does not allocate.
     #[inline(always)]
     pub fn live_stream(&self, process: Process, fd: u32) -> Result<StreamId, Fault>
         ensures { result ≡ live_stream self.now.configuration process fd }
@@ -80,8 +80,8 @@ impl Tables {
         Ok(free)
     }
 
-    /// Returns the stream of a descriptor. Fails as `stream_of` does, or if the stream is below a link, or else if its
-    /// driver is not a multiplexing driver. Does not allocate.
+    /// Returns the stream of a descriptor. Fails with the first of these: there is no such descriptor; the stream is
+    /// below a link; its driver is not a multiplexer. Does not allocate.
     pub fn mux_stream(&self, process: Process, fd: u32) -> Result<StreamId, Fault>
         ensures { result ≡ mux_stream self.now.drivers self.now.configuration process fd }
     {
@@ -131,7 +131,7 @@ impl Tables {
         Ok(leaf)
     }
 
-    /// How many places there are. Takes no memory.
+    /// Returns the number of places. Does not allocate.
     pub fn place_count(&self) -> usize
         ensures count { result ≡ length (places_of self.now.drivers) }
         ensures few { result < 2 ^ 63 }
@@ -139,7 +139,7 @@ impl Tables {
         self.lists.queues.place_count()
     }
 
-    /// The number of the place, if the drivers have it. Takes no memory.
+    /// Returns the number of the place, if the drivers have it. Does not allocate.
     pub fn number(&self, place: Place) -> Option<usize>
         ensures found { IfSome result (λ n. slice_get (places_of self.now.drivers) n ≡ Some place) }
         ensures known { IsKnown self.now.drivers place.stream → IsSome result }
@@ -147,7 +147,7 @@ impl Tables {
         self.lists.queues.number(place)
     }
 
-    /// The place of a number. Takes no memory.
+    /// Returns the place with this number. Does not allocate.
     pub fn place_at(&self, n: usize) -> Place
         requires { n < length (places_of self.now.drivers) }
         ensures { slice_get (places_of self.now.drivers) n ≡ Some result }
@@ -155,7 +155,7 @@ impl Tables {
         self.lists.queues.place_at(n)
     }
 
-    /// Whether the place of a number is full. Takes no memory.
+    /// Returns whether the place with this number is full. Does not allocate.
     pub fn is_full_at(&self, n: usize) -> bool
         requires { n < length (places_of self.now.drivers) }
         ensures { (p : PlaceValue) → slice_get (places_of self.now.drivers) n ≡ Some p
@@ -164,7 +164,7 @@ impl Tables {
         self.lists.queues.is_full_at(n)
     }
 
-    /// Whether there is a message at the place of a number. Takes no memory.
+    /// Returns whether there is a message at the place with this number. Does not allocate.
     pub fn has_messages_at(&self, n: usize) -> bool
         requires { n < length (places_of self.now.drivers) }
         ensures { (p : PlaceValue) → slice_get (places_of self.now.drivers) n ≡ Some p
@@ -173,7 +173,7 @@ impl Tables {
         self.lists.queues.has_messages_at(n)
     }
 
-    /// The first message at the place of a number, if there is one. Takes no memory.
+    /// Returns the first message at the place with this number, if there is one. Does not allocate.
     pub fn front_at(&self, n: usize) -> Option<&Message>
         requires { n < length (places_of self.now.drivers) }
         ensures { (p : PlaceValue) → slice_get (places_of self.now.drivers) n ≡ Some p

@@ -38,8 +38,8 @@ impl Tables {
         Some(Place { stream, side })
     }
 
-    // Returns the write side of the stream below the link of the driver's route, unless this stream's device has hung
-    // up.
+    // Returns the write side of the lower stream of the link that the driver's route for this address names, unless the
+    // device of that stream has hung up.
     fn down(&self, driver: u8, addr: u32) -> Option<Place>
         ensures { result ≡ place_below self.now.configuration.links self.now.configuration.routes
             self.now.configuration.hungs driver addr }
@@ -49,7 +49,7 @@ impl Tables {
         self.live_write_side(link.lower)
     }
 
-    // Returns the read side of the stream that is bound to the address at the driver above `stream`.
+    // Returns the read side of the stream that is bound to the address on the upper driver of the link above `stream`.
     fn up(&self, stream: StreamId, addr: u32) -> Option<Place>
         ensures { result ≡ place_above self.now.configuration.links self.now.configuration.binds stream addr }
     {

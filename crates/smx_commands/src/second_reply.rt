@@ -95,8 +95,7 @@ impl Tables {
         self.room_for_all()
     }
 
-    /// Reserves room for the reply to a command. Fails with the fault if the command is refused and this is found on
-    /// the way.
+    /// Reserves room for the reply to a command. May notice that the command is refused, and then fails with its fault.
     #[tactic(auto, using(crate::proofs::DroppedLemmas::few_left))]
     pub fn room_for_reply(
         &self,

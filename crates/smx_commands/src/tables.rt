@@ -19,8 +19,8 @@ use smx_types::{DriverSpec, NoMemory};
 use std::alloc::Global;
 use std::marker::Model;
 
-/// Drivers, and the tables of a configuration over them. Contracts see both as one value. The type of each table keeps
-/// the properties of this table; this type keeps those that relate the tables to each other and to the drivers.
+/// Drivers, and the tables of a configuration over them. Contracts see both as one value. The invariant of this type
+/// relates the tables to each other and to the drivers; each table has an invariant of its own.
 #[derive(Debug, Drop)]
 pub struct Tables {
     pub(crate) alloc: Global,

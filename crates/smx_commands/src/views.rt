@@ -56,8 +56,8 @@ impl Tables {
         Ok(view)
     }
 
-    /// Returns the same view as `show`, of tables that are no longer needed: moves the messages instead of copying
-    /// them. Fails only if out of memory.
+    /// Returns the same view as `show`, and consumes the tables: it moves the messages instead of copying them. Fails
+    /// only if out of memory.
     pub fn into_view(self) -> Result<ConfigView, NoMemory>
         requires { IsSound self.drivers self.configuration }
         ensures { IfOk result (λ v. v ≡ view self.drivers self.configuration) }

@@ -35,7 +35,7 @@ use smx_types::{
 use std::alloc::Global;
 use std::marker::Model;
 
-/// Drivers and the configuration over them. A contract sees both as one value.
+/// Drivers and the configuration over them. Contracts see both as one value.
 #[derive(Debug)]
 pub struct Config {
     tables: Tables,
@@ -44,7 +44,7 @@ pub struct Config {
 }
 
 impl Drop for Config {
-    // Written by hand, so functions drop a configuration by one call, not by parts.
+    // Written by hand, so that functions drop a configuration with one call, not part by part.
     fn drop(self) {
         let Config {
             tables: _tables,
@@ -67,9 +67,9 @@ impl Model for Config {
 }
 
 impl Config {
-    /// Makes the empty configuration over these drivers. It keeps the allocator for all that it makes. Fails if there
-    /// are more than 128; or else for the first driver that is invalid or has the name of an earlier one; or else if
-    /// an allocation fails.
+    /// Makes the empty configuration over these drivers. It keeps the allocator for all later allocations. Fails with
+    /// the first of these: there are more than 128 drivers; a driver is invalid or has the name of an earlier one; an
+    /// allocation fails.
     pub fn new(alloc: Global, drivers: &[DriverSpec]) -> Result<Config, ConfigFault>
         ensures drivers { IfOk result (λ c. (c.drivers ≡ drivers.now) × IsDriverList drivers.now) }
         ensures empty { IfOk result (λ c. c.configuration ≡ empty) }
@@ -91,7 +91,7 @@ impl Config {
 
     /// Performs a command of a process: its reply and the new configuration are those of the command table. Nothing
     /// changes if the reply is a fault, or if an allocation fails. `dup`, `unbind`, `unroute`, `read`, `transmit`,
-    /// `hangup` and every refusal take no memory, so they are always answered.
+    /// `hangup` and every refused command don't allocate, so they always get a reply.
     pub fn step(&mut self, process: Process, command: &Command) -> Result<Reply, NoMemory>
         // Its effect.
         ensures drivers { self.new.drivers ≡ self.old.drivers }
@@ -127,9 +127,9 @@ impl Config {
         }
     }
 
-    /// Performs a command as `step` does, and returns its reply twice. Memory for the second reply is allocated before
-    /// the first change, so `read` and `transmit` allocate if they deliver a message. `dup`, `unbind`, `unroute`,
-    /// `hangup` and every refusal take no memory, so they are always answered.
+    /// Performs a command as `step` does, and returns its reply twice. Allocates memory for the second reply before the
+    /// first change, so `read` and `transmit` allocate if they deliver a message. `dup`, `unbind`, `unroute`, `hangup`
+    /// and every refused command don't allocate, so they always get a reply.
     pub fn step_twin(
         &mut self,
         process: Process,
@@ -159,9 +159,9 @@ impl Config {
         }
     }
 
-    /// Returns the configuration as it is shown. Fails if an allocation fails. Whichever commands came before, no cycle
-    /// of links and no stream below two of them is shown, nothing is left of a stream that doesn't exist, and no
-    /// message can move on.
+    /// Returns the view of the configuration. Fails if an allocation fails. Whichever commands came before, the links
+    /// form no cycle, and no stream is below two of them. Nothing is left of streams that don't exist, and no message
+    /// can move on.
     pub fn show(&self) -> Result<ConfigView, NoMemory>
         ensures view { IfOk result (λ v. v ≡ view self.now.drivers self.now.configuration) }
         ensures kept { IsKept self.now.drivers self.now.configuration }
@@ -169,8 +169,8 @@ impl Config {
         self.tables.show()
     }
 
-    /// Returns what `show` would return, for a configuration that is no longer needed: no message is copied. Fails only
-    /// if out of memory.
+    /// Returns the same view as `show`, and consumes the configuration: no message is copied. Fails only if out of
+    /// memory.
     pub fn into_view(self) -> Result<ConfigView, NoMemory>
         ensures { IfOk result (λ v. v ≡ view self.drivers self.configuration) }
     {
@@ -233,7 +233,7 @@ impl Config {
         self.tables.is_hung(stream)
     }
 
-    /// Returns the drivers that it was made with, which no command changes. Takes no memory.
+    /// Returns the drivers that the configuration was made with. No command changes them. Takes no memory.
     pub fn drivers(&self) -> &[DriverSpec]
         ensures value { result.now ≡ self.now.drivers }
         ensures list { IsDriverList self.now.drivers }

@@ -3,8 +3,8 @@
 use smx_types::{NoMemory, SpecFault};
 use std::fmt;
 
-/// Why there is no configuration for some drivers, whose numbers start from 0. It prints itself: `driver 3 marks`,
-/// `driver 3 same name`, `too many drivers`, `no memory`.
+/// Why there is no configuration for some drivers, which are numbered from 0. It prints as `driver 3 marks`, `driver 3
+/// same name`, `too many drivers` or `no memory`.
 #[derive(Clone, Copy, Debug, PartialEq, Eq)]
 pub enum ConfigFault {
     /// The driver with this number is invalid.

@@ -8,7 +8,7 @@ ghost use Rattle.smx_config.specs.declared.config_fault.ConfigFault.TheVariants.
 use crate::config_fault::ConfigFault;
 use smx_types::{DriverSpec, MAX_DRIVERS, Name};
 
-/// Whether a configuration can have these drivers; if not, why. Takes no memory.
+/// Checks whether a configuration can have these drivers. Fails with the reason if it can't. Takes no memory.
 pub fn check_drivers(drivers: &[DriverSpec]) -> Result<(), ConfigFault>
     ensures accepted { IsOk result ↔ IsDriverList drivers.now }
     ensures refused { IfErr result (RefusesDrivers drivers.now) }

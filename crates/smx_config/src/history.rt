@@ -1,4 +1,4 @@
-//! Whether a history is legal, and its end as claimed.
+//! Judges whether a history is legal, and whether a view shows the configuration at its end.
 
 ghost use Rattle.std.specs.Prelude.{◌≡◌, IfOk, IfErr, IfNone, IfSome};
 ghost use Rattle.smx_model.specs.Configuration.{empty};
@@ -16,7 +16,7 @@ use smx_types::{ConfigView, DriverSpec, Entry, NoMemory, Same};
 use std::alloc::Global;
 
 // Performs the commands of the entries again, from the empty configuration on. Returns the number of the first entry
-// whose reply is another, if there is one.
+// with a different reply, if there is one.
 fn first_illegal(config: &mut Config, entries: &[Entry]) -> Result<Option<usize>, NoMemory>
     requires { config.old.configuration ≡ empty }
     ensures drivers { config.new.drivers ≡ config.old.drivers }
@@ -34,9 +34,9 @@ fn first_illegal(config: &mut Config, entries: &[Entry]) -> Result<Option<usize>
     Ok(None)
 }
 
-/// Judges a history, whoever made it, and the view that is claimed of its end: performs each command again, from the
-/// empty configuration on, up to the first whose reply is another. Fails if the drivers are invalid, whatever the
-/// entries are, or if an allocation fails. The view is compared where it is, with no copy.
+/// Judges a history of any origin, and a view that is said to show the configuration at its end. Performs each command
+/// again, from the empty configuration on, up to the first entry with a different reply. Compares the view in place,
+/// without a copy. Fails if the drivers are invalid, whatever the entries are, or if an allocation fails.
 pub fn check_history(
     alloc: Global,
     drivers: &[DriverSpec],

@@ -22,8 +22,8 @@ pub struct Hop {
     pub age: u64,
 }
 
-/// The last hop that was found for each place, by number. A hop of an earlier age is out of date. No hop is used at the
-/// last possible age, since that can't rise.
+/// The last hop that was found for each place, by number. A hop of an earlier age is out of date. At the last possible
+/// age no hop is used, because the age can't rise any further.
 #[derive(Debug, Drop)]
 pub struct Hops {
     pub hops: Vec<Hop>,
@@ -116,7 +116,7 @@ fn keeps_ways(command: &Command) -> bool
     }
 }
 
-// Makes all hops out of date, unless the command that was accepted only adds or removes messages.
+// Makes all hops out of date, unless this accepted command only adds or removes messages.
 pub fn forget_changed(hops: &mut Hops, command: &Command)
     ensures { (drivers : List DriverSpec) (c d : Configuration) (process : ℕ) (r : Reply) → IsSwept drivers c
         → AreHops drivers c hops.old → outcome drivers c process command.now ≡ Ok (d, r) → AreHops drivers d hops.new }

@@ -1,4 +1,4 @@
-//! Laws of what is refused and of what takes no memory, each the contract of a function that does nothing.
+//! Laws of refused drivers, and of commands that take no memory, each the contract of a function that does nothing.
 
 ghost use Rattle.std.specs.Prelude.{◌≡◌, ℕ, true, List};
 ghost use Rattle.smx_types.specs.declared.driver.DriverSpec.{DriverSpec};
@@ -7,8 +7,8 @@ ghost use Rattle.smx_config.specs.DriverFaults.{RefusesDrivers};
 ghost use Rattle.smx_commands.specs.Machine.{takes_no_memory};
 ghost use Rattle.smx_config.specs.declared.config_fault.ConfigFault.{ConfigFault};
 
-/// A list of drivers has one fault at most. If a configuration can have the list, its only fault is that an allocation
-/// failed.
+/// A list of drivers has at most one fault. If a configuration can have the list, its only possible fault is that an
+/// allocation failed.
 pub fn drivers_have_one_fault()
     ensures { (drivers : List DriverSpec) (f g : ConfigFault)
         → RefusesDrivers drivers f → RefusesDrivers drivers g → f ≡ g }

@@ -1,4 +1,4 @@
-//! The law of verdicts, the contract of a function that does nothing.
+//! Laws of verdicts, each the contract of a function that does nothing.
 
 ghost use Rattle.std.specs.Prelude.{◌≡◌, List};
 ghost use Rattle.smx_types.specs.declared.command.Entry.{Entry};
@@ -14,7 +14,7 @@ ghost use Rattle.smx_config.specs.declared.verdict.Verdict.{Verdict};
 
 use smx_model::laws_of_illegal_entries::{legal_or_first_illegal, the_second_is_the_first_illegal};
 
-/// There is a verdict on each history and view, and just one: the three exclude one another.
+/// Each history and view have exactly one verdict: the three verdicts exclude one another.
 pub fn there_is_one_verdict()
     ensures always { (drivers : List DriverSpec) (entries : List Entry) (shown : ConfigView)
         → (v : Verdict) × IsVerdict drivers entries shown v }
@@ -30,7 +30,7 @@ pub fn reports_are_judged_legal()
         → IsVerdict report.drivers report.entries report.view Legal }
 {}
 
-/// The worked history whose second entry is the first illegal one is judged exactly so, whatever view is claimed.
+/// The worked history whose second entry is the first illegal one has exactly this verdict, with any view.
 pub fn the_second_is_judged_illegal()
     ensures second { (shown : ConfigView) → IsVerdict drivers history shown (Illegal 2) }
     ensures not_legal { (shown : ConfigView) → IsVerdict drivers history shown Legal → ⊥ }

@@ -1,4 +1,5 @@
-//! The sequential configuration: each command does what the model's command table says, and then messages move on.
+//! The sequential configuration: it performs a command as the model's command table says, and then lets messages move
+//! on.
 #![tactic(auto)]
 
 mod config;

@@ -9,9 +9,9 @@ use smx_queues::{Bits, Rings};
 use smx_types::NoMemory;
 use std::alloc::Global;
 
-/// Two marks for each place, by its number: a run mark where the first message may be able to move on, and a wanted
-/// mark where a full place holds up another place's first message. The places that wait for the same place are in its
-/// ring.
+/// Two marks for each place, by its number. A run mark means that the first message may be able to move on. A wanted
+/// mark means that the place is full and holds up the first message of another place. The places that wait for the same
+/// place are in its ring.
 #[derive(Debug, Drop)]
 pub struct Marks {
     pub run: Bits,

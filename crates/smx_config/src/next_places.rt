@@ -12,7 +12,7 @@ ghost use Rattle.smx_config.specs.Ways.{AreHops, IsWay};
 use crate::hops::{Hops, known_hop, note_hop};
 use smx_commands::Tables;
 
-// Whether the first message at the place of a number has this address.
+// Returns whether the first message at the place with this number has this address.
 pub fn asks_for(tables: &Tables, n: usize, addr: u32) -> bool
     requires { IsNumber tables.now.drivers n }
     ensures { (p : PlaceValue) → IsAt tables.now.drivers n p
@@ -36,7 +36,7 @@ fn look_up(tables: &Tables, n: usize, addr: u32) -> Option<usize>
     tables.number(next)
 }
 
-// Returns the same number, from the hops if it is known there.
+// Returns the same number. Takes it from the hops if it is known there.
 #[inline(always)]
 fn way_from(tables: &Tables, hops: &mut Hops, n: usize, addr: u32) -> Option<usize>
     requires sound { IsSound tables.now.drivers tables.now.configuration }
@@ -70,7 +70,7 @@ pub fn next_of_first(tables: &Tables, hops: &mut Hops, n: usize) -> Option<usize
     way_from(tables, hops, n, message.addr)
 }
 
-// The number, unless its place is full.
+// Returns the number, unless its place is full.
 pub fn if_open(tables: &Tables, next: Option<usize>) -> Option<usize>
     requires { IfSome next (IsNumber tables.now.drivers) }
     ensures same { IfSome result (λ n. next ≡ Some n) }

@@ -45,8 +45,8 @@ pub fn mark_writes(tables: &Tables, run: &mut Bits, driver: u8, addr: u32)
     }
 }
 
-// Marks the read sides of the lower driver's streams below the upper one whose first message has this address. Looks at
-// none if no path leads from the upper driver to the lower one.
+// Marks the read sides of those streams of the lower driver that are below the upper driver, and whose first message
+// has this address. Looks at no stream if no path leads from the upper driver to the lower one.
 fn mark_reads_of(tables: &Tables, run: &mut Bits, driver: u8, addr: u32, lower: u8)
     requires { run.old.count ≡ length (places_of tables.now.drivers) }
     ensures { IsMarkedWhere tables.now.drivers tables.now.configuration.flow
@@ -57,7 +57,7 @@ fn mark_reads_of(tables: &Tables, run: &mut Bits, driver: u8, addr: u32, lower: 
     }
 }
 
-// The same for all drivers below the upper one.
+// Does the same for all drivers below the upper one.
 pub fn mark_reads(tables: &Tables, run: &mut Bits, driver: u8, addr: u32)
     requires { run.old.count ≡ length (places_of tables.now.drivers) }
     ensures { IsMarkedWhere tables.now.drivers tables.now.configuration.flow

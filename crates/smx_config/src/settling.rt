@@ -16,14 +16,15 @@ use crate::waking::release_if_open;
 use smx_commands::Tables;
 use smx_queues::Bits;
 
-// A message goes from the place of one number to that of another.
+// A move of a message from the place with one number to the place with another.
 #[derive(Clone, Copy)]
 pub struct Move {
     pub from: usize,
     pub to: usize,
 }
 
-// Clears the run mark of a place whose first message can't move on. If its next place is full, it waits for that one.
+// Clears the run mark of a place whose first message can't move on. If the message has a next place, which is then
+// full, the place waits for it.
 fn clear_mark(tables: &Tables, marks: &mut Marks, from: usize, next: Option<usize>)
     requires marks { AreMarks tables.now.drivers tables.now.configuration marks.old }
     requires number { IsNumber tables.now.drivers from }
@@ -42,8 +43,8 @@ fn clear_mark(tables: &Tables, marks: &mut Marks, from: usize, next: Option<usiz
     }
 }
 
-// Returns the least movable place, and the place to which its first message goes. Looks only at places with a run mark,
-// and clears the marks of those that come before it.
+// Returns the move from the least movable place, if there is one. Looks only at places with a run mark, and clears the
+// marks of the places that come before this one.
 #[inline(always)]
 fn next_move(tables: &Tables, marks: &mut Marks, hops: &mut Hops) -> Option<Move>
     requires sound { IsSound tables.now.drivers tables.now.configuration }
@@ -64,7 +65,7 @@ fn next_move(tables: &Tables, marks: &mut Marks, hops: &mut Hops) -> Option<Move
     None
 }
 
-// Marks the number of a place where a message arrived, unless it had others before.
+// Gives a run mark to a place where a message arrived, unless the place had messages before.
 fn mark_unless(filled: bool, run: &mut Bits, n: usize)
     requires { n < run.old.count }
     ensures { IsMarkedUnless filled n run.old run.new }
@@ -85,7 +86,7 @@ fn clear_if_empty(tables: &Tables, marks: &mut Marks, n: usize)
     }
 }
 
-// Moves the first message of a place on to its next place, and marks the places that this wakes.
+// Makes a move, and marks the places that this wakes.
 fn move_on(tables: &mut Tables, marks: &mut Marks, next: Move)
     requires sound { IsSound tables.old.drivers tables.old.configuration }
     requires marks { AreMarks tables.old.drivers tables.old.configuration marks.old }
@@ -101,7 +102,7 @@ fn move_on(tables: &mut Tables, marks: &mut Marks, next: Move)
     clear_if_empty(tables, marks, next.from);
 }
 
-// Moves messages on until none can. Called if a place has a run mark.
+// Moves messages on until none can move. Called only if a place has a run mark.
 #[inline(never)]
 fn settle_marked(tables: &mut Tables, marks: &mut Marks, hops: &mut Hops)
     requires sound { IsSound tables.old.drivers tables.old.configuration }
@@ -124,7 +125,7 @@ fn settle_marked(tables: &mut Tables, marks: &mut Marks, hops: &mut Hops)
     let _none = next_move(tables, marks, hops);
 }
 
-// Moves messages on until none can, and no run mark is left. Without a mark nothing moves.
+// Moves messages on until none can move and no run mark is left. If there is no run mark, nothing moves.
 pub fn settle(tables: &mut Tables, marks: &mut Marks, hops: &mut Hops)
     requires sound { IsSound tables.old.drivers tables.old.configuration }
     requires marks { AreMarks tables.old.drivers tables.old.configuration marks.old }

@@ -11,15 +11,15 @@ use smx_types::{Command, Fault, Place, Process, Side, StreamId};
 /// The places that a command may wake, if it is accepted.
 #[derive(Clone, Copy)]
 pub enum Wakes {
-    // No message can move on that could not before.
+    // Nothing: no message that could not move before can move now.
     Nothing,
-    // A place may have another first message, or that may have another place to go to.
+    // A place may get another first message, or its first message may get another next place.
     Turns(Place),
-    // The first message leaves a place, from which none goes on to another.
+    // The first message leaves a place whose messages have no next place.
     Leaves(Place),
-    // Messages of an address may have another place to go to from the write sides of a driver,
+    // Messages for an address may get another next place, from the write sides of a driver.
     TurnsWrites { driver: u8, addr: u32 },
-    // and so from the read sides of the streams below one.
+    // The same, from the read sides of the streams below a driver.
     TurnsReads { driver: u8, addr: u32 },
     // Messages may be dropped on either side of a stream.
     Empties(StreamId),
@@ -94,7 +94,7 @@ fn arrives(tables: &Tables, stream: Result<StreamId, Fault>, side: Side) -> Wake
     }
 }
 
-// By the command table. Takes no memory.
+// Returns the places that the command may wake, by the command table. Takes no memory.
 pub fn wakes_of(
     tables: &Tables,
     process: Process,

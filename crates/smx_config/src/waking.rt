@@ -20,7 +20,7 @@ use smx_commands::Tables;
 use smx_queues::Bits;
 use smx_types::{Place, Reply, Side, StreamId};
 
-// Gives a run mark to each place that waits for the one with this number, and ends its wait.
+// Gives a run mark to each place that waits for the place with this number. These places then no longer wait.
 fn mark_waiters(marks: &mut Marks, n: usize)
     requires over { AreFor marks.old.run.count marks.old }
     requires number { n < marks.old.run.count }
@@ -46,7 +46,7 @@ fn release(marks: &mut Marks, n: usize)
     marks.wanted.clear(n);
 }
 
-// Does the same if the place of the number is wanted and not full.
+// Does the same, but only if the place with this number is wanted and not full.
 pub fn release_if_open(tables: &Tables, marks: &mut Marks, n: usize)
     requires over { AreOver tables.now.drivers marks.old }
     requires number { IsNumber tables.now.drivers n }
@@ -59,7 +59,7 @@ pub fn release_if_open(tables: &Tables, marks: &mut Marks, n: usize)
     }
 }
 
-// Does so for the place.
+// Calls `release_if_open` for the number of this place.
 fn release_place(tables: &Tables, marks: &mut Marks, place: Place)
     requires over { AreOver tables.now.drivers marks.old }
     requires listed { IsListed marks.old }
@@ -70,7 +70,7 @@ fn release_place(tables: &Tables, marks: &mut Marks, place: Place)
     }
 }
 
-// Does so for both sides of the stream.
+// Calls `release_place` for both sides of the stream.
 fn release_sides(tables: &Tables, marks: &mut Marks, stream: StreamId)
     requires over { AreOver tables.now.drivers marks.old }
     requires listed { IsListed marks.old }
@@ -82,7 +82,7 @@ fn release_sides(tables: &Tables, marks: &mut Marks, stream: StreamId)
     release_place(tables, marks, Place { stream, side });
 }
 
-// The number of a wanted place that is not full, if there is one.
+// Returns the number of a wanted place that is not full, if there is one.
 fn first_open(tables: &Tables, wanted: &Bits) -> Option<usize>
     requires { wanted.now.count ≡ length (places_of tables.now.drivers) }
     ensures number { IfSome result (IsNumber tables.now.drivers) }
@@ -103,7 +103,7 @@ fn first_open(tables: &Tables, wanted: &Bits) -> Option<usize>
     None
 }
 
-// Releases open places.
+// Releases each wanted place that is not full.
 fn release_all(tables: &Tables, marks: &mut Marks)
     requires over { AreOver tables.now.drivers marks.old }
     requires listed { IsListed marks.old }
@@ -114,7 +114,7 @@ fn release_all(tables: &Tables, marks: &mut Marks)
     }
 }
 
-// Whether the reply is `Done` with no serials.
+// Returns whether the reply is `Done` with no serials.
 fn drops_none(reply: &Reply) -> bool
     ensures { result ≡ drops_none reply.now }
 {
@@ -124,8 +124,8 @@ fn drops_none(reply: &Reply) -> bool
     }
 }
 
-// Releases both sides of the stream, if messages were dropped. A full place has messages, so if none was dropped, it is
-// still full, and is not looked at.
+// Releases both sides of the stream, if messages were dropped. A full place has messages, so if none was dropped the
+// place is still full, and this skips it.
 fn release_emptied(tables: &Tables, marks: &mut Marks, stream: StreamId, reply: &Reply)
     requires over { AreOver tables.now.drivers marks.old }
     requires listed { IsListed marks.old }
@@ -136,7 +136,7 @@ fn release_emptied(tables: &Tables, marks: &mut Marks, stream: StreamId, reply: 
     }
 }
 
-// Does so for all places, if messages were dropped.
+// Releases all wanted places that are not full, if messages were dropped.
 fn release_dropped(tables: &Tables, marks: &mut Marks, reply: &Reply)
     requires over { AreOver tables.now.drivers marks.old }
     requires listed { IsListed marks.old }

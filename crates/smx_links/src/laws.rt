@@ -4,7 +4,7 @@ ghost use Rattle.std.specs.Prelude.{◌≡◌, [], ◌∷◌, true, false};
 ghost use Rattle.smx_types.specs.declared.link.Link.{Link};
 ghost use Rattle.smx_links.specs.LinkLists.{is_upper};
 
-/// Of a link from driver 0 to driver 2, only driver 0 is an upper driver.
+/// If driver 2 is linked below driver 0, only driver 0 is an upper driver.
 pub fn a_link_has_one_upper_driver()
     ensures upper { (l : Link) → l.ctl.driver ≡ 0 → is_upper (l ∷ []) 0 ≡ true }
     ensures lower { (l : Link) → l.ctl.driver ≡ 0 → l.lower.driver ≡ 2 → is_upper (l ∷ []) 2 ≡ false }

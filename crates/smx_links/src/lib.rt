@@ -1,4 +1,4 @@
-//! The table of links between drivers, with a cycle test that reads one bit for each pair of drivers.
+//! The table of links between drivers. It has a bit for each pair of drivers, so its test for cycles reads one bit.
 #![tactic(auto)]
 
 mod key;

@@ -78,8 +78,8 @@ impl Links {
         self.ids.contains_key(&key_of(lower))
     }
 
-    /// Adds a link whose id is above all others, and whose lower stream is below no link. Allocates before
-    /// the first change.
+    /// Adds a link. Its id must be above all others, and its lower stream must be below no link. Allocates before the
+    /// first change.
     pub fn push(&mut self, link: Link) -> Result<(), NoMemory>
         requires new { All (λ l. l.id < link.id) self.old }
         requires free { is_below self.old link.lower ≡ false }

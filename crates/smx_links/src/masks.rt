@@ -51,8 +51,8 @@ fn with_bit(word: Word, b: u8) -> Word
     word | 1 << b
 }
 
-// Adds the lower driver, and all that it reaches, to what the upper driver reaches and to what each driver that
-// reaches it reaches.
+// Sets the bits for a new link. Its lower driver, and all drivers that this one reaches, are then reached by the upper
+// driver and by each driver that reaches the upper driver.
 fn join(words: &mut [Word], upper: u8, lower: u8)
     requires upper { upper < length words.old }
     requires lower { lower < length words.old }
@@ -68,7 +68,7 @@ fn join(words: &mut [Word], upper: u8, lower: u8)
     }
 }
 
-/// Changes the masks of some links to those with one more link. A link along an existing path adds no new path.
+/// Changes the masks of some links to the masks with one more link. A link along an existing path adds no new path.
 pub fn join_link(words: &mut [Word], link: Link)
     requires within { IsWithin (length words.old) link }
     requires few { length words.old ≤ WORD_BITS }

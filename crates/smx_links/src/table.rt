@@ -126,7 +126,7 @@ impl LinkTable {
         Some(link)
     }
 
-    /// Removes only the links with these ids. Then recomputes once which drivers each driver reaches. The next id
+    /// Removes only the links with these ids, and then recomputes once which drivers each driver reaches. The next id
     /// doesn't change. Does not allocate.
     pub fn remove_each(&mut self, ids: &[u32])
         ensures rest { self.new ≡ without_ids self.old ids.now }

@@ -10,7 +10,7 @@ use smx_filters::{MainFault, Sink, write_all};
 use smx_run::RunFault;
 use std::alloc::Global;
 
-/// Writes the answer to a line and flushes it. Returns `true` if the line was `end`, which ends the session.
+/// Writes the answer to a line and flushes it. Returns `true` if this ends the session, because the line was `end`.
 pub fn answer<S: Sink>(
     alloc: Global,
     sink: &mut S,

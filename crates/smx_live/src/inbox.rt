@@ -10,7 +10,7 @@ use smx_filters::{Feed, MAX_INPUT, MainFault};
 use smx_run::RunFault;
 use std::alloc::Global;
 
-// How many bytes one read asks for.
+// The number of bytes for which one read asks.
 const PIECE: usize = 4096;
 
 /// The bytes that were read and not yet removed, and whether the feed has ended.
@@ -32,11 +32,11 @@ impl Inbox {
         }
     }
 
-    /// Reads until the inbox starts with a whole line, and returns the line's length without its line feed.
-    /// Returns `None` at the end of the feed, if the inbox then holds no whole line. Fails with `TooLong`
-    /// exactly if the line, whole or not, has more than `MAX_INPUT` bytes, with `ReadFailed` exactly if a
-    /// read failed, and else because it is out of memory. Makes no read if the inbox already holds a whole
-    /// line.
+    /// Reads until the inbox starts with a whole line, and returns the length of the line without its line feed.
+    /// Returns `None` if the feed ends before that. Makes no read if the inbox already starts with a whole line.
+    ///
+    /// Fails with `TooLong` exactly if the line, whole or not, has more than `MAX_INPUT` bytes. Fails with `ReadFailed`
+    /// exactly if a read failed. Otherwise fails only because it is out of memory.
     pub fn next_line<F: Feed>(&mut self, feed: &mut F) -> Result<Option<usize>, MainFault>
         requires end { F.ended feed.old ≡ self.old.ended }
         requires fine_so_far { F.failures feed.old ≡ 0 }
@@ -76,7 +76,7 @@ impl Inbox {
     }
 }
 
-// Returns how many bytes precede the first line feed, if there is one.
+// Returns the number of bytes before the first line feed, if there is one.
 fn line_in(bytes: &[u8]) -> Option<usize>
     ensures { MatchOption result (IsOneLine bytes.now) (λ n. (n < length bytes.now) × IsOneLine (take n bytes.now)
         × (bytes.now ≡ take n bytes.now ++ LINE_FEED ∷ drop (n + 1) bytes.now)) }

@@ -35,8 +35,8 @@ use smx_text::worked_texts::wrong_programs;
 use smx_words::laws::one_value_each;
 use smx_words::laws_of_reading::which_lines_are_calls;
 
-/// Take what a session that has ended has written, without the answers that are not entries. It is the
-/// transcript of a legal history, and a check finds it legal.
+/// Take the output of a session that has ended, without the answers that are not entries. It is the transcript of a
+/// legal history, and a check finds it legal.
 pub fn live_sessions_are_legal_transcripts()
     ensures { (read : List ℕ) (ended : Bool) (output : List ℕ) (o : IsOver read ended output) → IsLegalTranscript o }
 {
@@ -54,8 +54,8 @@ pub fn a_session_has_one_output()
     one_value_each();
 }
 
-/// The table of a session spells programs whose drivers are not refused. Neither the table nor any line that
-/// the session has answered is longer than an input may be.
+/// The table of a session spells programs whose drivers are not refused, except as out of memory. The table and each
+/// line that the session has answered have at most 16,777,216 bytes.
 pub fn a_session_has_its_drivers()
     ensures text { (read output : List ℕ) (ended : Bool) (fault : TextFault) → HasComeSoFar read ended output
         → HasTableOf read ended (λ text. ReadsAny programs_grammar text (Err fault))
@@ -102,9 +102,9 @@ pub fn a_table_has_one_fault()
     drivers_have_one_fault();
 }
 
-/// A table is too long only if more than 16,777,216 bytes were read, and a line only if it has more. A table
-/// that has ended and a whole line, each of at most that many bytes, are not too long, whatever follows them.
-/// Nor is the table of a session, nor what is buffered when a session has ended.
+/// A table is too long only if more than 16,777,216 bytes were read, and a line only if it has more than that. A table
+/// that has ended and has at most that many bytes is not too long, whatever follows it. Nor is such a whole line, nor
+/// the table of a session, nor the rest of the buffer when a session has ended.
 pub fn what_is_too_long()
     ensures table { (read : List ℕ) → IsEndlessTable read → MAX_INPUT < length read }
     ensures line { (held : List ℕ) → IsTooLong held → MAX_INPUT < length held }
@@ -116,8 +116,9 @@ pub fn what_is_too_long()
     ensures no_end { (read output : List ℕ) (ended : Bool) (o : IsOver read ended output) → IsTooLong o.held → ⊥ }
 {}
 
-/// If a table has ended and each whole line read belongs to it, the input has ended. A line belongs to a table if it
-/// begins with `driver`, as a word or as the start of a longer one; `drive` is not enough.
+/// If a table has ended, and each whole line that was read belongs to it, the input has ended. A line belongs to a
+/// table if it begins with `driver`, which may be a whole word or the start of a longer one. A line `drive` does not
+/// belong to it.
 pub fn where_a_table_is_over()
     ensures finished { (ended : Bool) (table rest : List ℕ) → IsTable ended table rest
         → IsUnfinished (table ++ rest) → (ended ≡ true) × IsOneLine rest }
@@ -127,9 +128,9 @@ pub fn where_a_table_is_over()
     ensures not_unfinished { IsUnfinished (codes "programs 2\ndrivers\ndrive\n") → ⊥ }
 {}
 
-/// A worked session: what is read, and what is written. Its table ends after its last driver line, even if
-/// that line is cut, and nowhere else. The lines that ask for the configuration or for the end are not
-/// refused, and a line that is not a command is not performed.
+/// A worked session: its input and its output. Its table ends after its last driver line, even if that line is cut, and
+/// nowhere else. The lines that ask for the configuration or for the end are not refused. A line that is not a command
+/// is not performed.
 pub fn a_worked_live_session()
     ensures over { IsOver worked_input false worked_output }
     ensures table { IsTable false worked_table (codes "3 clone eth\n") }
@@ -150,9 +151,9 @@ pub fn a_worked_live_session()
     a_worked_session();
 }
 
-/// Examples of what may have been written when memory runs out: nothing, or the output of the session so far. For the
-/// worked session that is its opening, or its opening and the answers to its lines. It is never an answer to a line
-/// that was not read, and never a part of the opening.
+/// Examples of the output when memory runs out. It is empty, or the output of the session so far. For the worked
+/// session that is its opening, or its opening and the answers to its lines. It never has an answer to a line that was
+/// not read, and never only a part of the opening.
 pub fn what_is_out_when_memory_runs_out()
     ensures nothing { IsBroken worked_input false [] }
     ensures opening { IsBroken worked_input false (codes "transcript 2\ndriver eth leaf 2 8 3 16\n") }
@@ -190,9 +191,9 @@ pub fn why_lines_are_refused()
     which_lines_are_calls();
 }
 
-/// The drivers of a text are refused if the text spells programs whose drivers are not valid, for the fault
-/// that they have. If they are valid, they are refused only because memory has run out. They are never
-/// refused for a full history, nor if the text spells no programs.
+/// If a text spells programs whose drivers are not valid, the drivers are refused, for their fault. If the drivers are
+/// valid, they are refused only because memory has run out. They are never refused for a full history, nor if the text
+/// spells no programs.
 pub fn whose_drivers_are_refused()
     ensures refused { RefusesDriversOf (run.ConfigFault (config.BadSpec 0 BadMinors)) minorless_text }
     ensures not_for_want_of_memory { RefusesDriversOf run.NoMemory minorless_text → ⊥ }

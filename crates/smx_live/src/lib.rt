@@ -1,4 +1,4 @@
-//! Live sessions: lines that are answered at once, over a feed and a sink.
+//! Live sessions: lines are read from a feed, and each is answered at once to a sink.
 #![tactic(auto)]
 
 mod answers;

@@ -21,15 +21,16 @@ use smx_session::{Session, StartFault};
 use smx_types::NoMemory;
 use std::alloc::{AllocError, Global};
 
-/// Reads a driver table and then lines, and answers each line at once. A line is a process with a command,
-/// `show`, empty, or `end`. The output is the transcript of the commands that were performed. After `show` or
-/// an empty line it has the configuration, and for each line that is refused, a line that begins with `?`;
-/// such a line changes nothing. `end` or the end of the input ends the transcript.
+/// Reads a driver table and then lines, and answers each line at once. A line is a process with a command, `show`,
+/// empty, or `end`. The answer to a command is its entry. The answer to `show` or an empty line is the configuration.
+/// The answer to a refused line is a line that begins with `?`; such a line changes nothing. `end` or the end of the
+/// input ends the transcript. So the output is the transcript of the commands that were performed, with other answers
+/// in between.
 ///
-/// Requires that neither device has failed before and that the feed has not ended. Returns the first fault
-/// that occurs: a failed read or a line that is too long; a fault of the table as a text, then of its
-/// drivers; a failed write; or out-of-memory, unless that is the answer to a line. All earlier answers have
-/// been written by then.
+/// Requires that neither the feed nor the sink has failed before, and that the feed has not ended. Fails with the first
+/// fault that it meets: a failed read; a table or a line that is too long; a fault of the table as a text, and then of
+/// its drivers; a failed write; or out-of-memory, unless that is the answer to a line. It has then written all earlier
+/// answers.
 pub fn live_text<F: Feed, S: Sink>(
     alloc: Global,
     feed: &mut F,
@@ -57,8 +58,8 @@ pub fn live_text<F: Feed, S: Sink>(
     }
 }
 
-// Reads the driver table: the first line and the following lines that begin with `driver`, including one that
-// is cut.
+// Reads the driver table: the first line, and the following lines that begin with `driver`. The last of these may be
+// cut.
 fn read_table<F: Feed>(alloc: Global, feed: &mut F, inbox: &mut Inbox) -> Result<Vec<u8>, MainFault>
     requires end { F.ended feed.old ≡ inbox.old.ended }
     requires fine_so_far { F.failures feed.old ≡ 0 }
@@ -102,7 +103,7 @@ fn with_cut_line(table: Vec<u8>, held: &mut Vec<u8>) -> Result<Vec<u8>, MainFaul
     Ok(whole)
 }
 
-// Returns whether a line belongs to the table, given how many bytes of the table precede it.
+// Returns whether a line belongs to the table, if `before` bytes of the table come before it.
 fn is_of_table(before: usize, line: &[u8]) -> bool
     ensures { MatchBool result ((before ≡ 0) ⊎ (begins_driver line.now ≡ true))
         ((before ≢ 0) × (begins_driver line.now ≡ false)) }
@@ -122,7 +123,7 @@ fn text_of_table(table: Vec<u8>) -> Result<Vec<u8>, AllocError>
     Ok(text)
 }
 
-// Starts a session over the drivers of a table.
+// Starts a session with the drivers of a table.
 fn begin(alloc: Global, table: Vec<u8>) -> Result<Talk, MainFault>
     ensures { Begins table.items result }
 {
@@ -216,7 +217,7 @@ fn take_turn<S: Sink>(
     }
 }
 
-// Returns the answer to a last line without a line feed.
+// Returns `? cut` and a line feed if `held`, the rest of the input, has bytes. Otherwise returns nothing.
 fn cut_words(held: &[u8]) -> &'static [u8]
     ensures { result.now ≡ cut_words held.now }
 {

@@ -65,8 +65,8 @@ fn make_room(text: &mut Vec<u8>, len: usize, count: usize) -> Result<(), NoMemor
     Ok(())
 }
 
-// Returns why a line is refused if there is no room for the line of its entry. Only a command needs that
-// room.
+// Returns the reason for refusing a line if there is no room for the line of its entry. Only a command needs that room,
+// so any other line is refused as `NoCommand`.
 fn fault_without_room(alloc: Global, version: Version, line: &[u8]) -> TurnFault
     ensures { ((result ≡ fault.NoMemory) × IsCallLine version line.now)
         ⊎ ((result ≡ fault.NoCommand) × IsNoCallLine version line.now) }
@@ -78,9 +78,9 @@ fn fault_without_room(alloc: Global, version: Version, line: &[u8]) -> TurnFault
 }
 
 impl Talk {
-    /// Performs the command of a line and makes the line of its entry. Returns the reason if the line is
-    /// refused; then nothing has changed. It reserves room for the entry's line first. Fails if that room was
-    /// too small, after the command was performed.
+    /// Reserves room for the line of an entry, performs the command of a line, and makes the line of its entry. If the
+    /// line is refused, returns the reason, and nothing has changed. Fails if the reserved room was too small; the
+    /// command was then performed.
     pub fn perform(&mut self, alloc: Global, line: &[u8]) -> Result<Option<TurnFault>, NoMemory>
         requires { AsksForNeither line.now }
         ensures answered { IfOk result (λ o. IsPerformed self.old.session self.old.count line.now o

@@ -30,8 +30,8 @@ pub fn histories_are_determined()
         → map call_of one ≡ map call_of other → one ≡ other }
 {}
 
-/// A legal history is lawful: at its end there is no cycle, no stream is below two links, and each message that was
-/// accepted was delivered, was dropped or is queued, once.
+/// A legal history is lawful. At its end there is no cycle, and no stream is below two links. Each message that was
+/// accepted was delivered, was dropped or is queued, exactly one of these, once.
 pub fn legal_histories_are_lawful()
     ensures { (drivers : List DriverSpec) (history : List Entry) → IsLegal drivers history → IsLawful drivers history }
 {}

@@ -13,9 +13,9 @@ ghost use Rattle.smx_model.specs.LawfulHistories.{delivered_by, dropped_by, take
 ghost use Rattle.smx_model.specs.Removal.{serials};
 ghost use Rattle.smx_model.specs.Worked.Unlawful.{opened, wrote};
 
-/// A message arrives whole: a delivered message has the serial, the address and the bytes of an earlier entry.
-/// That entry's command wrote or injected these bytes to this address, and its reply has this serial. The same
-/// holds of queued messages.
+/// A message arrives whole: a delivered message has the serial, the address and the bytes of an earlier entry. The
+/// command of that entry wrote or injected these bytes to this address, and the reply has this serial. The same holds
+/// of queued messages.
 pub fn messages_arrive_whole()
     ensures delivered { (drivers : List DriverSpec) (early late : List Entry) (e : Entry) (serial addr : ℕ)
         (bytes : List ℕ)
@@ -25,8 +25,8 @@ pub fn messages_arrive_whole()
         → All (λ h. IsTakenIn history h.message) (after drivers history).flow }
 {}
 
-/// No entry of the example accepted a message with another serial, address or bytes than the one that was written, or
-/// accepted it before it was written.
+/// No entry of the example accepted a message whose serial, address or bytes differ from those of the message that was
+/// written. Nor was that message accepted before it was written.
 pub fn others_were_not_taken_in()
     ensures other_serial { IsTakenIn (opened ∷ wrote ∷ []) (record { serial = 2; addr = 5; bytes = 170 ∷ [] }) → ⊥ }
     ensures other_address { IsTakenIn (opened ∷ wrote ∷ []) (record { serial = 1; addr = 6; bytes = 170 ∷ [] }) → ⊥ }
@@ -34,9 +34,9 @@ pub fn others_were_not_taken_in()
     ensures no_entry { IsTakenIn (opened ∷ []) (record { serial = 1; addr = 5; bytes = 170 ∷ [] }) → ⊥ }
 {}
 
-/// A message leaves only by a reply that names it. After any commands, take each message that is queued or that
-/// the next command accepts: that command's reply delivers it or drops it, or it is queued afterwards, exactly one
-/// of these, once.
+/// A message leaves only by a reply that names it. After any commands, take the messages that are queued, and the one
+/// that the next command accepts, if any. Either the reply to that command delivers or drops such a message, or the
+/// message is queued afterwards; exactly one of these, once.
 pub fn messages_go_by_name()
     ensures { (drivers : List DriverSpec) (history : List Entry) (process : ℕ) (k : Command)
         → IsPermutation

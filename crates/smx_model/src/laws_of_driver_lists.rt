@@ -9,7 +9,7 @@ pub fn most_drivers_are_allowed()
     ensures { IsDriverList as_many_as_may_be }
 {}
 
-/// No configuration has more than 128 drivers, an invalid driver, or two drivers with the same name.
+/// No configuration can have 129 drivers, an invalid driver, or two drivers with the same name.
 pub fn some_drivers_are_refused()
     ensures many { IsDriverList one_too_many → ⊥ }
     ensures invalid { IsDriverList without_minors → ⊥ }

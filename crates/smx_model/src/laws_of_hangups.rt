@@ -22,7 +22,7 @@ ghost use Rattle.smx_model.specs.Lookups.{leaf_stream};
 ghost use Rattle.smx_model.specs.Ordered.{IsRising};
 ghost use Rattle.smx_model.specs.Standing.{exists};
 
-/// A hangup drops and moves nothing: afterwards its stream has hung up, and everything else is unchanged. A second
+/// A hangup drops and moves nothing: afterwards its stream is hung up, and everything else is unchanged. A second
 /// hangup of the stream changes nothing at all.
 pub fn hangups_change_nothing_else()
     ensures first { (drivers : List DriverSpec) (c : Configuration) (process : ℕ) (name : List ℕ) (minor : ℕ)
@@ -34,7 +34,8 @@ pub fn hangups_change_nothing_else()
         → step drivers c process (command.Hangup name minor) ≡ (c, reply.Done []) }
 {}
 
-/// No other command hangs up a stream, and of the hung-up streams each command keeps exactly those that still exist.
+/// No other command hangs up a stream. After such a command, exactly those streams are hung up that were so before and
+/// still exist.
 pub fn hung_up_streams_go_with_their_end()
     ensures { (drivers : List DriverSpec) (c : Configuration) (process : ℕ) (k : Command) → IsKept drivers c
         → is_hangup k ≡ false → (step drivers c process k).0.hungs
@@ -42,7 +43,7 @@ pub fn hung_up_streams_go_with_their_end()
 {}
 
 /// So a hung-up stream stays hung up as long as it exists, whatever the command. A stream that did not exist before a
-/// command, such as one that is opened anew, has not hung up.
+/// command, such as one that is opened anew, is not hung up.
 pub fn hung_up_streams_stay_so()
     ensures stays { (drivers : List DriverSpec) (c : Configuration) (process : ℕ) (k : Command) (s : StreamId)
         → IsKept drivers c → is_hung c.hungs s ≡ true → exists drivers (step drivers c process k).0 s ≡ true
@@ -53,7 +54,7 @@ pub fn hung_up_streams_stay_so()
 {}
 
 /// A history without a hangup reports none: it has no end of file and no refusal after a hangup, and at its end no
-/// stream has hung up.
+/// stream is hung up.
 pub fn without_a_hangup_none_is_reported()
     ensures replies { (drivers : List DriverSpec) (history : List Entry) → IsLegal drivers history
         → list_any (λ e. is_hangup e.command) history ≡ false → list_any is_of_hangup history ≡ false }
@@ -67,8 +68,8 @@ pub fn reports_need_no_later_version()
         → least_of_programs programs.drivers programs.programs ≡ V1 → least_of_transcript report ≡ V1 }
 {}
 
-/// Two ordered lists of hung-up streams are equal if they contain the same streams. Adding a stream and filtering
-/// keep the order, and result in a list of exactly these streams.
+/// Two ordered lists of hung-up streams are equal if they contain the same streams. A list stays in order if a stream
+/// is added or the list is filtered. It then has exactly the streams that are expected.
 pub fn hung_up_streams_make_the_list()
     ensures same { (xs ys : List StreamId) → IsRising stream_before xs → IsRising stream_before ys
         → ((s : StreamId) → is_hung xs s ≡ is_hung ys s) → xs ≡ ys }

@@ -24,7 +24,7 @@ pub fn one_link_more_joins()
         && ((l.lower.driver == b) || reaches links l.lower.driver b))) }
 {}
 
-/// Two paths of which one ends where the other starts make one path.
+/// If one path ends where another starts, the two make one path.
 pub fn paths_join()
     ensures { (links : List Link) (a b c : ℕ) → IsTrue (reaches links a b) → IsTrue (reaches links b c)
         → IsTrue (reaches links a c) }

@@ -21,8 +21,8 @@ pub fn empty_needs_no_mark()
         → IsAtRest drivers (record { configuration = empty; run = nowhere; wanted = nowhere }) }
 {}
 
-/// Before an accepted command no message can move. After it and before settling, a message can move only from a place
-/// that the command turned, or from one whose first message goes next to a place that it freed.
+/// Before a command no message can move. After an accepted command and before settling, a message can move only from
+/// two kinds of place: those that the command turned, and those whose first message goes next to a place that it freed.
 pub fn few_become_movable()
     ensures { (drivers : List DriverSpec) (c : Configuration) (process : ℕ) (command : Command) (p : Place)
         → IsKept drivers c → IfOk (outcome drivers c process command) (λ x. is_movable drivers x.0 p ≡ true

@@ -50,7 +50,7 @@ pub fn marks_are_of_one_place()
         ≡ (if same_place p q then full else list_any (same_place q) fulls) }
 {}
 
-/// The first movable place of a flow in order is the least one. If there is none, no message can move.
+/// The first movable place of a flow in order is the least one. If the flow has no movable place, no message can move.
 pub fn the_first_is_the_least()
     ensures { (drivers : List DriverSpec) (c : Configuration) → IsInOrder c.flow
         → IsLeastMovable drivers c (least_movable drivers c) }

@@ -16,9 +16,9 @@ ghost use Rattle.smx_model.specs.MeantLinks.{is_meant};
 ghost use Rattle.smx_model.specs.Standing.{exists, is_persistent};
 ghost use Rattle.smx_model.specs.Swept.{IsSwept};
 
-/// Unlink removes the ordinary links that it names and that were made on this stream. Punlink removes the persistent
-/// links that it names and whose upper driver is the stream's. Of the other links, exactly those remain that are
-/// persistent or whose controlling stream exists.
+/// Unlink removes the ordinary links that it names, if this stream controls them. Punlink removes the persistent links
+/// that it names, if their upper driver is that of this stream. Each other link remains exactly if it is persistent or
+/// its controlling stream still exists.
 pub fn unlinking_takes_exactly()
     ensures unlink { (drivers : List DriverSpec) (c : Configuration) (process fd : ℕ) (w : Which) (s : StreamId)
         → IsSwept drivers c → mux_stream drivers c process fd ≡ Ok s
@@ -32,7 +32,7 @@ pub fn unlinking_takes_exactly()
         && (is_persistent l || exists drivers (step drivers c process (command.Punlink fd w)).0 l.ctl))) c.links }
 {}
 
-/// After close and exit exactly those links remain that are persistent or whose controlling stream exists.
+/// After close and exit exactly those links remain that are persistent or whose controlling stream still exists.
 pub fn closing_takes_exactly()
     ensures close { (drivers : List DriverSpec) (c : Configuration) (process fd : ℕ) → IsSwept drivers c
         → All (λ l. Contains (step drivers c process (command.Close fd)).0.links l
@@ -42,8 +42,8 @@ pub fn closing_takes_exactly()
         ↔ IsTrue (is_persistent l || exists drivers (step drivers c process command.CloseAll).0 l.ctl)) c.links }
 {}
 
-/// No other command removes a link, and only punlink removes a persistent one. Each link after a command existed
-/// before it, with the same fields, or the command made it, under the id of its reply.
+/// No other command removes a link, and only punlink removes a persistent one. Each link after a command existed before
+/// it, with the same fields, or the command made it and its reply has the link's id.
 pub fn links_stay_otherwise()
     ensures others { (drivers : List DriverSpec) (c : Configuration) (process : ℕ) (k : Command) → IsSwept drivers c
         → ((fd : ℕ) → k ≢ command.Close fd) → k ≢ command.CloseAll
@@ -57,7 +57,7 @@ pub fn links_stay_otherwise()
         (step drivers c process k).0.links }
 {}
 
-/// Only these remove a descriptor: a close of it, or an exit of its process.
+/// Only two commands remove a descriptor: its close, and the exit of its process.
 pub fn descriptors_go_by_close_or_exit()
     ensures close { (drivers : List DriverSpec) (c : Configuration) (process fd : ℕ)
         → All (λ d. Contains (step drivers c process (command.Close fd)).0.fds d
@@ -70,7 +70,7 @@ pub fn descriptors_go_by_close_or_exit()
         → All (Contains (step drivers c process k).0.fds) c.fds }
 {}
 
-/// Only these remove a binding: an unbind of its stream, or the end of its stream.
+/// Only two things remove a binding: the unbind of its stream, and the end of its stream.
 pub fn bindings_go_by_unbind_or_with_their_stream()
     ensures unbind { (drivers : List DriverSpec) (c : Configuration) (process fd : ℕ) (s : StreamId)
         → IsSwept drivers c → mux_stream drivers c process fd ≡ Ok s
@@ -83,7 +83,8 @@ pub fn bindings_go_by_unbind_or_with_their_stream()
         (record { driver = b.driver; minor = b.minor }))) c.binds }
 {}
 
-/// Only these remove a route: an unroute of its driver and address, a new route for these, or the end of its link.
+/// Only three things remove a route: the unroute of its driver and address, a new route for these, and the end of its
+/// link.
 pub fn routes_go_by_name_or_with_their_link()
     ensures unroute { (drivers : List DriverSpec) (c : Configuration) (process fd addr : ℕ) (s : StreamId)
         → IsSwept drivers c → mux_stream drivers c process fd ≡ Ok s

@@ -11,9 +11,9 @@ ghost use Rattle.smx_model.specs.Views.{view};
 ghost use Rattle.smx_model.specs.Worked.Reports.{another_exited, copied, exited, once_more, one, opened};
 ghost use Rattle.smx_model.specs.Worked.Reports.{programs, report_with, three, too_early, two};
 
-/// A report has the drivers of the programs, which are valid, a legal history that holds the programs, and the view
-/// of the final configuration. These suffice: it follows that the history is lawful after each entry, and that only a
-/// few commands drop messages.
+/// A report has the drivers of the programs, which are valid. It has a legal history that holds the programs, and the
+/// view of the final configuration. It follows that the history is lawful after each entry, and that only a few
+/// commands drop messages.
 pub fn reports_are_legal()
     ensures drivers { (programs : ProgramLists) (report : Transcript) → IsReportOf programs report
         → (report.drivers ≡ programs.drivers) × IsDriverList programs.drivers }
@@ -46,8 +46,8 @@ pub fn the_example_is_a_report()
     ensures { IsReportOf programs (report_with (opened ∷ exited ∷ copied ∷ []) two) }
 {}
 
-/// A transcript that is wrong in one thing is not a report of the programs: with a command missing, done twice,
-/// exchanged, or of another process, with another reply, or with another view.
+/// A transcript that is wrong in one thing is not a report of the programs: a command is missing, done twice, exchanged
+/// or of another process, or there is another reply or another view.
 pub fn others_are_none()
     ensures left_out { IsReportOf programs (report_with (opened ∷ exited ∷ []) one) → ⊥ }
     ensures done_twice { IsReportOf programs (report_with (opened ∷ copied ∷ once_more ∷ exited ∷ []) three) → ⊥ }

@@ -61,8 +61,8 @@ pub fn more_marks_do()
         → ((p : Place) → wanted p ≡ true → more_wanted p ≡ true) → AreMarked drivers c more more_wanted }
 {}
 
-/// The law of changes: it suffices to mark the places that a change turned, and those that feed a wanted place
-/// that it freed.
+/// The law of changes: it suffices to mark the places that a change turned, and those that feed a wanted place which it
+/// freed.
 pub fn a_change_wakes_few()
     ensures { (drivers : List DriverSpec) (old new : Configuration) (run wanted turned : Place → Bool)
         → AreMarked drivers old run wanted → TurnsOnly drivers old new turned

@@ -16,7 +16,7 @@ ghost use Rattle.smx_model.specs.SettlingByMarks.{HoldsUp, IsAtRest, IsCleared, 
 ghost use Rattle.smx_model.specs.SettlingByMarks.{IsMovedOn, MarkedConfiguration};
 ghost use Rattle.smx_model.specs.SettlingByMarks.{SettlesByMarks};
 
-/// That each place without a run mark waits means two things: each movable place has a run mark, and each full place
+/// Each place without a run mark waits exactly if two things hold. Each movable place has a run mark. Each full place
 /// that blocks the first message of a place without a run mark has a wanted mark.
 pub fn marks_are_of_two_kinds()
     ensures { (drivers : List DriverSpec) (c : Configuration) (run wanted : Place → Bool)
@@ -59,7 +59,7 @@ pub fn moves_keep_marks()
         → IsMarkedAfter drivers (turned_by_move drivers old.configuration p) old new → HasItsMarks drivers new }
 {}
 
-/// Clearing a run mark keeps the marks valid, if the full place that is waited for is wanted.
+/// The marks stay valid if a run mark is cleared and the full place for which its place waits is wanted.
 pub fn clearing_keeps_marks()
     ensures { (drivers : List DriverSpec) (p : Place) (old new : MarkedConfiguration)
         → HasItsMarks drivers old → IsCleared drivers p old new → HasItsMarks drivers new }
@@ -75,8 +75,8 @@ pub fn settling_goes_on()
         → after_settling_within drivers n c ≡ c }
 {}
 
-/// These marks suffice: if the least marked place is movable, its message moves on and the places that this woke are
-/// marked; otherwise its mark is cleared and the place that it waits for is wanted.
+/// These marks suffice. If the least marked place is movable, its first message moves on, and the places that this woke
+/// are marked. Otherwise its mark is cleared, and the place for which it waits is wanted.
 pub fn the_least_marks_do()
     ensures moved { (drivers : List DriverSpec) (p : Place) (m : MarkedConfiguration) → IsLeastMarked m.run p
         → is_movable drivers m.configuration p ≡ true → IsMovedOn drivers p m (record {

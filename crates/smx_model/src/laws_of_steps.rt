@@ -50,13 +50,13 @@ pub fn links_have_room()
         → (MAX_LINKS ≤ length c.links) ⊎ (NUMBER_END ≤ c.next_id) }
 {}
 
-/// If nothing belongs to streams that don't exist, only a command that may drop messages names dropped ones.
+/// If nothing belongs to streams that don't exist, only the commands that may drop messages name dropped ones.
 pub fn other_commands_drop_none()
     ensures { (drivers : List DriverSpec) (c : Configuration) (process : ℕ) (command : Command) → IsSwept drivers c
         → dropped_by (step drivers c process command).1 ≢ [] → IsTrue (may_drop command) }
 {}
 
-/// A change that leaves nothing to sweep and keeps the flow is done with no message dropped.
+/// If a change leaves nothing to sweep and keeps the flow, its command is done and no message is dropped.
 pub fn idle_changes_drop_none()
     ensures { (drivers : List DriverSpec) (c new : Configuration) → IsSwept drivers new → new.flow ≡ c.flow
         → done_outcome drivers c new ≡ Ok (new, reply.Done []) }

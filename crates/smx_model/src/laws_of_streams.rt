@@ -12,8 +12,8 @@ ghost use Rattle.smx_model.specs.SoundLinks.{AreLinksSound};
 ghost use Rattle.smx_model.specs.Standing.{exists, Stands};
 ghost use Rattle.smx_model.specs.Swept.{IsSwept};
 
-/// Without a cycle a stream exists exactly if it does within some number of climbs: as many climbs as there are
-/// drivers suffice. This also holds before a sweep.
+/// If there is no cycle, as many climbs as there are drivers find each stream that exists: no larger number of climbs
+/// finds another one. This also holds before a sweep.
 pub fn climbs_suffice()
     ensures { (drivers : List DriverSpec) (c : Configuration) (s : StreamId) → AreLinksSound c.links
         → AreControllingKnown drivers c.links

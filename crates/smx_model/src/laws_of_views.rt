@@ -7,7 +7,7 @@ ghost use Rattle.smx_model.specs.DriverList.{IsDriverList};
 ghost use Rattle.smx_model.specs.KeptConfigurations.{IsSound};
 ghost use Rattle.smx_model.specs.Views.{view};
 
-/// Two configurations with the same view are equal.
+/// Two sound configurations over the same valid drivers are equal if they have the same view.
 pub fn views_tell_configurations_apart()
     ensures { (drivers : List DriverSpec) (c d : Configuration) → IsDriverList drivers
         → IsSound drivers c → IsSound drivers d

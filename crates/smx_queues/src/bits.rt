@@ -8,7 +8,8 @@ use smx_types::NoMemory;
 use std::alloc::Global;
 use std::marker::Model;
 
-/// A mark for each number below `count`. The least marked number is found fast. Contracts see which ones are marked.
+/// A mark for each number below `count`. The lowest marked number is found fast. Contracts see which numbers are
+/// marked.
 #[derive(Debug, Drop)]
 pub struct Bits {
     count: usize,
@@ -28,8 +29,8 @@ impl Model for Bits {
     ghost invariant = { λ b. AreBits b.first b.count b.words.items };
 }
 
-// Returns the first word from `start` on that has a mark, or if none has, the number of words or `start`, whichever is
-// larger.
+// Returns the index of the first word from `start` on that has a mark. If no such word has one, returns the number of
+// words or `start`, whichever is larger.
 fn first_word(words: &[u64], start: usize) -> usize
     ensures zero { (w : ℕ) → start ≤ w → w < result → slice_index words.now w ≡ 0 }
     ensures some { result < length words.now → slice_index words.now result ≢ 0 }
@@ -85,7 +86,7 @@ impl Bits {
         self.words[n / 64] &= !(1u64 << (n % 64));
     }
 
-    /// Whether the number is marked. Takes no memory.
+    /// Returns whether the number is marked. Takes no memory.
     pub fn is_set(&self, n: usize) -> bool
         requires { n < self.now.count }
         ensures { result ≡ has_bit self.now n }
@@ -93,7 +94,7 @@ impl Bits {
         (self.words[n / 64] >> (n % 64)) & 1 == 1
     }
 
-    /// The least marked number from this one on, if there is one. Takes no memory.
+    /// Returns the lowest marked number from this one on, if there is one. Takes no memory.
     pub fn first_from(&self, n: usize) -> Option<usize>
         ensures below { IfSome result (λ m. m < self.now.count) }
         ensures from { IfSome result (λ m. n ≤ m) }
@@ -116,7 +117,7 @@ impl Bits {
         Some(64 * next + self.words[next].trailing_zeros() as usize)
     }
 
-    /// The least marked number, if there is one. Takes no memory.
+    /// Returns the lowest marked number, if there is one. Takes no memory.
     pub fn first(&mut self) -> Option<usize>
         ensures same { self.new ≡ self.old }
         ensures below { IfSome result (λ n. n < self.old.count) }

@@ -34,8 +34,7 @@ impl Chain {
         }
     }
 
-    // Returns the chain without nodes, and marked as full, so that the arrival of a copied message doesn't change the
-    // mark.
+    // Returns the chain without nodes, and marks it as full. So the arrivals of copied messages don't change the mark.
     pub fn to_fill(self) -> Chain
         ensures { result ≡ chain_to_fill self }
     {
@@ -79,7 +78,7 @@ impl Chain {
     }
 }
 
-// Returns the number of the first chain whose place doesn't exist.
+// Returns the number of the first chain whose place doesn't exist, if there is one.
 pub fn first_gone(chains: &[Chain]) -> Option<usize>
     ensures { result ≡ position (λ c. not c.there) chains.now }
 {

@@ -22,7 +22,7 @@ use smx_types::{DriverSpec, Message, NoMemory, Place};
 use std::alloc::Global;
 use std::marker::Model;
 
-/// The queues of all places that some drivers have, found by place. A contract sees the model's flow and full places.
+/// The queues of all places that some drivers have, found by place. Contracts see the model's flow and full places.
 #[derive(Debug)]
 pub struct FlowTable {
     places: Places,
@@ -30,7 +30,7 @@ pub struct FlowTable {
 }
 
 impl Drop for FlowTable {
-    // Written by hand, so functions drop a table by one call, not by parts.
+    // Written by hand, so that functions drop a table with one call, not part by part.
     fn drop(self) {
         let FlowTable {
             places: _places,
@@ -68,14 +68,14 @@ impl FlowTable {
         Ok(FlowTable { places, queues })
     }
 
-    /// How many messages are queued. Takes no memory.
+    /// Returns the number of queued messages. Takes no memory.
     pub fn len(&self) -> usize
         ensures { result ≡ length self.now.flow }
     {
         self.queues.len()
     }
 
-    /// How many places there are. Takes no memory.
+    /// Returns the number of places. Takes no memory.
     pub fn place_count(&self) -> usize
         ensures count { result ≡ length (places_of self.now.drivers) }
         ensures few { result < 2 ^ 63 }
@@ -83,7 +83,7 @@ impl FlowTable {
         self.places.len()
     }
 
-    /// The number of the place, if the drivers have it. Takes no memory.
+    /// Returns the number of the place, if the drivers have it. Takes no memory.
     pub fn number(&self, place: Place) -> Option<usize>
         ensures found { IfSome result (λ n. slice_get (places_of self.now.drivers) n ≡ Some place) }
         ensures known { IsKnown self.now.drivers place.stream → IsSome result }
@@ -91,7 +91,7 @@ impl FlowTable {
         self.places.number(place)
     }
 
-    /// The place of a number. Takes no memory.
+    /// Returns the place with this number. Takes no memory.
     pub fn place_at(&self, n: usize) -> Place
         requires { n < length (places_of self.now.drivers) }
         ensures { slice_get (places_of self.now.drivers) n ≡ Some result }
@@ -99,7 +99,7 @@ impl FlowTable {
         self.places.at(n)
     }
 
-    /// Whether the place of a number is marked as full. Takes no memory.
+    /// Returns whether the place with this number is marked as full. Takes no memory.
     pub fn is_full_at(&self, n: usize) -> bool
         requires { n < length (places_of self.now.drivers) }
         ensures { (p : PlaceValue) → slice_get (places_of self.now.drivers) n ≡ Some p
@@ -108,7 +108,7 @@ impl FlowTable {
         self.queues.is_full(n)
     }
 
-    /// Whether there is a message at the place of a number. Takes no memory.
+    /// Returns whether there is a message at the place with this number. Takes no memory.
     pub fn has_messages_at(&self, n: usize) -> bool
         requires { n < length (places_of self.now.drivers) }
         ensures { (p : PlaceValue) → slice_get (places_of self.now.drivers) n ≡ Some p
@@ -117,7 +117,7 @@ impl FlowTable {
         self.queues.message_count(n) > 0
     }
 
-    /// The first message at the place of a number, if there is one. Takes no memory.
+    /// Returns the first message at the place with this number, if there is one. Takes no memory.
     pub fn front_at(&self, n: usize) -> Option<&Message>
         requires { n < length (places_of self.now.drivers) }
         ensures { (p : PlaceValue) → slice_get (places_of self.now.drivers) n ≡ Some p
@@ -126,7 +126,7 @@ impl FlowTable {
         self.queues.front(n)
     }
 
-    /// Whether the place is marked as full. Takes no memory.
+    /// Returns whether the place is marked as full. Takes no memory.
     pub fn is_full(&self, place: Place) -> bool
         ensures { result ≡ list_any (same_place place) self.now.fulls }
     {
@@ -136,7 +136,7 @@ impl FlowTable {
         }
     }
 
-    /// Whether there is a message at the place. Takes no memory.
+    /// Returns whether there is a message at the place. Takes no memory.
     pub fn has_messages(&self, place: Place) -> bool
         ensures { result ≡ is_some (first_message self.now.flow place) }
     {
@@ -146,7 +146,7 @@ impl FlowTable {
         }
     }
 
-    /// The first message at the place, if there is one. Takes no memory.
+    /// Returns the first message at the place, if there is one. Takes no memory.
     pub fn front(&self, place: Place) -> Option<&Message>
         ensures { option_copied result ≡ first_message self.now.flow place }
     {
@@ -164,7 +164,8 @@ impl FlowTable {
         self.queues.reserve_one()
     }
 
-    /// A message arrives at a place that is not full. Takes no memory.
+    /// Adds a message at the end of the queue of a place that is not full, and sets its full mark as an arrival does.
+    /// Takes no memory.
     pub fn put(&mut self, place: Place, message: Message)
         requires known { IsKnown self.old.drivers place.stream }
         requires open { list_any (same_place place) self.old.fulls ≡ false }
@@ -176,7 +177,7 @@ impl FlowTable {
         self.queues.put(p, message);
     }
 
-    /// The first message leaves the place, if there is one. Takes no memory.
+    /// Removes the first message of the place and returns it, if there is one. Takes no memory.
     pub fn take(&mut self, place: Place) -> Option<Message>
         ensures taken { result ≡ first_message self.old.flow place }
         ensures left { OnSome result (self.new ≡ record (after_leaving self.old place) { spare = self.new.spare }) }
@@ -188,7 +189,8 @@ impl FlowTable {
         }
     }
 
-    /// Moves the first message at the place of one number to that of another, which is not full. Takes no memory.
+    /// Moves the first message at the place with one number to the place with another, which is not full. Takes no
+    /// memory.
     #[inline(always)]
     pub fn move_front_at(&mut self, from: usize, to: usize)
         requires from { from < length (places_of self.old.drivers) }
@@ -219,14 +221,14 @@ impl FlowTable {
         }
     }
 
-    /// All messages, in order of place. Takes no memory.
+    /// Returns all messages, in order of place. Takes no memory.
     pub fn messages(&self) -> QueuedMessages<'_>
         ensures { result ≡ self.now.flow }
     {
         QueuedMessages::new(&self.places, &self.queues)
     }
 
-    /// All messages, in order of place, each moved out. Takes no memory.
+    /// Moves all messages out, in order of place. Takes no memory.
     pub fn into_messages(self) -> LeavingMessages
         ensures { result ≡ self.flow }
     {
@@ -234,7 +236,7 @@ impl FlowTable {
         LeavingMessages::new(places, queues)
     }
 
-    /// The full places, in order. Takes no memory.
+    /// Returns the full places, in order. Takes no memory.
     pub fn fulls(&self) -> FullPlaces<'_>
         ensures { result ≡ self.now.fulls }
     {

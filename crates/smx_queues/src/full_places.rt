@@ -10,12 +10,12 @@ use crate::queues::Queues;
 use smx_types::Place;
 use std::marker::Model;
 
-/// The full places in order, seen as the list of those that are left. Takes no memory.
+/// An iterator over the full places, in order. Contracts see the list of those that are left. Takes no memory.
 #[derive(Drop)]
 pub struct FullPlaces<'a> {
     places: &'a Places,
     queues: &'a Queues,
-    // The number of the next place to look at.
+    // The number of the place to examine next.
     next: usize,
 }
 
@@ -46,7 +46,7 @@ impl<'a> FullPlaces<'a> {
 }
 
 impl<'a> FullPlaces<'a> {
-    /// The next one, if any is left. Takes no memory.
+    /// Returns the next place, if one is left. Takes no memory.
     pub fn next(&mut self) -> Option<Place>
         ensures { YieldsFirstBy (λ item. item) (λ rest. rest) self.old result self.new }
     {

@@ -1,4 +1,4 @@
-//! Laws of places, each the contract of a function that does nothing: an example of each.
+//! Laws of places: examples of their numbers. Each law is the contract of a function that does nothing.
 
 ghost use Rattle.std.specs.Prelude.{◌≡◌, [], ◌∷◌};
 ghost use Rattle.smx_types.specs.declared.stream.Side.TheVariants as side;

@@ -11,13 +11,13 @@ use crate::queues::Queues;
 use smx_types::{Message, Place};
 use std::marker::Model;
 
-/// All messages of tables that nobody needs any more, in order of place, seen as the list of those that are left. None
-/// is copied. Takes no memory.
+/// An iterator that moves all messages out of a table that nobody needs any more, in order of place. Contracts see the
+/// list of those that are left. Takes no memory.
 #[derive(Drop)]
 pub struct LeavingMessages {
     places: Places,
     queues: Queues,
-    // The number of a place before which none has messages.
+    // No place with a lower number has messages.
     next: usize,
 }
 
@@ -46,7 +46,7 @@ impl LeavingMessages {
         }
     }
 
-    /// The next one and its place, if any is left. Takes no memory.
+    /// Returns the next message and its place, if one is left. Takes no memory.
     pub fn next(&mut self) -> Option<(Place, Message)>
         ensures { YieldsFirstBy leaving_message (λ rest. rest) self.old result self.new }
     {

@@ -1,4 +1,4 @@
-//! The queues of all places: each queue's messages in order, all of them in one store.
+//! The queues of all places: the messages of each queue in order, and all messages in one store.
 #![tactic(auto)]
 
 mod bits;

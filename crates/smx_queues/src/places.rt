@@ -20,7 +20,7 @@ pub struct DriverRow {
     pub minors: usize,
 }
 
-/// Drivers, and both sides of each stream that they have, numbered in order. A contract sees the drivers.
+/// Some drivers, and both sides of each stream that they have, numbered in order. Contracts see the drivers.
 #[derive(Debug, Drop)]
 pub struct Places {
     drivers: Vec<DriverSpec>,
@@ -46,7 +46,7 @@ fn side_number(side: Side) -> usize
     side as usize
 }
 
-// The row of a driver, if it is there.
+// Returns the row of a driver, if there is such a driver.
 fn row_at(rows: &[DriverRow], driver: u8) -> Option<DriverRow>
     ensures { result ≡ slice_get rows.now driver }
 {
@@ -56,7 +56,7 @@ fn row_at(rows: &[DriverRow], driver: u8) -> Option<DriverRow>
     }
 }
 
-// The high and the low water mark of a driver that is there.
+// Returns the high and the low water mark of a driver that exists.
 fn marks_of(drivers: &[DriverSpec], driver: u8) -> (usize, usize)
     requires list { IsDriverList drivers.now }
     requires there { driver < length drivers.now }
@@ -69,7 +69,7 @@ fn marks_of(drivers: &[DriverSpec], driver: u8) -> (usize, usize)
     (d.high as usize, d.low as usize)
 }
 
-// How many minors a driver that is there has.
+// Returns the number of minors of a driver that exists.
 fn minors_at(drivers: &[DriverSpec], driver: usize) -> u8
     requires list { IsDriverList drivers.now }
     requires there { driver < length drivers.now }
@@ -120,7 +120,7 @@ impl Places {
         })
     }
 
-    /// How many places there are.
+    /// Returns the number of places.
     pub fn len(&self) -> usize
         ensures many { result ≡ length (places_of self.now) }
         ensures few { result < 2 ^ 63 }
@@ -128,7 +128,7 @@ impl Places {
         self.places.len()
     }
 
-    /// The number of the place, if its driver has such a stream.
+    /// Returns the number of the place, if its driver has such a stream.
     pub fn number(&self, place: Place) -> Option<usize>
         ensures found { IfSome result (λ i. slice_get (places_of self.now) i ≡ Some place) }
         ensures none { IfNone result (list_any (same_place place) (places_of self.now) ≡ false) }
@@ -141,12 +141,12 @@ impl Places {
             return None;
         }
         let places: &[Place] = &self.places;
-        // For the proof: no slice is so long that the sum below could overflow.
+        // For the proof: the length of a slice is so small that the sum below can't overflow.
         let _count = places.len();
         Some(row.first + 2 * minor + side_number(place.side))
     }
 
-    /// The place of a number; the next number is less than 2^64.
+    /// Returns the place with this number. The next number is below 2^64.
     pub fn at(&self, number: usize) -> Place
         requires { number < length (places_of self.now) }
         ensures place { slice_get (places_of self.now) number ≡ Some result }

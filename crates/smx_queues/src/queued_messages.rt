@@ -13,15 +13,15 @@ use crate::queues::Queues;
 use smx_types::{Place, Side, StreamId};
 use std::marker::Model;
 
-/// All messages in order of place, seen as the list of those that are left. Takes no memory.
+/// An iterator over all messages, in order of place. Contracts see the list of those that are left. Takes no memory.
 #[derive(Drop)]
 pub struct QueuedMessages<'a> {
     places: &'a Places,
     queues: &'a Queues,
-    // The place that is looked at, and what is left there.
+    // The current place, and the messages that are left there.
     place: Place,
     left: PlaceMessages<'a>,
-    // The number of the next place to look at.
+    // The number of the place to examine next.
     next: usize,
 }
 
@@ -62,7 +62,7 @@ impl<'a> QueuedMessages<'a> {
 }
 
 impl<'a> QueuedMessages<'a> {
-    /// The next one, if any is left. Takes no memory.
+    /// Returns the next message, if one is left. Takes no memory.
     pub fn next(&mut self) -> Option<Queued<'a>>
         ensures { YieldsFirstBy queued_message (λ rest. rest) self.old result self.new }
     {

@@ -146,7 +146,7 @@ impl Queues {
             ≡ with_queue self.old.queues p (with_arrival (queue_at self.old.queues p) message) }
         ensures spare { self.old.spare ≡ self.new.spare + 1 }
     {
-        // Opens the invariant: a place that is not full has few bytes.
+        // Opens the invariant, which bounds the bytes of a place that is not full.
         let _chains = &self.chains;
         let (message, size) = sized(message);
         self.append(p, message, size);

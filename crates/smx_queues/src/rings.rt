@@ -7,12 +7,13 @@ use smx_types::NoMemory;
 use std::alloc::Global;
 use std::marker::Model;
 
-/// Each number below `count` has a ring, and is in one ring or none. Contracts see the ring that each is in.
+/// Each number below `count` has a ring of its own, and is in one ring or in none. Contracts see the ring that each
+/// number is in.
 #[derive(Debug, Drop)]
 pub struct Rings {
     count: usize,
-    // With n numbers, node i is number i, and the ring of number i begins at node n + i. For each node 0 if it is in no
-    // ring, otherwise 1 more than the number of its ring.
+    // With n numbers, node i is number i, and the ring of number i begins at node n + i. The entry of a node is 0 if it
+    // is in no ring, and otherwise 1 more than the number of its ring.
     owners: Vec<usize>,
     // The node after each node, and the one before it.
     next: Vec<usize>,
@@ -29,7 +30,7 @@ impl Model for Rings {
     ghost invariant = { λ r. AreRings r.count r.owners.items r.next.items r.previous.items };
 }
 
-// Lets h lead to p, and p to f.
+// Makes p the node after h, and f the node after p.
 fn link(nodes: &mut Vec<usize>, p: usize, f: usize, h: usize)
     requires p { p < length nodes.old.items }
     requires h { h < length nodes.old.items }
@@ -39,7 +40,7 @@ fn link(nodes: &mut Vec<usize>, p: usize, f: usize, h: usize)
     nodes[h] = p;
 }
 
-// Lets a lead to b, and p to itself.
+// Makes b the node after a, and p the node after itself.
 fn unlink(nodes: &mut Vec<usize>, a: usize, b: usize, p: usize)
     requires a { a < length nodes.old.items }
     requires p { p < length nodes.old.items }
@@ -61,7 +62,7 @@ fn numbers(alloc: Global, count: usize) -> Result<Vec<usize>, NoMemory>
     Ok(numbers)
 }
 
-// Returns the owners for the case that no number is in a ring. The beginning of each ring is in that ring.
+// Returns the owners of the nodes if no number is in a ring. The node at which a ring begins is always in that ring.
 fn first_owners(alloc: Global, count: usize) -> Result<Vec<usize>, NoMemory>
     requires { count < 2 ^ 63 }
     ensures count { IfOk result (λ v. length v.items ≡ count + count) }
@@ -94,7 +95,7 @@ impl Rings {
         })
     }
 
-    // Puts a number that is in no ring into one.
+    // Puts number p, which is in no ring, into the ring of q.
     fn insert(&mut self, p: usize, q: usize)
         requires p { p < self.old.count }
         requires q { q < self.old.count }
@@ -121,7 +122,7 @@ impl Rings {
         self.owners[p] = 0;
     }
 
-    // The number leaves its ring, if it is in one.
+    // Takes the number out of its ring, if it is in one.
     fn leave(&mut self, p: usize)
         requires { p < self.old.count }
         ensures { self.new ≡ record self.old { owners = slice_set self.old.owners p 0 } }
@@ -143,7 +144,7 @@ impl Rings {
         }
     }
 
-    /// Takes a number out of the ring of q, if it has any. Takes no memory.
+    /// Takes a number out of the ring of q and returns it, if the ring has one. Takes no memory.
     pub fn take_one(&mut self, q: usize) -> Option<usize>
         requires { q < self.old.count }
         ensures below { IfSome result (λ p. p < self.old.count) }

@@ -1,9 +1,9 @@
-//! Hears of the commands that a worker performs.
+//! A hook for the commands that a worker performs.
 
 use smx_types::Process;
 
-/// Hears of each command of a run, once before and once after. The worker calls it without the turn, so a gate may
-/// wait for other workers.
+/// A hook that a worker calls for each command, once before and once after. The worker doesn't have the turn then, so a
+/// gate may wait for other workers.
 pub trait Gate {
     /// Called right before the worker performs command `number` of `process`; commands count from 0.
     fn before(&self, process: Process, number: usize);

@@ -1,4 +1,4 @@
-//! Reports a system, if its history agrees with the transcripts of its callers.
+//! Makes a report of a system, if its history agrees with the transcripts of its callers.
 
 ghost use Rattle.std.specs.Prelude.{◌≡◌, ◌≤◌, ◌<◌, ◌↔◌, ℕ, List, [], ◌∷◌, ◌++◌, All, length, replicate};
 ghost use Rattle.std.specs.Prelude.{slice_index_or, IsTrue, IfOk, IfSome, IfNone, Err, None, Some};
@@ -19,9 +19,9 @@ use std::alloc::Global;
 
 const PROCESSES: usize = MAX_PROCESSES as usize;
 
-/// Reports a system, if the entries of each process in its history are that process's transcript; a process past the
-/// list has the empty transcript. Fails with `Strange` for the lowest process for which they are not, or else because
-/// it is out of memory.
+/// Makes a report of a system, if the transcript of each process has exactly the entries of that process in the
+/// history. A process past the list has the empty transcript. Fails with `Strange` for the lowest process whose
+/// transcript differs, or else because it is out of memory.
 pub fn gather(alloc: Global, system: System, transcripts: &[Entries]) -> Result<Report, GatherFault>
     requires { length transcripts.now ≤ MAX_PROCESSES }
     ensures report { IfOk result (Reports system) }
@@ -35,7 +35,7 @@ pub fn gather(alloc: Global, system: System, transcripts: &[Entries]) -> Result<
     Ok(report(alloc, system, Fronts::new(alloc))?)
 }
 
-/// Reports a system, with these fronts. Fails only if it is out of memory.
+/// Makes a report of a system, with these fronts. Fails only if it is out of memory.
 pub fn report(alloc: Global, system: System, fronts: Fronts) -> Result<Report, NoMemory>
     ensures report { IfOk result (Reports system) }
     ensures fronts { IfOk result (λ r. r.fronts ≡ fronts) }
@@ -66,7 +66,8 @@ pub fn find_strange(history: &[Entry], transcripts: &[Entries]) -> Option<Proces
     None
 }
 
-// Returns for each process how many entries of its transcript the history has, or `None` if it has others.
+// Returns for each process the number of entries of its transcript that the history has, or `None` if the history has
+// other entries of the process.
 fn meet_all(history: &[Entry], transcripts: &[Entries]) -> [Option<usize>; PROCESSES]
     ensures met { (p : ℕ) → p < MAX_PROCESSES
         → IsMet (slice_index_or transcripts.now p []) (entries_of p history.now) (slice_index_or result p None) }

@@ -16,9 +16,9 @@ ghost use Rattle.smx_run.specs.WorkedRuns.{ended_at, second, to_run, HasEndedOf,
 ghost use Rattle.smx_run.specs.declared.run_fault.RunFault.{RunFault};
 ghost use Rattle.smx_run.specs.declared.run_fault.RunFault.TheVariants as run;
 
-/// Two programs have two fronts, each of a beginning of the history that holds all commands of the program.
-/// Counterexamples: a front that is left out or added, that is too early or past the end, or that has another number
-/// of links.
+/// Two programs have two fronts. Each is the front of a beginning of the history that has all commands of the program.
+/// Counterexamples: a front that is left out or added, that is too early or past the end, or that has another number of
+/// links.
 pub fn fronts_of_an_example()
     ensures fronts { AreFrontsFrom drivers (opened ∷ exited ∷ copied ∷ []) 0 programs.programs
         (front 3 0 false ∷ front 2 0 true ∷ []) }
@@ -45,7 +45,7 @@ pub fn refusals_of_an_example()
 {}
 
 /// No run is refused for a strange process, or for a turn that was never given back. A run on one thread is refused
-/// only for its drivers or because memory ran out, and so may every run be.
+/// only for its drivers, or because memory ran out. Every run may be refused for these.
 pub fn refusals_have_few_causes()
     ensures not_strange { (drivers : List DriverSpec) (p : ℕ) → RefusesRun drivers (run.Strange p) → ⊥ }
     ensures not_full { (drivers : List DriverSpec) → RefusesAlone drivers run.HistoryFull → ⊥ }
@@ -56,8 +56,9 @@ pub fn refusals_have_few_causes()
         → RefusesAlone drivers fault → RefusesRun drivers fault }
 {}
 
-/// The calls of two programs come one program after the other, by rising number, each in its order. A beginning of
-/// them that is not empty starts with the first call and not with that of another process, and it has no further calls.
+/// The calls of two programs come one program after the other, by rising number, each in its order. A nonempty
+/// beginning of these calls starts with the first call, not with a call of another process, and has only calls of the
+/// list.
 pub fn calls_of_an_example()
     ensures in_turn { calls_from 0 programs.programs ≡ (0, OpenClone ip) ∷ (0, Dup 0) ∷ (1, CloseAll) ∷ [] }
     ensures none_yet { BeginsCalls [] 0 programs.programs }
@@ -67,8 +68,8 @@ pub fn calls_of_an_example()
         0 programs.programs → ⊥ }
 {}
 
-/// A worker that performs commands in order stops before the last one. It does not stop after the last one, nor if it
-/// has performed another command than the first.
+/// A worker that performs commands in order may stop before the last one. To stop after the last one, or after another
+/// command than the first, is no such stop.
 pub fn stops_of_an_example()
     ensures before_the_last { StopsAmong KeepsBehind (Dup 1 ∷ []) (OpenClone ip ∷ Dup 0 ∷ [])
         (Dup 1 ∷ OpenClone ip ∷ []) }
@@ -76,8 +77,8 @@ pub fn stops_of_an_example()
     ensures not_behind_another { StopsAmong KeepsBehind [] (OpenClone ip ∷ Dup 0 ∷ []) (Dup 0 ∷ []) → ⊥ }
 {}
 
-/// Between two moments a process has called the commands of the entries that were made with its seat in between, in
-/// order: no fewer, no others, and none for an entry that was only seen. The process is the same.
+/// Between two moments, a process has called exactly the commands of the entries that were made with its seat in
+/// between, in order. It has called none for an entry that was only seen. The process is the same.
 pub fn what_a_process_has_called()
     ensures one { HasCalled (knows 0 0 9) (OpenClone ip ∷ []) (knows 0 1 9) }
     ensures none { HasCalled (knows 1 0 9) [] (knows 1 1 9) }
@@ -90,8 +91,8 @@ pub fn what_a_process_has_called()
     ensures not_elsewhere { HasCalled (knows 0 0 9) [] (knows 1 0 9) → ⊥ }
 {}
 
-/// A process is to be run if its seat is one of the door, here of one process, and no call was made with the seat
-/// yet, whatever it has seen.
+/// A process is to be run if its seat belongs to the door, and no call was made with the seat yet, whatever the seat
+/// has seen. The door here has the seats of one process.
 pub fn what_is_to_be_run()
     ensures to_run { IsFirstToRun (knows 0 0 9) }
     ensures to_run_behind { IsFirstToRun idle }
@@ -99,8 +100,8 @@ pub fn what_is_to_be_run()
     ensures not_elsewhere { IsFirstToRun (knows 1 0 9) → ⊥ }
 {}
 
-/// A process has ended if its seat is one of the door and knows all of its entries, and the front is the one that was
-/// seen then.
+/// A process has ended if its seat belongs to the door and knows all entries of the process that it has seen, and the
+/// front is that of the history that it has seen.
 pub fn what_has_ended()
     ensures ended { HasEndedOf 0 (knows 0 1 9) (front 1 0 false) }
     ensures ended_among_others { HasEndedOf 1 (knows 1 1 9) (front 1 0 false) }
@@ -111,7 +112,7 @@ pub fn what_has_ended()
     ensures not_at_another_front { HasEndedOf 0 (knows 0 1 9) (front 0 0 false) → ⊥ }
 {}
 
-/// The calls that a process is to make are those that it has made afterwards: the commands of its program, under its
+/// The calls that a process is to make are the calls that it has made afterwards: the commands of its program, with its
 /// own number. Programs are numbered in their order.
 pub fn whose_calls_they_are()
     ensures to_call { given (λ k. k) (to_run (knows 1 0 9) (Dup 0 ∷ [])) ≡ (1, (1, Dup 0) ∷ []) }

@@ -11,8 +11,8 @@ use smx_shared::{EntrySink, Fronts, Seat, Shared};
 use smx_types::NoMemory;
 use std::alloc::Global;
 
-/// Returns the first seat, after it has met all the others, and the front that each seat saw last. The system that
-/// this seat closes has all entries that the seats made.
+/// Lets the first seat meet all the others. Returns this seat, and the front that each seat saw when its program had
+/// ended. The system that this seat closes has all entries that the seats made.
 pub fn meet_all<K: EntrySink>(
     alloc: Global,
     shared: &Shared<K>,

@@ -13,7 +13,7 @@ pub struct Report {
     pub drivers: Drivers,
     pub entries: Entries,
     pub view: ConfigView,
-    /// How far the history was when the program of each process had ended. A run fills it.
+    /// For each process, how far the history had come when its program had ended. A run fills this list.
     pub fronts: Fronts,
 }
 
@@ -34,7 +34,7 @@ impl Report {
         })
     }
 
-    /// Returns its transcript, for a text of this version: everything except the fronts. Takes no memory.
+    /// Returns the transcript of the report, for a text of this version: everything except the fronts. Takes no memory.
     pub fn into_transcript(self, version: Version) -> Transcript
         ensures { result ≡ transcript_of version self }
     {

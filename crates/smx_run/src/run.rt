@@ -31,11 +31,13 @@ use std::thread::Threads;
 /// The largest number of workers of a run.
 pub const MAX_WORKERS: usize = 64;
 
-/// Runs the programs by `workers` workers, 1 to 64, and reports the one history that they make. Worker `p` modulo
-/// `workers` runs process `p`; a worker runs its processes by rising number, each to its end, and the gate hears of
-/// each command. One worker, or one process, starts no thread. Fails if the drivers are invalid, before any command is
-/// performed; as out of memory, also if a worker can't be started; and, on several workers, if the history is full.
-/// The report has the front that was seen after each program had ended.
+/// Runs the programs on `workers` workers, 1 to 64, and reports the one history that they make. Worker `p` modulo
+/// `workers` runs process `p`. A worker runs its processes by rising number, each to its end, and calls the gate for
+/// each command. A run on one worker, or of one process, starts no thread. The report has the front that was seen after
+/// each program had ended.
+///
+/// Fails before any command is performed if the drivers are invalid. Fails as out of memory, also if a worker can't be
+/// started. On several workers it may also fail because the history is full.
 pub fn run_programs<R: Threads + Wait + Sync, G: Gate + Sync>(
     rt: &R,
     alloc: Global,
@@ -57,8 +59,8 @@ pub fn run_programs<R: Threads + Wait + Sync, G: Gate + Sync>(
 }
 
 /// Runs the programs as `run_programs` does, on a new system whose entries go to `sink`. Returns the system after all
-/// commands, and the front that was seen after each program had ended. With one worker, or one process, it is a loop
-/// on this thread.
+/// commands, and the front that was seen after each program had ended. A run on one worker, or of one process, is a
+/// loop on this thread.
 pub fn run_system<R: Threads + Wait + Sync, K: EntrySink + Send, G: Gate + Sync>(
     rt: &R,
     alloc: Global,
@@ -114,8 +116,8 @@ fn front_of<K: EntrySink>(system: &System<K>) -> Front
     }
 }
 
-// Runs each program in turn, on this thread, and sees the front after each. There is room for all commands, so it
-// fails only if it is out of memory, and then performs no more commands.
+// Runs each program in turn, on this thread, and reads the front after each. The limit allows all commands, so this
+// fails only if it is out of memory. It then performs no more commands.
 fn run_alone<K: EntrySink, G: Gate>(
     alloc: Global,
     system: &mut System<K>,
@@ -143,7 +145,7 @@ fn run_alone<K: EntrySink, G: Gate>(
     Ok(Fronts::from_vec(fronts))
 }
 
-// Performs the commands of this process, in order, up to the first fault. The gate hears of each.
+// Performs the commands of this process, in order, up to the first fault. Calls the gate for each.
 fn perform_all<K: EntrySink, G: Gate>(
     system: &mut System<K>,
     process: Process,

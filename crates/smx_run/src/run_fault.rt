@@ -10,18 +10,18 @@ use std::fmt;
 pub enum RunFault {
     /// An allocation failed, or a worker could not be started.
     NoMemory,
-    /// The entries of the process with this number in the history are not those that it got. By the law
+    /// The entries of the process with this number in the history are not those that its calls returned. By the law
     /// `refusals_have_few_causes`, no run is refused for this.
     Strange(u32),
     /// No configuration can have these drivers.
     ConfigFault(ConfigFault),
     /// The history is full.
     HistoryFull,
-    /// A worker never gave the turn back. No run is refused for it, by the same law.
+    /// A worker never gave the turn back. By the same law, no run is refused for this.
     Held,
 }
 
-/// Why a system and the transcripts of its callers gave no report.
+/// Why no report was made of a system and the transcripts of its callers.
 #[derive(Clone, Copy, Debug, PartialEq, Eq)]
 pub enum GatherFault {
     /// The entries of this process in the history are not its transcript.

@@ -28,8 +28,8 @@ use std::sync::Wait;
 use std::thread;
 use std::thread::{Promise, Scope, Threads};
 
-/// Runs the programs by `workers` workers, each on a thread of its own. Returns the system that they shared, and the
-/// front that each process saw after its program had ended.
+/// Runs the programs on `workers` workers, each on a thread of its own. Returns the system that they shared, and the
+/// front that was seen after each program had ended.
 pub fn run_together<R: Threads + Wait + Sync, K: EntrySink + Send, G: Gate + Sync>(
     rt: &R,
     alloc: Global,
@@ -54,7 +54,7 @@ pub fn run_together<R: Threads + Wait + Sync, K: EntrySink + Send, G: Gate + Syn
     Ok((system, fronts))
 }
 
-// Runs the program of each seat, by `workers` workers.
+// Runs the program of each seat, on `workers` workers.
 fn run_seats<R: Threads + Wait + Sync, K: EntrySink + Send, G: Gate + Sync>(
     rt: &R,
     alloc: Global,
@@ -78,7 +78,8 @@ fn run_seats<R: Threads + Wait + Sync, K: EntrySink + Send, G: Gate + Sync>(
     Ok(collect(alloc, assignments, processes, asked)?)
 }
 
-// The promise of a worker's thread: the assignment that it was given, and the shared system at which it ran it.
+// The promise of a worker's thread is about these: the assignment that it was given, and the shared system on which it
+// ran the assignment.
 #[derive(Drop)]
 struct Runs<K: EntrySink>(Snapshot<Vec<SeatedProgram<Seat<K>>>>, Snapshot<Shared<K>>);
 
@@ -161,8 +162,8 @@ fn run_from<'s, E, R: Threads + Wait + Sync, K: EntrySink + Send, G: Gate + Sync
     }
 }
 
-// Joins the results of some assignments with that of one more. `NoMemory` takes precedence over `HistoryFull`, which
-// is returned exactly if one of them met it and neither ran out of memory.
+// Joins the results of some assignments with that of one more. `NoMemory` takes precedence: `HistoryFull` is returned
+// exactly if one of the two results is `HistoryFull` and neither is `NoMemory`.
 fn and_then<K: EntrySink>(
     before: Result<Vec<Vec<EndedProgram<Seat<K>>>>, ApplyFault>,
     last: Result<Vec<EndedProgram<Seat<K>>>, ApplyFault>,

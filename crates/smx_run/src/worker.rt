@@ -27,8 +27,8 @@ pub struct EndedProgram<S: Drop> {
 }
 
 /// Runs the assigned processes one after the other, each to its end, up to the first fault. Fails if it is out of
-/// memory, or with `HistoryFull` if some seat of the door has seen the history full. Works with any door that keeps
-/// its promises.
+/// memory, or with `HistoryFull`, but only if some seat of the door has seen the history full. Works with any
+/// implementation of `Door`.
 pub fn run_assigned<D: Door, G: Gate, R: Wait>(
     rt: &R,
     alloc: Global,
@@ -50,7 +50,7 @@ where
     Ok(done)
 }
 
-// Runs one process to its end, and then looks how far the history is.
+// Runs one process to its end, and then looks how far the history has come.
 fn run_process<D: Door, G: Gate, R: Wait>(
     rt: &R,
     alloc: Global,
@@ -71,7 +71,7 @@ where
     Ok(EndedProgram { seat, front })
 }
 
-// Performs the commands of a program with its seat, in order, up to the first fault. The gate hears of each, with the
+// Performs the commands of a program with its seat, in order, up to the first fault. Calls the gate for each, with the
 // process of the seat.
 fn run_program<D: Door, G: Gate, R: Wait>(
     rt: &R,

@@ -3,7 +3,7 @@
 use smx_types::NoMemory;
 use std::fmt;
 
-/// Why no entry is written. It prints itself: `no memory`, `no entry yet`.
+/// Why no entry is written. It prints as `no memory` or `no entry yet`.
 #[derive(Clone, Copy, Debug, PartialEq, Eq)]
 pub enum EntryFault {
     /// An allocation failed.

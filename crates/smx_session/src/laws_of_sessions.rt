@@ -27,8 +27,8 @@ use smx_text::worked_texts::wrong_programs;
 use smx_words::laws::one_value_each;
 use smx_words::laws_of_reading::{each_line_has_a_reading, which_lines_are_calls};
 
-/// A text has only one start, apart from out-of-memory: the session over its drivers, or a fault. Out-of-memory can
-/// occur only before the fault: never if the first or the second line has the fault.
+/// Apart from out-of-memory, a text has only one result: the session with its drivers, or a fault. Out-of-memory can
+/// occur only before the fault, so never if the fault is at the first or the second line.
 pub fn a_text_has_one_start()
     ensures one { (text : List ℕ) (one other : Result State StartFault) → StartsAs text one → StartsAs text other
         → IfErr one (λ t. t ≢ NoMemory) → IfErr other (λ t. t ≢ NoMemory) → one ≡ other }
@@ -40,7 +40,7 @@ pub fn a_text_has_one_start()
     drivers_have_one_fault();
 }
 
-/// A line is performed in only one way, or it has no command, never both.
+/// A line is performed in only one way, or it is not a call that the version allows; never both.
 pub fn a_line_is_performed_in_one_way()
     ensures one { (old new other : State) (line : List ℕ) → Performs old line new → Performs old line other
         → new ≡ other }
@@ -52,7 +52,7 @@ pub fn a_line_is_performed_in_one_way()
     each_line_has_a_reading();
 }
 
-/// The entries that lines make, in order, are a legal history, and the session is in the configuration after it.
+/// The entries of the lines, in order, are a legal history, and the session has the configuration after it.
 pub fn lines_make_a_legal_history()
     ensures begins { (text : List ℕ) (s : State) → IsStartOf text s → IsAfter [] s }
     ensures goes_on { (history : List Entry) (old new : State) (line : List ℕ) → IsAfter history old
@@ -72,8 +72,8 @@ pub fn what_is_written_is_a_transcript()
         ≡ transcript_text (transcript_with s.version s.drivers entries (view s.drivers s.configuration)) }
 {}
 
-/// A worked session: how it starts, its states after its lines, and the lines of its entries. Counterexamples of its
-/// states. And why a line is not performed, or no entry written.
+/// A worked session: how it starts, its states after its lines, and the lines of its entries, with counterexamples of
+/// its states. Also examples of lines that are not performed, and of sessions without an entry.
 pub fn a_worked_session()
     ensures starts { StartsAs table (Ok begun) }
     ensures no_memory { StartsAs table (Err NoMemory) }

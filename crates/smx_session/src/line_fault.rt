@@ -3,7 +3,7 @@
 use smx_types::NoMemory;
 use std::fmt;
 
-/// Why a line is not performed. It prints itself: `no memory`, `no command`.
+/// Why a line is not performed. It prints as `no memory` or `no command`.
 #[derive(Clone, Copy, Debug, PartialEq, Eq)]
 pub enum LineFault {
     /// An allocation failed.

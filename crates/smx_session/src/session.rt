@@ -35,9 +35,8 @@ impl Model for Session {
 }
 
 impl Session {
-    /// Creates a session over the drivers of a programs text, in its version, with nothing open. Does not run the
-    /// programs. Fails with the first fault of the text, then with that of its drivers, or because it is out of
-    /// memory.
+    /// Creates a session with the drivers and the version of a programs text. Nothing is open, and the programs are not
+    /// run. Fails with the first fault of the text or else with that of its drivers, or because it is out of memory.
     pub fn new(alloc: Global, programs: &[u8]) -> Result<Session, StartFault>
         ensures { StartsAs programs.now result }
     {
@@ -56,8 +55,8 @@ impl Session {
     }
 
     /// Performs the command of a line and keeps its entry, with the reply. The line is `PROCESS COMMAND`, as at the
-    /// start of an entry's line. Fails if the version allows no such line, or, only if it is such a line, because it
-    /// is out of memory. A failure changes nothing.
+    /// start of an entry's line. Fails with `NoCommand` exactly if the version allows no such line. Otherwise fails
+    /// only because it is out of memory. A failure changes nothing.
     pub fn perform(&mut self, alloc: Global, line: &[u8]) -> Result<(), LineFault>
         ensures ok { OnOk result (Performs self.old line.now self.new) }
         ensures err { OnErr result (self.new ≡ self.old) }

@@ -1,4 +1,4 @@
-//! Why no session starts over a text.
+//! Why a text makes no session.
 
 ghost use Rattle.std.specs.Prelude.{◌≡◌, ◌≢◌, ◌⊎◌};
 ghost use Rattle.smx_config.specs.declared.config_fault.ConfigFault.TheVariants as config;
@@ -9,7 +9,7 @@ use smx_config::ConfigFault;
 use smx_text::{Cause, TextFault};
 use std::fmt;
 
-/// Why no session starts over a text. It prints itself: `no memory`, `line 2: form`, `driver 3 marks`.
+/// Why a text makes no session. It prints as `no memory`, `line 2: form` or `driver 3 marks`, for example.
 #[derive(Clone, Copy, Debug, PartialEq, Eq)]
 pub enum StartFault {
     /// An allocation failed.

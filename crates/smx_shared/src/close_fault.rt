@@ -1,4 +1,4 @@
-//! The reason why a shared system is not given back, in the words that a program prints.
+//! Why a shared system is not given back, in the words that a program prints.
 
 use crate::front::Front;
 use std::fmt;
@@ -6,7 +6,7 @@ use std::fmt;
 /// The reason why a shared system was not given back. It prints as `turn held`.
 #[derive(Clone, Copy, Debug, PartialEq, Eq)]
 pub enum CloseFault {
-    /// A caller never gave the turn back, as this front shows. The system is dropped.
+    /// Some caller never gave the turn back, as this front shows. The system is dropped.
     Held(Front),
 }
 

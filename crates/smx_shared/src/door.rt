@@ -21,16 +21,16 @@ pub trait Door {
     // Whether the seat belongs to this door.
     ghost is_seat: { Self → Self.Seat → Type 0 };
 
-    // The knowledge of the seat.
+    // The knowledge of a seat.
     ghost known: { Self.Seat → Known };
 
     /// Returns the process of a seat. Takes no memory.
     fn process(seat: &Self::Seat) -> Process
         ensures { result ≡ (known seat.now).process };
 
-    /// Performs a command of the seat's process, and returns the one entry that this added to the history. Fails with
-    /// no entry added if the history is full, or else if an allocation fails. The allocator is for doors that
-    /// allocate for a call; `Shared` allocates nothing with it, because its system has one already.
+    /// Performs a command of the seat's process, and returns the one entry that this added to the history. Fails if the
+    /// history is full, or else if an allocation fails; no entry is added then. The allocator is for other doors:
+    /// `Shared` doesn't use it, because its system has one already.
     fn call<R: Wait>(
         &self,
         rt: &R,
@@ -62,7 +62,7 @@ pub trait Door {
         Ok(())
     }
 
-    /// Returns how far the history is, at once. Doesn't wait, and takes no memory.
+    /// Returns how far the history has come. Doesn't wait, and takes no memory.
     fn glance(&self, seat: &mut Self::Seat) -> Front
         requires { is_seat self.now seat.old }
         ensures seat { is_seat self.now seat.new }

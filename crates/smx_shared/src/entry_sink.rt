@@ -2,7 +2,7 @@
 
 use smx_types::{Command, Entry, NoMemory, Process, Reply};
 
-/// Receives the entries of a history, in order, and keeps of them what it needs.
+/// Receives the entries of a history, in order, and keeps only what it needs of them.
 pub trait EntrySink: Drop {
     ghost use Rattle.std.specs.Prelude.{◌≡◌, ◌<◌, ◌++◌, ◌∷◌, [], List, length, OnOk};
     ghost use Rattle.smx_types.specs.declared.command.Entry.{Entry as Made};
@@ -18,12 +18,12 @@ pub trait EntrySink: Drop {
     fn count(&self) -> usize
         ensures { result ≡ length (entries self.now) };
 
-    /// Makes room for one more entry. Fails if an allocation fails. Either way it was given the same entries as before.
+    /// Makes room for one more entry. Fails if an allocation fails. It adds no entry in either case.
     fn make_room(&mut self) -> Result<(), NoMemory>
         ensures same { entries self.new ≡ entries self.old }
         ensures room { OnOk result (has_room self.new) };
 
-    /// Adds the next entry, for which there is room. It can't fail.
+    /// Adds the next entry. There must be room for it, so this can't fail.
     fn add(&mut self, process: Process, command: Command, reply: Reply)
         requires room { has_room self.old }
         requires few { length (entries self.old) < MAX_COMMANDS }
@@ -31,7 +31,7 @@ pub trait EntrySink: Drop {
             ++ record { process = process; command = command; reply = reply } ∷ [] };
 }
 
-/// Keeps all of them.
+/// Keeps all entries.
 impl EntrySink for Vec<Entry> {
     ghost use Rattle.std.specs.Prelude.{◌<◌, length, vec_capacity};
 

@@ -1,4 +1,4 @@
-//! How far a shared system is, as callers see it.
+//! How far the history of a shared system has come, as callers see it.
 
 ghost use Rattle.std.specs.Prelude.{◌≡◌, ◌*◌, ◌<◌, ◌^◌};
 ghost use Rattle.smx_shared.specs.Fronts.{word_of};
@@ -6,7 +6,7 @@ ghost use Rattle.smx_shared.specs.Fronts.{word_of};
 use smx_types::{Copied, Items, NoMemory};
 use std::alloc::Global;
 
-/// How far a shared system is: what a caller sees at once, without waiting.
+/// How far the history of a shared system has come. A caller sees this at once, without waiting.
 #[derive(Clone, Copy, Debug, PartialEq, Eq)]
 pub struct Front {
     /// The number of entries of its history.
@@ -21,7 +21,7 @@ pub struct Front {
 pub type Fronts = Items<Front>;
 
 impl Front {
-    // Reads a word of the shared system.
+    // Reads the first word of a shared system.
     pub(crate) fn read(word: u64) -> Front
         requires { word < 4096 * 2 ^ 32 }
         ensures word { word_of result ≡ word }

@@ -26,7 +26,7 @@ impl<T> Drop for GhostValue<T> {
 }
 
 impl<T> GhostValue<T> {
-    /// Makes the value that the caller's proof chooses. It may be built from what the caller passes.
+    /// Makes a value that the caller's proof chooses. The proof may build it from the argument.
     pub fn new<A>(_from: &A) -> GhostValue<T>
         ghost value: { T }
         ensures { result.value ≡ value }

@@ -21,7 +21,8 @@ ghost use Rattle.smx_shared.specs.declared.try_fault.TryFault.TheVariants as try
 
 use crate::laws_of_systems::an_example_is_sound;
 
-/// An entry that is returned is of the process and the command, was seen last, and was made here.
+/// The returned entry has the process and the command. It is the last entry that the seat has seen, and it was made
+/// with the seat.
 pub fn answer_examples()
     ensures answers { AnswersEntry (knows 0 0 9) (knows 0 1 9) (OpenClone ip) opened }
     ensures not_to_another_command { AnswersEntry (knows 0 0 9) (knows 0 1 9) CloseAll opened → ⊥ }
@@ -31,8 +32,8 @@ pub fn answer_examples()
     ensures not_unmade { AnswersEntry (knows 0 0 9) idle (OpenClone ip) opened → ⊥ }
 {}
 
-/// A call that returns no entry still adds exactly one, of the process and the command, which was seen last and made
-/// here.
+/// A call that returns no entry still adds exactly one: it has the process and the command, is the last entry that the
+/// seat has seen, and was made with the seat.
 pub fn unanswered_call_examples()
     ensures one { AddsEntry (knows 0 0 9) (OpenClone ip) (knows 0 1 9) }
     ensures not_none { AddsEntry (knows 0 0 9) (OpenClone ip) (knows 0 0 9) → ⊥ }
@@ -58,8 +59,8 @@ pub fn store_examples()
     ensures not_before_another { AddsFor 0 (exited ∷ []) (opened ∷ exited ∷ []) → ⊥ }
 {}
 
-/// A call loses no knowledge, and all of it is sound. No less is seen; and there is no change of limit or process, no
-/// history past the limit or illegal, and no entry of the process that was not made here.
+/// After a call the seat has seen no less than before, and its limit and process are the same. The history that it has
+/// seen is legal and within the limit. All entries of its process there were made with the seat.
 pub fn knowledge_examples()
     ensures more { HasSeenMore (knows 0 0 9) (knows 0 1 9) }
     ensures not_less { HasSeenMore (knows 0 1 9) (knows 0 0 9) → ⊥ }
@@ -73,7 +74,7 @@ pub fn knowledge_examples()
     an_example_is_sound();
 }
 
-/// A refused call added nothing, and it reports a full history exactly if the history is full.
+/// A refused call added nothing. It reports a full history exactly if the history is full.
 pub fn refusal_examples()
     ensures full { Refuses (knows 1 0 1) (knows 1 1 1) apply.HistoryFull }
     ensures not_full { Refuses (knows 1 0 9) (knows 1 1 9) apply.HistoryFull → ⊥ }
@@ -102,8 +103,8 @@ pub fn rest_examples()
         (sits other (knows 1 1 9) 4096 1) → ⊥ }
 {}
 
-/// A look is one step. Its word is the front that is returned, and that of the history that was seen. A try is busy
-/// only if that front shows the turn held.
+/// A look is one step. The word that it reads is the returned front, and the front of the history that the seat has
+/// then seen. A try is busy only if that front shows the turn held.
 pub fn look_examples()
     ensures looks { (id : SharedId) → LooksOnce (sits id (knows 1 0 9) 0 0) (sits id (knows 1 1 9) 4096 1)
         (front 1 0 false) }
@@ -141,8 +142,8 @@ pub fn refused_try_examples()
         (sits id (knows 0 1 9) 4096 2) try.NoMemory → ⊥ }
 {}
 
-/// A meeting adds no entry. The other seat is recorded, and what it had seen has been seen, at the same limit, and
-/// the entries of its process are exactly those made there.
+/// A meeting adds no entry. It records the other seat, which has the same limit. What that seat had seen has now been
+/// seen here. The entries of its process are exactly those that were made with it.
 pub fn meeting_examples()
     ensures meets { (id : SharedId) → Meets (sits id (knows 1 0 9) 0 0) (sits id (knows 0 1 9) 4096 1)
         (meets (sits id (knows 1 1 9) 4096 1) (knows 0 1 9)) }
@@ -174,7 +175,7 @@ pub fn meeting_examples()
         (meets (sits id (knows 0 1 9) 4096 1) (knows 1 1 9)) → ⊥ }
 {}
 
-/// A seat has met all others if every process is its own or one that it met.
+/// A seat has met all others if every process is its own or that of a seat that it met.
 pub fn met_all_examples()
     ensures all { HasMetAll 2 (knows 1 0 9) (met_seat (knows 0 1 9) ∷ []) }
     ensures alone { HasMetAll 1 (knows 0 0 9) [] }
@@ -183,7 +184,8 @@ pub fn met_all_examples()
     ensures not_by_its_own { HasMetAll 2 (knows 0 0 9) (met_seat (knows 0 1 9) ∷ []) → ⊥ }
 {}
 
-/// The system that comes back continues what was shared, by entries of its processes, and agrees with what was known.
+/// The system that comes back continues the history that was shared, by entries of its processes. It agrees with what
+/// the seat knew.
 pub fn close_examples()
     ensures goes_on { (id : SharedId) → GoesOnFrom (shared_as id (with_first 0 9) 1) (with_first 1 9) }
     ensures not_to_another_limit { (id : SharedId) → GoesOnFrom (shared_as id (with_first 0 9) 1) (with_first 1 8) → ⊥ }

@@ -10,8 +10,8 @@ ghost use Rattle.smx_shared.specs.WorkedSystems.{with_first, of_one_name};
 use smx_model::laws::lawful_after_each_entry;
 use smx_model::laws_of_illegal_entries::{legal_or_first_illegal, the_second_is_the_first_illegal};
 
-/// A system is sound if its drivers are valid, its limit is at most 100,000, it has no more entries than that, and its
-/// history is legal: then the history is lawful throughout.
+/// A system is sound if its drivers are valid, its limit is at most 100,000, it has no more entries than its limit, and
+/// its history is legal. Its history is then also lawful after each entry.
 pub fn legal_systems_are_sound()
     ensures { (s : Recorded) → IsDriverList s.drivers → s.limit ≤ MAX_COMMANDS → length s.history ≤ s.limit
         → IsLegal s.drivers s.history → IsSoundSystem s }
@@ -19,8 +19,8 @@ pub fn legal_systems_are_sound()
     lawful_after_each_entry();
 }
 
-/// An example is sound, even if its history is full. It is not sound with a limit that is too low or too high, with
-/// an illegal entry, or with two drivers of the same name.
+/// An example is sound, even if its history is full. It is not sound if the limit is too low or too high, if an entry
+/// is illegal, or if two drivers have the same name.
 pub fn an_example_is_sound()
     ensures sound { IsSoundSystem (with_first 1 10) }
     ensures full { IsSoundSystem (with_first 1 1) }

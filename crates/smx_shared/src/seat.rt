@@ -1,12 +1,12 @@
-//! A place at a shared system, for one process.
+//! A caller's part in a shared system: the right to perform the commands of one process.
 
 use crate::entry_sink::EntrySink;
 use crate::turn_table::Token;
 use smx_types::{Entry, Process};
 use std::marker::Model;
 
-/// A place at a shared system, for the commands of one process: a token of what was seen there. It takes a few bytes,
-/// and may be sent to another thread and dropped.
+/// The right to perform the commands of one process on a shared system. Contracts also see what its caller has seen of
+/// the history. It takes a few bytes, and may be sent to another thread, or dropped.
 #[derive(Drop)]
 pub struct Seat<K: EntrySink = Vec<Entry>> {
     pub(crate) process: Process,

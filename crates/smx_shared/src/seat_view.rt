@@ -13,7 +13,7 @@ pub struct SeatView {
     /// The drivers and the limit that the system was shared with.
     pub drivers: LinkedList<DriverSpec>,
     pub limit: usize,
-    /// The process for whose commands it is, once it has a name.
+    /// The process whose commands it performs, once it has a name.
     pub process: u64,
     /// The history, as far as it has seen it.
     pub seen: LinkedList<Entry>,
@@ -86,7 +86,7 @@ impl<K: EntrySink> Play<Option<BoxedSystem<K>>, SeatView> for Take {
     ghost then = { Taken };
 }
 
-/// Stores the first word: the turn is given back, and one entry published, if there is one.
+/// Stores the first word. This gives the turn back, and publishes the new entry, if there is one.
 pub struct Publish;
 
 impl<K: EntrySink> Play<Option<BoxedSystem<K>>, SeatView> for Publish {
@@ -115,7 +115,7 @@ impl Split<SeatView> for Deal {
     ghost right = { view_beside };
 }
 
-/// Joins two seats: the first takes in what the other has seen, and the other is spent.
+/// Joins two seats: the first takes over what the other has seen, and the other is spent.
 pub struct Meet;
 
 impl Join<SeatView> for Meet {

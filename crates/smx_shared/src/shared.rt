@@ -27,8 +27,8 @@ use std::alloc::Global;
 use std::marker::Model;
 use std::sync::Wait;
 
-/// A system that many threads share: they take turns, and each call adds one entry. Contracts see which shared system
-/// it is; each seat knows what was seen of it.
+/// A system that many threads share: they take turns, and each call adds one entry. Contracts see a name that tells
+/// this system from all others. They see its history only through seats: each seat knows what it has seen.
 #[derive(Drop)]
 pub struct Shared<K: EntrySink = Vec<Entry>> {
     turns: TurnTable<K>,
@@ -43,8 +43,8 @@ impl<K: EntrySink> Model for Shared<K> {
         s.turns.table.shared.key.processes };
 }
 
-// Pushes the seats of `processes` processes, from process 0 on; there is room for them. Each takes the next name, and
-// splits off the next seat, which may take the name after it.
+// Pushes the seats of `processes` processes, from process 0 on, to a list that has room for them. Each seat takes the
+// next name, and splits off the next seat, which may take the name after it.
 fn deal_seats<K: EntrySink>(
     turns: &TurnTable<K>,
     first: Token<K>,
@@ -88,8 +88,8 @@ impl<K: EntrySink> Shared<K> {
         Ok((Shared { turns }, seats))
     }
 
-    /// Performs a command as `call` does, without waiting. Fails if another seat has the turn, with a front that shows
-    /// it; else as `call` does. A failure adds no entry. The allocator isn't used: the system has one already.
+    /// Performs a command as `call` does, without waiting. Fails with `Busy` if another seat has the turn, and
+    /// otherwise as `call` does. A failure adds no entry. The allocator isn't used: the system has one already.
     pub fn try_call(
         &self,
         _alloc: Global,
@@ -132,8 +132,8 @@ impl<K: EntrySink> Shared<K> {
         self.turns.apply(&mut seat.token, seat.process, command)
     }
 
-    /// Adds to the first seat all that the other one has seen, and gives the other one up. Doesn't wait, and takes no
-    /// memory.
+    /// Gives the first seat everything that the other one has seen, and gives the other one up. Doesn't wait, and takes
+    /// no memory.
     pub fn meet(&self, seat: &mut Seat<K>, other: Seat<K>)
         requires { (seat.old.shared ≡ self.now.name) × (other.shared ≡ self.now.name) }
         ensures rests { Rests seat.old seat.new }
@@ -143,9 +143,9 @@ impl<K: EntrySink> Shared<K> {
         self.turns.meet(&mut seat.token, other.token);
     }
 
-    /// Returns the system with its whole history, once its callers have ended. Fails if a turn was never given back, as
-    /// the front shows; the system is then dropped. A seat that has met those of all other processes gets the system.
-    /// Takes no memory.
+    /// Returns the system with its whole history, once its callers have ended. Fails only if a turn was never given
+    /// back, as the front shows; the system is then dropped. Never fails for a seat that has met the seats of all other
+    /// processes. Takes no memory.
     pub fn close(self, seat: Seat<K>) -> Result<System<K>, CloseFault>
         requires { seat.shared ≡ self.name }
         ensures ends { IfOk result (EndsAs seat.known seat.met) }

@@ -1,4 +1,4 @@
-//! The reason why a command was not performed, in the words that a program prints.
+//! Why a command was not performed, in the words that a program prints.
 
 ghost use Rattle.std.specs.Prelude.{◌≡◌};
 ghost use Rattle.smx_shared.specs.declared.shared_fault.ApplyFault.TheVariants as apply;
@@ -7,7 +7,7 @@ use smx_types::NoMemory;
 use std::alloc::AllocError;
 use std::fmt;
 
-/// The reason why a command was not performed; nothing has changed then. It prints as `history full` or `no memory`.
+/// Why a command was not performed. Nothing has changed then. It prints as `history full` or `no memory`.
 #[derive(Clone, Copy, Debug, PartialEq, Eq)]
 pub enum ApplyFault {
     /// There are as many entries as the limit allows.

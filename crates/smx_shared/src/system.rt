@@ -17,8 +17,8 @@ use std::alloc::Global;
 use std::marker::Model;
 
 /// A configuration and its history: one entry for each command that was performed, up to a limit. Contracts see the
-/// drivers, the limit and the history. The sink receives the entries and keeps of them what it needs: all of them,
-/// unless another sink is named.
+/// drivers, the limit and the history. The sink receives the entries. The default sink is a vector, which keeps them
+/// all.
 #[derive(Debug)]
 pub struct System<K: EntrySink = Vec<Entry>> {
     alloc: Global,
@@ -28,7 +28,7 @@ pub struct System<K: EntrySink = Vec<Entry>> {
 }
 
 impl<K: EntrySink> Drop for System<K> {
-    // Written by hand, so functions drop a system by one call, not by parts.
+    // Written by hand, so that functions drop a system with one call, not part by part.
     fn drop(self) {
         let System {
             alloc: _,
@@ -64,8 +64,8 @@ fn make_room<K: EntrySink>(sink: &mut K, limit: usize) -> Result<(), ApplyFault>
 }
 
 impl System {
-    /// Makes a system over these drivers, with no history. It keeps the allocator for all that it makes. `limit` is
-    /// the largest number of entries that it will have, at most 100,000. Fails if the drivers are invalid, or if an
+    /// Makes a system over these drivers, with no history. It keeps the allocator for all later allocations. `limit` is
+    /// the largest number of entries that it can have, at most 100,000. Fails if the drivers are invalid, or if an
     /// allocation fails.
     pub fn new(alloc: Global, drivers: &[DriverSpec], limit: usize) -> Result<System, ConfigFault>
         requires { limit ≤ MAX_COMMANDS }
@@ -116,7 +116,7 @@ impl System {
 }
 
 impl<K: EntrySink> System<K> {
-    /// Makes a system of an empty configuration and a sink that was given no entry. Takes no memory.
+    /// Makes a system from an empty configuration and a sink that was given no entry. Takes no memory.
     pub fn begin(alloc: Global, config: Config, limit: usize, sink: K) -> System<K>
         requires limited { limit ≤ MAX_COMMANDS }
         requires valid_drivers { IsDriverList config.drivers }
@@ -134,9 +134,10 @@ impl<K: EntrySink> System<K> {
         }
     }
 
-    /// Performs one command, adds its entry with the reply to the history, and returns that same entry. Fails as full
-    /// exactly if the history is full, which is tested first; or if an allocation fails, even for a command that would
-    /// be refused: that gets an entry too. A failure changes nothing.
+    /// Performs one command, adds its entry with the reply to the history, and returns that same entry. Fails with
+    /// `HistoryFull` exactly if the history is full, which is tested first. Otherwise fails if an allocation fails;
+    /// this can happen even for a command that would be refused, because that gets an entry too. A failure changes
+    /// nothing.
     pub fn apply(&mut self, process: Process, command: &Command) -> Result<Entry, ApplyFault>
         // The effect.
         ensures answer { IfOk result (λ e. e ≡ next_entry self.old process command.now) }
@@ -159,8 +160,8 @@ impl<K: EntrySink> System<K> {
         })
     }
 
-    /// Performs one command as `apply` does, for a caller that needs no entry: the command is moved, and nothing is
-    /// copied.
+    /// Performs one command as `apply` does, for a caller that needs no entry: moves the command into the history, and
+    /// copies nothing.
     pub fn perform(&mut self, process: Process, command: Command) -> Result<(), ApplyFault>
         // The effect.
         ensures ok { OnOk result (self.new ≡ with_entry self.old process command) }
@@ -184,7 +185,7 @@ impl<K: EntrySink> System<K> {
         &self.config
     }
 
-    /// Returns how many entries the history has. Takes no memory.
+    /// Returns the number of entries of the history. Takes no memory.
     pub fn count(&self) -> usize
         ensures count { result ≡ length self.now.history }
         ensures sound { IsSoundSystem self.now }

@@ -1,4 +1,4 @@
-//! The reason why a try performed no command, in the words that a program prints.
+//! Why a try performed no command, in the words that a program prints.
 
 ghost use Rattle.std.specs.Prelude.{◌≡◌};
 ghost use Rattle.smx_shared.specs.TryFaults.{try_fault_of};
@@ -7,8 +7,7 @@ use crate::front::Front;
 use crate::shared_fault::ApplyFault;
 use std::fmt;
 
-/// The reason why a try performed no command; no entry was added then. It prints as `turn held`, `history full` or
-/// `no memory`.
+/// Why a try performed no command. No entry was added then. It prints as `turn held`, `history full` or `no memory`.
 #[derive(Clone, Copy, Debug, PartialEq, Eq)]
 pub enum TryFault {
     /// Another seat had the turn, as this front showed.

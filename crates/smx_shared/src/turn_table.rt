@@ -34,7 +34,7 @@ pub struct TurnTable<K: EntrySink> {
 }
 
 impl<K: EntrySink> Drop for TurnTable<K> {
-    // Written by hand, so functions drop a table by one call, not by parts.
+    // Written by hand, so that functions drop a table with one call, not part by part.
     fn drop(self) {
         let TurnTable { table: _table } = self;
     }
@@ -47,8 +47,8 @@ const NAMES: usize = 1;
 
 const SYSTEM: usize = 0;
 
-// The number of yields of a caller that waits for the turn, before it sleeps; and the number of tries after which its
-// sleeps grow no longer.
+// The number of times that a waiting caller yields before it sleeps, and the number of tries after which its sleeps
+// grow no longer.
 const YIELDS: u32 = 1;
 
 const MOST_TRIES: u32 = 4;
@@ -66,9 +66,9 @@ fn front_word<K: EntrySink>(system: &System<K>) -> u64
     4096 * entries + 2 * links
 }
 
-// Lets others go on, after `tries` tries: yields at first, and later sleeps, longer each time. No call wakes the
-// sleeper: a sleep on the first word would end with each call of others, and many callers would hardly sleep. Returns
-// one try more, up to the most.
+// Lets other threads go on, after `tries` tries: yields at first, and sleeps later, longer each time. No call wakes the
+// sleeper: if it slept on the first word, each call of others would wake it, and many callers would hardly sleep.
+// Returns the number of tries plus one, up to the maximum.
 fn let_others_go_on<R: Wait>(rt: &R, tries: u32) -> u32
     requires { tries ≤ MOST_TRIES }
     ensures { result ≤ MOST_TRIES }
@@ -109,7 +109,7 @@ impl<K: EntrySink> TurnTable<K> {
         }
     }
 
-    /// Splits off another seat, which has seen as much, and gets the right to the next name from this one.
+    /// Splits off another seat, which has seen the same history. The right to the next name goes over to it.
     pub fn deal(&self, token: &mut Token<K>) -> Token<K>
         requires { token.old.table_id ≡ self.now.table.shared.table_id }
         ensures same { (token.new.table_id ≡ token.old.table_id)
@@ -142,7 +142,8 @@ impl<K: EntrySink> TurnTable<K> {
         self.table.shared.load::<Look>(token, FRONT)
     }
 
-    /// Takes the turn if it is free; fails with the word that shows it held if it is not. One step, either way.
+    /// Takes the turn if it is free. Otherwise fails with the word, which shows that the turn is held. Makes one step
+    /// in either case.
     pub fn try_take(&self, token: &mut Token<K>) -> Result<(), u64>
         requires table { token.old.table_id ≡ self.now.table.shared.table_id }
         requires rest { IsAtRest token.old.me }
@@ -177,7 +178,7 @@ impl<K: EntrySink> TurnTable<K> {
         unreachable!()
     }
 
-    // Moves the system out of its slot, by the seat that has the turn.
+    // Moves the system out of its slot, for the seat that has the turn.
     fn take_out(&self, token: &mut Token<K>) -> BoxedSystem<K>
         requires table { token.old.table_id ≡ self.now.table.shared.table_id }
         requires turn { HasTurn token.old.me (Some (system_of token.old.me.0)) }
@@ -191,7 +192,7 @@ impl<K: EntrySink> TurnTable<K> {
         }
     }
 
-    // Moves the system back into its slot, and then gives the turn back, with the word of exactly that system.
+    // Moves the system back into its slot, and then gives the turn back: stores the front of exactly that system.
     fn give_back(&self, token: &mut Token<K>, system: BoxedSystem<K>)
         requires table { token.old.table_id ≡ self.now.table.shared.table_id }
         requires turn { HasTurn token.old.me None × (token.old.me.0.named ≡ true) }
@@ -207,7 +208,7 @@ impl<K: EntrySink> TurnTable<K> {
         self.table.shared.store::<Publish>(token, FRONT, front);
     }
 
-    /// Performs a command by the seat that has the turn, and gives the turn back.
+    /// Performs a command for the seat that has the turn, and gives the turn back.
     pub fn apply(
         &self,
         token: &mut Token<K>,
@@ -251,7 +252,7 @@ impl<K: EntrySink> TurnTable<K> {
         outcome
     }
 
-    /// Joins the other seat into this one, which has then seen what either had.
+    /// Joins the other seat into this one, which has then seen what either seat had seen.
     pub fn meet(&self, token: &mut Token<K>, other: Token<K>)
         requires table { (token.old.table_id ≡ self.now.table.shared.table_id)
             × (other.table_id ≡ self.now.table.shared.table_id) }
@@ -264,8 +265,8 @@ impl<K: EntrySink> TurnTable<K> {
         self.table.shared.load::<Look>(token, FRONT);
     }
 
-    /// Returns the system, or the word that shows the turn held, if it was never given back. A seat that has met all
-    /// others gets the system.
+    /// Returns the system. If the turn was never given back, fails with the word, which shows that the turn is held.
+    /// Never fails for a seat that has met all others.
     pub fn close(self, token: Token<K>) -> Result<System<K>, u64>
         requires table { token.table_id ≡ self.table.shared.table_id }
         requires rest { IsAtRest token.me × (token.me.0.named ≡ true) }

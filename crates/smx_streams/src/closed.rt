@@ -5,7 +5,7 @@ use smx_types::StreamId;
 /// The result of closing a descriptor.
 #[derive(Clone, Copy, Debug, PartialEq, Eq)]
 pub struct Closed {
-    /// The stream that it named.
+    /// The stream that the descriptor named.
     pub stream: StreamId,
     /// The stream has no descriptor and no hold left.
     pub last: bool,

@@ -147,7 +147,7 @@ impl Descriptors {
         Some(stream)
     }
 
-    /// Returns the first descriptor from a number of a process on. Looks at each cell in between.
+    /// Returns the first descriptor from this process and number on. Looks at each cell before it.
     pub fn next(&self, process: Process, fd: u32) -> Option<Descriptor>
         ensures { IsNext self.now.fds process fd result }
     {

@@ -17,7 +17,8 @@ use smx_types::{NoMemory, StreamId};
 use std::alloc::Global;
 use std::marker::Model;
 
-/// The number of descriptors and of holds of a stream, at least one in total, and whether the stream has hung up.
+/// The number of descriptors and the number of holds of a stream, at least one in total, and whether the stream is hung
+/// up.
 #[derive(Clone, Copy, Debug)]
 pub struct Record {
     pub stream: StreamId,
@@ -32,7 +33,7 @@ pub struct Record {
 pub struct Records {
     drivers: Vec<Keys>,
     records: Slab<Record>,
-    // False only if no stream has hung up: then `is_hung` looks at no record.
+    // False only if no stream is hung up: then `is_hung` looks at no record.
     some_hung: bool,
 }
 
@@ -108,7 +109,7 @@ fn is_used(counted: Record) -> bool
     counted.opens > 0 || counted.holds > 0
 }
 
-// Puts the record back at its key. If it counts nothing any more, removes the record and the key instead.
+// Puts the record back at its key. If the record counts nothing any more, removes it and the key instead.
 fn put_back(drivers: &mut Vec<Keys>, records: &mut Slab<Record>, key: usize, changed: Record)
     requires whole { AreRecords drivers.old.items records.old }
     requires there { key_at drivers.old.items changed.stream ≡ Some key }
@@ -190,7 +191,7 @@ impl Records {
         }
     }
 
-    /// Returns whether the stream has hung up.
+    /// Returns whether the stream is hung up.
     pub fn is_hung(&self, stream: StreamId) -> bool
         ensures { result ≡ flag_at self.now.hungs stream }
     {
@@ -330,7 +331,8 @@ impl Records {
         }
     }
 
-    // Replaces a stream's record; the stream has hung up if it says so. Removes a record that counts nothing.
+    // Replaces a stream's record, which also says whether the stream is hung up. Removes the record if it counts
+    // nothing.
     fn change(&mut self, changed: Record)
         requires there { 0 < number_at self.old.opens changed.stream + number_at self.old.holds changed.stream }
         requires hung { changed.hung ≡ true → flag_at self.old.hungs changed.stream ≡ true }
@@ -341,8 +343,8 @@ impl Records {
         }
     }
 
-    /// Ensures the properties of every set of records: there are at most as many drivers as allowed, a stream that
-    /// has descriptors or has hung up is in range, and a hung-up stream has a record.
+    /// Ensures the properties of every set of records: there are at most as many drivers as allowed; a stream that has
+    /// descriptors or is hung up is in range; a hung-up stream has a record.
     pub fn is_sound(&self)
         ensures few { length self.now.minors ≤ MAX_DRIVERS }
         ensures range { (s : StreamId) → 0 < number_at self.now.opens s

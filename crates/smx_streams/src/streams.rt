@@ -33,8 +33,7 @@ pub struct Streams {
 }
 
 impl Drop for Streams {
-    // Written by hand: a body then drops a table with one call, however many exits it has, instead of one drop
-    // for each part.
+    // Written by hand, so that each exit of a body drops a table with one call, instead of one for each part.
     fn drop(self) {
         let Streams {
             alloc: _,
@@ -97,7 +96,7 @@ impl Streams {
         self.records.has(stream)
     }
 
-    /// Returns whether the stream has hung up.
+    /// Returns whether the stream is hung up.
     pub fn is_hung(&self, stream: StreamId) -> bool
         ensures { result ≡ is_hung self.now.hungs stream }
     {
@@ -196,9 +195,9 @@ impl Streams {
         self.give(process, StreamId { driver, minor })
     }
 
-    /// Opens the stream of a minor, whether it exists or not, as the lowest free descriptor. Fails with the first of
-    /// these: there is no such driver; it has no such minor; the process has 16 descriptors; an allocation fails. A
-    /// failure changes nothing.
+    /// Opens the stream of a minor as the lowest free descriptor, whether the stream exists already or not. Fails with
+    /// the first of these: there is no such driver; it has no such minor; the process has 16 descriptors; an allocation
+    /// fails. A failure changes nothing.
     pub fn open_minor(
         &mut self,
         process: Process,
@@ -234,8 +233,8 @@ impl Streams {
         self.give(process, stream)
     }
 
-    /// Returns whether the descriptor's stream has no other descriptor and no hold, so that closing the descriptor
-    /// leaves nothing of it.
+    /// Returns whether the descriptor's stream has no other descriptor and no hold, so that it ends when the descriptor
+    /// is closed.
     pub fn is_last(&self, process: Process, fd: u32) -> bool
         ensures { result ≡ is_last self.now process fd }
     {
@@ -282,8 +281,8 @@ impl Streams {
         }
     }
 
-    /// Returns the first descriptor from a number of a process on, by process and number. Returns `None` if
-    /// there is none.
+    /// Returns the first descriptor, in the order of processes and numbers, from this process and number on. Returns
+    /// `None` if there is none.
     pub fn next_fd(&self, process: Process, fd: u32) -> Option<Descriptor>
         ensures { IsNext self.now.fds process fd result }
     {

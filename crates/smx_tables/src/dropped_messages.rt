@@ -80,8 +80,8 @@ fn rising(dropped: Vec<u32>) -> Vec<u32>
     sorted
 }
 
-/// Returns `Reply::Done` with the serials of dropped messages, in rising order. The reply takes the list. If the list
-/// is empty, it stays with the caller, and the reply has another empty list, which takes no memory.
+/// Returns `Reply::Done` with the serials of dropped messages, in rising order. The reply takes the list. An empty list
+/// stays with the caller; the reply then has an empty list of its own, which takes no memory.
 #[inline(always)]
 pub fn name_dropped(dropped: &mut Vec<u32>) -> Reply
     ensures { (left : List QueuedMessage) → NamesDropped left dropped.old.items left result }

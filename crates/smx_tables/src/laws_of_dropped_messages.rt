@@ -1,5 +1,5 @@
-//! Laws of dropped messages, as contracts of functions that do nothing. Each one gives examples of a definition, and
-//! cases that it excludes.
+//! Laws of dropped messages, each the contract of a function that does nothing. Each law has examples of a definition,
+//! and cases that the definition excludes.
 
 ghost use Rattle.std.specs.Global.{Global};
 ghost use Rattle.std.specs.Prelude.{◌≡◌, ℕ, ◌+◌, List, [], ◌∷◌, length, vec_capacity, Vec, true, false};
@@ -12,8 +12,8 @@ ghost use Rattle.smx_tables.specs.DroppedMessages.{is_flushed_at, AreDropped, Dr
 ghost use Rattle.smx_tables.specs.DroppedMessages.{NamesDropped};
 ghost use Rattle.smx_tables.specs.WorkedDrops.{at, first, message, second, stream, three, three_queued, two_left};
 
-/// Some messages are left, in their order. The list names the serials of the others, in any order and each once. It
-/// names no serial of a message that is left, and none that no message had.
+/// Some messages are left, in their order. The list has the serials of the others, in any order and each once. It has
+/// no serial of a message that is left, and no serial that no message had.
 pub fn what_is_dropped()
     ensures two { AreDropped three (second ∷ []) (3 ∷ 1 ∷ []) }
     ensures in_any_order { AreDropped three (second ∷ []) (1 ∷ 3 ∷ []) }
@@ -28,8 +28,8 @@ pub fn what_is_dropped()
         → AreDropped old new dropped → length new + length dropped ≡ length old }
 {}
 
-/// If more messages are dropped, the list names them too. It still names what was dropped before, and no dropped
-/// message comes back.
+/// If more messages are dropped, the list has their serials too. It still has the serials of the messages that were
+/// dropped before. No dropped message comes back.
 pub fn what_is_dropped_more()
     ensures one { DropsMore (first ∷ second ∷ []) (3 ∷ []) (second ∷ []) (3 ∷ 1 ∷ []) }
     ensures none { (flow : List QueuedMessage) (dropped : List ℕ) → DropsMore flow dropped flow dropped }
@@ -47,8 +47,8 @@ pub fn what_has_room()
         → HasRoom dropped (first ∷ second ∷ []) → ⊥ }
 {}
 
-/// A place loses its messages and its full mark, and no other place does. The drivers stay. The list names the dropped
-/// messages, and it has room for the serials of those that are left.
+/// A place loses its messages and its full mark, and no other place does. The drivers stay. The list has the serials of
+/// the dropped messages, and room for the serials of those that are left.
 pub fn what_is_emptied()
     ensures emptied { (before after : Vec ℕ Global) → before.items ≡ [] → after.items ≡ 3 ∷ []
         → vec_capacity after ≡ 3
@@ -87,7 +87,7 @@ pub fn what_a_reply_names()
     ensures nothing_of_one_serial_twice { NamesDropped (second ∷ []) (2 ∷ []) (second ∷ []) (Done (7 ∷ [])) }
 {}
 
-/// A place is flushed if it is this side of this stream, and the side is named.
+/// A flush empties a place if it is this side of this stream, and the command names the side.
 pub fn what_is_flushed()
     ensures named { is_flushed_at (stream 0) sides.W side.Write (at 0 side.Write) ≡ true }
     ensures named_with_the_other { is_flushed_at (stream 0) sides.RW side.Read (at 0 side.Read) ≡ true }

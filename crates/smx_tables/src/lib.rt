@@ -1,5 +1,5 @@
-//! The tables of a configuration together: the lines that show them, and the removal of all that belongs to links and
-//! streams that go.
+//! The tables of a configuration together: the lines that show them, and the removal of everything that belongs to
+//! links and streams that go.
 #![tactic(auto)]
 
 pub mod arrivals;

@@ -20,8 +20,8 @@ pub struct Lists {
 }
 
 impl Drop for Lists {
-    // Written by hand: a body then drops the tables with one call, however many exits it has, instead of one drop for
-    // each field of each table.
+    // Written by hand, so that each exit of a body drops the tables with one call, instead of one for each field of
+    // each table.
     fn drop(self) {
         let Lists {
             streams: _streams,

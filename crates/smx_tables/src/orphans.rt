@@ -27,23 +27,24 @@ fn is_loose(streams: &Streams, link: &Link) -> bool
     !is_persistent(link) && is_held(streams, link) && !streams.exists(link.ctl)
 }
 
-// Returns whether the link is loose and this is its controlling stream.
+// Returns whether the link is loose, and this is its controlling stream. A link is loose if it is ordinary, its lower
+// stream is held, and its controlling stream is not in the table.
 fn is_loose_by(streams: &Streams, ctl: StreamId, link: &Link) -> bool
     ensures { result ≡ (same_stream link.now.ctl ctl && is_loose streams.now link.now) }
 {
     same_stream(link.ctl, ctl) && is_loose(streams, link)
 }
 
-// Returns whether a link may be loose through this controlling stream: the stream is not in the table, and its driver
-// is above a link.
+// Returns whether this stream may be the controlling stream of a loose link: it is not in the table, and its driver is
+// the upper driver of some link.
 fn may_have_loose(streams: &Streams, links: &LinkTable, ctl: StreamId) -> bool
     ensures { result ≡ (not (is_there streams.now ctl) && is_upper links.now.links ctl.driver) }
 {
     !streams.exists(ctl) && links.is_upper(ctl.driver)
 }
 
-// Releases the lower streams of the links that are loose through this controlling stream. Adds these streams to
-// `touched`, and the ids of the links to `gone`.
+// Releases the lower streams of the loose links that this stream controlled. Adds these streams to `touched`, and the
+// ids of the links to `gone`.
 fn release_below(
     streams: &mut Streams,
     links: &LinkTable,

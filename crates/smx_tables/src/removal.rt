@@ -20,7 +20,7 @@ use smx_queues::FlowTable;
 use smx_streams::Streams;
 use smx_types::{Place, Side, StreamId};
 
-// Drops the messages and full marks on the read sides of the streams below the links with these ids.
+// Drops the messages and full marks on the read sides of the lower streams of the links with these ids.
 fn drop_below(queues: &mut FlowTable, links: &LinkTable, gone: &[u32], dropped: &mut Vec<u32>)
     requires { HasRoom dropped.old queues.old.flow }
     ensures { EmptiesPlaces (is_read_below_listed links.now.links gone.now)

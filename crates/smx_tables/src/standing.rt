@@ -11,7 +11,7 @@ ghost use Rattle.smx_tables.specs.ModelOfLists.{configuration_of};
 use crate::lists::Lists;
 use smx_types::{DriverSpec, Link, LinkKind};
 
-/// Returns whether the link outlives the stream that made it.
+/// Returns whether the link is persistent: it may outlive its controlling stream.
 pub fn is_persistent(link: &Link) -> bool
     ensures { result ≡ is_persistent link.now }
 {

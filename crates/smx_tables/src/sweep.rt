@@ -78,7 +78,7 @@ fn are_there(streams: &Streams, touched: &[StreamId]) -> bool
     touched.iter().all(|s| streams.exists(*s))
 }
 
-/// The lists that a sweep fills. `reserve_for_sweep` clears them; they are kept from one sweep to the next only for
+/// The lists that a sweep fills. `reserve_for_sweep` clears them. They are kept from one sweep to the next only for
 /// their memory.
 ///
 /// - `touched`: the streams that the change touches, and those that may cease to exist with them;
@@ -105,8 +105,8 @@ impl SweepReserve {
     }
 }
 
-// Removes the ordinary links whose controlling stream doesn't exist. Each such stream was touched, or ceases to exist
-// with a link that goes. Afterwards each stream that may have ceased to exist is in `seen`.
+// Removes the ordinary links whose controlling stream doesn't exist. Each such controlling stream was touched, or
+// ceases to exist with a link that goes. Afterwards each stream that may have ceased to exist is in `seen`.
 fn drop_orphans(drivers: &[DriverSpec], lists: &mut Lists, room: &mut SweepReserve)
     requires kept { KeepsHolds lists.old }
     requires known { AreControllingKnown drivers.now lists.old.links.links }
@@ -137,9 +137,9 @@ fn drop_orphans(drivers: &[DriverSpec], lists: &mut Lists, room: &mut SweepReser
     tells_existing(drivers, lists);
 }
 
-// Removes the ordinary links whose controlling stream doesn't exist, and then what belongs to dead streams. Only
-// touched streams may have ceased to exist. Afterwards the list of serials names all messages that were dropped since
-// room was reserved.
+// Removes the ordinary links whose controlling stream doesn't exist, and then everything that belongs to streams that
+// don't exist. At first only touched streams may have ceased to exist. Afterwards the list has the serials of all
+// messages that were dropped since room was reserved.
 fn sweep(drivers: &[DriverSpec], lists: &mut Lists, room: &mut SweepReserve)
     requires kept { KeepsHolds lists.old }
     requires known { AreControllingKnown drivers.now lists.old.links.links }

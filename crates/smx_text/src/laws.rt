@@ -40,8 +40,8 @@ pub fn each_text_has_a_reading()
         × ReadsAny programs_grammar bytes r × IfErr r (λ f. f.cause ≢ NoMemory) }
 {}
 
-/// A reader reports out of memory only at a line before the one where any other reading ends: before the fault, or
-/// before the line `end` of a text that spells some programs. So out of memory hides no fault.
+/// A reader reports out of memory only at a line before the fault or, if the text spells some programs, before the line
+/// `end`. So out of memory hides no fault.
 pub fn want_of_memory_comes_before()
     ensures { (version : Version) (bytes : List ℕ) (line : ℕ) (r : Result ProgramLists TextFault)
         → IsFault (programs_grammar version) bytes line NoMemory → ReadsAny programs_grammar bytes r
@@ -86,8 +86,8 @@ pub fn each_transcript_has_a_reading()
         × ReadsAny transcript_grammar bytes r × IfErr r (λ f. f.cause ≢ NoMemory) }
 {}
 
-/// A reader reports out of memory only at a line before the one where any other reading ends: before the fault, or
-/// before the line `end` of a text that spells a transcript. So out of memory hides no fault.
+/// A reader reports out of memory only at a line before the fault or, if the text spells a transcript, before the line
+/// `end`. So out of memory hides no fault.
 pub fn transcript_want_of_memory_comes_before()
     ensures { (version : Version) (bytes : List ℕ) (line : ℕ) (r : Result Transcript TextFault)
         → IsFault (transcript_grammar version) bytes line NoMemory → ReadsAny transcript_grammar bytes r

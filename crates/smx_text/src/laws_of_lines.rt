@@ -1,5 +1,5 @@
-//! Laws of lines: examples of the result for a line that follows other lines, and of what is not its result. Each law
-//! is the contract of a function that does nothing.
+//! Laws of lines: examples of right and wrong results for a line that follows other lines. Each law is the contract of
+//! a function that does nothing.
 
 ghost use Rattle.std.specs.Prelude.{ℕ, [], ◌∷◌, ◌++◌, List, Ok, Err, Some, None, codes};
 ghost use Rattle.smx_types.specs.declared.version.Version.TheVariants.{V1, V2};
@@ -9,9 +9,9 @@ ghost use Rattle.smx_text.specs.TranscriptText.{transcript_grammar};
 ghost use Rattle.smx_text.specs.WorkedLines.{dup, grammar, idle, idle_lines, process, refused, taken};
 ghost use Rattle.smx_text.specs.declared.text_fault.Cause.TheVariants as cause;
 
-/// A line is refused with `Form` if it may not follow, with `Many` if it may follow but the limit is reached, and
-/// with `NoMemory` if some programs have it there. `Header`, `Cut` and `Trailing` are causes of whole texts, never of
-/// a single line.
+/// A line is refused with `Form` if it may not follow, and with `Many` if it may follow but the limit is reached. It
+/// may be refused with `NoMemory` if some programs have it there. `Header`, `Cut` and `Trailing` are causes of whole
+/// texts, never of a single line.
 pub fn lines_that_are_refused()
     ensures form { RefusesLine grammar [] dup cause.Form }
     ensures not_for_its_form { RefusesLine grammar (idle_lines 1) dup cause.Form → ⊥ }
@@ -38,8 +38,8 @@ pub fn answers_to_a_line()
         → ⊥ }
 {}
 
-/// If bytes are accepted, they spell the added line. If they are refused, they spell no line that may follow, or a
-/// line over the limit, or a line for which there was no memory.
+/// If bytes are accepted, they spell the added line. If they are refused, they spell no line that may follow, a line
+/// over the limit, or a line for which there was no memory.
 pub fn answers_to_a_text()
     ensures taken { AnswersText grammar (idle_lines 1) (codes "dup 0") (idle_lines 1 ++ dup ∷ []) taken }
     ensures not_another { AnswersText grammar (idle_lines 1) (codes "dup 1") (idle_lines 1 ++ dup ∷ []) taken → ⊥ }
@@ -64,7 +64,7 @@ pub fn answers_to_a_text()
         → AnswersText grammar lines text longer (refused cause.Trailing) → ⊥ }
 {}
 
-/// At the end, the lines are all the lines of allowed programs, or the text may not end there.
+/// At the end of a text, either the lines are all lines of allowed programs, or the text may not end there.
 pub fn answers_at_the_end()
     ensures whole { EndsAs grammar (idle_lines 1) (Some (idle 1)) }
     ensures not_of_fewer_lines { EndsAs grammar [] (Some (idle 1)) → ⊥ }
@@ -74,8 +74,8 @@ pub fn answers_at_the_end()
     ensures may_not_end { EndsAs (transcript_grammar V1) [] None }
 {}
 
-/// The same holds at the last line if no byte follows it. If a byte follows and the lines are those of allowed
-/// programs, the fault is at the next line. If the text may not end there, the fault is at the last line.
+/// At the last line the same holds if no byte follows. If a byte follows, and the lines are those of allowed programs,
+/// the fault is at the next line. If the text may not end there, the fault is at the last line.
 pub fn answers_at_the_last_line()
     ensures whole { EndsText grammar (idle_lines 1) [] 3 (Ok (idle 1)) }
     ensures not_before_a_byte { EndsText grammar (idle_lines 1) (10 ∷ []) 3 (Ok (idle 1)) → ⊥ }

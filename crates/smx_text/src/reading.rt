@@ -13,7 +13,7 @@ use memchr::memchr;
 use smx_types::Version;
 use std::alloc::Global;
 
-// The value that the lines read so far spell.
+// A value that grows line by line: the one that the lines read so far spell.
 pub trait Draft: Drop {
     // The value of a whole text.
     type Whole: Drop;

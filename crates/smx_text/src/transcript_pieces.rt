@@ -28,7 +28,7 @@ pub fn add_entry_line(
     Ok(())
 }
 
-/// Completes a transcript around the lines of its entries: puts the header and the driver lines before them, and the
+/// Completes a transcript, given the lines of its entries. Puts the header and the driver lines before them, and the
 /// view and the end line after them. Fails only if out of memory.
 pub fn finish_transcript(
     lines: Vec<u8>,

@@ -1,4 +1,5 @@
-//! Worked texts: which values some bytes spell, and where others are invalid, as in the examples of `docs/FORMATS.md`.
+//! Worked texts: some with the values that they spell, and others with their faults, as in the examples of
+//! `docs/FORMATS.md`.
 
 ghost use Rattle.std.specs.Prelude.{[], codes};
 ghost use Rattle.smx_text.specs.declared.text_fault.Cause.TheVariants.{Header, Form, Many, Cut, Trailing};
@@ -18,7 +19,7 @@ pub fn right_texts()
     ensures each_reply { SpellsTranscript transcript_bytes transcript }
 {}
 
-/// Texts of version 2: with each kind of line, command and reply that only it has, and without any of them.
+/// Texts of version 2: with each kind of line, command and reply that only version 2 has, and without any of these.
 pub fn right_texts_of_version_2()
     ensures hangups { SpellsPrograms hangups_bytes hangups }
     ensures shortest { SpellsPrograms (codes "programs 2\nend\n") (raised (program_lists [] [])) }

@@ -11,7 +11,7 @@ use crate::process::Process;
 use crate::reply::Reply;
 use std::alloc::Global;
 
-/// The links that an unlinking removes.
+/// The links that `Unlink` or `Punlink` removes.
 #[derive(Clone, Copy, Debug, PartialEq, Eq)]
 pub enum Which {
     /// The link with this id (streamio(7), I_UNLINK).
@@ -31,8 +31,8 @@ pub enum Sides {
     RW,
 }
 
-/// A command of a process. A descriptor, minor or id is any number; the command is refused if it does not exist.
-/// docs/COMMANDS.md lists the refusals of each command, in order.
+/// A command of a process. A descriptor, a minor or an id may be any number. If nothing has this number, the command is
+/// refused. docs/COMMANDS.md lists the refusals of each command, in order.
 #[derive(Debug, Drop, PartialEq)]
 pub enum Command {
     /// Opens a new stream on the lowest minor that is not in use, as the lowest free descriptor of the process (SVR4
@@ -55,13 +55,13 @@ pub enum Command {
     },
     /// Closes all descriptors of the process (exit(2)).
     CloseAll,
-    /// Links the stream of `arg` below the driver of `fd`, until the stream of `fd` is closed for the last
-    /// time (streamio(7), I_LINK).
+    /// Links the stream of `arg` below the driver of `fd` by an ordinary link, which exists until it is removed or the
+    /// stream of `fd` ends (streamio(7), I_LINK).
     Link {
         fd: u32,
         arg: u32,
     },
-    /// Links in the same way, with a persistent link, which exists until it is removed (I_PLINK).
+    /// Links in the same way by a persistent link, which exists until it is removed (I_PLINK).
     Plink {
         fd: u32,
         arg: u32,
@@ -123,7 +123,7 @@ pub enum Command {
         driver: Name,
         minor: u32,
     },
-    /// The device of a leaf's stream hangs up: no more messages go out to it, and the messages that came in can still
+    /// The device of a leaf's stream hangs up: no more messages go out or come in. Those that came in before can still
     /// be read (STREAMS guide, M_HANGUP).
     Hangup {
         driver: Name,

@@ -5,8 +5,7 @@ use crate::stream::StreamId;
 /// How a link was made, which decides how long it exists.
 #[derive(Clone, Copy, Debug, PartialEq, Eq)]
 pub enum LinkKind {
-    /// The link exists until it is removed, or its controlling stream is closed for the last
-    /// time (streamio(7), I_LINK).
+    /// The link exists until it is removed or its controlling stream ends (streamio(7), I_LINK: the last close).
     Ordinary,
     /// The link exists until it is removed (streamio(7), I_PLINK).
     Persistent,
@@ -17,7 +16,7 @@ pub enum LinkKind {
 pub struct Link {
     /// The multiplexor id (streamio(7), I_LINK): from 1 to 4,294,967,294, and never reused.
     pub id: u32,
-    /// The controlling stream, on which the link was made; its driver is the upper one.
+    /// The controlling stream, by which the link was made. Its driver is the upper driver of the link.
     pub ctl: StreamId,
     /// The stream that is linked below.
     pub lower: StreamId,

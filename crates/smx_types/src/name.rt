@@ -32,7 +32,7 @@ impl Model for Name {
     ghost inverse_ok = { padded_view };
 }
 
-// Returns whether both are equal, with one comparison of numbers.
+// Returns whether both are equal. Compares them as two numbers, in one step.
 fn are_same(bytes: [u8; 8], others: [u8; 8]) -> bool
     ensures { result ≡ pointwise nat_eq bytes others }
 {
@@ -109,8 +109,8 @@ fn is_name_byte(byte: u8) -> bool
     byte.is_ascii_lowercase() || byte.is_ascii_digit()
 }
 
-// Returns the number with these bytes, the first of which is the lowest, if all of them are allowed in a name. This
-// makes a name without a call that copies its few bytes, and writes all eight bytes at once.
+// Returns the number with these bytes, the lowest first, if all of them are allowed in a name. A name is then stored as
+// one number, without a call that copies its few bytes.
 #[inline(always)]
 fn word_of(bytes: &[u8]) -> Option<u64>
     requires { length bytes.now ≤ 8 }

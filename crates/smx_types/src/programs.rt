@@ -19,7 +19,7 @@ use std::marker::Model;
 /// The commands of process 0, of process 1, and so on.
 pub type ProgramList = Items<Commands>;
 
-/// The lists that were given, unchanged, if they exceed the limit for drivers, programs or commands.
+/// The given lists, unchanged, if they exceed the limit for drivers, programs or commands.
 #[derive(Debug, Drop, PartialEq)]
 pub struct Many {
     pub drivers: Drivers,
@@ -51,8 +51,8 @@ impl fmt::Display for Many {
 
 impl std::error::Error for Many {}
 
-/// At most 128 drivers, at most 64 programs, and at most 100,000 commands in all of them, with a version that
-/// can express them.
+/// The drivers and programs of a run, within the limits: at most 128 drivers, 64 programs, and 100,000 commands in all
+/// programs. Their version can express them.
 #[derive(Debug, Drop, PartialEq)]
 pub struct Programs {
     version: Version,

@@ -1,4 +1,4 @@
-//! `==` on the values of this crate decides equality.
+//! The law of `==`: it decides whether two values of this crate are equal.
 
 ghost use Rattle.std.proofs.Common.{rules};
 

@@ -109,8 +109,7 @@ pub struct ConfigView {
 }
 
 impl Drop for ConfigView {
-    // Written by hand: a body then drops a view with one call, however many exits it has, instead of one drop
-    // for each list.
+    // Written by hand, so that each exit of a body drops a view with one call, instead of one for each list.
     fn drop(self) {
         let ConfigView {
             next_id: _,

@@ -27,7 +27,7 @@ verb_word verb.Inject = codes "inject"
 verb_word verb.Transmit = codes "transmit"
 verb_word verb.Hangup = codes "hangup"
 
--- the word that starts each reply except a fault
+-- the word that starts each reply except `eof` and the faults
 abbrev pub reply_verb_word : ReplyVerb → List ℕ
 reply_verb_word reply_verb.Fd = codes "fd"
 reply_verb_word reply_verb.Id = codes "id"

@@ -1,4 +1,4 @@
-//! Laws of readings: any bytes have a reading as each kind of line. Examples show what is a reading and what is not.
+//! Laws of readings: any bytes have a reading as each kind of line. Examples show right readings, and wrong ones.
 
 ghost use denote.Ref.{Bor};
 ghost use Rattle.std.specs.Fmt.{decimal};
@@ -48,7 +48,8 @@ pub fn each_line_has_a_reading()
     ensures hung { (line : List ℕ) → (o : Option HungLine) × IsReadAs FitsHung hung_words line o }
 {}
 
-/// A value found in bytes fits, and the bytes spell it. Nothing is found only if the bytes spell no value that fits.
+/// A value that is found in bytes fits, and the bytes spell it. `None` is found only if the bytes spell no value that
+/// fits.
 pub fn what_is_found_in_bytes()
     ensures found { IsFoundIn FitsNumber decimal (codes "7") (Some 7) }
     ensures not_another { IsFoundIn FitsNumber decimal (codes "7") (Some 8) → ⊥ }
@@ -61,8 +62,8 @@ pub fn what_is_found_in_bytes()
     ensures too_large_to_be_spelled { IsSpelled FitsNumber decimal (codes "4294967296") → ⊥ }
 {}
 
-/// Bytes start with the word of a value that fits if a space follows that word. The reading returns all bytes after
-/// that space. It returns no value if two such words start the bytes.
+/// If bytes start with the word of a value that fits, and a space follows, the reading returns the value and all bytes
+/// after that space. It may not return a value if the bytes can be split in this way at two different spaces.
 pub fn what_begins_bytes()
     ensures begins { (rest : Bor (List ℕ)) → rest.now ≡ codes "x y"
         → BeginsWith FitsNumber decimal (codes "7 x y") (Some (7, rest)) }
@@ -87,7 +88,8 @@ pub fn what_a_line_is_read_as()
     ensures none { IsReadAs FitsNumber process_words (codes "process 07") None }
 {}
 
-/// A line is a command's if it is the words of a command that can be spelled and that its version can express.
+/// A line is the line of a command if it is the words of a command that can be spelled, and that the version can
+/// express.
 pub fn which_lines_are_commands()
     ensures dup { IsCommandLine V1 (codes "dup 0") }
     ensures hangup { IsCommandLine V2 (codes "hangup ip 0") }
@@ -96,7 +98,7 @@ pub fn which_lines_are_commands()
     ensures not_of_a_process { IsCommandLine V2 (codes "process 0") → ⊥ }
 {}
 
-/// A line is a call's if it is the words of a process and of a command that its version can express.
+/// A line is the line of a call if it is the words of a process and of a command that the version can express.
 pub fn which_lines_are_calls()
     ensures dup { IsCallLine V1 (codes "63 dup 0") }
     ensures hangup { IsCallLine V2 (codes "0 hangup ip 0") }

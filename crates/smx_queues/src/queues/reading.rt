@@ -11,7 +11,7 @@ use crate::queues::{PlaceId, Queues};
 use smx_types::{Message, NoMemory};
 
 impl Queues {
-    /// The message at the front, if there is one. Takes no memory.
+    /// Returns the message at the front, if there is one. Takes no memory.
     pub fn front(&self, p: PlaceId) -> Option<&Message>
         requires { IsPlace self.now.queues p }
         ensures { option_copied result ≡ slice_get (queue_at self.now.queues p).messages 0 }
@@ -39,7 +39,7 @@ impl Queues {
         Some(&self.nodes[key].message)
     }
 
-    /// Whether the place is marked as full. Takes no memory.
+    /// Returns whether the place is marked as full. Takes no memory.
     pub fn is_full(&self, p: PlaceId) -> bool
         requires { IsPlace self.now.queues p }
         ensures { result ≡ (queue_at self.now.queues p).full }
@@ -47,7 +47,7 @@ impl Queues {
         self.chains[p].full
     }
 
-    /// How many bytes the messages at the place have together. Takes no memory.
+    /// Returns the total number of bytes of the messages at the place. Takes no memory.
     pub fn bytes(&self, p: PlaceId) -> usize
         requires { IsPlace self.now.queues p }
         ensures { result ≡ bytes_of (queue_at self.now.queues p).messages }
@@ -55,7 +55,7 @@ impl Queues {
         self.chains[p].bytes
     }
 
-    /// How many messages are at the place. Takes no memory.
+    /// Returns the number of messages at the place. Takes no memory.
     pub fn message_count(&self, p: PlaceId) -> usize
         requires { IsPlace self.now.queues p }
         ensures { result ≡ length (queue_at self.now.queues p).messages }
@@ -63,7 +63,7 @@ impl Queues {
         self.chains[p].count
     }
 
-    /// The messages at the place, from the front on. Takes no memory.
+    /// Returns an iterator over the messages at the place, from the front on. Takes no memory.
     pub fn messages(&self, p: PlaceId) -> PlaceMessages<'_>
         requires { IsPlace self.now.queues p }
         ensures { result ≡ (queue_at self.now.queues p).messages }
@@ -76,7 +76,7 @@ impl Queues {
         }
     }
 
-    // No messages, of any place.
+    // Returns an iterator over no messages.
     pub(crate) fn no_messages(&self) -> PlaceMessages<'_>
         ensures { result ≡ [] }
     {

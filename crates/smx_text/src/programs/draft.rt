@@ -176,7 +176,7 @@ impl ProgramsDraft {
         Ok(())
     }
 
-    // Returns why a command is refused for which there was no memory.
+    // Returns the cause for a command for which memory ran out: `NoMemory`, unless no command may follow here.
     fn command_unread(&self) -> Cause
         requires begun { IsBegun (programs_grammar self.now.version) (body self.now) }
         ensures { (c : AnyCommand) → FitsCommandIn self.now.version c

@@ -27,7 +27,7 @@ impl TranscriptDraft {
         Ok(())
     }
 
-    // Returns why an entry is refused for which there was no memory.
+    // Returns the cause for an entry for which memory ran out: `NoMemory`, unless no entry may follow here.
     pub fn entry_unread(&self) -> Cause
         requires begun { IsBegun (grammar_of self.now) (lines self.now) }
         ensures { (e : AnyEntry) → FitsEntryIn self.now.transcript.version e

@@ -77,7 +77,7 @@ impl TranscriptDraft {
         push_if(self.takes_msgs(), &mut self.transcript.view.msgs, message)
     }
 
-    // Returns why a message is refused for which there was no memory.
+    // Returns the cause for a message for which memory ran out: `NoMemory`, unless no message may follow here.
     pub fn message_unread(&self) -> Cause
         requires begun { IsBegun (grammar_of self.now) (lines self.now) }
         ensures { (m : AnyMessage) → FitsMessage m
@@ -90,7 +90,7 @@ impl TranscriptDraft {
         }
     }
 
-    // Returns whether a hung-up stream may follow: this is the last group.
+    // Returns whether a hung-up stream may follow: `next` was read, and this is the last group.
     fn takes_hungs(&self) -> bool
         ensures { result ≡ takes_hungs self.now }
     {

@@ -11,7 +11,7 @@ use smx_types::{Command, NoMemory, Process, Version};
 use std::alloc::Global;
 
 /// Parses a line `PROCESS COMMAND`. Returns `None` if `version` has no call with this line. Fails only if an allocation
-/// fails, and only if the line is such a call's.
+/// fails while it reads the line of such a call.
 pub fn call_of_line(
     alloc: Global,
     version: Version,

@@ -20,7 +20,7 @@ use smx_types::{Command, NoMemory, Version};
 use std::alloc::Global;
 
 /// Parses the line of a command. Returns `None` if `version` has no command with this line. Fails only if an allocation
-/// fails, and only if the line is such a command's.
+/// fails while it reads the line of such a command.
 pub fn command_of(alloc: Global, version: Version, line: &[u8]) -> Result<Option<Command>, NoMemory>
     ensures reading { IfOk result (IsReadAs (FitsCommandIn version) command_words line.now) }
     ensures wanted { IfErr result (λ _. IsCommandLine version line.now) }

@@ -15,7 +15,7 @@ use crate::reading::number::first_number;
 use smx_types::{Bytes, NoMemory};
 use std::alloc::Global;
 
-// Parses a number and the word of some bytes. Fails only if an allocation fails, and only if the text is such a pair.
+// Parses a number and the word of some bytes. Fails only if an allocation fails while it reads such a pair.
 pub fn number_and_bytes(alloc: Global, text: &[u8]) -> Result<Option<(u32, Bytes)>, NoMemory>
     ensures reading { IfOk result (λ o. MatchOption o
         ((n : ℕ) (bytes : List ℕ) → FitsNumber n → FitsBytes bytes
@@ -34,7 +34,7 @@ pub fn number_and_bytes(alloc: Global, text: &[u8]) -> Result<Option<(u32, Bytes
     }
 }
 
-// Parses a word of bytes. Fails only if an allocation fails, and only if the word spells some.
+// Parses a word of bytes. Fails only if an allocation fails while it reads such a word.
 fn bytes_of(alloc: Global, word: &[u8]) -> Result<Option<Bytes>, NoMemory>
     ensures reading { IfOk result (IsFoundIn FitsBytes hex_word word.now) }
     ensures wanted { IfErr result (λ _. IsSpelled FitsBytes hex_word word.now) }
@@ -51,8 +51,8 @@ fn bytes_of(alloc: Global, word: &[u8]) -> Result<Option<Bytes>, NoMemory>
     }
 }
 
-// Returns the bytes that digits spell. Not by `hex::decode`: that tests each digit, and with it a run of 16 MB of
-// payload takes longer than bench/plain. This loop has no test, so the compiler takes many digits at a time.
+// Returns the bytes that digits spell. It doesn't use `hex::decode`, which tests each digit: with it a run with 16 MB
+// of messages takes longer than bench/plain. This loop has no test, so the compiler decodes many digits at a time.
 fn decode(alloc: Global, digits: &[u8]) -> Result<Vec<u8>, NoMemory>
     requires even { length digits.now % 2 ≡ 0 }
     requires digits { list_all is_digit digits.now ≡ true }

@@ -1,4 +1,4 @@
-//! Lines that both texts or one of them begin with.
+//! The lines of a driver and of a process, and the line `next`.
 
 ghost use Rattle.std.specs.Prelude.{◌≡◌, ◌≢◌, ◌∷◌, ◌++◌, ℕ, MatchOption};
 ghost use Rattle.std.specs.Fmt.{decimal};

@@ -87,7 +87,7 @@ fn leading_number(text: &[u8]) -> Option<(u32, usize)>
     Some((value as u32, end))
 }
 
-// Returns whether there is no digit, or a zero before other digits.
+// Returns whether the first `end` bytes, all digits, are not a number: `end` is 0, or a zero comes before other digits.
 fn starts_wrong(text: &[u8], end: usize) -> bool
     requires { end ≤ length text.now }
     ensures { result ≡ ((end == 0) || ((slice_index text.now 0 == 48) && nat_lt 1 end)) }

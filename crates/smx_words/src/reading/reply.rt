@@ -18,8 +18,8 @@ use crate::reading::verb::{ReplyVerb, first_reply_verb};
 use smx_types::{Fault, NoMemory, Reply, Serials, Version};
 use std::alloc::Global;
 
-/// Parses the words of a reply. Returns `None` if `version` has no such reply. Fails only if an allocation fails, and
-/// only if the words are such a reply's.
+/// Parses the words of a reply. Returns `None` if `version` has no such reply. Fails only if an allocation fails while
+/// it reads the words of such a reply.
 pub fn reply_of(alloc: Global, version: Version, line: &[u8]) -> Result<Option<Reply>, NoMemory>
     ensures reading { IfOk result (IsReadAs (FitsReplyIn version) reply_words line.now) }
     ensures wanted { IfErr result (λ _. IsLineOf (FitsReplyIn version) reply_words line.now) }
@@ -171,7 +171,7 @@ fn last_serial(mut serials: Serials, word: &[u8]) -> Result<Option<Serials>, NoM
     }
 }
 
-// Parses a reply without a verb: nothing dropped, end of file, or a fault.
+// Parses a reply without a verb: `done` alone, `eof`, or a fault.
 fn lone_reply(alloc: Global, line: &[u8]) -> Option<Reply>
     ensures { MatchOption result ((line.now ≢ codes "done") × (line.now ≢ codes "eof")
         × ((f : _) → line.now ≢ line_of (fault_words f)))

@@ -9,7 +9,7 @@ ghost use Rattle.smx_words.specs.declared.reading.verb.Verb.{Verb as AnyVerb};
 
 use crate::reading::cutting::{after, cut};
 
-/// The verb of a command, which is its first word.
+/// The verb of a command: its first word.
 #[derive(Clone, Copy)]
 pub enum Verb {
     Clone,
@@ -33,7 +33,7 @@ pub enum Verb {
     Hangup,
 }
 
-/// The verb of a reply other than a fault, which is its first word.
+/// The verb of a reply: its first word, if other words follow. `done` alone, `eof` and faults have no verb.
 #[derive(Clone, Copy)]
 pub enum ReplyVerb {
     Fd,
@@ -43,7 +43,7 @@ pub enum ReplyVerb {
     Done,
 }
 
-// Returns the only verb that the bytes may start with, judging by their first letters.
+// Returns the only verb with which the bytes may start, by their first letters.
 fn candidate(text: &[u8]) -> Option<Verb>
     ensures { (verb : AnyVerb) (after : List ℕ) → text.now ≡ verb_word verb ++ SPACE ∷ after → result ≡ Some verb }
 {

@@ -172,7 +172,7 @@ pub fn hung_of(line: &[u8]) -> Option<HungLine>
     Some(HungLine { driver, minor })
 }
 
-/// Parses the line of a queued message. Fails only if an allocation fails, and only if the line is a message's.
+/// Parses the line of a queued message. Fails only if an allocation fails while it reads the line of a message.
 pub fn message_of(alloc: Global, line: &[u8]) -> Result<Option<MessageLine>, NoMemory>
     ensures reading { IfOk result (IsReadAs FitsMessage message_words line.now) }
     ensures wanted { IfErr result (λ _. IsLineOf FitsMessage message_words line.now) }

@@ -31,7 +31,7 @@ pub fn write_next(out: &mut Vec<u8>, id: u32, serial: u32) -> Result<(), NoMemor
     put_last(out, serial)
 }
 
-/// Appends a space and the digits of a number. Inlined: short commands run as fast as in bench/plain only with that.
+/// Appends a space and the digits of a number. Inlined: otherwise short commands take longer than in bench/plain.
 #[inline(always)]
 pub(super) fn put_spaced(out: &mut Vec<u8>, n: u32) -> Result<(), NoMemory>
     ensures written { OnOk result (out.new.items ≡ out.old.items ++ SPACE ∷ decimal n) }
@@ -51,7 +51,8 @@ pub(super) fn put_last(out: &mut Vec<u8>, n: u32) -> Result<(), NoMemory>
     put_byte(out, b'\n')
 }
 
-/// Appends the digits of a number. A single digit needs no buffer: the buffer takes a tenth of a run of short commands.
+/// Appends the digits of a number. A single digit needs no buffer: the buffer would take a tenth of the time of a run
+/// of short commands.
 pub(super) fn put_digits(out: &mut Vec<u8>, n: u32) -> Result<(), NoMemory>
     ensures written { OnOk result (out.new.items ≡ out.old.items ++ decimal n) }
     ensures fits { FitsNumber n }
@@ -63,7 +64,8 @@ pub(super) fn put_digits(out: &mut Vec<u8>, n: u32) -> Result<(), NoMemory>
     }
 }
 
-// Appends the digits of a number by a buffer. Not inlined, so that a single digit, the usual case, saves no registers.
+// Appends the digits of a number by a buffer. Not inlined, so that a single digit, the usual case, needs no saved
+// registers.
 #[inline(never)]
 fn put_long(out: &mut Vec<u8>, n: u32) -> Result<(), NoMemory>
     ensures { OnOk result (out.new.items ≡ out.old.items ++ decimal n) }
