@@ -36,16 +36,16 @@ with_mark p full fulls =
     let others : List Place = filter (λ q. not (same_place p q)) fulls in
     if full then with_inserted place_before others p else others
 
--- A message arrives at a place. The place is then full if it was, or if it now has at least as many bytes as its high
--- water mark (STREAMS guide, flow control; the exact rule is specific to this project).
+-- A message arrives at a place. The place is then full if it was full before, or if its bytes now reach its high water
+-- mark (STREAMS guide, flow control; the exact rule is specific to this project).
 abbrev pub after_arrival : List DriverSpec → Configuration → Place → Message → Configuration
 after_arrival drivers c p m =
     let flow : List QueuedMessage = with_inserted queued_before c.flow (record { place = p; message = m }) in
     let full : Bool = is_full c p || nat_le (high_of drivers p.stream.driver) (bytes_at flow p) in
     record c { flow = flow; fulls = with_mark p full c.fulls }
 
--- The first message leaves a place. The place is then full if it was, and still has more bytes than its low water mark
--- (STREAMS guide, flow control; the exact rule is specific to this project).
+-- The first message leaves a place. The place is then full if it was full before, and still has more bytes than its low
+-- water mark (STREAMS guide, flow control; the exact rule is specific to this project).
 abbrev pub after_leaving : List DriverSpec → Configuration → Place → Configuration
 after_leaving drivers c p =
     let flow : List QueuedMessage = without_first (is_at p) c.flow in

@@ -39,8 +39,8 @@ is_held_up c wanted (Some q) = is_full c q && wanted q
 abbrev pub is_waiting : List DriverSpec → Configuration → (Place → Bool) → Place → Bool
 is_waiting drivers c wanted p = is_held_up c wanted (next_of_first drivers c p)
 
--- each place without a run mark waits. So each movable place has a run mark, and each full place that blocks the
--- first message of a place without a run mark has a wanted mark (similar to back-enabling in the STREAMS guide)
+-- each place without a run mark waits. So each movable place has a run mark. Each full place that blocks the first
+-- message of a place without a run mark has a wanted mark (similar to back-enabling in the STREAMS guide)
 abbrev pub AreMarked : List DriverSpec → Configuration → (Place → Bool) → (Place → Bool) → Type 0
 AreMarked drivers c run wanted = (p : Place) → run p ≡ false → is_waiting drivers c wanted p ≡ true
 

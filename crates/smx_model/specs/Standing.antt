@@ -20,9 +20,9 @@ is_named fds s = list_any (λ d. same_stream d.stream s) fds
 abbrev pub is_below : List Link → StreamId → Bool
 is_below links s = list_any (λ l. same_stream l.lower s) links
 
--- a stream exists within 0 climbs if a descriptor names it or a persistent link has it below; within n + 1 climbs if it
--- exists within n, or an ordinary link has it below and the link's controlling stream exists within n (STREAMS guide,
--- multiplexing: the last close)
+-- A stream exists within 0 climbs if a descriptor names it, or it is below a persistent link. It exists within n + 1
+-- climbs if it exists within n, or if it is below an ordinary link whose controlling stream exists within n (STREAMS
+-- guide, multiplexing: the last close)
 abbrev pub stands_within : List Descriptor → List Link → ℕ → StreamId → Bool
 stands_within fds links zero s = is_named fds s || list_any (λ l. is_persistent l && same_stream l.lower s) links
 stands_within fds links (suc n) s = stands_within fds links n s

@@ -23,7 +23,7 @@ calls_in entries = map call_of entries
 abbrev pub called : {S : Type 0} → (S → Known) → EndedProgram S → Calls
 called known done = ((known done.seat).process, calls_in (known done.seat).own)
 
--- the history is full, as far as it was seen
+-- the history that was seen is full
 abbrev pub KnowsItFull : Known → Type 0
 KnowsItFull k = length k.seen ≡ k.limit
 
@@ -32,8 +32,8 @@ pub record HasCalled (old : Known) (commands : List Command) (new : Known) : Typ
   pub process : new.process ≡ old.process
   pub calls : calls_in new.own ≡ calls_in old.own ++ calls_of old.process commands
 
--- What is known after a program has ended: the entries made here are exactly those that the history has of the
--- process, as far as it was seen, and the front is that of this history.
+-- The knowledge after a program has ended. The entries made here are exactly those of the process in the history that
+-- was seen, and the front is that of this history.
 pub record HasEnded (k : Known) (front : Front) : Type 0 where
   pub exact : k.own ≡ entries_of k.process k.seen
   pub numbers : IsFrontOf front k.drivers k.seen

@@ -15,8 +15,7 @@ pub record ShowsHeld (old : Known) (front : Front) : Type 0 where
   pub seen : IsBeginningOf old.seen history
   pub numbers : IsFrontOf front old.drivers history
 
--- a shared system is not given back to a caller who knew this only if its front shows a turn that was never given
--- back
+-- why a shared system is not given back to a caller who knew this: the front shows a turn that was never given back
 abbrev pub IsHeld : Known → CloseFault → Type 0
 IsHeld old (Held front) = ShowsHeld old front
 

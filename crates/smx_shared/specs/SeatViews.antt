@@ -17,7 +17,7 @@ Mine = Me Slot SeatView
 abbrev pub known_of : SeatView → Known
 known_of v = record { drivers = v.drivers; limit = v.limit; process = v.process; seen = v.seen; own = v.own }
 
--- the system, with the history that it has seen
+-- the system, with the history that the seat has seen
 abbrev pub system_of : SeatView → Recorded
 system_of v = system_with v.drivers v.limit v.seen
 
@@ -151,8 +151,8 @@ pub record HasGrown (v w : SeatView) : Type 0 where
 abbrev pub RestsAfter : SeatView → Mine → Type 0
 RestsAfter v m = IsAtRest m × HasGrown v m.0 × IsInformed m.0
 
--- The seat made one more step on the first word, added nothing, and found the front of what it has seen, with the
--- turn bit.
+-- The seat made one more step on the first word, and added nothing. The word that it found is the front of the history
+-- that it has seen, with the turn bit.
 pub record FoundWord (v w : SeatView) (word : ℕ) : Type 0 where
   pub looks : w.looks ≡ v.looks + 1
   pub last : w.last ≡ word

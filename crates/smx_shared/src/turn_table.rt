@@ -40,7 +40,7 @@ impl<K: EntrySink> Drop for TurnTable<K> {
     }
 }
 
-// The places of the words and of the slot.
+// The positions of the words and of the slot.
 const FRONT: usize = 0;
 
 const NAMES: usize = 1;

@@ -79,8 +79,8 @@ pub record IsRecord (s : StreamId) (r : Record) : Type 0 where
   pub stream : r.stream ≡ s
   pub used : 0 < r.opens + r.holds
 
--- there are at most as many drivers as allowed, each key leads to the record of its stream, and each record has its
--- key at its stream
+-- there are at most as many drivers as allowed; each key leads to the record of its stream; the key of each record is
+-- in the row of its stream
 pub record AreRecords (grid : Grid) (records : Slab Record) : Type 0 where
   pub few : length grid ≤ MAX_DRIVERS
   pub listed : (s : StreamId) (key : ℕ) → key_at grid s ≡ Some key

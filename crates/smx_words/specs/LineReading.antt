@@ -16,8 +16,8 @@ IsFoundIn {X} Fits spelling bytes None = (x : X) → Fits x → bytes ≢ spelli
 abbrev pub IsReadAs : {X : Type 0} → (X → Type 0) → (X → List (List ℕ)) → List ℕ → Option X → Type 0
 IsReadAs {X} Fits words_of line answer = IsFoundIn Fits (λ x. line_of (words_of x)) line answer
 
--- a value whose word and a space start the bytes, and the bytes after that space, which are the same for each such
--- value; or `None` if there is no such value
+-- A value whose word and a space start the bytes, and the bytes after that space. These bytes are the same for each
+-- such value. Or `None`, if there is no such value.
 abbrev pub BeginsWith : {X : Type 0} → (X → Type 0) → (X → List ℕ) → List ℕ → Option (X × Bor (List ℕ)) → Type 0
 BeginsWith {X} Fits word_of bytes answer =
     MatchOption answer ((x : X) (after : List ℕ) → Fits x → bytes ≢ word_of x ++ SPACE ∷ after)
