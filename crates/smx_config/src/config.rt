@@ -93,14 +93,14 @@ impl Config {
     /// changes if the reply is a fault, or if an allocation fails. `dup`, `unbind`, `unroute`, `read`, `transmit`,
     /// `hangup` and every refused command don't allocate, so they always get a reply.
     pub fn step(&mut self, process: Process, command: &Command) -> Result<Reply, NoMemory>
-        // Its effect.
+        // The effect.
         ensures drivers { self.new.drivers ≡ self.old.drivers }
         ensures ok { IfOk result (λ r.
             step self.old.drivers self.old.configuration process command.now ≡ (self.new.configuration, r)) }
-        // Answers after which nothing has changed.
+        // Replies and failures that change nothing.
         ensures fault { IfOk result (λ r. (f : Fault) → r ≡ replies.Fault f → self.new ≡ self.old) }
         ensures err { IfErr result (λ _. self.new ≡ self.old) }
-        // Commands that are always answered.
+        // Commands that always get a reply.
         ensures in_place { IsTrue (takes_no_memory command.now) → IsOk result }
         ensures refused { IsErr (outcome self.old.drivers self.old.configuration process command.now) → IsOk result }
     {
@@ -135,15 +135,15 @@ impl Config {
         process: Process,
         command: &Command,
     ) -> Result<(Reply, Reply), NoMemory>
-        // Its effect.
+        // The effect.
         ensures drivers { self.new.drivers ≡ self.old.drivers }
         ensures ok { IfOk result (λ r.
             step self.old.drivers self.old.configuration process command.now ≡ (self.new.configuration, r.0)) }
         ensures twice { IfOk result (λ r. r.1 ≡ r.0) }
-        // Answers after which nothing has changed.
+        // Replies and failures that change nothing.
         ensures fault { IfOk result (λ r. (f : Fault) → r.0 ≡ replies.Fault f → self.new ≡ self.old) }
         ensures err { IfErr result (λ _. self.new ≡ self.old) }
-        // Commands that are always answered.
+        // Commands that always get a reply.
         ensures in_place { IsTrue (takes_no_memory command.now)
             → delivered_by (step self.old.drivers self.old.configuration process command.now).1 ≡ [] → IsOk result }
         ensures refused { IsErr (outcome self.old.drivers self.old.configuration process command.now) → IsOk result }

@@ -15,11 +15,11 @@ pub struct SeatView {
     pub limit: usize,
     /// The process whose commands it performs, once it has a name.
     pub process: u64,
-    /// The history, as far as it has seen it.
+    /// The history that it has seen.
     pub seen: LinkedList<Entry>,
     /// The entries that were made under its process.
     pub own: LinkedList<Entry>,
-    /// The first word as it read or wrote it last, and the number of its steps on that word.
+    /// The value of the first word that it read or wrote last, and the number of its steps on that word.
     pub last: u64,
     pub looks: u64,
     /// Whether it has the turn.
@@ -42,7 +42,7 @@ pub struct MetSeat {
     pub limit: usize,
     /// Its process.
     pub process: u64,
-    /// The history, as far as it had seen it.
+    /// The history that it had seen.
     pub seen: LinkedList<Entry>,
     /// The entries that were made under its process.
     pub own: LinkedList<Entry>,
