@@ -38,8 +38,8 @@ impl Tables {
         Some(Place { stream, side })
     }
 
-    // Returns the write side of the lower stream of the link that the driver's route for this address names, unless the
-    // device of that stream has hung up.
+    // Returns the place to which the driver's route for this address leads: the write side of the lower stream of its
+    // link. Returns `None` if there is no such route, or if that stream is hung up.
     fn down(&self, driver: u8, addr: u32) -> Option<Place>
         ensures { result ≡ place_below self.now.configuration.links self.now.configuration.routes
             self.now.configuration.hungs driver addr }

@@ -152,8 +152,8 @@ pub fn a_worked_live_session()
 }
 
 /// Examples of the output when memory runs out. It is empty, or the output of the session so far. For the worked
-/// session that is its opening, or its opening and the answers to its lines. It never has an answer to a line that was
-/// not read, and never only a part of the opening.
+/// session that is its opening, or its opening and the answers to its lines. It has answers only to lines that were
+/// read, and never only a part of the opening.
 pub fn what_is_out_when_memory_runs_out()
     ensures nothing { IsBroken worked_input false [] }
     ensures opening { IsBroken worked_input false (codes "transcript 2\ndriver eth leaf 2 8 3 16\n") }
@@ -168,10 +168,10 @@ pub fn what_is_out_when_memory_runs_out()
     one_text_has_one_reading();
 }
 
-/// Worked examples of why lines are refused. A history of 100,000 entries is full. Every line that asks
-/// neither for the configuration nor for the end is then refused as `Full`, even one that is not a command.
-/// Out-of-memory is reported for a line that asks for these, and for a command of this version if the history
-/// is not full.
+/// Worked examples of why lines are refused. A history of 100,000 entries is full. Then only the lines that ask for the
+/// configuration or for the end are answered. Every other line is refused as `Full`, even if it is not a command.
+/// Out-of-memory is reported for a line that asks for these, and for a command of this version if the history is not
+/// full.
 pub fn why_lines_are_refused()
     ensures full { IsRefusedFor V2 100000 (codes "x") Full }
     ensures not_yet_full { IsRefusedFor V2 99999 (codes "x") Full → ⊥ }

@@ -53,8 +53,7 @@ pub fn hung_up_streams_stay_so()
         → is_hung (step drivers c process k).0.hungs s ≡ false }
 {}
 
-/// A history without a hangup reports none: it has no end of file and no refusal after a hangup, and at its end no
-/// stream is hung up.
+/// A history without a hangup has no end of file, and no refusal because of a hangup. At its end no stream is hung up.
 pub fn without_a_hangup_none_is_reported()
     ensures replies { (drivers : List DriverSpec) (history : List Entry) → IsLegal drivers history
         → list_any (λ e. is_hangup e.command) history ≡ false → list_any is_of_hangup history ≡ false }

@@ -22,7 +22,7 @@ pub fn empty_needs_no_mark()
 {}
 
 /// Before a command no message can move. After an accepted command and before settling, a message can move only from
-/// two kinds of place: those that the command turned, and those whose first message goes next to a place that it freed.
+/// places that the command turned, or from places that feed a place which it freed.
 pub fn few_become_movable()
     ensures { (drivers : List DriverSpec) (c : Configuration) (process : ℕ) (command : Command) (p : Place)
         → IsKept drivers c → IfOk (outcome drivers c process command) (λ x. is_movable drivers x.0 p ≡ true

@@ -61,8 +61,8 @@ pub fn more_marks_do()
         → ((p : Place) → wanted p ≡ true → more_wanted p ≡ true) → AreMarked drivers c more more_wanted }
 {}
 
-/// The law of changes: it suffices to mark the places that a change turned, and those that feed a wanted place which it
-/// freed.
+/// The law of changes: it suffices to mark the places that a change woke. It wakes the places that it turned, and the
+/// places that feed a wanted place which it freed.
 pub fn a_change_wakes_few()
     ensures { (drivers : List DriverSpec) (old new : Configuration) (run wanted turned : Place → Bool)
         → AreMarked drivers old run wanted → TurnsOnly drivers old new turned
@@ -77,7 +77,8 @@ pub fn commands_turn_few()
         TurnsOnly drivers c x.0 (turned_by drivers c process command)) }
 {}
 
-/// A move turns the place that the message leaves, and the place that it goes to, if that was empty.
+/// A move turns the place that the message leaves. It also turns the place where the message arrives, if that place was
+/// empty.
 pub fn moves_turn_two()
     ensures { (drivers : List DriverSpec) (c : Configuration) (p q : Place) → IsInOrder c.flow
         → next_open_place drivers c p ≡ Some q

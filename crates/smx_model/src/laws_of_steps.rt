@@ -85,8 +85,8 @@ pub fn empty_is_kept()
     ensures { (drivers : List DriverSpec) → IsKept drivers empty }
 {}
 
-/// So the invariant holds after any commands: there is no cycle, nothing belongs to streams that don't exist, each
-/// list is in order, and no message can move.
+/// So the invariant holds after any commands: there is no cycle, everything belongs to streams that exist, each list is
+/// in order, and no message can move.
 pub fn configurations_are_kept()
     ensures { (drivers : List DriverSpec) (history : List Entry) → IsKept drivers (after drivers history) }
 {}

@@ -32,8 +32,8 @@ pub fn answer_examples()
     ensures not_unmade { AnswersEntry (knows 0 0 9) idle (OpenClone ip) opened → ⊥ }
 {}
 
-/// A call that returns no entry still adds exactly one: it has the process and the command, is the last entry that the
-/// seat has seen, and was made with the seat.
+/// A call that returns no entry still adds exactly one. This entry has the process and the command. It is the last
+/// entry that the seat has seen, and it was made with the seat.
 pub fn unanswered_call_examples()
     ensures one { AddsEntry (knows 0 0 9) (OpenClone ip) (knows 0 1 9) }
     ensures not_none { AddsEntry (knows 0 0 9) (OpenClone ip) (knows 0 0 9) → ⊥ }

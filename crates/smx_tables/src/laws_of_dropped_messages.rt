@@ -13,7 +13,7 @@ ghost use Rattle.smx_tables.specs.DroppedMessages.{NamesDropped};
 ghost use Rattle.smx_tables.specs.WorkedDrops.{at, first, message, second, stream, three, three_queued, two_left};
 
 /// Some messages are left, in their order. The list has the serials of the others, in any order and each once. It has
-/// no serial of a message that is left, and no serial that no message had.
+/// only serials of messages, and none of a message that is left.
 pub fn what_is_dropped()
     ensures two { AreDropped three (second ∷ []) (3 ∷ 1 ∷ []) }
     ensures in_any_order { AreDropped three (second ∷ []) (1 ∷ 3 ∷ []) }

@@ -21,8 +21,8 @@ pub fn is_persistent(link: &Link) -> bool
     }
 }
 
-/// Ensures that the table of streams has exactly the streams that exist, if each stream below a link is held and the
-/// controlling stream of each ordinary link is in the table. Does nothing at run time.
+/// Ensures that the table of streams has exactly the streams that exist. This holds if each stream below a link is
+/// held, and the controlling stream of each ordinary link is in the table. Does nothing at run time.
 pub fn tells_existing(drivers: &[DriverSpec], lists: &Lists)
     requires held { AreHeld lists.now.links.links lists.now.streams }
     requires known { AreControllingKnown drivers.now lists.now.links.links }

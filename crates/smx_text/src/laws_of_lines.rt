@@ -38,8 +38,8 @@ pub fn answers_to_a_line()
         → ⊥ }
 {}
 
-/// If bytes are accepted, they spell the added line. If they are refused, they spell no line that may follow, a line
-/// over the limit, or a line for which there was no memory.
+/// If bytes are accepted, they spell the added line. There are three reasons to refuse bytes: they spell no line that
+/// may follow; they spell a line over the limit; memory ran out.
 pub fn answers_to_a_text()
     ensures taken { AnswersText grammar (idle_lines 1) (codes "dup 0") (idle_lines 1 ++ dup ∷ []) taken }
     ensures not_another { AnswersText grammar (idle_lines 1) (codes "dup 1") (idle_lines 1 ++ dup ∷ []) taken → ⊥ }
