@@ -119,7 +119,7 @@ impl Queues {
         self.chains[p].there = false;
     }
 
-    /// Reserves an entry for one more message. Fails only if out of memory.
+    /// Reserves a node for one more message. Fails only if out of memory.
     pub fn reserve_one(&mut self) -> Result<(), NoMemory>
         ensures room { OnOk result (0 < self.new.spare) }
         ensures kept { self.old.spare ≤ self.new.spare }
@@ -136,7 +136,7 @@ impl Queues {
         self.nodes.len() < self.nodes.capacity()
     }
 
-    /// Adds a message at the end of the queue of a place that is not full. Uses a reserved entry. Does not allocate.
+    /// Adds a message at the end of the queue of a place that is not full. Uses a reserved node. Does not allocate.
     pub fn put(&mut self, p: PlaceId, message: Message)
         requires place { IsPlace self.old.queues p }
         requires open { (queue_at self.old.queues p).full ≡ false }
