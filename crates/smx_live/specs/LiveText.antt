@@ -30,8 +30,8 @@ use Rattle.smx_filters.specs.declared.main_fault.MainFault.TheVariants.{Refused,
 
 -- ---- a session up to now
 
--- What a session has read and written so far. It has this state, `count` entries, and these bytes held; its
--- input has ended or not.
+-- A session that has read and written these bytes so far. It has this state and `count` entries, and holds these bytes.
+-- Its input has ended or not.
 pub record IsLive (read : List ℕ) (ended : Bool) (output : List ℕ) (s : State) (count : ℕ) (held : List ℕ)
     : Type 0 where
   -- It read a driver table, the lines that it answered, and the bytes that it holds.

@@ -79,7 +79,7 @@ bound_side o = o >>= (λ b. Some (record { stream = record { driver = b.driver; 
 abbrev pub up_by : List Binding → ℕ → Option Link → Option Place
 up_by binds addr o = o >>= (λ l. bound_side (find (λ b. eqb b.driver l.ctl.driver && eqb b.addr addr) binds))
 
--- if the next place by its side stays or is none, so does the next place
+-- if the next place by its side stays the same or is `None`, so does the next place
 pub stays_by : (drivers : List DriverSpec) (c d : Configuration) (p : Place) (addr : ℕ)
     → Stays (next_by drivers c p.stream addr p.side) (next_by drivers d p.stream addr p.side)
     → Stays (next_place drivers c p addr) (next_place drivers d p addr)

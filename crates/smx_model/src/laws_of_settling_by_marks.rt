@@ -93,7 +93,7 @@ pub fn the_least_marks_do()
         }) }
 {}
 
-/// A look that moves nothing is at the least marked place, and clears only its mark.
+/// A visit that moves nothing is at the least marked place, and clears only its mark.
 pub fn a_look_takes_one_mark()
     ensures { (drivers : List DriverSpec) (p : Place) (old new : MarkedConfiguration) → IsCleared drivers p old new
         → IsLeastMarked old.run p × (new.run p ≡ false)

@@ -9,7 +9,7 @@ use Rattle.smx_shared.specs.Seats.{Known, Seated, entries_of, met_seat, AreMetBy
 use Rattle.smx_shared.specs.TurnRule.{Slot, Turn, bit_of, system_with}
 use Rattle.smx_shared.specs.declared.seat_view.SeatView.{SeatView}
 
--- a seat: its view, and the slots that are out with it
+-- a seat: its view, and the slots that belong to it
 abbrev pub Mine : Type 0
 Mine = Me Slot SeatView
 
@@ -109,7 +109,7 @@ history_in (x ∷ xs) = history_at x.1
 abbrev pub AddsFor : ℕ → List Entry → List Entry → Type 0
 AddsFor process old new = (new ≡ old) ⊎ ((e : Entry) × (e.process ≡ process) × (new ≡ old ++ e ∷ []))
 
--- a store: the history is that of the slot, which goes home; it has one more entry of the process, or none
+-- a store: the history is that of the slot, which goes back to the table; it has one more entry of the process, or none
 abbrev pub Published : Step Slot → Mine → ℕ → Mine → Type 0
 Published st m n m' =
     AddsFor m.0.process m.0.seen (history_in m.1)

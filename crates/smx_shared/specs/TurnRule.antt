@@ -31,7 +31,8 @@ abbrev pub bit_of : Turn → ℕ
 bit_of free = 0
 bit_of (held j) = 1
 
--- while the turn is free, the slot is at home with the system; while it is held, the slot is out with a seat
+-- while the turn is free, the slot belongs to the table and contains the system; while it is held, the slot belongs to
+-- a seat
 abbrev pub home_of : Recorded → Turn → maybe.Option Slot
 home_of s free = some (Some s)
 home_of s (held j) = none
@@ -91,7 +92,7 @@ pub record TurnRule (drivers : List DriverSpec) (limit : ℕ) (start : List Entr
   -- The first word is the front of the history, plus 1 while the turn is held. The second is the number of names
   -- given.
   pub words : s.words ≡ (front_of drivers history + bit_of turn) ∷ names ∷ []
-  -- While the turn is free, the slot is at home with the system of the whole history.
+  -- While the turn is free, the slot belongs to the table and contains the system with the whole history.
   pub home : s.homes ≡ home_of (system_with drivers limit history) turn ∷ []
   -- `Fits` holds of each seat.
   pub each : (j : ℕ) (v : SeatView) → get_elem? s.views j ≡ some v → Fits drivers limit history turn names namer j v

@@ -27,8 +27,8 @@ pub fn the_turn_is_one_seats()
         → v.turn ≡ true → w.turn ≡ true → i ≡ j }
 {}
 
-/// While the turn bit is not set, the slot is at home with a sound system, and the word is the system's front. While
-/// the bit is set, the slot is out.
+/// While the turn bit is not set, the slot belongs to the table and contains a sound system, and the word is the front
+/// of its history. While the bit is set, the slot belongs to a seat.
 pub fn the_slot_is_home_or_out()
     ensures home { (drivers : List Driver) (limit : ℕ) (start : List Made) (processes word : ℕ) (s : State Slot View)
         → TurnRule drivers limit start processes s → get_elem? s.words 0 ≡ some word → word % 2 ≡ 0

@@ -117,7 +117,7 @@ module _ {V K : Type 0} (g : Grammar V K) where
   IsFault bytes number cause.NoMemory = (lines : List K) × (text : List ℕ) × Reaches bytes lines text number
       × IsOneMore lines text
 
-  -- what a reader may return: the value that the bytes spell, or the first fault
+  -- the results that a reader may return: the value that the bytes spell, or the first fault
   abbrev pub Reads : List ℕ → Result V TextFault → Type 0
   Reads bytes (Ok v) = Spells bytes v
   Reads bytes (Err f) = IsFault bytes f.line f.cause
@@ -129,8 +129,8 @@ module _ {V K : Type 0} (g : Grammar V K) where
 
 -- ---- texts of several versions
 
--- What a reader of all versions may return: what a reader of some version may. It may report a wrong header only if
--- the header is wrong in every version. So the header says which version a text has.
+-- The results that a reader of all versions may return: those of a reader of some version. But it may report a wrong
+-- header only if the header is wrong in every version. So the header says which version a text has.
 abbrev pub ReadsAny : {V K : Type 0} → (Version → Grammar V K) → List ℕ → Result V TextFault → Type 0
 ReadsAny {V} {K} g bytes r = (version : Version) × Reads (g version) bytes r
     × IfErr r (λ f. f.cause ≡ cause.Header → (other : Version) → IsFault (g other) bytes f.line cause.Header)

@@ -12,7 +12,7 @@ returns-clause-opening c = opening_out c.a_worked_session.ensures.starts
 pub returns-clause-answers : goal.returns-clause-answers
 returns-clause-answers c = answers_out c.a_worked_session.ensures.starts
 
--- behind the 38 bytes of the opening an answer is left
+-- after the 38 bytes of the opening an answer is left
 pub returns-clause-not_an_answer : goal.returns-clause-not_an_answer
 returns-clause-not_an_answer c =
     not_out c.one_text_has_one_reading.ensures c.a_worked_session.ensures.starts _ (λ e. absurd (cc e))
