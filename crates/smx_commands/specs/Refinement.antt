@@ -9,7 +9,8 @@ use Rattle.smx_commands.specs.Machine.{Machine}
 use Rattle.smx_commands.specs.declared.step_error.StepError.{StepError}
 use Rattle.smx_commands.specs.declared.step_error.StepError.TheVariants as step_error
 
--- accepted with this outcome; or refused, or out of memory for what would be accepted, and then nothing has changed
+-- The command is accepted with this outcome. Or it is refused, or it would be accepted but memory ran out; then nothing
+-- has changed.
 abbrev pub HasOutcome : Machine → Machine → Outcome → Result Reply StepError → Type 0
 HasOutcome old new o (Ok r) = (new.drivers ≡ old.drivers) × (o ≡ Ok (new.configuration, r))
 HasOutcome old new o (Err (step_error.Refused f)) = (new ≡ old) × (o ≡ Err f)

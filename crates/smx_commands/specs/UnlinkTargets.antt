@@ -36,7 +36,7 @@ abbrev pub is_target : Which → LinkKind → StreamId → Link → Bool
 is_target which.All k s l = may_unlink k s l
 is_target (which.Id id) k s l = (l.id == id) && may_unlink k s l
 
--- refused if the command names an id that none of these links has; without an id there need not be a link
+-- refused if the command names an id, and none of these links has it; with `all` there need not be a link
 abbrev pub are_there : Which → LinkKind → StreamId → List Link → Result (Unit {0}) Fault
 are_there which.All k s links = Ok tt
 are_there (which.Id id) k s links = refuse NoLink (not (list_any (is_target (which.Id id) k s) links))

@@ -1,5 +1,5 @@
--- Run marks, wanted marks and the places that wait, by the numbers of places, and what marks a change puts and takes.
--- No public clause needs this.
+-- Run marks, wanted marks and waiting places, by the numbers of places, and how a change sets and clears marks. No
+-- public clause needs this.
 use Rattle.std.specs.Prelude.{◌≡◌, ◌≢◌, ◌⊎◌, ℕ, suc, ◌<◌, ◌≤◌, Bool, true, false, ◌&&◌, ◌==◌, List, length}
 use Rattle.std.specs.Prelude.{None, Some, slice_get}
 use Rattle.smx_types.specs.declared.driver.DriverSpec.{DriverSpec}
@@ -21,7 +21,7 @@ IsAt drivers n p = slice_get (places_of drivers) n ≡ Some p
 abbrev pub IsNumber : List DriverSpec → ℕ → Type 0
 IsNumber drivers n = n < length (places_of drivers)
 
--- there are marks for so many numbers
+-- the marks are for this count of numbers
 pub record AreFor (count : ℕ) (m : Marks) : Type 0 where
   pub run : m.run.count ≡ count
   pub wanted : m.wanted.count ≡ count
@@ -32,7 +32,7 @@ pub record AreFor (count : ℕ) (m : Marks) : Type 0 where
 abbrev pub AreOver : List DriverSpec → Marks → Type 0
 AreOver drivers m = AreFor (length (places_of drivers)) m
 
--- that the first number waits for the second is noted
+-- the marks note that the place with the first number waits for the place with the second
 abbrev pub IsNotedFor : Marks → ℕ → ℕ → Type 0
 IsNotedFor m i j = (i < m.waits.count) × (at m.waits.owners i ≡ suc j)
 
@@ -40,14 +40,14 @@ IsNotedFor m i j = (i < m.waits.count) × (at m.waits.owners i ≡ suc j)
 abbrev pub IsListed : Marks → Type 0
 IsListed m = (i j : ℕ) → IsNotedFor m i j → has_bit m.wanted j ≡ true
 
--- that a number waits for that of the place is noted
+-- the marks note that the place with this number waits for place `q`
 pub record IsWaitingFor (drivers : List DriverSpec) (m : Marks) (i : ℕ) (q : Place) : Type 0 where
   pub number : ℕ
   pub there : IsAt drivers number q
   pub noted : IsNotedFor m i number
 
--- over these drivers, a place without a run mark whose first message has a next place waits for that, and it is full;
--- and each place that another one waits for is wanted
+-- Over these drivers: if a place has no run mark, and its first message has a next place, then that next place is full,
+-- and the place waits for it. Each place for which another one waits is wanted.
 pub record AreMarks (drivers : List DriverSpec) (c : Configuration) (m : Marks) : Type 0 where
   pub over : AreOver drivers m
   pub held_up : (i : ℕ) (p q : Place) → IsAt drivers i p → has_bit m.run i ≡ false → next_of_first drivers c p ≡ Some q
@@ -73,7 +73,7 @@ asks_at c driver s addr p =
 abbrev pub asks_between : Configuration → ℕ → ℕ → ℕ → Place → Bool
 asks_between c driver addr lower p = asks_up c driver addr p && (p.stream.driver == lower)
 
--- of the places that pass the test, those with a message have a mark, and all that had one
+-- a place has a mark if it had one before, or if it passes the test and has a message
 pub record IsMarkedWhere (drivers : List DriverSpec) (flow : List QueuedMessage) (test : Place → Bool)
     (old new : BitTable) : Type 0 where
   pub kept : (i : ℕ) → has_bit old i ≡ true → has_bit new i ≡ true
@@ -81,20 +81,20 @@ pub record IsMarkedWhere (drivers : List DriverSpec) (flow : List QueuedMessage)
       → has_bit new i ≡ true
   pub count : new.count ≡ old.count
 
--- the number of the place has a mark if the first message there has the address, and all that had one
+-- a number has a mark if it had one before, or if it is that of the place and the first message there has the address
 pub record IsMarkedIf (drivers : List DriverSpec) (c : Configuration) (addr : ℕ) (place : Place) (old new : BitTable)
     : Type 0 where
   pub here : (i : ℕ) → IsAt drivers i place → has_addr addr (first_message c.flow place) ≡ true → has_bit new i ≡ true
   pub kept : (i : ℕ) → has_bit old i ≡ true → has_bit new i ≡ true
   pub count : new.count ≡ old.count
 
--- the number has a mark too, unless its place had messages before
+-- a number has a mark if it had one before, or if it is this number and its place had no message before
 pub record IsMarkedUnless (filled : Bool) (n : ℕ) (old new : BitTable) : Type 0 where
   pub here : filled ≡ false → has_bit new n ≡ true
   pub kept : (i : ℕ) → has_bit old i ≡ true → has_bit new i ≡ true
   pub count : new.count ≡ old.count
 
--- run marks are kept, and what waited waits still or has one
+-- run marks are kept; a place that waited for another one has a run mark, or still waits for it
 pub record AreKept (old new : Marks) : Type 0 where
   pub kept : (i : ℕ) → has_bit old.run i ≡ true → has_bit new.run i ≡ true
   pub waiting : (i j : ℕ) → IsNotedFor old i j → (has_bit new.run i ≡ true) ⊎ IsNotedFor new i j
@@ -102,12 +102,12 @@ pub record AreKept (old new : Marks) : Type 0 where
   pub listed : IsListed new
   pub over : (count : ℕ) → AreFor count old → AreFor count new
 
--- the same, and none waits for the number any more
+-- the same, and no place waits for this number any more
 pub record AreWaitersMarked (j : ℕ) (old new : Marks) : Type 0 where
   pub kept : AreKept old new
   pub none : (i : ℕ) → IsNotedFor new i j → ⊥
 
--- run marks are kept, and none waits any more for a freed place that is not full
+-- the same as `AreKept`, and no place waits any more for a freed place that is not full
 pub record IsReleased (drivers : List DriverSpec) (c : Configuration) (freed : Place → Bool) (old new : Marks)
     : Type 0 where
   pub kept : AreKept old new

@@ -6,7 +6,7 @@ use Rattle.smx_commands.specs.Machine.{Machine}
 use Rattle.smx_config.specs.Marking.{AreMarks, HasNoBit}
 use Rattle.smx_config.specs.Ways.{AreHops}
 
--- the tables are the value that a contract sees: the marks beside them tell nothing more
+-- the tables are the value that contracts see; the marks and the hops are not part of it
 abbrev pub machine_of : Inside → Machine
 machine_of c = c.tables
 
@@ -14,9 +14,10 @@ machine_of c = c.tables
 pub record ConfigInvariant (c : Inside) : Type 0 where
   -- the configuration is what commands leave
   pub kept : IsKept c.tables.drivers c.tables.configuration
-  -- each full place has messages, so that what is done with none dropped frees no place
+  -- each full place has messages, so a command that drops none frees no place
   pub filled : HaveFullPlacesMessages c.tables.configuration
-  -- each place without a run mark whose first message has a next place waits for that, which is full and wanted
+  -- if a place has no run mark, and its first message has a next place, it waits for that place, which is full and
+  -- wanted
   pub marks : AreMarks c.tables.drivers c.tables.configuration c.marks
   -- the hops of this age lead where messages go next
   pub hops : AreHops c.tables.drivers c.tables.configuration c.hops

@@ -9,15 +9,15 @@ use Rattle.smx_model.specs.RunMarks.{next_of_first}
 use Rattle.smx_model.specs.Settling.{next_open_place, least_movable}
 use Rattle.smx_config.specs.Marking.{IsAt}
 
--- the place of the number is not full
+-- the place with this number is not full
 abbrev pub IsOpenAt : List DriverSpec → Configuration → ℕ → Type 0
 IsOpenAt drivers c n = (q : Place) → IsAt drivers n q → is_full c q ≡ false
 
--- the place of the number is full
+-- the place with this number is full
 abbrev pub IsFullAt : List DriverSpec → Configuration → ℕ → Type 0
 IsFullAt drivers c n = (q : Place) → IsAt drivers n q → is_full c q ≡ true
 
--- the first message at the place goes next to that of the number
+-- the next place of the first message at this place is the one with this number
 pub record GoesTo (drivers : List DriverSpec) (c : Configuration) (p : Place) (n : ℕ) : Type 0 where
   pub place : Place
   pub there : IsAt drivers n place
@@ -28,7 +28,8 @@ abbrev pub IsNextOf : List DriverSpec → Configuration → Place → Option ℕ
 IsNextOf drivers c p None = next_of_first drivers c p ≡ None
 IsNextOf drivers c p (Some n) = GoesTo drivers c p n
 
--- from the place of one number to that of another, which is where its first message may go on to
+-- the move is from the place with one number to the place with another, which is the next place of the first message
+-- and is not full
 pub record IsOpenMove (drivers : List DriverSpec) (c : Configuration) (m : Move) : Type 0 where
   pub from : Place
   pub to : Place
@@ -36,7 +37,7 @@ pub record IsOpenMove (drivers : List DriverSpec) (c : Configuration) (m : Move)
   pub to_at : IsAt drivers m.to to
   pub goes : next_open_place drivers c from ≡ Some to
 
--- so it is from the least movable place
+-- a move from the least movable place
 pub record IsFirstMove (drivers : List DriverSpec) (c : Configuration) (m : Move) : Type 0 where
   pub moves : IsOpenMove drivers c m
   pub least : least_movable drivers c ≡ Some moves.from

@@ -1,4 +1,4 @@
--- The places that a command may wake, by what is known before it is performed. No public clause needs this.
+-- The places that a command may wake, as known before it is performed. No public clause needs this.
 use Rattle.std.specs.Prelude.{ℕ, Bool, true, false, if◌then◌else◌, List, [], ◌∷◌, Result, Ok, Err}
 use Rattle.std.specs.Option.{is_some}
 use Rattle.smx_types.specs.declared.command.Command.{Command}
@@ -24,7 +24,7 @@ everywhere p = true
 abbrev pub is_either_side : StreamId → Place → Bool
 is_either_side s = either (same_place (write_side s)) (same_place (read_side s))
 
--- where the first message may be another one, or may have another place to go to
+-- the places that may get another first message, or whose first message may get another next place
 abbrev pub turned_under : Configuration → Wakes → Place → Bool
 turned_under c wakes.Nothing = nowhere
 turned_under c (wakes.Turns p) = same_place p
@@ -45,7 +45,7 @@ drops_none (reply.Got serial addr bytes) = false
 drops_none reply.Eof = false
 drops_none (reply.Fault f) = false
 
--- which places may stop being full, by the reply: none of those that are emptied where no message was dropped
+-- the places that may stop being full; if the reply names no dropped message, emptied places are not among them
 abbrev pub freed_under : Reply → Wakes → Place → Bool
 freed_under r wakes.Nothing = nowhere
 freed_under r (wakes.Turns p) = nowhere
@@ -55,7 +55,7 @@ freed_under r (wakes.TurnsReads driver addr) = nowhere
 freed_under r (wakes.Empties s) = if drops_none r then nowhere else is_either_side s
 freed_under r wakes.Frees = if drops_none r then nowhere else everywhere
 
--- by the stream that is named, or nothing where none is
+-- the function's result for the named stream; `Nothing` if no stream is named
 abbrev pub on_stream : Result StreamId Fault → (StreamId → Wakes) → Wakes
 on_stream (Ok s) f = f s
 on_stream (Err fault) f = wakes.Nothing
@@ -64,11 +64,11 @@ on_stream (Err fault) f = wakes.Nothing
 abbrev pub arrives : Configuration → Place → Wakes
 arrives c p = if is_some (first_message c.flow p) then wakes.Nothing else wakes.Turns p
 
--- a link gives the read side below it a place to go on to
+-- a link gives the messages on the read side below it a next place
 abbrev pub turns_below : Configuration → ℕ → ℕ → Wakes
 turns_below c process arg = on_stream (stream_of c process arg) (λ s. wakes.Turns (read_side s))
 
--- what a command may wake, if it is accepted
+-- the places that a command may wake, if it is accepted
 abbrev pub wakes_of : List DriverSpec → Configuration → ℕ → Command → Wakes
 wakes_of drivers c process (command.OpenClone name) = wakes.Nothing
 wakes_of drivers c process (command.OpenMinor name minor) = wakes.Nothing

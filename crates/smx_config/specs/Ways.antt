@@ -11,18 +11,19 @@ use Rattle.smx_config.specs.Marking.{IsAt}
 use Rattle.smx_config.specs.declared.hops.Hop.{Hop}
 use Rattle.smx_config.specs.declared.hops.Hops.{Hops}
 
--- messages of this address go next from the place to that of the number
+-- the next place of messages with this address, from this place, is the one with this number
 pub record LeadsTo (drivers : List DriverSpec) (c : Configuration) (p : Place) (addr n : ℕ) : Type 0 where
   pub place : Place
   pub there : IsAt drivers n place
   pub next : next_place drivers c p addr ≡ Some place
 
--- the number of the place where messages of an address go next from a place, if there is one
+-- the number of the next place of messages with an address, from a place, if there is one
 abbrev pub IsWay : List DriverSpec → Configuration → Place → ℕ → Option ℕ → Type 0
 IsWay drivers c p addr None = next_place drivers c p addr ≡ None
 IsWay drivers c p addr (Some n) = LeadsTo drivers c p addr n
 
--- what decides where messages go next is the same
+-- both configurations have the same links, routes, bindings and hung-up streams, so messages have the same next places
+-- in both
 pub record KeepsWays (old new : Configuration) : Type 0 where
   pub links : new.links ≡ old.links
   pub routes : new.routes ≡ old.routes
@@ -38,7 +39,7 @@ keeps_ways (command.Inject name minor addr bytes) = true
 keeps_ways (command.Transmit name minor) = true
 keeps_ways k = false
 
--- the hop of a number
+-- the hop of the place with this number
 abbrev pub hop_at : Hops → ℕ → Hop
 hop_at h i = slice_index_or h.hops.items i (record { addr = 0; to = 0; age = 0 })
 

@@ -3,7 +3,7 @@ use Rattle.std.specs.Prelude.{◌≡◌, ℕ, zero, suc, ◌+◌, ◌*◌, ◌/�
 use Rattle.std.specs.Prelude.{if◌then◌else◌, List, length, slice_index}
 use Rattle.std.specs.Int.{bit_at}
 
--- so many numbers, and words of 64 bits: each number has a bit, which is 1 if the number is marked
+-- a count of numbers, and words of 64 bits: each number has a bit, which is 1 if the number is marked
 pub record BitTable : Type 0 where
   pub count : ℕ
   pub words : List ℕ
@@ -33,7 +33,7 @@ bit_count b = count_below b.words (64 * length b.words)
 abbrev pub HaveNoneBefore : ℕ → List ℕ → Type 0
 HaveNoneBefore first words = (n : ℕ) → n < 64 * first → bit_of words n ≡ false
 
--- there are bits for so many numbers, and only theirs are 1
+-- there are bits for this count of numbers, and no other bit is 1
 pub record AreBits (first count : ℕ) (words : List ℕ) : Type 0 where
   pub before : HaveNoneBefore first words
   pub first_in : first ≤ length words

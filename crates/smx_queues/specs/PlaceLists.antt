@@ -10,7 +10,7 @@ use Rattle.smx_model.specs.Configuration.{side_number}
 use Rattle.smx_model.specs.DriverList.{high_of, low_of}
 use Rattle.smx_queues.specs.QueueTable.{Queue, empty_queue}
 
--- both sides of so many minors of a driver
+-- both sides of this number of minors of a driver
 abbrev pub sides_of : ℕ → ℕ → List Place
 sides_of driver zero = []
 sides_of driver (suc n) = sides_of driver n ++ at side.Write ∷ at side.Read ∷ [] where
@@ -26,7 +26,7 @@ places_from n (d ∷ drivers) = sides_of n d.minors ++ places_from (suc n) drive
 abbrev pub places_of : List DriverSpec → List Place
 places_of drivers = places_from 0 drivers
 
--- the row of a driver that has so many minors: its first place has this number
+-- the row of a driver with this number of minors, whose first place has this number
 abbrev pub driver_row : ℕ → ℕ → DriverRow
 driver_row first minors = record { first = first; minors = minors }
 

@@ -16,11 +16,11 @@ at xs i = slice_index_or xs i 0
 abbrev pub ring_count : RingTable → ℕ
 ring_count t = count_by (λ n. not (n == 0)) t.owners
 
--- the same links, except that h leads to p, and p to f
+-- the same links, except that p comes after h, and f after p
 abbrev pub linked : List ℕ → ℕ → ℕ → ℕ → List ℕ
 linked xs p f h = slice_set (slice_set xs p f) h p
 
--- the same links, except that a leads to b, and p to itself
+-- the same links, except that b comes after a, and p after itself
 abbrev pub unlinked : List ℕ → ℕ → ℕ → ℕ → List ℕ
 unlinked xs a b p = slice_set (slice_set xs a b) p p
 
@@ -32,7 +32,7 @@ LeadsBack many xs ys = (i : ℕ) → i < many → (at xs i < many) × (at ys (at
 abbrev pub IsBehind : ℕ → List ℕ → (ℕ → ℕ) → ℕ → ℕ → ℕ → Type 0
 IsBehind count owners rank q i j = (j ≡ count + q) ⊎ ((j < count) × (at owners j ≡ suc q) × (rank j < rank i))
 
--- the rings of so many numbers, linked in both directions
+-- the rings of this count of numbers, linked in both directions
 pub record AreRings (count : ℕ) (owners next previous : List ℕ) : Type 0 where
   pub small : count < 2 ^ 63
   pub many : length owners ≡ count + count

@@ -13,7 +13,7 @@ use Rattle.smx_shared.specs.declared.seat_view.SeatView.{SeatView}
 abbrev pub Mine : Type 0
 Mine = Me Slot SeatView
 
--- what it knows
+-- the knowledge of a seat
 abbrev pub known_of : SeatView → Known
 known_of v = record { drivers = v.drivers; limit = v.limit; process = v.process; seen = v.seen; own = v.own }
 
@@ -49,7 +49,7 @@ first_view s = unnamed s true 0
 abbrev pub spent_view : SeatView
 spent_view = record (unnamed (system_with [] 0 []) false 0) { spent = true }
 
--- a new seat, split off another: it has seen as much, and takes over the right to the next name
+-- a new seat, split off another: it has seen the same history, and takes over the right to the next name
 abbrev pub view_beside : SeatView → SeatView
 view_beside v = record (unnamed (system_with v.drivers v.limit v.seen) v.may_name v.next) { spent = v.spent }
 
@@ -61,7 +61,7 @@ without_right v = record v { may_name = false; next = 0 }
 abbrev pub with_next_name : SeatView → SeatView
 with_next_name v = record v { named = true; process = v.next; own = entries_of v.next v.seen; next = v.next + 1 }
 
--- a seat that takes in what another has seen
+-- a seat that takes over what another has seen
 abbrev pub after_meeting : SeatView → SeatView → SeatView
 after_meeting v w = record v { met = met_seat (known_of w) ∷ w.met ++ v.met }
 
@@ -166,7 +166,7 @@ pub record IsWordFrom (v : SeatView) (word : ℕ) : Type 0 where
   pub sound : IsSoundSystem (system_with v.drivers v.limit history)
   pub front : word ≡ front_of v.drivers history + word % 2
 
--- it is the same seat, and has seen what either had
+-- it is the same seat, and has seen what either seat had seen
 pub record HasMet (v other w : SeatView) : Type 0 where
   pub drivers : w.drivers ≡ v.drivers
   pub limit : w.limit ≡ v.limit

@@ -43,7 +43,7 @@ pub record Known : Type 0 where
   pub limit : ℕ
   -- The process.
   pub process : ℕ
-  -- The history, as far as it was seen.
+  -- The history that was seen.
   pub seen : List Entry
   -- The entries that were made here, under the process.
   pub own : List Entry
@@ -86,7 +86,7 @@ IsNotMet process met = AllByRecursion (λ m. m.process ≢ process) met
 abbrev pub HasMetAll : ℕ → Known → List MetSeat → Type 0
 HasMetAll processes k met = (p : ℕ) → p < processes → IsNotMet p met → p ≡ k.process
 
--- the system, as far as it was seen
+-- the system with the history that was seen
 abbrev pub seen_by : Known → Recorded
 seen_by k = record { drivers = k.drivers; limit = k.limit; history = k.seen }
 

@@ -36,7 +36,7 @@ abbrev pub holds_of : Option Record → ℕ
 holds_of None = 0
 holds_of (Some r) = r.holds
 
--- whether the record says that its stream has hung up; a stream without a record has not
+-- whether the record says that its stream is hung up; a stream without a record is not hung up
 abbrev pub hung_of : Option Record → Bool
 hung_of None = false
 hung_of (Some r) = r.hung
@@ -56,7 +56,7 @@ uses_of grid records = record {
   hungs = map (map (λ key. hung_of (record_of_key records key))) grid;
 }
 
--- if no stream is said to have hung up, none has
+-- if the flag for all streams is false, no stream is hung up
 abbrev pub CountsForHung : Bool → Uses → Type 0
 CountsForHung some_hung u = some_hung ≡ false → (s : StreamId) → flag_at u.hungs s ≡ false
 

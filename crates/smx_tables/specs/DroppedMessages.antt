@@ -19,8 +19,8 @@ pub record AreDropped (old new : List QueuedMessage) (dropped : List ℕ) : Type
   pub left : new ≡ filter keep old
   pub gone : IsPermutation (serials (filter (λ h. not (keep h)) old)) dropped
 
--- whatever the old messages: if `dropped` were dropped of them and `flow` was left, now `more` are dropped and `left`
--- is left
+-- for any old messages: if they were split into the dropped ones, with serials `dropped`, and the rest `flow`, they are
+-- now split into those with serials `more` and the rest `left`
 abbrev pub DropsMore : List QueuedMessage → List ℕ → List QueuedMessage → List ℕ → Type 0
 DropsMore flow dropped left more = (old : List QueuedMessage) → AreDropped old flow dropped → AreDropped old left more
 
@@ -37,8 +37,7 @@ pub record EmptiesPlaces {A : Type 0} (goes : Place → Bool) (old : FlowLists) 
   pub dropped : DropsMore old.flow before.items new.flow after.items
   pub room : HasRoom after new.flow
 
--- whatever the old messages, if no two have the same serial: the reply names those of them that are gone, in rising
--- order
+-- for any old messages of which no two have the same serial: the reply names those that are gone, in rising order
 abbrev pub NamesDropped : List QueuedMessage → List ℕ → List QueuedMessage → Reply → Type 0
 NamesDropped flow dropped left reply = (old : List QueuedMessage) → AllPairs (λ m n. m ≢ n) (serials old)
     → AreDropped old flow dropped → reply ≡ Done (serials_that_left old left)
