@@ -25,7 +25,7 @@ pub record IsSoundSystem (s : Recorded) : Type 0 where
   pub limited : s.limit ≤ MAX_COMMANDS
   -- Each reply of its history is the one that its command gets.
   pub legal : IsLegal s.drivers s.history
-  -- After each entry there is no cycle, no stream below two links, and no message lost or doubled.
+  -- After each entry there is no cycle, no stream below two links, and no message lost or duplicated.
   pub lawful : IsLawfulThroughout s.drivers s.history
 
 -- the system with the drivers of this configuration, this limit and this history
