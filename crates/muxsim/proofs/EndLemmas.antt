@@ -16,13 +16,15 @@ use Rattle.smx_filters.specs.Filters.{Filter, FiltersText, GivesFor}
 use Rattle.smx_filters.specs.ReplayText.{replaying}
 use Rattle.smx_filters.specs.RunText.{running}
 use Rattle.smx_filters.specs.Statuses.{status_of, status_of_cause, status_of_outcome, status_of_verdict}
+use Rattle.smx_filters.specs.TraceText.{tracing}
 use Rattle.smx_filters.specs.declared.main_fault.MainFault.{MainFault}
 use Rattle.smx_filters.specs.declared.main_fault.MainFault.TheVariants.{Refused, Text, TooLong, ReadFailed, WriteFailed}
 use Rattle.smx_live.specs.LiveText.{AreFine, IsOutcome, IsOver, LivesText}
-use Rattle.muxsim.specs.Ends.{Devices, EndsCheck, EndsDraw, EndsJob, EndsLive, EndsReplay, EndsRun, Writes}
+use Rattle.muxsim.specs.Ends.{Devices, EndsCheck, EndsDraw, EndsJob, EndsLive, EndsReplay, EndsRun, EndsTrace}
+use Rattle.muxsim.specs.Ends.{Writes}
 use Rattle.muxsim.specs.Ends.{outcome_of_check, outcome_of_writing}
 use Rattle.smx_command_line.specs.declared.jobs.Job.{Job}
-use Rattle.smx_command_line.specs.declared.jobs.Job.TheVariants.{Run, Check, Replay, Draw, Live}
+use Rattle.smx_command_line.specs.declared.jobs.Job.TheVariants.{Run, Check, Replay, Trace, Draw, Live}
 
 -- ---- numbers
 
@@ -172,9 +174,14 @@ run_done fronts workers d code input output h w =
     done_for d code input output w (running fronts workers) h.answer h.ran h.status
 
 -- a replay with the status 0 wrote what was asked for
-pub replay_done : (d : Devices) (code : ExitCode) (input output : List ℕ) → EndsReplay d code
-    → Writes d input output → exit_status code ≡ 0 → (d.flushed ≡ true) × GivesFor replaying input tt output
-replay_done d code input output h w = done_for d code input output w replaying h.answer h.replayed h.status
+pub replay_done : (at : Option ℕ) (d : Devices) (code : ExitCode) (input output : List ℕ) → EndsReplay at d code
+    → Writes d input output → exit_status code ≡ 0 → (d.flushed ≡ true) × GivesFor (replaying at) input tt output
+replay_done at d code input output h w = done_for d code input output w (replaying at) h.answer h.replayed h.status
+
+-- a trace with the status 0 wrote what was asked for
+pub trace_done : (each : Bool) (d : Devices) (code : ExitCode) (input output : List ℕ) → EndsTrace each d code
+    → Writes d input output → exit_status code ≡ 0 → (d.flushed ≡ true) × GivesFor (tracing each) input tt output
+trace_done each d code input output h w = done_for d code input output w (tracing each) h.answer h.traced h.status
 
 -- a drawing with the status 0 wrote what was asked for
 pub draw_done : (form : Form) (d : Devices) (code : ExitCode) (input output : List ℕ) → EndsDraw form d code
@@ -294,7 +301,8 @@ of_living d n (Err e) h is = record {
 abbrev Low : Job → Devices → Type 0
 Low (Run workers fronts explain) d = Keeps d.before d.after
 Low (Check explain) d = Keeps d.before d.after
-Low Replay d = Keeps d.before d.after
+Low (Replay at) d = Keeps d.before d.after
+Low (Trace waits) d = Keeps d.before d.after
 Low (Draw form) d = Keeps d.before d.after
 Low Live d = Unit {0}
 
@@ -303,7 +311,8 @@ tells : (job : Job) (d : Devices) (code : ExitCode) → EndsJob job d code → T
 tells Live d code h = of_living d _ h.answer h.lived h.status
 tells (Run workers fronts explain) d code h = of_writing (running fronts workers) d _ h.answer h.ran h.status
 tells (Check explain) d code h = of_judging (judging explain) d _ h.answer h.judged h.status
-tells Replay d code h = of_writing replaying d _ h.answer h.replayed h.status
+tells (Replay at) d code h = of_writing (replaying at) d _ h.answer h.replayed h.status
+tells (Trace waits) d code h = of_writing (tracing waits) d _ h.answer h.traced h.status
 tells (Draw form) d code h = of_writing (drawing form) d _ h.answer h.drawn h.status
 
 -- the status is 5 exactly if a device failed
@@ -316,7 +325,8 @@ pub unwritten : (job : Job) (d : Devices) (code : ExitCode) → job ≢ Live →
     → (exit_status code ≡ 1) ⊎ (exit_status code ≡ 3) → Keeps d.before d.after
 unwritten (Run workers fronts explain) d code other h = (tells (Run workers fronts explain) d code h).unwritten
 unwritten (Check explain) d code other h = (tells (Check explain) d code h).unwritten
-unwritten Replay d code other h = (tells Replay d code h).unwritten
+unwritten (Replay at) d code other h = (tells (Replay at) d code h).unwritten
+unwritten (Trace waits) d code other h = (tells (Trace waits) d code h).unwritten
 unwritten (Draw form) d code other h = (tells (Draw form) d code h).unwritten
 unwritten Live d code other h = absurd (other refl)
 
@@ -335,8 +345,12 @@ pub run_not_4 : (fronts : Bool) (workers : ℕ) (d : Devices) (code : ExitCode) 
 run_not_4 fronts workers d code h = not_4 _ h.answer h.status
 
 -- no replay has the status 4
-pub replay_not_4 : (d : Devices) (code : ExitCode) → EndsReplay d code → exit_status code ≡ 4 → ⊥
-replay_not_4 d code h = not_4 _ h.answer h.status
+pub replay_not_4 : (at : Option ℕ) (d : Devices) (code : ExitCode) → EndsReplay at d code → exit_status code ≡ 4 → ⊥
+replay_not_4 at d code h = not_4 _ h.answer h.status
+
+-- no trace has the status 4
+pub trace_not_4 : (each : Bool) (d : Devices) (code : ExitCode) → EndsTrace each d code → exit_status code ≡ 4 → ⊥
+trace_not_4 each d code h = not_4 _ h.answer h.status
 
 -- no drawing has the status 4
 pub draw_not_4 : (form : Form) (d : Devices) (code : ExitCode) → EndsDraw form d code → exit_status code ≡ 4 → ⊥

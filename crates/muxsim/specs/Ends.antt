@@ -11,13 +11,14 @@ use Rattle.smx_live.specs.LiveText.{LivesText}
 use Rattle.smx_filters.specs.ReplayText.{ReplaysText}
 use Rattle.smx_filters.specs.RunText.{RunsText}
 use Rattle.smx_filters.specs.Statuses.{status_of_outcome}
+use Rattle.smx_filters.specs.TraceText.{TracesText}
 use Rattle.smx_filters.specs.declared.done.Done.{Done}
 use Rattle.smx_filters.specs.declared.done.Done.TheVariants.{Finished, Judged}
 use Rattle.smx_filters.specs.declared.main_fault.MainFault.{MainFault}
 use Rattle.smx_command_line.specs.declared.jobs.Job.{Job}
-use Rattle.smx_command_line.specs.declared.jobs.Job.TheVariants.{Run, Check, Replay, Draw, Live}
+use Rattle.smx_command_line.specs.declared.jobs.Job.TheVariants.{Run, Check, Replay, Trace, Draw, Live}
 
--- a run, a replay, a drawing or a live session that succeeded has finished
+-- a run, a replay, a trace, a drawing or a live session that succeeded has finished
 abbrev pub outcome_of_writing : Result (Unit {0}) MainFault → Result Done MainFault
 outcome_of_writing (Ok done) = Ok Finished
 outcome_of_writing (Err fault) = Err fault
@@ -72,10 +73,16 @@ pub record EndsCheck (explain : Bool) (d : Devices) (code : ExitCode) : Type 0 w
       d.write_failures answer
   pub status : exit_status code ≡ status_of_outcome (outcome_of_check answer)
 
--- the transcript was replayed, and the status is that of the result
-pub record EndsReplay (d : Devices) (code : ExitCode) : Type 0 where
+-- the transcript or its first entries were replayed, and the status is that of the result
+pub record EndsReplay (at : Option ℕ) (d : Devices) (code : ExitCode) : Type 0 where
   pub answer : Result (Unit {0}) MainFault
-  pub replayed : ReplaysText d.had d.left d.ended d.read_failures d.before d.after d.flushed d.write_failures answer
+  pub replayed : ReplaysText at d.had d.left d.ended d.read_failures d.before d.after d.flushed d.write_failures answer
+  pub status : exit_status code ≡ status_of_outcome (outcome_of_writing answer)
+
+-- the transcript was traced, and the status is that of the result
+pub record EndsTrace (each : Bool) (d : Devices) (code : ExitCode) : Type 0 where
+  pub answer : Result (Unit {0}) MainFault
+  pub traced : TracesText each d.had d.left d.ended d.read_failures d.before d.after d.flushed d.write_failures answer
   pub status : exit_status code ≡ status_of_outcome (outcome_of_writing answer)
 
 -- the configuration of the transcript was drawn, and the status is that of the result
@@ -94,6 +101,7 @@ pub record EndsLive (d : Devices) (code : ExitCode) : Type 0 where
 abbrev pub EndsJob : Job → Devices → ExitCode → Type 0
 EndsJob (Run workers fronts explain) d code = EndsRun fronts workers d code
 EndsJob (Check explain) d code = EndsCheck explain d code
-EndsJob Replay d code = EndsReplay d code
+EndsJob (Replay at) d code = EndsReplay at d code
+EndsJob (Trace waits) d code = EndsTrace waits d code
 EndsJob (Draw form) d code = EndsDraw form d code
 EndsJob Live d code = EndsLive d code

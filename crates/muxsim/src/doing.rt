@@ -2,7 +2,7 @@
 
 ghost use Rattle.std.specs.Prelude.{◌≡◌, false, true};
 ghost use Rattle.std.specs.Process.{exit_status};
-ghost use Rattle.muxsim.specs.Ends.{devices, EndsCheck, EndsDraw, EndsJob, EndsLive, EndsReplay, EndsRun};
+ghost use Rattle.muxsim.specs.Ends.{devices, EndsCheck, EndsDraw, EndsJob, EndsLive, EndsReplay, EndsRun, EndsTrace};
 ghost use Rattle.smx_command_line.specs.Jobs.{CanRun};
 ghost use Rattle.smx_filters.specs.Statuses.{status_of, status_of_outcome};
 
@@ -11,7 +11,7 @@ use smx_draw::Form;
 use smx_explain::{FaultExplanation, TextKind};
 use smx_filters::{
     Done, Feed, MainFault, Refusal, Sink, check_explained, check_text, draw_text, replay_text,
-    run_explained, run_text,
+    run_explained, run_text, trace_text,
 };
 use smx_live::live_text;
 use smx_run::NoGate;
@@ -50,7 +50,8 @@ pub fn do_job<R: Threads + Wait + Sync + Eprint, F: Feed, S: Sink>(
         } => explained_run(rt, alloc, feed, sink, workers, fronts),
         Job::Check { explain: false } => check(rt, alloc, feed, sink),
         Job::Check { explain: true } => explained_check(rt, alloc, feed, sink),
-        Job::Replay => replay(rt, alloc, feed, sink),
+        Job::Replay { at } => replay(rt, alloc, feed, sink, at),
+        Job::Trace { waits } => trace(rt, alloc, feed, sink, waits),
         Job::Draw { form } => draw(rt, alloc, feed, sink, form),
         Job::Live => live(rt, alloc, feed, sink),
     }
@@ -171,20 +172,41 @@ fn fault_of_text(fault: &MainFault) -> Option<TextFault> {
     }
 }
 
-// Replays the transcript.
+// Replays the transcript, or its first entries.
 fn replay<R: Eprint, F: Feed, S: Sink>(
     rt: &R,
     alloc: Global,
     feed: &mut F,
     sink: &mut S,
+    at: Option<usize>,
 ) -> ExitCode
     requires before_the_end { F.ended feed.old ≡ false }
     requires fed { F.failures feed.old ≡ 0 }
     requires sunk { S.failures sink.old ≡ 0 }
-    ensures { EndsReplay (devices F.remaining F.ended F.failures S.contents S.flushed S.failures
+    ensures { EndsReplay at (devices F.remaining F.ended F.failures S.contents S.flushed S.failures
         feed.old feed.new sink.old sink.new) result }
 {
-    match replay_text(alloc, feed, sink) {
+    match replay_text(alloc, feed, sink, at) {
+        Ok(()) => ended(rt, Ok(Done::Finished)),
+        Err(fault) => ended(rt, Err(fault)),
+    }
+}
+
+// Traces the transcript.
+fn trace<R: Eprint, F: Feed, S: Sink>(
+    rt: &R,
+    alloc: Global,
+    feed: &mut F,
+    sink: &mut S,
+    waits: bool,
+) -> ExitCode
+    requires before_the_end { F.ended feed.old ≡ false }
+    requires fed { F.failures feed.old ≡ 0 }
+    requires sunk { S.failures sink.old ≡ 0 }
+    ensures { EndsTrace waits (devices F.remaining F.ended F.failures S.contents S.flushed S.failures
+        feed.old feed.new sink.old sink.new) result }
+{
+    match trace_text(alloc, feed, sink, waits) {
         Ok(()) => ended(rt, Ok(Done::Finished)),
         Err(fault) => ended(rt, Err(fault)),
     }

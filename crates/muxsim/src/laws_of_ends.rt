@@ -1,6 +1,6 @@
 //! Laws of how the program ends, each the contract of a function that does nothing.
 
-ghost use Rattle.std.specs.Prelude.{◌≡◌, ◌≢◌, ◌⊎◌, ◌↔◌, ◌++◌, ℕ, Bool, true, List};
+ghost use Rattle.std.specs.Prelude.{◌≡◌, ◌≢◌, ◌⊎◌, ◌↔◌, ◌++◌, ℕ, Bool, true, List, Option};
 ghost use Rattle.std.specs.Io.KnownBytes.{Keeps};
 ghost use Rattle.std.specs.Process.{exit_status};
 ghost use Rattle.std.specs.declared.process.ExitCode.{ExitCode};
@@ -12,8 +12,10 @@ ghost use Rattle.smx_filters.specs.ExplainText.{judging};
 ghost use Rattle.smx_filters.specs.Filters.{GivesFor};
 ghost use Rattle.smx_filters.specs.ReplayText.{replaying};
 ghost use Rattle.smx_filters.specs.RunText.{running};
+ghost use Rattle.smx_filters.specs.TraceText.{tracing};
 ghost use Rattle.smx_live.specs.LiveText.{IsOver};
-ghost use Rattle.muxsim.specs.Ends.{Devices, EndsCheck, EndsDraw, EndsJob, EndsLive, EndsReplay, EndsRun, Writes};
+ghost use Rattle.muxsim.specs.Ends.{Devices, EndsCheck, EndsDraw, EndsJob, EndsLive, EndsReplay, EndsRun, EndsTrace};
+ghost use Rattle.muxsim.specs.Ends.{Writes};
 ghost use Rattle.smx_command_line.specs.declared.jobs.Job.{Job as AnyJob};
 ghost use Rattle.smx_command_line.specs.declared.jobs.Job.TheVariants.{Live};
 
@@ -24,9 +26,12 @@ pub fn a_status_tells_what_was_done()
     ensures run { (fronts : Bool) (workers : ℕ) (d : Devices) (code : ExitCode) (input output : List ℕ)
         → EndsRun fronts workers d code → Writes d input output → exit_status code ≡ 0
         → (d.flushed ≡ true) × GivesFor (running fronts workers) input tt output }
-    ensures replay { (d : Devices) (code : ExitCode) (input output : List ℕ) → EndsReplay d code
+    ensures replay { (at : Option ℕ) (d : Devices) (code : ExitCode) (input output : List ℕ) → EndsReplay at d code
         → Writes d input output → exit_status code ≡ 0
-        → (d.flushed ≡ true) × GivesFor replaying input tt output }
+        → (d.flushed ≡ true) × GivesFor (replaying at) input tt output }
+    ensures trace { (each : Bool) (d : Devices) (code : ExitCode) (input output : List ℕ) → EndsTrace each d code
+        → Writes d input output → exit_status code ≡ 0
+        → (d.flushed ≡ true) × GivesFor (tracing each) input tt output }
     ensures draw { (form : Form) (d : Devices) (code : ExitCode) (input output : List ℕ) → EndsDraw form d code
         → Writes d input output → exit_status code ≡ 0
         → (d.flushed ≡ true) × GivesFor (drawing form) input tt output }
@@ -42,7 +47,7 @@ pub fn a_status_tells_what_was_done()
 {}
 
 /// The status is 5 exactly if a device failed. The statuses 1 and 3 mean that nothing was written, except by a live
-/// session. No job has the status 2, and no run, replay, drawing or live session has the status 4.
+/// session. No job has the status 2, and no run, replay, trace, drawing or live session has the status 4.
 pub fn a_status_tells_what_failed()
     ensures failed { (job : AnyJob) (d : Devices) (code : ExitCode) → EndsJob job d code
         → (exit_status code ≡ 5) ↔ ((d.read_failures ≡ 1) ⊎ (d.write_failures ≡ 1)) }
@@ -52,7 +57,9 @@ pub fn a_status_tells_what_failed()
         → exit_status code ≡ 2 → ⊥ }
     ensures no_verdict_of_a_run { (fronts : Bool) (workers : ℕ) (d : Devices) (code : ExitCode)
         → EndsRun fronts workers d code → exit_status code ≡ 4 → ⊥ }
-    ensures no_verdict_of_a_replay { (d : Devices) (code : ExitCode) → EndsReplay d code
+    ensures no_verdict_of_a_replay { (at : Option ℕ) (d : Devices) (code : ExitCode) → EndsReplay at d code
+        → exit_status code ≡ 4 → ⊥ }
+    ensures no_verdict_of_a_trace { (each : Bool) (d : Devices) (code : ExitCode) → EndsTrace each d code
         → exit_status code ≡ 4 → ⊥ }
     ensures no_verdict_of_a_drawing { (form : Form) (d : Devices) (code : ExitCode) → EndsDraw form d code
         → exit_status code ≡ 4 → ⊥ }

@@ -18,8 +18,8 @@ use std::mem::forget;
 const VERSION: &str = "0.1.0";
 
 /// Parses the words of the command line, of which the first is the program's name. They ask for a job by `run`, with
-/// or without `--workers`, `--fronts` and `--explain`; `check`, with or without `--explain`; `replay`; `draw`, with
-/// or without `--dot`; or `live`. Fails with clap's error for any other words, and for a request for help or the
+/// or without `--workers`, `--fronts` and `--explain`; `check`, with or without `--explain`; `replay`, with or without
+/// `--at`; `trace`, with or without `--waits`; `draw`, with or without `--dot`; or `live`. Fails with clap's error for any other words, and for a request for help or the
 /// version, such as `commands`. If it is out of memory, the kind of the error is `OutOfMemory`.
 pub fn job<'a, S: AsStr>(alloc: Global, words: &'a [S]) -> Result<Job, Error>
     ensures { IfOk result CanRun }
@@ -41,7 +41,12 @@ fn job_of(alloc: Global, matches: &ArgMatches) -> Result<Job, Error>
             fronts: run.get_flag("fronts"),
             explain: run.get_flag("explain"),
         }),
-        Some(("replay", _)) => Ok(Job::Replay),
+        Some(("replay", replay)) => Ok(Job::Replay {
+            at: replay.get_one::<usize>("at"),
+        }),
+        Some(("trace", trace)) => Ok(Job::Trace {
+            waits: trace.get_flag("waits"),
+        }),
         Some(("draw", draw)) => Ok(Job::Draw {
             form: form_of(draw),
         }),
@@ -100,7 +105,8 @@ fn program<'a>(alloc: Global) -> Result<Command<'a>, AllocError> {
         .subcommand_required(true)
         .subcommand(subcommands::run(alloc)?)?
         .subcommand(subcommands::check(alloc)?)?
-        .subcommand(subcommands::replay(alloc))?
+        .subcommand(subcommands::replay(alloc)?)?
+        .subcommand(subcommands::trace(alloc)?)?
         .subcommand(subcommands::draw(alloc)?)?
         .subcommand(subcommands::live(alloc))?
         .subcommand(subcommands::commands(alloc))

@@ -43,7 +43,7 @@ a minor, an address, the id of a link. Descriptors and minors count from 0, ids 
 or 'all', SIDES is 'r', 'w' or 'rw', and HEX is the bytes of a message in hex, two of '0' to '9' and
 'a' to 'f' for each, '-' for none.
 
-A transcript, which 'run' writes and 'check', 'replay' and 'draw' read, is written so:
+A transcript, which 'run' writes and 'check', 'replay', 'trace' and 'draw' read, is written so:
 
     transcript 1                          or 2, as the programs
     driver NAME KIND MINORS HIGH LOW MAX  the driver lines of the programs

@@ -20,7 +20,15 @@ pub enum Job {
         explain: bool,
     },
     /// Performs the commands of the transcript of the input and writes the transcript that they give.
-    Replay,
+    Replay {
+        /// How many of its first entries are replayed, if not all.
+        at: Option<usize>,
+    },
+    /// Performs the commands of the transcript of the input and writes the trace of the transcript that they give.
+    Trace {
+        /// Whether all waits are written below each entry.
+        waits: bool,
+    },
     /// Draws the configuration that the transcript of the input shows.
     Draw {
         /// The language of the picture.

@@ -40,13 +40,25 @@ pub fn check<'a>(alloc: Global) -> Result<Command<'a>, AllocError> {
 }
 
 /// Returns the subcommand that replays a transcript.
-pub fn replay<'a>(alloc: Global) -> Command<'a> {
+pub fn replay<'a>(alloc: Global) -> Result<Command<'a>, AllocError> {
     subcommand(
         alloc,
         "replay",
         "Replay the transcript on standard input and write the transcript that its commands give",
     )
-    .override_usage("muxsim replay < TRANSCRIPT")
+    .override_usage("muxsim replay [--at K] < TRANSCRIPT")
+    .arg(at(alloc))
+}
+
+/// Returns the subcommand that traces a transcript.
+pub fn trace<'a>(alloc: Global) -> Result<Command<'a>, AllocError> {
+    subcommand(
+        alloc,
+        "trace",
+        "Replay the transcript on standard input and write what each entry changes, and what waits",
+    )
+    .override_usage("muxsim trace [--waits] < TRANSCRIPT")
+    .arg(waits(alloc))
 }
 
 /// Returns the subcommand that draws a picture.
@@ -105,6 +117,23 @@ fn explain<'a>(alloc: Global, help: &'a str) -> Arg<'a> {
     Arg::new(alloc, "explain")
         .long("explain")
         .help(help)
+        .action(ArgAction::SetTrue)
+}
+
+// Returns the option for the number of entries.
+fn at<'a>(alloc: Global) -> Arg<'a> {
+    Arg::new(alloc, "at")
+        .long("at")
+        .value_name("K")
+        .help("Replay the first K entries alone, 0 or more")
+        .value_parser(value_parser!(usize))
+}
+
+// Returns the option that writes the waits below each entry.
+fn waits<'a>(alloc: Global) -> Arg<'a> {
+    Arg::new(alloc, "waits")
+        .long("waits")
+        .help("Write what waits below each entry too")
         .action(ArgAction::SetTrue)
 }
 

@@ -1,6 +1,6 @@
 -- An input has one answer, and what a run writes spells one report.
 use Rattle.std.proofs.Common.{◌≡◌, ◌≢◌, ℕ, ◌++◌, ◌≤◌, Bool, true, false, List, length, map}
-use Rattle.std.proofs.Common.{Result, Ok, Err}
+use Rattle.std.proofs.Common.{Option, Result, Ok, Err}
 use Rattle.std.proofs.Common.{refl, sym, ap, subst, ◌∙◌, arith, inl, inr}
 use Rattle.smx_types.specs.ProgramLists.{ProgramLists}
 use Rattle.smx_types.specs.declared.command.Entry.{Entry}
@@ -28,13 +28,15 @@ use Rattle.smx_model.proofs.ReportLemmas.{one_report}
 use Rattle.smx_config.proofs.DriverFaultLemmas.{one_fault as one_refusal}
 use Rattle.smx_filters.proofs.OneProcessLemmas.{in_turn}
 use Rattle.smx_filters.proofs.ReadingLemmas.{HasOneReading, no_fault, one_fault, one_value}
-use Rattle.smx_filters.proofs.ReplayTextLemmas.{HasOneReplay}
+use Rattle.smx_filters.proofs.ReplayTextLemmas.{HasOneReplay, part_drivers}
+use Rattle.smx_trace.specs.Traces.{IsTraceText}
 use Rattle.smx_explain.specs.Explanations.{IsExplanation}
 use Rattle.smx_filters.specs.CheckText.{checking, verdict_line}
 use Rattle.smx_filters.specs.ExplainText.{explaining}
 use Rattle.smx_filters.specs.Filters.{Answers, Filter, GivesFor, HasEnoughMemory, RefusesFor}
-use Rattle.smx_filters.specs.ReplayText.{replaying}
+use Rattle.smx_filters.specs.ReplayText.{IsPastEnd, RefusesPart, asked_part, replaying}
 use Rattle.smx_filters.specs.RunText.{IsTranscriptFor, IsWrittenFor, running}
+use Rattle.smx_filters.specs.TraceText.{tracing}
 use Rattle.smx_filters.specs.declared.main_fault.MainFault.{MainFault}
 use Rattle.smx_filters.specs.declared.main_fault.MainFault.TheVariants.{Refused, Text, TooLong, ReadFailed, WriteFailed}
 
@@ -126,6 +128,7 @@ only_memory_refuses determined drivers had (run.ConfigFault f) h =
     absurd (h.1 (determined drivers f config.NoMemory h.0 had))
 only_memory_refuses determined drivers had run.HistoryFull h = absurd h
 only_memory_refuses determined drivers had run.Held h = absurd h
+only_memory_refuses determined drivers had (run.FewEntries count) h = absurd h
 
 -- other drivers are refused for only one fault
 refused_alone : (drivers : List DriverSpec) (r s : RunFault) → RefusesAlone drivers r
@@ -136,10 +139,45 @@ refused_alone drivers run.NoMemory s h k known known_too = absurd (known refl)
 refused_alone drivers (run.Strange p) s h k known known_too = absurd h
 refused_alone drivers run.HistoryFull s h k known known_too = absurd h
 refused_alone drivers run.Held s h k known known_too = absurd h
+refused_alone drivers (run.FewEntries count) s h k known known_too = absurd h
 refused_alone drivers (run.ConfigFault f) run.NoMemory h k known known_too = absurd (known_too refl)
 refused_alone drivers (run.ConfigFault f) (run.Strange p) h k known known_too = absurd k
 refused_alone drivers (run.ConfigFault f) run.HistoryFull h k known known_too = absurd k
 refused_alone drivers (run.ConfigFault f) run.Held h k known known_too = absurd k
+refused_alone drivers (run.ConfigFault f) (run.FewEntries count) h k known known_too = absurd k
+
+-- valid drivers of a transcript with enough entries are refused only for lack of memory
+only_memory_of_part : (at : Option ℕ) (t : Transcript) → IsDriverList t.drivers → (IsPastEnd at t → ⊥) → (r : RunFault)
+    → RefusesPart at t r → r ≡ run.NoMemory
+only_memory_of_part at t valid enough run.NoMemory h = refl
+only_memory_of_part at t valid enough (run.Strange p) h = absurd h.1
+only_memory_of_part at t valid enough (run.ConfigFault f) h =
+    only_memory_refuses one_refusal t.drivers valid (run.ConfigFault f) h.1
+only_memory_of_part at t valid enough run.HistoryFull h = absurd h.1
+only_memory_of_part at t valid enough run.Held h = absurd h.1
+only_memory_of_part at t valid enough (run.FewEntries count) h = absurd (enough h.1)
+
+-- a replay refuses for only one fault
+part_refused : (at : Option ℕ) (t : Transcript) (r s : RunFault) → RefusesPart at t r → RefusesPart at t s
+    → r ≢ run.NoMemory → s ≢ run.NoMemory → r ≡ s
+part_refused at t (run.FewEntries m) (run.FewEntries n) h k known known_too =
+    ap run.FewEntries (h.0 ∙ sym k.0)
+part_refused at t (run.FewEntries m) run.NoMemory h k known known_too = absurd (known_too refl)
+part_refused at t (run.FewEntries m) (run.Strange p) h k known known_too = absurd k.1
+part_refused at t (run.FewEntries m) (run.ConfigFault f) h k known known_too = absurd (k.0 h.1)
+part_refused at t (run.FewEntries m) run.HistoryFull h k known known_too = absurd k.1
+part_refused at t (run.FewEntries m) run.Held h k known known_too = absurd k.1
+part_refused at t run.NoMemory s h k known known_too = absurd (known refl)
+part_refused at t (run.Strange p) s h k known known_too = absurd h.1
+part_refused at t run.HistoryFull s h k known known_too = absurd h.1
+part_refused at t run.Held s h k known known_too = absurd h.1
+part_refused at t (run.ConfigFault f) (run.FewEntries n) h k known known_too = absurd (h.0 k.1)
+part_refused at t (run.ConfigFault f) run.NoMemory h k known known_too = absurd (known_too refl)
+part_refused at t (run.ConfigFault f) (run.Strange p) h k known known_too = absurd k.1
+part_refused at t (run.ConfigFault f) run.HistoryFull h k known known_too = absurd k.1
+part_refused at t (run.ConfigFault f) run.Held h k known known_too = absurd k.1
+part_refused at t (run.ConfigFault f) (run.ConfigFault g) h k known known_too =
+    refused_alone t.drivers (run.ConfigFault f) (run.ConfigFault g) h.1 k.1 known known_too
 
 -- ---- the filters
 
@@ -175,15 +213,30 @@ explained reading judged same_output input = one_answer explaining reading (λ t
 
 -- a replay
 pub replayed : HasOneReading transcript_grammar → HasOneReplay
-    → (input : List ℕ) (one other : Result (Unit {0} × List ℕ) MainFault)
-    → Answers replaying input one → Answers replaying input other
+    → (at : Option ℕ) (input : List ℕ) (one other : Result (Unit {0} × List ℕ) MainFault)
+    → Answers (replaying at) input one → Answers (replaying at) input other
     → HasEnoughMemory one → HasEnoughMemory other → one ≡ other
-replayed reading replay input = one_answer replaying reading (λ t. Unit {0})
+replayed reading replay at input = one_answer (replaying at) reading (λ t. Unit {0})
     (λ t fits a b x y h k. (
       refl,
-      h.written.text ∙ ap transcript_text (replay t h.replay k.replay h.replays k.replays)
-          ∙ sym k.written.text,
+      h.1.written.text
+          ∙ ap transcript_text (replay (asked_part at t) h.1.replay k.1.replay h.1.replays k.1.replays)
+          ∙ sym k.1.written.text,
     ))
+    (λ t fits r s. part_refused at t r s)
+    (λ t fits a x r h refuses. only_memory_of_part at t
+    (subst (λ (ds : List DriverSpec). IsDriverList ds) (part_drivers at t) h.1.replays.valid_drivers) h.0 r refuses)
+    input (λ version t spells. tt)
+
+-- a trace
+pub traced : HasOneReading transcript_grammar
+    → ((each : Bool) (t : Transcript) (one other : List ℕ) → IsTraceText each t one → IsTraceText each t other
+    → one ≡ other)
+    → (each : Bool) (input : List ℕ) (one other : Result (Unit {0} × List ℕ) MainFault)
+    → Answers (tracing each) input one → Answers (tracing each) input other
+    → HasEnoughMemory one → HasEnoughMemory other → one ≡ other
+traced reading determined each input = one_answer (tracing each) reading (λ t. Unit {0})
+    (λ t fits a b x y h k. (refl, determined each t x y h k))
     (λ t fits r s. refused_alone t.drivers r s)
     (λ t fits a x r h refuses. only_memory_refuses one_refusal t.drivers h.replays.valid_drivers r refuses)
     input (λ version t spells. tt)

@@ -7,6 +7,7 @@ pub mod FrontsTextLemmas
 pub mod InVersionLemmas
 pub mod ReadingLemmas
 pub mod ReplayTextLemmas
+pub mod TraceTextLemmas
 pub mod WritingFilterLemmas
 pub mod DrawTextLemmas
 pub mod ExplainTextLemmas

@@ -6,6 +6,7 @@ pub mod FrontsText
 pub mod RunText
 pub mod CheckText
 pub mod ReplayText
+pub mod TraceText
 pub mod DrawText
 pub mod ExplainText
 pub mod WorkedVerdicts

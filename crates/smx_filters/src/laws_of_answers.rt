@@ -1,6 +1,6 @@
 //! Laws of the answer to an input, each the contract of a function that does nothing.
 
-ghost use Rattle.std.specs.Prelude.{◌≡◌, ◌≤◌, ℕ, Bool, true, false, List, All, length, map, Result};
+ghost use Rattle.std.specs.Prelude.{◌≡◌, ◌≤◌, ℕ, Bool, true, false, List, All, length, map, Option, Result};
 ghost use Rattle.smx_types.specs.ProgramLists.{ProgramLists};
 ghost use Rattle.smx_types.specs.declared.transcript.Transcript.{Transcript};
 ghost use Rattle.smx_types.specs.declared.version.Version.{Version};
@@ -22,22 +22,27 @@ ghost use Rattle.smx_filters.specs.Filters.{Answers, GivesFor, HasEnoughMemory, 
 ghost use Rattle.smx_filters.specs.FrontsText.{fronts_text};
 ghost use Rattle.smx_filters.specs.ReplayText.{replaying};
 ghost use Rattle.smx_filters.specs.RunText.{IsWrittenFor, running};
+ghost use Rattle.smx_filters.specs.TraceText.{tracing};
 ghost use Rattle.smx_filters.specs.declared.main_fault.MainFault.{MainFault};
 
 use smx_config::laws_of_verdicts::{reports_are_judged_legal, there_is_one_verdict};
 use smx_explain::laws_of_explanations::a_transcript_has_one_explanation;
-use smx_trace::laws_of_replays::a_transcript_has_one_replay;
 use smx_text::laws::{one_text_has_one_reading, one_transcript_has_one_reading};
+use smx_trace::laws_of_replays::a_transcript_has_one_replay;
+use smx_trace::laws_of_traces::a_transcript_has_one_trace;
 
-/// A check, with or without an explanation, a replay, and a run on one worker each have only one answer to an input,
+/// A check, with or without an explanation, a replay, a trace, and a run on one worker each have only one answer to an input,
 /// and only one output, unless memory runs out: what succeeds is not refused, and what is refused is refused for only
 /// one fault.
 pub fn an_input_has_one_answer()
     ensures checked { (input : List ℕ) (one other : Result (Verdict × List ℕ) MainFault)
         → Answers checking input one → Answers checking input other
         → HasEnoughMemory one → HasEnoughMemory other → one ≡ other }
-    ensures replayed { (input : List ℕ) (one other : Result (Unit {0} × List ℕ) MainFault)
-        → Answers replaying input one → Answers replaying input other
+    ensures replayed { (at : Option ℕ) (input : List ℕ) (one other : Result (Unit {0} × List ℕ) MainFault)
+        → Answers (replaying at) input one → Answers (replaying at) input other
+        → HasEnoughMemory one → HasEnoughMemory other → one ≡ other }
+    ensures traced { (each : Bool) (input : List ℕ) (one other : Result (Unit {0} × List ℕ) MainFault)
+        → Answers (tracing each) input one → Answers (tracing each) input other
         → HasEnoughMemory one → HasEnoughMemory other → one ≡ other }
     ensures explained { (input : List ℕ) (one other : Result (Verdict × List ℕ) MainFault)
         → Answers explaining input one → Answers explaining input other
@@ -49,6 +54,7 @@ pub fn an_input_has_one_answer()
     there_is_one_verdict();
     a_transcript_has_one_replay();
     a_transcript_has_one_explanation();
+    a_transcript_has_one_trace();
     one_text_has_one_reading();
     one_transcript_has_one_reading();
 }

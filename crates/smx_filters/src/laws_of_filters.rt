@@ -1,6 +1,6 @@
-//! Laws of runs, checks, replays and drawings over memory, each the contract of a function that does nothing.
+//! Laws of runs, checks, replays, traces and drawings over memory, each the contract of a function that does nothing.
 
-ghost use Rattle.std.specs.Prelude.{◌≡◌, ℕ, Bool, true, false, List, [], Result, Some, Err};
+ghost use Rattle.std.specs.Prelude.{◌≡◌, ℕ, Bool, true, false, List, [], Option, Result, Some, Err};
 ghost use Rattle.smx_types.specs.ProgramLists.{ProgramLists};
 ghost use Rattle.smx_config.specs.declared.verdict.Verdict.{Verdict};
 ghost use Rattle.smx_draw.specs.declared.form.Form.{Form};
@@ -9,6 +9,7 @@ ghost use Rattle.smx_filters.specs.DrawText.{DrawsText, drawing};
 ghost use Rattle.smx_filters.specs.InMemory.{EndsInMemory, IsCutShort};
 ghost use Rattle.smx_filters.specs.ReplayText.{ReplaysText, replaying};
 ghost use Rattle.smx_filters.specs.RunText.{IsWrittenFor, RunsText, running};
+ghost use Rattle.smx_filters.specs.TraceText.{TracesText, tracing};
 ghost use Rattle.smx_filters.specs.declared.main_fault.MainFault.{MainFault};
 ghost use Rattle.smx_filters.specs.declared.main_fault.MainFault.TheVariants.{ReadFailed};
 
@@ -51,15 +52,34 @@ pub fn checks_end_in_memory()
 
 /// The same of a replay, which answers that it is done.
 pub fn replays_end_in_memory()
-    ensures ends { (input left output : List ℕ) (ended flushed : Bool) (answer : Result (Unit {0}) MainFault)
-        → ReplaysText (Some input) (Some left) ended 0 (Some []) (Some output) flushed 0 answer
-        → EndsInMemory replaying input left ended output flushed answer }
-    ensures unread { (input left output : List ℕ) (ended flushed : Bool) (answer : Result (Unit {0}) MainFault)
-        → ReplaysText (Some input) (Some left) ended 1 (Some []) (Some output) flushed 0 answer
+    ensures ends { (at : Option ℕ) (input left output : List ℕ) (ended flushed : Bool)
+        (answer : Result (Unit {0}) MainFault)
+        → ReplaysText at (Some input) (Some left) ended 0 (Some []) (Some output) flushed 0 answer
+        → EndsInMemory (replaying at) input left ended output flushed answer }
+    ensures unread { (at : Option ℕ) (input left output : List ℕ) (ended flushed : Bool)
+        (answer : Result (Unit {0}) MainFault)
+        → ReplaysText at (Some input) (Some left) ended 1 (Some []) (Some output) flushed 0 answer
         → (answer ≡ Err ReadFailed) × (output ≡ []) }
-    ensures cut_short { (input left output : List ℕ) (ended flushed : Bool) (answer : Result (Unit {0}) MainFault)
-        → ReplaysText (Some input) (Some left) ended 0 (Some []) (Some output) flushed 1 answer
-        → IsCutShort replaying input output answer }
+    ensures cut_short { (at : Option ℕ) (input left output : List ℕ) (ended flushed : Bool)
+        (answer : Result (Unit {0}) MainFault)
+        → ReplaysText at (Some input) (Some left) ended 0 (Some []) (Some output) flushed 1 answer
+        → IsCutShort (replaying at) input output answer }
+{}
+
+/// The same of a trace, which answers that it is done.
+pub fn traces_end_in_memory()
+    ensures ends { (each : Bool) (input left output : List ℕ) (ended flushed : Bool)
+        (answer : Result (Unit {0}) MainFault)
+        → TracesText each (Some input) (Some left) ended 0 (Some []) (Some output) flushed 0 answer
+        → EndsInMemory (tracing each) input left ended output flushed answer }
+    ensures unread { (each : Bool) (input left output : List ℕ) (ended flushed : Bool)
+        (answer : Result (Unit {0}) MainFault)
+        → TracesText each (Some input) (Some left) ended 1 (Some []) (Some output) flushed 0 answer
+        → (answer ≡ Err ReadFailed) × (output ≡ []) }
+    ensures cut_short { (each : Bool) (input left output : List ℕ) (ended flushed : Bool)
+        (answer : Result (Unit {0}) MainFault)
+        → TracesText each (Some input) (Some left) ended 0 (Some []) (Some output) flushed 1 answer
+        → IsCutShort (tracing each) input output answer }
 {}
 
 /// The same of a drawing, which answers that it is done.

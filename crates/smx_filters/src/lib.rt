@@ -1,4 +1,4 @@
-//! Filters, from bytes to bytes: a run of programs, and a check, a replay or a drawing of a transcript.
+//! Filters, from bytes to bytes: a run of programs, and a check, a replay, a trace or a drawing of a transcript.
 #![tactic(auto)]
 
 mod check;
@@ -18,6 +18,7 @@ mod output;
 mod refusal;
 mod replay;
 mod run;
+mod trace;
 
 pub use check::check_text;
 pub use device::{Failed, Feed, Sink, Source, Target};
@@ -30,3 +31,4 @@ pub use output::write_all;
 pub use refusal::Refusal;
 pub use replay::replay_text;
 pub use run::run_text;
+pub use trace::trace_text;

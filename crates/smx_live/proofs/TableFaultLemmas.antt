@@ -75,6 +75,7 @@ fault_of_drivers drivers run.NoMemory had other = absurd (other refl)
 fault_of_drivers drivers (run.Strange process) never other = absurd never
 fault_of_drivers drivers run.HistoryFull never other = absurd never
 fault_of_drivers drivers run.Held never other = absurd never
+fault_of_drivers drivers (run.FewEntries count) never other = absurd never
 
 -- the drivers of a table are refused for one fault, if it is not out-of-memory
 pub one_refusal : HasOneReading → HaveOneFault → (read output : List ℕ) (ended flushed : Bool) (reads writes : ℕ)

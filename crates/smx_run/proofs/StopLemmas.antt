@@ -96,6 +96,7 @@ alone_refuses drivers (run.Strange p) h = h
 alone_refuses drivers (run.ConfigFault f) h = h
 alone_refuses drivers run.HistoryFull h = absurd h
 alone_refuses drivers run.Held h = absurd h
+alone_refuses drivers (run.FewEntries count) h = absurd h
 
 -- a system without a history is sound
 pub sound_at_first : (s : Recorded) → s.history ≡ [] → s.limit ≡ MAX_COMMANDS → IsDriverList s.drivers

@@ -19,6 +19,7 @@ run_fault_words (run.Strange process) = strange_words process
 run_fault_words (run.ConfigFault fault) = config_fault_words fault
 run_fault_words run.HistoryFull = codes "history full"
 run_fault_words run.Held = codes "turn held"
+run_fault_words (run.FewEntries count) = codes "the transcript has " ++ decimal count ++ codes " entries"
 
 -- why no report was made
 abbrev pub gather_fault_words : GatherFault → List ℕ

@@ -19,6 +19,8 @@ pub enum RunFault {
     HistoryFull,
     /// A worker never gave the turn back. By the same law, no run is refused for this.
     Held,
+    /// A transcript has this number of entries, fewer than were asked for. No run is refused for this.
+    FewEntries(usize),
 }
 
 /// Why no report was made of a system and the transcripts of its callers.
@@ -108,6 +110,7 @@ impl fmt::Display for RunFault {
             RunFault::ConfigFault(fault) => write!(f, "{fault}"),
             RunFault::HistoryFull => f.write_str("history full"),
             RunFault::Held => f.write_str("turn held"),
+            RunFault::FewEntries(count) => write!(f, "the transcript has {count} entries"),
         }
     }
 }

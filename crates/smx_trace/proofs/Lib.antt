@@ -1,3 +1,11 @@
 pub mod ReplayLemmas
 pub mod QuietLemmas
 pub mod MissingLemmas
+pub mod SerialLemmas
+pub mod RankLemmas
+pub mod ChangeLemmas
+pub mod QueueLemmas
+pub mod TraceLemmas
+pub mod PrefixLemmas
+pub mod WaitLemmas
+pub mod LawLemmas

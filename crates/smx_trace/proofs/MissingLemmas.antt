@@ -1,13 +1,13 @@
 -- The merge of two lists that rise finds the elements of one that the other doesn't have.
 use Rattle.std.proofs.Common.{◌≡◌, ◌≢◌, ℕ, ◌+◌, ◌<◌, Bool, true, false, not, List, [], ◌∷◌, ◌++◌, Some, length, get_or}
-use Rattle.std.proofs.Common.{suc, take, drop, drop-cons, add-one, refl, sym, ap, ◌∙◌, subst, arith, append_assoc, inl, inr}
+use Rattle.std.proofs.Common.{take, drop, refl, sym, ap, ◌∙◌, subst, arith, append_assoc, inl, inr}
 use Rattle.std.specs.Bool.{Decides}
 use Rattle.std.specs.List.{AllByRecursion, filter, flat_map, list_any}
 use Rattle.std.specs.Prelude.{slice_get}
 use Rattle.std.proofs.lemmas.Bool.{cases_Bool, false_from_ne_true, or_from}
 use Rattle.std.proofs.lemmas.Bool.Decides.{nat_tests}
 use Rattle.std.proofs.lemmas.Grind.{flat_map-append}
-use Rattle.std.proofs.lemmas.List.{append-nil, take-drop, take_more}
+use Rattle.std.proofs.lemmas.List.{append-nil, drop_more, take-append-drop, take_more}
 use Rattle.std.proofs.lemmas.List.Elements.{filter-append}
 use Rattle.std.proofs.lemmas.List.Folds.{list_any-append}
 use Rattle.smx_model.specs.Changes.{missing_from}
@@ -99,7 +99,7 @@ module _ {X : Type 0} (rank : X → ℕ × ℕ) where
               subst (λ w. is_before rank y w ≡ true) (sym ((tells x z).0 t)) h.0 in cc)) (rest zs h.1)
 
     -- two lists of elements that come before the first of two, as one
-    joined : (ys xs others rest : List X) (x : X) → ComesTo rank ys (x ∷ xs) others
+    abbrev joined : (ys xs others rest : List X) (x : X) → ComesTo rank ys (x ∷ xs) others
         → ComesTo rank others (x ∷ []) rest → AllByRecursion (λ z. is_before rank x z ≡ true) xs
         → ComesTo rank ys xs rest
     joined ys xs others rest x h k later = record {
@@ -109,8 +109,8 @@ module _ {X : Type 0} (rank : X → ℕ × ℕ) where
     }
 
     -- what comes before x, and x
-    passed_all : (ys xs others rest : List X) (x : X) → ComesTo rank ys (x ∷ xs) others
-        → ComesTo rank others (x ∷ []) rest → AreBefore rank x (h.passed ++ k.passed)
+    passed_all : (ys xs others rest : List X) (x : X) (h : ComesTo rank ys (x ∷ xs) others)
+        (k : ComesTo rank others (x ∷ []) rest) → AreBefore rank x (h.passed ++ k.passed)
     passed_all ys xs others rest x h k = before_append x h.passed k.passed h.before.0 k.before.0
 
     -- the same, and x itself
@@ -172,15 +172,17 @@ module _ {X : Type 0} (rank : X → ℕ × ℕ) where
         drop_more lines i x lt ∙ ap (λ z. z ∷ drop (i + 1) lines) (sym is) in
         let left : IsRanked rank (x ∷ drop (i + 1) lines) =
         subst (λ (zs : List X). IsRanked rank zs) one (rising_end (take i lines) (drop i lines)
-        (subst (λ (zs : List X). IsRanked rank zs) (sym (take-drop i lines)) rise)) in
+        (subst (λ (zs : List X). IsRanked rank zs) (sym (take-append-drop i lines)) rise)) in
         let s = steps ys (drop (i + 1) lines) ranked left.0
         (subst (λ (zs : List X). ComesTo rank ys zs rest) one merged) in
         let Kept : X → Bool = λ z. not (list_any (same z) ys) in
         let more_taken : take (i + 1) lines ≡ take i lines ++ x ∷ [] =
-        take_more lines i x lt ∙ ap (λ z. take i lines ++ z ∷ []) (sym is) in
-        (s.0, s.1 ∙ ap (λ (w : List ℕ). w ++ flat_map text (filter Kept (x ∷ []))) written
-        ∙ append_assoc start _ _
-        ∙ ap (λ (w : List ℕ). start ++ w) (sym (flat_map-append text (filter Kept (take i lines)) (filter Kept (x ∷ []))))
-        ∙ ap (λ (zs : List X). start ++ flat_map text zs)
-        (sym (filter-append Kept (take i lines) (x ∷ [])))
-        ∙ ap (λ (zs : List X). start ++ flat_map text (filter Kept zs)) (sym more_taken))
+        take_more lines i x lt ∙ ap (λ z. take i lines ++ z ∷ []) (sym is) in (
+          s.0,
+          s.1 ∙ ap (λ (w : List ℕ). w ++ flat_map text (filter Kept (x ∷ []))) written
+              ∙ append_assoc start _ _
+              ∙ ap (λ (w : List ℕ). start ++ w) (sym (flat_map-append text (filter Kept (take i lines)) (filter Kept (x ∷ []))))
+              ∙ ap (λ (zs : List X). start ++ flat_map text zs)
+              (sym (filter-append Kept (take i lines) (x ∷ [])))
+              ∙ ap (λ (zs : List X). start ++ flat_map text (filter Kept zs)) (sym more_taken),
+        )

@@ -43,13 +43,13 @@ calls_from drivers c (e ∷ es) =
     (calls_from drivers (step drivers c e.process e.command).0 es)
 
 -- the entries of a replay lead to the same configuration as the replayed ones, whatever their replies
-led_from : (drivers : List DriverSpec) (c : Configuration) (es : List Entry)
+pub led_from : (drivers : List DriverSpec) (c : Configuration) (es : List Entry)
     → after_from drivers c (answers_from drivers c es) ≡ after_from drivers c es
 led_from drivers c [] = refl
 led_from drivers c (e ∷ es) = led_from drivers (step drivers c e.process e.command).0 es
 
 -- one more entry is answered by the configuration after the earlier ones
-more_from : (drivers : List DriverSpec) (c : Configuration) (es : List Entry) (e : Entry)
+pub more_from : (drivers : List DriverSpec) (c : Configuration) (es : List Entry) (e : Entry)
     → answers_from drivers c (es ++ e ∷ []) ≡ answers_from drivers c es ++ answered drivers (after_from drivers c es) e
     ∷ []
 more_from drivers c [] e = refl

@@ -1,7 +1,12 @@
 pub mod Answers
 pub mod Replays
 pub mod WorkedReplays
-pub mod ShownViews
 pub mod TraceWords
+pub mod Traces
+pub mod Prefixes
+pub mod ShownViews
 pub mod Ranks
 pub mod Missing
+pub mod Serials
+pub mod Queues
+pub mod Tracing

@@ -1,17 +1,19 @@
 //! Laws of replays, each the contract of a function that does nothing.
 
-ghost use Rattle.std.specs.Prelude.{◌≡◌, map};
+ghost use Rattle.std.specs.Prelude.{◌≡◌, ℕ, map, take};
 ghost use Rattle.smx_types.specs.declared.transcript.Transcript.{Transcript};
 ghost use Rattle.smx_model.specs.DriverList.{IsDriverList};
-ghost use Rattle.smx_model.specs.Histories.{call_of};
+ghost use Rattle.smx_model.specs.Histories.{after, call_of};
 ghost use Rattle.smx_model.specs.LawfulHistories.{AreDropsAllowed, IsLawfulThroughout};
+ghost use Rattle.smx_model.specs.Views.{view};
 ghost use Rattle.smx_config.specs.Verdicts.{IsVerdict};
 ghost use Rattle.smx_config.specs.declared.verdict.Verdict.TheVariants.{Legal};
+ghost use Rattle.smx_trace.specs.Prefixes.{first_entries};
 ghost use Rattle.smx_trace.specs.Replays.{IsReplayOf};
 ghost use Rattle.smx_trace.specs.WorkedReplays.{claimed, exchanged, left_out, put_right};
 ghost use Rattle.smx_text.specs.TranscriptText.{IsAllowed, IsSpellable};
 
-use smx_model::laws::{histories_are_determined, lawful_after_each_entry};
+use smx_model::laws::{histories_are_determined, lawful_after_each_entry, prefixes_are_legal};
 use smx_model::laws_of_hangups::without_a_hangup_none_is_reported;
 use smx_model::laws_of_messages::few_commands_drop;
 
@@ -48,6 +50,22 @@ pub fn replays_can_be_expressed()
     ensures { (t r : Transcript) → IsAllowed t.version t → IsReplayOf t r → IsSpellable r → IsAllowed r.version r }
 {
     without_a_hangup_none_is_reported();
+}
+
+/// The first entries of a transcript that is within the limits of its version are within them too.
+pub fn first_entries_are_allowed()
+    ensures { (count : ℕ) (t : Transcript) → IsAllowed t.version t → IsAllowed t.version (first_entries count t) }
+{}
+
+/// The replay of the first entries of a transcript has the first entries of its replay, and the view after them.
+pub fn the_first_entries_are_those_of_the_replay()
+    ensures entries { (count : ℕ) (t r s : Transcript) → IsReplayOf t r → IsReplayOf (first_entries count t) s
+        → s.entries ≡ take count r.entries }
+    ensures shown { (count : ℕ) (t r s : Transcript) → IsReplayOf t r → IsReplayOf (first_entries count t) s
+        → s.view ≡ view t.drivers (after t.drivers (take count r.entries)) }
+{
+    histories_are_determined();
+    prefixes_are_legal();
 }
 
 /// The replay of the worked history corrects it from its second entry on, which is illegal. The history is not its

@@ -1,10 +1,23 @@
-//! The replay of a transcript: its commands are performed in its order, whatever replies it had.
+//! The replay of a transcript, and its trace: its commands are performed in its order, whatever replies it had.
 #![tactic(auto)]
 
+mod changes;
+mod configurations;
 pub mod laws_of_replays;
+pub mod laws_of_traces;
+pub mod laws_of_waits;
 mod missing;
+mod moves;
 mod pieces;
+mod prefix;
+mod queues;
 mod ranks;
+mod reasons;
 mod replaying;
+mod tracing;
 
+pub use changes::write_changes;
+pub use prefix::first_entries;
+pub use queues::write_waits;
 pub use replaying::replay;
+pub use tracing::trace;

@@ -41,8 +41,8 @@ fn lines_after<'a, T: Same>(lines: &'a [T], line: &T) -> Option<&'a [T]>
     }
 }
 
-// Appends the line after a mark. Fails only if out of memory.
-fn write_marked<T: Spell>(out: &mut Vec<u8>, mark: &[u8], line: &T) -> Result<(), NoMemory>
+/// Appends the line after a mark. Fails only if out of memory.
+pub fn write_marked<T: Spell>(out: &mut Vec<u8>, mark: &[u8], line: &T) -> Result<(), NoMemory>
     ensures { OnOk result (out.new.items ≡ out.old.items ++ marked mark.now (T.words line.now)) }
 {
     put(out, mark)?;

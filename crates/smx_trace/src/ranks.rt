@@ -90,7 +90,10 @@ impl Ranked for FullLine {
             Side::Write => 0,
             Side::Read => 1,
         };
-        (number_of(drivers, &self.driver), 2 * u64::from(self.minor) + side)
+        (
+            number_of(drivers, &self.driver),
+            2 * u64::from(self.minor) + side,
+        )
     }
 }
 

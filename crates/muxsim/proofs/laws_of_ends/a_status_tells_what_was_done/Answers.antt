@@ -1,4 +1,5 @@
 use Rattle.muxsim.proofs.EndLemmas.{draw_done, judged_legal, judged_otherwise, live_done, replay_done, run_done}
+use Rattle.muxsim.proofs.EndLemmas.{trace_done}
 use Rattle.muxsim.proofs.laws_of_ends.a_status_tells_what_was_done.Goals as goal
 
 pub returns-clause-run : goal.returns-clause-run
@@ -6,6 +7,9 @@ returns-clause-run c = run_done
 
 pub returns-clause-replay : goal.returns-clause-replay
 returns-clause-replay c = replay_done
+
+pub returns-clause-trace : goal.returns-clause-trace
+returns-clause-trace c = trace_done
 
 pub returns-clause-draw : goal.returns-clause-draw
 returns-clause-draw c = draw_done

@@ -8,15 +8,15 @@ use Rattle.smx_filters.specs.ReplayText.{replaying}
 pub returns-in_err-output : goal.returns-in_err-output
 returns-in_err-output g c =
     let input = c.in_ok-input.ensures in
-    passed_on replaying _ _ _ _ _ _ _ c.in_ok-input.input input.0 input.1 c.requires.sunk c.in_err-output.field-0.0 _
+    passed_on (replaying c.args.at) _ _ _ _ _ _ _ c.in_ok-input.input input.0 input.1 c.requires.sunk c.in_err-output.field-0.0 _
     c.from_residual-in_err-output.ensures.1 c.in_err-output.ensures
 
 pub returns : goal.returns
 returns g c =
     let input = c.in_ok-input.ensures in
     let wrote = c.write_all.ensures in
-    let given = subst (λ output. GivesFor replaying c.in_ok-input.input.items tt output)
+    let given = subst (λ output. GivesFor (replaying c.args.at) c.in_ok-input.input.items tt output)
     (sym c.as_slice.ensures.value) c.in_ok-output.ensures in
-    written_out replaying _ _ _ _ _ _ _ _ c.in_ok-input.input input.0 input.1 c.as_slice.result.now given
+    written_out (replaying c.args.at) _ _ _ _ _ _ _ _ c.in_ok-input.input input.0 input.1 c.as_slice.result.now given
     c.write_all.result
     wrote.written wrote.flushed wrote.fine wrote.beginning wrote.fault wrote.failed

@@ -5,7 +5,7 @@ use Rattle.smx_trace.proofs.missing.write_missing.Goals as goal
 
 pub loop-line-preserved : goal.loop-line-preserved
 loop-line-preserved g c =
-    let on = step_on (g.T.Ranked.rank c.args.drivers.now) g.T.PartialEq.eq g.T.Same.tells
+    let on = step_on (g.T.Ranked.rank c.args.drivers.now) g.T.PartialEq.eq g.met.T.Same.tells
     (λ line. marked c.args.mark.now (g.T.Spell.words line)) c.args.lines.now c.args.others.now
     c.loop-line.rest.now c.in_ok-rest.rest.now c.loop-line.line-index c.line-item.result
     c.args.out.now.items c.loop-line.out.items c.write_if_missing.new.out.items

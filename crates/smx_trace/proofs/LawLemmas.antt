@@ -1,0 +1,249 @@
+-- Laws of traces.
+use Rattle.std.proofs.Common.{rules, ◌≡◌, Bool, true, not, List, [], ◌∷◌, ◌++◌, ℕ, map, refl, sym, ap, ◌∙◌, subst}
+use Rattle.std.proofs.Common.{append_assoc, arith, false, inl, inr, Some, None, Option}
+use Rattle.std.specs.Bool.{Decides}
+use Rattle.std.specs.List.{filter, filter_map, list_any}
+use Rattle.std.specs.Prelude.{if◌then◌else◌}
+use Rattle.std.proofs.lemmas.Bool.{cases_Bool}
+use Rattle.std.proofs.lemmas.Bool.Decides.{nat_tests}
+use Rattle.std.proofs.lemmas.List.Elements.{filter_map-append}
+use Rattle.smx_types.specs.contracts.view.BindingLinePartialEq.TheImpl as of_bind
+use Rattle.smx_types.specs.contracts.view.DescriptorLinePartialEq.TheImpl as of_fd
+use Rattle.smx_types.specs.contracts.view.FullLinePartialEq.TheImpl as of_full
+use Rattle.smx_types.specs.contracts.view.HungLinePartialEq.TheImpl as of_hung
+use Rattle.smx_types.specs.contracts.view.LinkLinePartialEq.TheImpl as of_link
+use Rattle.smx_types.specs.contracts.view.RouteLinePartialEq.TheImpl as of_route
+use Rattle.smx_types.specs.declared.command.Entry.{Entry}
+use Rattle.smx_types.specs.declared.driver.DriverSpec.{DriverSpec}
+use Rattle.smx_types.specs.declared.transcript.Transcript.{Transcript}
+use Rattle.smx_types.specs.declared.view.BindingLine.{BindingLine}
+use Rattle.smx_types.specs.declared.view.ConfigView.{ConfigView}
+use Rattle.smx_types.specs.declared.view.DescriptorLine.{DescriptorLine}
+use Rattle.smx_types.specs.declared.view.FullLine.{FullLine}
+use Rattle.smx_types.specs.declared.view.HungLine.{HungLine}
+use Rattle.smx_types.specs.declared.view.LinkLine.{LinkLine}
+use Rattle.smx_types.specs.declared.view.MessageLine.{MessageLine}
+use Rattle.smx_types.specs.declared.view.RouteLine.{RouteLine}
+use Rattle.smx_model.specs.Changes.{Change, ViewLine, changes, group_changes, message_changes, missing_from, same_serial}
+use Rattle.smx_model.specs.Changes as change
+use Rattle.smx_model.specs.Commands.{step}
+use Rattle.smx_model.specs.Configuration.{Configuration, QueuedMessage, empty, is_at}
+use Rattle.smx_model.specs.Histories.{after, after_from}
+use Rattle.smx_model.specs.Views.{view, view_of_bind, view_of_fd, view_of_full, view_of_hung, view_of_link, view_of_message}
+use Rattle.smx_model.specs.Views.{view_of_route}
+use Rattle.smx_model.specs.Waits.{Wait, wait_at, waits}
+use Rattle.smx_text.specs.TranscriptLines.{TranscriptLine}
+use Rattle.smx_text.specs.TranscriptLines as line
+use Rattle.smx_text.specs.TranscriptText.{body, view_body}
+use Rattle.smx_trace.specs.Replays.{IsReplayOf}
+use Rattle.smx_trace.specs.Serials.{same_line}
+use Rattle.smx_trace.specs.Traces.{IsTraceText, TraceLine, config_lines, entry_lines_from, lines_below, plain_lines}
+use Rattle.smx_trace.specs.Traces.{queue_lines, trace_lines, trace_text, wait_line}
+use Rattle.smx_trace.specs.Traces as trace
+
+-- a transcript has one trace
+pub one_trace : ((t r s : Transcript) → IsReplayOf t r → IsReplayOf t s → r ≡ s) → (each : Bool) (t : Transcript)
+    (one other : List ℕ) → IsTraceText each t one → IsTraceText each t other → one ≡ other
+one_trace determined each t one other h k =
+    h.written ∙ ap (trace_text each) (determined t h.replay k.replay h.replays k.replays) ∙ sym k.written
+
+-- ---- equal views
+
+module _ {X : Type 0} (same : X → X → Bool) (itself : (x : X) → same x x ≡ true) where
+  -- an element is among others and itself
+  among : (ps more : List X) (x : X) → list_any (same x) (ps ++ x ∷ more) ≡ true
+  among [] more x = rw (itself x) refl
+  among (p ∷ ps) more x = elim (cases_Bool (same x p)) [ inl t ↦ rw t refl | inr f ↦ rw f (among ps more x) ]
+
+  -- the end of a list has no element that the list lacks
+  none_of_end : (ps xs ys : List X) → ys ≡ ps ++ xs → missing_from same xs ys ≡ []
+  none_of_end ps [] ys e = refl
+  none_of_end ps (x ∷ xs) ys e =
+      let there : list_any (same x) ys ≡ true = ap (list_any (same x)) e ∙ among ps xs x in
+      rw there (none_of_end (ps ++ x ∷ []) xs ys (e ∙ sym (append_assoc ps (x ∷ []) xs)))
+
+  -- a list lacks none of its elements
+  pub none_missing : (xs : List X) → missing_from same xs xs ≡ []
+  none_missing xs = none_of_end [] xs xs refl
+
+  -- a group has no changes to itself
+  no_group_changes : (one : X → ViewLine) (xs : List X) → group_changes same one xs xs ≡ []
+  no_group_changes one xs = rw (none_missing xs) refl
+
+-- equal views have no changes
+pub no_changes : (v : ConfigView) → changes v v ≡ []
+no_changes v = rw (
+  no_group_changes of_fd.ghosts.eq fds change.Fd v.fds,
+  no_group_changes of_link.ghosts.eq links change.Link v.links,
+  no_group_changes of_bind.ghosts.eq binds change.Bind v.binds,
+  no_group_changes of_route.ghosts.eq routes change.Route v.routes,
+  none_missing same_serial serials v.msgs,
+  none_missing same_line msgs v.msgs,
+  no_group_changes of_full.ghosts.eq fulls change.Full v.fulls,
+  no_group_changes of_hung.ghosts.eq hungs change.Hung v.hungs,
+) refl where
+  fds : (x : DescriptorLine) → of_fd.ghosts.eq x x ≡ true
+  fds x = let tells : Decides (of_fd.ghosts.eq x x) (x ≡ x) = search rules in tells.1 refl
+
+  links : (x : LinkLine) → of_link.ghosts.eq x x ≡ true
+  links x = let tells : Decides (of_link.ghosts.eq x x) (x ≡ x) = search rules in tells.1 refl
+
+  binds : (x : BindingLine) → of_bind.ghosts.eq x x ≡ true
+  binds x = let tells : Decides (of_bind.ghosts.eq x x) (x ≡ x) = search rules in tells.1 refl
+
+  routes : (x : RouteLine) → of_route.ghosts.eq x x ≡ true
+  routes x = let tells : Decides (of_route.ghosts.eq x x) (x ≡ x) = search rules in tells.1 refl
+
+  fulls : (x : FullLine) → of_full.ghosts.eq x x ≡ true
+  fulls x = let tells : Decides (of_full.ghosts.eq x x) (x ≡ x) = search rules in tells.1 refl
+
+  hungs : (x : HungLine) → of_hung.ghosts.eq x x ≡ true
+  hungs x = let tells : Decides (of_hung.ghosts.eq x x) (x ≡ x) = search rules in tells.1 refl
+
+  msgs : (x : MessageLine) → same_line x x ≡ true
+  msgs x = let tells : Decides (same_line x x) (x ≡ x) = search rules in tells.1 refl
+
+  serials : (x : MessageLine) → same_serial x x ≡ true
+  serials x = grind (arith, nat_tests)
+
+-- ---- below each entry
+
+-- the lines of entries in two parts
+pub below_each : (each : Bool) (drivers : List DriverSpec) (c : Configuration) (before : List Entry) (e : Entry)
+    (more : List Entry)
+    → entry_lines_from each drivers c (before ++ e ∷ more)
+    ≡ entry_lines_from each drivers c before ++ (trace.Plain (line.Entry e)
+    ∷ lines_below each drivers (after_from drivers c before) (after_from drivers c (before ++ e ∷ []))
+    ++ entry_lines_from each drivers (after_from drivers c (before ++ e ∷ [])) more)
+below_each each drivers c [] e more = refl
+below_each each drivers c (d ∷ before) e more =
+    let next : Configuration = (step drivers c d.process d.command).0 in
+    ap (λ (ls : List TraceLine). trace.Plain (line.Entry d) ∷ ls)
+    (ap (λ (ls : List TraceLine). lines_below each drivers c next ++ ls) (below_each each drivers next before e more)
+    ∙ sym (append_assoc (lines_below each drivers c next) (entry_lines_from each drivers next before) _))
+
+-- ---- without the lines that are two spaces in
+
+-- the plain lines of two parts
+plain_append : (xs ys : List TraceLine) → plain_lines (xs ++ ys) ≡ plain_lines xs ++ plain_lines ys
+plain_append xs ys = filter_map-append _ xs ys
+
+-- lines of a transcript are plain
+all_plain : {X : Type 0} (f : X → TranscriptLine) (xs : List X) → plain_lines (map (λ x. trace.Plain (f x)) xs) ≡ map f xs
+all_plain f [] = refl
+all_plain f (x ∷ xs) = ap (λ (ls : List TranscriptLine). f x ∷ ls) (all_plain f xs)
+
+-- changes are not plain
+no_plain_change : (cs : List Change) → plain_lines (map trace.Changed cs) ≡ []
+no_plain_change [] = refl
+no_plain_change (c ∷ cs) = no_plain_change cs
+
+-- waits are not plain
+no_plain_wait : (ws : List Wait) → plain_lines (map trace.Waits ws) ≡ []
+no_plain_wait [] = refl
+no_plain_wait (w ∷ ws) = no_plain_wait ws
+
+-- nothing below an entry is plain
+nothing_below : (each : Bool) (drivers : List DriverSpec) (c d : Configuration)
+    → plain_lines (lines_below each drivers c d) ≡ []
+nothing_below true drivers c d =
+    plain_append (map trace.Changed (changes (view drivers c) (view drivers d))) (map trace.Waits (waits drivers d))
+    ∙ rw (no_plain_change (changes (view drivers c) (view drivers d))) (no_plain_wait (waits drivers d))
+nothing_below false drivers c d = plain_append (map trace.Changed (changes (view drivers c) (view drivers d))) []
+    ∙ rw (no_plain_change (changes (view drivers c) (view drivers d))) refl
+
+-- the plain lines of entries
+plain_entries : (each : Bool) (drivers : List DriverSpec) (c : Configuration) (es : List Entry)
+    → plain_lines (entry_lines_from each drivers c es) ≡ map line.Entry es
+plain_entries each drivers c [] = refl
+plain_entries each drivers c (e ∷ es) =
+    let d : Configuration = (step drivers c e.process e.command).0 in
+    ap (λ (ls : List TranscriptLine). line.Entry e ∷ ls)
+    (plain_append (lines_below each drivers c d) (entry_lines_from each drivers d es)
+    ∙ rw (nothing_below each drivers c d) (plain_entries each drivers d es))
+
+-- the wait of a place is not plain
+no_plain_wait_line : (drivers : List DriverSpec) (c : Configuration) (h : QueuedMessage) (hs : List QueuedMessage)
+    → plain_lines (if list_any (is_at h.place) hs then [] else wait_line drivers c h.place) ≡ []
+no_plain_wait_line drivers c h hs = by_any (list_any (is_at h.place) hs) where
+  by_wait : (o : Option Wait) → plain_lines (elim o [ None ↦ [] | Some w ↦ trace.Waits w ∷ [] ]) ≡ []
+  by_wait None = refl
+  by_wait (Some w) = refl
+
+  by_any : (b : Bool) → plain_lines (if b then [] else wait_line drivers c h.place) ≡ []
+  by_any true = refl
+  by_any false = by_wait (wait_at drivers c h.place)
+
+-- the plain lines of queues
+plain_queues : (drivers : List DriverSpec) (c : Configuration) (hs : List QueuedMessage)
+    → plain_lines (queue_lines drivers c hs) ≡ map line.Msg (map (view_of_message drivers) hs)
+plain_queues drivers c [] = refl
+plain_queues drivers c (h ∷ hs) =
+    ap (λ (ls : List TranscriptLine). line.Msg (view_of_message drivers h) ∷ ls)
+    (plain_append (if list_any (is_at h.place) hs then [] else wait_line drivers c h.place) (queue_lines drivers c hs)
+    ∙ rw (no_plain_wait_line drivers c h hs) (plain_queues drivers c hs))
+
+-- the plain lines of a group
+plain_group : {X Y : Type 0} (one : Y → TranscriptLine) (shown : X → Y) (xs : List X)
+    → plain_lines (map (λ x. trace.Plain (one (shown x))) xs) ≡ map one (map shown xs)
+plain_group one shown [] = refl
+plain_group one shown (x ∷ xs) = ap (λ (ls : List TranscriptLine). one (shown x) ∷ ls) (plain_group one shown xs)
+
+-- two parts whose plain lines are known
+both : (xs ys : List TraceLine) (a b : List TranscriptLine) → plain_lines xs ≡ a → plain_lines ys ≡ b
+    → plain_lines (xs ++ ys) ≡ a ++ b
+both xs ys a b h k = plain_append xs ys ∙ ap (λ (ls : List TranscriptLine). ls ++ plain_lines ys) h
+    ∙ ap (λ (ls : List TranscriptLine). a ++ ls) k
+
+-- the plain lines of a configuration
+plain_config : (drivers : List DriverSpec) (c : Configuration)
+    → plain_lines (config_lines drivers c) ≡ line.Config ∷ view_body (view drivers c)
+plain_config drivers c =
+    let Fds : List TraceLine = map (λ d. trace.Plain (line.Fd (view_of_fd drivers d))) c.fds in
+    let Links : List TraceLine = map (λ l. trace.Plain (line.Link (view_of_link drivers l))) c.links in
+    let Binds : List TraceLine = map (λ b. trace.Plain (line.Bind (view_of_bind drivers b))) c.binds in
+    let Routes : List TraceLine = map (λ r. trace.Plain (line.Route (view_of_route drivers r))) c.routes in
+    let Queues : List TraceLine = queue_lines drivers c c.flow in
+    let Fulls : List TraceLine = map (λ p. trace.Plain (line.Full (view_of_full drivers p))) c.fulls in
+    let Hungs : List TraceLine = map (λ s. trace.Plain (line.Hung (view_of_hung drivers s))) c.hungs in
+    let v : ConfigView = view drivers c in
+    let s6 = both Fulls Hungs (map line.Full v.fulls) (map line.Hung v.hungs)
+    (plain_group line.Full (view_of_full drivers) c.fulls) (plain_group line.Hung (view_of_hung drivers) c.hungs) in
+    let s5 = both Queues (Fulls ++ Hungs) (map line.Msg v.msgs) (map line.Full v.fulls ++ map line.Hung v.hungs)
+    (plain_queues drivers c c.flow) s6 in
+    let s4 = both Routes (Queues ++ (Fulls ++ Hungs)) (map line.Route v.routes)
+    (map line.Msg v.msgs ++ (map line.Full v.fulls ++ map line.Hung v.hungs))
+    (plain_group line.Route (view_of_route drivers) c.routes) s5 in
+    let s3 = both Binds (Routes ++ (Queues ++ (Fulls ++ Hungs))) (map line.Bind v.binds)
+    (map line.Route v.routes ++ (map line.Msg v.msgs ++ (map line.Full v.fulls ++ map line.Hung v.hungs)))
+    (plain_group line.Bind (view_of_bind drivers) c.binds) s4 in
+    let s2 = both Links (Binds ++ (Routes ++ (Queues ++ (Fulls ++ Hungs)))) (map line.Link v.links)
+    (map line.Bind v.binds ++ (map line.Route v.routes ++ (map line.Msg v.msgs ++ (map line.Full v.fulls ++ map line.Hung v.hungs))))
+    (plain_group line.Link (view_of_link drivers) c.links) s3 in
+    let s1 = both Fds (Links ++ (Binds ++ (Routes ++ (Queues ++ (Fulls ++ Hungs))))) (map line.Fd v.fds)
+    (map line.Link v.links ++ (map line.Bind v.binds ++ (map line.Route v.routes
+    ++ (map line.Msg v.msgs ++ (map line.Full v.fulls ++ map line.Hung v.hungs)))))
+    (plain_group line.Fd (view_of_fd drivers) c.fds) s2 in
+    ap (λ (ls : List TranscriptLine). line.Config ∷ line.Next c.next_id c.next_serial ∷ ls) s1
+
+-- without the lines that are two spaces in, a trace has the lines of the transcript of the replay
+pub transcript_lines : (each : Bool) (t r : Transcript) → IsReplayOf t r
+    → plain_lines (trace_lines each r.drivers r.entries) ≡ body r ++ line.End ∷ []
+transcript_lines each t r h =
+    let shown : view r.drivers (after r.drivers r.entries) ≡ r.view =
+    ap (λ (ds : List DriverSpec). view ds (after ds r.entries)) h.drivers ∙ sym h.shown in
+    let Drivers : List TranscriptLine = map line.Driver r.drivers in
+    let Entries : List TranscriptLine = map line.Entry r.entries in
+    let Driving : List TraceLine = map (λ d. trace.Plain (line.Driver d)) r.drivers in
+    let Entering : List TraceLine = entry_lines_from each r.drivers empty r.entries in
+    let Config : List TraceLine = config_lines r.drivers (after r.drivers r.entries) in
+    let Last : List TraceLine = trace.Plain line.End ∷ [] in
+    both Driving (Entering ++ (Config ++ Last)) Drivers (Entries ++ ((line.Config ∷ view_body r.view) ++ line.End ∷ []))
+    (all_plain line.Driver r.drivers)
+    (both Entering (Config ++ Last) Entries ((line.Config ∷ view_body r.view) ++ line.End ∷ [])
+    (plain_entries each r.drivers empty r.entries)
+    (both Config Last (line.Config ∷ view_body r.view) (line.End ∷ [])
+    (plain_config r.drivers (after r.drivers r.entries)
+    ∙ ap (λ (v : ConfigView). line.Config ∷ view_body v) shown) refl))
+    ∙ ap (λ (ls : List TranscriptLine). Drivers ++ ls) (sym (append_assoc Entries (line.Config ∷ view_body r.view) (line.End ∷ [])))
+    ∙ sym (append_assoc Drivers (Entries ++ line.Config ∷ view_body r.view) (line.End ∷ []))

@@ -1,0 +1,259 @@
+-- A trace that is being written.
+use Rattle.std.proofs.Common.{◌≡◌, ℕ, Bool, true, false, List, [], ◌∷◌, ◌++◌, map, refl, sym, ap, ◌∙◌, subst, append_assoc}
+use Rattle.std.specs.Prelude.{if◌then◌else◌, codes}
+use Rattle.std.specs.List.{flat_map}
+use Rattle.std.proofs.lemmas.Grind.{flat_map-append}
+use Rattle.std.proofs.lemmas.List.{append-nil}
+use Rattle.smx_types.specs.declared.command.Entry.{Entry}
+use Rattle.smx_types.specs.declared.driver.DriverSpec.{DriverSpec}
+use Rattle.smx_types.specs.declared.reply.Reply.{Reply}
+use Rattle.smx_types.specs.declared.transcript.Transcript.{Transcript}
+use Rattle.smx_types.specs.declared.version.Version.{Version}
+use Rattle.smx_types.specs.declared.view.ConfigView.{ConfigView}
+use Rattle.smx_model.specs.Changes.{changes}
+use Rattle.smx_model.specs.Commands.{step}
+use Rattle.smx_model.specs.Configuration.{Configuration, empty}
+use Rattle.smx_model.specs.Histories.{after, after_from}
+use Rattle.smx_model.specs.DriverList.{IsDriverList}
+use Rattle.smx_model.specs.Views.{view, view_of_bind, view_of_fd, view_of_full, view_of_hung, view_of_link}
+use Rattle.smx_model.specs.Views.{view_of_route}
+use Rattle.smx_model.specs.Waits.{waits}
+use Rattle.smx_model.proofs.HistoryLemmas.{after_push}
+use Rattle.smx_config.specs.Machine.{Machine}
+use Rattle.smx_words.specs.Spelling.{bind_words, descriptor_words, entry_words, full_words, hung_words, link_words}
+use Rattle.smx_words.specs.Spelling.{next_words, route_words}
+use Rattle.smx_words.specs.Words.{LINE_FEED, line_of, text_of}
+use Rattle.smx_text.specs.Grammar.{header}
+use Rattle.smx_text.specs.GrowingTranscripts.{BeginsTranscript, transcript_with}
+use Rattle.smx_text.specs.TranscriptLines.{TranscriptLine}
+use Rattle.smx_text.specs.TranscriptLines as line
+use Rattle.smx_text.specs.TranscriptText.{line_words, transcript_grammar}
+use Rattle.smx_trace.specs.Answers.{answered, answers}
+use Rattle.smx_trace.specs.TraceWords.{change_text, changes_text, wait_text, waits_text}
+use Rattle.smx_trace.specs.Traces.{IsTraceText, TraceLine, config_lines, entry_lines_from, lines_below}
+use Rattle.smx_trace.specs.Traces.{queue_lines, trace_line_text, trace_lines_text}
+use Rattle.smx_trace.specs.Traces as trace
+use Rattle.smx_trace.specs.Tracing.{HasTraced}
+use Rattle.smx_trace.proofs.ChangeLemmas.{pieces_of}
+use Rattle.smx_trace.proofs.ReplayLemmas.{led_from, more_from, replayed}
+
+-- the lines of an entry and below it
+abbrev pub lines_of_entry : Bool → List DriverSpec → Configuration → Entry → List TraceLine
+lines_of_entry each drivers c e =
+    trace.Plain (line.Entry e) ∷ lines_below each drivers c (step drivers c e.process e.command).0
+
+-- one more entry, and the lines below it
+pub entries_push : (each : Bool) (drivers : List DriverSpec) (c : Configuration) (es : List Entry) (e : Entry)
+    → entry_lines_from each drivers c (es ++ e ∷ [])
+    ≡ entry_lines_from each drivers c es ++ lines_of_entry each drivers (after_from drivers c es) e
+entries_push each drivers c [] e = ap (λ (ls : List TraceLine). trace.Plain (line.Entry e) ∷ ls) (append-nil _)
+entries_push each drivers c (d ∷ es) e =
+    let next : Configuration = (step drivers c d.process d.command).0 in
+    let Below : List TraceLine = lines_below each drivers c next in
+    ap (λ (ls : List TraceLine). trace.Plain (line.Entry d) ∷ ls)
+    (ap (λ (ls : List TraceLine). Below ++ ls) (entries_push each drivers next es e)
+    ∙ sym (append_assoc Below (entry_lines_from each drivers next es) _))
+
+-- the text of waits, where they are wanted
+abbrev pub waits_if : Bool → List DriverSpec → Configuration → List ℕ
+waits_if each drivers d = if each then waits_text drivers (waits drivers d) else []
+
+-- the text of the lines below an entry
+below_text : (each : Bool) (drivers : List DriverSpec) (c d : Configuration)
+    → trace_lines_text drivers (lines_below each drivers c d)
+    ≡ changes_text (changes (view drivers c) (view drivers d)) ++ waits_if each drivers d
+below_text each drivers c d =
+    flat_map-append (trace_line_text drivers) (map trace.Changed (changes (view drivers c) (view drivers d))) _
+    ∙ ap (λ (t : List ℕ). t ++ trace_lines_text drivers (if each then map trace.Waits (waits drivers d) else []))
+    (pieces_of (trace_line_text drivers) trace.Changed (changes (view drivers c) (view drivers d)))
+    ∙ ap (λ (t : List ℕ). changes_text (changes (view drivers c) (view drivers d)) ++ t) (by each) where
+      by : (b : Bool) → trace_lines_text drivers (if b then map trace.Waits (waits drivers d) else [])
+          ≡ waits_if b drivers d
+      by true = pieces_of (trace_line_text drivers) trace.Waits (waits drivers d)
+      by false = refl
+
+-- nothing is traced yet
+pub trace_begun : (each : Bool) (drivers : List DriverSpec) (opening : List ℕ) (m : Machine) → m.drivers ≡ drivers
+    → m.configuration ≡ empty → HasTraced each drivers opening [] m opening
+trace_begun each drivers opening m same now = record { same = same; now = now; written = sym (append-nil opening) }
+
+-- one more entry is traced, over the drivers of the trace
+more : (each : Bool) (drivers : List DriverSpec) (opening : List ℕ) (asked : List Entry) (e : Entry) (reply : Reply)
+    (n : Machine) (text new : List ℕ)
+    → text ≡ opening ++ trace_lines_text drivers (entry_lines_from each drivers empty (answers drivers asked))
+    → n.drivers ≡ drivers → step drivers (after drivers asked) e.process e.command ≡ (n.configuration, reply)
+    → new ≡ text ++ ((line_of (entry_words (record e { reply = reply })) ++ LINE_FEED ∷ [])
+    ++ (changes_text (changes (view drivers (after drivers asked)) (view drivers n.configuration))
+    ++ waits_if each drivers n.configuration))
+    → HasTraced each drivers opening (asked ++ e ∷ []) n new
+more each drivers opening asked e reply n text new written same stepped wrote =
+    let c : Configuration = after drivers asked in
+    let a : Entry = answered drivers c e in
+    let d : Configuration = (step drivers c e.process e.command).0 in
+    let is_d : n.configuration ≡ d = sym (ap (λ (x : Configuration × Reply). x.0) stepped) in
+    let is_reply : reply ≡ a.reply = sym (ap (λ (x : Configuration × Reply). x.1) stepped) in
+    let Text : List TraceLine → List ℕ = trace_lines_text drivers in
+    let Before : List TraceLine = entry_lines_from each drivers empty (answers drivers asked) in
+    let one : entry_lines_from each drivers empty (answers drivers (asked ++ e ∷ []))
+    ≡ Before ++ lines_of_entry each drivers c a =
+    ap (entry_lines_from each drivers empty) (more_from drivers empty asked e)
+    ∙ entries_push each drivers empty (answers drivers asked) a
+    ∙ ap (λ (x : Configuration). Before ++ lines_of_entry each drivers x a) (led_from drivers empty asked) in
+    let line_text : Text (lines_of_entry each drivers c a)
+    ≡ (line_of (entry_words a) ++ LINE_FEED ∷ [])
+    ++ (changes_text (changes (view drivers c) (view drivers d)) ++ waits_if each drivers d) =
+    ap (λ (t : List ℕ). (line_of (entry_words a) ++ LINE_FEED ∷ []) ++ t) (below_text each drivers c d) in
+    record {
+      same = same;
+      now = is_d ∙ sym (after_push drivers asked e);
+      written =
+          wrote
+          ∙ ap (λ (r : Reply). text ++ ((line_of (entry_words (record e { reply = r })) ++ LINE_FEED ∷ [])
+          ++ (changes_text (changes (view drivers c) (view drivers n.configuration))
+          ++ waits_if each drivers n.configuration))) is_reply
+          ∙ ap (λ (x : Configuration). text ++ ((line_of (entry_words a) ++ LINE_FEED ∷ [])
+          ++ (changes_text (changes (view drivers c) (view drivers x)) ++ waits_if each drivers x))) is_d
+          ∙ ap (λ (t : List ℕ). t ++ ((line_of (entry_words a) ++ LINE_FEED ∷ [])
+          ++ (changes_text (changes (view drivers c) (view drivers d)) ++ waits_if each drivers d))) written
+          ∙ append_assoc opening (Text Before) _
+          ∙ ap (λ (t : List ℕ). opening ++ (Text Before ++ t)) (sym line_text)
+          ∙ ap (λ (t : List ℕ). opening ++ t)
+          (sym (flat_map-append (trace_line_text drivers) Before (lines_of_entry each drivers c a)))
+          ∙ ap (λ (ls : List TraceLine). opening ++ Text ls) (sym one);
+    }
+
+-- one more entry is traced
+pub traced_more : (each : Bool) (drivers : List DriverSpec) (opening : List ℕ) (asked : List Entry) (e : Entry)
+    (reply : Reply) (m n : Machine) (v w : ConfigView) (text t1 t2 t3 : List ℕ)
+    → HasTraced each drivers opening asked m text → n.drivers ≡ m.drivers
+    → step m.drivers m.configuration e.process e.command ≡ (n.configuration, reply)
+    → v ≡ view m.drivers m.configuration → w ≡ view n.drivers n.configuration
+    → t1 ≡ text ++ (line_of (entry_words (record e { reply = reply })) ++ LINE_FEED ∷ [])
+    → t2 ≡ t1 ++ changes_text (changes v w) → t3 ≡ t2 ++ waits_if each n.drivers n.configuration
+    → HasTraced each drivers opening (asked ++ e ∷ []) n t3
+traced_more each drivers opening asked e reply m n v w text t1 t2 t3 h kept stepped is is' e1 e2 e3 =
+    let same : n.drivers ≡ drivers = kept ∙ h.same in
+    let Step : List DriverSpec → Configuration → Type 0 =
+    λ ds c. step ds c e.process e.command ≡ (n.configuration, reply) in
+    let stepped' : step drivers (after drivers asked) e.process e.command ≡ (n.configuration, reply) =
+    subst (Step drivers) h.now (subst (λ (ds : List DriverSpec). Step ds m.configuration) h.same stepped) in
+    let was : v ≡ view drivers (after drivers asked) =
+    is ∙ ap (λ (ds : List DriverSpec). view ds m.configuration) h.same ∙ ap (view drivers) h.now in
+    let now : w ≡ view drivers n.configuration =
+    is' ∙ ap (λ (ds : List DriverSpec). view ds n.configuration) same in
+    let Line : List ℕ = line_of (entry_words (record e { reply = reply })) ++ LINE_FEED ∷ [] in
+    more each drivers opening asked e reply n text t3 h.written same stepped'
+    (e3 ∙ ap (λ (t : List ℕ). t ++ waits_if each n.drivers n.configuration)
+    (e2 ∙ ap (λ (t : List ℕ). t ++ changes_text (changes v w)) e1)
+    ∙ ap (λ (ds : List DriverSpec). ((text ++ Line) ++ changes_text (changes v w)) ++ waits_if each ds n.configuration) same
+    ∙ ap (λ (x : ConfigView). ((text ++ Line) ++ changes_text (changes x w)) ++ waits_if each drivers n.configuration) was
+    ∙ ap (λ (x : ConfigView). ((text ++ Line) ++ changes_text (changes (view drivers (after drivers asked)) x))
+    ++ waits_if each drivers n.configuration) now
+    ∙ append_assoc (text ++ Line) _ _ ∙ append_assoc text Line _)
+
+-- ---- the configuration
+
+-- lines of a trace that are written one after the other
+joined : (drivers : List DriverSpec) (xs ys : List TraceLine) (a b c : List ℕ) → b ≡ a ++ trace_lines_text drivers xs
+    → c ≡ b ++ trace_lines_text drivers ys → c ≡ a ++ trace_lines_text drivers (xs ++ ys)
+joined drivers xs ys a b c e f = f ∙ ap (λ (t : List ℕ). t ++ trace_lines_text drivers ys) e ∙ append_assoc a _ _
+    ∙ ap (λ (t : List ℕ). a ++ t) (sym (flat_map-append (trace_line_text drivers) xs ys))
+
+-- the lines of a group of a view
+plain_text : {X Y : Type 0} (drivers : List DriverSpec) (one : Y → TranscriptLine) (shown : X → Y) (xs : List X)
+    (ys : List Y) → ys ≡ map shown xs
+    → text_of (map (λ y. line_words (one y)) ys)
+    ≡ trace_lines_text drivers (map (λ x. trace.Plain (one (shown x))) xs)
+plain_text {X} {Y} drivers one shown xs ys is =
+    ap (λ (zs : List Y). text_of (map (λ y. line_words (one y)) zs)) is
+    ∙ pieces_of (λ ws. line_of ws ++ LINE_FEED ∷ []) (λ y. line_words (one y)) (map shown xs)
+    ∙ pieces_of (λ y. line_of (line_words (one y)) ++ LINE_FEED ∷ []) shown xs
+    ∙ sym (pieces_of (trace_line_text drivers) (λ x. trace.Plain (one (shown x))) xs)
+
+-- a group of a view is written
+group : {X Y : Type 0} (drivers : List DriverSpec) (one : Y → TranscriptLine) (shown : X → Y) (xs : List X)
+    (ys : List Y) (a b : List ℕ) → ys ≡ map shown xs → b ≡ a ++ text_of (map (λ y. line_words (one y)) ys)
+    → b ≡ a ++ trace_lines_text drivers (map (λ x. trace.Plain (one (shown x))) xs)
+group drivers one shown xs ys a b is e = e ∙ ap (λ (t : List ℕ). a ++ t) (plain_text drivers one shown xs ys is)
+
+-- what is written after two parts
+after_two : (a b0 b1 c x y z : List ℕ) → b0 ≡ a ++ x → b1 ≡ b0 ++ y → c ≡ b1 ++ z → c ≡ a ++ (x ++ (y ++ z))
+after_two a b0 b1 c x y z e f g =
+    g ∙ ap (λ (t : List ℕ). t ++ z) (f ∙ ap (λ (t : List ℕ). t ++ y) e) ∙ append_assoc (a ++ x) y z
+    ∙ append_assoc a x (y ++ z)
+
+-- a configuration is written, group by group
+pub configuration_written : (drivers : List DriverSpec) (c : Configuration) (v : ConfigView)
+    (a b0 b1 b2 b3 b4 b5 b6 b7 b8 : List ℕ) → v ≡ view drivers c → b0 ≡ a ++ codes "config\n"
+    → b1 ≡ b0 ++ (line_of (next_words (v.next_id, v.next_serial)) ++ LINE_FEED ∷ [])
+    → b2 ≡ b1 ++ text_of (map descriptor_words v.fds) → b3 ≡ b2 ++ text_of (map link_words v.links)
+    → b4 ≡ b3 ++ text_of (map bind_words v.binds) → b5 ≡ b4 ++ text_of (map route_words v.routes)
+    → b6 ≡ b5 ++ trace_lines_text drivers (queue_lines drivers c c.flow)
+    → b7 ≡ b6 ++ text_of (map full_words v.fulls) → b8 ≡ b7 ++ text_of (map hung_words v.hungs)
+    → b8 ≡ a ++ trace_lines_text drivers (config_lines drivers c)
+configuration_written drivers c v a b0 b1 b2 b3 b4 b5 b6 b7 b8 is e0 e1 e2 e3 e4 e5 e6 e7 e8 =
+    let fds = group drivers line.Fd (view_of_fd drivers) c.fds v.fds b1 b2 (ap (λ (w : ConfigView). w.fds) is) e2 in
+    let links = group drivers line.Link (view_of_link drivers) c.links v.links b2 b3 (ap (λ (w : ConfigView). w.links) is) e3 in
+    let binds = group drivers line.Bind (view_of_bind drivers) c.binds v.binds b3 b4 (ap (λ (w : ConfigView). w.binds) is) e4 in
+    let routes = group drivers line.Route (view_of_route drivers) c.routes v.routes b4 b5
+    (ap (λ (w : ConfigView). w.routes) is) e5 in
+    let fulls = group drivers line.Full (view_of_full drivers) c.fulls v.fulls b6 b7 (ap (λ (w : ConfigView). w.fulls) is) e7 in
+    let hungs = group drivers line.Hung (view_of_hung drivers) c.hungs v.hungs b7 b8 (ap (λ (w : ConfigView). w.hungs) is) e8 in
+    let rest = joined drivers _ _ b1 b2 b8 fds (joined drivers _ _ b2 b3 b8 links (joined drivers _ _ b3 b4 b8 binds
+    (joined drivers _ _ b4 b5 b8 routes (joined drivers _ _ b5 b6 b8 e6 (joined drivers _ _ b6 b7 b8 fulls hungs))))) in
+    let Next : ConfigView → List ℕ = λ w. line_of (next_words (w.next_id, w.next_serial)) ++ LINE_FEED ∷ [] in
+    after_two a b0 b1 b8 (codes "config\n") (Next (view drivers c)) _ e0 (e1 ∙ ap (λ (w : ConfigView). b0 ++ Next w) is) rest
+
+-- ---- the whole text
+
+-- the opening of a transcript
+opening_is : (version : Version) (drivers : List DriverSpec) (opening : List ℕ)
+    → BeginsTranscript version drivers [] opening
+    → opening ≡ header (transcript_grammar version) ++ LINE_FEED
+    ∷ trace_lines_text drivers (map (λ d. trace.Plain (line.Driver d)) drivers)
+opening_is version drivers opening b =
+    b.written
+    ∙ ap (λ (ls : List TranscriptLine). (header (transcript_grammar version) ++ LINE_FEED ∷ []) ++ text_of (map line_words ls))
+    (append-nil (map line.Driver drivers))
+    ∙ append_assoc (header (transcript_grammar version)) (LINE_FEED ∷ []) _
+    ∙ ap (λ (t : List ℕ). header (transcript_grammar version) ++ LINE_FEED ∷ t)
+    (pieces_of (λ ws. line_of ws ++ LINE_FEED ∷ []) line_words (map line.Driver drivers)
+    ∙ pieces_of (λ l. line_of (line_words l) ++ LINE_FEED ∷ []) line.Driver drivers
+    ∙ sym (pieces_of (trace_line_text drivers) (λ d. trace.Plain (line.Driver d)) drivers))
+
+-- the lines that a trace has written, with those of its configuration and the last, make the text of a trace
+pub whole_trace : (each : Bool) (t : Transcript) (m : Machine) (shown : ConfigView)
+    (opening lines text output : List ℕ) → IsDriverList t.drivers → BeginsTranscript t.version t.drivers [] opening
+    → HasTraced each t.drivers opening t.entries m lines → shown ≡ view m.drivers m.configuration
+    → text ≡ lines ++ trace_lines_text m.drivers (config_lines m.drivers m.configuration)
+    → output ≡ text ++ codes "end\n" → IsTraceText each t output
+whole_trace each t m shown opening lines text output can begins h is wrote ended =
+    let ds = t.drivers in
+    let es : List Entry = answers ds t.entries in
+    let c : Configuration = after ds t.entries in
+    let at_the_end : shown ≡ view ds c =
+    is ∙ ap (λ (x : List DriverSpec). view x m.configuration) h.same ∙ ap (view ds) h.now in
+    let Drivers : List TraceLine = map (λ d. trace.Plain (line.Driver d)) ds in
+    let Entries : List TraceLine = entry_lines_from each ds empty es in
+    let Head : List ℕ = header (transcript_grammar t.version) in
+    let texts : text ≡ lines ++ trace_lines_text ds (config_lines ds c) =
+    wrote ∙ ap (λ (x : List DriverSpec). lines ++ trace_lines_text x (config_lines x m.configuration)) h.same
+    ∙ ap (λ (x : Configuration). lines ++ trace_lines_text ds (config_lines ds x)) h.now in
+    let last : output ≡ text ++ trace_lines_text ds (trace.Plain line.End ∷ []) = ended in
+    let led : after ds es ≡ c = led_from ds empty t.entries in
+    let rest : output ≡ opening ++ trace_lines_text ds (Entries ++ (config_lines ds c ++ trace.Plain line.End ∷ [])) =
+    joined ds Entries _ opening lines output h.written
+    (joined ds (config_lines ds c) (trace.Plain line.End ∷ []) lines text output texts last) in
+    record {
+      replay = transcript_with t.version ds es shown;
+      replays = replayed t shown can at_the_end;
+      written =
+          rest
+          ∙ ap (λ (w : List ℕ). w ++ trace_lines_text ds (Entries ++ (config_lines ds c ++ trace.Plain line.End ∷ [])))
+          (opening_is t.version ds opening begins)
+          ∙ append_assoc Head _ _
+          ∙ ap (λ (w : List ℕ). Head ++ LINE_FEED ∷ w)
+          (sym (flat_map-append (trace_line_text ds) Drivers (Entries ++ (config_lines ds c ++ trace.Plain line.End ∷ []))))
+          ∙ ap (λ (x : Configuration). Head ++ LINE_FEED ∷ trace_lines_text ds
+          (Drivers ++ (Entries ++ (config_lines ds x ++ trace.Plain line.End ∷ [])))) (sym led);
+    }

@@ -1,0 +1,15 @@
+use Rattle.std.proofs.Common.{ℕ, List, ◌++◌, ap, append_assoc, ◌∙◌}
+use Rattle.std.specs.List.{flat_map}
+use Rattle.std.specs.Prelude.{codes}
+use Rattle.smx_model.specs.Changes.{missing_from}
+use Rattle.smx_trace.specs.TraceWords.{marked}
+use Rattle.smx_trace.proofs.SerialLemmas.{then_ok}
+use Rattle.smx_trace.proofs.changes.write_group.Goals as goal
+
+pub returns : goal.returns
+returns g c =
+    let New : List ℕ = flat_map (λ y. marked (codes "  + ") (g.T.Spell.words y))
+    (missing_from g.T.PartialEq.eq c.args.after.now c.args.before.now) in
+    then_ok c.write_missing-2.result
+    (λ e. e ∙ ap (λ (t : List ℕ). t ++ New) c.in_ok-write_missing.ensures ∙ append_assoc c.args.out.now.items _ New)
+    c.write_missing-2.ensures

@@ -1,0 +1,30 @@
+use Rattle.std.proofs.Common.{rules, ◌≡◌, ◌∷◌, refl}
+use Rattle.std.proofs.Common.{[], ◌++◌, ap, append_assoc, ◌∙◌}
+use Rattle.smx_types.specs.declared.view.MessageLine.{MessageLine}
+use Rattle.smx_words.specs.Spelling.{message_words}
+use Rattle.smx_words.specs.Words.{LINE_FEED, line_of}
+use Rattle.std.proofs.lemmas.List.{nil_from_length}
+use Rattle.smx_trace.specs.Queues.{queues_left}
+use Rattle.smx_trace.proofs.QueueLemmas.{all_left, all_written, one_more_queued, queues_step}
+use Rattle.smx_trace.proofs.queues.write_queues.Goals as goal
+
+pub lines-init : goal.lines-init
+lines-init c =
+    all_left c.args.config.now.drivers c.args.config.now.configuration
+    (queues_left c.args.config.now.drivers c.args.config.now.configuration) c.args.out.now.items c.args.lines.now
+    c.requires.kept c.requires.lines
+
+pub lines-preserved : goal.lines-preserved
+lines-preserved c =
+    let parts : c.lines.rest.now ≡ c.in-Some.line.now ∷ c.in-Some.more.now = search rules in
+    one_more_queued c.lines.rest.now c.in-Some.more.now c.in-Some.line.now c.write_wait_of_last.new.out.items parts
+    c.lines.invariant
+    (λ h hs one others q. queues_step c.args.config.now.drivers c.args.config.now.configuration h hs
+    c.lines.out.items c.write_line.new.out.items c.write_wait_of_last.new.out.items
+    (c.in_ok-write_line.ensures.written ∙ append_assoc c.lines.out.items _ (LINE_FEED ∷ [])
+    ∙ ap (λ (x : MessageLine). c.lines.out.items ++ (line_of (message_words x) ++ LINE_FEED ∷ [])) one)
+    (c.in_ok-write_wait_of_last.ensures h hs one others q))
+
+pub returns : goal.returns
+returns c = all_written c.lines.rest.now (nil_from_length c.lines.rest.now c.in_default.ensures.cases) refl
+    c.lines.invariant

@@ -1,0 +1,108 @@
+//! The lines of waits: why first messages can't move.
+
+ghost use Rattle.std.specs.Prelude.{◌≡◌, ◌++◌, OnOk, Some};
+ghost use Rattle.smx_types.specs.declared.stream.Side.TheVariants as side;
+ghost use Rattle.smx_model.specs.Settling.{IsSettled};
+ghost use Rattle.smx_model.specs.Waits.{Reason as AnyReason, reason_at, reason_of_end};
+ghost use Rattle.smx_model.specs.Waits as reason;
+ghost use Rattle.smx_words.specs.Words.{line_of};
+ghost use Rattle.smx_trace.specs.TraceWords.{reason_words};
+ghost use Rattle.smx_trace.specs.Traces.{trace_lines_text, wait_line};
+
+use crate::pieces::{put, put_name, put_number, put_place, put_stream};
+use smx_config::Config;
+use smx_tables::driver_specs::is_mux;
+use smx_types::{DriverSpec, NoMemory, Place, Side, StreamId};
+
+// Appends that the stream has hung up.
+fn put_hung(out: &mut Vec<u8>, drivers: &[DriverSpec], stream: StreamId) -> Result<(), NoMemory>
+    ensures { OnOk result (out.new.items
+        ≡ out.old.items ++ line_of (reason_words drivers.now (reason.HungStream stream))) }
+{
+    put_stream(out, drivers, stream)?;
+    put(out, b" has hung up")
+}
+
+// Appends why a message has no next place below.
+fn put_reason_below(
+    out: &mut Vec<u8>,
+    config: &Config,
+    stream: StreamId,
+    addr: u32,
+) -> Result<(), NoMemory>
+    ensures { OnOk result (out.new.items ≡ out.old.items ++ line_of (reason_words config.now.drivers
+        (reason_of_end config.now.drivers config.now.configuration
+        (record { stream = stream; side = side.Write }) addr))) }
+{
+    let drivers = config.drivers();
+    if is_mux(drivers, stream.driver as usize) {
+        match config.routed_link(stream.driver, addr) {
+            Some(link) => put_hung(out, drivers, link.lower),
+            None => {
+                put(out, b"no route for ")?;
+                put_number(out, addr)
+            }
+        }
+    } else if config.is_hung(stream) {
+        put_hung(out, drivers, stream)
+    } else {
+        put(out, b"for the device")
+    }
+}
+
+// Appends why a message has no next place above.
+fn put_reason_above(
+    out: &mut Vec<u8>,
+    config: &Config,
+    stream: StreamId,
+    addr: u32,
+) -> Result<(), NoMemory>
+    ensures { OnOk result (out.new.items ≡ out.old.items ++ line_of (reason_words config.now.drivers
+        (reason_of_end config.now.drivers config.now.configuration
+        (record { stream = stream; side = side.Read }) addr))) }
+{
+    match config.link_above(stream) {
+        Some(link) => {
+            put(out, b"nobody is bound to ")?;
+            put_number(out, addr)?;
+            put(out, b" on ")?;
+            put_name(out, config.drivers(), link.ctl.driver)
+        }
+        None => put(out, b"for a read"),
+    }
+}
+
+// Appends why a message with this address can't move from the place, if it can't.
+fn put_reason(out: &mut Vec<u8>, config: &Config, place: Place, addr: u32) -> Result<(), NoMemory>
+    ensures { OnOk result ((why : AnyReason)
+        → reason_at config.now.drivers config.now.configuration place addr ≡ Some why
+        → out.new.items ≡ out.old.items ++ line_of (reason_words config.now.drivers why)) }
+{
+    if let Some(next) = config.next_place(place, addr) {
+        put_place(out, config.drivers(), next)?;
+        return put(out, b" is full");
+    }
+    match place.side {
+        Side::Write => put_reason_below(out, config, place.stream, addr),
+        Side::Read => put_reason_above(out, config, place.stream, addr),
+    }
+}
+
+/// Appends the line of the wait at a place, two spaces in, if it has messages: then the first of them can't move.
+/// Fails only if out of memory.
+pub fn write_wait(out: &mut Vec<u8>, config: &Config, place: Place) -> Result<(), NoMemory>
+    requires { IsSettled config.now.drivers config.now.configuration }
+    ensures { OnOk result (out.new.items ≡ out.old.items
+        ++ trace_lines_text config.now.drivers (wait_line config.now.drivers config.now.configuration place)) }
+{
+    let Some(message) = config.first_message(place) else {
+        return Ok(());
+    };
+    put(out, b"  waits ")?;
+    put_place(out, config.drivers(), place)?;
+    put(out, b" ")?;
+    put_number(out, message.serial)?;
+    put(out, b": ")?;
+    put_reason(out, config, place, message.addr)?;
+    put(out, b"\n")
+}

@@ -1,0 +1,114 @@
+//! A trace, from the transcript that was read to its text.
+
+ghost use Rattle.std.specs.Prelude.{◌≡◌, ℕ, ◌∷◌, ◌++◌, [], List, IfOk, IfErr, OnOk, if◌then◌else◌};
+ghost use Rattle.smx_types.specs.declared.command.Entry.{Entry as AnyEntry};
+ghost use Rattle.smx_types.specs.declared.driver.DriverSpec.{DriverSpec as AnyDriver};
+ghost use Rattle.smx_model.specs.Waits.{waits};
+ghost use Rattle.smx_config.specs.DriverFaults.{RefusesDrivers};
+ghost use Rattle.smx_trace.specs.TraceWords.{waits_text};
+ghost use Rattle.smx_trace.specs.Traces.{IsTraceText};
+ghost use Rattle.smx_trace.specs.Tracing.{HasTraced, IsNow};
+
+use crate::changes::write_changes;
+use crate::configurations::write_configuration;
+use crate::pieces::put;
+use crate::queues::write_waits;
+use smx_config::{Config, ConfigFault};
+use smx_text::transcript_opening;
+use smx_types::{ConfigView, Entries, Entry, NoMemory, Transcript};
+use smx_words::write_entry;
+use std::alloc::Global;
+
+/// Performs the commands of a transcript as `replay` does. Returns the text of the transcript that they give, with the
+/// changes of each entry below it, and in the configuration the wait of each queue below it; if `each`, also all waits
+/// below each entry. It reuses the memory of `room`, whose bytes are discarded. Keeps two views at a time, and takes for
+/// each entry the time of its views. Fails if the drivers are not valid, or if it is out of memory.
+pub fn trace(
+    alloc: Global,
+    transcript: Transcript,
+    each: bool,
+    room: Vec<u8>,
+) -> Result<Vec<u8>, ConfigFault>
+    ensures written { IfOk result (λ text. IsTraceText each transcript text.items) }
+    ensures refused { IfErr result (RefusesDrivers transcript.drivers) }
+{
+    let Transcript {
+        version,
+        drivers,
+        entries,
+        ..
+    } = transcript;
+    let mut config = Config::new(alloc, drivers.as_slice())?;
+    let mut text = transcript_opening(room, version, drivers.as_slice())?;
+    let view = trace_all(alloc, &mut config, entries, each, &mut text)?;
+    write_configuration(&mut text, &config, &view)?;
+    put(&mut text, b"end\n")?;
+    Ok(text)
+}
+
+// Performs the commands of all entries. Appends the line of each, with the reply that it gets, and the lines below it.
+// Returns the view after them. Fails only if out of memory.
+fn trace_all(
+    alloc: Global,
+    config: &mut Config,
+    entries: Entries,
+    each: bool,
+    text: &mut Vec<u8>,
+) -> Result<ConfigView, NoMemory>
+    ensures now { IfOk result (IsNow config.new) }
+    ensures traced { OnOk result ((drivers : List AnyDriver) (opening : List ℕ)
+        → HasTraced each drivers opening [] config.old text.old.items
+        → HasTraced each drivers opening entries config.new text.new.items) }
+{
+    let mut view = config.show()?;
+    for entry in entries.into_vec() {
+        view = trace_entry(alloc, config, entry, view, each, text)?;
+    }
+    Ok(view)
+}
+
+// Performs the command of an entry. Appends its line, with the reply that it gets, and the lines below it. Returns the
+// view after it. Fails only if out of memory.
+fn trace_entry(
+    alloc: Global,
+    config: &mut Config,
+    entry: Entry,
+    before: ConfigView,
+    each: bool,
+    text: &mut Vec<u8>,
+) -> Result<ConfigView, NoMemory>
+    requires { IsNow config.old before }
+    ensures now { IfOk result (IsNow config.new) }
+    ensures traced { OnOk result ((drivers : List AnyDriver) (opening : List ℕ) (asked : List AnyEntry)
+        → HasTraced each drivers opening asked config.old text.old.items
+        → HasTraced each drivers opening (asked ++ entry ∷ []) config.new text.new.items) }
+{
+    let Entry {
+        process,
+        command,
+        ..
+    } = entry;
+    let reply = config.step(process, &command)?;
+    write_entry(text, process, &command, &reply)?;
+    let after = config.show()?;
+    write_changes(alloc, text, config.drivers(), &before, &after)?;
+    write_wanted_waits(text, config, &after, each)?;
+    Ok(after)
+}
+
+// Appends the lines of all waits, if they are wanted. Fails only if out of memory.
+fn write_wanted_waits(
+    text: &mut Vec<u8>,
+    config: &Config,
+    view: &ConfigView,
+    wanted: bool,
+) -> Result<(), NoMemory>
+    requires { IsNow config.now view.now }
+    ensures { OnOk result (text.new.items ≡ text.old.items
+        ++ (if wanted then waits_text config.now.drivers (waits config.now.drivers config.now.configuration) else [])) }
+{
+    if !wanted {
+        return Ok(());
+    }
+    write_waits(text, config, view.msgs.as_slice())
+}
