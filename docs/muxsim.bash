@@ -9,17 +9,19 @@ _muxsim() {
             compopt -o filenames 2>/dev/null
             return
             ;;
-        --workers) return ;;
+        --workers | --at) return ;;
     esac
     if ((COMP_CWORD == 1)); then
-        words='run check replay draw live commands help --help --version'
+        words='run check replay trace draw live commands help --help --version'
     else
         case ${COMP_WORDS[1]} in
             run) words='--workers --fronts --explain --help' ;;
             check) words='--explain --help' ;;
-            replay | live | commands) words='--help' ;;
+            replay) words='--at --help' ;;
+            trace) words='--waits --help' ;;
+            live | commands) words='--help' ;;
             draw) words='--dot --help' ;;
-            help) ((COMP_CWORD == 2)) && words='run check replay draw live commands' ;;
+            help) ((COMP_CWORD == 2)) && words='run check replay trace draw live commands' ;;
         esac
         # Each option may be given once.
         local given

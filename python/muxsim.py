@@ -1,4 +1,4 @@
-"""muxsim for Python: live sessions, runs, checks, replays and drawings, by the program `muxsim`.
+"""muxsim for Python: live sessions, runs, checks, replays, traces and drawings, by the program `muxsim`.
 
     import muxsim
 
@@ -73,6 +73,14 @@ class CommandError(Error):
 
 class HistoryFull(Error):
     """The session has 100,000 entries. Nothing has changed, and the session can still show them."""
+
+
+class PastTheEnd(Error):
+    """A replay is asked for more entries than the transcript has."""
+
+    def __init__(self, entries: int) -> None:
+        super().__init__(f"the transcript has {entries} entries")
+        self.entries = entries  #: how many the transcript has
 
 
 class OutOfMemory(Error):
@@ -448,9 +456,17 @@ def check(text: str, program: Optional[str] = None) -> Verdict:
     return Verdict(words, Difference(int(line.split(" ")[1]), shown, explained[1].split(": ", 1)[1]))
 
 
-def replay(text: str, program: Optional[str] = None) -> str:
-    """Performs the commands of a transcript in its order and returns the transcript that they give."""
-    return _explained(["replay"], text, program)
+def replay(text: str, program: Optional[str] = None, at: Optional[int] = None) -> str:
+    """Performs the commands of a transcript, or those of its first `at` entries, and returns the transcript they give."""
+    return _explained(["replay"] if at is None else ["replay", "--at", str(at)], text, program)
+
+
+def trace(text: str, waits: bool = False, program: Optional[str] = None) -> str:
+    """Performs the commands of a transcript and returns what each entry changes, and which messages wait and why.
+
+    With `waits`, all waits are below each entry too. The lines that begin with two spaces are not of the transcript.
+    """
+    return _explained(["trace", "--waits"] if waits else ["trace"], text, program)
 
 
 def draw(text: str, dot: bool = False, program: Optional[str] = None) -> str:
@@ -490,6 +506,9 @@ def _failure(status: int, words: str) -> Error:
         found = re.search(r"^muxsim: refused: driver (\d+) (.*)$", words, re.M)
         if found:
             return DriverError(int(found[1]), found[2])
+        found = re.search(r"^muxsim: refused: the transcript has (\d+) entries$", words, re.M)
+        if found:
+            return PastTheEnd(int(found[1]))
     return ProgramFailed(status, words.strip())
 
 

@@ -1,10 +1,10 @@
-//! Runs, checks and replays with devices that stop once, at each read and at each write, and would then go on.
+//! Runs, checks, replays and traces with devices that stop once, at each read and at each write, and would then go on.
 
 use super::devices::{ERRORS, Stop, TWO_ERRORS};
 use super::tasks::{Task, ends_so, outcome};
 use super::texts::{
-    IN_TURN, IN_TURN_REPLAYED, OPENED_AND_CLOSED, OPENS_AND_CLOSES, OTHER_CONFIGURATION,
-    TWO_PROCESSES, WRONG_REPLY,
+    IN_TURN, IN_TURN_REPLAYED, IN_TURN_TRACED, OPENED_AND_CLOSED, OPENS_AND_CLOSES,
+    OTHER_CONFIGURATION, TWO_PROCESSES, WRONG_REPLY,
 };
 use std::io::ErrorKind;
 use std::mem::forget;
@@ -13,12 +13,13 @@ use std::sync::Wait;
 use std::thread::Threads;
 
 // A task with its input, its expected output and its expected status.
-const DONE: [(Task, &[u8], &[u8], u8); 5] = [
+const DONE: [(Task, &[u8], &[u8], u8); 6] = [
     (Task::Run, OPENS_AND_CLOSES, OPENED_AND_CLOSED, 0),
     (Task::Check, TWO_PROCESSES, b"legal 2\n", 0),
     (Task::Check, WRONG_REPLY, b"illegal 2\n", 4),
     (Task::Check, OTHER_CONFIGURATION, b"config differs\n", 4),
     (Task::Replay, IN_TURN, IN_TURN_REPLAYED, 0),
+    (Task::Trace, IN_TURN, IN_TURN_TRACED, 0),
 ];
 
 // Checks that nothing is written, and nothing read again, if the read after this many fails.

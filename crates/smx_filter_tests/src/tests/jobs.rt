@@ -20,25 +20,41 @@ const RUNS: [(&[&str], usize, bool, bool); 5] = [
 ];
 
 // Words that ask for another job.
-const OTHERS: [(&[&str], Job); 5] = [
+const OTHERS: [(&[&str], Job); 9] = [
     (&["muxsim", "check"], Job::Check { explain: false }),
     (
         &["muxsim", "check", "--explain"],
         Job::Check { explain: true },
     ),
-    (&["muxsim", "replay"], Job::Replay),
+    (&["muxsim", "replay"], Job::Replay { at: None }),
+    (
+        &["muxsim", "replay", "--at", "0"],
+        Job::Replay { at: Some(0) },
+    ),
+    (
+        &["muxsim", "replay", "--at=100000"],
+        Job::Replay { at: Some(100_000) },
+    ),
+    (&["muxsim", "trace"], Job::Trace { waits: false }),
+    (
+        &["muxsim", "trace", "--waits"],
+        Job::Trace { waits: true },
+    ),
     (&["muxsim", "draw", "--dot"], Job::Draw { form: Form::Dot }),
     (&["muxsim", "live"], Job::Live),
 ];
 
 // Words that ask for no job.
-const WRONG: [&[&str]; 7] = [
+const WRONG: [&[&str]; 10] = [
     &["muxsim"],
     &["muxsim", "run", "--workers", "0"],
     &["muxsim", "run", "--workers", "65"],
     &["muxsim", "run", "--workers"],
     &["muxsim", "run", "--workers", "-1"],
     &["muxsim", "check", "--fronts"],
+    &["muxsim", "replay", "--at"],
+    &["muxsim", "replay", "--at", "-1"],
+    &["muxsim", "trace", "--at", "1"],
     &["muxsim", "walk"],
 ];
 

@@ -4,7 +4,7 @@ ghost use Rattle.std.specs.Prelude.{◌≡◌, false};
 
 use super::devices::{Stop, one_byte_feed, one_byte_sink};
 use smx_config::Verdict;
-use smx_filters::{Done, Feed, MainFault, Sink, Source, Target, check_text, replay_text, run_text};
+use smx_filters::{Done, Feed, MainFault, Sink, Source, Target, check_text, replay_text, run_text, trace_text};
 use smx_live::live_text;
 use smx_run::NoGate;
 use smx_samples::{Part, text_of};
@@ -20,6 +20,7 @@ pub enum Task {
     Run,
     Check,
     Replay,
+    Trace,
     Live,
 }
 
@@ -64,7 +65,8 @@ fn perform<R: AllocGlobal + Threads + Wait + Sync, F: Feed, S: Sink>(
     ending(match task {
         Task::Run => finished(run_text(rt, alloc, feed, sink, 1, false, &NoGate)),
         Task::Check => judged(check_text(alloc, feed, sink)),
-        Task::Replay => finished(replay_text(alloc, feed, sink)),
+        Task::Replay => finished(replay_text(alloc, feed, sink, None)),
+        Task::Trace => finished(trace_text(alloc, feed, sink, true)),
         Task::Live => finished(live_text(alloc, feed, sink)),
     })
 }

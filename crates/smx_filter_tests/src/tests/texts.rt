@@ -39,6 +39,10 @@ pub const IN_TURN: &[u8] =
 pub const IN_TURN_REPLAYED: &[u8] =
     b"transcript 1\ndriver ip mux 2 8 3 16\ndriver eth leaf 1 8 3 16\n1 clone ip = fd 0 0\n0 clone ip = fd 0 1\n0 clone eth = fd 1 0\n1 clone ip = ENXIO minor\n0 link 0 1 = id 1\n1 exit = done\n0 route 0 5 1 = done\n1 clone ip = fd 0 0\n1 write 0 5 a1 = took 1\nconfig\nnext 2 2\nfd 0 0 ip 1\nfd 0 1 eth 0\nfd 1 0 ip 0\nlink 1 ip 1 eth 0 link\nroute ip 5 1\nmsg eth 0 w 1 5 a1\nend\n";
 
+/// Its trace, with the waits below each entry.
+pub const IN_TURN_TRACED: &[u8] =
+    b"transcript 1\ndriver ip mux 2 8 3 16\ndriver eth leaf 1 8 3 16\n1 clone ip = fd 0 0\n  + fd 1 0 ip 0\n0 clone ip = fd 0 1\n  + fd 0 0 ip 1\n0 clone eth = fd 1 0\n  + fd 0 1 eth 0\n1 clone ip = ENXIO minor\n0 link 0 1 = id 1\n  + link 1 ip 1 eth 0 link\n1 exit = done\n  - fd 1 0 ip 0\n0 route 0 5 1 = done\n  + route ip 5 1\n1 clone ip = fd 0 0\n  + fd 1 0 ip 0\n1 write 0 5 a1 = took 1\n  + msg eth 0 w 1 5 a1\n  waits eth 0 w 1: for the device\nconfig\nnext 2 2\nfd 0 0 ip 1\nfd 0 1 eth 0\nfd 1 0 ip 0\nlink 1 ip 1 eth 0 link\nroute ip 5 1\nmsg eth 0 w 1 5 a1\n  waits eth 0 w 1: for the device\nend\n";
+
 /// Two processes with five thousand commands each, in more than 64 KiB.
 pub const TWO_LONG_PROGRAMS: [Part; 5] = [
     Once("programs 1\nprocess 0\n"),

@@ -1,13 +1,13 @@
-//! Checks, replays, and runs with fronts. They also pass if any one allocation fails; tests/refused_growths runs them
+//! Checks, replays, traces, and runs with fronts. They also pass if any one allocation fails; tests/refused_growths runs them
 //! so. The output is written to the stack, so no allocation is a device's.
 
 ghost use Rattle.std.specs.Prelude.{◌≤◌};
 
 use super::texts::{
-    HANGUP_END_OF_FILE, IN_TURN, IN_TURN_REPLAYED, MARKS_ACROSS_THE_JOIN, TWO_PROCESSES,
+    HANGUP_END_OF_FILE, IN_TURN, IN_TURN_REPLAYED, IN_TURN_TRACED, MARKS_ACROSS_THE_JOIN, TWO_PROCESSES,
 };
 use smx_config::Verdict;
-use smx_filters::{MainFault, Source, Target, check_text, replay_text, run_text};
+use smx_filters::{MainFault, Source, Target, check_text, replay_text, run_text, trace_text};
 use smx_run::{NoGate, RunFault};
 use smx_text::{Cause, TextFault};
 use std::process::Abort;
@@ -69,7 +69,7 @@ fn checks(rt: HostRuntime) {
 fn is_replay_answered(rt: &(impl AllocGlobal + Abort)) -> bool {
     let mut buffer = [0u8; 512];
     let mut sink = Target::new(buffer.as_mut_slice());
-    match replay_text(rt.alloc(), &mut Source::new(IN_TURN), &mut sink) {
+    match replay_text(rt.alloc(), &mut Source::new(IN_TURN), &mut sink, None) {
         Ok(()) => {
             assert!(rt; buffer.starts_with(IN_TURN_REPLAYED));
             true
@@ -88,6 +88,32 @@ fn a_replay(rt: HostRuntime) {
     if !is_replay_answered(&rt) {
         let _ = println!(rt; "a replay wanted memory");
         assert!(rt; is_replay_answered(&rt));
+    }
+}
+
+// Returns whether a trace succeeds, with the whole text. Else it ran out of memory, and has written nothing.
+fn is_trace_answered(rt: &(impl AllocGlobal + Abort)) -> bool {
+    let mut buffer = [0u8; 1024];
+    let mut sink = Target::new(buffer.as_mut_slice());
+    match trace_text(rt.alloc(), &mut Source::new(IN_TURN), &mut sink, true) {
+        Ok(()) => {
+            assert!(rt; buffer.starts_with(IN_TURN_TRACED));
+            true
+        }
+        Err(fault) => {
+            assert!(rt; is_want_of_memory(&fault));
+            assert_eq!(rt; buffer, [0u8; 1024]);
+            false
+        }
+    }
+}
+
+// A trace that ran out of memory succeeds when it is tried again.
+#[test]
+fn a_trace(rt: HostRuntime) {
+    if !is_trace_answered(&rt) {
+        let _ = println!(rt; "a trace wanted memory");
+        assert!(rt; is_trace_answered(&rt));
     }
 }
 
