@@ -1,6 +1,6 @@
 //! A replay from bytes to bytes.
 
-ghost use Rattle.std.specs.Prelude.{◌≡◌, ⊥, false, length, IfErr, IfOk};
+ghost use Rattle.std.specs.Prelude.{◌≡◌, false, length, IfErr, IfOk};
 ghost use Rattle.smx_filters.specs.Filters.{Answers};
 ghost use Rattle.smx_filters.specs.ReplayText.{ReplaysText, IsPastEnd, asked_part, replaying};
 ghost use Rattle.smx_filters.specs.RunText.{items_of};
