@@ -28,6 +28,44 @@ def pyramid():
     return transcript(drivers, lines, version=2, following=f"next {number + 1} 1")
 
 
+def many_frames():
+    """60 drivers in three layers, with 180 links of both kinds between them; half of the controlling streams are gone."""
+    drivers = [f"driver d{i} {'leaf' if i >= 40 else 'mux'} 64 64 16 32" for i in range(60)]
+    lines = [f"fd {i} 0 d{i} 0" for i in range(0, 60, 2)]
+    for i in range(180):
+        upper = i * 7 % 40
+        lower = 20 + i * 11 % 40 if upper < 20 else 40 + i * 13 % 20
+        lines.append(f"link {i + 1} d{upper} 0 d{lower} {i % 60 + 1} {'plink' if i % 3 == 0 else 'link'}")
+    return transcript(drivers, lines, following="next 181 1")
+
+
+def many_drivers():
+    """128 drivers, of which 20 have the others below them."""
+    drivers = [f"driver d{i} {'mux' if i < 20 else 'leaf'} 8 64 16 32" for i in range(128)]
+    lines = [f"link {i + 1} d{i % 20} {i // 20} d{i + 20} 0 {'link' if i % 3 else 'plink'}" for i in range(108)]
+    return transcript(drivers, lines, version=2, following="next 109 1")
+
+
+def largest_numbers():
+    """The longest names and the largest numbers."""
+    most = 4294967295
+    drivers = [f"driver abcdefgh mux {most} {most} {most} {most}", "driver zzzzzzzz leaf 64 4096 4095 1024"]
+    lines = [f"fd 63 {most} abcdefgh {most}", f"link {most} abcdefgh {most} zzzzzzzz 63 plink", f"bind abcdefgh {most} {most}"]
+    lines += [f"route abcdefgh {most} {most}", f"msg abcdefgh {most} w {most} {most} {'ff' * 1024}"]
+    lines += [f"msg zzzzzzzz 63 r {most - 1} 3232235779 {'ff' * 10}", f"full abcdefgh {most} w"]
+    return transcript(drivers, lines, following=f"next {most} {most}")
+
+
+def thousands():
+    """Queues of 4,098 and of 3,000 messages, full and hung up."""
+    drivers = ["driver ip mux 2 4096 8 1024", "driver eth leaf 2 4096 2000 1024"]
+    lines = ["link 1 ip 0 eth 1 plink"]
+    lines += [f"msg ip 1 w {i} {i % 7} {'ab' * (i % 7 + 1)}" for i in range(1, 4099)]
+    lines += [f"msg eth 1 w {i} 5 {'00' * 8}" for i in range(5000, 8000)]
+    lines += ["full ip 1 w", "full eth 1 w", "full eth 1 r", "hung eth 1"]
+    return transcript(drivers, lines, version=2, following="next 2 9000")
+
+
 def long_queues():
     """Queues of many messages, full and not, on both sides."""
     drivers = ["driver ip mux 2 4096 8 1024", "driver eth leaf 2 64 8 1024"]
@@ -88,6 +126,10 @@ def transcripts():
     yield "nothing at all", transcript([], [])
     yield "180 links", many_links()
     yield "eight layers", pyramid()
+    yield "60 drivers", many_frames()
+    yield "128 drivers", many_drivers()
+    yield "largest numbers", largest_numbers()
+    yield "thousands", thousands()
     yield "long queues", long_queues()
     yield "cycle", cycle()
     yield "no driver", of_no_driver()

@@ -1,8 +1,6 @@
 -- Texts that were drawn piece by piece, and what they contain.
 use Rattle.std.proofs.Common.{◌≡◌, ℕ, ◌+◌, ◌<◌, List, [], ◌∷◌, ◌++◌, length, get_or, take, append-nil, append_assoc}
-use Rattle.std.proofs.Common.{Result, Ok, Err, sym, ap, ◌∙◌, subst}
-use Rattle.std.specs.Prelude.{OnOk}
-use Rattle.std.proofs.Math.Nat.{suc-ne-zero}
+use Rattle.std.proofs.Common.{refl, sym, ap, ◌∙◌, subst}
 use Rattle.std.proofs.lemmas.List.{take_more}
 use Rattle.std.specs.List.{AllByRecursion, flat_map}
 use Rattle.smx_draw.specs.Drawing.{Draws, HasPart}
@@ -69,19 +67,23 @@ each_still_there element xs text more =
     all_of (λ x. (at : Area) × HasPart text (element x at)) (λ x. (at : Area) × HasPart (text ++ more) (element x at))
     (λ x h. (h.0, still_there text (element x h.0) more h.1)) xs
 
--- a text written in two steps is one text
-pub then_put : {E : Type 0} (answer : Result (Unit {0}) E) (old middle new first second : List ℕ)
-    → middle ≡ old ++ first → OnOk answer (new ≡ middle ++ second) → OnOk answer (new ≡ old ++ (first ++ second))
-then_put (Ok done) old middle new first second e h =
-    h ∙ (ap (λ (t : List ℕ). t ++ second) e ∙ append_assoc old first second)
-then_put (Err fault) old middle new first second e h = tt
+-- a text that was written in four steps
+pub four_put : (a b c d one two three four : List ℕ) → one ≡ a → two ≡ one ++ b → three ≡ two ++ c → four ≡ three ++ d
+    → four ≡ a ++ (b ++ (c ++ d))
+four_put a b c d one two three four e1 e2 e3 e4 = rw (e4, e3, e2, e1) (simp append_assoc)
 
--- five texts that were written one after the other
-pub five_put : (a b c d e one two three four five : List ℕ) → one ≡ a → two ≡ one ++ b → three ≡ two ++ c
-    → four ≡ three ++ d → five ≡ four ++ e → five ≡ a ++ (b ++ (c ++ (d ++ e)))
-five_put a b c d e one two three four five e1 e2 e3 e4 e5 = rw (e5, e4, e3, e2, e1) (simp append_assoc)
+-- a text to which five others were appended
+pub put_five : (old a b c d e one two three four five : List ℕ) → one ≡ old ++ a → two ≡ one ++ b → three ≡ two ++ c
+    → four ≡ three ++ d → five ≡ four ++ e → five ≡ old ++ (a ++ (b ++ (c ++ (d ++ e))))
+put_five old a b c d e one two three four five e1 e2 e3 e4 e5 = rw (e5, e4, e3, e2, e1) (simp append_assoc)
+
+-- 0 for the empty text, 1 for the others
+abbrev pub any : List ℕ → ℕ
+any [] = 0
+any (c ∷ text) = 1
 
 -- the empty text contains no part, unless that is empty
-pub nothing_has_no_part : (c : ℕ) (part : List ℕ) → HasPart [] (c ∷ part) → ⊥
-nothing_has_no_part c part ([], after, e) = suc-ne-zero _ (sym (ap length e))
-nothing_has_no_part c part (b ∷ before, after, e) = suc-ne-zero _ (sym (ap length e))
+pub is_empty : (part : List ℕ) → HasPart [] part → any part ≡ 0
+is_empty [] h = refl
+is_empty (c ∷ part) ([], after, e) = sym (ap any e)
+is_empty (c ∷ part) (b ∷ before, after, e) = sym (ap any e)

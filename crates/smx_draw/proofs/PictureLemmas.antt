@@ -1,18 +1,20 @@
 -- The contents of a picture.
-use Rattle.std.proofs.Common.{◌≡◌, ℕ, List, [], ◌++◌, append-nil, append_assoc, sym, ap, ◌∙◌, subst}
+use Rattle.std.proofs.Common.{◌≡◌, ℕ, List, [], ◌++◌, codes, append-nil, append_assoc, sym, ap, ◌∙◌, subst}
 use Rattle.std.specs.List.{flat_map}
 use Rattle.smx_types.specs.declared.driver.DriverSpec.{DriverSpec}
 use Rattle.smx_types.specs.declared.view.ConfigView.{ConfigView}
-use Rattle.smx_draw.specs.DotLines.{binding_line, descriptor_line, driver_line, full_line, hung_line}
-use Rattle.smx_draw.specs.DotLines.{link_line, message_line, queue_line, route_line}
-use Rattle.smx_draw.specs.DotQueues.{queues_of}
-use Rattle.smx_draw.specs.DotText.{dot_foot, dot_head, dot_text}
+use Rattle.smx_draw.specs.DotText.{dot_head, dot_text}
 use Rattle.smx_draw.specs.Drawing.{Draws, HasPart}
+use Rattle.smx_draw.specs.Parts.{binding_text, descriptor_text, driver_text, full_text, hung_text, link_text}
+use Rattle.smx_draw.specs.Parts.{queue_row_text, route_text}
 use Rattle.smx_draw.specs.Pictures.{EachHasLine, EachIsDrawn, HasEachInDot, HasEachInSvg}
-use Rattle.smx_draw.specs.SvgElements.{binding_element, descriptor_element, driver_element, full_element, gauge_element}
-use Rattle.smx_draw.specs.SvgElements.{hung_element, link_element, message_element, route_element, stream_element}
+use Rattle.smx_draw.specs.Pieces.{filled}
+use Rattle.smx_draw.specs.Queues.{queue_rows}
+use Rattle.smx_draw.specs.SvgElements.{frame_element, gauge_element, row, stream_element, way_element}
 use Rattle.smx_draw.specs.SvgFrame.{svg_foot, svg_head}
 use Rattle.smx_draw.specs.SvgText.{IsSvgOf}
+use Rattle.smx_draw.specs.declared.parts.Look.{Look}
+use Rattle.smx_draw.specs.declared.parts.Look.TheVariants.{Line}
 use Rattle.smx_draw.specs.declared.svg.area.Area.{Area}
 use Rattle.smx_draw.proofs.DrawingLemmas.{draws_behind, draws_each, each_line, each_still_there}
 
@@ -40,91 +42,94 @@ module _ {X : Type 0} (element : X → Area → List ℕ) (xs : List X) (before 
 pub each_in_svg : (drivers : List DriverSpec) (v : ConfigView) (output : List ℕ) → IsSvgOf drivers v output
     → HasEachInSvg drivers v output
 each_in_svg drivers v output h =
-    let boxes = h.boxes in
-    let parts = h.parts in
-    let links : GoesOn output h.behind_view = (svg_foot v.next_id v.next_serial, h.ends) in
-    let fulls = from_before link_element v.links parts.behind_fulls h.behind_view output parts.links links in
-    let msgs = from_before full_element v.fulls parts.behind_msgs parts.behind_fulls output parts.fulls fulls in
-    let routes = from_before message_element v.msgs parts.behind_routes parts.behind_msgs output parts.msgs msgs in
-    let binds = from_before route_element v.routes parts.behind_binds parts.behind_routes output parts.routes routes in
-    let fds = from_before binding_element v.binds parts.behind_fds parts.behind_binds output parts.binds binds in
-    let hungs = from_before descriptor_element v.fds parts.behind_hungs parts.behind_fds output parts.fds fds in
-    let view = from_before hung_element v.hungs h.behind_boxes parts.behind_hungs output parts.hungs hungs in
-    let written =
-    from_before gauge_element boxes.read boxes.behind_written h.behind_boxes output boxes.read_drawn view in
+    let under = h.under in
+    let rows = h.rows in
+    let queues = queue_rows drivers v.msgs in
+    let head = svg_head h.width h.height in
+    let fulls : GoesOn output h.behind_rows = (svg_foot v.next_id v.next_serial, h.ends) in
+    let queues_on = from_before (row full_text) v.fulls rows.behind_queues h.behind_rows output rows.fulls fulls in
+    let binds =
+    from_before (row queue_row_text) queues rows.behind_binds rows.behind_queues output rows.queues queues_on in
+    let fds = from_before (row binding_text) v.binds rows.behind_fds rows.behind_binds output rows.binds binds in
+    let routes = from_before (row descriptor_text) v.fds rows.behind_routes rows.behind_fds output rows.fds fds in
+    let hungs =
+    from_before (row route_text) v.routes rows.behind_hungs rows.behind_routes output rows.routes routes in
+    let links = from_before (row hung_text) v.hungs rows.behind_links rows.behind_hungs output rows.hungs hungs in
+    let titles = from_before (row link_text) v.links rows.behind_drivers rows.behind_links output rows.links links in
+    let gauges =
+    from_before (row driver_text) drivers h.behind_under rows.behind_drivers output rows.drivers titles in
     let streams =
-    from_before gauge_element boxes.written boxes.behind_streams boxes.behind_written output boxes.written_drawn
-    written in
-    let drawn =
-    from_before stream_element boxes.streams boxes.behind_drivers boxes.behind_streams output boxes.streams_drawn
-    streams in
+    from_before gauge_element queues under.behind_streams h.behind_under output under.gauges_drawn gauges in
+    let ways =
+    from_before stream_element under.streams under.behind_ways under.behind_streams output under.streams_drawn streams in
+    let frames = from_before way_element v.links under.behind_frames under.behind_ways output under.ways_drawn ways in
     record {
-      drivers =
-          each_drawn driver_element drivers (svg_head h.width h.height) boxes.behind_drivers output
-          boxes.drivers_drawn drawn;
-      hungs = each_drawn hung_element v.hungs h.behind_boxes parts.behind_hungs output parts.hungs hungs;
-      descriptors = each_drawn descriptor_element v.fds parts.behind_hungs parts.behind_fds output parts.fds fds;
-      bindings = each_drawn binding_element v.binds parts.behind_fds parts.behind_binds output parts.binds binds;
-      routes = each_drawn route_element v.routes parts.behind_binds parts.behind_routes output parts.routes routes;
-      messages = each_drawn message_element v.msgs parts.behind_routes parts.behind_msgs output parts.msgs msgs;
-      fulls = each_drawn full_element v.fulls parts.behind_msgs parts.behind_fulls output parts.fulls fulls;
-      links = each_drawn link_element v.links parts.behind_fulls h.behind_view output parts.links links;
+      frames = each_drawn frame_element drivers head under.behind_frames output under.frames_drawn frames;
+      ways = each_drawn way_element v.links under.behind_frames under.behind_ways output under.ways_drawn ways;
+      gauges = each_drawn gauge_element queues under.behind_streams h.behind_under output under.gauges_drawn gauges;
+      drivers = each_drawn (row driver_text) drivers h.behind_under rows.behind_drivers output rows.drivers titles;
+      links = each_drawn (row link_text) v.links rows.behind_drivers rows.behind_links output rows.links links;
+      hungs = each_drawn (row hung_text) v.hungs rows.behind_links rows.behind_hungs output rows.hungs hungs;
+      routes = each_drawn (row route_text) v.routes rows.behind_hungs rows.behind_routes output rows.routes routes;
+      descriptors = each_drawn (row descriptor_text) v.fds rows.behind_routes rows.behind_fds output rows.fds fds;
+      bindings = each_drawn (row binding_text) v.binds rows.behind_fds rows.behind_binds output rows.binds binds;
+      queues =
+          each_drawn (row queue_row_text) queues rows.behind_binds rows.behind_queues output rows.queues queues_on;
+      fulls = each_drawn (row full_text) v.fulls rows.behind_queues h.behind_rows output rows.fulls fulls;
     }
 
 -- the foot is at the end
 pub foot_in_svg : (drivers : List DriverSpec) (v : ConfigView) (output : List ℕ) → IsSvgOf drivers v output
     → HasPart output (svg_foot v.next_id v.next_serial)
 foot_in_svg drivers v output h =
-    (h.behind_view, [], h.ends ∙ sym (append-nil (h.behind_view ++ svg_foot v.next_id v.next_serial)))
+    (h.behind_rows, [], h.ends ∙ sym (append-nil (h.behind_rows ++ svg_foot v.next_id v.next_serial)))
 
-module _ {X : Type 0} (line : X → List ℕ) (xs : List X) (before after output : List ℕ)
-    (on : output ≡ before ++ (flat_map line xs ++ after)) where
+module _ {X : Type 0} (text : Look → X → List ℕ) (xs : List X) (before after output : List ℕ)
+    (on : output ≡ before ++ (flat_map (text Line) xs ++ after)) where
   -- lines in the text come after the text before them
-  behind_lines : output ≡ (before ++ flat_map line xs) ++ after
-  behind_lines = on ∙ sym (append_assoc before (flat_map line xs) after)
+  behind_lines : output ≡ (before ++ flat_map (text Line) xs) ++ after
+  behind_lines = on ∙ sym (append_assoc before (flat_map (text Line) xs) after)
 
   -- the text contains each of them
-  each_written : EachHasLine line xs output
-  each_written = subst (EachHasLine line xs) (sym on) (each_line line xs before after)
+  each_written : EachHasLine text xs output
+  each_written = subst (EachHasLine text xs) (sym on) (each_line (text Line) xs before after)
 
 -- each line is between others
 pub each_in_dot : (drivers : List DriverSpec) (v : ConfigView) (output : List ℕ) → output ≡ dot_text drivers v
     → HasEachInDot drivers v output
 each_in_dot drivers v output is =
-    let queues = queues_of drivers v.msgs in
-    let f8 : List ℕ = flat_map hung_line v.hungs ++ dot_foot in
-    let f7 : List ℕ = flat_map full_line v.fulls ++ f8 in
-    let f6 : List ℕ = flat_map message_line v.msgs ++ f7 in
-    let f5 : List ℕ = flat_map route_line v.routes ++ f6 in
-    let f4 : List ℕ = flat_map binding_line v.binds ++ f5 in
-    let f3 : List ℕ = flat_map link_line v.links ++ f4 in
-    let f2 : List ℕ = flat_map descriptor_line v.fds ++ f3 in
-    let f1 : List ℕ = flat_map queue_line queues ++ f2 in
-    let e0 : output ≡ dot_head ++ (flat_map driver_line drivers ++ f1) = is ∙ simp append_assoc in
-    let b1 = dot_head ++ flat_map driver_line drivers in
-    let e1 : output ≡ b1 ++ f1 = behind_lines driver_line drivers dot_head f1 output e0 in
-    let b2 = b1 ++ flat_map queue_line queues in
-    let e2 : output ≡ b2 ++ f2 = behind_lines queue_line queues b1 f2 output e1 in
-    let b3 = b2 ++ flat_map descriptor_line v.fds in
-    let e3 : output ≡ b3 ++ f3 = behind_lines descriptor_line v.fds b2 f3 output e2 in
-    let b4 = b3 ++ flat_map link_line v.links in
-    let e4 : output ≡ b4 ++ f4 = behind_lines link_line v.links b3 f4 output e3 in
-    let b5 = b4 ++ flat_map binding_line v.binds in
-    let e5 : output ≡ b5 ++ f5 = behind_lines binding_line v.binds b4 f5 output e4 in
-    let b6 = b5 ++ flat_map route_line v.routes in
-    let e6 : output ≡ b6 ++ f6 = behind_lines route_line v.routes b5 f6 output e5 in
-    let b7 = b6 ++ flat_map message_line v.msgs in
-    let e7 : output ≡ b7 ++ f7 = behind_lines message_line v.msgs b6 f7 output e6 in
-    let b8 = b7 ++ flat_map full_line v.fulls in
-    let e8 : output ≡ b8 ++ f8 = behind_lines full_line v.fulls b7 f8 output e7 in
+    let queues = queue_rows drivers v.msgs in
+    let f7 : List ℕ = filled (codes "}\n") [] in
+    let f6 : List ℕ = flat_map (full_text Line) v.fulls ++ f7 in
+    let f5 : List ℕ = flat_map (queue_row_text Line) queues ++ f6 in
+    let f4 : List ℕ = flat_map (binding_text Line) v.binds ++ f5 in
+    let f3 : List ℕ = flat_map (descriptor_text Line) v.fds ++ f4 in
+    let f2 : List ℕ = flat_map (route_text Line) v.routes ++ f3 in
+    let f1 : List ℕ = flat_map (hung_text Line) v.hungs ++ f2 in
+    let f0 : List ℕ = flat_map (link_text Line) v.links ++ f1 in
+    let b0 : List ℕ = filled dot_head [] in
+    let e0 : output ≡ b0 ++ (flat_map (driver_text Line) drivers ++ f0) = is ∙ simp append_assoc in
+    let b1 : List ℕ = b0 ++ flat_map (driver_text Line) drivers in
+    let e1 : output ≡ b1 ++ f0 = behind_lines driver_text drivers b0 f0 output e0 in
+    let b2 : List ℕ = b1 ++ flat_map (link_text Line) v.links in
+    let e2 : output ≡ b2 ++ f1 = behind_lines link_text v.links b1 f1 output e1 in
+    let b3 : List ℕ = b2 ++ flat_map (hung_text Line) v.hungs in
+    let e3 : output ≡ b3 ++ f2 = behind_lines hung_text v.hungs b2 f2 output e2 in
+    let b4 : List ℕ = b3 ++ flat_map (route_text Line) v.routes in
+    let e4 : output ≡ b4 ++ f3 = behind_lines route_text v.routes b3 f3 output e3 in
+    let b5 : List ℕ = b4 ++ flat_map (descriptor_text Line) v.fds in
+    let e5 : output ≡ b5 ++ f4 = behind_lines descriptor_text v.fds b4 f4 output e4 in
+    let b6 : List ℕ = b5 ++ flat_map (binding_text Line) v.binds in
+    let e6 : output ≡ b6 ++ f5 = behind_lines binding_text v.binds b5 f5 output e5 in
+    let b7 : List ℕ = b6 ++ flat_map (queue_row_text Line) queues in
+    let e7 : output ≡ b7 ++ f6 = behind_lines queue_row_text queues b6 f6 output e6 in
     record {
-      drivers = each_written driver_line drivers dot_head f1 output e0;
-      queues = each_written queue_line queues b1 f2 output e1;
-      descriptors = each_written descriptor_line v.fds b2 f3 output e2;
-      links = each_written link_line v.links b3 f4 output e3;
-      bindings = each_written binding_line v.binds b4 f5 output e4;
-      routes = each_written route_line v.routes b5 f6 output e5;
-      messages = each_written message_line v.msgs b6 f7 output e6;
-      fulls = each_written full_line v.fulls b7 f8 output e7;
-      hungs = each_written hung_line v.hungs b8 dot_foot output e8;
+      drivers = each_written driver_text drivers b0 f0 output e0;
+      links = each_written link_text v.links b1 f1 output e1;
+      hungs = each_written hung_text v.hungs b2 f2 output e2;
+      routes = each_written route_text v.routes b3 f3 output e3;
+      descriptors = each_written descriptor_text v.fds b4 f4 output e4;
+      bindings = each_written binding_text v.binds b5 f5 output e5;
+      queues = each_written queue_row_text queues b6 f6 output e6;
+      fulls = each_written full_text v.fulls b7 f7 output e7;
     }

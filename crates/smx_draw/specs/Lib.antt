@@ -1,9 +1,8 @@
 pub mod Pieces
-pub mod DotLines
-pub mod DotQueues
+pub mod Queues
+pub mod Parts
 pub mod DotText
 pub mod Drawing
-pub mod SvgStrokes
 pub mod SvgElements
 pub mod SvgFrame
 pub mod SvgText

@@ -4,16 +4,17 @@ use Rattle.std.specs.List.{AllByRecursion}
 use Rattle.smx_types.specs.declared.driver.DriverSpec.{DriverSpec}
 use Rattle.smx_types.specs.declared.transcript.Transcript.{Transcript}
 use Rattle.smx_types.specs.declared.view.ConfigView.{ConfigView}
-use Rattle.smx_draw.specs.DotLines.{binding_line, descriptor_line, driver_line, full_line, hung_line}
-use Rattle.smx_draw.specs.DotLines.{link_line, message_line, queue_line, route_line}
-use Rattle.smx_draw.specs.DotQueues.{queues_of}
 use Rattle.smx_draw.specs.DotText.{dot_text}
 use Rattle.smx_draw.specs.Drawing.{HasPart}
-use Rattle.smx_draw.specs.SvgElements.{binding_element, descriptor_element, driver_element, full_element, hung_element}
-use Rattle.smx_draw.specs.SvgElements.{link_element, message_element, route_element}
+use Rattle.smx_draw.specs.Parts.{binding_text, descriptor_text, driver_text, full_text, hung_text, link_text}
+use Rattle.smx_draw.specs.Parts.{queue_row_text, route_text}
+use Rattle.smx_draw.specs.Queues.{queue_rows}
+use Rattle.smx_draw.specs.SvgElements.{frame_element, gauge_element, row, way_element}
 use Rattle.smx_draw.specs.SvgText.{IsSvgOf}
 use Rattle.smx_draw.specs.declared.form.Form.{Form}
 use Rattle.smx_draw.specs.declared.form.Form.TheVariants.{Svg, Dot}
+use Rattle.smx_draw.specs.declared.parts.Look.{Look}
+use Rattle.smx_draw.specs.declared.parts.Look.TheVariants.{Line}
 use Rattle.smx_draw.specs.declared.svg.area.Area.{Area}
 
 -- a picture of the configuration that a transcript shows, in this form
@@ -26,28 +27,31 @@ abbrev pub EachIsDrawn : {X : Type 0} → (X → Area → List ℕ) → List X �
 EachIsDrawn element xs output = AllByRecursion (λ x. (at : Area) × HasPart output (element x at)) xs
 
 -- the text contains the line of each of these
-abbrev pub EachHasLine : {X : Type 0} → (X → List ℕ) → List X → List ℕ → Type 0
-EachHasLine line xs output = AllByRecursion (λ x. HasPart output (line x)) xs
+abbrev pub EachHasLine : {X : Type 0} → (Look → X → List ℕ) → List X → List ℕ → Type 0
+EachHasLine text xs output = AllByRecursion (λ x. HasPart output (text Line x)) xs
 
--- the text contains the element of each driver and of each part of the view
+-- the text contains the frame and the row of each driver, the way of each link, the gauge of each queue with messages,
+-- and the row of each part of the view; of the messages of a queue those up to the eighth and the number of the others
 pub record HasEachInSvg (table : List DriverSpec) (v : ConfigView) (output : List ℕ) : Type 0 where
-  pub drivers : EachIsDrawn driver_element table output
-  pub hungs : EachIsDrawn hung_element v.hungs output
-  pub descriptors : EachIsDrawn descriptor_element v.fds output
-  pub bindings : EachIsDrawn binding_element v.binds output
-  pub routes : EachIsDrawn route_element v.routes output
-  pub messages : EachIsDrawn message_element v.msgs output
-  pub fulls : EachIsDrawn full_element v.fulls output
-  pub links : EachIsDrawn link_element v.links output
+  pub frames : EachIsDrawn frame_element table output
+  pub ways : EachIsDrawn way_element v.links output
+  pub gauges : EachIsDrawn gauge_element (queue_rows table v.msgs) output
+  pub drivers : EachIsDrawn (row driver_text) table output
+  pub links : EachIsDrawn (row link_text) v.links output
+  pub hungs : EachIsDrawn (row hung_text) v.hungs output
+  pub routes : EachIsDrawn (row route_text) v.routes output
+  pub descriptors : EachIsDrawn (row descriptor_text) v.fds output
+  pub bindings : EachIsDrawn (row binding_text) v.binds output
+  pub queues : EachIsDrawn (row queue_row_text) (queue_rows table v.msgs) output
+  pub fulls : EachIsDrawn (row full_text) v.fulls output
 
--- the text contains the line of each driver, of each queue with messages, and of each part of the view
+-- the text contains the line of each driver, of each part of the view, and of each row of its queues
 pub record HasEachInDot (table : List DriverSpec) (v : ConfigView) (output : List ℕ) : Type 0 where
-  pub drivers : EachHasLine driver_line table output
-  pub queues : EachHasLine queue_line (queues_of table v.msgs) output
-  pub descriptors : EachHasLine descriptor_line v.fds output
-  pub links : EachHasLine link_line v.links output
-  pub bindings : EachHasLine binding_line v.binds output
-  pub routes : EachHasLine route_line v.routes output
-  pub messages : EachHasLine message_line v.msgs output
-  pub fulls : EachHasLine full_line v.fulls output
-  pub hungs : EachHasLine hung_line v.hungs output
+  pub drivers : EachHasLine driver_text table output
+  pub links : EachHasLine link_text v.links output
+  pub hungs : EachHasLine hung_text v.hungs output
+  pub routes : EachHasLine route_text v.routes output
+  pub descriptors : EachHasLine descriptor_text v.fds output
+  pub bindings : EachHasLine binding_text v.binds output
+  pub queues : EachHasLine queue_row_text (queue_rows table v.msgs) output
+  pub fulls : EachHasLine full_text v.fulls output

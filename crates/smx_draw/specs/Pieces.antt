@@ -1,7 +1,7 @@
--- The pieces of a picture's line, as text.
-use Rattle.std.specs.Prelude.{ℕ, List, length, min, codes}
+-- The texts of a picture, each made from a template and pieces.
+use Rattle.std.specs.Prelude.{ℕ, ◌-◌, Bool, true, false, List, [], ◌∷◌, ◌++◌, codes, get_or, length, min, nat_eq}
+use Rattle.std.specs.Prelude.{if◌then◌else◌}
 use Rattle.std.specs.Fmt.{decimal}
-use Rattle.std.specs.List.{flat_map}
 use Rattle.smx_types.specs.declared.driver.DriverKind.{DriverKind}
 use Rattle.smx_types.specs.declared.driver.DriverKind.TheVariants as kind
 use Rattle.smx_types.specs.declared.link.LinkKind.{LinkKind}
@@ -31,6 +31,10 @@ abbrev pub side_word : Side → List ℕ
 side_word side.Write = codes "write"
 side_word side.Read = codes "read"
 
+abbrev pub side_letter : Side → List ℕ
+side_letter side.Write = codes "w"
+side_letter side.Read = codes "r"
+
 -- a number, at most the largest of 32 bits
 abbrev pub shown_number : ℕ → ℕ
 shown_number n = min n 4294967295
@@ -39,22 +43,24 @@ shown_number n = min n 4294967295
 abbrev pub shown_length : List ℕ → ℕ
 shown_length bytes = shown_number (length bytes)
 
--- a text as it is, a number in decimal, a name, a word
+-- a number in decimal, a name, a word
 abbrev pub piece_text : Piece → List ℕ
-piece_text (piece.Text text) = text.now
 piece_text (piece.Number n) = decimal n
 piece_text (piece.Process process) = decimal process.now
-piece_text (piece.Length bytes) = decimal (shown_length bytes.now)
 piece_text (piece.Name name) = name.now
 piece_text (piece.Driver kind) = driver_word kind
 piece_text (piece.Link kind) = link_word kind
 piece_text (piece.Stroke kind) = stroke kind
 piece_text (piece.Side side) = side_word side
+piece_text (piece.Letter side) = side_letter side
 
--- pieces, one after the other
-abbrev pub pieces_text : List Piece → List ℕ
-pieces_text pieces = flat_map piece_text pieces
+-- the rest of a template, after a hole `@` or not: a hole and the digit after it stand for the text of this number
+abbrev pub filled_from : Bool → List ℕ → List (List ℕ) → List ℕ
+filled_from hole [] texts = []
+filled_from true (c ∷ template) texts = get_or texts (c - 48) [] ++ filled_from false template texts
+filled_from false (c ∷ template) texts =
+    if nat_eq c 64 then filled_from true template texts else c ∷ filled_from false template texts
 
--- texts, one after the other
-abbrev pub joined : List (List ℕ) → List ℕ
-joined texts = flat_map (λ text. text) texts
+-- a template with a text in place of each hole
+abbrev pub filled : List ℕ → List (List ℕ) → List ℕ
+filled template texts = filled_from false template texts

@@ -1,90 +1,72 @@
 -- The SVG element of each part of a picture, at some place.
-use Rattle.std.specs.Prelude.{ℕ, List, [], ◌∷◌, codes}
+use Rattle.std.specs.Prelude.{ℕ, ◌-◌, Bool, true, false, List, [], ◌∷◌, ◌++◌, codes}
 use Rattle.std.specs.Fmt.{decimal}
 use Rattle.smx_types.specs.declared.driver.DriverSpec.{DriverSpec}
-use Rattle.smx_types.specs.declared.view.BindingLine.{BindingLine}
-use Rattle.smx_types.specs.declared.view.DescriptorLine.{DescriptorLine}
-use Rattle.smx_types.specs.declared.view.FullLine.{FullLine}
-use Rattle.smx_types.specs.declared.view.HungLine.{HungLine}
 use Rattle.smx_types.specs.declared.view.LinkLine.{LinkLine}
-use Rattle.smx_types.specs.declared.view.MessageLine.{MessageLine}
-use Rattle.smx_types.specs.declared.view.RouteLine.{RouteLine}
-use Rattle.smx_draw.specs.Pieces.{driver_word, joined, link_word, shown_length, side_word}
-use Rattle.smx_draw.specs.SvgStrokes.{box, curve}
+use Rattle.smx_draw.specs.Pieces.{driver_word, filled, link_word}
+use Rattle.smx_draw.specs.declared.parts.Look.{Look}
+use Rattle.smx_draw.specs.declared.parts.Look.TheVariants.{Class, Label}
+use Rattle.smx_draw.specs.declared.queues.QueueItem.{QueueItem}
+use Rattle.smx_draw.specs.declared.queues.QueueItem.TheVariants.{Bytes, Message, More}
+use Rattle.smx_draw.specs.declared.queues.QueueRow.{QueueRow}
 use Rattle.smx_draw.specs.declared.svg.area.Area.{Area}
-use Rattle.smx_draw.specs.declared.svg.boxes.Gauge.{Gauge}
-use Rattle.smx_draw.specs.declared.svg.boxes.StreamBox.{StreamBox}
+use Rattle.smx_draw.specs.declared.svg.under.Stream.{Stream}
 
--- a driver: its name and kind, its minors, its longest message, and its water marks
-abbrev pub driver_element : DriverSpec → Area → List ℕ
-driver_element d at =
-    joined (box (driver_word d.kind) at ∷ codes "<text class=\"name\" x=\"" ∷ decimal at.left ∷
-    codes "\" y=\"" ∷ decimal at.bottom ∷ codes "\" dx=\"8\" dy=\"-34\">" ∷ d.name ∷ codes " " ∷
-    driver_word d.kind ∷ codes "</text><text x=\"" ∷ decimal at.left ∷ codes "\" y=\"" ∷ decimal at.bottom ∷
-    codes "\" dx=\"8\" dy=\"-20\">minors " ∷ decimal d.minors ∷ codes ", longest " ∷ decimal d.max ∷
-    codes "</text><text x=\"" ∷ decimal at.left ∷ codes "\" y=\"" ∷ decimal at.bottom ∷
-    codes "\" dx=\"8\" dy=\"-8\">high " ∷ decimal d.high ∷ codes ", low " ∷ decimal d.low ∷
-    codes "</text></g>\n" ∷ [])
+-- the corners of a place
+abbrev pub corners : Area → List (List ℕ)
+corners at = decimal at.left ∷ decimal at.top ∷ decimal at.right ∷ decimal at.bottom ∷ []
 
--- a stream: its driver and its minor
-abbrev pub stream_element : StreamBox → Area → List ℕ
-stream_element s at =
-    joined (box (codes "stream") at ∷ codes "<text x=\"" ∷ decimal at.left ∷ codes "\" y=\"" ∷ decimal at.top ∷
-    codes "\" dx=\"5\" dy=\"13\">" ∷ s.driver ∷ codes " " ∷ decimal s.minor ∷ codes "</text></g>\n" ∷ [])
+-- the row of a part: a rectangle with its label
+abbrev pub row : {X : Type 0} → (Look → X → List ℕ) → X → Area → List ℕ
+row text x at =
+    codes "<g class=\"" ++ (text Class x ++ (
+    filled (codes "\"><path d=\"M@0 @1H@2V@3H@0Z\"/><text x=\"@0\" y=\"@1\" dx=\"6\" dy=\"11\">") (corners at)
+    ++ (text Label x ++ codes "</text></g>\n")))
 
--- a queue: its side, its bytes and its water marks, in numbers and as a gauge
-abbrev pub gauge_element : Gauge → Area → List ℕ
-gauge_element g at =
-    joined (box (codes "queue") at ∷ codes "<path class=\"bytes\" d=\"M" ∷ decimal at.left ∷ codes " " ∷
-    decimal at.bottom ∷ codes "H" ∷ decimal g.level ∷ codes "\"/><path class=\"mark\" d=\"M" ∷ decimal g.mark ∷
-    codes " " ∷ decimal at.top ∷ codes "V" ∷ decimal at.bottom ∷ codes "\"/><text x=\"" ∷ decimal at.left ∷
-    codes "\" y=\"" ∷ decimal at.top ∷ codes "\" dx=\"5\" dy=\"11\">" ∷ side_word g.side ∷ codes " " ∷
-    decimal g.bytes ∷ codes " of " ∷ decimal g.high ∷ codes "</text></g>\n" ∷ [])
+-- the frame of a driver
+abbrev pub frame_element : DriverSpec → Area → List ℕ
+frame_element d at =
+    filled (codes "<path class=\"frame @4\" d=\"M@0 @1H@2V@3H@0Z\"/>\n") (corners at ++ driver_word d.kind ∷ [])
 
--- a descriptor: its process and its number
-abbrev pub descriptor_element : DescriptorLine → Area → List ℕ
-descriptor_element d at =
-    joined (codes "<text class=\"descriptor\" x=\"" ∷ decimal at.left ∷ codes "\" y=\"" ∷ decimal at.top ∷
-    codes "\" dx=\"5\" dy=\"11\">process " ∷ decimal d.process ∷ codes " fd " ∷ decimal d.fd ∷
-    codes "</text>\n" ∷ [])
+-- a link: its way from its controlling stream to its lower stream, twice, since the first is its halo
+abbrev pub way_element : LinkLine → Area → List ℕ
+way_element l at =
+    filled (
+    codes "<g class=\"way @1 link-@0\"><title>link @0 @1 by @2 @3</title>"
+    ++ codes "<path class=\"halo\" d=\"M@4 @5V@6H@7V@8H@9\"/><path d=\"M@4 @5V@6H@7V@8H@9\"/></g>\n"
+    ) (
+    decimal l.id ∷ link_word l.kind ∷ l.ctl_driver ∷ decimal l.ctl_minor ∷ decimal at.left ∷ decimal at.top ∷
+    decimal at.bend ∷ decimal at.lane ∷ decimal at.bottom ∷ decimal at.right ∷ []
+    )
 
--- the address to which a stream is bound
-abbrev pub binding_element : BindingLine → Area → List ℕ
-binding_element b at =
-    joined (codes "<text class=\"address\" x=\"" ∷ decimal at.left ∷ codes "\" y=\"" ∷ decimal at.top ∷
-    codes "\" dx=\"5\" dy=\"11\">bound to " ∷ decimal b.addr ∷ codes "</text>\n" ∷ [])
+-- the column of a stream, with its driver and its minor
+abbrev pub stream_template : Bool → List ℕ
+stream_template true =
+    codes "<g class=\"closed\"><path d=\"M@0 @1H@2V@3H@0Z\"/>"
+    ++ codes "<text x=\"@0\" y=\"@1\" dx=\"6\" dy=\"11\">@4 @5 closed</text></g>\n"
+stream_template false =
+    codes "<g class=\"stream stream-@4-@5\"><path d=\"M@0 @1H@2V@3H@0Z\"/>"
+    ++ codes "<text x=\"@0\" y=\"@1\" dx=\"6\" dy=\"11\">@4 @5</text></g>\n"
 
--- a route: its address, and the id of its link
-abbrev pub route_element : RouteLine → Area → List ℕ
-route_element r at =
-    joined (codes "<text class=\"address\" x=\"" ∷ decimal at.left ∷ codes "\" y=\"" ∷ decimal at.top ∷
-    codes "\" dx=\"0\" dy=\"11\">route " ∷ decimal r.addr ∷ codes " by link " ∷ decimal r.id ∷
-    codes "</text>\n" ∷ [])
+abbrev pub stream_element : Stream → Area → List ℕ
+stream_element s at = filled (stream_template s.is_closed) (corners at ++ s.driver ∷ decimal s.minor ∷ [])
 
--- a link: a curve from its upper driver to its lower stream, its id and kind, and its controlling stream
-abbrev pub link_element : LinkLine → Area → List ℕ
-link_element l at =
-    joined (curve l.kind at ∷ codes "<text class=\"id\" x=\"" ∷ decimal at.right ∷ codes "\" y=\"" ∷
-    decimal at.bottom ∷ codes "\" dx=\"9\" dy=\"20\">link " ∷ decimal l.id ∷ codes " " ∷ link_word l.kind ∷
-    codes "</text><text x=\"" ∷ decimal at.right ∷ codes "\" y=\"" ∷ decimal at.bottom ∷
-    codes "\" dx=\"9\" dy=\"34\">by " ∷ l.ctl_driver ∷ codes " " ∷ decimal l.ctl_minor ∷
-    codes "</text></g>\n" ∷ [])
+-- the gauge of a queue, of this width, which is its high water mark: its bytes, and below them its low water mark
+abbrev pub sized_gauge : ℕ → ℕ → ℕ → ℕ → Area → List ℕ
+sized_gauge width bytes high low at =
+    filled (
+    codes "<svg class=\"gauge\" x=\"@0\" y=\"@1\" width=\"@2\" height=\"14\" viewBox=\"0 0 @4 14\""
+    ++ codes " preserveAspectRatio=\"none\"><path class=\"bytes\" d=\"M0 0H@3V14H0Z\"/>"
+    ++ codes "<path class=\"low\" d=\"M0 12H@5V14H0Z\"/></svg>\n"
+    ) (
+    decimal at.left ∷ decimal at.top ∷ decimal width ∷ decimal bytes ∷ decimal high ∷ decimal low ∷ []
+    )
 
--- a message: its serial, its address and its length
-abbrev pub message_element : MessageLine → Area → List ℕ
-message_element m at =
-    joined (box (codes "message") at ∷ codes "<text x=\"" ∷ decimal at.left ∷ codes "\" y=\"" ∷ decimal at.top ∷
-    codes "\" dx=\"5\" dy=\"10\">message " ∷ decimal m.message.serial ∷ codes " to " ∷ decimal m.message.addr ∷
-    codes ", " ∷ decimal (shown_length m.message.bytes) ∷ codes " B</text></g>\n" ∷ [])
+-- the gauge of a row of a queue, as wide as the row: only the row of its bytes has one
+abbrev pub gauge : QueueItem → Area → List ℕ
+gauge (Message serial addr length) at = []
+gauge (More count) at = []
+gauge (Bytes bytes high low) at = sized_gauge (at.right - at.left) bytes high low at
 
--- the mark of a full queue
-abbrev pub full_element : FullLine → Area → List ℕ
-full_element f at =
-    joined (box (codes "full") at ∷ codes "<text x=\"" ∷ decimal at.right ∷ codes "\" y=\"" ∷ decimal at.top ∷
-    codes "\" dx=\"-4\" dy=\"11\">full</text></g>\n" ∷ [])
-
--- the mark of a stream whose device has hung up
-abbrev pub hung_element : HungLine → Area → List ℕ
-hung_element h at =
-    joined (box (codes "hung") at ∷ codes "<text x=\"" ∷ decimal at.right ∷ codes "\" y=\"" ∷ decimal at.top ∷
-    codes "\" dx=\"-4\" dy=\"13\">hung up</text></g>\n" ∷ [])
+abbrev pub gauge_element : QueueRow → Area → List ℕ
+gauge_element q at = gauge q.item at

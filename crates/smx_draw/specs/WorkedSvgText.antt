@@ -1,210 +1,230 @@
 -- A worked picture as SVG, typed in by hand.
-use Rattle.std.specs.Prelude.{ℕ, ◌+◌, List, [], ◌∷◌, ◌++◌, codes, refl}
+use Rattle.std.specs.Prelude.{ℕ, ◌+◌, true, false, List, [], ◌∷◌, ◌++◌, codes, refl}
 use Rattle.std.specs.Fmt.{digits}
-use Rattle.smx_types.specs.declared.stream.Side.TheVariants.{Read, Write}
-use Rattle.smx_draw.specs.SvgText.{DrawsBoxes, DrawsView, IsSvgOf}
-use Rattle.smx_draw.specs.WorkedViews.{ip, shown, table}
+use Rattle.smx_draw.specs.Queues.{queue_rows}
+use Rattle.smx_draw.specs.SvgFrame.{svg_head}
+use Rattle.smx_draw.specs.SvgText.{DrawsRows, DrawsUnder, IsSvgOf}
+use Rattle.smx_draw.specs.WorkedViews.{ip, messages, shown, table}
 use Rattle.smx_draw.specs.declared.svg.area.Area.{Area}
-use Rattle.smx_draw.specs.declared.svg.boxes.Gauge.{Gauge}
-use Rattle.smx_draw.specs.declared.svg.boxes.StreamBox.{StreamBox}
+use Rattle.smx_draw.specs.declared.svg.under.Stream.{Stream}
 
 -- a place, with a different number in each field
 abbrev pub at : ℕ → Area
-at n = record { left = n + 11; top = n + 22; right = n + 33; bottom = n + 44; bend = n + 55 }
+at n =
+    record { left = n + 11; top = n + 22; right = n + 33; bottom = n + 44; bend = n + 55; lane = n + 66 }
 
--- a stream and its queues
-abbrev pub stream : StreamBox
-stream = record { driver = ip; minor = 1; area = at 300 }
+-- a stream, and a closed one
+abbrev pub streams : List Stream
+streams =
+    record { driver = ip; minor = 1; is_closed = false } ∷ record { driver = ip; minor = 3; is_closed = true } ∷ []
 
-abbrev pub written : Gauge
-written = record { side = Write; bytes = 5; high = 8; level = 321; mark = 322; area = at 300 }
+-- the frames
+abbrev pub drawn_frames : List ℕ
+drawn_frames =
+    codes "<path class=\"frame mux\" d=\"M111 122H133V144H111Z\"/>\n"
+    ++ codes "<path class=\"frame leaf\" d=\"M211 222H233V244H211Z\"/>\n"
 
-abbrev pub unread : Gauge
-unread = record { side = Read; bytes = 6; high = 8; level = 323; mark = 324; area = at 400 }
+-- the links
+abbrev pub drawn_ways : List ℕ
+drawn_ways =
+    codes "<g class=\"way ordinary link-1\"><title>link 1 ordinary by ip 3</title><path "
+    ++ codes "class=\"halo\" d=\"M311 322V355H366V344H333\"/><path d=\"M311 322V355H366V344H333\"/>"
+    ++ codes "</g>\n"
+    ++ codes "<g class=\"way persistent link-2\"><title>link 2 persistent by ip 2</title>"
+    ++ codes "<path class=\"halo\" d=\"M411 422V455H466V444H433\"/><path d=\"M411 422V455H466V444H433\"/></g>\n"
 
--- the head: its size, the style of its parts, and the legend
-abbrev pub worked_head : List ℕ
-worked_head =
-    codes "<svg xmlns=\"http://www.w3.org/2000/svg\" width=\"640\" height=\"480\" viewBox=\"0 0 640"
-    ++ codes " 480\">\n<style>\ntext { font: 10px sans-serif; fill: #1f2328 }\n"
-    ++ codes "path { fill: none; stroke: #8c959f }\n.page { fill: #ffffff }\n"
-    ++ codes ".mux path { fill: #eef4fb; stroke: #57606a }\n"
-    ++ codes ".leaf path { fill: #eef7ee; stroke: #57606a }\n.name { font: bold 13px sans-serif }\n"
-    ++ codes ".stream path { fill: #ffffff }\n.stream text { font-weight: bold }\n"
-    ++ codes ".queue .bytes { stroke: #d9a017; stroke-width: 5 }\n"
-    ++ codes ".queue .mark { stroke: #b0b7bf; stroke-dasharray: 2 2 }\n"
-    ++ codes ".message path { fill: #fff8e1; stroke: #d9c27a }\n.address { fill: #57606a }\n"
-    ++ codes ".full path { stroke: #cf222e; stroke-width: 2 }\n"
-    ++ codes ".full text { font-weight: bold; fill: #cf222e; text-anchor: end }\n"
-    ++ codes ".hung path { fill: #6e7781; fill-opacity: 0.3; stroke: #57606a; stroke-dasharray: 4 3 }\n"
-    ++ codes ".hung text { font-weight: bold; fill: #57606a; text-anchor: end }\n"
-    ++ codes ".ordinary path { stroke: #4682b4; stroke-width: 1.5 }\n"
-    ++ codes ".ordinary circle, .ordinary .id { fill: #35638a }\n"
-    ++ codes ".persistent path { stroke: #d96b00; stroke-width: 3.5 }\n"
-    ++ codes ".persistent circle, .persistent .id { fill: #b35900 }\n.id { font-weight: bold }\n"
-    ++ codes "</style>\n<rect class=\"page\" width=\"100%\" height=\"100%\"/>\n"
-    ++ codes "<g class=\"ordinary\"><path d=\"M24 20H64\"/><text class=\"id\" x=\"70\" y=\"24\">ordinary"
-    ++ codes " link</text></g>\n"
-    ++ codes "<g class=\"persistent\"><path d=\"M150 20H190\"/><text class=\"id\" x=\"196\" y=\"24\">persistent"
-    ++ codes " link</text></g>\n"
-    ++ codes "<g class=\"full\"><path d=\"M290 12H320V28H290Z\"/></g><text x=\"326\" y=\"24\">full queue"
-    ++ codes "</text>\n"
-    ++ codes "<g class=\"hung\"><path d=\"M390 12H420V28H390Z\"/></g><text x=\"426\" y=\"24\">stream hung"
-    ++ codes " up</text>\n"
+-- a stream, and a closed one
+abbrev pub drawn_columns : List ℕ
+drawn_columns =
+    codes "<g class=\"stream stream-ip-1\"><path d=\"M511 522H533V544H511Z\"/><text x=\"511\" "
+    ++ codes "y=\"522\" dx=\"6\" dy=\"11\">ip 1</text></g>\n"
+    ++ codes "<g class=\"closed\"><path d=\"M611 622H633V644H611Z\"/><text x=\"611\" y=\"622\" "
+    ++ codes "dx=\"6\" dy=\"11\">ip 3 closed</text></g>\n"
+
+-- the gauges of queues
+abbrev pub drawn_gauges : List ℕ
+drawn_gauges =
+    codes "<svg class=\"gauge\" x=\"711\" y=\"722\" width=\"22\" height=\"14\" viewBox=\"0 "
+    ++ codes "0 8 14\" preserveAspectRatio=\"none\"><path class=\"bytes\" d=\"M0 0H8V14H0Z\"/>"
+    ++ codes "<path class=\"low\" d=\"M0 12H3V14H0Z\"/></svg>\n"
+    ++ codes "<svg class=\"gauge\" x=\"711\" y=\"722\" width=\"22\" height=\"14\" viewBox=\"0 "
+    ++ codes "0 8 14\" preserveAspectRatio=\"none\"><path class=\"bytes\" d=\"M0 0H2V14H0Z\"/>"
+    ++ codes "<path class=\"low\" d=\"M0 12H3V14H0Z\"/></svg>\n"
+    ++ codes "<svg class=\"gauge\" x=\"711\" y=\"722\" width=\"22\" height=\"14\" viewBox=\"0 "
+    ++ codes "0 64 14\" preserveAspectRatio=\"none\"><path class=\"bytes\" d=\"M0 0H1V14H0Z\"/>"
+    ++ codes "<path class=\"low\" d=\"M0 12H9V14H0Z\"/></svg>\n"
+    ++ codes "<svg class=\"gauge\" x=\"711\" y=\"722\" width=\"22\" height=\"14\" viewBox=\"0 "
+    ++ codes "0 64 14\" preserveAspectRatio=\"none\"><path class=\"bytes\" d=\"M0 0H0V14H0Z\"/>"
+    ++ codes "<path class=\"low\" d=\"M0 12H9V14H0Z\"/></svg>\n"
+    ++ codes "<svg class=\"gauge\" x=\"711\" y=\"722\" width=\"22\" height=\"14\" viewBox=\"0 "
+    ++ codes "0 0 14\" preserveAspectRatio=\"none\"><path class=\"bytes\" d=\"M0 0H2V14H0Z\"/>"
+    ++ codes "<path class=\"low\" d=\"M0 12H0V14H0Z\"/></svg>\n"
 
 -- the drivers
-abbrev pub drawn_drivers : List ℕ
-drawn_drivers =
-    codes "<g class=\"mux\"><path d=\"M111 122H133V144H111Z\"/><text class=\"name\" x=\"111\" y=\"144\""
-    ++ codes " dx=\"8\" dy=\"-34\">ip mux</text><text x=\"111\" y=\"144\" dx=\"8\" dy=\"-20\">minors 4,"
-    ++ codes " longest 16</text><text x=\"111\" y=\"144\" dx=\"8\" dy=\"-8\">high 8, low 3</text></g>\n"
-    ++ codes "<g class=\"leaf\"><path d=\"M211 222H233V244H211Z\"/><text class=\"name\" x=\"211\" y=\"244\""
-    ++ codes " dx=\"8\" dy=\"-34\">eth leaf</text><text x=\"211\" y=\"244\" dx=\"8\" dy=\"-20\">minors"
-    ++ codes " 2, longest 1024</text><text x=\"211\" y=\"244\" dx=\"8\" dy=\"-8\">high 64, low 9</text>"
+abbrev pub drawn_titles : List ℕ
+drawn_titles =
+    codes "<g class=\"mux driver-ip\"><path d=\"M1011 1022H1033V1044H1011Z\"/><text x=\"1011\" "
+    ++ codes "y=\"1022\" dx=\"6\" dy=\"11\">ip mux, minors 4, longest 16, high 8, low 3</text>"
     ++ codes "</g>\n"
+    ++ codes "<g class=\"leaf driver-eth\"><path d=\"M1111 1122H1133V1144H1111Z\"/><text "
+    ++ codes "x=\"1111\" y=\"1122\" dx=\"6\" dy=\"11\">eth leaf, minors 2, longest 1024, "
+    ++ codes "high 64, low 9</text></g>\n"
 
--- a stream
-abbrev pub drawn_stream : List ℕ
-drawn_stream =
-    codes "<g class=\"stream\"><path d=\"M311 322H333V344H311Z\"/><text x=\"311\" y=\"322\" dx=\"5\""
-    ++ codes " dy=\"13\">ip 1</text></g>\n"
-
--- its write queue
-abbrev pub drawn_written : List ℕ
-drawn_written =
-    codes "<g class=\"queue\"><path d=\"M311 322H333V344H311Z\"/><path class=\"bytes\" d=\"M311 344H321\"/>"
-    ++ codes "<path class=\"mark\" d=\"M322 322V344\"/><text x=\"311\" y=\"322\" dx=\"5\" dy=\"11\">write"
-    ++ codes " 5 of 8</text></g>\n"
-
--- its read queue
-abbrev pub drawn_unread : List ℕ
-drawn_unread =
-    codes "<g class=\"queue\"><path d=\"M411 422H433V444H411Z\"/><path class=\"bytes\" d=\"M411 444H323\"/>"
-    ++ codes "<path class=\"mark\" d=\"M324 422V444\"/><text x=\"411\" y=\"422\" dx=\"5\" dy=\"11\">read"
-    ++ codes " 6 of 8</text></g>\n"
+-- the links
+abbrev pub drawn_links : List ℕ
+drawn_links =
+    codes "<g class=\"ordinary link-1\"><path d=\"M1211 1222H1233V1244H1211Z\"/><text "
+    ++ codes "x=\"1211\" y=\"1222\" dx=\"6\" dy=\"11\">link 1 ordinary by ip 3</text></g>"
+    ++ codes "\n"
+    ++ codes "<g class=\"persistent link-2\"><path d=\"M1311 1322H1333V1344H1311Z\"/><text "
+    ++ codes "x=\"1311\" y=\"1322\" dx=\"6\" dy=\"11\">link 2 persistent by ip 2</text></g>\n"
 
 -- a stream whose device has hung up
 abbrev pub drawn_hung : List ℕ
 drawn_hung =
-    codes "<g class=\"hung\"><path d=\"M511 522H533V544H511Z\"/><text x=\"533\" y=\"522\" dx=\"-4\""
-    ++ codes " dy=\"13\">hung up</text></g>\n"
-
--- a descriptor
-abbrev pub drawn_descriptor : List ℕ
-drawn_descriptor =
-    codes "<text class=\"descriptor\" x=\"611\" y=\"622\" dx=\"5\" dy=\"11\">process 5 fd 6</text>\n"
-
--- a binding
-abbrev pub drawn_binding : List ℕ
-drawn_binding =
-    codes "<text class=\"address\" x=\"711\" y=\"722\" dx=\"5\" dy=\"11\">bound to 77</text>\n"
+    codes "<g class=\"hung stream-eth-1\"><path d=\"M1411 1422H1433V1444H1411Z\"/><text "
+    ++ codes "x=\"1411\" y=\"1422\" dx=\"6\" dy=\"11\">hung up</text></g>\n"
 
 -- a route
 abbrev pub drawn_route : List ℕ
 drawn_route =
-    codes "<text class=\"address\" x=\"811\" y=\"822\" dx=\"0\" dy=\"11\">route 88 by link 2</text>\n"
+    codes "<g class=\"route route-ip-88\"><path d=\"M1511 1522H1533V1544H1511Z\"/><text "
+    ++ codes "x=\"1511\" y=\"1522\" dx=\"6\" dy=\"11\">route 88 by link 2</text></g>\n"
 
--- messages
-abbrev pub drawn_messages : List ℕ
-drawn_messages =
-    codes "<g class=\"message\"><path d=\"M1011 1022H1033V1044H1011Z\"/><text x=\"1011\" y=\"1022\""
-    ++ codes " dx=\"5\" dy=\"10\">message 21 to 77, 3 B</text></g>\n"
-    ++ codes "<g class=\"message\"><path d=\"M1111 1122H1133V1144H1111Z\"/><text x=\"1111\" y=\"1122\""
-    ++ codes " dx=\"5\" dy=\"10\">message 22 to 78, 5 B</text></g>\n"
-    ++ codes "<g class=\"message\"><path d=\"M1211 1222H1233V1244H1211Z\"/><text x=\"1211\" y=\"1222\""
-    ++ codes " dx=\"5\" dy=\"10\">message 23 to 79, 1 B</text></g>\n"
-    ++ codes "<g class=\"message\"><path d=\"M1311 1322H1333V1344H1311Z\"/><text x=\"1311\" y=\"1322\""
-    ++ codes " dx=\"5\" dy=\"10\">message 24 to 80, 1 B</text></g>\n"
-    ++ codes "<g class=\"message\"><path d=\"M1411 1422H1433V1444H1411Z\"/><text x=\"1411\" y=\"1422\""
-    ++ codes " dx=\"5\" dy=\"10\">message 25 to 81, 1 B</text></g>\n"
-    ++ codes "<g class=\"message\"><path d=\"M1511 1522H1533V1544H1511Z\"/><text x=\"1511\" y=\"1522\""
-    ++ codes " dx=\"5\" dy=\"10\">message 26 to 82, 0 B</text></g>\n"
-    ++ codes "<g class=\"message\"><path d=\"M1611 1622H1633V1644H1611Z\"/><text x=\"1611\" y=\"1622\""
-    ++ codes " dx=\"5\" dy=\"10\">message 27 to 83, 2 B</text></g>\n"
+-- a descriptor
+abbrev pub drawn_descriptor : List ℕ
+drawn_descriptor =
+    codes "<g class=\"descriptor fd-5-6\"><path d=\"M1611 1622H1633V1644H1611Z\"/><text "
+    ++ codes "x=\"1611\" y=\"1622\" dx=\"6\" dy=\"11\">process 5 fd 6</text></g>\n"
+
+-- a binding
+abbrev pub drawn_binding : List ℕ
+drawn_binding =
+    codes "<g class=\"bind bind-ip-77\"><path d=\"M1711 1722H1733V1744H1711Z\"/><text "
+    ++ codes "x=\"1711\" y=\"1722\" dx=\"6\" dy=\"11\">bound to 77</text></g>\n"
+
+-- the queues
+abbrev pub drawn_queues : List ℕ
+drawn_queues =
+    codes "<g class=\"message msg-21\"><path d=\"M1811 1822H1833V1844H1811Z\"/><text x=\"1811\" "
+    ++ codes "y=\"1822\" dx=\"6\" dy=\"11\">message 21 to 77, 3 B</text></g>\n"
+    ++ codes "<g class=\"message msg-22\"><path d=\"M1811 1822H1833V1844H1811Z\"/><text x=\"1811\" "
+    ++ codes "y=\"1822\" dx=\"6\" dy=\"11\">message 22 to 78, 5 B</text></g>\n"
+    ++ codes "<g class=\"queue queue-ip-1-w\"><path d=\"M1811 1822H1833V1844H1811Z\"/><text "
+    ++ codes "x=\"1811\" y=\"1822\" dx=\"6\" dy=\"11\">write 8 of 8, low 3</text></g>\n"
+    ++ codes "<g class=\"message msg-23\"><path d=\"M1811 1822H1833V1844H1811Z\"/><text x=\"1811\" "
+    ++ codes "y=\"1822\" dx=\"6\" dy=\"11\">message 23 to 79, 1 B</text></g>\n"
+    ++ codes "<g class=\"message msg-24\"><path d=\"M1811 1822H1833V1844H1811Z\"/><text x=\"1811\" "
+    ++ codes "y=\"1822\" dx=\"6\" dy=\"11\">message 24 to 80, 1 B</text></g>\n"
+    ++ codes "<g class=\"queue queue-ip-1-r\"><path d=\"M1811 1822H1833V1844H1811Z\"/><text "
+    ++ codes "x=\"1811\" y=\"1822\" dx=\"6\" dy=\"11\">read 2 of 8, low 3</text></g>\n"
+    ++ codes "<g class=\"message msg-25\"><path d=\"M1811 1822H1833V1844H1811Z\"/><text x=\"1811\" "
+    ++ codes "y=\"1822\" dx=\"6\" dy=\"11\">message 25 to 81, 1 B</text></g>\n"
+    ++ codes "<g class=\"queue queue-eth-0-w\"><path d=\"M1811 1822H1833V1844H1811Z\"/><text "
+    ++ codes "x=\"1811\" y=\"1822\" dx=\"6\" dy=\"11\">write 1 of 64, low 9</text></g>\n"
+    ++ codes "<g class=\"message msg-26\"><path d=\"M1811 1822H1833V1844H1811Z\"/><text x=\"1811\" "
+    ++ codes "y=\"1822\" dx=\"6\" dy=\"11\">message 26 to 82, 0 B</text></g>\n"
+    ++ codes "<g class=\"queue queue-eth-1-w\"><path d=\"M1811 1822H1833V1844H1811Z\"/><text "
+    ++ codes "x=\"1811\" y=\"1822\" dx=\"6\" dy=\"11\">write 0 of 64, low 9</text></g>\n"
+    ++ codes "<g class=\"message msg-27\"><path d=\"M1811 1822H1833V1844H1811Z\"/><text x=\"1811\" "
+    ++ codes "y=\"1822\" dx=\"6\" dy=\"11\">message 27 to 83, 2 B</text></g>\n"
+    ++ codes "<g class=\"queue queue-tap-1-w\"><path d=\"M1811 1822H1833V1844H1811Z\"/><text "
+    ++ codes "x=\"1811\" y=\"1822\" dx=\"6\" dy=\"11\">write 2 of 0, low 0</text></g>\n"
 
 -- full queues
 abbrev pub drawn_fulls : List ℕ
 drawn_fulls =
-    codes "<g class=\"full\"><path d=\"M2011 2022H2033V2044H2011Z\"/><text x=\"2033\" y=\"2022\" dx=\"-4\""
-    ++ codes " dy=\"11\">full</text></g>\n"
-    ++ codes "<g class=\"full\"><path d=\"M2111 2122H2133V2144H2111Z\"/><text x=\"2133\" y=\"2122\" dx=\"-4\""
-    ++ codes " dy=\"11\">full</text></g>\n"
+    codes "<g class=\"full queue-ip-1-w\"><path d=\"M1911 1922H1933V1944H1911Z\"/><text "
+    ++ codes "x=\"1911\" y=\"1922\" dx=\"6\" dy=\"11\">write queue full</text></g>\n"
+    ++ codes "<g class=\"full queue-eth-0-r\"><path d=\"M2011 2022H2033V2044H2011Z\"/><text "
+    ++ codes "x=\"2011\" y=\"2022\" dx=\"6\" dy=\"11\">read queue full</text></g>\n"
 
--- a link of each kind
-abbrev pub drawn_links : List ℕ
-drawn_links =
-    codes "<g class=\"ordinary\"><path d=\"M3011 3022C3011 3055 3033 3022 3033 3055V3044h4\"/><circle"
-    ++ codes " cx=\"3011\" cy=\"3022\" r=\"3\"/><text class=\"id\" x=\"3033\" y=\"3044\" dx=\"9\" dy=\"20\">link"
-    ++ codes " 1 ordinary</text><text x=\"3033\" y=\"3044\" dx=\"9\" dy=\"34\">by ip 3</text></g>\n"
-    ++ codes "<g class=\"persistent\"><path d=\"M3111 3122C3111 3155 3133 3122 3133 3155V3144h4\"/><circle"
-    ++ codes " cx=\"3111\" cy=\"3122\" r=\"3\"/><text class=\"id\" x=\"3133\" y=\"3144\" dx=\"9\" dy=\"20\">link"
-    ++ codes " 2 persistent</text><text x=\"3133\" y=\"3144\" dx=\"9\" dy=\"34\">by ip 2</text></g>\n"
+-- the texts up to each group
+abbrev pub up_to_frames : List ℕ
+up_to_frames = svg_head 640 480 ++ drawn_frames
 
--- the foot: the id of the next link, and the serial of the next message
-abbrev pub worked_foot : List ℕ
-worked_foot =
-    codes "<text x=\"24\" y=\"44\">next link 3, next message 28</text>\n</svg>\n"
+abbrev pub up_to_ways : List ℕ
+up_to_ways = up_to_frames ++ drawn_ways
 
--- the whole text
-abbrev pub worked_boxes : List ℕ
-worked_boxes = worked_head ++ drawn_drivers ++ drawn_stream ++ drawn_written ++ drawn_unread
+abbrev pub up_to_columns : List ℕ
+up_to_columns = up_to_ways ++ drawn_columns
 
-abbrev pub worked_parts : List ℕ
-worked_parts = worked_boxes ++ drawn_hung ++ drawn_descriptor ++ drawn_binding ++ drawn_route
-    ++ drawn_messages ++ drawn_fulls ++ drawn_links
+abbrev pub up_to_gauges : List ℕ
+up_to_gauges = up_to_columns ++ drawn_gauges
 
-abbrev pub worked_svg : List ℕ
-worked_svg = worked_parts ++ worked_foot
+abbrev pub up_to_titles : List ℕ
+up_to_titles = up_to_gauges ++ drawn_titles
 
--- the drivers, the stream and its queues are drawn after the head
-pub boxes_are_drawn : DrawsBoxes table worked_head worked_boxes
+abbrev pub up_to_links : List ℕ
+up_to_links = up_to_titles ++ drawn_links
+
+abbrev pub up_to_hung : List ℕ
+up_to_hung = up_to_links ++ drawn_hung
+
+abbrev pub up_to_route : List ℕ
+up_to_route = up_to_hung ++ drawn_route
+
+abbrev pub up_to_descriptor : List ℕ
+up_to_descriptor = up_to_route ++ drawn_descriptor
+
+abbrev pub up_to_binding : List ℕ
+up_to_binding = up_to_descriptor ++ drawn_binding
+
+abbrev pub up_to_queues : List ℕ
+up_to_queues = up_to_binding ++ drawn_queues
+
+abbrev pub up_to_fulls : List ℕ
+up_to_fulls = up_to_queues ++ drawn_fulls
+
+-- what is under the rows is drawn after the head
+pub under_is_drawn : DrawsUnder table shown (queue_rows table messages) (svg_head 640 480) up_to_gauges
 unfolding digits
-boxes_are_drawn =
+under_is_drawn =
     record {
-      streams = stream ∷ [];
-      written = written ∷ [];
-      read = unread ∷ [];
-      behind_drivers = worked_head ++ drawn_drivers;
-      behind_streams = worked_head ++ drawn_drivers ++ drawn_stream;
-      behind_written = worked_head ++ drawn_drivers ++ drawn_stream ++ drawn_written;
-      drivers_drawn = (at 100, (at 200, refl));
-      streams_drawn = (at 300, refl);
-      written_drawn = (at 300, refl);
-      read_drawn = (at 400, refl);
+      streams = streams;
+      behind_frames = up_to_frames;
+      behind_ways = up_to_ways;
+      behind_streams = up_to_columns;
+      frames_drawn = (at 100, (at 200, refl));
+      ways_drawn = (at 300, (at 400, refl));
+      streams_drawn = (at 500, (at 600, refl));
+      gauges_drawn = (at 700, (at 700, (at 700, (at 700, (at 700, (at 700, (at 700, (at 700, (at 700, (at 700, (at 700, (at 700, refl))))))))))));
     }
 
--- then each part of the view is drawn
-pub parts_are_drawn : DrawsView shown worked_boxes worked_parts
+-- then the rows
+pub rows_are_drawn : DrawsRows table shown (queue_rows table messages) up_to_gauges up_to_fulls
 unfolding digits
-parts_are_drawn =
+rows_are_drawn =
     record {
-      behind_hungs = worked_boxes ++ drawn_hung;
-      behind_fds = worked_boxes ++ drawn_hung ++ drawn_descriptor;
-      behind_binds = worked_boxes ++ drawn_hung ++ drawn_descriptor ++ drawn_binding;
-      behind_routes = worked_boxes ++ drawn_hung ++ drawn_descriptor ++ drawn_binding ++ drawn_route;
-      behind_msgs = worked_boxes ++ drawn_hung ++ drawn_descriptor ++ drawn_binding ++ drawn_route
-          ++ drawn_messages;
-      behind_fulls = worked_boxes ++ drawn_hung ++ drawn_descriptor ++ drawn_binding ++ drawn_route
-          ++ drawn_messages ++ drawn_fulls;
-      hungs = (at 500, refl);
-      fds = (at 600, refl);
-      binds = (at 700, refl);
-      routes = (at 800, refl);
-      msgs = (at 1000, (at 1100, (at 1200, (at 1300, (at 1400, (at 1500, (at 1600, refl)))))));
-      fulls = (at 2000, (at 2100, refl));
-      links = (at 3000, (at 3100, refl));
+      behind_drivers = up_to_titles;
+      behind_links = up_to_links;
+      behind_hungs = up_to_hung;
+      behind_routes = up_to_route;
+      behind_fds = up_to_descriptor;
+      behind_binds = up_to_binding;
+      behind_queues = up_to_queues;
+      drivers = (at 1000, (at 1100, refl));
+      links = (at 1200, (at 1300, refl));
+      hungs = (at 1400, refl);
+      routes = (at 1500, refl);
+      fds = (at 1600, refl);
+      binds = (at 1700, refl);
+      queues = (at 1800, (at 1800, (at 1800, (at 1800, (at 1800, (at 1800, (at 1800, (at 1800, (at 1800, (at 1800, (at 1800, (at 1800, refl))))))))))));
+      fulls = (at 1900, (at 2000, refl));
     }
 
 -- so the text is a picture of the view
-pub is_a_picture : IsSvgOf table shown worked_svg
+pub is_a_picture : IsSvgOf table shown (
+    up_to_fulls ++ codes "<text x=\"24\" y=\"44\">next link 3, next message 28</text>\n</svg>\n"
+    )
 unfolding digits
 is_a_picture =
     record {
       width = 640;
       height = 480;
-      behind_boxes = worked_boxes;
-      behind_view = worked_parts;
-      boxes = boxes_are_drawn;
-      parts = parts_are_drawn;
+      behind_under = up_to_gauges;
+      behind_rows = up_to_fulls;
+      under = under_is_drawn;
+      rows = rows_are_drawn;
       ends = refl;
     }

@@ -5,8 +5,10 @@
 mod dot;
 mod form;
 pub mod laws_of_pictures;
+mod parts;
 mod pictures;
 mod pieces;
+mod queues;
 mod svg;
 
 pub use form::Form;

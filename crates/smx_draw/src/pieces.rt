@@ -1,24 +1,20 @@
-//! The pieces of a picture's line.
+//! The texts of a picture, each made from a template.
 
-ghost use Rattle.std.specs.Prelude.{◌≡◌, ◌++◌, OnOk};
+ghost use Rattle.std.specs.Prelude.{◌≡◌, ◌++◌, [], OnOk, get_or, map};
 ghost use Rattle.std.specs.Fmt.{decimal};
-ghost use Rattle.smx_draw.specs.Pieces.{driver_word, link_word, side_word, stroke};
-ghost use Rattle.smx_draw.specs.Pieces.{piece_text, pieces_text, shown_length};
+ghost use Rattle.smx_draw.specs.Pieces.{driver_word, filled, link_word, piece_text, shown_length};
+ghost use Rattle.smx_draw.specs.Pieces.{side_letter, side_word, stroke};
 
 use itoa::Buffer;
-use smx_types::{Bytes, DriverKind, LinkKind, Name, NoMemory, Process, Side};
+use smx_types::{DriverKind, LinkKind, Name, NoMemory, Process, Side};
 
-/// A part of a line. Names consist of lower-case letters and digits, so nothing that is written needs escaping.
+/// A value in a text. Names consist of lower-case letters and digits, so nothing that is written needs escaping.
 #[derive(Clone, Copy)]
 pub enum Piece<'a> {
-    /// This text.
-    Text(&'a [u8]),
     /// A number, in decimal.
     Number(u32),
     /// The number of a process.
     Process(&'a Process),
-    /// How many bytes these are.
-    Length(&'a Bytes),
     /// The name of a driver.
     Name(&'a Name),
     /// Whether a driver is a leaf or a multiplexer.
@@ -27,33 +23,53 @@ pub enum Piece<'a> {
     Link(LinkKind),
     /// How Graphviz draws a link of this kind.
     Stroke(LinkKind),
-    /// The side of a queue.
+    /// The side of a queue, in a word.
     Side(Side),
+    /// The side of a queue, as transcripts spell it.
+    Letter(Side),
 }
 
-/// Appends these pieces to `out`. If memory runs out, `out` may end with some of them.
-pub fn put(out: &mut Vec<u8>, pieces: &[Piece]) -> Result<(), NoMemory>
-    ensures { OnOk result (out.new.items ≡ out.old.items ++ pieces_text pieces.now) }
+/// Appends a template to `out`, with a piece in place of each `@` and digit, which is its number. If memory runs out,
+/// `out` may end with a part of it.
+pub fn put(out: &mut Vec<u8>, template: &[u8], pieces: &[Piece]) -> Result<(), NoMemory>
+    ensures { OnOk result (out.new.items ≡ out.old.items ++ filled template.now (map piece_text pieces.now)) }
 {
-    for piece in pieces {
-        put_piece(out, piece)?;
+    let mut is_hole = false;
+    for byte in template {
+        if is_hole {
+            put_numbered(out, pieces, byte.saturating_sub(b'0'))?;
+            is_hole = false;
+        } else if *byte == b'@' {
+            is_hole = true;
+        } else {
+            out.push(*byte)?;
+        }
     }
     Ok(())
+}
+
+// Appends the piece of this number, if there is one.
+fn put_numbered(out: &mut Vec<u8>, pieces: &[Piece], number: u8) -> Result<(), NoMemory>
+    ensures { OnOk result (out.new.items ≡ out.old.items ++ get_or (map piece_text pieces.now) number []) }
+{
+    match pieces.get(number as usize) {
+        Some(piece) => put_piece(out, piece),
+        None => Ok(()),
+    }
 }
 
 fn put_piece(out: &mut Vec<u8>, piece: &Piece) -> Result<(), NoMemory>
     ensures { OnOk result (out.new.items ≡ out.old.items ++ piece_text piece.now) }
 {
     match piece {
-        Piece::Text(text) => put_text(out, text),
         Piece::Number(number) => put_number(out, *number),
         Piece::Process(process) => put_number(out, process.get()),
-        Piece::Length(bytes) => put_number(out, shown_length(bytes.as_slice())),
         Piece::Name(name) => put_text(out, name.as_bytes()),
         Piece::Driver(kind) => put_text(out, word_of_driver(*kind)),
         Piece::Link(kind) => put_text(out, word_of_link(*kind)),
         Piece::Stroke(kind) => put_text(out, stroke_of(*kind)),
         Piece::Side(side) => put_text(out, word_of_side(*side)),
+        Piece::Letter(side) => put_text(out, letter_of_side(*side)),
     }
 }
 
@@ -70,8 +86,7 @@ fn put_number(out: &mut Vec<u8>, number: u32) -> Result<(), NoMemory>
     put_text(out, Buffer::new().format(number).as_bytes())
 }
 
-/// Returns the word for a kind of driver.
-pub fn word_of_driver(kind: DriverKind) -> &'static [u8]
+fn word_of_driver(kind: DriverKind) -> &'static [u8]
     ensures { result.now ≡ driver_word kind }
 {
     match kind {
@@ -104,6 +119,15 @@ fn word_of_side(side: Side) -> &'static [u8]
     match side {
         Side::Write => b"write",
         Side::Read => b"read",
+    }
+}
+
+fn letter_of_side(side: Side) -> &'static [u8]
+    ensures { result.now ≡ side_letter side }
+{
+    match side {
+        Side::Write => b"w",
+        Side::Read => b"r",
     }
 }
 

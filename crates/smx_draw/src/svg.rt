@@ -2,33 +2,30 @@
 
 ghost use Rattle.std.specs.Prelude.{◌≡◌, ℕ, ◌++◌, List, IfOk, OnOk};
 ghost use Rattle.smx_draw.specs.Drawing.{Draws};
-ghost use Rattle.smx_draw.specs.SvgText.{DrawsBoxes, DrawsView, IsSvgOf};
+ghost use Rattle.smx_draw.specs.SvgElements.{row};
+ghost use Rattle.smx_draw.specs.SvgText.{DrawsRows, DrawsUnder, IsSvgOf};
 
 mod area;
-mod boxes;
-mod column;
-mod counting;
+mod block;
 mod ends;
-mod frame;
-mod hints;
-mod layers;
-mod mark_elements;
-mod placing;
+mod places;
 mod plan;
-mod stream;
-mod strokes;
-mod view_elements;
+pub mod seat;
+mod under;
+mod ways;
 
+use crate::parts::{Look, Part};
+use crate::pieces::{Piece, put};
+use crate::queues::{QueueRow, queue_rows};
 use crate::svg::area::Area;
-use crate::svg::boxes::{gauges_of, streams_of};
-use crate::svg::counting::count_all;
 use crate::svg::ends::{put_foot, put_head};
 use crate::svg::plan::Plan;
-use crate::svg::stream::name_all;
-use smx_types::{ConfigView, DriverSpec, NoMemory, Side};
+use crate::svg::seat::{Row, Seat};
+use crate::svg::under::streams_of;
+use smx_types::{ConfigView, DriverSpec, NoMemory};
 use std::alloc::Global;
 
-/// A part of a picture, which has one element.
+/// What is drawn under the rows: a frame, a link, a column or a gauge. It has one element.
 pub trait Drawn {
     ghost use Rattle.smx_draw.specs.declared.svg.area.Area.{Area};
 
@@ -51,74 +48,112 @@ pub fn write_svg(
 ) -> Result<Vec<u8>, NoMemory>
     ensures { IfOk result (λ v. IsSvgOf drivers.now view.now v.items) }
 {
-    let mut plan = plan_of(alloc, drivers, view)?;
+    let queues = queue_rows(alloc, drivers, view.msgs.as_slice())?;
+    let mut plan = plan_of(alloc, drivers, view, queues.as_slice())?;
     let mut out = Vec::new(alloc);
-    put_head(&mut out, plan.width, plan.height)?;
-    put_boxes(alloc, &mut plan, &mut out, drivers)?;
-    put_view(&mut plan, &mut out, view)?;
+    put_head(&mut out, plan.width.0, plan.height.0)?;
+    put_under(alloc, &mut plan, &mut out, drivers, view, queues.as_slice())?;
+    put_view(&mut plan, &mut out, drivers, view, queues.as_slice())?;
     put_foot(&mut out, view.next_id, view.next_serial)?;
     Ok(out)
 }
 
 // Makes the plan of the picture.
-fn plan_of(alloc: Global, drivers: &[DriverSpec], view: &ConfigView) -> Result<Plan, NoMemory> {
-    let mut plan = Plan::new(alloc, drivers)?;
-    name_streams(&mut plan, view)?;
-    count_all(&mut plan, view.fds.as_slice());
-    count_all(&mut plan, view.links.as_slice());
-    count_all(&mut plan, view.binds.as_slice());
-    count_all(&mut plan, view.routes.as_slice());
-    count_all(&mut plan, view.msgs.as_slice());
-    plan.sink(alloc, view.links.as_slice())?;
-    plan.place_all();
+fn plan_of(
+    alloc: Global,
+    drivers: &[DriverSpec],
+    view: &ConfigView,
+    queues: &[QueueRow],
+) -> Result<Plan, NoMemory> {
+    let mut plan = Plan::new(alloc, seats_of(alloc, drivers, view, queues)?)?;
+    plan.add_all(drivers)?;
+    plan.add_all(view.links.as_slice())?;
+    plan.add_all(view.hungs.as_slice())?;
+    plan.add_all(view.routes.as_slice())?;
+    plan.add_all(view.fds.as_slice())?;
+    plan.add_all(view.binds.as_slice())?;
+    plan.add_all(queues)?;
+    plan.add_all(view.fulls.as_slice())?;
+    plan.add_names()?;
+    plan.add_ways(view.links.as_slice())?;
+    plan.place()?;
+    plan.route();
     Ok(plan)
 }
 
-// Adds each stream that a line of the view names.
-fn name_streams(plan: &mut Plan, view: &ConfigView) -> Result<(), NoMemory> {
-    name_all(plan, view.fds.as_slice())?;
-    name_all(plan, view.links.as_slice())?;
-    name_all(plan, view.binds.as_slice())?;
-    name_all(plan, view.msgs.as_slice())?;
-    name_all(plan, view.fulls.as_slice())?;
-    name_all(plan, view.hungs.as_slice())?;
-    plan.make_columns()
+// Returns the seats of all rows, and of the drivers and the controlling streams that they name.
+fn seats_of(
+    alloc: Global,
+    drivers: &[DriverSpec],
+    view: &ConfigView,
+    queues: &[QueueRow],
+) -> Result<Vec<Seat>, NoMemory> {
+    let mut seats = Vec::new(alloc);
+    name_all(&mut seats, drivers)?;
+    name_all(&mut seats, view.links.as_slice())?;
+    name_all(&mut seats, view.hungs.as_slice())?;
+    name_all(&mut seats, view.routes.as_slice())?;
+    name_all(&mut seats, view.fds.as_slice())?;
+    name_all(&mut seats, view.binds.as_slice())?;
+    name_all(&mut seats, queues)?;
+    name_all(&mut seats, view.fulls.as_slice())?;
+    for link in view.links.as_slice() {
+        seats.push(Seat::of_driver(&link.ctl_driver, Row::Name))?;
+        seats.push(Seat::of_stream(&link.ctl_driver, link.ctl_minor, Row::Name))?;
+    }
+    Ok(seats)
 }
 
-// Appends the drivers, and the streams and queues that the view names.
-fn put_boxes(
+fn name_all<T: Part>(seats: &mut Vec<Seat>, items: &[T]) -> Result<(), NoMemory> {
+    for item in items {
+        let seat = item.seat();
+        seats.push(Seat::of_driver(&seat.driver, Row::Name))?;
+        seats.push(seat)?;
+    }
+    Ok(())
+}
+
+// Appends the frames, the links, and the columns and the gauges.
+fn put_under(
     alloc: Global,
     plan: &mut Plan,
     out: &mut Vec<u8>,
     drivers: &[DriverSpec],
+    view: &ConfigView,
+    queues: &[QueueRow],
 ) -> Result<(), NoMemory>
-    ensures { OnOk result (DrawsBoxes drivers.now out.old.items out.new.items) }
+    ensures { OnOk result (DrawsUnder drivers.now view.now queues.now out.old.items out.new.items) }
 {
     let streams = streams_of(alloc, plan)?;
-    let written = gauges_of(alloc, plan, Side::Write)?;
-    let read = gauges_of(alloc, plan, Side::Read)?;
     draw_all(plan, out, drivers)?;
-    draw_all(plan, out, streams.as_slice())?;
-    draw_all(plan, out, written.as_slice())?;
-    draw_all(plan, out, read.as_slice())?;
-    Ok(())
-}
-
-// Appends the parts of a view. Links come last, so they are drawn over the others.
-fn put_view(plan: &mut Plan, out: &mut Vec<u8>, view: &ConfigView) -> Result<(), NoMemory>
-    ensures { OnOk result (DrawsView view.now out.old.items out.new.items) }
-{
-    draw_all(plan, out, view.hungs.as_slice())?;
-    draw_all(plan, out, view.fds.as_slice())?;
-    draw_all(plan, out, view.binds.as_slice())?;
-    draw_all(plan, out, view.routes.as_slice())?;
-    draw_all(plan, out, view.msgs.as_slice())?;
-    draw_all(plan, out, view.fulls.as_slice())?;
     draw_all(plan, out, view.links.as_slice())?;
+    draw_all(plan, out, streams.as_slice())?;
+    draw_all(plan, out, queues)?;
     Ok(())
 }
 
-// Appends the element of each item.
+// Appends the rows.
+fn put_view(
+    plan: &mut Plan,
+    out: &mut Vec<u8>,
+    drivers: &[DriverSpec],
+    view: &ConfigView,
+    queues: &[QueueRow],
+) -> Result<(), NoMemory>
+    ensures { OnOk result (DrawsRows drivers.now view.now queues.now out.old.items out.new.items) }
+{
+    put_rows(plan, out, drivers)?;
+    put_rows(plan, out, view.links.as_slice())?;
+    put_rows(plan, out, view.hungs.as_slice())?;
+    put_rows(plan, out, view.routes.as_slice())?;
+    put_rows(plan, out, view.fds.as_slice())?;
+    put_rows(plan, out, view.binds.as_slice())?;
+    put_rows(plan, out, queues)?;
+    put_rows(plan, out, view.fulls.as_slice())?;
+    Ok(())
+}
+
+// Appends the element of each of these.
 fn draw_all<T: Drawn>(plan: &mut Plan, out: &mut Vec<u8>, items: &[T]) -> Result<(), NoMemory>
     ensures { OnOk result (Draws T.element items.now out.old.items out.new.items) }
 {
@@ -126,5 +161,38 @@ fn draw_all<T: Drawn>(plan: &mut Plan, out: &mut Vec<u8>, items: &[T]) -> Result
         let at = item.place(plan);
         item.put_at(at, out)?;
     }
+    Ok(())
+}
+
+// Appends the row of each of these.
+fn put_rows<T: Part>(plan: &mut Plan, out: &mut Vec<u8>, items: &[T]) -> Result<(), NoMemory>
+    ensures { OnOk result (Draws (row T.text) items.now out.old.items out.new.items) }
+{
+    for item in items {
+        let at = plan.take_row(&item.seat());
+        put_row(item, at, out)?;
+    }
+    Ok(())
+}
+
+// Appends the row of a part.
+fn put_row<T: Part>(item: &T, at: Area, out: &mut Vec<u8>) -> Result<(), NoMemory>
+    ensures { OnOk result (out.new.items ≡ out.old.items ++ row T.text item.now at) }
+{
+    put(out, b"<g class=\"", &[])?;
+    item.put(Look::Class, out)?;
+    let corners = [
+        Piece::Number(at.left),
+        Piece::Number(at.top),
+        Piece::Number(at.right),
+        Piece::Number(at.bottom),
+    ];
+    put(
+        out,
+        b"\"><path d=\"M@0 @1H@2V@3H@0Z\"/><text x=\"@0\" y=\"@1\" dx=\"6\" dy=\"11\">",
+        &corners,
+    )?;
+    item.put(Look::Label, out)?;
+    put(out, b"</text></g>\n", &[])?;
     Ok(())
 }

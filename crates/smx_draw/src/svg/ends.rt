@@ -1,85 +1,54 @@
 //! The head and the foot of a picture.
 
 ghost use Rattle.std.specs.Prelude.{◌≡◌, ◌++◌, OnOk};
-ghost use Rattle.smx_draw.specs.SvgFrame.{svg_foot, svg_head, svg_looks, svg_size};
+ghost use Rattle.smx_draw.specs.SvgFrame.{svg_foot, svg_head};
 
 use crate::pieces::{Piece, put};
 use smx_types::NoMemory;
 
-/// Appends the head of the picture: its size, the style of its parts, and the legend.
+// The start of the picture, the looks of its parts, and the legend.
+const HEAD: &[u8] =
+    b"<svg xmlns=\"http://www.w3.org/2000/svg\" class=\"muxsim\" width=\"@0\" height=\"@1\" viewBox=\"0 0 @0 @1\">
+<style>
+.muxsim text { font: 10px monospace; fill: #1f2328 }
+.muxsim path { fill: none }
+.muxsim .page { fill: #ffffff }
+.muxsim .frame { stroke: #57606a }
+.muxsim .frame.mux, .muxsim .route path { fill: #eef4fb }
+.muxsim .route path { stroke: #57606a }
+.muxsim .frame.leaf { fill: #eef7ee }
+.muxsim .mux path { fill: #35638a }
+.muxsim .leaf path { fill: #3c6e47 }
+.muxsim .stream path, .muxsim .closed path { fill: #ffffff; stroke: #57606a }
+.muxsim .closed path { stroke-dasharray: 3 3 }
+.muxsim .stream text { font-weight: bold }
+.muxsim .ordinary text { fill: #35638a }
+.muxsim .persistent text { fill: #a04f00 }
+.muxsim .way path { stroke: #4682b4; stroke-width: 1.5 }
+.muxsim .way.persistent path { stroke: #d96b00; stroke-width: 3 }
+.muxsim .way path.halo { stroke: #ffffff; stroke-width: 5 }
+.muxsim .bytes { fill: #ffdf8a }
+.muxsim .low { fill: #bf8700 }
+.muxsim .queue path { stroke: #8c959f }
+.muxsim .message path { fill: #fff8e1; stroke: #d9c27a }
+.muxsim .full path { fill: #cf222e }
+.muxsim .hung path { fill: #57606a }
+.muxsim .mux text, .muxsim .leaf text, .muxsim .full text, .muxsim .hung text { fill: #ffffff; font-weight: bold }
+</style>
+<path class=\"page\" d=\"M0 0H@0V@1H0Z\"/>
+<g class=\"way ordinary\"><path d=\"M24 20H64\"/><text x=\"70\" y=\"24\">ordinary link</text></g>
+<g class=\"way persistent\"><path d=\"M164 20H204\"/><text x=\"210\" y=\"24\">persistent link</text></g>
+<path class=\"bytes\" d=\"M320 13H371V27H320Z\"/><path class=\"low\" d=\"M320 25H345V27H320Z\"/>
+<g class=\"queue\"><path d=\"M320 13H422V27H320Z\"/><text x=\"326\" y=\"24\">bytes, low mark</text></g>
+<g class=\"full\"><path d=\"M442 13H514V27H442Z\"/><text x=\"448\" y=\"24\">full queue</text></g>
+<g class=\"hung\"><path d=\"M534 13H630V27H534Z\"/><text x=\"540\" y=\"24\">stream hung up</text></g>
+";
+
+/// Appends the head of the picture: its size, the looks of its parts, and the legend.
 pub fn put_head(out: &mut Vec<u8>, width: u32, height: u32) -> Result<(), NoMemory>
     ensures { OnOk result (out.new.items ≡ out.old.items ++ svg_head width height) }
 {
-    put_size(out, width, height)?;
-    put_looks(out)?;
-    put(
-        out,
-        &[
-            Piece::Text(b"<rect class=\"page\" width=\"100%\" height=\"100%\"/>\n"),
-            Piece::Text(b"<g class=\"ordinary\"><path d=\"M24 20H64\"/>"),
-            Piece::Text(b"<text class=\"id\" x=\"70\" y=\"24\">ordinary link</text></g>\n"),
-            Piece::Text(b"<g class=\"persistent\"><path d=\"M150 20H190\"/>"),
-            Piece::Text(b"<text class=\"id\" x=\"196\" y=\"24\">persistent link</text></g>\n"),
-            Piece::Text(b"<g class=\"full\"><path d=\"M290 12H320V28H290Z\"/></g>"),
-            Piece::Text(b"<text x=\"326\" y=\"24\">full queue</text>\n"),
-            Piece::Text(b"<g class=\"hung\"><path d=\"M390 12H420V28H390Z\"/></g>"),
-            Piece::Text(b"<text x=\"426\" y=\"24\">stream hung up</text>\n"),
-        ],
-    )
-}
-
-fn put_size(out: &mut Vec<u8>, width: u32, height: u32) -> Result<(), NoMemory>
-    ensures { OnOk result (out.new.items ≡ out.old.items ++ svg_size width height) }
-{
-    put(
-        out,
-        &[
-            Piece::Text(b"<svg xmlns=\"http://www.w3.org/2000/svg\" width=\""),
-            Piece::Number(width),
-            Piece::Text(b"\" height=\""),
-            Piece::Number(height),
-            Piece::Text(b"\" viewBox=\"0 0 "),
-            Piece::Number(width),
-            Piece::Text(b" "),
-            Piece::Number(height),
-            Piece::Text(b"\">\n"),
-        ],
-    )
-}
-
-fn put_looks(out: &mut Vec<u8>) -> Result<(), NoMemory>
-    ensures { OnOk result (out.new.items ≡ out.old.items ++ svg_looks) }
-{
-    put(
-        out,
-        &[
-            Piece::Text(b"<style>\n"),
-            Piece::Text(b"text { font: 10px sans-serif; fill: #1f2328 }\n"),
-            Piece::Text(b"path { fill: none; stroke: #8c959f }\n"),
-            Piece::Text(b".page { fill: #ffffff }\n"),
-            Piece::Text(b".mux path { fill: #eef4fb; stroke: #57606a }\n"),
-            Piece::Text(b".leaf path { fill: #eef7ee; stroke: #57606a }\n"),
-            Piece::Text(b".name { font: bold 13px sans-serif }\n"),
-            Piece::Text(b".stream path { fill: #ffffff }\n"),
-            Piece::Text(b".stream text { font-weight: bold }\n"),
-            Piece::Text(b".queue .bytes { stroke: #d9a017; stroke-width: 5 }\n"),
-            Piece::Text(b".queue .mark { stroke: #b0b7bf; stroke-dasharray: 2 2 }\n"),
-            Piece::Text(b".message path { fill: #fff8e1; stroke: #d9c27a }\n"),
-            Piece::Text(b".address { fill: #57606a }\n"),
-            Piece::Text(b".full path { stroke: #cf222e; stroke-width: 2 }\n"),
-            Piece::Text(b".full text { font-weight: bold; fill: #cf222e; text-anchor: end }\n"),
-            Piece::Text(
-                b".hung path { fill: #6e7781; fill-opacity: 0.3; stroke: #57606a; stroke-dasharray: 4 3 }\n",
-            ),
-            Piece::Text(b".hung text { font-weight: bold; fill: #57606a; text-anchor: end }\n"),
-            Piece::Text(b".ordinary path { stroke: #4682b4; stroke-width: 1.5 }\n"),
-            Piece::Text(b".ordinary circle, .ordinary .id { fill: #35638a }\n"),
-            Piece::Text(b".persistent path { stroke: #d96b00; stroke-width: 3.5 }\n"),
-            Piece::Text(b".persistent circle, .persistent .id { fill: #b35900 }\n"),
-            Piece::Text(b".id { font-weight: bold }\n"),
-            Piece::Text(b"</style>\n"),
-        ],
-    )
+    put(out, HEAD, &[Piece::Number(width), Piece::Number(height)])
 }
 
 /// Appends the end of the picture, with the id of the next link and the serial of the next message.
@@ -88,12 +57,7 @@ pub fn put_foot(out: &mut Vec<u8>, next_id: u32, next_serial: u32) -> Result<(),
 {
     put(
         out,
-        &[
-            Piece::Text(b"<text x=\"24\" y=\"44\">next link "),
-            Piece::Number(next_id),
-            Piece::Text(b", next message "),
-            Piece::Number(next_serial),
-            Piece::Text(b"</text>\n</svg>\n"),
-        ],
+        b"<text x=\"24\" y=\"44\">next link @0, next message @1</text>\n</svg>\n",
+        &[Piece::Number(next_id), Piece::Number(next_serial)],
     )
 }

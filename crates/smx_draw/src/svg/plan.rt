@@ -1,179 +1,181 @@
-//! The plan of a picture: the frames of the drivers and the columns of the streams.
+//! The plan of a picture: its blocks and its links.
 
+use crate::parts::{Look, Part};
+use crate::pieces::{Piece, put, shown_length};
 use crate::svg::area::Area;
-use crate::svg::column::Column;
-use crate::svg::frame::Frame;
-use crate::svg::hints::Hints;
-use crate::svg::stream::Stream;
-use smx_types::{DriverSpec, Name, NoMemory, Side};
+use crate::svg::block::{Block, Px};
+use crate::svg::seat::{Row, Seat};
+use smx_types::{LinkLine, NoMemory};
 use std::alloc::Global;
+use std::num::Saturating;
 
-/// The frames of the drivers, with a last one for lines that name none of them, and the columns of the streams that
-/// the view names.
+/// A link, by the numbers of blocks: its controlling and its lower stream, with their drivers.
+#[derive(Clone, Copy, Debug)]
+pub struct Way {
+    pub number: usize,
+    pub upper: usize,
+    pub from: usize,
+    pub lower: usize,
+    pub to: usize,
+    pub area: Area,
+}
+
+/// A layer of drivers, and the links that begin in it.
+#[derive(Clone, Copy, Debug, Default)]
+pub struct Layer {
+    pub left: Px,
+    pub top: Px,
+    pub width: Px,
+    pub height: Px,
+    pub links: Px,
+}
+
+/// The plan of a picture.
 #[derive(Debug, Drop)]
 pub struct Plan {
-    pub drivers: Vec<DriverSpec>,
-    pub frames: Vec<Frame>,
-    /// The streams and the column of each. Once all are named, each stream occurs once, and they are sorted by
-    /// `Stream::order`.
-    pub streams: Vec<Stream>,
-    pub columns: Vec<Column>,
-    pub width: u32,
-    pub height: u32,
-    // How many frames of drivers are taken.
-    taken: usize,
-    hints: Hints,
+    /// The frames of drivers, each before the columns of its streams, by name.
+    pub blocks: Vec<Block>,
+    /// The frames by layer, and from left to right.
+    pub frames: Vec<usize>,
+    pub layers: Vec<Layer>,
+    pub ways: Vec<Way>,
+    pub width: Px,
+    pub height: Px,
+    // How many links are drawn, and room for the text that is measured.
+    drawn: usize,
+    text: Vec<u8>,
 }
 
 impl Plan {
-    /// Creates a plan without streams. Fails only if it is out of memory.
-    pub fn new(alloc: Global, drivers: &[DriverSpec]) -> Result<Plan, NoMemory> {
-        let drivers = Vec::from_slice(alloc, drivers)?;
-        let mut frames = Vec::new(alloc);
-        frames.resize(drivers.len().saturating_add(1), Frame::EMPTY)?;
-        Ok(Plan {
-            drivers,
-            frames,
-            streams: Vec::new(alloc),
-            columns: Vec::new(alloc),
-            width: 0,
-            height: 0,
-            taken: 0,
-            hints: Hints::new(alloc)?,
-        })
+    /// Creates a plan with the frames and columns of these rows, which has no row yet. Fails only if it is out of
+    /// memory.
+    pub fn new(alloc: Global, mut seats: Vec<Seat>) -> Result<Plan, NoMemory> {
+        seats.sort_unstable_by_key(|seat| seat.order());
+        seats.dedup_by_key(|seat| seat.order());
+        let mut plan = Plan {
+            blocks: Vec::new(alloc),
+            frames: Vec::new(alloc),
+            layers: Vec::new(alloc),
+            ways: Vec::new(alloc),
+            width: Saturating(0),
+            height: Saturating(0),
+            drawn: 0,
+            text: Vec::new(alloc),
+        };
+        for seat in seats.as_slice() {
+            plan.add_block(*seat)?;
+        }
+        Ok(plan)
     }
 
-    /// Returns the number of a driver's frame. If drivers share a name, it is that of the first one.
-    pub fn frame_of(&self, name: &Name) -> usize {
-        match self.drivers.iter().position(|driver| driver.name == *name) {
-            Some(at) => at,
-            None => self.drivers.len(),
+    // Adds a frame, or a column of the last one.
+    fn add_block(&mut self, seat: Seat) -> Result<(), NoMemory> {
+        let at = self.blocks.len();
+        if seat.slot == 0 {
+            self.frames.push(at)?;
         }
-    }
-
-    /// Returns the frame of the next driver, after all have their places.
-    pub fn take_frame(&mut self) -> Area {
-        let at = self.taken;
-        self.taken = at.saturating_add(1);
-        match self.frames.get(at) {
-            Some(frame) => frame.area(),
-            None => Area::NOWHERE,
+        let frame = match self.frames.last() {
+            Some(frame) => *frame,
+            None => at,
+        };
+        if let Some(block) = self.blocks.get_mut(frame) {
+            block.columns = block.columns.saturating_add(1);
         }
-    }
-
-    /// Adds a stream that a line of the view names. Fails only if it is out of memory.
-    pub fn name(&mut self, driver: &Name, minor: u32) -> Result<(), NoMemory> {
-        let hint = self.hints.get(driver, minor);
-        match self.streams.get(hint) {
-            Some(stream) if stream.is(driver, minor) => return Ok(()),
-            Some(_) | None => {}
-        }
-        let stream = self.stream_of(driver, minor);
-        self.hints.set(driver, minor, self.streams.len());
-        self.streams.push(stream)?;
+        self.blocks.push(Block::new(seat, frame))?;
         Ok(())
     }
 
-    /// Gives each stream its column, after all are named. Nothing is counted yet. Fails only if it is out of memory.
-    pub fn make_columns(&mut self) -> Result<(), NoMemory> {
-        self.streams.sort_unstable_by_key(|stream| stream.order());
-        self.streams.dedup_by_key(|stream| stream.order());
-        self.columns.resize(self.streams.len(), Column::EMPTY)?;
+    /// Adds the rows of these. Fails only if it is out of memory.
+    pub fn add_all<T: Part>(&mut self, items: &[T]) -> Result<(), NoMemory> {
+        for item in items {
+            self.text.clear();
+            item.put(Look::Label, &mut self.text)?;
+            let length = shown_length(self.text.as_slice());
+            let at = self.find(&item.seat());
+            if let Some(block) = self.blocks.get_mut(at) {
+                block.add_row(item.seat().row, length);
+            }
+        }
         Ok(())
     }
 
-    /// Returns the number of the frame that a column is in.
-    pub fn frame_at(&self, column: usize) -> usize {
-        match self.streams.get(column) {
-            Some(stream) => stream.frame,
-            None => self.drivers.len(),
+    /// Adds the links, whose streams have blocks. Fails only if it is out of memory.
+    pub fn add_ways(&mut self, links: &[LinkLine]) -> Result<(), NoMemory> {
+        for (number, link) in links.iter().enumerate() {
+            let from = self.find(&Seat::of_stream(&link.ctl_driver, link.ctl_minor, Row::Name));
+            if let Some(block) = self.blocks.get_mut(from) {
+                block.add_link();
+            }
+            let way = Way {
+                number,
+                upper: self.find(&Seat::of_driver(&link.ctl_driver, Row::Name)),
+                from,
+                lower: self.find(&Seat::of_driver(&link.lower_driver, Row::Name)),
+                to: self.find(&link.seat()),
+                area: Area::default(),
+            };
+            self.ways.push(way)?;
         }
+        Ok(())
     }
 
-    /// Returns the number of a stream's column.
-    pub fn column_of(&mut self, driver: &Name, minor: u32) -> usize {
-        let hint = self.hints.get(driver, minor);
-        match self.streams.get(hint) {
-            Some(stream) if stream.is(driver, minor) => return hint,
-            Some(_) | None => {}
-        }
-        let found = self.find(driver, minor);
-        self.hints.set(driver, minor, found);
-        found
-    }
-
-    // Returns the number of a stream among all, or the number of streams if it is not among them.
-    fn find(&self, driver: &Name, minor: u32) -> usize {
-        let order = self.stream_of(driver, minor).order();
+    // Returns the number of the block of a row.
+    fn find(&self, seat: &Seat) -> usize {
         match self
-            .streams
-            .binary_search_by_key(&order, |stream| stream.order())
+            .blocks
+            .binary_search_by_key(&seat.order(), |block| block.seat.order())
         {
-            Ok(at) => at,
-            Err(_) => self.streams.len(),
+            Ok(at) | Err(at) => at,
         }
     }
 
-    // Returns this stream, in the frame of its driver.
-    fn stream_of(&self, driver: &Name, minor: u32) -> Stream {
-        Stream::new(driver, minor, self.frame_of(driver))
+    /// Adds the names of the streams, after all other rows. A stream without a row is closed. Fails only if it is out of
+    /// memory.
+    pub fn add_names(&mut self) -> Result<(), NoMemory> {
+        for block in self.blocks.iter_mut() {
+            if let Some(minor) = block.seat.minor() {
+                self.text.clear();
+                let values = [Piece::Name(&block.seat.driver), Piece::Number(minor)];
+                put(&mut self.text, b"@0 @1 closed", &values)?;
+                block.is_closed = block.height.0 == 0;
+                block.add_row(Row::Name as usize, shown_length(self.text.as_slice()));
+            }
+        }
+        Ok(())
     }
 
-    /// Records that a stream is linked below a driver.
-    pub fn add_lower(&mut self, column: usize) {
-        if let Some(column) = self.columns.get_mut(column) {
-            column.linked = true;
+    /// Returns the area of a driver or a stream.
+    pub fn area_of(&self, seat: &Seat) -> Area {
+        match self.blocks.get(self.find(seat)) {
+            Some(block) => block.area(),
+            None => Area::default(),
         }
     }
 
-    /// Adds one descriptor to this column.
-    pub fn add_descriptor(&mut self, column: usize) {
-        if let Some(column) = self.columns.get_mut(column) {
-            column.descriptors.add();
+    /// Returns where the next row of this kind is drawn.
+    pub fn row_of(&self, seat: &Seat) -> Area {
+        match self.blocks.get(self.find(seat)) {
+            Some(block) => block.row(seat.row),
+            None => Area::default(),
         }
     }
 
-    /// Adds one binding to this column.
-    pub fn add_binding(&mut self, column: usize) {
-        if let Some(column) = self.columns.get_mut(column) {
-            column.bindings.add();
+    /// Returns where the next row of this kind is drawn, and moves on to the row after it.
+    pub fn take_row(&mut self, seat: &Seat) -> Area {
+        let at = self.find(seat);
+        match self.blocks.get_mut(at) {
+            Some(block) => block.take_row(seat.row),
+            None => Area::default(),
         }
     }
 
-    /// Adds one message to this column.
-    pub fn add_message(&mut self, column: usize, side: Side, bytes: u32) {
-        if let Some(column) = self.columns.get_mut(column) {
-            column.add_message(side, bytes);
-        }
-    }
-
-    /// Adds one link below this frame.
-    pub fn add_link(&mut self, frame: usize) {
-        if let Some(frame) = self.frames.get_mut(frame) {
-            frame.links = frame.links.saturating_add(1);
-        }
-    }
-
-    /// Adds one route to this frame.
-    pub fn add_route(&mut self, frame: usize) {
-        if let Some(frame) = self.frames.get_mut(frame) {
-            frame.routes = frame.routes.saturating_add(1);
-        }
-    }
-
-    /// Returns where the next link leaves this frame.
-    pub fn take_link(&mut self, frame: usize) -> (u32, u32) {
-        match self.frames.get_mut(frame) {
-            Some(frame) => frame.take_link(),
-            None => (0, 0),
-        }
-    }
-
-    /// Returns where a link meets this column: beside its name.
-    pub fn side_of(&self, column: usize) -> (u32, u32) {
-        match self.columns.get(column) {
-            Some(column) => (column.left.saturating_sub(4), column.top.saturating_add(9)),
-            None => (0, 0),
+    /// Returns the way of the next link.
+    pub fn take_way(&mut self) -> Area {
+        let at = self.drawn;
+        self.drawn = at.saturating_add(1);
+        match self.ways.get(at) {
+            Some(way) => way.area,
+            None => Area::default(),
         }
     }
 }

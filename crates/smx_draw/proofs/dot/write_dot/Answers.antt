@@ -1,25 +1,25 @@
-use Rattle.std.proofs.Common.{◌≡◌, ℕ, List, ◌++◌, ap, ◌∙◌}
+use Rattle.std.proofs.Common.{◌≡◌, ℕ, List, [], ◌++◌, ap, ◌∙◌}
 use Rattle.std.specs.List.{flat_map}
-use Rattle.smx_draw.specs.DotLines.{driver_line, queue_line}
-use Rattle.smx_draw.specs.DotQueues.{queues_of}
-use Rattle.smx_draw.specs.DotText.{dot_foot, dot_head, dot_view}
-use Rattle.smx_draw.specs.declared.dot.dot_queues.DotQueue.{DotQueue}
-use Rattle.smx_draw.proofs.DrawingLemmas.{five_put}
+use Rattle.smx_draw.specs.DotText.{dot_head, dot_view}
+use Rattle.smx_draw.specs.Parts.{driver_text}
+use Rattle.smx_draw.specs.Pieces.{filled}
+use Rattle.smx_draw.specs.Queues.{queue_rows}
+use Rattle.smx_draw.specs.declared.parts.Look.TheVariants.{Line}
+use Rattle.smx_draw.specs.declared.queues.QueueRow.{QueueRow}
+use Rattle.smx_draw.proofs.DrawingLemmas.{four_put}
 use Rattle.smx_draw.proofs.dot.write_dot.Goals as goal
 
 pub returns : goal.returns
 returns c =
     let drivers = c.args.drivers.now in
     let view = c.args.view.now in
-    let queues : c.as_slice-2.result.now ≡ queues_of drivers view.msgs =
-    c.as_slice-2.ensures.value ∙ (c.in_ok-queues.ensures ∙ ap (queues_of drivers) c.as_slice.ensures) in
-    let written : c.put_lines-2.new.out.items
-    ≡ c.put_lines.new.out.items ++ flat_map queue_line (queues_of drivers view.msgs) =
-    c.in_ok-put_lines-2.ensures
-    ∙ ap (λ (qs : List DotQueue). c.put_lines.new.out.items ++ flat_map queue_line qs) queues in
-    let head : c.put_head.new.out.items ≡ dot_head =
-    c.in_ok-put_head.ensures ∙ ap (λ (t : List ℕ). t ++ dot_head) c.new-out.ensures.items in
-    five_put dot_head (flat_map driver_line drivers) (flat_map queue_line (queues_of drivers view.msgs))
-    (dot_view view) dot_foot c.put_head.new.out.items c.put_lines.new.out.items c.put_lines-2.new.out.items
-    c.put_view.new.out.items c.put_foot.new.out.items head c.in_ok-put_lines.ensures written
-    c.in_ok-put_view.ensures c.in_ok-put_foot.ensures
+    let queues : c.as_slice-2.result.now ≡ queue_rows drivers view.msgs =
+    c.as_slice-2.ensures.value ∙ (c.in_ok-queues.ensures ∙ ap (queue_rows drivers) c.as_slice.ensures) in
+    let shown : c.put_view.new.out.items ≡ c.put_lines.new.out.items ++ dot_view view (queue_rows drivers view.msgs) =
+    c.in_ok-put_view.ensures
+    ∙ ap (λ (qs : List QueueRow). c.put_lines.new.out.items ++ dot_view view qs) queues in
+    let head : c.put.new.out.items ≡ filled dot_head [] =
+    c.in_ok-put.ensures ∙ ap (λ (t : List ℕ). t ++ filled dot_head []) c.new-out.ensures.items in
+    four_put (filled dot_head []) (flat_map (driver_text Line) drivers) (dot_view view (queue_rows drivers view.msgs)) _
+    c.put.new.out.items c.put_lines.new.out.items c.put_view.new.out.items c.put-2.new.out.items head
+    c.in_ok-put_lines.ensures shown c.in_ok-put-2.ensures

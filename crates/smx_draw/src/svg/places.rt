@@ -1,0 +1,205 @@
+//! The places of the frames and the columns.
+
+use crate::svg::block::{LANE, Px};
+use crate::svg::plan::{Layer, Plan};
+use smx_types::NoMemory;
+use std::num::Saturating;
+
+/// How many columns of a frame are side by side.
+pub const BESIDE: usize = 4;
+
+/// The room around a column.
+pub const GAP: Px = Saturating(12);
+
+// The room around a frame, and the height above the first layer.
+const MARGIN: Px = Saturating(24);
+
+const HEADER: Px = Saturating(60);
+
+// The width of the legend.
+const LEGEND: Px = Saturating(640);
+
+// The number of the lowest layer. Only a cycle of links reaches it.
+const LOWEST: usize = 127;
+
+// How often the frames of a layer are sorted by the places of the others.
+const SORTS: usize = 8;
+
+impl Plan {
+    /// Gives each frame and each column its place, after all rows and links are added. Fails only if it is out of
+    /// memory.
+    pub fn place(&mut self) -> Result<(), NoMemory> {
+        for at in 0..self.blocks.len() {
+            self.match_width(at, at.saturating_sub(BESIDE));
+        }
+        for at in (0..self.blocks.len()).rev() {
+            self.match_width(at, at.saturating_add(BESIDE));
+        }
+        for at in 0..self.blocks.len() {
+            self.pack(at);
+        }
+        for _pass in 0..self.frames.len().min(LOWEST) {
+            self.sink();
+        }
+        self.layers.resize(LOWEST + 1, Layer::default())?;
+        for _sort in 0..SORTS {
+            self.spread();
+            self.weigh();
+            self.sort_frames();
+        }
+        self.spread();
+        self.stack();
+        Ok(())
+    }
+
+    // Makes a column as wide as another one of its frame.
+    fn match_width(&mut self, column: usize, other: usize) -> Option<()> {
+        let other = *self.blocks.get(other)?;
+        let column = self.blocks.get_mut(column)?;
+        if other.frame == column.frame && other.seat.slot > 0 {
+            column.widen(other.width);
+        }
+        Some(())
+    }
+
+    // Puts a column behind the last one in its frame, with room for the links to it and to those below it.
+    fn pack(&mut self, at: usize) -> Option<()> {
+        let block = *self.blocks.get(at)?;
+        let number = at.checked_sub(block.frame.saturating_add(1))?;
+        let last = *self.blocks.get(at.checked_sub(1)?)?;
+        let frame = self.blocks.get_mut(block.frame)?;
+        let gap = GAP + LANE * Saturating(frame.columns / BESIDE as u32);
+        let (left, top) = if number % BESIDE == 0 {
+            (gap, frame.height + GAP)
+        } else {
+            (last.left + last.width + gap, last.top)
+        };
+        frame.widen(left + block.width + GAP);
+        frame.height = frame.height.max(top + block.height);
+        let block = self.blocks.get_mut(at)?;
+        block.left = left;
+        block.top = top;
+        Some(())
+    }
+
+    // Moves the lower driver of each link below the upper one. Each pass settles at least one more link of the longest
+    // path down.
+    fn sink(&mut self) {
+        for way in self.ways.as_slice() {
+            let above = match self.blocks.get(way.upper) {
+                Some(upper) => upper.layer,
+                None => 0,
+            };
+            if let Some(lower) = self.blocks.get_mut(way.lower) {
+                lower.layer = lower.layer.max(above.saturating_add(1).min(LOWEST));
+            }
+        }
+    }
+
+    // Puts the frames of each layer side by side, and each layer in the middle.
+    fn spread(&mut self) {
+        for layer in self.layers.iter_mut() {
+            layer.width = MARGIN;
+        }
+        for at in 0..self.frames.len() {
+            self.advance(at);
+        }
+        self.width = LEGEND;
+        for layer in self.layers.as_slice() {
+            self.width = self.width.max(layer.width);
+        }
+        for layer in self.layers.iter_mut() {
+            layer.width = MARGIN + (self.width - layer.width) / Saturating(24) * Saturating(12);
+        }
+        for at in 0..self.frames.len() {
+            self.advance(at);
+        }
+    }
+
+    // Puts a frame at the end of its layer.
+    fn advance(&mut self, number: usize) -> Option<()> {
+        let frame = self.blocks.get_mut(*self.frames.get(number)?)?;
+        let layer = self.layers.get_mut(frame.layer)?;
+        frame.left = layer.width;
+        layer.width += frame.width + MARGIN;
+        Some(())
+    }
+
+    // Adds up for each frame where the blocks are to which its links lead.
+    fn weigh(&mut self) {
+        for block in self.blocks.iter_mut() {
+            block.let_go();
+        }
+        for at in 0..self.ways.len() {
+            self.weigh_way(at);
+        }
+    }
+
+    fn weigh_way(&mut self, at: usize) -> Option<()> {
+        let way = *self.ways.get(at)?;
+        let from = self.middle_of(way.upper, way.from)?;
+        let to = self.middle_of(way.lower, way.to)?;
+        self.blocks.get_mut(way.upper)?.pull(to);
+        self.blocks.get_mut(way.lower)?.pull(from);
+        Some(())
+    }
+
+    // Returns where the middle of a column is.
+    fn middle_of(&self, frame: usize, column: usize) -> Option<Px> {
+        let frame = self.blocks.get(frame)?;
+        let column = self.blocks.get(column)?;
+        Some(frame.left + column.left + column.width / Saturating(2))
+    }
+
+    // Sorts the frames by layer and by the mean of their neighbours.
+    fn sort_frames(&mut self) {
+        let blocks = self.blocks.as_slice();
+        self.frames.sort_unstable_by_key(|at| match blocks.get(*at) {
+            Some(frame) => (frame.layer, frame.mean(), *at),
+            None => (0, 0, *at),
+        });
+    }
+
+    // Puts the layers one below the other, with room for the links that begin in each, and then all blocks.
+    fn stack(&mut self) {
+        for frame in self.frames.as_slice() {
+            if let Some(frame) = self.blocks.get_mut(*frame) {
+                frame.height += GAP;
+                if let Some(layer) = self.layers.get_mut(frame.layer) {
+                    layer.height = layer.height.max(frame.height);
+                }
+            }
+        }
+        for way in self.ways.as_slice() {
+            if let Some(upper) = self.blocks.get(way.upper) {
+                if let Some(layer) = self.layers.get_mut(upper.layer) {
+                    layer.links += 1;
+                }
+            }
+        }
+        self.height = HEADER;
+        for layer in self.layers.iter_mut() {
+            if layer.height.0 > 0 {
+                layer.top = self.height;
+                self.height += layer.height + MARGIN + layer.links * LANE;
+            }
+        }
+        for at in 0..self.blocks.len() {
+            self.put(at);
+        }
+    }
+
+    // Puts a block where it belongs, after its frame.
+    fn put(&mut self, at: usize) -> Option<()> {
+        let block = *self.blocks.get(at)?;
+        let frame = *self.blocks.get(block.frame)?;
+        let top = self.layers.get(frame.layer)?.top;
+        let block = self.blocks.get_mut(at)?;
+        if block.seat.slot == 0 {
+            block.put_at(frame.left, top);
+        } else {
+            block.put_at(frame.left + block.left, top + block.top);
+        }
+        Some(())
+    }
+}

@@ -1,0 +1,78 @@
+//! Where the rows of parts belong.
+
+use smx_types::{Name, Side};
+
+/// The kinds of rows in the frame of a driver or the column of a stream, from the top. Those of the read queue come
+/// after those of the write queue.
+#[derive(Clone, Copy, Debug)]
+pub enum Row {
+    Name,
+    Link,
+    Hung,
+    Route,
+    Descriptor,
+    Binding,
+    Queue,
+    Full,
+    Message,
+    More,
+}
+
+/// The number of kinds, and how far a kind of the read queue is behind that of the write queue.
+pub const ROWS: usize = 14;
+
+const READ: usize = 4;
+
+/// A row of a driver, or of one of its streams.
+#[derive(Clone, Copy, Debug)]
+pub struct Seat {
+    pub driver: Name,
+    /// 0 for the driver itself, and one more than the minor for a stream.
+    pub slot: u64,
+    pub row: usize,
+}
+
+impl Seat {
+    /// Returns a row of a driver.
+    pub fn of_driver(driver: &Name, row: Row) -> Seat {
+        Seat {
+            driver: *driver,
+            slot: 0,
+            row: row as usize,
+        }
+    }
+
+    /// Returns a row of a stream.
+    pub fn of_stream(driver: &Name, minor: u32, row: Row) -> Seat {
+        Seat {
+            driver: *driver,
+            slot: u64::from(minor) + 1,
+            row: row as usize,
+        }
+    }
+
+    /// Returns a row of a queue.
+    pub fn of_queue(driver: &Name, minor: u32, side: Side, row: Row) -> Seat {
+        let seat = Seat::of_stream(driver, minor, row);
+        match side {
+            Side::Write => seat,
+            Side::Read => Seat {
+                row: row as usize + READ,
+                ..seat
+            },
+        }
+    }
+
+    /// Returns the minor, if it is in a stream.
+    pub fn minor(&self) -> Option<u32> {
+        u32::try_from(self.slot.checked_sub(1)?).ok()
+    }
+
+    /// Returns the key by which drivers and streams are sorted: by name and minor, and a driver before its streams.
+    pub fn order(&self) -> (u64, u64) {
+        let text = self.driver.as_bytes();
+        let mut padded = [0u8; 8];
+        padded[..text.len()].copy_from_slice(text);
+        (u64::from_be_bytes(padded), self.slot)
+    }
+}

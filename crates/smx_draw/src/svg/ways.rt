@@ -1,0 +1,61 @@
+//! The ways of the links: each has a lane of its own.
+
+use crate::svg::block::LANE;
+use crate::svg::places::{BESIDE, GAP};
+use crate::svg::plan::Plan;
+use crate::svg::seat::Row;
+use std::num::Saturating;
+
+impl Plan {
+    /// Gives each link its way, after all blocks are placed. Links that begin below a column do so in the order of their
+    /// ends, and the longest one of a layer is uppermost, so few of them cross.
+    pub fn route(&mut self) {
+        for at in 0..self.ways.len() {
+            self.end_way(at);
+        }
+        self.ways
+            .sort_unstable_by_key(|way| (u32::MAX - way.area.lane, way.number));
+        for at in 0..self.ways.len() {
+            self.begin_way(at);
+        }
+        self.ways
+            .sort_unstable_by_key(|way| (way.area.left.abs_diff(way.area.lane), way.number));
+        for at in 0..self.ways.len() {
+            self.bend_way(at);
+        }
+        self.ways.sort_unstable_by_key(|way| way.number);
+    }
+
+    // Lets a link come down to the left of its lower stream, and end at the row that says so.
+    fn end_way(&mut self, at: usize) -> Option<()> {
+        let way = self.ways.get_mut(at)?;
+        let column = self.blocks.get(way.to)?;
+        let row = column.row(Row::Link as usize);
+        let above = way.to.saturating_sub(way.lower).saturating_sub(1) / BESIDE;
+        let above = Saturating(above.min(u32::MAX as usize) as u32);
+        way.area.right = row.left;
+        way.area.bottom = (Saturating(row.top) + GAP / Saturating(2)).0;
+        way.area.lane = (column.left - GAP + LANE / Saturating(2) - LANE * above).0;
+        Some(())
+    }
+
+    // Lets a link begin below its controlling stream.
+    fn begin_way(&mut self, at: usize) -> Option<()> {
+        let way = self.ways.get_mut(at)?;
+        let column = self.blocks.get_mut(way.from)?;
+        way.area.left = (column.left + column.links * LANE).0;
+        way.area.top = column.area().bottom;
+        column.links -= 1;
+        Some(())
+    }
+
+    // Gives a link the next lane below its upper driver.
+    fn bend_way(&mut self, at: usize) -> Option<()> {
+        let way = self.ways.get_mut(at)?;
+        let upper = self.blocks.get(way.upper)?;
+        let layer = self.layers.get_mut(upper.layer)?;
+        way.area.bend = (layer.top + layer.height + GAP + layer.links * LANE).0;
+        layer.links -= 1;
+        Some(())
+    }
+}
