@@ -189,17 +189,17 @@ end
 IN_TURN_IN_DOT = """\
 strict digraph muxsim {
   graph [rankdir=TB nodesep=0.2 fontname="sans-serif"];
-  node [shape=box style=rounded fontname="sans-serif" fontsize=10];
+  node [shape=record fontname="sans-serif" fontsize=10 label="{\\N|{<write>write|<read>read}}"];
   edge [dir=none color=gray fontname="sans-serif" fontsize=10];
-  "ip" [style=bold label="ip mux\\nminors 2, longest 16\\nhigh 8, low 3"];
-  "eth" [style=bold label="eth leaf\\nminors 1, longest 16\\nhigh 8, low 3"];
-  "eth 0 write" [style=dashed label="write queue, 1 B\\nhigh 8, low 3"];
-  "fd:0:0" [shape=plain label="process 0 fd 0"]; "fd:0:0" -> "ip 1" -> "ip";
-  "fd:0:1" [shape=plain label="process 0 fd 1"]; "fd:0:1" -> "eth 0" -> "eth";
-  "fd:1:0" [shape=plain label="process 1 fd 0"]; "fd:1:0" -> "ip 0" -> "ip";
-  "link:1" [shape=plain label="link 1, ordinary\\nby ip 1"]; "ip" -> "link:1" -> "eth 0" [color=steelblue]; "eth 0" -> "eth";
-  "route:ip:5" [shape=plain label="address 5\\nby link 1"]; "ip" -> "route:ip:5" [style=dotted];
-  "message:1" [shape=note style=solid label="message 1\\nto 5, 1 B"]; "message:1" -> "eth 0 write" -> "eth 0" -> "eth";
+  subgraph "cluster ip" { "ip" [shape=box label="ip mux\\nminors 2, longest 16\\nhigh 8, low 3"] }
+  subgraph "cluster eth" { "eth" [shape=box label="eth leaf\\nminors 1, longest 16\\nhigh 8, low 3"] }
+  subgraph "cluster eth" { "eth 0" -> "eth" } "ip" -> "eth 0" [color=steelblue label="link 1 ordinary\\nby ip 1"]
+  subgraph "cluster ip" { "ip" -> "route:ip:5" [style=dotted]; "route:ip:5" [shape=plain label="route 5 by link 1"] }
+  subgraph "cluster ip" { "ip 1" -> "ip" } "fd:0:0" -> "ip 1"; "fd:0:0" [shape=plain label="process 0 fd 0"]
+  subgraph "cluster eth" { "eth 0" -> "eth" } "fd:0:1" -> "eth 0"; "fd:0:1" [shape=plain label="process 0 fd 1"]
+  subgraph "cluster ip" { "ip 0" -> "ip" } "fd:1:0" -> "ip 0"; "fd:1:0" [shape=plain label="process 1 fd 0"]
+  subgraph "cluster eth" { "eth 0" -> "eth" } "msg:1" -> "eth 0":write; "msg:1" [shape=note label="message 1 to 5, 1 B"]
+  subgraph "cluster eth" { "eth 0" -> "eth" } "queue:eth:0:w" -> "eth 0":write; "queue:eth:0:w" [shape=plain label="write 1 of 8, low 3"]
 }
 """
 

@@ -34,8 +34,8 @@ abbrev pub route_template : Look → List ℕ
 route_template Class = codes "route route-@0-@1"
 route_template Label = codes "route @1 by link @2"
 route_template Line =
-    codes "  subgraph \"cluster @0\" { \"@0\" -> \"route @0 @1\" [style=dotted];"
-    ++ codes " \"route @0 @1\" [shape=plain label=\"route @1 by link @2\"] }\n"
+    codes "  subgraph \"cluster @0\" { \"@0\" -> \"route:@0:@1\" [style=dotted];"
+    ++ codes " \"route:@0:@1\" [shape=plain label=\"route @1 by link @2\"] }\n"
 
 abbrev pub route_text : Look → RouteLine → List ℕ
 route_text look r = filled (route_template look) (r.driver ∷ decimal r.addr ∷ decimal r.id ∷ [])
@@ -69,8 +69,8 @@ abbrev pub descriptor_template : Look → List ℕ
 descriptor_template Class = codes "descriptor fd-@2-@3"
 descriptor_template Label = codes "process @2 fd @3"
 descriptor_template Line =
-    codes "  subgraph \"cluster @0\" { \"@0 @1\" -> \"@0\" } \"fd @2 @3\" -> \"@0 "
-    ++ codes "@1\"; \"fd @2 @3\" [shape=plain label=\"process @2 fd @3\"]\n"
+    codes "  subgraph \"cluster @0\" { \"@0 @1\" -> \"@0\" } \"fd:@2:@3\" -> \"@0 "
+    ++ codes "@1\"; \"fd:@2:@3\" [shape=plain label=\"process @2 fd @3\"]\n"
 
 abbrev pub descriptor_text : Look → DescriptorLine → List ℕ
 descriptor_text look d =
@@ -82,8 +82,8 @@ abbrev pub binding_template : Look → List ℕ
 binding_template Class = codes "bind bind-@0-@2"
 binding_template Label = codes "bound to @2"
 binding_template Line =
-    codes "  subgraph \"cluster @0\" { \"@0 @1\" -> \"@0\" } \"bind @0 @2\" -> \"@0 "
-    ++ codes "@1\"; \"bind @0 @2\" [shape=plain label=\"bound to @2\"]\n"
+    codes "  subgraph \"cluster @0\" { \"@0 @1\" -> \"@0\" } \"bind:@0:@2\" -> \"@0 "
+    ++ codes "@1\"; \"bind:@0:@2\" [shape=plain label=\"bound to @2\"]\n"
 
 abbrev pub binding_text : Look → BindingLine → List ℕ
 binding_text look b =
@@ -94,8 +94,8 @@ abbrev pub full_template : Look → List ℕ
 full_template Class = codes "full queue-@0-@1-@2"
 full_template Label = codes "@3 queue full"
 full_template Line =
-    codes "  subgraph \"cluster @0\" { \"@0 @1\" -> \"@0\" } \"full @0 @1 @2\" -> "
-    ++ codes "\"@0 @1\":@3; \"full @0 @1 @2\" [shape=plain fontcolor=red label=\"@3 "
+    codes "  subgraph \"cluster @0\" { \"@0 @1\" -> \"@0\" } \"full:@0:@1:@2\" -> "
+    ++ codes "\"@0 @1\":@3; \"full:@0:@1:@2\" [shape=plain fontcolor=red label=\"@3 "
     ++ codes "queue full\"]\n"
 
 abbrev pub full_text : Look → FullLine → List ℕ
@@ -108,24 +108,24 @@ abbrev pub message_template : Look → List ℕ
 message_template Class = codes "message msg-@4"
 message_template Label = codes "message @4 to @5, @6 B"
 message_template Line =
-    codes "  subgraph \"cluster @0\" { \"@0 @1\" -> \"@0\" } \"msg @4\" -> \"@0 "
-    ++ codes "@1\":@3; \"msg @4\" [shape=note label=\"message @4 to @5, @6 B\"]\n"
+    codes "  subgraph \"cluster @0\" { \"@0 @1\" -> \"@0\" } \"msg:@4\" -> \"@0 "
+    ++ codes "@1\":@3; \"msg:@4\" [shape=note label=\"message @4 to @5, @6 B\"]\n"
 
 -- the number of the messages of a queue that are not shown
 abbrev pub more_template : Look → List ℕ
 more_template Class = codes "more queue-@0-@1-@2"
 more_template Label = codes ".. @4 more"
 more_template Line =
-    codes "  subgraph \"cluster @0\" { \"@0 @1\" -> \"@0\" } \"more @0 @1 @2\" -> "
-    ++ codes "\"@0 @1\":@3; \"more @0 @1 @2\" [shape=plain label=\".. @4 more\"]\n"
+    codes "  subgraph \"cluster @0\" { \"@0 @1\" -> \"@0\" } \"more:@0:@1:@2\" -> "
+    ++ codes "\"@0 @1\":@3; \"more:@0:@1:@2\" [shape=plain label=\".. @4 more\"]\n"
 
 -- the bytes of a queue, and its high and its low water mark
 abbrev pub bytes_template : Look → List ℕ
 bytes_template Class = codes "queue queue-@0-@1-@2"
 bytes_template Label = codes "@3 @4 of @5, low @6"
 bytes_template Line =
-    codes "  subgraph \"cluster @0\" { \"@0 @1\" -> \"@0\" } \"queue @0 @1 @2\" "
-    ++ codes "-> \"@0 @1\":@3; \"queue @0 @1 @2\" [shape=plain label=\"@3 @4 of @5, "
+    codes "  subgraph \"cluster @0\" { \"@0 @1\" -> \"@0\" } \"queue:@0:@1:@2\" "
+    ++ codes "-> \"@0 @1\":@3; \"queue:@0:@1:@2\" [shape=plain label=\"@3 @4 of @5, "
     ++ codes "low @6\"]\n"
 
 -- a template with a queue and three numbers

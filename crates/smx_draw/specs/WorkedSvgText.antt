@@ -18,163 +18,135 @@ abbrev pub streams : List Stream
 streams =
     record { driver = ip; minor = 1; is_closed = false } ∷ record { driver = ip; minor = 3; is_closed = true } ∷ []
 
--- the frames
-abbrev pub drawn_frames : List ℕ
-drawn_frames =
-    codes "<path class=\"frame mux\" d=\"M111 122H133V144H111Z\"/>\n"
-    ++ codes "<path class=\"frame leaf\" d=\"M211 222H233V244H211Z\"/>\n"
+-- and the frames
+abbrev pub up_to_frames : List ℕ
+up_to_frames =
+    svg_head 640 480
+    ++ (codes "<path class=\"frame mux\" d=\"M111 122H133V144H111Z\"/>\n"
+    ++ codes "<path class=\"frame leaf\" d=\"M211 222H233V244H211Z\"/>\n")
 
--- the links
-abbrev pub drawn_ways : List ℕ
-drawn_ways =
-    codes "<g class=\"way ordinary link-1\"><title>link 1 ordinary by ip 3</title><path "
-    ++ codes "class=\"halo\" d=\"M311 322V355H366V344H333\"/><path d=\"M311 322V355H366V344H333\"/>"
-    ++ codes "</g>\n"
-    ++ codes "<g class=\"way persistent link-2\"><title>link 2 persistent by ip 2</title>"
-    ++ codes "<path class=\"halo\" d=\"M411 422V455H466V444H433\"/><path d=\"M411 422V455H466V444H433\"/></g>\n"
+-- and the links
+abbrev pub up_to_ways : List ℕ
+up_to_ways =
+    up_to_frames
+    ++ (codes "<g class=\"way ordinary link-1\"><title>link 1 ordinary by ip 3</title><path class=\"halo\" "
+    ++ codes "d=\"M311 322V355H366V344H333\"/><path d=\"M311 322V355H366V344H333\"/></g>\n"
+    ++ codes "<g class=\"way persistent link-2\"><title>link 2 persistent by ip 2</title><path "
+    ++ codes "class=\"halo\" d=\"M411 422V455H466V444H433\"/><path d=\"M411 422V455H466V444H433\"/></g>\n")
 
--- a stream, and a closed one
-abbrev pub drawn_columns : List ℕ
-drawn_columns =
-    codes "<g class=\"stream stream-ip-1\"><path d=\"M511 522H533V544H511Z\"/><text x=\"511\" "
+-- and a stream, and a closed one
+abbrev pub up_to_columns : List ℕ
+up_to_columns =
+    up_to_ways
+    ++ (codes "<g class=\"stream stream-ip-1\"><path d=\"M511 522H533V544H511Z\"/><text x=\"511\" "
     ++ codes "y=\"522\" dx=\"6\" dy=\"11\">ip 1</text></g>\n"
     ++ codes "<g class=\"closed\"><path d=\"M611 622H633V644H611Z\"/><text x=\"611\" y=\"622\" "
-    ++ codes "dx=\"6\" dy=\"11\">ip 3 closed</text></g>\n"
+    ++ codes "dx=\"6\" dy=\"11\">ip 3 closed</text></g>\n")
 
--- the gauges of queues
-abbrev pub drawn_gauges : List ℕ
-drawn_gauges =
-    codes "<svg class=\"gauge\" x=\"711\" y=\"722\" width=\"22\" height=\"14\" viewBox=\"0 "
-    ++ codes "0 8 14\" preserveAspectRatio=\"none\"><path class=\"bytes\" d=\"M0 0H8V14H0Z\"/>"
-    ++ codes "<path class=\"low\" d=\"M0 12H3V14H0Z\"/></svg>\n"
-    ++ codes "<svg class=\"gauge\" x=\"711\" y=\"722\" width=\"22\" height=\"14\" viewBox=\"0 "
-    ++ codes "0 8 14\" preserveAspectRatio=\"none\"><path class=\"bytes\" d=\"M0 0H2V14H0Z\"/>"
-    ++ codes "<path class=\"low\" d=\"M0 12H3V14H0Z\"/></svg>\n"
-    ++ codes "<svg class=\"gauge\" x=\"711\" y=\"722\" width=\"22\" height=\"14\" viewBox=\"0 "
-    ++ codes "0 64 14\" preserveAspectRatio=\"none\"><path class=\"bytes\" d=\"M0 0H1V14H0Z\"/>"
-    ++ codes "<path class=\"low\" d=\"M0 12H9V14H0Z\"/></svg>\n"
-    ++ codes "<svg class=\"gauge\" x=\"711\" y=\"722\" width=\"22\" height=\"14\" viewBox=\"0 "
-    ++ codes "0 64 14\" preserveAspectRatio=\"none\"><path class=\"bytes\" d=\"M0 0H0V14H0Z\"/>"
-    ++ codes "<path class=\"low\" d=\"M0 12H9V14H0Z\"/></svg>\n"
-    ++ codes "<svg class=\"gauge\" x=\"711\" y=\"722\" width=\"22\" height=\"14\" viewBox=\"0 "
-    ++ codes "0 0 14\" preserveAspectRatio=\"none\"><path class=\"bytes\" d=\"M0 0H2V14H0Z\"/>"
-    ++ codes "<path class=\"low\" d=\"M0 12H0V14H0Z\"/></svg>\n"
+-- and the gauges of queues
+abbrev pub up_to_gauges : List ℕ
+up_to_gauges =
+    up_to_columns
+    ++ (codes "<svg class=\"gauge\" x=\"711\" y=\"722\" width=\"22\" height=\"14\" viewBox=\"0 0 "
+    ++ codes "8 14\" preserveAspectRatio=\"none\"><path class=\"bytes\" d=\"M0 0H8V14H0Z\"/><path "
+    ++ codes "class=\"low\" d=\"M0 12H3V14H0Z\"/></svg>\n"
+    ++ codes "<svg class=\"gauge\" x=\"711\" y=\"722\" width=\"22\" height=\"14\" viewBox=\"0 0 "
+    ++ codes "8 14\" preserveAspectRatio=\"none\"><path class=\"bytes\" d=\"M0 0H2V14H0Z\"/><path "
+    ++ codes "class=\"low\" d=\"M0 12H3V14H0Z\"/></svg>\n"
+    ++ codes "<svg class=\"gauge\" x=\"711\" y=\"722\" width=\"22\" height=\"14\" viewBox=\"0 0 "
+    ++ codes "64 14\" preserveAspectRatio=\"none\"><path class=\"bytes\" d=\"M0 0H1V14H0Z\"/><path "
+    ++ codes "class=\"low\" d=\"M0 12H9V14H0Z\"/></svg>\n"
+    ++ codes "<svg class=\"gauge\" x=\"711\" y=\"722\" width=\"22\" height=\"14\" viewBox=\"0 0 "
+    ++ codes "64 14\" preserveAspectRatio=\"none\"><path class=\"bytes\" d=\"M0 0H0V14H0Z\"/><path "
+    ++ codes "class=\"low\" d=\"M0 12H9V14H0Z\"/></svg>\n"
+    ++ codes "<svg class=\"gauge\" x=\"711\" y=\"722\" width=\"22\" height=\"14\" viewBox=\"0 0 "
+    ++ codes "0 14\" preserveAspectRatio=\"none\"><path class=\"bytes\" d=\"M0 0H2V14H0Z\"/><path "
+    ++ codes "class=\"low\" d=\"M0 12H0V14H0Z\"/></svg>\n")
 
--- the drivers
-abbrev pub drawn_titles : List ℕ
-drawn_titles =
-    codes "<g class=\"mux driver-ip\"><path d=\"M1011 1022H1033V1044H1011Z\"/><text x=\"1011\" "
-    ++ codes "y=\"1022\" dx=\"6\" dy=\"11\">ip mux, minors 4, longest 16, high 8, low 3</text>"
-    ++ codes "</g>\n"
-    ++ codes "<g class=\"leaf driver-eth\"><path d=\"M1111 1122H1133V1144H1111Z\"/><text "
-    ++ codes "x=\"1111\" y=\"1122\" dx=\"6\" dy=\"11\">eth leaf, minors 2, longest 1024, "
-    ++ codes "high 64, low 9</text></g>\n"
-
--- the links
-abbrev pub drawn_links : List ℕ
-drawn_links =
-    codes "<g class=\"ordinary link-1\"><path d=\"M1211 1222H1233V1244H1211Z\"/><text "
-    ++ codes "x=\"1211\" y=\"1222\" dx=\"6\" dy=\"11\">link 1 ordinary by ip 3</text></g>"
+-- and the drivers
+abbrev pub up_to_titles : List ℕ
+up_to_titles =
+    up_to_gauges
+    ++ (codes "<g class=\"mux driver-ip\"><path d=\"M1011 1022H1033V1044H1011Z\"/><text x=\"1011\" "
+    ++ codes "y=\"1022\" dx=\"6\" dy=\"11\">ip mux, minors 4, longest 16, high 8, low 3</text></g>"
     ++ codes "\n"
-    ++ codes "<g class=\"persistent link-2\"><path d=\"M1311 1322H1333V1344H1311Z\"/><text "
-    ++ codes "x=\"1311\" y=\"1322\" dx=\"6\" dy=\"11\">link 2 persistent by ip 2</text></g>\n"
+    ++ codes "<g class=\"leaf driver-eth\"><path d=\"M1111 1122H1133V1144H1111Z\"/><text x=\"1111\" "
+    ++ codes "y=\"1122\" dx=\"6\" dy=\"11\">eth leaf, minors 2, longest 1024, high 64, low 9</text></g>\n")
 
--- a stream whose device has hung up
-abbrev pub drawn_hung : List ℕ
-drawn_hung =
-    codes "<g class=\"hung stream-eth-1\"><path d=\"M1411 1422H1433V1444H1411Z\"/><text "
-    ++ codes "x=\"1411\" y=\"1422\" dx=\"6\" dy=\"11\">hung up</text></g>\n"
+-- and the links
+abbrev pub up_to_links : List ℕ
+up_to_links =
+    up_to_titles
+    ++ (codes "<g class=\"ordinary link-1\"><path d=\"M1211 1222H1233V1244H1211Z\"/><text x=\"1211\" "
+    ++ codes "y=\"1222\" dx=\"6\" dy=\"11\">link 1 ordinary by ip 3</text></g>\n"
+    ++ codes "<g class=\"persistent link-2\"><path d=\"M1311 1322H1333V1344H1311Z\"/><text x=\"1311\" "
+    ++ codes "y=\"1322\" dx=\"6\" dy=\"11\">link 2 persistent by ip 2</text></g>\n")
 
--- a route
-abbrev pub drawn_route : List ℕ
-drawn_route =
-    codes "<g class=\"route route-ip-88\"><path d=\"M1511 1522H1533V1544H1511Z\"/><text "
-    ++ codes "x=\"1511\" y=\"1522\" dx=\"6\" dy=\"11\">route 88 by link 2</text></g>\n"
+-- and a stream whose device has hung up
+abbrev pub up_to_hung : List ℕ
+up_to_hung =
+    up_to_links
+    ++ (codes "<g class=\"hung stream-eth-1\"><path d=\"M1411 1422H1433V1444H1411Z\"/><text x=\"1411\" "
+    ++ codes "y=\"1422\" dx=\"6\" dy=\"11\">hung up</text></g>\n")
 
--- a descriptor
-abbrev pub drawn_descriptor : List ℕ
-drawn_descriptor =
-    codes "<g class=\"descriptor fd-5-6\"><path d=\"M1611 1622H1633V1644H1611Z\"/><text "
-    ++ codes "x=\"1611\" y=\"1622\" dx=\"6\" dy=\"11\">process 5 fd 6</text></g>\n"
+-- and a route
+abbrev pub up_to_route : List ℕ
+up_to_route =
+    up_to_hung
+    ++ (codes "<g class=\"route route-ip-88\"><path d=\"M1511 1522H1533V1544H1511Z\"/><text x=\"1511\" "
+    ++ codes "y=\"1522\" dx=\"6\" dy=\"11\">route 88 by link 2</text></g>\n")
 
--- a binding
-abbrev pub drawn_binding : List ℕ
-drawn_binding =
-    codes "<g class=\"bind bind-ip-77\"><path d=\"M1711 1722H1733V1744H1711Z\"/><text "
-    ++ codes "x=\"1711\" y=\"1722\" dx=\"6\" dy=\"11\">bound to 77</text></g>\n"
+-- and a descriptor
+abbrev pub up_to_descriptor : List ℕ
+up_to_descriptor =
+    up_to_route
+    ++ (codes "<g class=\"descriptor fd-5-6\"><path d=\"M1611 1622H1633V1644H1611Z\"/><text x=\"1611\" "
+    ++ codes "y=\"1622\" dx=\"6\" dy=\"11\">process 5 fd 6</text></g>\n")
 
--- the queues
-abbrev pub drawn_queues : List ℕ
-drawn_queues =
-    codes "<g class=\"message msg-21\"><path d=\"M1811 1822H1833V1844H1811Z\"/><text x=\"1811\" "
+-- and a binding
+abbrev pub up_to_binding : List ℕ
+up_to_binding =
+    up_to_descriptor
+    ++ (codes "<g class=\"bind bind-ip-77\"><path d=\"M1711 1722H1733V1744H1711Z\"/><text x=\"1711\" "
+    ++ codes "y=\"1722\" dx=\"6\" dy=\"11\">bound to 77</text></g>\n")
+
+-- and the queues
+abbrev pub up_to_queues : List ℕ
+up_to_queues =
+    up_to_binding
+    ++ (codes "<g class=\"message msg-21\"><path d=\"M1811 1822H1833V1844H1811Z\"/><text x=\"1811\" "
     ++ codes "y=\"1822\" dx=\"6\" dy=\"11\">message 21 to 77, 3 B</text></g>\n"
     ++ codes "<g class=\"message msg-22\"><path d=\"M1811 1822H1833V1844H1811Z\"/><text x=\"1811\" "
     ++ codes "y=\"1822\" dx=\"6\" dy=\"11\">message 22 to 78, 5 B</text></g>\n"
-    ++ codes "<g class=\"queue queue-ip-1-w\"><path d=\"M1811 1822H1833V1844H1811Z\"/><text "
-    ++ codes "x=\"1811\" y=\"1822\" dx=\"6\" dy=\"11\">write 8 of 8, low 3</text></g>\n"
+    ++ codes "<g class=\"queue queue-ip-1-w\"><path d=\"M1811 1822H1833V1844H1811Z\"/><text x=\"1811\" "
+    ++ codes "y=\"1822\" dx=\"6\" dy=\"11\">write 8 of 8, low 3</text></g>\n"
     ++ codes "<g class=\"message msg-23\"><path d=\"M1811 1822H1833V1844H1811Z\"/><text x=\"1811\" "
     ++ codes "y=\"1822\" dx=\"6\" dy=\"11\">message 23 to 79, 1 B</text></g>\n"
     ++ codes "<g class=\"message msg-24\"><path d=\"M1811 1822H1833V1844H1811Z\"/><text x=\"1811\" "
     ++ codes "y=\"1822\" dx=\"6\" dy=\"11\">message 24 to 80, 1 B</text></g>\n"
-    ++ codes "<g class=\"queue queue-ip-1-r\"><path d=\"M1811 1822H1833V1844H1811Z\"/><text "
-    ++ codes "x=\"1811\" y=\"1822\" dx=\"6\" dy=\"11\">read 2 of 8, low 3</text></g>\n"
+    ++ codes "<g class=\"queue queue-ip-1-r\"><path d=\"M1811 1822H1833V1844H1811Z\"/><text x=\"1811\" "
+    ++ codes "y=\"1822\" dx=\"6\" dy=\"11\">read 2 of 8, low 3</text></g>\n"
     ++ codes "<g class=\"message msg-25\"><path d=\"M1811 1822H1833V1844H1811Z\"/><text x=\"1811\" "
     ++ codes "y=\"1822\" dx=\"6\" dy=\"11\">message 25 to 81, 1 B</text></g>\n"
-    ++ codes "<g class=\"queue queue-eth-0-w\"><path d=\"M1811 1822H1833V1844H1811Z\"/><text "
-    ++ codes "x=\"1811\" y=\"1822\" dx=\"6\" dy=\"11\">write 1 of 64, low 9</text></g>\n"
+    ++ codes "<g class=\"queue queue-eth-0-w\"><path d=\"M1811 1822H1833V1844H1811Z\"/><text x=\"1811\" "
+    ++ codes "y=\"1822\" dx=\"6\" dy=\"11\">write 1 of 64, low 9</text></g>\n"
     ++ codes "<g class=\"message msg-26\"><path d=\"M1811 1822H1833V1844H1811Z\"/><text x=\"1811\" "
     ++ codes "y=\"1822\" dx=\"6\" dy=\"11\">message 26 to 82, 0 B</text></g>\n"
-    ++ codes "<g class=\"queue queue-eth-1-w\"><path d=\"M1811 1822H1833V1844H1811Z\"/><text "
-    ++ codes "x=\"1811\" y=\"1822\" dx=\"6\" dy=\"11\">write 0 of 64, low 9</text></g>\n"
+    ++ codes "<g class=\"queue queue-eth-1-w\"><path d=\"M1811 1822H1833V1844H1811Z\"/><text x=\"1811\" "
+    ++ codes "y=\"1822\" dx=\"6\" dy=\"11\">write 0 of 64, low 9</text></g>\n"
     ++ codes "<g class=\"message msg-27\"><path d=\"M1811 1822H1833V1844H1811Z\"/><text x=\"1811\" "
     ++ codes "y=\"1822\" dx=\"6\" dy=\"11\">message 27 to 83, 2 B</text></g>\n"
-    ++ codes "<g class=\"queue queue-tap-1-w\"><path d=\"M1811 1822H1833V1844H1811Z\"/><text "
-    ++ codes "x=\"1811\" y=\"1822\" dx=\"6\" dy=\"11\">write 2 of 0, low 0</text></g>\n"
+    ++ codes "<g class=\"queue queue-tap-1-w\"><path d=\"M1811 1822H1833V1844H1811Z\"/><text x=\"1811\" "
+    ++ codes "y=\"1822\" dx=\"6\" dy=\"11\">write 2 of 0, low 0</text></g>\n")
 
--- full queues
-abbrev pub drawn_fulls : List ℕ
-drawn_fulls =
-    codes "<g class=\"full queue-ip-1-w\"><path d=\"M1911 1922H1933V1944H1911Z\"/><text "
-    ++ codes "x=\"1911\" y=\"1922\" dx=\"6\" dy=\"11\">write queue full</text></g>\n"
-    ++ codes "<g class=\"full queue-eth-0-r\"><path d=\"M2011 2022H2033V2044H2011Z\"/><text "
-    ++ codes "x=\"2011\" y=\"2022\" dx=\"6\" dy=\"11\">read queue full</text></g>\n"
-
--- the texts up to each group
-abbrev pub up_to_frames : List ℕ
-up_to_frames = svg_head 640 480 ++ drawn_frames
-
-abbrev pub up_to_ways : List ℕ
-up_to_ways = up_to_frames ++ drawn_ways
-
-abbrev pub up_to_columns : List ℕ
-up_to_columns = up_to_ways ++ drawn_columns
-
-abbrev pub up_to_gauges : List ℕ
-up_to_gauges = up_to_columns ++ drawn_gauges
-
-abbrev pub up_to_titles : List ℕ
-up_to_titles = up_to_gauges ++ drawn_titles
-
-abbrev pub up_to_links : List ℕ
-up_to_links = up_to_titles ++ drawn_links
-
-abbrev pub up_to_hung : List ℕ
-up_to_hung = up_to_links ++ drawn_hung
-
-abbrev pub up_to_route : List ℕ
-up_to_route = up_to_hung ++ drawn_route
-
-abbrev pub up_to_descriptor : List ℕ
-up_to_descriptor = up_to_route ++ drawn_descriptor
-
-abbrev pub up_to_binding : List ℕ
-up_to_binding = up_to_descriptor ++ drawn_binding
-
-abbrev pub up_to_queues : List ℕ
-up_to_queues = up_to_binding ++ drawn_queues
-
+-- and full queues
 abbrev pub up_to_fulls : List ℕ
-up_to_fulls = up_to_queues ++ drawn_fulls
+up_to_fulls =
+    up_to_queues
+    ++ (codes "<g class=\"full queue-ip-1-w\"><path d=\"M1911 1922H1933V1944H1911Z\"/><text x=\"1911\" "
+    ++ codes "y=\"1922\" dx=\"6\" dy=\"11\">write queue full</text></g>\n"
+    ++ codes "<g class=\"full queue-eth-0-r\"><path d=\"M2011 2022H2033V2044H2011Z\"/><text x=\"2011\" "
+    ++ codes "y=\"2022\" dx=\"6\" dy=\"11\">read queue full</text></g>\n")
 
 -- what is under the rows is drawn after the head
 pub under_is_drawn : DrawsUnder table shown (queue_rows table messages) (svg_head 640 480) up_to_gauges

@@ -98,8 +98,8 @@ fn route_template(look: Look) -> &'static [u8]
         Look::Class => b"route route-@0-@1",
         Look::Label => b"route @1 by link @2",
         Look::Line => {
-            b"  subgraph \"cluster @0\" { \"@0\" -> \"route @0 @1\" [style=dotted]; \
-                \"route @0 @1\" [shape=plain label=\"route @1 by link @2\"] }\n"
+            b"  subgraph \"cluster @0\" { \"@0\" -> \"route:@0:@1\" [style=dotted]; \
+                \"route:@0:@1\" [shape=plain label=\"route @1 by link @2\"] }\n"
         }
     }
 }
@@ -188,8 +188,8 @@ fn descriptor_template(look: Look) -> &'static [u8]
         Look::Class => b"descriptor fd-@2-@3",
         Look::Label => b"process @2 fd @3",
         Look::Line => {
-            b"  subgraph \"cluster @0\" { \"@0 @1\" -> \"@0\" } \"fd @2 @3\" -> \"@0 \
-                @1\"; \"fd @2 @3\" [shape=plain label=\"process @2 fd @3\"]\n"
+            b"  subgraph \"cluster @0\" { \"@0 @1\" -> \"@0\" } \"fd:@2:@3\" -> \"@0 \
+                @1\"; \"fd:@2:@3\" [shape=plain label=\"process @2 fd @3\"]\n"
         }
     }
 }
@@ -218,8 +218,8 @@ fn binding_template(look: Look) -> &'static [u8]
         Look::Class => b"bind bind-@0-@2",
         Look::Label => b"bound to @2",
         Look::Line => {
-            b"  subgraph \"cluster @0\" { \"@0 @1\" -> \"@0\" } \"bind @0 @2\" -> \
-                \"@0 @1\"; \"bind @0 @2\" [shape=plain label=\"bound to @2\"]\n"
+            b"  subgraph \"cluster @0\" { \"@0 @1\" -> \"@0\" } \"bind:@0:@2\" -> \
+                \"@0 @1\"; \"bind:@0:@2\" [shape=plain label=\"bound to @2\"]\n"
         }
     }
 }
@@ -249,8 +249,8 @@ fn full_template(look: Look) -> &'static [u8]
         Look::Class => b"full queue-@0-@1-@2",
         Look::Label => b"@3 queue full",
         Look::Line => {
-            b"  subgraph \"cluster @0\" { \"@0 @1\" -> \"@0\" } \"full @0 @1 @2\" \
-                -> \"@0 @1\":@3; \"full @0 @1 @2\" [shape=plain fontcolor=red label=\"@3 \
+            b"  subgraph \"cluster @0\" { \"@0 @1\" -> \"@0\" } \"full:@0:@1:@2\" \
+                -> \"@0 @1\":@3; \"full:@0:@1:@2\" [shape=plain fontcolor=red label=\"@3 \
                 queue full\"]\n"
         }
     }
@@ -313,8 +313,8 @@ fn message_template(look: Look) -> &'static [u8]
         Look::Class => b"message msg-@4",
         Look::Label => b"message @4 to @5, @6 B",
         Look::Line => {
-            b"  subgraph \"cluster @0\" { \"@0 @1\" -> \"@0\" } \"msg @4\" -> \"@0 \
-                @1\":@3; \"msg @4\" [shape=note label=\"message @4 to @5, @6 B\"]\n"
+            b"  subgraph \"cluster @0\" { \"@0 @1\" -> \"@0\" } \"msg:@4\" -> \"@0 \
+                @1\":@3; \"msg:@4\" [shape=note label=\"message @4 to @5, @6 B\"]\n"
         }
     }
 }
@@ -326,8 +326,8 @@ fn more_template(look: Look) -> &'static [u8]
         Look::Class => b"more queue-@0-@1-@2",
         Look::Label => b".. @4 more",
         Look::Line => {
-            b"  subgraph \"cluster @0\" { \"@0 @1\" -> \"@0\" } \"more @0 @1 @2\" \
-                -> \"@0 @1\":@3; \"more @0 @1 @2\" [shape=plain label=\".. @4 more\"]\n"
+            b"  subgraph \"cluster @0\" { \"@0 @1\" -> \"@0\" } \"more:@0:@1:@2\" \
+                -> \"@0 @1\":@3; \"more:@0:@1:@2\" [shape=plain label=\".. @4 more\"]\n"
         }
     }
 }
@@ -339,8 +339,8 @@ fn bytes_template(look: Look) -> &'static [u8]
         Look::Class => b"queue queue-@0-@1-@2",
         Look::Label => b"@3 @4 of @5, low @6",
         Look::Line => {
-            b"  subgraph \"cluster @0\" { \"@0 @1\" -> \"@0\" } \"queue @0 @1 @2\" \
-                -> \"@0 @1\":@3; \"queue @0 @1 @2\" [shape=plain label=\"@3 @4 of \
+            b"  subgraph \"cluster @0\" { \"@0 @1\" -> \"@0\" } \"queue:@0:@1:@2\" \
+                -> \"@0 @1\":@3; \"queue:@0:@1:@2\" [shape=plain label=\"@3 @4 of \
                 @5, low @6\"]\n"
         }
     }

@@ -15,9 +15,13 @@ impl Plan {
         }
         self.ways
             .sort_unstable_by_key(|way| (u32::MAX - way.area.lane, way.number));
+        self.part_lanes();
         for at in 0..self.ways.len() {
             self.begin_way(at);
         }
+        self.ways
+            .sort_unstable_by_key(|way| (way.upper, way.area.left, way.number));
+        self.part_starts();
         self.ways
             .sort_unstable_by_key(|way| (way.area.left.abs_diff(way.area.lane), way.number));
         for at in 0..self.ways.len() {
@@ -37,6 +41,27 @@ impl Plan {
         way.area.bottom = (Saturating(row.top) + GAP / Saturating(2)).0;
         way.area.lane = (column.left - GAP + LANE / Saturating(2) - LANE * above).0;
         Some(())
+    }
+
+    // Moves lanes to the left until no two links of different layers share one.
+    fn part_lanes(&mut self) {
+        let mut free = u32::MAX;
+        for way in self.ways.iter_mut() {
+            way.area.lane = way.area.lane.min(free);
+            free = way.area.lane.saturating_sub(LANE.0);
+        }
+    }
+
+    // Moves links to the right until no two that begin in a frame, one column below another, go down in one line.
+    fn part_starts(&mut self) {
+        let (mut frame, mut free) = (usize::MAX, 0);
+        for way in self.ways.iter_mut() {
+            if way.upper == frame {
+                way.area.left = way.area.left.max(free);
+            }
+            frame = way.upper;
+            free = way.area.left.saturating_add(LANE.0);
+        }
     }
 
     // Lets a link begin below its controlling stream.
