@@ -34,7 +34,7 @@ driver_named drivers name = find (λ d. bytes_eq d.name name) drivers
 abbrev pub row : MessageLine → QueueItem → QueueRow
 row m item = record { driver = m.driver; minor = m.minor; side = m.side; item = item }
 
--- the row of a message with this number of others before it in its queue: none behind those that are shown
+-- the row of a message with this number of others before it in its queue: none after those that are shown
 abbrev pub message_rows : ℕ → MessageLine → List QueueRow
 message_rows before m =
     if nat_lt before SHOWN

@@ -25,7 +25,7 @@ pub struct QueueRow {
 pub enum QueueItem {
     /// The serial, the address and the length of a message.
     Message(u32, u32, u32),
-    /// The number of messages behind those that are shown.
+    /// The number of messages after those that are shown.
     More(u32),
     /// The bytes of all messages, and the high and the low water mark of the driver.
     Bytes(u32, u32, u32),

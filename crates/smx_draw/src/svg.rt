@@ -25,7 +25,7 @@ use crate::svg::under::streams_of;
 use smx_types::{ConfigView, DriverSpec, NoMemory};
 use std::alloc::Global;
 
-/// What is drawn under the rows: a frame, a link, a column or a gauge. It has one element.
+/// A frame, a link, a column or a gauge, which is drawn under the rows. It has one element.
 pub trait Drawn {
     ghost use Rattle.smx_draw.specs.declared.svg.area.Area.{Area};
 

@@ -62,7 +62,7 @@ impl Plan {
         Some(())
     }
 
-    // Puts a column behind the last one in its frame, with room for the links to it and to those below it.
+    // Puts a column after the last one in its frame, with room for the links to it and to those below it.
     fn pack(&mut self, at: usize) -> Option<()> {
         let block = *self.blocks.get(at)?;
         let number = at.checked_sub(block.frame.saturating_add(1))?;

@@ -1,4 +1,4 @@
-//! Where the rows of parts belong.
+//! The columns to which the rows of parts belong.
 
 use smx_types::{Name, Side};
 
@@ -18,7 +18,7 @@ pub enum Row {
     More,
 }
 
-/// The number of kinds, and how far a kind of the read queue is behind that of the write queue.
+/// The number of kinds, and how far a kind of the read queue comes after that of the write queue.
 pub const ROWS: usize = 14;
 
 const READ: usize = 4;

@@ -1,4 +1,4 @@
-//! What is drawn under the rows: frames, links, columns and gauges.
+//! Frames, links, columns and gauges, which are drawn under the rows.
 
 ghost use Rattle.std.specs.Prelude.{◌≡◌, ◌-◌, ◌++◌, OnOk};
 ghost use Rattle.smx_draw.specs.SvgElements.{frame_element, gauge_element, sized_gauge, stream_element};
