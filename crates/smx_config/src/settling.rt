@@ -23,8 +23,8 @@ pub struct Move {
     pub to: usize,
 }
 
-// Clears the run mark of a place whose first message can't move on. If the message has a next place, which is then
-// full, the place waits for it.
+// Clears the run mark of a place whose first message can't move on. If the message has a next place, that place is
+// full, and `from` waits for it.
 fn clear_mark(tables: &Tables, marks: &mut Marks, from: usize, next: Option<usize>)
     requires marks { AreMarks tables.now.drivers tables.now.configuration marks.old }
     requires number { IsNumber tables.now.drivers from }

@@ -124,8 +124,8 @@ fn drops_none(reply: &Reply) -> bool
     }
 }
 
-// Releases both sides of the stream, if messages were dropped. A full place has messages, so if none was dropped the
-// place is still full, and this skips it.
+// Releases both sides of the stream, if messages were dropped. If no message was dropped, does nothing: a side that was
+// full had messages, and has lost none, so it is still full.
 fn release_emptied(tables: &Tables, marks: &mut Marks, stream: StreamId, reply: &Reply)
     requires over { AreOver tables.now.drivers marks.old }
     requires listed { IsListed marks.old }

@@ -54,8 +54,8 @@ pub fn asked_by(line: &[u8]) -> Asked
     }
 }
 
-// Empties `text` and reserves room for an entry's line: the entry of a line with `len` bytes, after `count`
-// entries.
+// Empties `text`, and reserves room for the line of the next entry. The line that asks for this entry has `len` bytes,
+// and `count` entries come before it.
 fn make_room(text: &mut Vec<u8>, len: usize, count: usize) -> Result<(), NoMemory>
     requires { count < MAX_COMMANDS }
     ensures { text.new.items ≡ [] }
@@ -79,8 +79,8 @@ fn fault_without_room(alloc: Global, version: Version, line: &[u8]) -> TurnFault
 
 impl Talk {
     /// Reserves room for the line of an entry, performs the command of a line, and makes the line of its entry. If the
-    /// line is refused, returns the reason, and nothing has changed. Fails if the reserved room was too small; the
-    /// command was then performed.
+    /// line is refused, returns the reason, and nothing has changed. Fails if the reserved room was too small; in that
+    /// case the command has already been performed.
     pub fn perform(&mut self, alloc: Global, line: &[u8]) -> Result<Option<TurnFault>, NoMemory>
         requires { AsksForNeither line.now }
         ensures answered { IfOk result (λ o. IsPerformed self.old.session self.old.count line.now o

@@ -164,8 +164,8 @@ impl FlowTable {
         self.queues.reserve_one()
     }
 
-    /// Adds a message at the end of the queue of a place that is not full, and sets its full mark as an arrival does.
-    /// Takes no memory.
+    /// Adds a message at the end of the queue of a place that is not full. Marks the place as full if the number of its
+    /// bytes is then at or above the high water mark. Takes no memory.
     pub fn put(&mut self, place: Place, message: Message)
         requires known { IsKnown self.old.drivers place.stream }
         requires open { list_any (same_place place) self.old.fulls ≡ false }

@@ -7,8 +7,8 @@ use smx_types::NoMemory;
 use std::alloc::Global;
 use std::marker::Model;
 
-/// Each number below `count` has a ring of its own, and is in one ring or in none. Contracts see the ring that each
-/// number is in.
+/// There is one ring for each number below `count`. Each of these numbers is in one of the rings, or in none. Contracts
+/// see the ring that each number is in.
 #[derive(Debug, Drop)]
 pub struct Rings {
     count: usize,
@@ -62,7 +62,8 @@ fn numbers(alloc: Global, count: usize) -> Result<Vec<usize>, NoMemory>
     Ok(numbers)
 }
 
-// Returns the owners of the nodes if no number is in a ring. The node at which a ring begins is always in that ring.
+// Returns the owners of the nodes of empty rings: no number is in a ring. The node at which a ring begins is always in
+// that ring.
 fn first_owners(alloc: Global, count: usize) -> Result<Vec<usize>, NoMemory>
     requires { count < 2 ^ 63 }
     ensures count { IfOk result (λ v. length v.items ≡ count + count) }

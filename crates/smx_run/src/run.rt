@@ -36,8 +36,8 @@ pub const MAX_WORKERS: usize = 64;
 /// each command. A run on one worker, or of one process, starts no thread. The report has the front that was seen after
 /// each program had ended.
 ///
-/// Fails before any command is performed if the drivers are invalid. Fails as out of memory, also if a worker can't be
-/// started. On several workers it may also fail because the history is full.
+/// Fails before any command is performed if the drivers are invalid. Fails with out of memory if an allocation fails,
+/// or if a worker can't be started. On several workers it may also fail because the history is full.
 pub fn run_programs<R: Threads + Wait + Sync, G: Gate + Sync>(
     rt: &R,
     alloc: Global,

@@ -27,7 +27,7 @@ pub struct EndedProgram<S: Drop> {
 }
 
 /// Runs the assigned processes one after the other, each to its end, up to the first fault. Fails if it is out of
-/// memory, or with `HistoryFull`, but only if some seat of the door has seen the history full. Works with any
+/// memory. Fails with `HistoryFull` only if some seat of the door has seen the history full. Works with any
 /// implementation of `Door`.
 pub fn run_assigned<D: Door, G: Gate, R: Wait>(
     rt: &R,

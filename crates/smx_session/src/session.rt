@@ -36,7 +36,8 @@ impl Model for Session {
 
 impl Session {
     /// Creates a session with the drivers and the version of a programs text. Nothing is open, and the programs are not
-    /// run. Fails with the first fault of the text or else with that of its drivers, or because it is out of memory.
+    /// run. Fails with the first fault of the text. If the text has none, fails with the first fault of its drivers.
+    /// Can also fail because it is out of memory.
     pub fn new(alloc: Global, programs: &[u8]) -> Result<Session, StartFault>
         ensures { StartsAs programs.now result }
     {

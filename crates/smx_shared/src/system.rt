@@ -193,7 +193,8 @@ impl<K: EntrySink> System<K> {
         self.sink.count()
     }
 
-    /// Moves out the sink, which was given the history, and the configuration after it. Takes no memory.
+    /// Moves out the sink and the configuration. The sink was given the history, and the configuration is the one after
+    /// the history. Takes no memory.
     pub fn into_parts(self) -> (K, Config)
         ensures given { K.entries result.0 ≡ self.history }
         ensures drivers { result.1.drivers ≡ self.drivers }

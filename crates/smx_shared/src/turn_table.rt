@@ -47,13 +47,13 @@ const NAMES: usize = 1;
 
 const SYSTEM: usize = 0;
 
-// The number of times that a waiting caller yields before it sleeps, and the number of tries after which its sleeps
-// grow no longer.
+// The number of times that a waiting caller yields before it sleeps, and the number of tries after which the sleeps
+// stop getting longer.
 const YIELDS: u32 = 1;
 
 const MOST_TRIES: u32 = 4;
 
-// Its first sleep, in microseconds.
+// The first sleep of a waiting caller, in microseconds.
 const SHORTEST_SLEEP: u64 = 200;
 
 // Returns the word of a system with the turn free.

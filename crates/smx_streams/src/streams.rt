@@ -55,7 +55,7 @@ impl Model for Streams {
     ghost invariant = { IsWhole };
 }
 
-// States the law about all lists of hung-up streams as one fact.
+// Gives the caller all clauses of `hung_up_streams_make_the_list` as the single fact `MakeTheList`.
 fn law_of_lists()
     ensures { MakeTheList }
 {

@@ -105,8 +105,9 @@ impl SweepReserve {
     }
 }
 
-// Removes the ordinary links whose controlling stream doesn't exist. Each such controlling stream was touched, or
-// ceases to exist with a link that goes. Afterwards each stream that may have ceased to exist is in `seen`.
+// Removes the ordinary links whose controlling stream doesn't exist. Such a controlling stream is either in `touched`,
+// or ceases to exist because this function removes a link that held it. Afterwards each stream that may have ceased to
+// exist is in `seen`.
 fn drop_orphans(drivers: &[DriverSpec], lists: &mut Lists, room: &mut SweepReserve)
     requires kept { KeepsHolds lists.old }
     requires known { AreControllingKnown drivers.now lists.old.links.links }
@@ -138,8 +139,8 @@ fn drop_orphans(drivers: &[DriverSpec], lists: &mut Lists, room: &mut SweepReser
 }
 
 // Removes the ordinary links whose controlling stream doesn't exist, and then everything that belongs to streams that
-// don't exist. At first only touched streams may have ceased to exist. Afterwards the list has the serials of all
-// messages that were dropped since room was reserved.
+// don't exist. Requires that each stream that doesn't exist, but to which something still belongs, is in `touched`.
+// Afterwards the list has the serials of all messages that were dropped since room was reserved.
 fn sweep(drivers: &[DriverSpec], lists: &mut Lists, room: &mut SweepReserve)
     requires kept { KeepsHolds lists.old }
     requires known { AreControllingKnown drivers.now lists.old.links.links }

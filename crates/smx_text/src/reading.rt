@@ -13,7 +13,7 @@ use memchr::memchr;
 use smx_types::Version;
 use std::alloc::Global;
 
-// A value that grows line by line: the one that the lines read so far spell.
+// A value that grows line by line. The lines that have been read so far spell it.
 pub trait Draft: Drop {
     // The value of a whole text.
     type Whole: Drop;

@@ -28,7 +28,7 @@ pub enum Fault {
     /// `ENXIO driver`: there is no driver with that name, or the command requires a device and the driver
     /// is a multiplexer.
     NoDriver,
-    /// `ENXIO minor`: the driver has no free minor, not this minor, or no such stream.
+    /// `ENXIO minor`: the driver has no free minor, doesn't have this minor, or has no such stream.
     NoMinor,
     /// `EMFILE`: the process has 16 descriptors.
     TooManyDescriptors,
