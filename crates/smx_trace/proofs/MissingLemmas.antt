@@ -80,13 +80,13 @@ module _ {X : Type 0} (rank : X → ℕ × ℕ) where
   }
 
   module _ (same : X → X → Bool) (tells : (a b : X) → Decides (same a b) (a ≡ b)) where
-    -- x is none of the elements before it
+    -- x differs from each element before it
     none_before : (x : X) (ys : List X) → AreBefore rank x ys → list_any (same x) ys ≡ false
     none_before x [] h = refl
     none_before x (y ∷ ys) h =
         or_from (same x y) _ (false_from_ne_true _ (λ t. differs x y h.0 ((tells x y).0 t))) (none_before x ys h.1)
 
-    -- x is none of the elements of a rising list that starts with another element, which doesn't come before it
+    -- x differs from each element of a rising list that starts with another element, which doesn't come before it
     none_after : (x : X) (ys : List X) → IsRanked rank ys → StartsAt rank x ys → (slice_get ys 0 ≡ Some x → ⊥)
         → list_any (same x) ys ≡ false
     none_after x [] rise starts other = refl

@@ -334,7 +334,7 @@ module _ {drivers : List DriverSpec} {flow : List QueuedMessage} {text : List Qu
     by [] s w = sym (append-nil out) ∙ ap (λ (t : List ℕ). out ++ t) (sym none) ∙ w
     by (h ∷ hs) s w = let k : [] ≡ view_of_message drivers h ∷ map (view_of_message drivers) hs = sym e ∙ s in cc
 
-  -- one more message is written with what stands below it
+  -- one more message is written with its wait
   pub one_more_queued : (rest more : List MessageLine) (x : MessageLine) (new : List ℕ) → rest ≡ x ∷ more
       → IsLeft drivers flow text start out rest
       → ((h : QueuedMessage) (hs : List QueuedMessage) → x ≡ view_of_message drivers h

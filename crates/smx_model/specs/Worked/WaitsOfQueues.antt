@@ -54,7 +54,7 @@ pub waits_so : waits ip_over_eth (after ip_over_eth history)
 waits_so = refl
 
 -- then both devices hang up: the full queue below counts as hung up, and so does the device of a leaf; nobody is bound
--- any more, and a message for another address waits behind the first
+-- any more, and a message for another address waits after the first
 abbrev pub hangups : List Entry
 hangups = history
     ++ 0 does Hangup eth 0 gets Done []
