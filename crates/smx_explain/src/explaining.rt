@@ -7,9 +7,9 @@ ghost use Rattle.smx_text.specs.TranscriptText.{SpellsTranscript};
 
 use crate::differences::{difference_text, first_difference};
 use smx_config::ConfigFault;
+use smx_text::laws::one_transcript_has_one_reading;
 use smx_trace::laws_of_replays::replays_can_be_expressed;
 use smx_trace::replay;
-use smx_text::laws::one_transcript_has_one_reading;
 use smx_types::Transcript;
 use std::alloc::Global;
 

@@ -36,10 +36,7 @@ const OTHERS: [(&[&str], Job); 9] = [
         Job::Replay { at: Some(100_000) },
     ),
     (&["muxsim", "trace"], Job::Trace { waits: false }),
-    (
-        &["muxsim", "trace", "--waits"],
-        Job::Trace { waits: true },
-    ),
+    (&["muxsim", "trace", "--waits"], Job::Trace { waits: true }),
     (&["muxsim", "draw", "--dot"], Job::Draw { form: Form::Dot }),
     (&["muxsim", "live"], Job::Live),
 ];

@@ -4,7 +4,9 @@ ghost use Rattle.std.specs.Prelude.{◌≡◌, false};
 
 use super::devices::{Stop, one_byte_feed, one_byte_sink};
 use smx_config::Verdict;
-use smx_filters::{Done, Feed, MainFault, Sink, Source, Target, check_text, replay_text, run_text, trace_text};
+use smx_filters::{
+    Done, Feed, MainFault, Sink, Source, Target, check_text, replay_text, run_text, trace_text,
+};
 use smx_live::live_text;
 use smx_run::NoGate;
 use smx_samples::{Part, text_of};

@@ -4,7 +4,8 @@
 ghost use Rattle.std.specs.Prelude.{◌≤◌};
 
 use super::texts::{
-    HANGUP_END_OF_FILE, IN_TURN, IN_TURN_REPLAYED, IN_TURN_TRACED, MARKS_ACROSS_THE_JOIN, TWO_PROCESSES,
+    HANGUP_END_OF_FILE, IN_TURN, IN_TURN_REPLAYED, IN_TURN_TRACED, MARKS_ACROSS_THE_JOIN,
+    TWO_PROCESSES,
 };
 use smx_config::Verdict;
 use smx_filters::{MainFault, Source, Target, check_text, replay_text, run_text, trace_text};
