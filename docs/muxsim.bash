@@ -17,10 +17,11 @@ _muxsim() {
         case ${COMP_WORDS[1]} in
             run) words='--workers --fronts --explain --help' ;;
             check) words='--explain --help' ;;
-            replay) words='--at --help' ;;
-            trace) words='--waits --help' ;;
-            live | commands) words='--help' ;;
-            draw) words='--dot --help' ;;
+            replay) words='--at --explain --help' ;;
+            trace) words='--waits --explain --help' ;;
+            live) words='--explain --help' ;;
+            commands) words='--help' ;;
+            draw) words='--dot --steps --explain --help' ;;
             help) ((COMP_CWORD == 2)) && words='run check replay trace draw live commands' ;;
         esac
         # Each option may be given once.

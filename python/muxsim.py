@@ -1,4 +1,4 @@
-"""muxsim for Python: live sessions, runs, checks, replays, traces and drawings, by the program `muxsim`.
+"""muxsim for Python: live sessions, runs, checks, replays, traces, drawings and pages of steps, by the program `muxsim`.
 
     import muxsim
 
@@ -83,8 +83,19 @@ class PastTheEnd(Error):
         self.entries = entries  #: how many the transcript has
 
 
+class LongPage(Error):
+    """A page of the transcript's steps is over a limit: of 1,000 entries, or of 32 MiB."""
+
+    def __init__(self, entries: int) -> None:
+        super().__init__(f"a page has room for fewer than {entries} entries")
+        self.entries = entries  #: a number of entries whose page is over the limit
+
+
 class OutOfMemory(Error):
-    """The program ran out of memory. A session goes on as if the command had not come."""
+    """The program ran out of memory, or could not start a thread for a worker; the words of the exception say which.
+
+    A session goes on as if the command had not come.
+    """
 
 
 class ProgramFailed(Error):
@@ -458,7 +469,7 @@ def check(text: str, program: Optional[str] = None) -> Verdict:
 
 def replay(text: str, program: Optional[str] = None, at: Optional[int] = None) -> str:
     """Performs the commands of a transcript, or those of its first `at` entries, and returns the transcript they give."""
-    return _explained(["replay"] if at is None else ["replay", "--at", str(at)], text, program)
+    return _output(["replay", "--explain", *([] if at is None else ["--at", str(at)])], text, program)
 
 
 def trace(text: str, waits: bool = False, program: Optional[str] = None) -> str:
@@ -466,21 +477,17 @@ def trace(text: str, waits: bool = False, program: Optional[str] = None) -> str:
 
     With `waits`, all waits are below each entry too. The lines that begin with two spaces are not of the transcript.
     """
-    return _explained(["trace", "--waits"] if waits else ["trace"], text, program)
+    return _output(["trace", "--explain", *(["--waits"] if waits else [])], text, program)
+
+
+def steps(text: str, program: Optional[str] = None) -> str:
+    """Performs the commands of a transcript and returns an HTML page with a picture after each entry."""
+    return _output(["draw", "--steps", "--explain"], text, program)
 
 
 def draw(text: str, dot: bool = False, program: Optional[str] = None) -> str:
     """Draws the configuration of a transcript, as SVG or in the language of Graphviz."""
-    return _explained(["draw", "--dot"] if dot else ["draw"], text, program)
-
-
-def _explained(words: List[str], text: str, program: Optional[str]) -> str:
-    """Like `_output`, for a command without `--explain`: a check explains the same text."""
-    try:
-        return _output(words, text, program)
-    except TextError:
-        check(text, program)
-        raise
+    return _output(["draw", "--explain", *(["--dot"] if dot else [])], text, program)
 
 
 def _output(words: List[str], text: str, program: Optional[str]) -> str:
@@ -501,14 +508,18 @@ def _failure(status: int, words: str) -> Error:
         if found:
             return TextError(int(found[1]), found[2], found[3] or "", found[4] or "")
     if status == 1:
-        if re.search(r"^muxsim: refused: no memory$", words, re.M):
-            return OutOfMemory("out of memory")
+        found = re.search(r"^muxsim: refused: no memory$(?:\n(.+))?", words, re.M)
+        if found:
+            return OutOfMemory(found[1] or "out of memory")
         found = re.search(r"^muxsim: refused: driver (\d+) (.*)$", words, re.M)
         if found:
             return DriverError(int(found[1]), found[2])
         found = re.search(r"^muxsim: refused: the transcript has (\d+) entries$", words, re.M)
         if found:
             return PastTheEnd(int(found[1]))
+        found = re.search(r"^muxsim: refused: a page has room for fewer than (\d+) entries, see replay --at$", words, re.M)
+        if found:
+            return LongPage(int(found[1]))
     return ProgramFailed(status, words.strip())
 
 

@@ -15,16 +15,18 @@ use Rattle.smx_filters.specs.ExplainText.{judging}
 use Rattle.smx_filters.specs.Filters.{Filter, FiltersText, GivesFor}
 use Rattle.smx_filters.specs.ReplayText.{replaying}
 use Rattle.smx_filters.specs.RunText.{running}
+use Rattle.smx_filters.specs.StepsText.{stepping}
 use Rattle.smx_filters.specs.Statuses.{status_of, status_of_cause, status_of_outcome, status_of_verdict}
 use Rattle.smx_filters.specs.TraceText.{tracing}
 use Rattle.smx_filters.specs.declared.main_fault.MainFault.{MainFault}
 use Rattle.smx_filters.specs.declared.main_fault.MainFault.TheVariants.{Refused, Text, TooLong, ReadFailed, WriteFailed}
 use Rattle.smx_live.specs.LiveText.{AreFine, IsOutcome, IsOver, LivesText}
-use Rattle.muxsim.specs.Ends.{Devices, EndsCheck, EndsDraw, EndsJob, EndsLive, EndsReplay, EndsRun, EndsTrace}
+use Rattle.muxsim.specs.Ends.{Devices, EndsCheck, EndsDraw, EndsJob, EndsLive, EndsReplay, EndsRun, EndsSteps}
+use Rattle.muxsim.specs.Ends.{EndsTrace}
 use Rattle.muxsim.specs.Ends.{Writes}
 use Rattle.muxsim.specs.Ends.{outcome_of_check, outcome_of_writing}
 use Rattle.smx_command_line.specs.declared.jobs.Job.{Job}
-use Rattle.smx_command_line.specs.declared.jobs.Job.TheVariants.{Run, Check, Replay, Trace, Draw, Live}
+use Rattle.smx_command_line.specs.declared.jobs.Job.TheVariants.{Run, Check, Replay, Trace, Draw, Steps, Live}
 
 -- ---- numbers
 
@@ -152,10 +154,10 @@ beginning None input read consumed = absurd consumed
 beginning (Some rest) input read consumed = (rest, consumed)
 
 -- a live session that succeeds has ended
-lived : (d : Devices) (input output : List ℕ) → Writes d input output
-    → LivesText d.had d.left d.ended d.read_failures d.before d.after d.flushed d.write_failures (Ok tt)
-    → (d.flushed ≡ true) × (read rest : List ℕ) × (input ≡ read ++ rest) × IsOver read d.ended output
-lived d input output w h =
+lived : (explain : Bool) (d : Devices) (input output : List ℕ) → Writes d input output
+    → LivesText explain d.had d.left d.ended d.read_failures d.before d.after d.flushed d.write_failures (Ok tt)
+    → (d.flushed ≡ true) × (read rest : List ℕ) × (input ≡ read ++ rest) × IsOver explain read d.ended output
+lived explain d input output w h =
     let (fine, flushed, over) = h.outcome in
     let consumed : Consumes (Some input) d.left h.read =
     subst (λ (o : Option (List ℕ)). Consumes o d.left h.read) w.had h.consumed in
@@ -163,7 +165,7 @@ lived d input output w h =
     w.after (subst (λ (o : Option (List ℕ)). Appends o d.after h.output) w.before h.appended) in
     let out : output ≡ h.output = wrote in
     let front : (rest : List ℕ) × (input ≡ h.read ++ rest) = beginning d.left input h.read consumed in
-    (flushed, h.read, front.0, front.1, subst (λ (o : List ℕ). IsOver h.read d.ended o) (sym out) over)
+    (flushed, h.read, front.0, front.1, subst (λ (o : List ℕ). IsOver explain h.read d.ended o) (sym out) over)
 
 -- a run with the status 0 wrote what was asked for
 pub run_done : (fronts : Bool) (workers : ℕ) (d : Devices) (code : ExitCode) (input output : List ℕ)
@@ -190,16 +192,21 @@ pub draw_done : (form : Form) (d : Devices) (code : ExitCode) (input output : Li
 draw_done form d code input output h w =
     done_for d code input output w (drawing form) h.answer h.drawn h.status
 
+-- a page with the status 0 is what was asked for
+pub steps_done : (d : Devices) (code : ExitCode) (input output : List ℕ) → EndsSteps d code
+    → Writes d input output → exit_status code ≡ 0 → (d.flushed ≡ true) × GivesFor stepping input tt output
+steps_done d code input output h w = done_for d code input output w stepping h.answer h.stepped h.status
+
 -- a live session with the status 0 has ended, and wrote its answers
-pub live_done : (d : Devices) (code : ExitCode) (input output : List ℕ) → EndsLive d code
+pub live_done : (explain : Bool) (d : Devices) (code : ExitCode) (input output : List ℕ) → EndsLive explain d code
     → Writes d input output → exit_status code ≡ 0
-    → (d.flushed ≡ true) × (read rest : List ℕ) × (input ≡ read ++ rest) × IsOver read d.ended output
-live_done d code input output h w zero = by_answer h.answer h.lived h.status where
+    → (d.flushed ≡ true) × (read rest : List ℕ) × (input ≡ read ++ rest) × IsOver explain read d.ended output
+live_done explain d code input output h w zero = by_answer h.answer h.lived h.status where
   by_answer : (answer : Result (Unit {0}) MainFault)
-      → LivesText d.had d.left d.ended d.read_failures d.before d.after d.flushed d.write_failures answer
+      → LivesText explain d.had d.left d.ended d.read_failures d.before d.after d.flushed d.write_failures answer
       → exit_status code ≡ status_of_outcome (outcome_of_writing answer)
-      → (d.flushed ≡ true) × (read rest : List ℕ) × (input ≡ read ++ rest) × IsOver read d.ended output
-  by_answer (Ok done) l is = lived d input output w l
+      → (d.flushed ≡ true) × (read rest : List ℕ) × (input ≡ read ++ rest) × IsOver explain read d.ended output
+  by_answer (Ok done) l is = lived explain d input output w l
   by_answer (Err e) l is = absurd (not_even e _ 0 is zero)
 
 -- a check with the status 0 judged the transcript legal
@@ -266,16 +273,16 @@ none_failed a b fine (inl one) = omega (arith, fine.0, one)
 none_failed a b fine (inr one) = omega (arith, fine.1, one)
 
 -- a fault of a live session has the status 5 exactly if a device failed
-live_broken : (d : Devices) (read output : List ℕ) (e : MainFault)
-    → IsOutcome read output d.ended d.flushed d.read_failures d.write_failures (Err e) → (n : ℕ) → n ≡ status_of e
+live_broken : (explain : Bool) (d : Devices) (read output : List ℕ) (e : MainFault)
+    → IsOutcome explain read output d.ended d.flushed d.read_failures d.write_failures (Err e) → (n : ℕ) → n ≡ status_of e
     → (n ≡ 5) ↔ ((d.read_failures ≡ 1) ⊎ (d.write_failures ≡ 1))
-live_broken d read output (Refused f) h n is =
+live_broken explain d read output (Refused f) h n is =
     (λ five. absurd (omega (arith, is, five)), λ broke. absurd (none_failed _ _ h.0 broke))
-live_broken d read output TooLong h n is =
+live_broken explain d read output TooLong h n is =
     (λ five. absurd (omega (arith, is, five)), λ broke. absurd (none_failed _ _ h.0 broke))
-live_broken d read output ReadFailed h n is = (λ five. inl h.0, λ broke. is)
-live_broken d read output WriteFailed h n is = (λ five. inr h.1, λ broke. is)
-live_broken d read output (Text f) h n is =
+live_broken explain d read output ReadFailed h n is = (λ five. inl h.0, λ broke. is)
+live_broken explain d read output WriteFailed h n is = (λ five. inr h.1, λ broke. is)
+live_broken explain d read output (Text f) h n is =
     (λ five. low (cause_is f.cause) five, λ broke. absurd (none_failed _ _ h.0 broke)) where
       low : (status_of_cause f.cause ≡ 1) ⊎ (status_of_cause f.cause ≡ 3) → n ≡ 5
           → (d.read_failures ≡ 1) ⊎ (d.write_failures ≡ 1)
@@ -283,16 +290,16 @@ live_broken d read output (Text f) h n is =
       low (inr three) five = absurd (omega (arith, is, three, five))
 
 -- what a status says of a live session, which may have written something before a fault
-of_living : (d : Devices) (n : ℕ) (answer : Result (Unit {0}) MainFault)
-    → LivesText d.had d.left d.ended d.read_failures d.before d.after d.flushed d.write_failures answer
+of_living : (explain : Bool) (d : Devices) (n : ℕ) (answer : Result (Unit {0}) MainFault)
+    → LivesText explain d.had d.left d.ended d.read_failures d.before d.after d.flushed d.write_failures answer
     → n ≡ status_of_outcome (outcome_of_writing answer) → Tells (Unit {0}) d n
-of_living d n (Ok done) h is = record {
+of_living explain d n (Ok done) h is = record {
   failed = (λ five. absurd (omega (arith, is, five)), λ broke. absurd (none_failed _ _ h.outcome.0 broke));
   unwritten = λ low. tt;
   no_words = λ two. absurd (omega (arith, is, two));
 }
-of_living d n (Err e) h is = record {
-  failed = live_broken d h.read h.output e h.outcome n is;
+of_living explain d n (Err e) h is = record {
+  failed = live_broken explain d h.read h.output e h.outcome n is;
   unwritten = λ low. tt;
   no_words = not_even e n 1 is;
 }
@@ -301,19 +308,21 @@ of_living d n (Err e) h is = record {
 abbrev Low : Job → Devices → Type 0
 Low (Run workers fronts explain) d = Keeps d.before d.after
 Low (Check explain) d = Keeps d.before d.after
-Low (Replay at) d = Keeps d.before d.after
-Low (Trace waits) d = Keeps d.before d.after
-Low (Draw form) d = Keeps d.before d.after
-Low Live d = Unit {0}
+Low (Replay at explain) d = Keeps d.before d.after
+Low (Trace waits explain) d = Keeps d.before d.after
+Low (Draw form explain) d = Keeps d.before d.after
+Low (Steps explain) d = Keeps d.before d.after
+Low (Live explain) d = Unit {0}
 
 -- what a status says of any job
 tells : (job : Job) (d : Devices) (code : ExitCode) → EndsJob job d code → Tells (Low job d) d (exit_status code)
-tells Live d code h = of_living d _ h.answer h.lived h.status
+tells (Live explain) d code h = of_living explain d _ h.answer h.lived h.status
 tells (Run workers fronts explain) d code h = of_writing (running fronts workers) d _ h.answer h.ran h.status
 tells (Check explain) d code h = of_judging (judging explain) d _ h.answer h.judged h.status
-tells (Replay at) d code h = of_writing (replaying at) d _ h.answer h.replayed h.status
-tells (Trace waits) d code h = of_writing (tracing waits) d _ h.answer h.traced h.status
-tells (Draw form) d code h = of_writing (drawing form) d _ h.answer h.drawn h.status
+tells (Replay at explain) d code h = of_writing (replaying at) d _ h.answer h.replayed h.status
+tells (Trace waits explain) d code h = of_writing (tracing waits) d _ h.answer h.traced h.status
+tells (Draw form explain) d code h = of_writing (drawing form) d _ h.answer h.drawn h.status
+tells (Steps explain) d code h = of_writing stepping d _ h.answer h.stepped h.status
 
 -- the status is 5 exactly if a device failed
 pub failed : (job : Job) (d : Devices) (code : ExitCode) → EndsJob job d code
@@ -321,14 +330,16 @@ pub failed : (job : Job) (d : Devices) (code : ExitCode) → EndsJob job d code
 failed job d code h = (tells job d code h).failed
 
 -- if the status is 1 or 3, nothing was written, except by a live session
-pub unwritten : (job : Job) (d : Devices) (code : ExitCode) → job ≢ Live → EndsJob job d code
+pub unwritten : (job : Job) (d : Devices) (code : ExitCode) → ((explain : Bool) → job ≢ Live explain)
+    → EndsJob job d code
     → (exit_status code ≡ 1) ⊎ (exit_status code ≡ 3) → Keeps d.before d.after
 unwritten (Run workers fronts explain) d code other h = (tells (Run workers fronts explain) d code h).unwritten
 unwritten (Check explain) d code other h = (tells (Check explain) d code h).unwritten
-unwritten (Replay at) d code other h = (tells (Replay at) d code h).unwritten
-unwritten (Trace waits) d code other h = (tells (Trace waits) d code h).unwritten
-unwritten (Draw form) d code other h = (tells (Draw form) d code h).unwritten
-unwritten Live d code other h = absurd (other refl)
+unwritten (Replay at explain) d code other h = (tells (Replay at explain) d code h).unwritten
+unwritten (Trace waits explain) d code other h = (tells (Trace waits explain) d code h).unwritten
+unwritten (Draw form explain) d code other h = (tells (Draw form explain) d code h).unwritten
+unwritten (Steps explain) d code other h = (tells (Steps explain) d code h).unwritten
+unwritten (Live explain) d code other h = absurd (other explain refl)
 
 -- no job that started has the status 2
 pub no_words : (job : Job) (d : Devices) (code : ExitCode) → EndsJob job d code → exit_status code ≡ 2 → ⊥
@@ -356,6 +367,10 @@ trace_not_4 each d code h = not_4 _ h.answer h.status
 pub draw_not_4 : (form : Form) (d : Devices) (code : ExitCode) → EndsDraw form d code → exit_status code ≡ 4 → ⊥
 draw_not_4 form d code h = not_4 _ h.answer h.status
 
+-- no page has the status 4
+pub steps_not_4 : (d : Devices) (code : ExitCode) → EndsSteps d code → exit_status code ≡ 4 → ⊥
+steps_not_4 d code h = not_4 _ h.answer h.status
+
 -- no live session has the status 4
-pub live_not_4 : (d : Devices) (code : ExitCode) → EndsLive d code → exit_status code ≡ 4 → ⊥
-live_not_4 d code h = not_4 _ h.answer h.status
+pub live_not_4 : (explain : Bool) (d : Devices) (code : ExitCode) → EndsLive explain d code → exit_status code ≡ 4 → ⊥
+live_not_4 explain d code h = not_4 _ h.answer h.status

@@ -11,14 +11,15 @@ use Rattle.smx_live.specs.LiveText.{LivesText}
 use Rattle.smx_filters.specs.ReplayText.{ReplaysText}
 use Rattle.smx_filters.specs.RunText.{RunsText}
 use Rattle.smx_filters.specs.Statuses.{status_of_outcome}
+use Rattle.smx_filters.specs.StepsText.{StepsText}
 use Rattle.smx_filters.specs.TraceText.{TracesText}
 use Rattle.smx_filters.specs.declared.done.Done.{Done}
 use Rattle.smx_filters.specs.declared.done.Done.TheVariants.{Finished, Judged}
 use Rattle.smx_filters.specs.declared.main_fault.MainFault.{MainFault}
 use Rattle.smx_command_line.specs.declared.jobs.Job.{Job}
-use Rattle.smx_command_line.specs.declared.jobs.Job.TheVariants.{Run, Check, Replay, Trace, Draw, Live}
+use Rattle.smx_command_line.specs.declared.jobs.Job.TheVariants.{Run, Check, Replay, Trace, Draw, Steps, Live}
 
--- a run, a replay, a trace, a drawing or a live session that succeeded has finished
+-- a run, a replay, a trace, a drawing, a page or a live session that succeeded has finished
 abbrev pub outcome_of_writing : Result (Unit {0}) MainFault → Result Done MainFault
 outcome_of_writing (Ok done) = Ok Finished
 outcome_of_writing (Err fault) = Err fault
@@ -91,17 +92,24 @@ pub record EndsDraw (form : Form) (d : Devices) (code : ExitCode) : Type 0 where
   pub drawn : DrawsText form d.had d.left d.ended d.read_failures d.before d.after d.flushed d.write_failures answer
   pub status : exit_status code ≡ status_of_outcome (outcome_of_writing answer)
 
--- the lines were answered, and the status is that of the result
-pub record EndsLive (d : Devices) (code : ExitCode) : Type 0 where
+-- the page of the transcript was written, and the status is that of the result
+pub record EndsSteps (d : Devices) (code : ExitCode) : Type 0 where
   pub answer : Result (Unit {0}) MainFault
-  pub lived : LivesText d.had d.left d.ended d.read_failures d.before d.after d.flushed d.write_failures answer
+  pub stepped : StepsText d.had d.left d.ended d.read_failures d.before d.after d.flushed d.write_failures answer
+  pub status : exit_status code ≡ status_of_outcome (outcome_of_writing answer)
+
+-- the lines were answered, with or without explanations, and the status is that of the result
+pub record EndsLive (explain : Bool) (d : Devices) (code : ExitCode) : Type 0 where
+  pub answer : Result (Unit {0}) MainFault
+  pub lived : LivesText explain d.had d.left d.ended d.read_failures d.before d.after d.flushed d.write_failures answer
   pub status : exit_status code ≡ status_of_outcome (outcome_of_writing answer)
 
 -- the job was done, and the status is that of the result
 abbrev pub EndsJob : Job → Devices → ExitCode → Type 0
 EndsJob (Run workers fronts explain) d code = EndsRun fronts workers d code
 EndsJob (Check explain) d code = EndsCheck explain d code
-EndsJob (Replay at) d code = EndsReplay at d code
-EndsJob (Trace waits) d code = EndsTrace waits d code
-EndsJob (Draw form) d code = EndsDraw form d code
-EndsJob Live d code = EndsLive d code
+EndsJob (Replay at explain) d code = EndsReplay at d code
+EndsJob (Trace waits explain) d code = EndsTrace waits d code
+EndsJob (Draw form explain) d code = EndsDraw form d code
+EndsJob (Steps explain) d code = EndsSteps d code
+EndsJob (Live explain) d code = EndsLive explain d code

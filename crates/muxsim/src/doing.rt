@@ -2,19 +2,20 @@
 
 ghost use Rattle.std.specs.Prelude.{◌≡◌, false, true};
 ghost use Rattle.std.specs.Process.{exit_status};
-ghost use Rattle.muxsim.specs.Ends.{devices, EndsCheck, EndsDraw, EndsJob, EndsLive, EndsReplay, EndsRun, EndsTrace};
+ghost use Rattle.muxsim.specs.Ends.{devices, outcome_of_writing, EndsCheck, EndsJob, EndsRun};
 ghost use Rattle.smx_command_line.specs.Jobs.{CanRun};
+ghost use Rattle.smx_filters.specs.ExplainText.{answer_of};
 ghost use Rattle.smx_filters.specs.Statuses.{status_of, status_of_outcome};
 
 use smx_command_line::Job;
-use smx_draw::Form;
-use smx_explain::{FaultExplanation, TextKind};
+use smx_config::ConfigFault;
+use smx_explain::{DriverExplanation, FaultExplanation, TextKind};
 use smx_filters::{
     Done, Feed, MainFault, Refusal, Sink, check_explained, check_text, draw_text, replay_text,
-    run_explained, run_text, trace_text,
+    run_explained, run_text, steps_text, trace_text,
 };
 use smx_live::live_text;
-use smx_run::NoGate;
+use smx_run::{NoGate, RunFault};
 use smx_text::{Cause, TextFault};
 use std::alloc::Global;
 use std::process::ExitCode;
@@ -41,23 +42,34 @@ pub fn do_job<R: Threads + Wait + Sync + Eprint, F: Feed, S: Sink>(
         Job::Run {
             workers,
             fronts,
-            explain: false,
-        } => run(rt, alloc, feed, sink, workers, fronts),
-        Job::Run {
-            workers,
-            fronts,
-            explain: true,
-        } => explained_run(rt, alloc, feed, sink, workers, fronts),
+            explain,
+        } => run(rt, alloc, feed, sink, workers, fronts, explain),
         Job::Check { explain: false } => check(rt, alloc, feed, sink),
         Job::Check { explain: true } => explained_check(rt, alloc, feed, sink),
-        Job::Replay { at } => replay(rt, alloc, feed, sink, at),
-        Job::Trace { waits } => trace(rt, alloc, feed, sink, waits),
-        Job::Draw { form } => draw(rt, alloc, feed, sink, form),
-        Job::Live => live(rt, alloc, feed, sink),
+        Job::Replay { at, explain } => {
+            let outcome = replay_text(alloc, feed, sink, at);
+            written(rt, TextKind::Transcript, outcome, explain)
+        }
+        Job::Trace { waits, explain } => {
+            let outcome = trace_text(alloc, feed, sink, waits);
+            written(rt, TextKind::Transcript, outcome, explain)
+        }
+        Job::Draw { form, explain } => {
+            let outcome = draw_text(alloc, feed, sink, form);
+            written(rt, TextKind::Transcript, outcome, explain)
+        }
+        Job::Steps { explain } => {
+            let outcome = steps_text(alloc, feed, sink);
+            written(rt, TextKind::Transcript, outcome, explain)
+        }
+        Job::Live { explain } => {
+            let outcome = live_text(alloc, feed, sink, explain);
+            written(rt, TextKind::Programs, outcome, explain)
+        }
     }
 }
 
-// Runs the programs.
+// Runs the programs. If `explain`, shows what is wrong with a text that is refused.
 fn run<R: Threads + Wait + Sync + Eprint, F: Feed, S: Sink>(
     rt: &R,
     alloc: Global,
@@ -65,14 +77,19 @@ fn run<R: Threads + Wait + Sync + Eprint, F: Feed, S: Sink>(
     sink: &mut S,
     workers: usize,
     fronts: bool,
+    explain: bool,
 ) -> ExitCode
-    requires workers { CanRun (Job.Run workers fronts false) }
+    requires workers { CanRun (Job.Run workers fronts explain) }
     requires before_the_end { F.ended feed.old ≡ false }
     requires fed { F.failures feed.old ≡ 0 }
     requires sunk { S.failures sink.old ≡ 0 }
     ensures { EndsRun fronts workers (devices F.remaining F.ended F.failures S.contents S.flushed S.failures
         feed.old feed.new sink.old sink.new) result }
 {
+    if explain {
+        let outcome = run_explained(rt, alloc, feed, sink, workers, fronts, &NoGate);
+        return written(rt, TextKind::Programs, outcome, true);
+    }
     match run_text(rt, alloc, feed, sink, workers, fronts, &NoGate) {
         Ok(()) => ended(rt, Ok(Done::Finished)),
         Err(fault) => ended(rt, Err(fault)),
@@ -93,29 +110,7 @@ fn check<R: Eprint, F: Feed, S: Sink>(rt: &R, alloc: Global, feed: &mut F, sink:
     }
 }
 
-// Runs the programs. If the text is malformed, shows what is wrong with it.
-fn explained_run<R: Threads + Wait + Sync + Eprint, F: Feed, S: Sink>(
-    rt: &R,
-    alloc: Global,
-    feed: &mut F,
-    sink: &mut S,
-    workers: usize,
-    fronts: bool,
-) -> ExitCode
-    requires workers { CanRun (Job.Run workers fronts true) }
-    requires before_the_end { F.ended feed.old ≡ false }
-    requires fed { F.failures feed.old ≡ 0 }
-    requires sunk { S.failures sink.old ≡ 0 }
-    ensures { EndsRun fronts workers (devices F.remaining F.ended F.failures S.contents S.flushed S.failures
-        feed.old feed.new sink.old sink.new) result }
-{
-    match run_explained(rt, alloc, feed, sink, workers, fronts, &NoGate) {
-        Ok(()) => ended(rt, Ok(Done::Finished)),
-        Err(refusal) => refused(rt, TextKind::Programs, refusal),
-    }
-}
-
-// Judges the transcript. Shows where it differs from its replay, or, if the text is malformed, what is wrong with it.
+// Judges the transcript. Shows where it differs from its replay, or what is wrong with a text that is refused.
 fn explained_check<R: Eprint, F: Feed, S: Sink>(
     rt: &R,
     alloc: Global,
@@ -134,115 +129,86 @@ fn explained_check<R: Eprint, F: Feed, S: Sink>(
     }
 }
 
-// Returns the status of a fault. Prints its line on standard error and, below it, what is wrong with a malformed
-// text.
+// Returns the status for what was made of a text of this kind. If that failed, prints the reason on standard error, and
+// if `explain`, also what is wrong with a text that is refused.
+fn written<R: Eprint>(
+    rt: &R,
+    kind: TextKind,
+    outcome: Result<(), Refusal>,
+    explain: bool,
+) -> ExitCode
+    ensures { exit_status result ≡ status_of_outcome (outcome_of_writing (answer_of outcome)) }
+{
+    match outcome {
+        Ok(()) => ended(rt, Ok(Done::Finished)),
+        Err(refusal) if explain => refused(rt, kind, refusal),
+        Err(Refusal { fault, .. }) => ended(rt, Err(fault)),
+    }
+}
+
+// Returns the status of a fault. Prints its line on standard error and, below it, what is wrong with a text that is
+// refused, or that a thread could not be started.
 fn refused<R: Eprint>(rt: &R, kind: TextKind, refusal: Refusal) -> ExitCode
     ensures { exit_status result ≡ status_of refusal.fault }
 {
     let Refusal { fault, text } = refusal;
-    let of_text = fault_of_text(&fault);
+    let shown = shown_fault(&fault);
+    let no_thread = matches!(fault, MainFault::Refused(RunFault::NoThread));
     let code = ended(rt, Err(fault));
+    if no_thread {
+        let _ = eprintln!(rt; "a thread for a worker could not be started, see --workers");
+    }
     if let Some(text) = text {
-        show(rt, kind, text.as_slice(), of_text);
+        show(rt, kind, text.as_slice(), shown);
     }
     code
 }
 
-// Shows what is wrong with a text, if anything is.
-fn show<R: Eprint>(rt: &R, kind: TextKind, text: &[u8], fault: Option<TextFault>) {
-    if let Some(fault) = fault {
-        let explanation = FaultExplanation { kind, text, fault };
-        let _ = eprint!(rt; "{explanation}");
+// A fault that can be shown in a text.
+#[derive(Clone, Copy)]
+enum ShownFault {
+    Text(TextFault),
+    Drivers(ConfigFault),
+    None,
+}
+
+// Shows what is wrong with a text or with its drivers, if anything is.
+fn show<R: Eprint>(rt: &R, kind: TextKind, text: &[u8], fault: ShownFault) {
+    match fault {
+        ShownFault::Text(fault) => {
+            let explanation = FaultExplanation { kind, text, fault };
+            let _ = eprint!(rt; "{explanation}");
+        }
+        ShownFault::Drivers(fault) => {
+            let explanation = DriverExplanation { text, fault };
+            let _ = eprint!(rt; "{explanation}");
+        }
+        ShownFault::None => {}
     }
 }
 
-// Returns the fault of the text, if that is the fault. Out-of-memory is not a fault of the text.
-fn fault_of_text(fault: &MainFault) -> Option<TextFault> {
+// Returns the fault of the text or of its drivers, if that is the fault. Out-of-memory is neither.
+fn shown_fault(fault: &MainFault) -> ShownFault {
     match fault {
         MainFault::Text(fault) => match fault.cause {
-            Cause::NoMemory => None,
-            Cause::Header | Cause::Form | Cause::Many | Cause::Cut | Cause::Trailing => Some(
-                *fault,
-            ),
+            Cause::NoMemory => ShownFault::None,
+            Cause::Header | Cause::Form | Cause::Many | Cause::Cut | Cause::Trailing => {
+                ShownFault::Text(*fault)
+            }
         },
-        MainFault::Refused(_)
+        MainFault::Refused(RunFault::ConfigFault(fault)) => ShownFault::Drivers(*fault),
+        MainFault::Refused(
+            RunFault::NoMemory
+            | RunFault::NoThread
+            | RunFault::Strange(_)
+            | RunFault::HistoryFull
+            | RunFault::Held
+            | RunFault::FewEntries(_)
+            | RunFault::LongPage(_),
+        )
         | MainFault::TooLong
         | MainFault::ReadFailed
-        | MainFault::WriteFailed => None,
-    }
-}
-
-// Replays the transcript, or its first entries.
-fn replay<R: Eprint, F: Feed, S: Sink>(
-    rt: &R,
-    alloc: Global,
-    feed: &mut F,
-    sink: &mut S,
-    at: Option<usize>,
-) -> ExitCode
-    requires before_the_end { F.ended feed.old ≡ false }
-    requires fed { F.failures feed.old ≡ 0 }
-    requires sunk { S.failures sink.old ≡ 0 }
-    ensures { EndsReplay at (devices F.remaining F.ended F.failures S.contents S.flushed S.failures
-        feed.old feed.new sink.old sink.new) result }
-{
-    match replay_text(alloc, feed, sink, at) {
-        Ok(()) => ended(rt, Ok(Done::Finished)),
-        Err(fault) => ended(rt, Err(fault)),
-    }
-}
-
-// Traces the transcript.
-fn trace<R: Eprint, F: Feed, S: Sink>(
-    rt: &R,
-    alloc: Global,
-    feed: &mut F,
-    sink: &mut S,
-    waits: bool,
-) -> ExitCode
-    requires before_the_end { F.ended feed.old ≡ false }
-    requires fed { F.failures feed.old ≡ 0 }
-    requires sunk { S.failures sink.old ≡ 0 }
-    ensures { EndsTrace waits (devices F.remaining F.ended F.failures S.contents S.flushed S.failures
-        feed.old feed.new sink.old sink.new) result }
-{
-    match trace_text(alloc, feed, sink, waits) {
-        Ok(()) => ended(rt, Ok(Done::Finished)),
-        Err(fault) => ended(rt, Err(fault)),
-    }
-}
-
-// Draws the configuration of the transcript.
-fn draw<R: Eprint, F: Feed, S: Sink>(
-    rt: &R,
-    alloc: Global,
-    feed: &mut F,
-    sink: &mut S,
-    form: Form,
-) -> ExitCode
-    requires before_the_end { F.ended feed.old ≡ false }
-    requires fed { F.failures feed.old ≡ 0 }
-    requires sunk { S.failures sink.old ≡ 0 }
-    ensures { EndsDraw form (devices F.remaining F.ended F.failures S.contents S.flushed S.failures
-        feed.old feed.new sink.old sink.new) result }
-{
-    match draw_text(alloc, feed, sink, form) {
-        Ok(()) => ended(rt, Ok(Done::Finished)),
-        Err(fault) => ended(rt, Err(fault)),
-    }
-}
-
-// Answers the lines.
-fn live<R: Eprint, F: Feed, S: Sink>(rt: &R, alloc: Global, feed: &mut F, sink: &mut S) -> ExitCode
-    requires before_the_end { F.ended feed.old ≡ false }
-    requires fed { F.failures feed.old ≡ 0 }
-    requires sunk { S.failures sink.old ≡ 0 }
-    ensures { EndsLive (devices F.remaining F.ended F.failures S.contents S.flushed S.failures
-        feed.old feed.new sink.old sink.new) result }
-{
-    match live_text(alloc, feed, sink) {
-        Ok(()) => ended(rt, Ok(Done::Finished)),
-        Err(fault) => ended(rt, Err(fault)),
+        | MainFault::WriteFailed => ShownFault::None,
     }
 }
 

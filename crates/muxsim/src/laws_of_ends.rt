@@ -12,9 +12,11 @@ ghost use Rattle.smx_filters.specs.ExplainText.{judging};
 ghost use Rattle.smx_filters.specs.Filters.{GivesFor};
 ghost use Rattle.smx_filters.specs.ReplayText.{replaying};
 ghost use Rattle.smx_filters.specs.RunText.{running};
+ghost use Rattle.smx_filters.specs.StepsText.{stepping};
 ghost use Rattle.smx_filters.specs.TraceText.{tracing};
 ghost use Rattle.smx_live.specs.LiveText.{IsOver};
-ghost use Rattle.muxsim.specs.Ends.{Devices, EndsCheck, EndsDraw, EndsJob, EndsLive, EndsReplay, EndsRun, EndsTrace};
+ghost use Rattle.muxsim.specs.Ends.{Devices, EndsCheck, EndsDraw, EndsJob, EndsLive, EndsReplay, EndsRun, EndsSteps};
+ghost use Rattle.muxsim.specs.Ends.{EndsTrace};
 ghost use Rattle.muxsim.specs.Ends.{Writes};
 ghost use Rattle.smx_command_line.specs.declared.jobs.Job.{Job as AnyJob};
 ghost use Rattle.smx_command_line.specs.declared.jobs.Job.TheVariants.{Live};
@@ -35,9 +37,12 @@ pub fn a_status_tells_what_was_done()
     ensures draw { (form : Form) (d : Devices) (code : ExitCode) (input output : List ℕ) → EndsDraw form d code
         → Writes d input output → exit_status code ≡ 0
         → (d.flushed ≡ true) × GivesFor (drawing form) input tt output }
-    ensures live { (d : Devices) (code : ExitCode) (input output : List ℕ) → EndsLive d code
+    ensures steps { (d : Devices) (code : ExitCode) (input output : List ℕ) → EndsSteps d code
         → Writes d input output → exit_status code ≡ 0
-        → (d.flushed ≡ true) × (read rest : List ℕ) × (input ≡ read ++ rest) × IsOver read d.ended output }
+        → (d.flushed ≡ true) × GivesFor stepping input tt output }
+    ensures live { (explain : Bool) (d : Devices) (code : ExitCode) (input output : List ℕ) → EndsLive explain d code
+        → Writes d input output → exit_status code ≡ 0
+        → (d.flushed ≡ true) × (read rest : List ℕ) × (input ≡ read ++ rest) × IsOver explain read d.ended output }
     ensures legal { (explain : Bool) (d : Devices) (code : ExitCode) (input output : List ℕ)
         → EndsCheck explain d code → Writes d input output → exit_status code ≡ 0
         → (d.flushed ≡ true) × GivesFor (judging explain) input Legal output }
@@ -47,11 +52,12 @@ pub fn a_status_tells_what_was_done()
 {}
 
 /// The status is 5 exactly if a device failed. The statuses 1 and 3 mean that nothing was written, except by a live
-/// session. No job has the status 2, and no run, replay, trace, drawing or live session has the status 4.
+/// session. No job has the status 2, and no run, replay, trace, drawing, page or live session has the status 4.
 pub fn a_status_tells_what_failed()
     ensures failed { (job : AnyJob) (d : Devices) (code : ExitCode) → EndsJob job d code
         → (exit_status code ≡ 5) ↔ ((d.read_failures ≡ 1) ⊎ (d.write_failures ≡ 1)) }
-    ensures unwritten { (job : AnyJob) (d : Devices) (code : ExitCode) → job ≢ Live → EndsJob job d code
+    ensures unwritten { (job : AnyJob) (d : Devices) (code : ExitCode)
+        → ((explain : Bool) → job ≢ Live explain) → EndsJob job d code
         → (exit_status code ≡ 1) ⊎ (exit_status code ≡ 3) → Keeps d.before d.after }
     ensures no_words { (job : AnyJob) (d : Devices) (code : ExitCode) → EndsJob job d code
         → exit_status code ≡ 2 → ⊥ }
@@ -63,5 +69,7 @@ pub fn a_status_tells_what_failed()
         → exit_status code ≡ 4 → ⊥ }
     ensures no_verdict_of_a_drawing { (form : Form) (d : Devices) (code : ExitCode) → EndsDraw form d code
         → exit_status code ≡ 4 → ⊥ }
-    ensures no_verdict_of_a_session { (d : Devices) (code : ExitCode) → EndsLive d code → exit_status code ≡ 4 → ⊥ }
+    ensures no_verdict_of_a_page { (d : Devices) (code : ExitCode) → EndsSteps d code → exit_status code ≡ 4 → ⊥ }
+    ensures no_verdict_of_a_session { (explain : Bool) (d : Devices) (code : ExitCode) → EndsLive explain d code
+        → exit_status code ≡ 4 → ⊥ }
 {}

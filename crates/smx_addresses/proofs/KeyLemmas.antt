@@ -46,12 +46,6 @@ module _ {X : Type 0} (key : X → Key) (value : X → ℕ) where
   found_any (x ∷ xs) k = rw (is_key_sym k (key x))
       (elim (cases_Bool (is_key (key x) k)) [ inl t ↦ rw t refl | inr f ↦ rw f (found_any xs k) ])
 
-  -- the look-up is the value of the element that a search finds
-  pub found_value : (xs : List X) (k : Key) → found key value xs k ≡ option_map value (find (λ x. is_key (key x) k) xs)
-  found_value [] k = refl
-  found_value (x ∷ xs) k = rw (is_key_sym k (key x))
-      (elim (cases_Bool (is_key (key x) k)) [ inl t ↦ rw t refl | inr f ↦ rw f (found_value xs k) ])
-
   -- the search and the look-up, for an element that is made of its key and its value
   pub found_find : (make : Key → ℕ → X) → ((x : X) → make (key x) (value x) ≡ x) → (xs : List X) (k : Key)
       → find (λ x. is_key (key x) k) xs ≡ option_map (make k) (found key value xs k)

@@ -1,16 +1,14 @@
 -- Rising lists: with one more element, with fewer, and determined by their look-ups.
-use Rattle.std.proofs.Common.{◌≡◌, ℕ, ◌≤◌, Bool, true, false, List, [], ◌∷◌, length, filter, find, Some, None, ◌⊎◌}
-use Rattle.std.proofs.Common.{refl, sym, ap, subst, ◌∙◌, arith, inl, inr}
-use Rattle.std.specs.List.{All, list_any}
-use Rattle.std.specs.Option.{option_map}
+use Rattle.std.proofs.Common.{◌≡◌, ℕ, Bool, true, false, List, [], ◌∷◌, filter, Some, None}
+use Rattle.std.proofs.Common.{refl, sym, ap, ◌∙◌, arith, inl, inr}
+use Rattle.std.specs.List.{list_any}
 use Rattle.std.proofs.lemmas.Bool.{cases_Bool}
 use Rattle.std.proofs.lemmas.Bool.Decides.{nat_tests}
-use Rattle.std.proofs.lemmas.List.Elements.{All-head, All-tail}
 use Rattle.std.proofs.lemmas.Option.{same_Some}
 use Rattle.smx_model.specs.Configuration.{pair_before}
 use Rattle.smx_model.specs.Ordered.{with_inserted, ComesBefore, IsRising}
 use Rattle.smx_addresses.specs.Keys.{Key, is_key, found, by_key, AreApart}
-use Rattle.smx_addresses.proofs.KeyLemmas.{is_key_refl, is_key_sym, key_same, found_value}
+use Rattle.smx_addresses.proofs.KeyLemmas.{is_key_refl, is_key_sym, key_same}
 
 -- keys in their order
 
@@ -143,74 +141,4 @@ module _ {X : Type 0} (key : X → Key) (value : X → ℕ) where
             (λ i. first i ∷ rest i)
       ]
     ]
-
     -- elements in order, as many as a rising list has, each of which is found there, are that list
-
-    -- each element is found there
-    abbrev pub AreFound : List X → List X → Type 0
-    AreFound ys [] = Unit {0}
-    AreFound ys (x ∷ xs) = (found key value ys (key x) ≡ Some (value x)) × AreFound ys xs
-
-    past_first : (y : X) (ys xs : List X) → ComesBefore (by_key key) y xs → AreFound (y ∷ ys) xs → AreFound ys xs
-    past_first y ys [] b h = tt
-    past_first y ys (x ∷ xs) b h =
-        let other : is_key (key x) (key y) ≡ false = is_key_sym (key x) (key y) ∙ before_apart (key y) (key x) b.0 in
-        let off : found key value (y ∷ ys) (key x) ≡ found key value ys (key x) = rw other refl in
-        (sym off ∙ h.0, past_first y ys xs b.1 h.1)
-
-    first_or_past : (x y : X) (xs ys : List X) → IsRising (by_key key) (x ∷ xs) → IsRising (by_key key) (y ∷ ys)
-        → AreFound (y ∷ ys) (x ∷ xs) → (x ≡ y) ⊎ ComesBefore (by_key key) y (x ∷ xs)
-    first_or_past x y xs ys r s h = elim (cases_Bool (is_key (key x) (key y))) [
-      | inl t ↦
-          let at : found key value (y ∷ ys) (key x) ≡ Some (value y) = rw t refl in
-          inl (exact x y (key_same (key x) (key y) t) (same_Some (value x) (value y) (sym h.0 ∙ at)))
-      | inr f ↦ elim (cases_Bool (by_key key y x)) [
-        | inl t ↦ inr (t, before_all key y x xs t r.0)
-        | inr g ↦
-            let off : found key value (y ∷ ys) (key x) ≡ found key value ys (key x) = rw f refl in
-            let none : found key value ys (key x) ≡ None = found_past x y ys (before_other (key y) (key x) f g) s.0 in
-            let no : None ≡ Some (value x) = sym none ∙ sym off ∙ h.0 in absurd cc
-      ]
-    ]
-
-    found_few : (xs ys : List X) → IsRising (by_key key) xs → IsRising (by_key key) ys → AreFound ys xs
-        → length xs ≤ length ys
-    found_few [] ys r s h = omega arith
-    found_few (x ∷ xs) [] r s h = let no : None ≡ Some (value x) = h.0 in absurd cc
-    found_few (x ∷ xs) (y ∷ ys) r s h = elim (first_or_past x y xs ys r s h) [
-      | inl first ↦
-          omega (
-            arith,
-            found_few xs ys r.1 s.1
-                (past_first y ys xs (subst (λ (z : X). ComesBefore (by_key key) z xs) first r.0) h.1),
-          )
-      | inr past ↦ omega (arith, found_few (x ∷ xs) ys r s.1 (past_first y ys (x ∷ xs) past h))
-    ]
-
-    -- two rising lists are equal if each element of the first is found in the second, which is not longer
-    pub found_all : (xs ys : List X) → IsRising (by_key key) xs → IsRising (by_key key) ys → length ys ≤ length xs
-        → AreFound ys xs → xs ≡ ys
-    found_all [] [] r s e h = refl
-    found_all [] (y ∷ ys) r s e h = absurd (omega (arith, e))
-    found_all (x ∷ xs) [] r s e h = let no : None ≡ Some (value x) = h.0 in absurd cc
-    found_all (x ∷ xs) (y ∷ ys) r s e h = elim (first_or_past x y xs ys r s h) [
-      | inl first ↦
-          let rest : xs ≡ ys = found_all xs ys r.1 s.1 (omega (arith, e))
-          (past_first y ys xs (subst (λ (z : X). ComesBefore (by_key key) z xs) first r.0) h.1) in
-          (λ i. first i ∷ rest i)
-      | inr past ↦ absurd (omega (arith, e, found_few (x ∷ xs) ys r s.1 (past_first y ys (x ∷ xs) past h)))
-    ]
-
-    are_found : (ys xs : List X) → All (λ x. find (λ y. is_key (key y) (key x)) ys ≡ Some x) xs → AreFound ys xs
-    are_found ys [] h = tt
-    are_found ys (x ∷ xs) h =
-        let here : find (λ y. is_key (key y) (key x)) ys
-        ≡ Some x = All-head (λ z. find (λ y. is_key (key y) (key z)) ys ≡ Some z) x xs h in (
-          found_value key value ys (key x) ∙ ap (option_map value) here,
-          are_found ys xs (All-tail (λ z. find (λ y. is_key (key y) (key z)) ys ≡ Some z) x xs h),
-        )
-
-    -- the same by a search
-    pub look_ups_tell : (xs ys : List X) → IsRising (by_key key) xs → IsRising (by_key key) ys → length xs ≡ length ys
-        → All (λ x. find (λ y. is_key (key y) (key x)) ys ≡ Some x) xs → xs ≡ ys
-    look_ups_tell xs ys r s e h = found_all xs ys r s (omega (arith, e)) (are_found ys xs h)

@@ -1,9 +1,9 @@
 -- The sets of keys at the links, after each change of the table of routes.
-use Rattle.std.proofs.Common.{◌≡◌, ℕ, Bool, true, false, cond, ◌==◌, not, List, [], ◌∷◌}
+use Rattle.std.proofs.Common.{◌≡◌, ℕ, Bool, true, false, cond, ◌==◌, not, List}
 use Rattle.std.proofs.Common.{Option, Some, None, Result, Ok, Err, OnErr, refl, sym, ap, ◌∙◌, arith}
 use Rattle.std.proofs.Common.{if◌then◌else◌, inl, inr}
 use Rattle.std.specs.HashSet.{HashSet}
-use Rattle.std.specs.List.{list_any, AllZip, IsDistinct}
+use Rattle.std.specs.List.{list_any, IsDistinct}
 use Rattle.std.specs.Map.{lookup, keys_of}
 use Rattle.std.specs.Option.{option_map_or}
 use Rattle.std.proofs.lemmas.Bool.{cases_Bool, eqb-true}
@@ -48,13 +48,6 @@ leads_filtered id i (Some n) = elim (cases_Bool (n == id)) [
     | inr a ↦ rw (f, a) refl
   ]
 ]
-
--- cloned keys are the same keys
-keys_again : (xs ys : List Key) → AllZip (λ x y. (y.0 ≡ x.0) × (y.1 ≡ x.1)) xs ys → ys ≡ xs
-keys_again [] [] h = refl
-keys_again [] (y ∷ ys) h = absurd h
-keys_again (x ∷ xs) [] h = absurd h
-keys_again (x ∷ xs) (y ∷ ys) h = (λ i. (h.0.0 i, h.0.1 i) ∷ keys_again xs ys h.1 i)
 
 -- a fact that holds anyway holds if the result is an error
 pub on_err : {X E : Type 0} (r : Result X E) (P : Type 0) → P → OnErr r P
@@ -186,34 +179,4 @@ module _ {S : Type 0} where
         elim (cases_Bool (is_key k q)) [ inl b ↦ rw (a, b, same) refl | inr b ↦ rw (a, b) refl ]
     | inr a ↦ rw a refl
   ]
-
   -- a copy
-
-  targets_again : (ts vs : List (ℕ × HashSet Key S))
-      → AllZip (λ p q. (q.0 ≡ p.0) × AllZip (λ x y. (y.0 ≡ x.0) × (y.1 ≡ x.1)) p.1.keys q.1.keys) ts vs
-      → (i : ℕ) (q : Key) → is_target vs i q ≡ is_target ts i q
-  targets_again [] [] h i q = refl
-  targets_again [] (v ∷ vs) h i q = absurd h
-  targets_again (t ∷ ts) [] h i q = absurd h
-  targets_again (t ∷ ts) (v ∷ vs) h i q = elim (cases_Bool (i == t.0)) [
-    | inl a ↦
-        let b : (i == v.0) ≡ true = ap (λ n. i == n) h.0.0 ∙ a in
-        rw (a, b) (ap (list_any (is_key q)) (keys_again t.1.keys v.1.keys h.0.1))
-    | inr a ↦
-        let b : (i == v.0) ≡ false = ap (λ n. i == n) h.0.0 ∙ a in
-        rw (a, b) (targets_again ts vs h.1 i q)
-  ]
-
-  -- a copy of both tables
-  pub copied_whole : (xs us : Entries) (ts vs : List (ℕ × HashSet Key S)) → AreRoutes xs ts → us ≡ xs
-      → AllZip (λ p q. (q.0 ≡ p.0) × AllZip (λ x y. (y.0 ≡ x.0) × (y.1 ≡ x.1)) p.1.keys q.1.keys) ts vs
-      → AreRoutes us vs
-  copied_whole xs us ts vs h e z =
-      record { unique = rw e h.unique; targets = λ i q. rw e (targets_again ts vs z i q ∙ h.targets i q) }
-
--- the ids of a copy
-pub ids_again : (es fs : Entries) → AllZip (λ p q. ((q.0.0 ≡ p.0.0) × (q.0.1 ≡ p.0.1)) × (q.1 ≡ p.1)) es fs → fs ≡ es
-ids_again [] [] h = refl
-ids_again [] (f ∷ fs) h = absurd h
-ids_again (e ∷ es) [] h = absurd h
-ids_again (e ∷ es) (f ∷ fs) h = (λ i. ((h.0.0.0 i, h.0.0.1 i), h.0.1 i) ∷ ids_again es fs h.1 i)

@@ -138,15 +138,6 @@ impl Bindings {
         Ok(list)
     }
 
-    /// Ensures the properties of every table: its bindings rise, and no stream has two. Does nothing: a caller calls
-    /// it to use these facts.
-    pub fn is_sound(&self)
-        ensures { IsBindingList self.now }
-    {
-        // Opens the invariant.
-        let _minors = &self.minors;
-    }
-
     /// Copies the table into memory from this allocator, which the copy keeps.
     pub fn copy(&self, alloc: Global) -> Result<Bindings, NoMemory>
         ensures { IfOk result (λ t. t ≡ self.now) }

@@ -3,9 +3,7 @@
 
 mod bindings;
 mod key;
-pub mod laws;
 mod routes;
-mod spare_sets;
 mod targets;
 
 pub use bindings::Bindings;

@@ -9,7 +9,6 @@ ghost use Rattle.smx_addresses.specs.Keys.{Key as AnyKey, is_key, left_of};
 ghost use Rattle.smx_addresses.specs.RouteLists.{is_route, IsRouteList};
 
 use crate::key::Key;
-use crate::spare_sets::SpareSets;
 use crate::targets::{Targets, drop_target, put_target};
 use indexmap::IndexMap;
 use smx_types::{NoMemory, Route};
@@ -23,8 +22,6 @@ pub struct Routes {
     ids: IndexMap<Key, u32>,
     // The routes to each link.
     targets: Targets,
-    // Empty sets of removed links, for reuse.
-    spare_sets: SpareSets,
 }
 
 impl Model for Routes {
@@ -60,7 +57,6 @@ impl Routes {
         Routes {
             ids: IndexMap::new(alloc),
             targets: IndexMap::new(alloc),
-            spare_sets: SpareSets::new(alloc),
         }
     }
 
@@ -82,7 +78,7 @@ impl Routes {
     {
         let key = (driver, addr);
         self.ids.reserve(1)?;
-        put_target(&mut self.targets, &mut self.spare_sets, id, key)?;
+        put_target(&mut self.targets, id, key)?;
         if let Some(before) = self.ids.insert(key, id).unwrap() {
             if before != id {
                 drop_target(&mut self.targets, before, key);
@@ -108,7 +104,6 @@ impl Routes {
     {
         if let Some(keys) = self.targets.swap_remove(&id) {
             take_each(&mut self.ids, keys.as_slice());
-            self.spare_sets.keep(keys);
         }
     }
 
@@ -150,14 +145,6 @@ impl Routes {
         }
         list.sort_unstable_by_key(|r| (r.driver, r.addr));
         Ok(list)
-    }
-
-    /// Ensures the property of every table: its routes rise. Does nothing: a caller calls it to use this fact.
-    pub fn is_sound(&self)
-        ensures { IsRouteList self.now }
-    {
-        // Opens the invariant.
-        let _ids = &self.ids;
     }
 
     /// Copies the table into memory from this allocator, which the copy keeps.

@@ -18,9 +18,10 @@ use std::mem::forget;
 const VERSION: &str = "0.1.0";
 
 /// Parses the words of the command line, of which the first is the program's name. They ask for a job by `run`, with
-/// or without `--workers`, `--fronts` and `--explain`; `check`, with or without `--explain`; `replay`, with or without
-/// `--at`; `trace`, with or without `--waits`; `draw`, with or without `--dot`; or `live`. Fails with clap's error for any other words, and for a request for help or the
-/// version, such as `commands`. If it is out of memory, the kind of the error is `OutOfMemory`.
+/// or without `--workers` and `--fronts`; `check`; `replay`, with or without `--at`; `trace`, with or without `--waits`;
+/// `draw`, with or without `--dot` or `--steps`; or `live`. Each also takes `--explain`. Fails with clap's error for any
+/// other words, and for a request for help or the version, such as `commands`. If it is out of memory, the kind of the
+/// error is `OutOfMemory`.
 pub fn job<'a, S: AsStr>(alloc: Global, words: &'a [S]) -> Result<Job, Error>
     ensures { IfOk result CanRun }
 {
@@ -43,14 +44,16 @@ fn job_of(alloc: Global, matches: &ArgMatches) -> Result<Job, Error>
         }),
         Some(("replay", replay)) => Ok(Job::Replay {
             at: replay.get_one::<usize>("at"),
+            explain: replay.get_flag("explain"),
         }),
         Some(("trace", trace)) => Ok(Job::Trace {
             waits: trace.get_flag("waits"),
+            explain: trace.get_flag("explain"),
         }),
-        Some(("draw", draw)) => Ok(Job::Draw {
-            form: form_of(draw),
+        Some(("draw", draw)) => Ok(drawing_of(draw)),
+        Some(("live", live)) => Ok(Job::Live {
+            explain: live.get_flag("explain"),
         }),
-        Some(("live", _)) => Ok(Job::Live),
         Some(("check", check)) => Ok(Job::Check {
             explain: check.get_flag("explain"),
         }),
@@ -70,12 +73,24 @@ fn workers_of(run: &ArgMatches) -> usize
     }
 }
 
-// Returns the requested language of a picture.
-fn form_of(draw: &ArgMatches) -> Form {
-    if draw.get_flag("dot") {
-        Form::Dot
+// Returns what is to be drawn: a page of steps, or a picture in the requested language. clap has already rejected `--dot`
+// with `--steps`.
+fn drawing_of(draw: &ArgMatches) -> Job
+    ensures { CanRun result }
+{
+    let explain = draw.get_flag("explain");
+    if draw.get_flag("steps") {
+        Job::Steps { explain }
+    } else if draw.get_flag("dot") {
+        Job::Draw {
+            form: Form::Dot,
+            explain,
+        }
     } else {
-        Form::Svg
+        Job::Draw {
+            form: Form::Svg,
+            explain,
+        }
     }
 }
 
@@ -108,6 +123,6 @@ fn program<'a>(alloc: Global) -> Result<Command<'a>, AllocError> {
         .subcommand(subcommands::replay(alloc)?)?
         .subcommand(subcommands::trace(alloc)?)?
         .subcommand(subcommands::draw(alloc)?)?
-        .subcommand(subcommands::live(alloc))?
+        .subcommand(subcommands::live(alloc)?)?
         .subcommand(subcommands::commands(alloc))
 }

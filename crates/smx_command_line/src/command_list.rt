@@ -68,6 +68,8 @@ The lines that 'live' reads, after a header and driver lines as those of program
 
     PROC COMMAND                          answered by its line of a transcript
     show                                  or an empty line: the lines from 'config' on, then 'shown'
+    trace on                              the same; then below each entry what it changed, two spaces in
+    trace off                             the same; then no more changes
     end                                   the lines from 'config' on, and then the session is over
 
 Any other line gets a line that begins with '?', and changes nothing.

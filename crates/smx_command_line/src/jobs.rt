@@ -11,29 +11,43 @@ pub enum Job {
         workers: usize,
         /// Whether the fronts are written in place of the transcript.
         fronts: bool,
-        /// Whether a fault of the text is explained.
+        /// Whether a fault of the text or of its drivers is explained.
         explain: bool,
     },
     /// Judges the transcript of the input and writes the verdict.
     Check {
-        /// Whether the verdict, or a fault of the text, is explained.
+        /// Whether the verdict, or a fault of the text or of its drivers, is explained.
         explain: bool,
     },
     /// Performs the commands of the transcript of the input and writes the transcript that they give.
     Replay {
         /// How many of its first entries are replayed, if not all.
         at: Option<usize>,
+        /// Whether a fault of the text or of its drivers is explained.
+        explain: bool,
     },
     /// Performs the commands of the transcript of the input and writes the trace of the transcript that they give.
     Trace {
         /// Whether all waits are written below each entry.
         waits: bool,
+        /// Whether a fault of the text or of its drivers is explained.
+        explain: bool,
     },
     /// Draws the configuration that the transcript of the input shows.
     Draw {
         /// The language of the picture.
         form: Form,
+        /// Whether a fault of the text is explained.
+        explain: bool,
+    },
+    /// Performs the commands of the transcript of the input and writes a page with a step for each.
+    Steps {
+        /// Whether a fault of the text or of its drivers is explained.
+        explain: bool,
     },
     /// Answers the lines of the input one by one, at once.
-    Live,
+    Live {
+        /// Whether a line that is not a command, or a fault of the driver table, is explained.
+        explain: bool,
+    },
 }

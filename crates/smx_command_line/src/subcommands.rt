@@ -46,8 +46,9 @@ pub fn replay<'a>(alloc: Global) -> Result<Command<'a>, AllocError> {
         "replay",
         "Replay the transcript on standard input and write the transcript that its commands give",
     )
-    .override_usage("muxsim replay [--at K] < TRANSCRIPT")
-    .arg(at(alloc))
+    .override_usage("muxsim replay [--at K] [--explain] < TRANSCRIPT")
+    .arg(at(alloc))?
+    .arg(explain(alloc, "Show what is wrong with a text that is refused"))
 }
 
 /// Returns the subcommand that traces a transcript.
@@ -57,8 +58,9 @@ pub fn trace<'a>(alloc: Global) -> Result<Command<'a>, AllocError> {
         "trace",
         "Replay the transcript on standard input and write what each entry changes, and what waits",
     )
-    .override_usage("muxsim trace [--waits] < TRANSCRIPT")
-    .arg(waits(alloc))
+    .override_usage("muxsim trace [--waits] [--explain] < TRANSCRIPT")
+    .arg(waits(alloc))?
+    .arg(explain(alloc, "Show what is wrong with a text that is refused"))
 }
 
 /// Returns the subcommand that draws a picture.
@@ -68,18 +70,24 @@ pub fn draw<'a>(alloc: Global) -> Result<Command<'a>, AllocError> {
         "draw",
         "Draw the configuration that the transcript on standard input shows",
     )
-    .override_usage("muxsim draw [--dot] < TRANSCRIPT")
-    .arg(dot(alloc))
+    .override_usage("muxsim draw [--dot | --steps] [--explain] < TRANSCRIPT")
+    .arg(dot(alloc))?
+    .arg(steps(alloc)?)?
+    .arg(explain(alloc, "Show what is wrong with a text that is refused"))
 }
 
 /// Returns the subcommand that answers line by line.
-pub fn live<'a>(alloc: Global) -> Command<'a> {
+pub fn live<'a>(alloc: Global) -> Result<Command<'a>, AllocError> {
     subcommand(
         alloc,
         "live",
         "Answer each line of standard input at once: a driver table, then commands of processes",
     )
-    .override_usage("muxsim live < LINES")
+    .override_usage("muxsim live [--explain] < LINES")
+    .arg(explain(
+        alloc,
+        "Show what is wrong with a line that is not a command, or with a table that is refused",
+    ))
 }
 
 /// Returns the subcommand that shows the page of help on the texts and the commands of a program.
@@ -143,4 +151,13 @@ fn dot<'a>(alloc: Global) -> Arg<'a> {
         .long("dot")
         .help("Write the language of Graphviz in place of SVG")
         .action(ArgAction::SetTrue)
+}
+
+// Returns the option that writes a page of steps.
+fn steps<'a>(alloc: Global) -> Result<Arg<'a>, AllocError> {
+    Arg::new(alloc, "steps")
+        .long("steps")
+        .help("Replay the transcript and write an HTML page with a picture after each entry")
+        .action(ArgAction::SetTrue)
+        .conflicts_with("dot")
 }

@@ -1,7 +1,6 @@
 -- The effect of a command, before messages move on.
 use Rattle.std.specs.Prelude.{◌≡◌, ℕ, Result, Ok, Err, IsOk}
 use Rattle.smx_types.specs.declared.command.Command.{Command}
-use Rattle.smx_types.specs.declared.reply.Fault.{Fault}
 use Rattle.smx_types.specs.declared.reply.Reply.{Reply}
 use Rattle.smx_model.specs.Commands.{outcome}
 use Rattle.smx_model.specs.Outcomes.{Outcome}
@@ -25,8 +24,3 @@ Refines old new process command result =
 abbrev pub answer_of : Result (Unit {0}) StepError → Reply → Result Reply StepError
 answer_of (Ok _) reply = Ok reply
 answer_of (Err e) _ = Err e
-
--- the result of a command that does not allocate, as one of a command that may
-abbrev pub as_step_error : Result Reply Fault → Result Reply StepError
-as_step_error (Ok r) = Ok r
-as_step_error (Err f) = Err (step_error.Refused f)

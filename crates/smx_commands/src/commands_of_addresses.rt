@@ -1,10 +1,11 @@
 //! Binding streams to addresses, and routing addresses to links.
 
-ghost use Rattle.std.specs.Prelude.{◌≡◌, ◌==◌, ◌&&◌};
+ghost use Rattle.std.specs.Prelude.{◌≡◌, ◌≢◌, ◌==◌, ◌&&◌, Err};
 ghost use Rattle.std.specs.List.{list_any};
 ghost use Rattle.smx_types.specs.declared.command.Command.TheVariants as command;
 ghost use Rattle.smx_model.specs.KeptConfigurations.{IsSound};
-ghost use Rattle.smx_commands.specs.Refinement.{Refines, as_step_error};
+ghost use Rattle.smx_commands.specs.declared.step_error.StepError.TheVariants as step_error;
+ghost use Rattle.smx_commands.specs.Refinement.{Refines, answer_of};
 
 use crate::answers::{done, refuse};
 use crate::step_error::StepError;
@@ -13,25 +14,39 @@ use smx_types::{Fault, Process, Reply};
 
 // None of these commands leaves anything to sweep: the stream exists before and after, and a route holds no stream.
 impl Tables {
-    pub(crate) fn bind(&mut self, process: Process, fd: u32, addr: u32) -> Result<Reply, StepError>
+    pub(crate) fn bind(
+        &mut self,
+        process: Process,
+        fd: u32,
+        addr: u32,
+        reply: &mut Reply,
+    ) -> Result<(), StepError>
         requires { IsSound self.old.drivers self.old.configuration }
-        ensures { Refines self.old self.new process (command.Bind fd addr) result }
+        ensures { Refines self.old self.new process (command.Bind fd addr) (answer_of result reply.new) }
     {
         let stream = self.mux_stream(process, fd)?;
         refuse(Fault::AddressInUse, self.lists.binds.is_taken(stream, addr))?;
         self.lists.binds.bind(stream, addr)?;
-        Ok(done(self.alloc))
+        *reply = done(self.alloc);
+        Ok(())
     }
 
-    pub(crate) fn unbind(&mut self, process: Process, fd: u32) -> Result<Reply, Fault>
+    pub(crate) fn unbind(
+        &mut self,
+        process: Process,
+        fd: u32,
+        reply: &mut Reply,
+    ) -> Result<(), StepError>
         requires { IsSound self.old.drivers self.old.configuration }
-        ensures { Refines self.old self.new process (command.Unbind fd) (as_step_error result) }
+        ensures refines { Refines self.old self.new process (command.Unbind fd) (answer_of result reply.new) }
+        ensures in_place { result ≢ Err step_error.NoMemory }
     {
         let stream = self.mux_stream(process, fd)?;
         let Some(_binding) = self.lists.binds.unbind(stream) else {
-            return Err(Fault::Unbound);
+            return Err(StepError::Refused(Fault::Unbound));
         };
-        Ok(done(self.alloc))
+        *reply = done(self.alloc);
+        Ok(())
     }
 
     fn has_link(&self, driver: u8, id: u32) -> bool
@@ -50,24 +65,34 @@ impl Tables {
         fd: u32,
         addr: u32,
         id: u32,
-    ) -> Result<Reply, StepError>
+        reply: &mut Reply,
+    ) -> Result<(), StepError>
         requires { IsSound self.old.drivers self.old.configuration }
-        ensures { Refines self.old self.new process (command.Route fd addr id) result }
+        ensures { Refines self.old self.new process (command.Route fd addr id) (answer_of result reply.new) }
     {
         let stream = self.mux_stream(process, fd)?;
         refuse(Fault::NoLink, !self.has_link(stream.driver, id))?;
         self.lists.routes.route(stream.driver, addr, id)?;
-        Ok(done(self.alloc))
+        *reply = done(self.alloc);
+        Ok(())
     }
 
-    pub(crate) fn unroute(&mut self, process: Process, fd: u32, addr: u32) -> Result<Reply, Fault>
+    pub(crate) fn unroute(
+        &mut self,
+        process: Process,
+        fd: u32,
+        addr: u32,
+        reply: &mut Reply,
+    ) -> Result<(), StepError>
         requires { IsSound self.old.drivers self.old.configuration }
-        ensures { Refines self.old self.new process (command.Unroute fd addr) (as_step_error result) }
+        ensures refines { Refines self.old self.new process (command.Unroute fd addr) (answer_of result reply.new) }
+        ensures in_place { result ≢ Err step_error.NoMemory }
     {
         let stream = self.mux_stream(process, fd)?;
         let Some(_route) = self.lists.routes.unroute(stream.driver, addr) else {
-            return Err(Fault::Unrouted);
+            return Err(StepError::Refused(Fault::Unrouted));
         };
-        Ok(done(self.alloc))
+        *reply = done(self.alloc);
+        Ok(())
     }
 }

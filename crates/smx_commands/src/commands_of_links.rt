@@ -6,7 +6,7 @@ ghost use Rattle.smx_types.specs.declared.command.Which.TheVariants as which;
 ghost use Rattle.smx_model.specs.Commands.{link_outcome};
 ghost use Rattle.smx_model.specs.KeptConfigurations.{IsSound};
 ghost use Rattle.smx_commands.specs.UnlinkTargets.{may_have_links, may_unlink, is_target, are_there, unlinks};
-ghost use Rattle.smx_commands.specs.Refinement.{HasOutcome};
+ghost use Rattle.smx_commands.specs.Refinement.{HasOutcome, answer_of};
 
 use crate::answers::refuse;
 use crate::step_error::StepError;
@@ -94,21 +94,23 @@ impl Tables {
         fd: u32,
         arg: u32,
         kind: LinkKind,
-    ) -> Result<Reply, StepError>
+        reply: &mut Reply,
+    ) -> Result<(), StepError>
         requires { IsSound self.old.drivers self.old.configuration }
         ensures { HasOutcome self.old self.new
-            (link_outcome self.old.drivers self.old.configuration process fd arg kind) result }
+            (link_outcome self.old.drivers self.old.configuration process fd arg kind) (answer_of result reply.new) }
     {
         let upper = self.stream_of(process, fd)?;
         let lower = self.stream_of(process, arg)?;
         self.check_upper(upper)?;
         let id = self.lists.links.try_link(upper, lower, kind)?;
         self.lists.streams.hold(lower);
-        Ok(Reply::Id(id))
+        *reply = Reply::Id(id);
+        Ok(())
     }
 
-    // Fails if the command names an id, and may not remove a link with this id. If the command names `all`, there need
-    // not be a link.
+    // If the command names an id, fails unless there is a link with this id that the command may remove. If the command
+    // names `all`, there need not be a link.
     pub(crate) fn check_targets(
         &self,
         which: Which,
@@ -133,10 +135,11 @@ impl Tables {
         fd: u32,
         which: Which,
         kind: LinkKind,
-    ) -> Result<Reply, StepError>
+        reply: &mut Reply,
+    ) -> Result<(), StepError>
         requires { IsSound self.old.drivers self.old.configuration }
         ensures { HasOutcome self.old self.new
-            (unlinks self.old.drivers self.old.configuration process fd which kind) result }
+            (unlinks self.old.drivers self.old.configuration process fd which kind) (answer_of result reply.new) }
     {
         let stream = self.mux_stream(process, fd)?;
         self.check_targets(which, kind, stream)?;
@@ -146,6 +149,7 @@ impl Tables {
         reserve_for_sweep(&mut self.room, &self.lists, gone.len())?;
         let room = &mut self.room;
         remove_links(&mut self.lists, &gone, &mut room.touched, &mut room.dropped);
-        Ok(sweep_and_reply(&self.drivers, &mut self.lists, room))
+        *reply = sweep_and_reply(&self.drivers, &mut self.lists, room);
+        Ok(())
     }
 }

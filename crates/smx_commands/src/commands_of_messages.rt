@@ -157,15 +157,17 @@ impl Tables {
         process: Process,
         fd: u32,
         sides: Sides,
-    ) -> Result<Reply, StepError>
+        reply: &mut Reply,
+    ) -> Result<(), StepError>
         requires { IsSound self.old.drivers self.old.configuration }
-        ensures { Refines self.old self.new process (Flush fd sides) result }
+        ensures { Refines self.old self.new process (Flush fd sides) (answer_of result reply.new) }
     {
         let stream = self.live_stream(process, fd)?;
         tells_existing(&self.drivers, &self.lists);
         let room = &mut self.room;
         reserve_for_sweep(room, &self.lists, 0)?;
         drop_sides(&mut self.lists.queues, stream, sides, &mut room.dropped);
-        Ok(sweep_and_reply(&self.drivers, &mut self.lists, room))
+        *reply = sweep_and_reply(&self.drivers, &mut self.lists, room);
+        Ok(())
     }
 }

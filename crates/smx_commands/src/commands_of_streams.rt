@@ -12,7 +12,7 @@ ghost use Rattle.smx_model.specs.KeptConfigurations.{IsSound};
 ghost use Rattle.smx_streams.specs.StreamTables.{stream_at};
 ghost use Rattle.smx_commands.specs.Closing.{closing};
 ghost use Rattle.smx_commands.specs.declared.step_error.StepError.TheVariants as step_error;
-ghost use Rattle.smx_commands.specs.Refinement.{HasOutcome, Refines, as_step_error};
+ghost use Rattle.smx_commands.specs.Refinement.{HasOutcome, Refines, answer_of};
 
 use crate::answers::{done, refuse};
 use crate::step_error::StepError;
@@ -48,14 +48,20 @@ fn touch_each(streams: &Streams, process: Process, touched: &mut Vec<StreamId>)
 }
 
 impl Tables {
-    pub(crate) fn open_clone(&mut self, process: Process, name: &Name) -> Result<Reply, StepError>
+    pub(crate) fn open_clone(
+        &mut self,
+        process: Process,
+        name: &Name,
+        reply: &mut Reply,
+    ) -> Result<(), StepError>
         requires { IsSound self.old.drivers self.old.configuration }
-        ensures { Refines self.old self.new process (OpenClone name.now) result }
+        ensures { Refines self.old self.new process (OpenClone name.now) (answer_of result reply.new) }
     {
         let driver = self.driver_of(name)?;
         tells_existing(&self.drivers, &self.lists);
         let opened = self.lists.streams.open_clone(process, driver)?;
-        Ok(fd_reply(opened))
+        *reply = fd_reply(opened);
+        Ok(())
     }
 
     pub(crate) fn open_minor(
@@ -63,8 +69,9 @@ impl Tables {
         process: Process,
         name: &Name,
         minor: u32,
-    ) -> Result<Reply, StepError>
-        ensures { Refines self.old self.new process (OpenMinor name.now minor) result }
+        reply: &mut Reply,
+    ) -> Result<(), StepError>
+        ensures { Refines self.old self.new process (OpenMinor name.now minor) (answer_of result reply.new) }
     {
         let driver = self.driver_of(name)?;
         refuse(Fault::NoMinor, u32::from(self.minors_of(driver)) <= minor)?;
@@ -74,15 +81,22 @@ impl Tables {
         };
         refuse(Fault::Below, self.lists.links.is_below(stream))?;
         let opened = self.lists.streams.open_minor(process, driver, minor)?;
-        Ok(fd_reply(opened))
+        *reply = fd_reply(opened);
+        Ok(())
     }
 
-    pub(crate) fn dup(&mut self, process: Process, fd: u32) -> Result<Reply, StepError>
-        ensures refines { Refines self.old self.new process (Dup fd) result }
+    pub(crate) fn dup(
+        &mut self,
+        process: Process,
+        fd: u32,
+        reply: &mut Reply,
+    ) -> Result<(), StepError>
+        ensures refines { Refines self.old self.new process (Dup fd) (answer_of result reply.new) }
         ensures in_place { result ≢ Err step_error.NoMemory }
     {
         let opened = self.lists.streams.dup(process, fd)?;
-        Ok(fd_reply(opened))
+        *reply = fd_reply(opened);
+        Ok(())
     }
 
     // Closes the last descriptor of a stream that isn't held, and sweeps.
@@ -91,54 +105,71 @@ impl Tables {
         process: Process,
         fd: u32,
         stream: StreamId,
-    ) -> Result<Reply, StepError>
+        reply: &mut Reply,
+    ) -> Result<(), StepError>
         requires sound { IsSound self.old.drivers self.old.configuration }
         requires there { stream_at self.old.configuration.fds process fd ≡ Some stream }
         ensures { HasOutcome self.old self.new
-            (closing self.old.drivers self.old.configuration process fd) result }
+            (closing self.old.drivers self.old.configuration process fd) (answer_of result reply.new) }
     {
         tells_existing(&self.drivers, &self.lists);
         reserve_for_sweep(&mut self.room, &self.lists, 1)?;
         let _closed = self.lists.streams.close_fd(process, fd);
         self.room.touched.push_reserved(stream);
-        Ok(sweep_and_reply(&self.drivers, &mut self.lists, &mut self.room))
+        *reply = sweep_and_reply(&self.drivers, &mut self.lists, &mut self.room);
+        Ok(())
     }
 
     // If the stream outlives the close, only the descriptor is removed, and nothing is allocated.
-    pub(crate) fn close(&mut self, process: Process, fd: u32) -> Result<Reply, StepError>
+    pub(crate) fn close(
+        &mut self,
+        process: Process,
+        fd: u32,
+        reply: &mut Reply,
+    ) -> Result<(), StepError>
         requires { IsSound self.old.drivers self.old.configuration }
-        ensures { Refines self.old self.new process (Close fd) result }
+        ensures { Refines self.old self.new process (Close fd) (answer_of result reply.new) }
     {
         let stream = self.stream_of(process, fd)?;
         if self.lists.streams.is_last(process, fd) {
-            return self.close_last(process, fd, stream);
+            return self.close_last(process, fd, stream, reply);
         }
         tells_existing(&self.drivers, &self.lists);
         self.lists.streams.is_sound();
         let _stays = self.lists.streams.close_fd(process, fd);
         standing::tells_existing(&self.drivers, &self.lists);
-        Ok(done(self.alloc))
+        *reply = done(self.alloc);
+        Ok(())
     }
 
-    pub(crate) fn close_all(&mut self, process: Process) -> Result<Reply, StepError>
+    pub(crate) fn close_all(&mut self, process: Process, reply: &mut Reply) -> Result<(), StepError>
         requires { IsSound self.old.drivers self.old.configuration }
-        ensures { Refines self.old self.new process CloseAll result }
+        ensures { Refines self.old self.new process CloseAll (answer_of result reply.new) }
     {
         tells_existing(&self.drivers, &self.lists);
         reserve_for_sweep(&mut self.room, &self.lists, MAX_DESCRIPTORS as usize)?;
         touch_each(&self.lists.streams, process, &mut self.room.touched);
         self.lists.streams.close_process(process);
-        Ok(sweep_and_reply(&self.drivers, &mut self.lists, &mut self.room))
+        *reply = sweep_and_reply(&self.drivers, &mut self.lists, &mut self.room);
+        Ok(())
     }
 
     // A hangup leaves nothing to sweep, since the stream exists.
-    pub(crate) fn hangup(&mut self, name: &Name, minor: u32) -> Result<Reply, Fault>
+    pub(crate) fn hangup(
+        &mut self,
+        name: &Name,
+        minor: u32,
+        reply: &mut Reply,
+    ) -> Result<(), StepError>
         requires { IsSound self.old.drivers self.old.configuration }
-        ensures { (process : ℕ) → Refines self.old self.new process (Hangup name.now minor) (as_step_error result) }
+        ensures refines { (process : ℕ)
+            → Refines self.old self.new process (Hangup name.now minor) (answer_of result reply.new) }
+        ensures in_place { result ≢ Err step_error.NoMemory }
     {
         let stream = self.leaf_stream(name, minor)?;
         tells_existing(&self.drivers, &self.lists);
         self.lists.streams.hang(stream);
-        Ok(done(self.alloc))
+        *reply = done(self.alloc);
+        Ok(())
     }
 }

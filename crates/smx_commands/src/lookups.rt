@@ -14,7 +14,7 @@ ghost use Rattle.smx_types.specs.declared.stream.Place.{Place as PlaceValue};
 
 use crate::answers::refuse;
 use crate::tables::{Tables, tells_existing};
-use smx_tables::driver_specs::{driver_of, is_driver_named, is_mux, minors_of};
+use smx_tables::driver_specs::{driver_of, is_mux, minors_of};
 use smx_types::{Fault, Message, Name, Place, Process, StreamId};
 
 impl Tables {
@@ -23,10 +23,6 @@ impl Tables {
         ensures found { result ≡ driver_of self.now.drivers name.now }
         ensures in_range { IfOk result (λ n. n < length self.now.drivers) }
     {
-        let likely = self.hints.of(name);
-        if is_driver_named(&self.drivers, likely as usize, name) {
-            return Ok(likely);
-        }
         Ok(driver_of(&self.drivers, name)? as u8)
     }
 

@@ -11,7 +11,6 @@ ghost use Rattle.smx_tables.specs.ModelOfLists.{configuration_of};
 use smx_links::LinkTable;
 use smx_queues::FlowTable;
 use smx_tables::copies::{copy_lists, empty_lists};
-use smx_tables::driver_hints::DriverHints;
 use smx_tables::lists::Lists;
 use smx_tables::standing;
 use smx_tables::sweep::SweepReserve;
@@ -25,7 +24,6 @@ use std::marker::Model;
 pub struct Tables {
     pub(crate) alloc: Global,
     pub(crate) drivers: Vec<DriverSpec>,
-    pub(crate) hints: DriverHints,
     pub(crate) lists: Lists,
     // Kept from one sweep to the next, for its memory. No clause speaks of it.
     pub(crate) room: SweepReserve,
@@ -60,12 +58,10 @@ impl Tables {
         ensures { IfOk result (λ t. t ≡ record { drivers = drivers.now; configuration = empty }) }
     {
         let lists = empty_lists(alloc, drivers)?;
-        let hints = DriverHints::new(drivers);
         let drivers = Vec::from_slice(alloc, drivers)?;
         Ok(Tables {
             alloc,
             drivers,
-            hints,
             lists,
             room: SweepReserve::new(alloc),
         })
@@ -103,7 +99,6 @@ impl Tables {
         Ok(Tables {
             alloc,
             drivers,
-            hints: self.hints,
             lists,
             room: SweepReserve::new(alloc),
         })

@@ -1,6 +1,6 @@
 //! Views of the configuration.
 
-ghost use Rattle.std.specs.Prelude.{◌≡◌, ◌↔◌, [], IfOk, IsTrue};
+ghost use Rattle.std.specs.Prelude.{◌≡◌, [], IfOk};
 ghost use Rattle.smx_model.specs.KeptConfigurations.{IsSound};
 ghost use Rattle.smx_model.specs.Views.{view};
 
@@ -8,10 +8,6 @@ use crate::tables::Tables;
 use smx_tables::show::{
     binding_lines, descriptor_lines, full_lines, hung_lines, leaving_message_lines, link_lines,
     message_lines, route_lines,
-};
-use smx_tables::shown_addresses::{are_bindings_shown, are_routes_shown};
-use smx_tables::shown_lines::{
-    are_fds_shown, are_fulls_shown, are_hungs_shown, are_links_shown, are_messages_shown,
 };
 use smx_types::{
     BindingLines, ConfigView, DescriptorLines, DriverSpec, FullLines, HungLines, LinkLines,
@@ -66,30 +62,11 @@ impl Tables {
         let Tables {
             alloc,
             drivers,
-            hints: _hints,
             lists,
             room: _room,
         } = self;
         let msgs = leaving_message_lines(alloc, &drivers, lists.into_queues())?;
         view.msgs = MessageLines::from_vec(msgs);
         Ok(view)
-    }
-
-    /// Returns whether this is the view that `show` would return. Compares it line by line, in place. Does not
-    /// allocate.
-    pub fn shows(&self, shown: &ConfigView) -> bool
-        requires { IsSound self.now.drivers self.now.configuration }
-        ensures { IsTrue result ↔ (shown.now ≡ view self.now.drivers self.now.configuration) }
-    {
-        let drivers: &[DriverSpec] = &self.drivers;
-        shown.next_id == self.lists.links.next_id()
-            && shown.next_serial == self.lists.next_serial
-            && are_fds_shown(drivers, &self.lists.streams, shown.fds.as_slice())
-            && are_links_shown(drivers, &self.lists.links, shown.links.as_slice())
-            && are_bindings_shown(drivers, &self.lists.binds, shown.binds.as_slice())
-            && are_routes_shown(drivers, &self.lists.routes, shown.routes.as_slice())
-            && are_messages_shown(drivers, &self.lists.queues, shown.msgs.as_slice())
-            && are_fulls_shown(drivers, &self.lists.queues, shown.fulls.as_slice())
-            && are_hungs_shown(drivers, &self.lists.streams, shown.hungs.as_slice())
     }
 }

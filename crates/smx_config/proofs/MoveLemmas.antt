@@ -6,7 +6,7 @@ use Rattle.smx_model.specs.Configuration.{Configuration, same_place}
 use Rattle.smx_model.specs.KeptConfigurations.{IsSound}
 use Rattle.smx_model.specs.Queues.{first_message}
 use Rattle.smx_model.specs.Settling.{after_move, after_move_between, after_move_to, next_open_place}
-use Rattle.smx_model.specs.SettlingByMarks.{turned_by_move}
+use Rattle.smx_model.specs.RunMarks.{turned_by_move}
 use Rattle.smx_model.proofs.FeederLemmas.{moved_frees}
 use Rattle.smx_model.proofs.TurningLemmas.{turns_moved}
 use Rattle.smx_commands.specs.Machine.{Machine}

@@ -16,7 +16,7 @@ use Rattle.smx_model.specs.Queues.{first_message, is_full}
 use Rattle.smx_model.specs.RunMarks.{AreMarked, is_held_up, next_of, next_of_first}
 use Rattle.smx_model.specs.Settling.{◌>>=◌, IsSettled, is_movable, least_movable, next_open_place, next_place}
 use Rattle.smx_model.proofs.KnownPlaceLemmas.{held_known}
-use Rattle.smx_model.proofs.SettlingByMarksLemmas.{marked_is_least, none_is_least}
+use Rattle.smx_model.proofs.LeastMarkedLemmas.{marked_is_least, none_is_least}
 use Rattle.smx_queues.specs.Bits.{BitTable, has_bit, has_bit_but}
 use Rattle.smx_queues.specs.PlaceLists.{places_of}
 use Rattle.smx_queues.specs.Rings.{RingTable, at}

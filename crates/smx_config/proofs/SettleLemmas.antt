@@ -5,7 +5,7 @@ use Rattle.smx_types.specs.declared.stream.Place.{Place}
 use Rattle.smx_model.specs.Configuration.{Configuration}
 use Rattle.smx_commands.specs.Machine.{Machine}
 use Rattle.smx_model.specs.Settling.{least_movable, after_move, after_settling_within}
-use Rattle.smx_model.proofs.SettlingByMarksLemmas.{settling_moves}
+use Rattle.smx_model.proofs.LeastMarkedLemmas.{settling_moves}
 
 -- settling is the move from the least movable place, and then settling within one move less
 pub settled_one : (drivers : List DriverSpec) (n : ℕ) (c d : Configuration) (p : Place) → 0 < n

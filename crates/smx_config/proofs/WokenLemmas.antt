@@ -31,7 +31,7 @@ use Rattle.smx_model.specs.Removal.{after_sweep}
 use Rattle.smx_model.specs.RunMarks.{TurnsOnly, asks_down, asks_up, either, has_addr, is_first_at, next_of_first}
 use Rattle.smx_model.specs.RunMarks.{nowhere}
 use Rattle.smx_model.specs.Settling.{after_settling, next_open_place}
-use Rattle.smx_model.specs.SettlingByMarks.{is_first_there, turned_by_move}
+use Rattle.smx_model.specs.RunMarks.{is_first_there, turned_by_move}
 use Rattle.smx_model.specs.Swept.{IsSwept}
 use Rattle.smx_model.specs.TurnedPlaces.{of_stream, turned_by}
 use Rattle.smx_config.specs.declared.marks.Marks.{Marks}
@@ -46,7 +46,7 @@ use Rattle.smx_config.specs.declared.wakes.Wakes.{Wakes}
 use Rattle.smx_config.specs.declared.wakes.Wakes.TheVariants as wakes
 use Rattle.smx_model.specs.KeptConfigurations.{IsSound}
 use Rattle.smx_model.proofs.IdleSweepLemmas.{swept_idle}
-use Rattle.smx_model.proofs.MarkedCommandLemmas.{few_freed}
+use Rattle.smx_model.proofs.FreedPlaceLemmas.{few_freed}
 use Rattle.smx_model.proofs.TurningCommandLemmas.{outcomes_turn}
 use Rattle.smx_model.proofs.UndroppedLemmas.{undropped_if}
 use Rattle.smx_model.proofs.SweptLemmas.{stream_self}

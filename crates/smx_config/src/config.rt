@@ -90,8 +90,9 @@ impl Config {
     }
 
     /// Performs a command of a process: its reply and the new configuration are those of the command table. Nothing
-    /// changes if the reply is a fault, or if an allocation fails. `dup`, `unbind`, `unroute`, `read`, `transmit`,
-    /// `hangup` and every refused command don't allocate, so they always get a reply.
+    /// changes if the command is refused (its reply is then a `Reply::Fault`), or if an allocation fails. `dup`,
+    /// `unbind`, `unroute`, `read`, `transmit`, `hangup` and every refused command don't allocate, so they always get a
+    /// reply.
     pub fn step(&mut self, process: Process, command: &Command) -> Result<Reply, NoMemory>
         // The effect.
         ensures drivers { self.new.drivers ≡ self.old.drivers }
@@ -104,25 +105,51 @@ impl Config {
         ensures in_place { IsTrue (takes_no_memory command.now) → IsOk result }
         ensures refused { IsErr (outcome self.old.drivers self.old.configuration process command.now) → IsOk result }
     {
+        let mut reply = Reply::Eof;
+        self.perform(process, command, &mut reply)?;
+        Ok(reply)
+    }
+
+    /// Performs a command as `step` does, but writes its reply to `reply`, so that no caller has to move the reply in
+    /// memory.
+    pub fn perform(
+        &mut self,
+        process: Process,
+        command: &Command,
+        reply: &mut Reply,
+    ) -> Result<(), NoMemory>
+        // The effect.
+        ensures drivers { self.new.drivers ≡ self.old.drivers }
+        ensures ok { OnOk result
+            (step self.old.drivers self.old.configuration process command.now ≡ (self.new.configuration, reply.new)) }
+        // Replies and failures that change nothing.
+        ensures fault { OnOk result ((f : Fault) → reply.new ≡ replies.Fault f → self.new ≡ self.old) }
+        ensures err { OnErr result (self.new ≡ self.old) }
+        // Commands that always get a reply.
+        ensures in_place { IsTrue (takes_no_memory command.now) → IsOk result }
+        ensures refused { IsErr (outcome self.old.drivers self.old.configuration process command.now) → IsOk result }
+    {
         commands_keep();
         full_places_have_messages();
         outcomes_are_sound();
         refusals_change_nothing();
-        let mut reply = Reply::Eof;
         let named = self.tables.message_stream(process, command);
         let wakes = wakes_of(&self.tables, process, command, named);
-        let answer = self.tables.perform(process, command, named, &mut reply);
+        let answer = self.tables.perform(process, command, named, reply);
         if answer.is_ok() {
             forget_changed(&mut self.hops, command);
-            wake(&self.tables, &mut self.marks, wakes, &reply);
+            wake(&self.tables, &mut self.marks, wakes, reply);
             settle(&mut self.tables, &mut self.marks, &mut self.hops);
         }
         match answer {
             Ok(()) => {
                 reply.shrink();
-                Ok(reply)
+                Ok(())
             }
-            Err(StepError::Refused(fault)) => Ok(Reply::Fault(fault)),
+            Err(StepError::Refused(fault)) => {
+                *reply = Reply::Fault(fault);
+                Ok(())
+            }
             Err(StepError::NoMemory) => Err(NoMemory),
         }
     }
@@ -182,13 +209,6 @@ impl Config {
         tables.into_view()
     }
 
-    /// Returns whether `show` would return exactly this view. Compares it line by line in place, and takes no memory.
-    pub fn shows(&self, shown: &ConfigView) -> bool
-        ensures { IsTrue result ↔ (shown.now ≡ view self.now.drivers self.now.configuration) }
-    {
-        self.tables.shows(shown)
-    }
-
     /// Returns the number of links, at most 1,024. Takes no memory.
     pub fn link_count(&self) -> u32
         ensures { result ≡ length self.now.configuration.links }
@@ -219,7 +239,7 @@ impl Config {
         self.tables.routed_link(driver, addr)
     }
 
-    /// Returns the link that has the stream below, if there is one. Takes no memory.
+    /// Returns the link whose lower stream is this stream, if there is one. Takes no memory.
     pub fn link_above(&self, stream: StreamId) -> Option<&Link>
         ensures { option_copied result ≡ link_above self.now.configuration.links stream }
     {

@@ -35,8 +35,8 @@ fn first_illegal(config: &mut Config, entries: &[Entry]) -> Result<Option<usize>
 }
 
 /// Judges a history of any origin, and a view that is said to show the configuration at its end. Performs each command
-/// again, from the empty configuration on, up to the first entry with a different reply. Compares the view in place,
-/// without a copy. Fails if the drivers are invalid, whatever the entries are, or if an allocation fails.
+/// again, from the empty configuration on, up to the first entry with a different reply. Fails if the drivers are
+/// invalid, whatever the entries are, or if an allocation fails.
 pub fn check_history(
     alloc: Global,
     drivers: &[DriverSpec],
@@ -51,7 +51,7 @@ pub fn check_history(
     if let Some(entry) = first_illegal(&mut config, entries)? {
         return Ok(Verdict::Illegal { entry });
     }
-    if config.shows(shown) {
+    if config.into_view()?.is_same(shown) {
         Ok(Verdict::Legal)
     } else {
         Ok(Verdict::ConfigDiffers)

@@ -23,8 +23,9 @@ pub struct Move {
     pub to: usize,
 }
 
-// Clears the run mark of a place whose first message can't move on. If the message has a next place, that place is
-// full, and `from` waits for it.
+// Clears the run mark of the place `from`, whose first message can't move on. (A run mark says that the first message
+// of a place may be able to move.) If the message has a next place, the caller guarantees that this is full; `from` is
+// then recorded as waiting for it.
 fn clear_mark(tables: &Tables, marks: &mut Marks, from: usize, next: Option<usize>)
     requires marks { AreMarks tables.now.drivers tables.now.configuration marks.old }
     requires number { IsNumber tables.now.drivers from }
@@ -44,7 +45,7 @@ fn clear_mark(tables: &Tables, marks: &mut Marks, from: usize, next: Option<usiz
 }
 
 // Returns the move from the least movable place, if there is one. Looks only at places with a run mark, and clears the
-// marks of the places that come before this one.
+// run marks of the places that come before the least movable one (of all places, if none is movable).
 #[inline(always)]
 fn next_move(tables: &Tables, marks: &mut Marks, hops: &mut Hops) -> Option<Move>
     requires sound { IsSound tables.now.drivers tables.now.configuration }
@@ -86,7 +87,7 @@ fn clear_if_empty(tables: &Tables, marks: &mut Marks, n: usize)
     }
 }
 
-// Makes a move, and marks the places that this wakes.
+// Makes a move, and gives a run mark to each place that may become movable by it.
 fn move_on(tables: &mut Tables, marks: &mut Marks, next: Move)
     requires sound { IsSound tables.old.drivers tables.old.configuration }
     requires marks { AreMarks tables.old.drivers tables.old.configuration marks.old }

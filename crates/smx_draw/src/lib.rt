@@ -13,3 +13,4 @@ mod svg;
 
 pub use form::Form;
 pub use pictures::draw;
+pub use svg::write_svg;

@@ -14,7 +14,7 @@ use smx_types::{
     BindingLine, DescriptorLine, DriverSpec, FullLine, HungLine, LinkLine, NoMemory, RouteLine,
 };
 
-/// A text of a part.
+/// Names one of the texts of a part.
 #[derive(Clone, Copy, Debug)]
 pub enum Look {
     /// The class words of its row in an SVG.
@@ -282,7 +282,7 @@ impl Part for QueueRow {
 }
 
 impl QueueRow {
-    // Appends a template to `out`, with its queue and these numbers.
+    // Appends a template to `out`, filled in with the queue of this row and these numbers.
     fn put_with(
         &self,
         template: &[u8],

@@ -1,4 +1,4 @@
--- Reading a line word by word, as long as some line of the text goes on in the same way.
+-- Reading a line word by word, as long as some line of its kind goes on in the same way.
 use Rattle.std.proofs.Common.{◌≡◌, ℕ, ◌+◌, List, [], ◌∷◌, ◌++◌, length, Option, Some, None, refl, sym, ap, subst}
 use Rattle.std.proofs.Common.{◌∙◌, append-nil, append_assoc, arith, inl, inr, Bor}
 use Rattle.std.specs.Prelude.{◌↔◌, MatchOption}
@@ -7,12 +7,13 @@ use Rattle.std.proofs.lemmas.Bool.{cases_eq}
 use Rattle.std.proofs.lemmas.List.{length-append}
 use Rattle.smx_types.specs.declared.version.Version.{Version}
 use Rattle.smx_words.specs.Words.{IsFree, SPACE}
-use Rattle.smx_explain.specs.Columns.{Begins, EndsThere, IsLine, IsColumn, IsWanted, IsWhole, Stops, first_choice}
-use Rattle.smx_explain.specs.Columns.{left_of, spaced, wanted_of}
+use Rattle.smx_explain.specs.Columns.{Begins, EndsThere, IsLine, IsColumn, IsWanted, IsWhole, LeadTo, Stops}
+use Rattle.smx_explain.specs.Columns.{first_choice, left_of, spaced, wanted_of}
 use Rattle.smx_explain.specs.Rows.{GoesOn}
 use Rattle.smx_explain.specs.declared.kinds.Choice.{Choice}
-use Rattle.smx_explain.specs.declared.kinds.TextKind.{TextKind}
+use Rattle.smx_explain.specs.declared.kinds.LineKind.{LineKind}
 use Rattle.smx_explain.specs.declared.kinds.Value.{Value}
+use Rattle.smx_explain.specs.declared.kinds.Wanted.{Wanted}
 use Rattle.smx_explain.specs.declared.columns.LineColumn.{LineColumn}
 use Rattle.smx_explain.proofs.CompleteLemmas.{can_end}
 use Rattle.smx_explain.proofs.DeterminedLemmas.{one_way}
@@ -35,7 +36,7 @@ all_more [] behind all more = more
 all_more (w ∷ front) behind all more = (all.0, all_more front behind all.1 more)
 
 -- joined parts, each followed by a space, are the first ones with theirs, then the later ones with theirs
-spaced_both : (front behind : List (List ℕ)) → spaced (front ++ behind) ≡ spaced front ++ spaced behind
+pub spaced_both : (front behind : List (List ℕ)) → spaced (front ++ behind) ≡ spaced front ++ spaced behind
 spaced_both [] behind = refl
 spaced_both (w ∷ front) behind = ap (λ (xs : List ℕ). (w ++ SPACE ∷ []) ++ xs) (spaced_both front behind)
     ∙ sym (append_assoc (w ++ SPACE ∷ []) (spaced front) (spaced behind))
@@ -80,20 +81,28 @@ left_parts (Some text) =
 
 -- ---- reading
 
--- up to this column, the line goes on as some line of the text
-pub record HasCome (kind : TextKind) (version : Version) (line : List ℕ) (at : ℕ)
+-- up to this column, the line goes on as some line of its kind
+pub record HasCome (kind : LineKind) (version : Version) (line : List ℕ) (at : ℕ)
     (rest : Option (Bor (List ℕ))) (values : List Value) (next : Choice) : Type 0 where
   pub front : List (List ℕ)
   pub free : AllByRecursion (IsFree SPACE) front
   pub left : line ++ SPACE ∷ [] ≡ spaced front ++ left_of rest
   pub column : at ≡ length (spaced front) + 1
   pub goes_on : (more : List (List ℕ)) → IsLine kind version (front ++ more) ↔ Spells version values next more
+  pub leads : (more : List (List ℕ)) (expected : Wanted) → LeadTo version values next more expected
+      → LeadTo version [] (first_choice kind) (front ++ more) expected
 
--- before its first part, a line goes on as some line of the text
-pub at_begin : (kind : TextKind) (version : Version) (line : Bor (List ℕ))
+-- before its first part, a line goes on as some line of its kind
+pub at_begin : (kind : LineKind) (version : Version) (line : Bor (List ℕ))
     → HasCome kind version line.now 1 (Some line) [] (first_choice kind)
-at_begin kind version line =
-    record { front = []; free = tt; left = refl; column = refl; goes_on = line_is kind version }
+at_begin kind version line = record {
+  front = [];
+  free = tt;
+  left = refl;
+  column = refl;
+  goes_on = line_is kind version;
+  leads = λ more expected led. led;
+}
 
 -- a word of the expected kind is the next word of a way to go on
 wanted_word : (version : Version) (values : List Value) (next : Choice) (word : List ℕ)
@@ -108,7 +117,7 @@ word_wanted : (version : Version) (values : List Value) (next : Choice) (word : 
 word_wanted version [] next word behind then h = (behind, then, h)
 word_wanted version (value ∷ values) next word behind then h = h.0
 
-module _ (kind : TextKind) (version : Version) (line : List ℕ) (column : ℕ) (rest : Option (Bor (List ℕ)))
+module _ (kind : LineKind) (version : Version) (line : List ℕ) (column : ℕ) (rest : Option (Bor (List ℕ)))
     (values : List Value) (next : Choice) (h : HasCome kind version line column rest values next) where
   -- if a line can go on with its next part, it goes on up to the column after that part
   pub one_more : (text : Bor (List ℕ)) → rest ≡ Some text → (word : List ℕ) (behind : Option (Bor (List ℕ)))
@@ -137,17 +146,21 @@ module _ (kind : TextKind) (version : Version) (line : List ℕ) (column : ℕ) 
       λ spells. subst (IsLine kind version) (sym (append_assoc h.front (word ∷ []) more))
           ((h.goes_on (word ∷ more)).1 (wanted, then, goes, spells)),
     );
+    leads = λ more expected led.
+        subst (λ (ws : List (List ℕ)). LeadTo version [] (first_choice kind) ws expected)
+        (sym (append_assoc h.front (word ∷ []) more))
+        (h.leads (word ∷ more) expected (wanted, then, goes, led));
   } where
     on : (more : List (List ℕ)) → Spells version values next (word ∷ more) → Spells version wanted then more
     on more (behind, chosen, also, spells) =
         let same = one_way version word values next behind chosen wanted then also goes in
         rw (← same.0, ← same.1) spells
 
-  -- some line of the text begins with the parts that were passed
+  -- some line begins with the parts that were passed
   begins : Begins kind version h.front
   begins = let t = can_end version values next in (t.0, (h.goes_on t.0).1 t.1)
 
-  -- the words with which a line of the text can go on after the passed parts are exactly those of the expected kind
+  -- the words with which a line can go on after the passed parts are exactly those of the expected kind
   goes_with : (word : List ℕ)
       → Begins kind version (h.front ++ word ∷ []) ↔ IsWanted version (wanted_of values next) word
   goes_with word = (there, back) where
@@ -173,6 +186,11 @@ module _ (kind : TextKind) (version : Version) (line : List ℕ) (column : ℕ) 
     λ ends. subst (IsLine kind version) (append-nil h.front) ((h.goes_on []).1 ends),
   )
 
+  -- by the tables, the parts that were passed lead to the expected kind
+  led_here : LeadTo version [] (first_choice kind) h.front (wanted_of values next)
+  led_here = subst (λ (ws : List (List ℕ)). LeadTo version [] (first_choice kind) ws (wanted_of values next))
+      (append-nil h.front) (h.leads [] (wanted_of values next) refl)
+
   -- the column is this one, with these parts left
   column_here : (behind : List (List ℕ)) → AllByRecursion (IsFree SPACE) behind → left_of rest ≡ spaced behind
       → Stops kind version h.front behind
@@ -189,6 +207,7 @@ module _ (kind : TextKind) (version : Version) (line : List ℕ) (column : ℕ) 
     stops = stops;
     wanted = goes_with;
     ends = ends_there;
+    led = led_here;
   }
 
   -- the column is this one, if no line goes on with the next word

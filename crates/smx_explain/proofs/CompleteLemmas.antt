@@ -1,5 +1,5 @@
 -- From every word on, a line can go on to an end.
-use Rattle.std.proofs.Common.{ℕ, List, [], ◌∷◌, refl, inl, arith, rules}
+use Rattle.std.proofs.Common.{ℕ, List, [], ◌∷◌, refl, inl, inr, arith, rules}
 use Rattle.std.specs.Prelude.{codes}
 use Rattle.std.specs.Fmt.{decimal}
 use Rattle.smx_types.specs.declared.command.Sides.TheVariants as sides
@@ -11,8 +11,9 @@ use Rattle.smx_types.specs.declared.version.Version.{Version}
 use Rattle.smx_types.specs.declared.version.Version.TheVariants.{V1, V2}
 use Rattle.smx_explain.specs.Rows.{IsFixed, IsRow, IsValue, later_rows, rows}
 use Rattle.smx_explain.specs.declared.kinds.Choice.{Choice}
-use Rattle.smx_explain.specs.declared.kinds.Choice.TheVariants.{ProgramsLine, TranscriptLine, Command, Equals, Reply}
-use Rattle.smx_explain.specs.declared.kinds.Choice.TheVariants.{BadDescriptor, Invalid, Again, NoDevice, Serials, End}
+use Rattle.smx_explain.specs.declared.kinds.Choice.TheVariants.{ProgramsLine, TranscriptLine, SessionLine, Command}
+use Rattle.smx_explain.specs.declared.kinds.Choice.TheVariants.{SessionCommand, Switch, Equals, Reply, BadDescriptor}
+use Rattle.smx_explain.specs.declared.kinds.Choice.TheVariants.{Invalid, Again, NoDevice, Serials, End}
 use Rattle.smx_explain.specs.declared.kinds.Value.{Value}
 use Rattle.smx_explain.specs.declared.kinds.Value.TheVariants.{Name, DriverKind, Number, Process, Which, Sides, Side}
 use Rattle.smx_explain.specs.declared.kinds.Value.TheVariants.{LinkKind, Bytes}
@@ -64,7 +65,13 @@ module _ (version : Version) where
   at_choice : (choice : Choice) → CanEnd [] choice
   at_choice ProgramsLine = behind ProgramsLine (codes "end") End (search rules) at_end
   at_choice TranscriptLine = behind TranscriptLine (codes "end") End (search rules) at_end
+  at_choice SessionLine = behind SessionLine (codes "end") End (search rules) at_end
   at_choice Command = behind Command (codes "exit") Equals (search rules) at_equals
+  at_choice SessionCommand = (
+    codes "exit" ∷ [],
+    ([], End, inr (fixed_in version Command (codes "exit") [] Equals (search rules), refl), tt),
+  )
+  at_choice Switch = behind Switch (codes "on") End (search rules) at_end
   at_choice Equals = at_equals
   at_choice Reply = at_reply
   at_choice BadDescriptor = behind BadDescriptor (codes "fd") End (search rules) at_end

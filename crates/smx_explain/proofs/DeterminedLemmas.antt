@@ -9,11 +9,13 @@ use Rattle.std.proofs.lemmas.Slice.Eq.{bytes_eq-Decides}
 use Rattle.smx_types.specs.declared.version.Version.{Version}
 use Rattle.smx_types.specs.declared.version.Version.TheVariants.{V1, V2}
 use Rattle.smx_words.proofs.NumberLemmas.{own}
-use Rattle.smx_explain.specs.Rows.{GoesOn, IsChosen, IsFixed, IsOther, IsRow, WordRow, rows_in}
+use Rattle.smx_explain.specs.Columns.{LeadTo}
+use Rattle.smx_explain.specs.Rows.{GoesOn, IsChosen, IsFixed, IsLoneCommand, IsOther, IsRow, WordRow, rows_in}
 use Rattle.smx_explain.specs.declared.kinds.Choice.{Choice}
-use Rattle.smx_explain.specs.declared.kinds.Choice.TheVariants.{ProgramsLine, TranscriptLine, Command, Equals}
-use Rattle.smx_explain.specs.declared.kinds.Choice.TheVariants.{Serials}
+use Rattle.smx_explain.specs.declared.kinds.Choice.TheVariants.{ProgramsLine, TranscriptLine, SessionLine, Command}
+use Rattle.smx_explain.specs.declared.kinds.Choice.TheVariants.{SessionCommand, Equals, Serials}
 use Rattle.smx_explain.specs.declared.kinds.Value.{Value}
+use Rattle.smx_explain.specs.declared.kinds.Wanted.{Wanted}
 use Rattle.smx_explain.proofs.RowLemmas.{in_second}
 
 -- ---- tables whose words differ
@@ -112,6 +114,11 @@ no_line_digits : (version : Version) → no_digits (rows_in version TranscriptLi
 no_line_digits V1 = refl
 no_line_digits V2 = refl
 
+-- no fixed word at the start of a session's line does
+no_request_digits : (version : Version) → no_digits (rows_in version SessionLine) ≡ true
+no_request_digits V1 = refl
+no_request_digits V2 = refl
+
 -- ---- one way
 
 module _ (version : Version) (word : List ℕ) where
@@ -124,20 +131,35 @@ module _ (version : Version) (word : List ℕ) where
   fixed_alone TranscriptLine values next others then is ((process, small, number), none, chosen) =
       no_number (rows_in version TranscriptLine) (no_line_digits version) process (omega (arith, small)) word values
       next number is
+  fixed_alone SessionLine values next others then is ((process, small, number), none, chosen) =
+      no_number (rows_in version SessionLine) (no_request_digits version) process (omega (arith, small)) word values
+      next number is
+  fixed_alone SessionCommand values next others then is other = no_command version is where
+    no_command : (v : Version) → IsFixed v SessionCommand word values next → ⊥
+    no_command V1 h = h
+    no_command V2 h = h
   fixed_alone Serials values next others then is other = no_serials version is where
     no_serials : (v : Version) → IsFixed v Serials word values next → ⊥
     no_serials V1 h = h
     no_serials V2 h = h
   fixed_alone choice values next others then is other = other
 
+  -- a command without a reply goes on in only one way
+  one_lone : (values : List Value) (next : Choice) (others : List Value) (then : Choice)
+      → IsLoneCommand version word values next → IsLoneCommand version word others then
+      → Same values next others then
+  one_lone values next others then is is_too = (
+    (one_row (rows_in version Command) (all_differ version Command) word values Equals others Equals is.0 is_too.0).0,
+    is.1 ∙ sym is_too.1,
+  )
+
   -- a word of another kind goes on in only one way
   one_other : (choice : Choice) (values : List Value) (next : Choice) (others : List Value) (then : Choice)
       → IsOther version choice word values next → IsOther version choice word others then
       → Same values next others then
-  one_other ProgramsLine values next others then is is_too = (
-    (one_row (rows_in version Command) (all_differ version Command) word values Equals others Equals is.0 is_too.0).0,
-    is.1 ∙ sym is_too.1,
-  )
+  one_other ProgramsLine values next others then is is_too = one_lone values next others then is is_too
+  one_other SessionCommand values next others then is is_too = one_lone values next others then is is_too
+  one_other SessionLine values next others then is is_too = (is.1 ∙ sym is_too.1, is.2 ∙ sym is_too.2)
   one_other TranscriptLine values next others then is is_too = (is.1 ∙ sym is_too.1, is.2 ∙ sym is_too.2)
   one_other Serials values next others then is is_too = (is.1 ∙ sym is_too.1, is.2 ∙ sym is_too.2)
   one_other choice values next others then is is_too = absurd is
@@ -161,3 +183,11 @@ module _ (version : Version) (word : List ℕ) where
       → Same values next others then
   one_way [] choice values next others then is is_too = one_choice choice values next others then is is_too
   one_way (value ∷ wanted) choice values next others then is is_too = (is.1 ∙ sym is_too.1, is.2 ∙ sym is_too.2)
+
+-- by the tables, words lead to only one kind of word
+pub one_lead : (version : Version) (values : List Value) (choice : Choice) (words : List (List ℕ)) (one other : Wanted)
+    → LeadTo version values choice words one → LeadTo version values choice words other → one ≡ other
+one_lead version values choice [] one other is is_too = is ∙ sym is_too
+one_lead version values choice (word ∷ words) one other (more, next, goes, led) (others, then, goes_too, led_too) =
+    let same = one_way version word values choice more next others then goes goes_too in
+    one_lead version more next words one other led (rw (same.0, same.1) led_too)

@@ -175,6 +175,16 @@ nothing_reported judged t output h none =
       | inr (number, told, has, first, is) ↦ absurd (some_reported number told has (sym is ∙ none))
     ]
 
+-- a legal transcript has an empty explanation, without a replay of it
+pub legal_unexplained : IsItsOwn → (t : Transcript) → IsAllowed t.version t → IsDriverList t.drivers
+    → IsVerdict t.drivers t.entries t.view Legal → IsExplanation t []
+legal_unexplained own t allowed valid verdict = record {
+  replay = t;
+  replays = own t valid verdict;
+  spellable = (allowed_spellable t.version t allowed).0;
+  shown = inl (refl, refl);
+}
+
 -- the header of a transcript is one line
 header_line : (version : Version) → IsOneLine (line_of (transcript_grammar version).header_words)
 header_line V1 = search rules

@@ -1,4 +1,5 @@
 pub mod RowLemmas
+pub mod NearLemmas
 pub mod Spelling
 pub mod CompleteLemmas
 pub mod DeterminedLemmas
@@ -6,10 +7,12 @@ pub mod WalkLemmas
 pub mod ShapeLemmas
 pub mod CommandFormLemmas
 pub mod ReplyFormLemmas
+pub mod SessionFormLemmas
 pub mod LineFormLemmas
 pub mod ColumnLemmas
 pub mod OneColumnLemmas
 pub mod WorkedColumnLemmas
+pub mod SessionLineLemmas
 pub mod DifferenceLemmas
 pub mod LineLemmas
 pub mod TextLemmas

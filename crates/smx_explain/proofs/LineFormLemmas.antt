@@ -1,7 +1,7 @@
 -- The words of a line of each text, by the tables.
 use Rattle.std.proofs.Common.{◌≡◌, ◌<◌, ℕ, true, List, [], ◌∷◌, ◌++◌, refl, sym, ap, subst, ◌∙◌}
 use Rattle.std.proofs.Common.{inl, inr}
-use Rattle.std.proofs.Common.{append-nil, rules}
+use Rattle.std.proofs.Common.{rules}
 use Rattle.std.specs.Prelude.{◌↔◌, codes}
 use Rattle.std.specs.Fmt.{decimal}
 use Rattle.smx_types.specs.Versions.{is_hangup, tells_of_hangup}
@@ -27,16 +27,17 @@ use Rattle.smx_explain.specs.Columns.{IsLine, first_choice}
 use Rattle.smx_explain.specs.Rows.{IsRow, programs_lines, transcript_lines}
 use Rattle.smx_explain.specs.declared.kinds.Choice.{Choice}
 use Rattle.smx_explain.specs.declared.kinds.Choice.TheVariants.{ProgramsLine, TranscriptLine, Command, Equals, Reply, End}
-use Rattle.smx_explain.specs.declared.kinds.TextKind.{TextKind}
-use Rattle.smx_explain.specs.declared.kinds.TextKind.TheVariants.{Programs, Transcript}
+use Rattle.smx_explain.specs.declared.kinds.LineKind.{LineKind}
+use Rattle.smx_explain.specs.declared.kinds.LineKind.TheVariants.{Programs, Transcript, Session}
 use Rattle.smx_explain.specs.declared.kinds.Value.{Value}
 use Rattle.smx_explain.specs.declared.kinds.Value.TheVariants.{Name, DriverKind, Number, Process, Side, LinkKind, Bytes}
 use Rattle.smx_explain.proofs.CommandFormLemmas.{form, of_form}
 use Rattle.smx_explain.proofs.ReplyFormLemmas.{IsReply, of_reply, reply_spelled}
 use Rattle.smx_explain.proofs.RowLemmas.{equals_behind}
+use Rattle.smx_explain.proofs.SessionFormLemmas.{lone_spelled, of_lone, of_session_line, request_spelled}
 use Rattle.smx_explain.proofs.ShapeLemmas.{Words, words_of}
 use Rattle.smx_explain.proofs.Spelling.{Spells, Takes}
-use Rattle.smx_explain.proofs.WalkLemmas.{cut, ended, ended_as, from_row, number, plain, with_args}
+use Rattle.smx_explain.proofs.WalkLemmas.{cut, ended_as, from_row, number, plain, with_args}
 
 -- ---- drivers
 
@@ -67,18 +68,6 @@ driver_of words (((a, is_a), ((b, is_b), ((c, is_c), ((d, is_d), ((e, is_e), ((f
 -- ---- lines of programs
 
 module _ (version : Version) where
-  -- the words of a command of a version complete a line of programs
-  command_spelled : (c : AnyCommand) → FitsCommandIn version c → Spells version [] ProgramsLine (command_words c)
-  command_spelled c fits =
-      let f = form version c fits in
-      subst (λ (words : List (List ℕ)). Spells version [] ProgramsLine words) (sym f.are) (
-        f.values,
-        End,
-        inr (f.fixed, refl),
-        subst (λ (words : List (List ℕ)). Spells version f.values End words)
-            (append-nil f.args) (with_args version f.values f.args End [] f.takes tt),
-      )
-
   -- the words of any line of programs of a version complete a line
   programs_line : (k : Line) → programs.FitsLine version k → Spells version [] ProgramsLine (programs.line_words k)
   programs_line (line.Driver d) f =
@@ -92,7 +81,7 @@ module _ (version : Version) where
       from_row version ProgramsLine (codes "end") ([]) End
       ([]) []
       (search rules) tt tt
-  programs_line (line.Command c) f = command_spelled c f
+  programs_line (line.Command c) f = lone_spelled version ProgramsLine (λ word values lone. lone) c f
 
   -- a first word of a line of programs, and words that complete the line after it, are those of such a line
   programs_row : (word : List ℕ) (values : List Value) (next : Choice) (words : List (List ℕ))
@@ -114,9 +103,8 @@ module _ (version : Version) where
   of_programs_line [] h = absurd h
   of_programs_line (word ∷ words) (values, next, inl is, h) =
       programs_row word values next words (plain version ProgramsLine refl word values next is) h
-  of_programs_line (word ∷ words) (values, next, inr (fixed, then), h) =
-      let t = of_form version word values Equals words fixed (ended version values next words values refl then h) in
-      (line.Command t.0, t.1, sym t.2)
+  of_programs_line (word ∷ words) (values, next, inr is, h) =
+      let t = of_lone version word values next words is h in (line.Command t.0, t.1, sym t.2)
 
 -- ---- lines of a transcript
 
@@ -385,10 +373,10 @@ of_transcript_line V2 (word ∷ words) (values, next, inl (inr is), h) = transcr
 of_transcript_line version (word ∷ words) (values, next, inr ((process, small, is), none, then), h) =
     entry version word values next words process small is none then h
 
--- ---- both texts
+-- ---- all lines
 
--- the lines of a text are exactly the words that complete a line from its start
-pub line_is : (kind : TextKind) (version : Version) (words : List (List ℕ))
+-- the lines of a kind are exactly the words that complete a line from its start
+pub line_is : (kind : LineKind) (version : Version) (words : List (List ℕ))
     → IsLine kind version words ↔ Spells version [] (first_choice kind) words
 line_is Programs version words = (
   λ h. subst (λ (ws : List (List ℕ)). Spells version [] ProgramsLine ws) (sym h.2) (programs_line version h.0 h.1),
@@ -398,3 +386,4 @@ line_is Transcript version words = (
   λ h. subst (λ (ws : List (List ℕ)). Spells version [] TranscriptLine ws) (sym h.2) (transcript_line version h.0 h.1),
   of_transcript_line version words,
 )
+line_is Session version words = (request_spelled version words, of_session_line version words)

@@ -1,22 +1,26 @@
 -- A line becomes invalid in at most one column.
 use Rattle.std.proofs.Common.{◌≡◌, ℕ, ◌+◌, List, [], ◌∷◌, ◌++◌, length, refl, sym, ap, subst, ◌∙◌, append_assoc}
-use Rattle.std.proofs.Common.{inl, inr}
-use Rattle.std.proofs.lemmas.List.{append-nil}
+use Rattle.std.proofs.Common.{◌<◌, arith, inl, inr}
+use Rattle.std.proofs.lemmas.List.{append-nil, length-append}
 use Rattle.std.specs.List.{AllByRecursion}
-use Rattle.std.specs.Prelude.{◌⊎◌, ◌↔◌}
+use Rattle.std.specs.Prelude.{◌⊎◌}
 use Rattle.smx_types.specs.declared.version.Version.{Version}
 use Rattle.smx_words.specs.Words.{IsFree, SPACE}
 use Rattle.smx_words.proofs.CutLemmas.{apart}
-use Rattle.smx_explain.specs.Columns.{AreParts, Begins, EndsThere, IsLine, IsColumn, IsWanted, IsWhole, Stops, spaced}
-use Rattle.smx_explain.specs.declared.kinds.TextKind.{TextKind}
+use Rattle.smx_explain.specs.Columns.{AreParts, Begins, IsLine, IsColumn, IsPartAt, IsWhole, LeadTo, Stops}
+use Rattle.smx_explain.specs.Columns.{first_choice, first_of, spaced}
+use Rattle.smx_explain.specs.declared.kinds.LineKind.{LineKind}
 use Rattle.smx_explain.specs.declared.columns.LineColumn.{LineColumn}
+use Rattle.smx_explain.specs.declared.kinds.Wanted.{Wanted}
+use Rattle.smx_explain.proofs.ColumnLemmas.{spaced_both}
+use Rattle.smx_explain.proofs.DeterminedLemmas.{one_lead}
 
 -- parts, each followed by a space, are the first with its space, then the others with theirs
-first_part : (part : List ℕ) (parts : List (List ℕ)) → spaced (part ∷ parts) ≡ part ++ SPACE ∷ spaced parts
+pub first_part : (part : List ℕ) (parts : List (List ℕ)) → spaced (part ∷ parts) ≡ part ++ SPACE ∷ spaced parts
 first_part part parts = append_assoc part (SPACE ∷ []) (spaced parts)
 
 -- a part with its space is not empty
-some_bytes : (part rest : List ℕ) → part ++ SPACE ∷ rest ≡ [] → ⊥
+pub some_bytes : (part rest : List ℕ) → part ++ SPACE ∷ rest ≡ [] → ⊥
 some_bytes [] rest e = absurd (cc e)
 some_bytes (b ∷ part) rest e = absurd (cc e)
 
@@ -69,7 +73,36 @@ two_fronts (x ∷ xs) ws (y ∷ ys) bs e =
       }))
     ]
 
-module _ (kind : TextKind) (version : Version) where
+-- parts after the same ones are the same, if all parts together are
+cancelled : (front xs ys : List (List ℕ)) → front ++ xs ≡ front ++ ys → xs ≡ ys
+cancelled [] xs ys e = e
+cancelled (w ∷ front) xs ys e = cancelled front xs ys cc
+
+-- a front that goes on to another is shorter
+shorter : (front behind other : List (List ℕ)) → GoesTo front behind other
+    → length (spaced front) < length (spaced other)
+shorter front behind other h =
+    omega (
+      arith,
+      ap (λ (ws : List (List ℕ)). length (spaced ws)) (h.to ∙ append_assoc front (h.word ∷ []) h.more),
+      ap (length {A = ℕ}) (spaced_both front (h.word ∷ h.more)),
+      length-append (spaced front) (spaced (h.word ∷ h.more)),
+      ap (length {A = ℕ}) (first_part h.word h.more),
+      length-append h.word (SPACE ∷ spaced h.more),
+    )
+
+-- only one part of a line begins in a column
+pub one_part : (line : List ℕ) (column : ℕ) (v w : List ℕ) → IsPartAt line column v → IsPartAt line column w → v ≡ w
+one_part line column v w (xs, ws, parts, here, is) (ys, bs, parts_too, here_too, is_too) =
+    let same = one_line line (xs ++ ws) (ys ++ bs) parts parts_too in
+    elim (two_fronts xs ws ys bs same) [
+      | inl front ↦ is ∙ ap first_of (cancelled ys ws bs
+          (ap (λ (front : List (List ℕ)). front ++ ws) (sym front) ∙ same)) ∙ sym is_too
+      | inr (inl goes) ↦ absurd (omega (arith, shorter xs ws ys goes, here, here_too))
+      | inr (inr goes) ↦ absurd (omega (arith, shorter ys bs xs goes, here, here_too))
+    ]
+
+module _ (kind : LineKind) (version : Version) where
   -- a line begins with the front of its words
   begins_with : (front more : List (List ℕ)) → Begins kind version (front ++ more) → Begins kind version front
   begins_with front more (rest, is) =
@@ -107,24 +140,18 @@ module _ (kind : TextKind) (version : Version) where
             | inr (inr goes) ↦ absurd (stops_all k.front k.behind h.front k.stops h.begun goes)
           ]
 
-      -- both columns are the same
-      pub same_column : one.column ≡ other.column
-      same_column = h.column ∙ ap (λ (front : List (List ℕ)). length (spaced front) + 1) same_front ∙ sym k.column
+      -- both have the same column
+      same_place : one.column ≡ other.column
+      same_place = h.column ∙ ap (λ (front : List (List ℕ)). length (spaced front) + 1) same_front ∙ sym k.column
 
-      -- the same words are expected at both
-      pub same_words : (word : List ℕ) → IsWanted version one.wanted word ↔ IsWanted version other.wanted word
-      same_words word = (
-        λ is. (k.wanted word).0
-            (subst (λ (front : List (List ℕ)). Begins kind version (front ++ word ∷ [])) same_front
-            ((h.wanted word).1 is)),
-        λ is. (h.wanted word).0
-            (subst (λ (front : List (List ℕ)). Begins kind version (front ++ word ∷ [])) (sym same_front)
-            ((k.wanted word).1 is)),
-      )
+      -- the same is expected at both
+      same_wanted : one.wanted ≡ other.wanted
+      same_wanted =
+          one_lead version [] (first_choice kind) k.front one.wanted other.wanted
+          (subst (λ (front : List (List ℕ)). LeadTo version [] (first_choice kind) front one.wanted) same_front h.led)
+          k.led
 
-      -- a line may end at both or at neither
-      pub same_ends : EndsThere one.wanted ↔ EndsThere other.wanted
-      same_ends = (
-        λ is. k.ends.0 (subst (IsLine kind version) same_front (h.ends.1 is)),
-        λ is. h.ends.0 (subst (IsLine kind version) (sym same_front) (k.ends.1 is)),
-      )
+      -- both are the same
+      pub same_column : one ≡ other
+      same_column = ap (λ (column : ℕ). record { column = column; wanted = one.wanted }) same_place
+          ∙ ap (λ (w : Wanted). record { column = other.column; wanted = w }) same_wanted

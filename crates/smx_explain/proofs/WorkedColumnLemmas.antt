@@ -9,18 +9,18 @@ use Rattle.smx_explain.specs.Rows.{GoesOn, IsFixed, IsOther, rows_in}
 use Rattle.smx_explain.specs.WorkedColumns.{choice_at, value_at}
 use Rattle.smx_explain.specs.declared.kinds.Choice.{Choice}
 use Rattle.smx_explain.specs.declared.kinds.Choice.TheVariants as choice
-use Rattle.smx_explain.specs.declared.kinds.TextKind.TheVariants.{Programs, Transcript}
+use Rattle.smx_explain.specs.declared.kinds.LineKind.TheVariants.{Programs, Transcript, Session}
 use Rattle.smx_explain.specs.declared.kinds.Value.{Value}
 use Rattle.smx_explain.specs.declared.kinds.Value.TheVariants as value
 use Rattle.smx_explain.proofs.DeterminedLemmas.{not_new}
 use Rattle.smx_explain.proofs.ColumnLemmas.{HasCome, at_begin, ends_here, one_more, stops_here, whole_here}
 
 -- bytes as the code sees them
-abbrev seen : List ℕ → Bor (List ℕ)
+abbrev pub seen : List ℕ → Bor (List ℕ)
 seen bytes = record { ref_ptr = (0, 0); now = bytes }
 
 -- a word of neither kind goes on in no way
-neither : (version : Version) (next : Choice) (word : List ℕ)
+pub neither : (version : Version) (next : Choice) (word : List ℕ)
     → ((values : List Value) (then : Choice) → IsFixed version next word values then → ⊥)
     → ((values : List Value) (then : Choice) → IsOther version next word values then → ⊥)
     → (values : List Value) (then : Choice) → GoesOn version [] next word values then → ⊥
@@ -171,3 +171,47 @@ serials =
     seven 17
     refl)
     (seen (codes "5")) refl (codes "5") None (search (rules, arith)) refl [] choice.Serials five 19 refl) refl tt
+
+-- ---- sessions
+
+-- `wirte` is no command
+pub misspelt : IsColumn Session V2 (codes "0 wirte 0 5 aa") (choice_at 3 choice.SessionCommand)
+unfolding digits
+misspelt =
+    stops_here Session V2 (codes "0 wirte 0 5 aa") 3 (Some (seen (codes "wirte 0 5 aa"))) [] choice.SessionCommand
+    (one_more Session V2 (codes "0 wirte 0 5 aa") 1 (Some (seen (codes "0 wirte 0 5 aa"))) [] choice.SessionLine
+    (at_begin Session V2 (seen (codes "0 wirte 0 5 aa"))) (seen (codes "0 wirte 0 5 aa")) refl (codes "0")
+    (Some (seen (codes "wirte 0 5 aa"))) (search (rules, arith)) refl [] choice.SessionCommand
+    (inr ((0, omega arith, refl), refl, refl)) 3 refl)
+    (seen (codes "wirte 0 5 aa")) refl (codes "wirte") (Some (seen (codes "0 5 aa"))) (search (rules, arith)) refl
+    (neither V2 choice.SessionCommand (codes "wirte") (λ values then is. is)
+    (λ values then is. not_new (rows_in V2 choice.Command) (codes "wirte") values choice.Equals refl is.0))
+
+-- nothing may follow the name after `clone`, so a reply may not
+pub reply_too_many : IsColumn Session V1 (codes "1 clone ip = fd 0 0") (choice_at 12 choice.End)
+unfolding digits
+reply_too_many =
+    stops_here Session V1 (codes "1 clone ip = fd 0 0") 12 (Some (seen (codes "= fd 0 0"))) [] choice.End
+    (one_more Session V1 (codes "1 clone ip = fd 0 0") 9 (Some (seen (codes "ip = fd 0 0"))) (value.Name ∷ [])
+    choice.End
+    (one_more Session V1 (codes "1 clone ip = fd 0 0") 3 (Some (seen (codes "clone ip = fd 0 0"))) []
+    choice.SessionCommand
+    (one_more Session V1 (codes "1 clone ip = fd 0 0") 1 (Some (seen (codes "1 clone ip = fd 0 0"))) []
+    choice.SessionLine
+    (at_begin Session V1 (seen (codes "1 clone ip = fd 0 0"))) (seen (codes "1 clone ip = fd 0 0")) refl (codes "1")
+    (Some (seen (codes "clone ip = fd 0 0"))) (search (rules, arith)) refl [] choice.SessionCommand
+    (inr ((1, omega arith, refl), refl, refl)) 3 refl)
+    (seen (codes "clone ip = fd 0 0")) refl (codes "clone") (Some (seen (codes "ip = fd 0 0"))) (search (rules, arith))
+    refl (value.Name ∷ []) choice.End (inr (search rules, refl)) 9 refl)
+    (seen (codes "ip = fd 0 0")) refl (codes "ip") (Some (seen (codes "= fd 0 0"))) (search (rules, arith)) refl []
+    choice.End (refl, refl, refl) 12 refl)
+    (seen (codes "= fd 0 0")) refl (codes "=") (Some (seen (codes "fd 0 0"))) (search (rules, arith)) refl
+    (neither V1 choice.End (codes "=") (λ values then is. is) (λ values then is. is))
+
+-- after `trace` a word is missing
+pub no_switch : IsColumn Session V1 (codes "trace") (choice_at 7 choice.Switch)
+no_switch =
+    ends_here Session V1 (codes "trace") 7 None [] choice.Switch
+    (one_more Session V1 (codes "trace") 1 (Some (seen (codes "trace"))) [] choice.SessionLine
+    (at_begin Session V1 (seen (codes "trace"))) (seen (codes "trace")) refl (codes "trace") None
+    (search (rules, arith)) refl [] choice.Switch (inl (search rules)) 7 refl) refl (λ ends. ends)

@@ -5,3 +5,6 @@ pub mod WorkedColumns
 pub mod Differences
 pub mod Explanations
 pub mod WorkedExplanations
+pub mod Hints
+pub mod WorkedHints
+pub mod ColumnWords

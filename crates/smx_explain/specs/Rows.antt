@@ -9,8 +9,9 @@ use Rattle.smx_words.specs.LineReading.{IsSpelled}
 use Rattle.smx_words.specs.Spellable.{FitsAlways, FitsBytes, FitsName, FitsNumber, FitsProcess, FitsWhich}
 use Rattle.smx_words.specs.Spelling.{kind_word, link_kind_word, side_word, sides_word, which_word}
 use Rattle.smx_explain.specs.declared.kinds.Choice.{Choice}
-use Rattle.smx_explain.specs.declared.kinds.Choice.TheVariants.{ProgramsLine, TranscriptLine, Command, Equals, Reply}
-use Rattle.smx_explain.specs.declared.kinds.Choice.TheVariants.{BadDescriptor, Invalid, Again, NoDevice, Serials, End}
+use Rattle.smx_explain.specs.declared.kinds.Choice.TheVariants.{ProgramsLine, TranscriptLine, SessionLine, Command}
+use Rattle.smx_explain.specs.declared.kinds.Choice.TheVariants.{SessionCommand, Switch, Equals, Reply, BadDescriptor}
+use Rattle.smx_explain.specs.declared.kinds.Choice.TheVariants.{Invalid, Again, NoDevice, Serials, End}
 use Rattle.smx_explain.specs.declared.kinds.Value.{Value}
 use Rattle.smx_explain.specs.declared.kinds.Value.TheVariants.{Name, DriverKind, Number, Process, Which, Sides, Side}
 use Rattle.smx_explain.specs.declared.kinds.Value.TheVariants.{LinkKind, Bytes}
@@ -57,6 +58,10 @@ transcript_lines =
     ∷ (codes "full", Name ∷ Number ∷ Side ∷ [], End)
     ∷ (codes "end", [], End)
     ∷ []
+
+-- the first words of the lines of a session, except processes
+abbrev pub session_lines : List WordRow
+session_lines = (codes "show", [], End) ∷ (codes "trace", [], Switch) ∷ (codes "end", [], End) ∷ []
 
 -- the commands of an entry
 abbrev pub commands : List WordRow
@@ -114,7 +119,10 @@ invalid =
 abbrev pub rows : Choice → List WordRow
 rows ProgramsLine = programs_lines
 rows TranscriptLine = transcript_lines
+rows SessionLine = session_lines
 rows Command = commands
+rows SessionCommand = []
+rows Switch = (codes "on", [], End) ∷ (codes "off", [], End) ∷ []
 rows Equals = (codes "=", [], Reply) ∷ []
 rows Reply = replies
 rows BadDescriptor = (codes "fd", [], End) ∷ []
@@ -128,7 +136,10 @@ rows End = []
 abbrev pub later_rows : Choice → List WordRow
 later_rows ProgramsLine = []
 later_rows TranscriptLine = (codes "hung", Name ∷ Number ∷ [], End) ∷ []
+later_rows SessionLine = []
 later_rows Command = (codes "hangup", Name ∷ Number ∷ [], Equals) ∷ []
+later_rows SessionCommand = []
+later_rows Switch = []
 later_rows Equals = []
 later_rows Reply = (codes "eof", [], End) ∷ []
 later_rows BadDescriptor = []
@@ -165,12 +176,19 @@ rows_of (row ∷ rows) = (row.0.now, row.1.now, row.2) ∷ rows_of rows
 abbrev pub IsFixed : Version → Choice → List ℕ → List Value → Choice → Type 0
 IsFixed version choice word values next = IsRow (rows_in version choice) word values next
 
+-- the word begins a command, and the line ends after its values
+abbrev pub IsLoneCommand : Version → List ℕ → List Value → Choice → Type 0
+IsLoneCommand version word values next = IsFixed version Command word values Equals × (next ≡ End)
+
 -- The word is of another kind: a line of programs may be a command, a line of a transcript may begin with the process
--- of an entry, and another serial may follow a serial.
+-- of an entry, a line of a session may be a process and a command, and another serial may follow a serial.
 abbrev pub IsOther : Version → Choice → List ℕ → List Value → Choice → Type 0
-IsOther version ProgramsLine word values next = IsFixed version Command word values Equals × (next ≡ End)
+IsOther version ProgramsLine word values next = IsLoneCommand version word values next
 IsOther version TranscriptLine word values next = IsValue Process word × (values ≡ []) × (next ≡ Command)
+IsOther version SessionLine word values next = IsValue Process word × (values ≡ []) × (next ≡ SessionCommand)
 IsOther version Command word values next = ⊥
+IsOther version SessionCommand word values next = IsLoneCommand version word values next
+IsOther version Switch word values next = ⊥
 IsOther version Equals word values next = ⊥
 IsOther version Reply word values next = ⊥
 IsOther version BadDescriptor word values next = ⊥
@@ -195,7 +213,10 @@ GoesOn version (value ∷ more) choice word values next = IsValue value word × 
 abbrev pub MayEnd : Choice → Type 0
 MayEnd ProgramsLine = ⊥
 MayEnd TranscriptLine = ⊥
+MayEnd SessionLine = ⊥
 MayEnd Command = ⊥
+MayEnd SessionCommand = ⊥
+MayEnd Switch = ⊥
 MayEnd Equals = ⊥
 MayEnd Reply = ⊥
 MayEnd BadDescriptor = ⊥

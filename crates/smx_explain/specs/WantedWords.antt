@@ -1,8 +1,9 @@
 -- The words that describe what is expected in a column.
 use Rattle.std.specs.Prelude.{ℕ, List, ◌++◌, codes}
 use Rattle.smx_explain.specs.declared.kinds.Choice.{Choice}
-use Rattle.smx_explain.specs.declared.kinds.Choice.TheVariants.{ProgramsLine, TranscriptLine, Command, Equals, Reply}
-use Rattle.smx_explain.specs.declared.kinds.Choice.TheVariants.{BadDescriptor, Invalid, Again, NoDevice, Serials, End}
+use Rattle.smx_explain.specs.declared.kinds.Choice.TheVariants.{ProgramsLine, TranscriptLine, SessionLine, Command}
+use Rattle.smx_explain.specs.declared.kinds.Choice.TheVariants.{SessionCommand, Switch, Equals, Reply, BadDescriptor}
+use Rattle.smx_explain.specs.declared.kinds.Choice.TheVariants.{Invalid, Again, NoDevice, Serials, End}
 use Rattle.smx_explain.specs.declared.kinds.Value.{Value}
 use Rattle.smx_explain.specs.declared.kinds.Value.TheVariants.{Name, DriverKind, Number, Process, Which, Sides, Side}
 use Rattle.smx_explain.specs.declared.kinds.Value.TheVariants.{LinkKind, Bytes}
@@ -27,7 +28,10 @@ choice_words ProgramsLine = codes "'driver', 'process', 'end', a command, or in 
 choice_words TranscriptLine =
     codes "'driver', a process from 0 to 63, 'config', 'next', 'fd', 'link', 'bind', 'route', 'msg', 'full', 'end', "
     ++ codes "or in version 2 'hung'"
+choice_words SessionLine = codes "'show', 'trace', 'end', or a process from 0 to 63"
 choice_words Command = codes "a command, or in version 2 'hangup'"
+choice_words SessionCommand = codes "a command, or in version 2 'hangup'"
+choice_words Switch = codes "'on' or 'off'"
 choice_words Equals = codes "'='"
 choice_words Reply = codes "'fd', 'id', 'took', 'got', 'done', an error, or in version 2 'eof'"
 choice_words BadDescriptor = codes "'fd'"

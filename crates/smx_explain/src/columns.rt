@@ -1,10 +1,10 @@
 //! The column at which a line becomes invalid.
 
-ghost use Rattle.std.specs.Prelude.{◌≡◌, ◌∷◌, ◌++◌, [], MatchOption};
+ghost use Rattle.std.specs.Prelude.{◌≡◌, ℕ, List, ◌∷◌, ◌++◌, [], MatchOption};
 ghost use Rattle.smx_words.specs.Words.{IsFree, SPACE};
-ghost use Rattle.smx_explain.specs.Columns.{EndsThere, IsColumn, IsWhole, first_choice, left_of, wanted_of};
+ghost use Rattle.smx_explain.specs.Columns.{EndsThere, IsColumn, IsPartAt, IsWhole, first_choice, left_of, wanted_of};
 
-use crate::kinds::{Choice, TextKind, Wanted};
+use crate::kinds::{Choice, LineKind, Wanted};
 use crate::rows::{FoundRow, go_on, may_end};
 use memchr::memchr;
 use smx_types::Version;
@@ -17,9 +17,9 @@ pub struct LineColumn {
     pub wanted: Wanted,
 }
 
-/// Returns the first column in which no line of this text and version goes on in the same way. Returns `None` if the
-/// line is valid. Takes no memory.
-pub fn column_of(kind: TextKind, version: Version, line: &[u8]) -> Option<LineColumn>
+/// Returns the column of the first wrong word, or of a missing word. A word is wrong if no line of this kind and
+/// version begins with the words before it and then this word. Returns `None` if the line is valid. Takes no memory.
+pub fn column_of(kind: LineKind, version: Version, line: &[u8]) -> Option<LineColumn>
     ensures { MatchOption result (IsWhole kind version line.now) (λ at. IsColumn kind version line.now at) }
 {
     let mut row = FoundRow {
@@ -40,13 +40,25 @@ pub fn column_of(kind: TextKind, version: Version, line: &[u8]) -> Option<LineCo
     ended(column, row)
 }
 
-// Returns the choice that the first word of a line makes.
-fn first_choice(kind: TextKind) -> Choice
+/// Returns the word of a line that begins at a column, counted from 1. It is empty if the line ends before that.
+pub fn word_at(line: &[u8], column: usize) -> &[u8]
+    ensures { (word : List ℕ) → IsPartAt line.now column word → result.now ≡ word }
+{
+    match line.get(column.saturating_sub(1)..) {
+        Some(rest) => first_word(rest).0,
+        None => b"",
+    }
+}
+
+// Returns the `Choice` for the first word of a line of this kind: which words it may be, and how the line goes on after
+// each.
+fn first_choice(kind: LineKind) -> Choice
     ensures { result ≡ first_choice kind }
 {
     match kind {
-        TextKind::Programs => Choice::ProgramsLine,
-        TextKind::Transcript => Choice::TranscriptLine,
+        LineKind::Programs => Choice::ProgramsLine,
+        LineKind::Transcript => Choice::TranscriptLine,
+        LineKind::Session => Choice::SessionLine,
     }
 }
 
@@ -61,7 +73,7 @@ fn first_word(text: &[u8]) -> (&[u8], Option<&[u8]>)
     }
 }
 
-// Returns this column, where `row` says what is expected.
+// Returns this column, together with what `row` says is expected there.
 fn stopped(column: usize, row: FoundRow) -> LineColumn
     ensures { result ≡ record { column = column; wanted = wanted_of row.values.now row.next } }
 {

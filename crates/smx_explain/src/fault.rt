@@ -1,9 +1,11 @@
 //! Explains why a text is malformed.
 
-use crate::columns::{LineColumn, column_of};
-use crate::kinds::{Choice, TextKind, Wanted};
+use crate::column_words::ColumnWords;
+use crate::columns::{LineColumn, column_of, word_at};
+use crate::hints::hint_of;
+use crate::kinds::TextKind;
 use crate::lines::line_at;
-use crate::reasons::{header_reason, limit_reason, order_reason};
+use crate::reasons::{header_reason, limit_reason, order_reason, output_reason};
 use crate::shown::write_line;
 use smx_text::{Cause, TextFault};
 use smx_types::Version;
@@ -11,7 +13,8 @@ use std::fmt;
 
 /// A text and its fault. It prints two lines: at most 80 columns of the malformed line, with its number, and what is
 /// wrong with it. If the line is not valid in such a text by itself, the second line says from which column on, and
-/// what was expected there; the first line then shows that column.
+/// what was expected there; the first line then shows that column. A third line follows if there is something that may
+/// help: the word of another version, a similar word, or that the line is one of another text.
 #[derive(Clone, Copy)]
 pub struct FaultExplanation<'a> {
     /// The text that was expected.
@@ -27,7 +30,7 @@ impl FaultExplanation<'_> {
     // Returns the column in which the line becomes invalid, if it is malformed by itself.
     fn column(&self, line: &[u8]) -> Option<LineColumn> {
         match self.fault.cause {
-            Cause::Form => column_of(self.kind, version_of(self.text), line),
+            Cause::Form => column_of(self.kind.lines(), version_of(self.text), line),
             Cause::Header | Cause::Many | Cause::Cut | Cause::Trailing | Cause::NoMemory => None,
         }
     }
@@ -51,7 +54,10 @@ impl fmt::Display for FaultExplanation<'_> {
         let line = line_at(self.text, number);
         write!(f, "line {number}: ")?;
         match self.column(line) {
-            Some(at) => write_column(f, line, at),
+            Some(at) => {
+                write_column(f, line, at)?;
+                write_hint(f, version_of(self.text), line, at)
+            }
             None => {
                 write_line(f, line, 1)?;
                 writeln!(f, "\n{}", self.reason(line))
@@ -68,18 +74,33 @@ fn version_of(text: &[u8]) -> Version {
     }
 }
 
-// Writes a malformed line, and below it the column in which it becomes invalid and what is expected there. If a space
-// at the end is all that is wrong with the line, says so.
+// Writes a malformed line, and below it the column in which it becomes invalid and what is expected there.
 fn write_column<W: fmt::Write>(
     f: &mut fmt::Formatter<W>,
     line: &[u8],
     at: LineColumn,
 ) -> fmt::Result {
-    let LineColumn { column, wanted } = at;
-    write_line(f, line, column)?;
-    write!(f, "\ncolumn {column}: {wanted} is wanted")?;
-    if wanted == Wanted::Choice(Choice::End) && line.len() < column {
-        f.write_str(", with no space before it")?;
+    write_line(f, line, at.column)?;
+    let words = ColumnWords {
+        at,
+        len: line.len(),
+    };
+    writeln!(f, "\n{words}")
+}
+
+// Writes the line of what may help with a malformed line, if there is something.
+fn write_hint<W: fmt::Write>(
+    f: &mut fmt::Formatter<W>,
+    version: Version,
+    line: &[u8],
+    at: LineColumn,
+) -> fmt::Result {
+    if let Some(reason) = output_reason(line) {
+        return writeln!(f, "{reason}");
     }
-    f.write_str("\n")
+    let word = word_at(line, at.column);
+    match hint_of(version, at.wanted, word) {
+        Some(hint) => writeln!(f, "{hint}"),
+        None => Ok(()),
+    }
 }

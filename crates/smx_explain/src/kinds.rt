@@ -5,11 +5,19 @@ ghost use Rattle.smx_explain.specs.WantedWords.{choice_words, value_words};
 
 use std::fmt;
 
-/// The text that a line belongs to.
+/// The kinds of texts.
 #[derive(Clone, Copy, Debug, PartialEq, Eq)]
 pub enum TextKind {
     Programs,
     Transcript,
+}
+
+/// The text that a line belongs to, or a session that reads it.
+#[derive(Clone, Copy, Debug, PartialEq, Eq)]
+pub enum LineKind {
+    Programs,
+    Transcript,
+    Session,
 }
 
 /// The kinds of words that give a value.
@@ -34,8 +42,14 @@ pub enum Choice {
     ProgramsLine,
     /// The first word of a line of a transcript.
     TranscriptLine,
+    /// The first word of a line of a session.
+    SessionLine,
     /// The first word of an entry's command.
     Command,
+    /// The first word of a session's command.
+    SessionCommand,
+    /// Whether a session begins or ends to trace entries.
+    Switch,
     /// The sign between a command and its reply.
     Equals,
     /// The first word of a reply.
@@ -59,6 +73,16 @@ pub enum Choice {
 pub enum Wanted {
     Value(Value),
     Choice(Choice),
+}
+
+impl TextKind {
+    /// Returns the kind of its lines.
+    pub fn lines(self) -> LineKind {
+        match self {
+            TextKind::Programs => LineKind::Programs,
+            TextKind::Transcript => LineKind::Transcript,
+        }
+    }
 }
 
 impl Value {
@@ -92,7 +116,9 @@ impl Choice {
                 "'driver', a process from 0 to 63, 'config', 'next', 'fd', 'link', 'bind', 'route', 'msg', \
                     'full', 'end', or in version 2 'hung'"
             }
-            Choice::Command => "a command, or in version 2 'hangup'",
+            Choice::SessionLine => "'show', 'trace', 'end', or a process from 0 to 63",
+            Choice::Command | Choice::SessionCommand => "a command, or in version 2 'hangup'",
+            Choice::Switch => "'on' or 'off'",
             Choice::Equals => "'='",
             Choice::Reply => "'fd', 'id', 'took', 'got', 'done', an error, or in version 2 'eof'",
             Choice::BadDescriptor => "'fd'",

@@ -1,27 +1,26 @@
 //! Laws of columns, each the contract of a function that does nothing.
 
-ghost use Rattle.std.specs.Prelude.{◌≡◌, ◌↔◌, ℕ, List, codes};
+ghost use Rattle.std.specs.Prelude.{◌≡◌, ℕ, List, [], Some, codes};
+ghost use Rattle.smx_explain.specs.Hints.{IsHeader, IsHintOn};
+ghost use Rattle.smx_explain.specs.declared.hints.Hint.TheVariants.{LaterVersion, SmallLetters};
+ghost use Rattle.smx_explain.specs.declared.kinds.TextKind.TheVariants as text;
+ghost use Rattle.smx_explain.specs.declared.kinds.Wanted.TheVariants as wanted;
 ghost use Rattle.smx_types.specs.declared.version.Version.{Version as AnyVersion};
 ghost use Rattle.smx_types.specs.declared.version.Version.TheVariants.{V1, V2};
-ghost use Rattle.smx_explain.specs.Columns.{EndsThere, IsColumn, IsWanted, IsWhole};
+ghost use Rattle.smx_explain.specs.ColumnWords.{IsExplanationOf};
+ghost use Rattle.smx_explain.specs.Columns.{IsColumn, IsWhole};
 ghost use Rattle.smx_explain.specs.WorkedColumns.{choice_at, value_at};
 ghost use Rattle.smx_explain.specs.declared.kinds.Choice.TheVariants as choice;
-ghost use Rattle.smx_explain.specs.declared.kinds.TextKind.{TextKind as AnyKind};
-ghost use Rattle.smx_explain.specs.declared.kinds.TextKind.TheVariants.{Programs, Transcript};
+ghost use Rattle.smx_explain.specs.declared.kinds.LineKind.{LineKind as AnyKind};
+ghost use Rattle.smx_explain.specs.declared.kinds.LineKind.TheVariants.{Programs, Transcript, Session};
 ghost use Rattle.smx_explain.specs.declared.kinds.Value.TheVariants as value;
 ghost use Rattle.smx_explain.specs.declared.columns.LineColumn.{LineColumn as AnyColumn};
 
-/// Every line is either valid or becomes invalid in some column, never both. There is only one such column, with the
-/// same allowed words; and it is determined whether the line may end there.
+/// Every line is either valid or becomes invalid in some column, never both. Any two answers for a line are the same:
+/// they agree in the column and in what is expected there.
 pub fn a_line_has_one_column()
     ensures column { (kind : AnyKind) (version : AnyVersion) (line : List ℕ) (one other : AnyColumn)
-        → IsColumn kind version line one → IsColumn kind version line other → one.column ≡ other.column }
-    ensures words { (kind : AnyKind) (version : AnyVersion) (line : List ℕ) (one other : AnyColumn)
-        → IsColumn kind version line one → IsColumn kind version line other → (word : List ℕ)
-        → IsWanted version one.wanted word ↔ IsWanted version other.wanted word }
-    ensures ends { (kind : AnyKind) (version : AnyVersion) (line : List ℕ) (one other : AnyColumn)
-        → IsColumn kind version line one → IsColumn kind version line other
-        → EndsThere one.wanted ↔ EndsThere other.wanted }
+        → IsColumn kind version line one → IsColumn kind version line other → one ≡ other }
     ensures not_both { (kind : AnyKind) (version : AnyVersion) (line : List ℕ) (at : AnyColumn)
         → IsColumn kind version line at → IsWhole kind version line → ⊥ }
 {}
@@ -37,4 +36,33 @@ pub fn worked_columns()
     ensures no_equals { IsColumn Transcript V2 (codes "0 exit done") (choice_at 8 choice.Equals) }
     ensures other_cause { IsColumn Transcript V1 (codes "0 exit = EBADF full") (choice_at 16 choice.BadDescriptor) }
     ensures serials { IsWhole Transcript V1 (codes "0 exit = done 7 5") }
+    ensures misspelt { IsColumn Session V2 (codes "0 wirte 0 5 aa") (choice_at 3 choice.SessionCommand) }
+    ensures reply_too_many { IsColumn Session V1 (codes "1 clone ip = fd 0 0") (choice_at 12 choice.End) }
+    ensures show { IsWhole Session V1 (codes "show") }
+    ensures trace_on { IsWhole Session V1 (codes "trace on") }
+    ensures trace_off { IsWhole Session V1 (codes "trace off") }
+    ensures end { IsWhole Session V1 (codes "end") }
+    ensures no_switch { IsColumn Session V1 (codes "trace") (choice_at 7 choice.Switch) }
+{}
+
+/// A line of a session has only one explanation, which is empty exactly if the line is a request.
+pub fn a_line_has_one_explanation()
+    ensures one { (version : AnyVersion) (line one other : List ℕ) → IsExplanationOf version line one
+        → IsExplanationOf version line other → one ≡ other }
+    ensures request { (version : AnyVersion) (line : List ℕ) → IsWhole Session version line
+        → IsExplanationOf version line [] }
+    ensures other { (version : AnyVersion) (line : List ℕ) → IsExplanationOf version line []
+        → IsWhole Session version line }
+{}
+
+/// Worked explanations of lines, typed in by hand.
+pub fn worked_explanations()
+    ensures no_request { IsExplanationOf V2 (codes "x")
+        (codes "  column 1: 'show', 'trace', 'end', or a process from 0 to 63 is wanted\n") }
+    ensures misspelt { IsExplanationOf V2 (codes "0 wirte 0 5 aa")
+        (codes "  column 3: a command, or in version 2 'hangup' is wanted\n  did you mean 'write'?\n") }
+    ensures later { IsHintOn V1 (wanted.Choice choice.Command) (codes "hangup") (Some LaterVersion) }
+    ensures capitals { IsHintOn V2 (wanted.Value value.Bytes) (codes "AA") (Some SmallLetters) }
+    ensures programs { IsHeader text.Programs (codes "programs 2") }
+    ensures transcript { IsHeader text.Transcript (codes "transcript 2") }
 {}

@@ -6,6 +6,7 @@ ghost use Rattle.smx_config.specs.Verdicts.{IsVerdict};
 ghost use Rattle.smx_config.specs.declared.verdict.Verdict.TheVariants.{ConfigDiffers, Legal};
 ghost use Rattle.smx_explain.specs.Differences.{AreAlike, IsFirstDifference, IsFirstLine};
 ghost use Rattle.smx_explain.specs.Explanations.{IsExplanation, difference_text};
+ghost use Rattle.smx_model.specs.DriverList.{IsDriverList};
 ghost use Rattle.smx_model.specs.Histories.{after};
 ghost use Rattle.smx_model.specs.IllegalEntries.{IsFirstIllegal};
 ghost use Rattle.smx_trace.specs.Answers.{answered};
@@ -45,12 +46,14 @@ pub fn a_transcript_has_one_explanation()
     a_transcript_has_one_replay();
 }
 
-/// The explanation is empty exactly if the verdict is `legal`.
+/// The explanation is empty exactly if the verdict is `legal`. So a legal transcript needs no replay to be explained.
 pub fn a_legal_transcript_needs_none()
     ensures legal { (t : Transcript) (output : List ℕ) → IsExplanation t output
         → IsVerdict t.drivers t.entries t.view Legal → output ≡ [] }
     ensures other { (t : Transcript) (output : List ℕ) → IsExplanation t output → output ≡ []
         → IsVerdict t.drivers t.entries t.view Legal }
+    ensures none { (t : Transcript) → IsAllowed t.version t → IsDriverList t.drivers
+        → IsVerdict t.drivers t.entries t.view Legal → IsExplanation t [] }
 {
     a_transcript_has_one_replay();
     replays_are_the_legal_transcripts();

@@ -2,18 +2,25 @@
 //! text, by the column in which its line becomes invalid.
 #![tactic(auto)]
 
+mod column_words;
 mod columns;
 mod differences;
+mod drivers;
 mod explaining;
 mod fault;
+mod hints;
 mod kinds;
 pub mod laws_of_columns;
 pub mod laws_of_explanations;
 mod lines;
+mod near;
 mod reasons;
 mod rows;
+mod session_line;
 mod shown;
 
+pub use drivers::DriverExplanation;
 pub use explaining::explain;
 pub use fault::FaultExplanation;
 pub use kinds::TextKind;
+pub use session_line::explain_line;

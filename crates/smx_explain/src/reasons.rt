@@ -1,19 +1,56 @@
 //! Why a text is refused, if no word of the malformed line is reported.
 
+ghost use Rattle.std.specs.Prelude.{◌≡◌, ◌⊎◌, MatchBool, MatchOption};
+ghost use Rattle.smx_explain.specs.Hints.{IsHeader};
+ghost use Rattle.smx_explain.specs.declared.kinds.TextKind.TheVariants as kind;
+
 use crate::kinds::TextKind;
 use smx_types::Version;
 
 /// Returns the reason for a first line that is the header of the other text, or of neither.
 pub fn header_reason(kind: TextKind, line: &[u8]) -> &'static str {
-    match (kind, line) {
-        (TextKind::Programs, b"transcript 1" | b"transcript 2") => {
+    match (kind, kind_of(line)) {
+        (TextKind::Programs, Some(TextKind::Transcript)) => {
             "this is a transcript, for 'muxsim check', 'muxsim replay' or 'muxsim draw'"
         }
-        (TextKind::Transcript, b"programs 1" | b"programs 2") => {
-            "these are programs, for 'muxsim run'"
-        }
+        (TextKind::Transcript, Some(TextKind::Programs)) => "these are programs, for 'muxsim run'",
         (TextKind::Programs, _) => "the first line has to be 'programs 1' or 'programs 2'",
         (TextKind::Transcript, _) => "the first line has to be 'transcript 1' or 'transcript 2'",
+    }
+}
+
+/// Returns the kind of the text that has this first line, if it is the header of one.
+pub fn kind_of(line: &[u8]) -> Option<TextKind>
+    ensures { MatchOption result ((IsHeader kind.Programs line.now → ⊥) × (IsHeader kind.Transcript line.now → ⊥))
+        (λ kind. IsHeader kind line.now) }
+{
+    if is_one_of(line, "programs 1", "programs 2") {
+        Some(TextKind::Programs)
+    } else if is_one_of(line, "transcript 1", "transcript 2") {
+        Some(TextKind::Transcript)
+    } else {
+        None
+    }
+}
+
+// Returns whether a line is one of two.
+fn is_one_of(line: &[u8], one: &str, other: &str) -> bool
+    ensures { MatchBool result ((line.now ≡ one.now) ⊎ (line.now ≡ other.now))
+        ((line.now ≡ one.now) ⊎ (line.now ≡ other.now) → ⊥) }
+{
+    line == one.as_bytes() || line == other.as_bytes()
+}
+
+/// Returns what to leave out of the output of a session or of a trace, if a malformed line is one that only these have.
+pub fn output_reason(line: &[u8]) -> Option<&'static str> {
+    match line {
+        b"shown" | [b'?', ..] => Some(
+            "this is the output of a session: leave out the lines with '?', and from 'config' to 'shown'",
+        ),
+        [b' ', b' ', ..] => {
+            Some("this is a trace: leave out the lines that begin with two spaces")
+        }
+        _ => None,
     }
 }
 

@@ -98,6 +98,19 @@ const TRANSCRIPT_LINES: [(&str, &[Value], Choice); 10] = [
     ("end", &[], Choice::End),
 ];
 
+// The first words of the lines of a session, except processes.
+const SESSION_LINES: [(&str, &[Value], Choice); 3] = [
+    ("show", &[], Choice::End),
+    ("trace", &[], Choice::Switch),
+    ("end", &[], Choice::End),
+];
+
+// The words after `trace`.
+const SWITCHES: [(&str, &[Value], Choice); 2] = [
+    ("on", &[], Choice::End),
+    ("off", &[], Choice::End),
+];
+
 // The commands of an entry.
 const COMMANDS: [(&str, &[Value], Choice); 18] = [
     ("clone", &[Value::Name], Choice::Equals),
@@ -215,26 +228,28 @@ fn find(rows: &'static [(&'static str, &'static [Value], Choice)], word: &[u8]) 
     None
 }
 
-// Returns the rows of a choice in both versions.
-fn rows(choice: Choice) -> &'static [(&'static str, &'static [Value], Choice)]
+/// Returns the rows of a choice in both versions.
+pub fn rows(choice: Choice) -> &'static [(&'static str, &'static [Value], Choice)]
     ensures { rows_of result.now ≡ rows choice }
 {
     match choice {
         Choice::ProgramsLine => &PROGRAMS_LINES,
         Choice::TranscriptLine => &TRANSCRIPT_LINES,
+        Choice::SessionLine => &SESSION_LINES,
         Choice::Command => &COMMANDS,
+        Choice::Switch => &SWITCHES,
         Choice::Equals => &EQUALS,
         Choice::Reply => &REPLIES,
         Choice::BadDescriptor => &BAD_DESCRIPTOR,
         Choice::Invalid => &INVALID,
         Choice::Again => &AGAIN,
         Choice::NoDevice => &NO_DEVICE,
-        Choice::Serials | Choice::End => &[],
+        Choice::SessionCommand | Choice::Serials | Choice::End => &[],
     }
 }
 
-// Returns the rows that only version 2 adds.
-fn later_rows(choice: Choice) -> &'static [(&'static str, &'static [Value], Choice)]
+/// Returns the rows that only version 2 adds.
+pub fn later_rows(choice: Choice) -> &'static [(&'static str, &'static [Value], Choice)]
     ensures { rows_of result.now ≡ later_rows choice }
 {
     match choice {
@@ -243,6 +258,9 @@ fn later_rows(choice: Choice) -> &'static [(&'static str, &'static [Value], Choi
         Choice::Reply => &EOF,
         Choice::NoDevice => &HUNG_UP,
         Choice::ProgramsLine
+        | Choice::SessionLine
+        | Choice::SessionCommand
+        | Choice::Switch
         | Choice::Equals
         | Choice::BadDescriptor
         | Choice::Invalid
@@ -311,10 +329,12 @@ fn other(version: Version, choice: Choice, word: &[u8]) -> Option<FoundRow>
         (λ row. IsOther version choice word.now row.values.now row.next) }
 {
     match choice {
-        Choice::ProgramsLine => command(version, word),
+        Choice::ProgramsLine | Choice::SessionCommand => command(version, word),
         Choice::TranscriptLine => then(Value::Process, word, Choice::Command),
+        Choice::SessionLine => then(Value::Process, word, Choice::SessionCommand),
         Choice::Serials => then(Value::Number, word, Choice::Serials),
         Choice::Command
+        | Choice::Switch
         | Choice::Equals
         | Choice::Reply
         | Choice::BadDescriptor
@@ -325,7 +345,7 @@ fn other(version: Version, choice: Choice, word: &[u8]) -> Option<FoundRow>
     }
 }
 
-// Returns how a line of programs goes on after the first word of a command.
+// Returns how a line goes on after the first word of a command without a reply.
 fn command(version: Version, word: &[u8]) -> Option<FoundRow>
     ensures { MatchOption result
         ((values : List AnyValue) → IsFixed version AnyChoice.Command word.now values AnyChoice.Equals → ⊥)
@@ -383,7 +403,10 @@ pub fn may_end(choice: Choice) -> bool
         Choice::Serials | Choice::End => true,
         Choice::ProgramsLine
         | Choice::TranscriptLine
+        | Choice::SessionLine
         | Choice::Command
+        | Choice::SessionCommand
+        | Choice::Switch
         | Choice::Equals
         | Choice::Reply
         | Choice::BadDescriptor

@@ -4,6 +4,7 @@ mod broken;
 mod devices;
 mod faults;
 mod jobs;
+mod kept;
 mod lives;
 mod reading;
 mod sessions;

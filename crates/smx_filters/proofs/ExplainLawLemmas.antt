@@ -1,17 +1,18 @@
 -- The explanation beside the verdict of a check, and what is kept of an input in memory.
 use Rattle.std.proofs.Common.{◌≡◌, ℕ, ◌++◌, Bool, true, false, List, [], Option, Some, None, Err, Vec, refl}
-use Rattle.std.proofs.Common.{sym, subst, ◌∙◌, append-nil}
+use Rattle.std.proofs.Common.{sym, subst, ◌∙◌, append-nil, inl, inr}
 use Rattle.std.specs.Global.{Global}
 use Rattle.smx_types.specs.declared.transcript.Transcript.{Transcript}
-use Rattle.smx_text.specs.declared.text_fault.TextFault.{TextFault}
 use Rattle.smx_config.specs.Verdicts.{IsVerdict}
 use Rattle.smx_config.specs.declared.verdict.Verdict.{Verdict}
 use Rattle.smx_config.specs.declared.verdict.Verdict.TheVariants.{Legal}
 use Rattle.smx_explain.specs.Explanations.{IsExplanation}
+use Rattle.smx_run.specs.declared.run_fault.RunFault.TheVariants as run
 use Rattle.smx_filters.specs.CheckText.{checking}
-use Rattle.smx_filters.specs.ExplainText.{IsKept, KeepsText, judging}
+use Rattle.smx_filters.specs.ExplainText.{IsKept, KeepsText, is_in_text, judging}
 use Rattle.smx_filters.specs.Filters.{Filter, GivesFor}
-use Rattle.smx_filters.specs.declared.main_fault.MainFault.TheVariants.{Text}
+use Rattle.smx_filters.specs.declared.main_fault.MainFault.{MainFault}
+use Rattle.smx_filters.specs.declared.main_fault.MainFault.TheVariants.{Refused, Text, TooLong, ReadFailed, WriteFailed}
 use Rattle.smx_filters.specs.declared.refusal.Refusal.{Refusal}
 
 -- the explanation of a legal transcript is empty
@@ -41,11 +42,27 @@ is_there : (kept : Option (Vec ℕ Global)) (read input : List ℕ) → IsKept k
 is_there None read input kept same = absurd kept
 is_there (Some text) read input kept same = (text, refl, kept ∙ sym same)
 
--- if the text of an input in memory is malformed, all of it is there to be shown
+-- if the fault is in the text of an input in memory, all of the text is there to be shown
 pub keeps_all : {V K T : Type 0} (f : Filter V K T) (input : List ℕ) (left before after : Option (List ℕ))
-    (ended flushed : Bool)
-    (reads writes : ℕ) (refusal : Refusal) (fault : TextFault)
-    → KeepsText f (Some input) left ended reads before after flushed writes (Err refusal) → refusal.fault ≡ Text fault
+    (ended flushed : Bool) (reads writes : ℕ) (refusal : Refusal)
+    → KeepsText f (Some input) left ended reads before after flushed writes (Err refusal)
+    → is_in_text refusal.fault ≡ true
     → (text : Vec ℕ Global) × (refusal.text ≡ Some text) × (text.items ≡ input)
-keeps_all f input left before after ended flushed reads writes refusal fault h is =
-    is_there refusal.text h.filtered.read input (h.kept fault is) (h.filtered.text fault is).0.1
+keeps_all f input left before after ended flushed reads writes refusal h shown =
+    is_there refusal.text h.filtered.read input (h.kept shown) (was_read refusal.fault refl shown) where
+      was_read : (fault : MainFault) → refusal.fault ≡ fault → is_in_text fault ≡ true → input ≡ h.filtered.read
+      was_read (Text fault) is so = (h.filtered.text fault is).0.1
+      was_read (Refused (run.ConfigFault fault)) is so = elim (h.filtered.refused (run.ConfigFault fault) is) [
+        | inl read ↦ read.0.1
+        | inr (none, unread) ↦ absurd (cc none)
+      ]
+      was_read (Refused run.NoMemory) is so = absurd cc
+      was_read (Refused run.NoThread) is so = absurd cc
+      was_read (Refused (run.Strange process)) is so = absurd cc
+      was_read (Refused run.HistoryFull) is so = absurd cc
+      was_read (Refused run.Held) is so = absurd cc
+      was_read (Refused (run.FewEntries count)) is so = absurd cc
+      was_read (Refused (run.LongPage count)) is so = absurd cc
+      was_read TooLong is so = absurd cc
+      was_read ReadFailed is so = absurd cc
+      was_read WriteFailed is so = absurd cc

@@ -1,20 +1,22 @@
 -- The explanation of a transcript, and the texts that are kept.
-use Rattle.std.proofs.Common.{◌≡◌, ℕ, ◌++◌, Bool, List, Option, None, Result, Ok, Err, Vec, refl, sym, ap}
+use Rattle.std.proofs.Common.{◌≡◌, ℕ, ◌++◌, Bool, true, false, List, Option, None, Result, Ok, Err, Vec, refl, sym, ap}
 use Rattle.std.proofs.Common.{subst, ◌∙◌}
-use Rattle.std.specs.Prelude.{IsErrAnd}
 use Rattle.std.specs.Global.{Global}
+use Rattle.std.specs.Io.KnownBytes.{Appends}
+use Rattle.std.specs.Prelude.{IsErrAnd}
 use Rattle.smx_types.specs.declared.transcript.Transcript.{Transcript}
-use Rattle.smx_text.specs.declared.text_fault.TextFault.{TextFault}
 use Rattle.smx_config.specs.declared.verdict.Verdict.{Verdict}
 use Rattle.smx_explain.specs.Explanations.{IsExplanation}
-use Rattle.smx_run.specs.declared.run_fault.RunFault.{RunFault}
 use Rattle.smx_filters.specs.CheckText.{IsJudged}
-use Rattle.smx_filters.specs.ExplainText.{IsExplained, IsKept, KeepsText}
-use Rattle.smx_filters.specs.Filters.{Answers, Filter}
+use Rattle.smx_filters.specs.ExplainText.{IsExplained, IsKept, KeepsText, is_in_text}
+use Rattle.smx_filters.specs.Filters.{Answers, Filter, GivesFor}
 use Rattle.smx_filters.specs.Input.{IsInput}
-use Rattle.smx_filters.specs.declared.main_fault.MainFault.TheVariants.{Refused, Text}
+use Rattle.smx_filters.specs.Output.{AppendsBeginning}
+use Rattle.smx_filters.specs.declared.main_fault.MainFault.{MainFault}
+use Rattle.smx_filters.specs.declared.main_fault.MainFault.TheVariants.{WriteFailed}
 use Rattle.smx_filters.specs.declared.refusal.Refusal.{Refusal}
 use Rattle.smx_filters.proofs.FilterLemmas.{are_read, at_answer}
+use Rattle.smx_filters.proofs.WritingFilterLemmas.{written_out}
 
 -- ---- a verdict
 
@@ -28,29 +30,49 @@ is_explained t verdict line told output judged explained written = record {
   written = written ∙ ap (λ (front : List ℕ). front ++ told) judged.written;
 }
 
--- ---- a malformed text
+-- ---- a text that is kept
 
 module _ {V K T : Type 0} (f : Filter V K T) (had left : Option (List ℕ)) (ended : Bool) (failures : ℕ)
     (held : Option (List ℕ)) (flushed : Bool) (written : ℕ) (v : Vec ℕ Global) (read : List ℕ)
     (h : IsInput had left ended failures (Ok v) read) (fine : written ≡ 0) where
-  -- the filter fails on what was read, which is kept exactly if it is malformed
-  pub kept_so : (r : Refusal) → Answers f v.items (Err r.fault)
-      → ((fault : TextFault) → r.fault ≡ Text fault → IsKept r.text v.items)
-      → ((fault : RunFault) → r.fault ≡ Refused fault → r.text ≡ None)
+  -- the filter fails with this fault on what was read, which is kept if the fault is in it
+  pub kept_so : (r : Refusal) (e : MainFault) → r.fault ≡ e → Answers f v.items (Err e)
+      → (is_in_text e ≡ true → IsKept r.text v.items) → (is_in_text e ≡ false → r.text ≡ None)
       → KeepsText f had left ended failures held held flushed written (Err r)
-  kept_so r a keeps gives_up = record {
-    filtered = at_answer f had left ended failures held flushed written v read h fine r.fault a;
-    kept = λ fault same. subst (IsKept r.text)
-        (are_read f had left ended failures held flushed written v read h fine r.fault a) (keeps fault same);
-    given_up = gives_up;
+  kept_so r e is a keeps gives_up =
+      let said : Answers f v.items (Err r.fault) = subst (λ (x : MainFault). Answers f v.items (Err x)) (sym is) a in
+      let same = are_read f had left ended failures held flushed written v read h fine r.fault said in
+      record {
+        filtered = at_answer f had left ended failures held flushed written v read h fine r.fault said;
+        kept = λ so. subst (IsKept r.text) same (keeps (sym (ap is_in_text is) ∙ so));
+        given_up = λ so. gives_up (sym (ap is_in_text is) ∙ so);
+      }
+
+module _ {V K : Type 0} (f : Filter V K (Unit {0})) (had left : Option (List ℕ)) (ended : Bool) (failures : ℕ)
+    (before after : Option (List ℕ)) (flushed : Bool) (written : ℕ) (v : Vec ℕ Global)
+    (read : List ℕ) (h : IsInput had left ended failures (Ok v) read) (bytes : List ℕ)
+    (given : GivesFor f v.items tt bytes) where
+  -- what the filter gives was written
+  pub kept_when_written : (done : Unit {0}) → Appends before after bytes → flushed ≡ true → written ≡ 0
+      → KeepsText f had left ended failures before after flushed written (Ok done)
+  kept_when_written done appended out fine = record {
+    filtered = written_out f had left ended failures before after flushed written v read h bytes given (Ok done)
+        appended out fine tt tt tt;
+    kept = tt;
+    given_up = tt;
   }
 
-  -- a `?` passes that failure on unchanged
-  pub kept_on : (r : Refusal) (answer : Result T Refusal) → IsErrAnd answer (λ x. x ≡ r)
-      → Answers f v.items (Err r.fault) → ((fault : TextFault) → r.fault ≡ Text fault → IsKept r.text v.items)
-      → ((fault : RunFault) → r.fault ≡ Refused fault → r.text ≡ None)
-      → KeepsText f had left ended failures held held flushed written answer
-  kept_on r (Ok done) is a keeps gives_up = absurd is
-  kept_on r (Err x) is a keeps gives_up =
-      subst (λ (y : Refusal). KeepsText f had left ended failures held held flushed written (Err y)) (sym is)
-      (kept_so r a keeps gives_up)
+  -- writing failed, so nothing is kept
+  pub kept_when_cut_short : (e : MainFault) (answer : Result (Unit {0}) Refusal)
+      → IsErrAnd answer (λ r. r ≡ record { fault = e; text = None }) → AppendsBeginning before after bytes
+      → e ≡ WriteFailed → written ≡ 1
+      → KeepsText f had left ended failures before after flushed written answer
+  kept_when_cut_short e (Ok done) is beginning fault failed = absurd is
+  kept_when_cut_short e (Err r) is beginning fault failed =
+      let same : r.fault ≡ WriteFailed = ap (λ (x : Refusal). x.fault) is ∙ fault in
+      record {
+        filtered = written_out f had left ended failures before after flushed written v read h bytes given
+            (Err r.fault) tt tt tt beginning same failed;
+        kept = λ shown. let no : false ≡ true = sym (ap is_in_text same) ∙ shown in absurd cc;
+        given_up = λ unseen. ap (λ (x : Refusal). x.text) is;
+      }

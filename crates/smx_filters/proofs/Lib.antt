@@ -8,6 +8,7 @@ pub mod InVersionLemmas
 pub mod ReadingLemmas
 pub mod ReplayTextLemmas
 pub mod TraceTextLemmas
+pub mod RunTextLemmas
 pub mod WritingFilterLemmas
 pub mod DrawTextLemmas
 pub mod ExplainTextLemmas
@@ -15,3 +16,4 @@ pub mod OneProcessLemmas
 pub mod AnswerLemmas
 pub mod FrontsLawLemmas
 pub mod ExplainLawLemmas
+pub mod StepsTextLemmas

@@ -100,11 +100,13 @@ gives told first at bytes input same t part read is enough text written =
 not_of_entries : (at : Option ℕ) (t : Transcript) (fault : RunFault) → (IsPastEnd at t → ⊥)
     → RefusesAlone t.drivers fault → RefusesPart at t fault
 not_of_entries at t run.NoMemory enough h = (enough, h)
+not_of_entries at t run.NoThread enough h = (enough, h)
 not_of_entries at t (run.Strange p) enough h = (enough, h)
 not_of_entries at t (run.ConfigFault f) enough h = (enough, h)
 not_of_entries at t run.HistoryFull enough h = (enough, h)
 not_of_entries at t run.Held enough h = (enough, h)
 not_of_entries at t (run.FewEntries count) enough h = absurd h
+not_of_entries at t (run.LongPage count) enough h = (enough, h)
 
 -- more entries are asked for than there are
 pub few_refused : (at : Option ℕ) (bytes input : List ℕ) → bytes ≡ input → (t : Transcript)

@@ -5,11 +5,10 @@ use Rattle.std.specs.Global.{Global}
 use Rattle.smx_types.specs.declared.transcript.Transcript.{Transcript}
 use Rattle.smx_text.specs.TranscriptLines.{TranscriptLine}
 use Rattle.smx_text.specs.TranscriptText.{transcript_grammar}
-use Rattle.smx_text.specs.declared.text_fault.TextFault.{TextFault}
 use Rattle.smx_config.specs.declared.verdict.Verdict.{Verdict}
 use Rattle.smx_explain.specs.Explanations.{IsExplanation}
 use Rattle.smx_run.specs.RunFaults.{RefusesAlone}
-use Rattle.smx_run.specs.declared.run_fault.RunFault.{RunFault}
+use Rattle.smx_run.specs.declared.run_fault.RunFault.TheVariants as run
 use Rattle.smx_filters.specs.CheckText.{IsJudged, checking, verdict_line}
 use Rattle.smx_filters.specs.Filters.{Filter, FiltersText}
 use Rattle.smx_filters.specs.declared.main_fault.MainFault.{MainFault}
@@ -47,7 +46,13 @@ abbrev pub explained_of : Result (Verdict × Vec ℕ Global) MainFault → Resul
 explained_of (Ok explained) = Ok (explained.0, explained.1.items)
 explained_of (Err e) = Err e
 
--- ---- a malformed text
+-- ---- a text that is kept
+
+-- the fault is one of the text, or of its drivers, so it can be shown in the text
+abbrev pub is_in_text : MainFault → Bool
+is_in_text (Text fault) = true
+is_in_text (Refused (run.ConfigFault fault)) = true
+is_in_text other = false
 
 -- there is a text, and it is this one
 abbrev pub IsKept : Option (Vec ℕ Global) → List ℕ → Type 0
@@ -59,13 +64,13 @@ abbrev pub answer_of : {T : Type 0} → Result T Refusal → Result T MainFault
 answer_of (Ok answer) = Ok answer
 answer_of (Err refusal) = Err refusal.fault
 
--- a filter from bytes to bytes that keeps a text in which it finds a fault
+-- a filter from bytes to bytes that keeps a text if it finds a fault in it or in its drivers
 pub record KeepsText {V K T : Type 0} (f : Filter V K T) (had left : Option (List ℕ)) (ended : Bool)
     (read_failures : ℕ) (before after : Option (List ℕ)) (flushed : Bool) (write_failures : ℕ)
     (answer : Result T Refusal) : Type 0 where
   -- It answers as the filter does.
   pub filtered : FiltersText f had left ended read_failures before after flushed write_failures (answer_of answer)
-  -- If the text is malformed, all that was read is kept.
-  pub kept : IfErr answer (λ r. (fault : TextFault) → r.fault ≡ Text fault → IsKept r.text filtered.read)
-  -- If drivers are refused or memory runs out, nothing is kept.
-  pub given_up : IfErr answer (λ r. (fault : RunFault) → r.fault ≡ Refused fault → r.text ≡ None)
+  -- If the fault is one of the text or of its drivers, all that was read is kept.
+  pub kept : IfErr answer (λ r. is_in_text r.fault ≡ true → IsKept r.text filtered.read)
+  -- On any other fault nothing is kept.
+  pub given_up : IfErr answer (λ r. is_in_text r.fault ≡ false → r.text ≡ None)

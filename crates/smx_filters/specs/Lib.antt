@@ -12,3 +12,5 @@ pub mod ExplainText
 pub mod WorkedVerdicts
 pub mod WorkedFronts
 pub mod InMemory
+pub mod StepsText
+pub mod WorkedStatuses

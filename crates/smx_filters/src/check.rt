@@ -17,8 +17,8 @@ use std::alloc::{AllocError, Global};
 
 /// Reads a transcript from `feed`, judges it, and writes the line of the verdict to `sink`: `legal N`, for N entries;
 /// `illegal K`, if entry K, counted from 1, is the first with a wrong reply; or `config differs`, if only the
-/// configuration shown is wrong. Requires that neither device has failed before and that the feed has not ended.
-/// Reads at most 16,777,217 bytes. Checks for faults in this order: reading, text, drivers, judging, writing.
+/// configuration shown is wrong. Requires that neither `feed` nor `sink` has failed before and that the feed has not
+/// ended. Reads at most 16,777,217 bytes. Checks for faults in this order: reading, text, drivers, judging, writing.
 pub fn check_text<F: Feed, S: Sink>(
     alloc: Global,
     feed: &mut F,

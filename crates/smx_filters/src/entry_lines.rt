@@ -68,12 +68,12 @@ impl EntrySink for EntryLines {
         }
     }
 
-    fn add(&mut self, process: Process, command: Command, reply: Reply) {
-        let entry = GhostValue::<Entry>::new(&(process, &command, &reply));
+    fn add(&mut self, process: Process, command: &mut Command, reply: &mut Reply) {
+        let entry = GhostValue::<Entry>::new(&(process, &*command, &*reply));
         self.entries = GhostValue::new(&(&self.entries, &entry));
         self.count += 1;
         if let Some(lines) = &mut self.lines {
-            if add_entry_line(lines, process, &command, &reply).is_err() {
+            if add_entry_line(lines, process, command, reply).is_err() {
                 self.lines = None;
             }
         }

@@ -1,10 +1,15 @@
-//! A check and a run from bytes to bytes, whose faults are explained.
+//! Filters from bytes to bytes that keep a text whose fault is to be explained.
 
-ghost use Rattle.std.specs.Prelude.{◌≡◌, ◌≤◌, ◌++◌, false, IfOk};
+ghost use Rattle.std.specs.Prelude.{◌≡◌, ◌≤◌, ◌++◌, false, IfErr, IfOk};
 ghost use Rattle.smx_run.specs.declared.run.TheConstants.{MAX_WORKERS};
 ghost use Rattle.smx_filters.specs.ExplainText.{KeepsText, explained_of, explaining};
 ghost use Rattle.smx_filters.specs.Filters.{Answers};
-ghost use Rattle.smx_filters.specs.RunText.{running};
+ghost use Rattle.smx_config.specs.DriverFaults.{RefusesDrivers};
+ghost use Rattle.smx_config.specs.Verdicts.{IsVerdict};
+ghost use Rattle.smx_explain.specs.Explanations.{IsExplanation};
+ghost use Rattle.smx_model.specs.DriverList.{IsDriverList};
+ghost use Rattle.smx_text.specs.TranscriptText.{SpellsTranscript};
+ghost use Rattle.smx_filters.specs.RunText.{items_of, running};
 
 use crate::check::judged;
 use crate::device::{Feed, Sink};
@@ -12,18 +17,20 @@ use crate::input::read_all;
 use crate::main_fault::MainFault;
 use crate::output::write_all;
 use crate::refusal::{Refusal, kept_for};
-use crate::run::text_of_run;
-use smx_config::Verdict;
+use crate::run::text_of_programs;
+use smx_config::{ConfigFault, Verdict};
 use smx_explain::explain;
+use smx_explain::laws_of_explanations::a_legal_transcript_needs_none;
 use smx_run::Gate;
-use smx_text::read_transcript;
+use smx_text::{read_programs, read_transcript};
+use smx_types::Transcript;
 use std::alloc::{AllocError, Global};
 use std::sync::Wait;
 use std::thread::Threads;
 
 /// Judges the transcript in `feed` as `check_text` does. Writes to `sink` what that writes and, below it, the first
-/// line in which the transcript and its replay differ. Keeps a malformed text. Checks for faults in the order of
-/// `check_text`; those of explaining come with those of judging.
+/// line in which the transcript and its replay differ. Keeps the text if it or its drivers have a fault. Checks for
+/// faults in the order of `check_text`; those of explaining come with those of judging.
 pub fn check_explained<F: Feed, S: Sink>(
     alloc: Global,
     feed: &mut F,
@@ -46,7 +53,8 @@ pub fn check_explained<F: Feed, S: Sink>(
     }
 }
 
-/// Runs the programs in `feed` as `run_text` does, and writes to `sink` what that writes. Keeps a malformed text.
+/// Runs the programs in `feed` as `run_text` does, and writes to `sink` what that writes. Keeps the text if it or its
+/// drivers have a fault.
 pub fn run_explained<R: Threads + Wait + Sync, F: Feed, S: Sink, G: Gate + Sync>(
     rt: &R,
     alloc: Global,
@@ -65,9 +73,10 @@ pub fn run_explained<R: Threads + Wait + Sync, F: Feed, S: Sink, G: Gate + Sync>
         (S.failures sink.new) result }
 {
     let input = read_all(alloc, feed)?;
-    let output = text_of_run(rt, alloc, input, workers, fronts, gate)?;
-    write_all(sink, output.as_slice())?;
-    Ok(())
+    match run_of(rt, alloc, input.as_slice(), workers, fronts, gate) {
+        Ok(output) => Ok(write_all(sink, output.as_slice())?),
+        Err(fault) => Err(kept_for(fault, input)),
+    }
 }
 
 // Judges the transcript that the input spells. Returns the verdict, and its line with the explanation below it.
@@ -76,9 +85,48 @@ fn explained(alloc: Global, input: &[u8]) -> Result<(Verdict, Vec<u8>), MainFaul
 {
     let transcript = read_transcript(alloc, input)?;
     let (verdict, line) = judged(alloc, &transcript)?;
-    let told = explain(alloc, input, transcript)?;
+    let told = told_of(alloc, input, transcript, verdict)?;
     let output = joined(alloc, line.as_bytes(), told.as_slice())?;
     Ok((verdict, output))
+}
+
+// Returns the explanation of the transcript that the input spells, and that has this verdict. Only a verdict other than
+// `legal` takes a replay.
+fn told_of(
+    alloc: Global,
+    input: &[u8],
+    transcript: Transcript,
+    verdict: Verdict,
+) -> Result<Vec<u8>, ConfigFault>
+    requires spelled { SpellsTranscript input.now transcript }
+    requires drivers { IsDriverList transcript.drivers }
+    requires judged { IsVerdict transcript.drivers transcript.entries transcript.view verdict }
+    ensures told { IfOk result (λ told. IsExplanation transcript told.items) }
+    ensures refused { IfErr result (RefusesDrivers transcript.drivers) }
+{
+    a_legal_transcript_needs_none();
+    match verdict {
+        Verdict::Legal => Ok(Vec::new(alloc)),
+        Verdict::Illegal { .. } | Verdict::ConfigDiffers => explain(alloc, input, transcript),
+    }
+}
+
+// Runs the programs that the input spells. Returns the requested text.
+fn run_of<R: Threads + Wait + Sync, G: Gate + Sync>(
+    rt: &R,
+    alloc: Global,
+    input: &[u8],
+    workers: usize,
+    fronts: bool,
+    gate: &G,
+) -> Result<Vec<u8>, MainFault>
+    requires { (1 ≤ workers) × (workers ≤ MAX_WORKERS) }
+    ensures { Answers (running fronts workers) input.now (items_of result) }
+{
+    let programs = read_programs(alloc, input)?;
+    let room = Vec::new(alloc);
+    let text = text_of_programs(rt, alloc, room, programs, workers, fronts, gate)?;
+    Ok(text)
 }
 
 // Joins two slices of bytes.

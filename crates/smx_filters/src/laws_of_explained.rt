@@ -1,13 +1,14 @@
 //! Laws of checks with explanations, and of texts that are kept, each the contract of a function that does nothing.
 
 ghost use Rattle.std.specs.Global.{Global};
-ghost use Rattle.std.specs.Prelude.{◌≡◌, ℕ, ◌++◌, Bool, List, [], Some, None, Result, Err, Vec};
+ghost use Rattle.std.specs.Prelude.{◌≡◌, ℕ, ◌++◌, Bool, false, true, List, [], Some, None, Result, Err, Vec};
+ghost use Rattle.smx_config.specs.declared.config_fault.ConfigFault.{ConfigFault};
 ghost use Rattle.smx_config.specs.declared.verdict.Verdict.{Verdict};
 ghost use Rattle.smx_config.specs.declared.verdict.Verdict.TheVariants.{Legal};
-ghost use Rattle.smx_run.specs.declared.run_fault.RunFault.{RunFault as AnyFault};
+ghost use Rattle.smx_run.specs.declared.run_fault.RunFault.TheVariants as run;
 ghost use Rattle.smx_text.specs.declared.text_fault.TextFault.{TextFault};
 ghost use Rattle.smx_filters.specs.CheckText.{checking};
-ghost use Rattle.smx_filters.specs.ExplainText.{KeepsText, answer_of, explaining, judging};
+ghost use Rattle.smx_filters.specs.ExplainText.{KeepsText, answer_of, explaining, is_in_text, judging};
 ghost use Rattle.smx_filters.specs.Filters.{GivesFor};
 ghost use Rattle.smx_filters.specs.InMemory.{EndsInMemory};
 ghost use Rattle.smx_filters.specs.RunText.{running};
@@ -28,7 +29,8 @@ pub fn an_explained_check_is_a_check()
 }
 
 /// For an input in memory, and devices that don't fail, the results are those of the filter. If the text is
-/// malformed, the whole input is kept. If drivers are refused or memory runs out, nothing is kept.
+/// malformed or its drivers are refused, the whole input is kept. On any other fault, such as out-of-memory, nothing is
+/// kept.
 pub fn faults_are_explained_in_memory()
     ensures check { (input left output : List ℕ) (ended flushed : Bool) (answer : Result Verdict AnyRefusal)
         → KeepsText explaining (Some input) (Some left) ended 0 (Some []) (Some output) flushed 0 answer
@@ -37,16 +39,22 @@ pub fn faults_are_explained_in_memory()
         (answer : Result (Unit {0}) AnyRefusal)
         → KeepsText (running fronts workers) (Some input) (Some left) ended 0 (Some []) (Some output) flushed 0 answer
         → EndsInMemory (running fronts workers) input left ended output flushed (answer_of answer) }
-    ensures check_keeps { (input left output : List ℕ) (ended flushed : Bool) (refusal : AnyRefusal) (fault : TextFault)
+    ensures check_keeps { (input left output : List ℕ) (ended flushed : Bool) (refusal : AnyRefusal)
         → KeepsText explaining (Some input) (Some left) ended 0 (Some []) (Some output) flushed 0 (Err refusal)
-        → refusal.fault ≡ Text fault
+        → is_in_text refusal.fault ≡ true
         → (text : Vec ℕ Global) × (refusal.text ≡ Some text) × (text.items ≡ input) }
     ensures run_keeps { (workers : ℕ) (fronts : Bool) (input left output : List ℕ) (ended flushed : Bool)
-        (refusal : AnyRefusal) (fault : TextFault)
+        (refusal : AnyRefusal)
         → KeepsText (running fronts workers) (Some input) (Some left) ended 0 (Some []) (Some output) flushed 0
-        (Err refusal) → refusal.fault ≡ Text fault
+        (Err refusal) → is_in_text refusal.fault ≡ true
         → (text : Vec ℕ Global) × (refusal.text ≡ Some text) × (text.items ≡ input) }
-    ensures none_kept { (input left output : List ℕ) (ended flushed : Bool) (refusal : AnyRefusal) (fault : AnyFault)
+    ensures none_kept { (input left output : List ℕ) (ended flushed : Bool) (refusal : AnyRefusal)
         → KeepsText explaining (Some input) (Some left) ended 0 (Some []) (Some output) flushed 0 (Err refusal)
-        → refusal.fault ≡ Refused fault → refusal.text ≡ None }
+        → is_in_text refusal.fault ≡ false → refusal.text ≡ None }
+    ensures text { (fault : TextFault) → is_in_text (Text fault) ≡ true }
+    ensures drivers { (fault : ConfigFault) → is_in_text (Refused (run.ConfigFault fault)) ≡ true }
+    ensures no_memory { is_in_text (Refused run.NoMemory) ≡ false }
+    ensures no_thread { is_in_text (Refused run.NoThread) ≡ false }
+    ensures few_entries { (count : ℕ) → is_in_text (Refused (run.FewEntries count)) ≡ false }
+    ensures long_page { (count : ℕ) → is_in_text (Refused (run.LongPage count)) ≡ false }
 {}

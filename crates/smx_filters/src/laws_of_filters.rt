@@ -1,4 +1,4 @@
-//! Laws of runs, checks, replays, traces and drawings over memory, each the contract of a function that does nothing.
+//! Laws of runs, checks, replays, traces, drawings and pages over memory, each the contract of a function that does nothing.
 
 ghost use Rattle.std.specs.Prelude.{◌≡◌, ℕ, Bool, true, false, List, [], Option, Result, Some, Err};
 ghost use Rattle.smx_types.specs.ProgramLists.{ProgramLists};
@@ -9,6 +9,7 @@ ghost use Rattle.smx_filters.specs.DrawText.{DrawsText, drawing};
 ghost use Rattle.smx_filters.specs.InMemory.{EndsInMemory, IsCutShort};
 ghost use Rattle.smx_filters.specs.ReplayText.{ReplaysText, replaying};
 ghost use Rattle.smx_filters.specs.RunText.{IsWrittenFor, RunsText, running};
+ghost use Rattle.smx_filters.specs.StepsText.{StepsText, stepping};
 ghost use Rattle.smx_filters.specs.TraceText.{TracesText, tracing};
 ghost use Rattle.smx_filters.specs.declared.main_fault.MainFault.{MainFault};
 ghost use Rattle.smx_filters.specs.declared.main_fault.MainFault.TheVariants.{ReadFailed};
@@ -96,4 +97,20 @@ pub fn drawings_end_in_memory()
         (answer : Result (Unit {0}) MainFault)
         → DrawsText form (Some input) (Some left) ended 0 (Some []) (Some output) flushed 1 answer
         → IsCutShort (drawing form) input output answer }
+{}
+
+/// The same of a page of steps, which answers that it is done.
+pub fn pages_end_in_memory()
+    ensures ends { (input left output : List ℕ) (ended flushed : Bool)
+        (answer : Result (Unit {0}) MainFault)
+        → StepsText (Some input) (Some left) ended 0 (Some []) (Some output) flushed 0 answer
+        → EndsInMemory stepping input left ended output flushed answer }
+    ensures unread { (input left output : List ℕ) (ended flushed : Bool)
+        (answer : Result (Unit {0}) MainFault)
+        → StepsText (Some input) (Some left) ended 1 (Some []) (Some output) flushed 0 answer
+        → (answer ≡ Err ReadFailed) × (output ≡ []) }
+    ensures cut_short { (input left output : List ℕ) (ended flushed : Bool)
+        (answer : Result (Unit {0}) MainFault)
+        → StepsText (Some input) (Some left) ended 0 (Some []) (Some output) flushed 1 answer
+        → IsCutShort stepping input output answer }
 {}

@@ -1,4 +1,4 @@
-//! Filters, from bytes to bytes: a run of programs, and a check, a replay, a trace or a drawing of a transcript.
+//! Filters, from bytes to bytes: a run of programs, and a check, a replay, a trace, a drawing or a page of a transcript.
 #![tactic(auto)]
 
 mod check;
@@ -18,6 +18,7 @@ mod output;
 mod refusal;
 mod replay;
 mod run;
+mod steps;
 mod trace;
 
 pub use check::check_text;
@@ -31,4 +32,5 @@ pub use output::write_all;
 pub use refusal::Refusal;
 pub use replay::replay_text;
 pub use run::run_text;
+pub use steps::steps_text;
 pub use trace::trace_text;

@@ -7,6 +7,7 @@ ghost use Rattle.smx_run.specs.declared.run_fault.RunFault.TheVariants.{NoMemory
 
 use smx_config::ConfigFault;
 use smx_run::RunFault;
+use smx_steps::PageFault;
 use smx_text::{Cause, TextFault};
 use smx_types::NoMemory;
 use std::alloc::{AllocError, AllocFailed};
@@ -77,6 +78,19 @@ impl From<ConfigFault> for MainFault {
 
     fn from(fault: ConfigFault) -> MainFault {
         MainFault::Refused(RunFault::from(fault))
+    }
+}
+
+impl From<PageFault> for MainFault {
+    ghost use Rattle.smx_filters.specs.StepsText.{run_fault_of_page};
+
+    ghost from_gives = { λ f fault. fault ≡ Refused (run_fault_of_page f) };
+
+    fn from(fault: PageFault) -> MainFault {
+        match fault {
+            PageFault::Refused(fault) => MainFault::from(fault),
+            PageFault::TooLong(count) => MainFault::Refused(RunFault::LongPage(count)),
+        }
     }
 }
 

@@ -1,10 +1,7 @@
 //! A fault that is to be explained.
 
-ghost use Rattle.std.specs.Prelude.{◌≡◌, None};
-ghost use Rattle.smx_run.specs.declared.run_fault.RunFault.{RunFault as AnyFault};
-ghost use Rattle.smx_text.specs.declared.text_fault.TextFault.{TextFault};
-ghost use Rattle.smx_filters.specs.ExplainText.{IsKept};
-ghost use Rattle.smx_filters.specs.declared.main_fault.MainFault.TheVariants.{Refused, Text};
+ghost use Rattle.std.specs.Prelude.{◌≡◌, false, true, None};
+ghost use Rattle.smx_filters.specs.ExplainText.{IsKept, is_in_text};
 
 use crate::main_fault::MainFault;
 use smx_run::RunFault;
@@ -13,19 +10,28 @@ use smx_run::RunFault;
 #[derive(Drop)]
 pub struct Refusal {
     pub fault: MainFault,
-    /// All that was read, if the fault is one of the text; else `None`.
+    /// All that was read, if the fault is one of the text or of its drivers; else `None`.
     pub text: Option<Vec<u8>>,
 }
 
-/// Returns the refusal for this fault, with the input if the fault is one of the text, and else without it.
+/// Returns the refusal for this fault, with the input if the fault is one of the text or of its drivers, and else
+/// without it.
 pub(crate) fn kept_for(fault: MainFault, input: Vec<u8>) -> Refusal
     ensures fault { result.fault ≡ fault }
-    ensures kept { (f : TextFault) → fault ≡ Text f → IsKept result.text input.items }
-    ensures given_up { (f : AnyFault) → fault ≡ Refused f → result.text ≡ None }
+    ensures kept { is_in_text fault ≡ true → IsKept result.text input.items }
+    ensures given_up { is_in_text fault ≡ false → result.text ≡ None }
 {
     let text = match fault {
-        MainFault::Text(_) => Some(input),
-        MainFault::Refused(_)
+        MainFault::Text(_) | MainFault::Refused(RunFault::ConfigFault(_)) => Some(input),
+        MainFault::Refused(
+            RunFault::NoMemory
+            | RunFault::NoThread
+            | RunFault::Strange(_)
+            | RunFault::HistoryFull
+            | RunFault::Held
+            | RunFault::FewEntries(_)
+            | RunFault::LongPage(_),
+        )
         | MainFault::TooLong
         | MainFault::ReadFailed
         | MainFault::WriteFailed => None,
@@ -40,16 +46,5 @@ impl From<MainFault> for Refusal {
 
     fn from(fault: MainFault) -> Refusal {
         Refusal { fault, text: None }
-    }
-}
-
-impl From<RunFault> for Refusal {
-    ghost use Rattle.std.specs.Prelude.{◌≡◌, None};
-    ghost use Rattle.smx_filters.specs.declared.main_fault.MainFault.TheVariants.{Refused};
-
-    ghost from_gives = { λ f refusal. refusal ≡ record { fault = Refused f; text = None } };
-
-    fn from(fault: RunFault) -> Refusal {
-        Refusal::from(MainFault::Refused(fault))
     }
 }

@@ -1,8 +1,9 @@
 //! A replay from bytes to bytes.
 
 ghost use Rattle.std.specs.Prelude.{◌≡◌, false, length, IfErr, IfOk};
+ghost use Rattle.smx_filters.specs.ExplainText.{KeepsText};
 ghost use Rattle.smx_filters.specs.Filters.{Answers};
-ghost use Rattle.smx_filters.specs.ReplayText.{ReplaysText, IsPastEnd, asked_part, replaying};
+ghost use Rattle.smx_filters.specs.ReplayText.{IsPastEnd, asked_part, replaying};
 ghost use Rattle.smx_filters.specs.RunText.{items_of};
 ghost use Rattle.smx_run.specs.declared.run_fault.RunFault.TheVariants as run;
 
@@ -10,6 +11,7 @@ use crate::device::{Feed, Sink};
 use crate::input::read_all;
 use crate::main_fault::MainFault;
 use crate::output::write_all;
+use crate::refusal::{Refusal, kept_for};
 use smx_run::RunFault;
 use smx_text::read_transcript;
 use smx_trace::laws_of_replays::{first_entries_are_allowed, replays_can_be_expressed};
@@ -17,39 +19,40 @@ use smx_trace::{first_entries, replay};
 use smx_types::Transcript;
 use std::alloc::Global;
 
-/// Reads a transcript from `feed`, performs its commands in order, and writes the transcript that they give to
-/// `sink`, in the same version; or those of its first `at` entries alone. Ignores the replies and the configuration of
-/// the transcript that it read. So it gives a legal transcript back. Requires that neither device has failed before
-/// and that the feed has not ended. Reads at most 16,777,217 bytes. Checks for faults in this order: reading, text,
-/// the number of entries, drivers, replaying, writing.
+/// Reads a transcript from `feed`, performs its commands in order, and writes the transcript that they give to `sink`,
+/// in the same version; or those of its first `at` entries alone. Ignores the replies and the configuration of the
+/// transcript that it read. So it gives a legal transcript back. Keeps the text if it or its drivers have a fault.
+/// Requires that neither `feed` nor `sink` has failed before and that the feed has not ended. Reads at most 16,777,217
+/// bytes. Checks for faults in this order: reading, text, the number of entries, drivers, replaying, writing.
 pub fn replay_text<F: Feed, S: Sink>(
     alloc: Global,
     feed: &mut F,
     sink: &mut S,
     at: Option<usize>,
-) -> Result<(), MainFault>
+) -> Result<(), Refusal>
     requires before_the_end { F.ended feed.old ≡ false }
     requires fed { F.failures feed.old ≡ 0 }
     requires sunk { S.failures sink.old ≡ 0 }
-    ensures { ReplaysText at (F.remaining feed.old) (F.remaining feed.new) (F.ended feed.new)
+    ensures { KeepsText (replaying at) (F.remaining feed.old) (F.remaining feed.new) (F.ended feed.new)
         (F.failures feed.new) (S.contents sink.old) (S.contents sink.new) (S.flushed sink.new)
         (S.failures sink.new) result }
 {
     let input = read_all(alloc, feed)?;
-    let output = text_of_replay(alloc, input, at)?;
-    write_all(sink, output.as_slice())
+    match text_of_replay(alloc, input.as_slice(), at) {
+        Ok(output) => Ok(write_all(sink, output.as_slice())?),
+        Err(fault) => Err(kept_for(fault, input)),
+    }
 }
 
-// Returns the text of the replay of the transcript that the input spells, or of its first entries, in the memory of the
-// input.
-fn text_of_replay(alloc: Global, input: Vec<u8>, at: Option<usize>) -> Result<Vec<u8>, MainFault>
-    ensures { Answers (replaying at) input.items (items_of result) }
+// Returns the text of the replay of the transcript that the input spells, or of its first entries.
+fn text_of_replay(alloc: Global, input: &[u8], at: Option<usize>) -> Result<Vec<u8>, MainFault>
+    ensures { Answers (replaying at) input.now (items_of result) }
 {
     replays_can_be_expressed();
     first_entries_are_allowed();
-    let transcript = read_transcript(alloc, input.as_slice())?;
+    let transcript = read_transcript(alloc, input)?;
     let part = asked_part(transcript, at)?;
-    let text = replay(alloc, part, input)?;
+    let text = replay(alloc, part, Vec::new(alloc))?;
     Ok(text)
 }
 

@@ -1,13 +1,9 @@
 //! A run from bytes to bytes.
 
-ghost use Rattle.std.specs.Prelude.{◌≡◌, ◌≤◌, false, IfOk, IfErr, None};
-ghost use Rattle.smx_text.specs.declared.text_fault.TextFault.{TextFault};
-ghost use Rattle.smx_filters.specs.ExplainText.{IsKept, answer_of};
+ghost use Rattle.std.specs.Prelude.{◌≡◌, ◌≤◌, false, IfOk, IfErr};
 ghost use Rattle.smx_filters.specs.Filters.{Answers};
 ghost use Rattle.smx_filters.specs.RunText.{IsFrontsTextFor, IsRefusedFor, IsWrittenFor, RunsText};
 ghost use Rattle.smx_filters.specs.RunText.{items_of, running};
-ghost use Rattle.smx_filters.specs.declared.main_fault.MainFault.TheVariants.{Refused, Text};
-ghost use Rattle.smx_run.specs.declared.run_fault.RunFault.{RunFault as AnyFault};
 ghost use Rattle.smx_run.specs.declared.run.TheConstants.{MAX_WORKERS};
 
 use crate::device::{Feed, Sink};
@@ -16,7 +12,6 @@ use crate::fronts_text::fronts_text;
 use crate::input::read_all;
 use crate::main_fault::MainFault;
 use crate::output::write_all;
-use crate::refusal::{Refusal, kept_for};
 use smx_run::{Gate, RunFault, run_system};
 use smx_shared::EntryCount;
 use smx_text::{finish_transcript, read_programs};
@@ -25,12 +20,13 @@ use std::alloc::Global;
 use std::sync::Wait;
 use std::thread::Threads;
 
-/// Reads programs from `feed`, runs them on `workers` workers, 1 to 64, and writes the transcript of the run to
-/// `sink`, in the version of the programs; with `fronts` it writes instead how far the history was when each program
-/// had ended. One worker runs one program after the other, by rising number, so its transcript is determined. With
-/// several workers, worker `p` modulo `workers` runs process `p`. The gate hears of each command. No command is
-/// performed before the whole text was read and found valid. Requires that neither device has failed before and that
-/// the feed has not ended. Checks for faults in this order: reading, text, drivers, run, writing.
+/// Reads programs from `feed`, runs them on `workers` workers, 1 to 64, and writes the transcript of the run to `sink`,
+/// in the version of the programs; with `fronts` it writes instead, for each program, the front of the history at one
+/// moment after this program had ended. One worker runs one program after the other, by rising number, so its
+/// transcript is determined. With several workers, worker `p` modulo `workers` runs process `p`. The gate hears of each
+/// command. No command is performed before the whole text was read and found valid. Requires that neither `feed` nor
+/// `sink` has failed before and that the feed has not ended. Checks for faults in this order: reading, text, drivers,
+/// run, writing.
 pub fn run_text<R: Threads + Wait + Sync, F: Feed, S: Sink, G: Gate + Sync>(
     rt: &R,
     alloc: Global,
@@ -49,36 +45,48 @@ pub fn run_text<R: Threads + Wait + Sync, F: Feed, S: Sink, G: Gate + Sync>(
         (S.failures sink.new) result }
 {
     let input = read_all(alloc, feed)?;
-    match text_of_run(rt, alloc, input, workers, fronts, gate) {
-        Ok(output) => write_all(sink, output.as_slice()),
-        Err(refusal) => Err(refusal.fault),
-    }
+    let output = text_of_run(rt, alloc, input, workers, fronts, gate)?;
+    write_all(sink, output.as_slice())
 }
 
-// Runs the programs that the input spells. Returns the requested text, or the fault, with the input if that is
-// malformed.
-pub(crate) fn text_of_run<R: Threads + Wait + Sync, G: Gate + Sync>(
+// Runs the programs that the input spells. Returns the requested text. A transcript is made in the memory of the input;
+// for the fronts the input is freed.
+fn text_of_run<R: Threads + Wait + Sync, G: Gate + Sync>(
     rt: &R,
     alloc: Global,
     input: Vec<u8>,
     workers: usize,
     fronts: bool,
     gate: &G,
-) -> Result<Vec<u8>, Refusal>
+) -> Result<Vec<u8>, MainFault>
     requires { (1 ≤ workers) × (workers ≤ MAX_WORKERS) }
-    ensures answers { Answers (running fronts workers) input.items (items_of (answer_of result)) }
-    ensures kept { IfErr result (λ r. (fault : TextFault) → r.fault ≡ Text fault → IsKept r.text input.items) }
-    ensures given_up { IfErr result (λ r. (f : AnyFault) → r.fault ≡ Refused f → r.text ≡ None) }
+    ensures { Answers (running fronts workers) input.items (items_of result) }
 {
-    let programs = match read_programs(alloc, input.as_slice()) {
-        Ok(programs) => programs,
-        Err(fault) => return Err(kept_for(MainFault::Text(fault), input)),
-    };
+    let programs = read_programs(alloc, input.as_slice())?;
+    let text = text_of_programs(rt, alloc, input, programs, workers, fronts, gate)?;
+    Ok(text)
+}
+
+/// Runs the programs. Returns the requested text. A transcript is made in the memory of `room`, whose bytes are
+/// discarded; for the fronts `room` is freed.
+pub(crate) fn text_of_programs<R: Threads + Wait + Sync, G: Gate + Sync>(
+    rt: &R,
+    alloc: Global,
+    room: Vec<u8>,
+    programs: Programs,
+    workers: usize,
+    fronts: bool,
+    gate: &G,
+) -> Result<Vec<u8>, RunFault>
+    requires { (1 ≤ workers) × (workers ≤ MAX_WORKERS) }
+    ensures written { IfOk result (λ text. IsWrittenFor fronts workers programs text.items) }
+    ensures refused { IfErr result (IsRefusedFor workers programs) }
+{
     if fronts {
-        drop(input);
-        return Ok(fronts_of_run(rt, alloc, programs, workers, gate)?);
+        drop(room);
+        return fronts_of_run(rt, alloc, programs, workers, gate);
     }
-    Ok(transcript_of_run(rt, alloc, input, programs, workers, gate)?)
+    transcript_of_run(rt, alloc, room, programs, workers, gate)
 }
 
 // Runs the programs. Returns the transcript, in their version and in the memory of `room`, whose bytes are discarded.

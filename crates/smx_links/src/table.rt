@@ -171,7 +171,7 @@ impl LinkTable {
         self.links().get(i)
     }
 
-    /// Returns the number of drivers. Every driver of a link is below it. Does not allocate.
+    /// Returns the number of drivers. The number of each driver of a link is less than it. Does not allocate.
     pub fn driver_count(&self) -> u8
         ensures count { result ≡ self.now.drivers }
         ensures within { All (IsWithin result) self.now.links }

@@ -1,5 +1,5 @@
 -- The output of a worked session if memory runs out.
-use Rattle.std.proofs.Common.{◌≡◌, ◌≢◌, ℕ, true, false, List, [], ◌∷◌, ◌++◌, map, refl, sym, ap, ap₂, subst, ◌∙◌}
+use Rattle.std.proofs.Common.{◌≡◌, ◌≢◌, ℕ, Bool, true, false, List, [], ◌∷◌, ◌++◌, map, refl, sym, ap, ap₂, subst, ◌∙◌}
 use Rattle.std.proofs.Common.{inl, inr, arith, rules}
 use Rattle.std.proofs.lemmas.List.{append-nil}
 use Rattle.std.specs.Prelude.{codes}
@@ -12,12 +12,13 @@ use Rattle.smx_text.specs.Grammar.{Spells, beginning}
 use Rattle.smx_text.specs.ProgramsText.{programs_grammar}
 use Rattle.smx_text.specs.TranscriptLines as line
 use Rattle.smx_text.specs.TranscriptText.{transcript_grammar}
+use Rattle.smx_explain.specs.ColumnWords.{IsExplanationOf}
 use Rattle.smx_session.specs.Sessions.{IsStartOf}
 use Rattle.smx_session.specs.WorkedSessions.{begun, drivers, opened, table}
 use Rattle.smx_live.specs.LiveText.{HasComeSoFar, IsBroken, IsLive}
 use Rattle.smx_live.specs.Tables.{IsTable, table_text}
 use Rattle.smx_live.specs.Turns.{Turn, asked_text, said_text}
-use Rattle.smx_live.specs.WorkedLives.{worked_answers, worked_input, worked_table}
+use Rattle.smx_live.specs.WorkedLives.{worked_answers, worked_below, worked_input, worked_table}
 use Rattle.smx_live.proofs.OneOutputLemmas.{HasOneReading, asked_cons, table_once, value_once}
 use Rattle.smx_live.proofs.WorkedLiveLemmas.{answered, begins, opening_is, table_over}
 
@@ -28,13 +29,14 @@ opening = codes "transcript 2\ndriver eth leaf 2 8 3 16\n"
 -- ---- possible output
 
 -- the worked session after its opening, before it takes a line
-begun_alone : IsStartOf table begun
-    → IsLive worked_input false opening begun 0 (codes "3 clone eth\n\nx\nend\n3 exit\n")
-begun_alone start = record {
+begun_alone : IsStartOf table begun → (explain : Bool)
+    → IsLive explain worked_input false opening begun (record { entries = 0; tracing = false })
+    (codes "3 clone eth\n\nx\nend\n3 exit\n")
+begun_alone start explain = record {
   table = worked_table;
   turns = [];
   read_is = refl;
-  over = table_over;
+  over = table_over explain;
   fits = search arith;
   programs = start.programs;
   spelled = start.spelled;
@@ -42,6 +44,8 @@ begun_alone start = record {
   valid_drivers = start.valid_drivers;
   answered = tt;
   few = search arith;
+  followed = tt;
+  tracing = refl;
   opening = opening;
   begins = begins;
   written = refl;
@@ -50,12 +54,19 @@ begun_alone start = record {
 }
 
 -- so its opening is possible output
-pub opening_out : IsStartOf table begun → IsBroken worked_input false opening
-opening_out start = inr (begun, 0, codes "3 clone eth\n\nx\nend\n3 exit\n", begun_alone start)
+pub opening_out : IsStartOf table begun → (explain : Bool) → IsBroken explain worked_input false opening
+opening_out start explain = inr (
+  begun,
+  record { entries = 0; tracing = false },
+  codes "3 clone eth\n\nx\nend\n3 exit\n",
+  begun_alone start explain,
+)
 
 -- and its opening with its answers
-pub answers_out : IsStartOf table begun → IsBroken worked_input false worked_answers
-answers_out start = inr (opened, 1, codes "end\n3 exit\n", answered start)
+pub answers_out : IsStartOf table begun → IsExplanationOf V2 (codes "x") (worked_below true) → (explain : Bool)
+    → IsBroken explain worked_input false (worked_answers explain)
+answers_out start told explain =
+    inr (opened, record { entries = 1; tracing = false }, codes "end\n3 exit\n", answered start told explain)
 
 -- ---- impossible output
 
@@ -80,9 +91,9 @@ no_turns [] held e = refl
 no_turns (t ∷ ts) held e = absurd (some t.line (asked_text ts ++ held) (sym (asked_cons t ts held) ∙ e))
 
 -- a session whose input ends after the worked table has written only the opening
-opening_alone : HasOneReading → IsStartOf table begun → (output : List ℕ) → HasComeSoFar worked_table true output
-    → output ≡ opening
-opening_alone reading start output (s, count, held, l) =
+opening_alone : HasOneReading → IsStartOf table begun → (explain : Bool) (output : List ℕ)
+    → HasComeSoFar explain worked_table true output → output ≡ opening
+opening_alone reading start explain output (s, far, held, l) =
     let read : worked_table ++ [] ≡ l.table ++ (asked_text l.turns ++ held) = append-nil worked_table ∙ l.read_is in
     let same = table_once true worked_table l.table [] (asked_text l.turns ++ held) over_at_end l.over read in
     let none : l.turns ≡ [] = no_turns l.turns held (sym same.1) in
@@ -99,6 +110,6 @@ opening_alone reading start output (s, count, held, l) =
 
 -- so an output that is neither empty nor the opening is impossible
 pub not_out : HasOneReading → IsStartOf table begun → (output : List ℕ) → output ≢ [] → output ≢ opening
-    → IsBroken worked_table true output → ⊥
-not_out reading start output some other (inl none) = some none
-not_out reading start output some other (inr far) = other (opening_alone reading start output far)
+    → (explain : Bool) → IsBroken explain worked_table true output → ⊥
+not_out reading start output some other explain (inl none) = some none
+not_out reading start output some other explain (inr far) = other (opening_alone reading start explain output far)

@@ -89,7 +89,7 @@ few_drivers : (n : ℕ) → n ≤ MAX_DRIVERS_OF_VERSION_1 → nat_lt MAX_DRIVER
 few_drivers n few = search rules
 
 module _ (stays : StaysLegal) (tells : TellsOfNone) (leaves : LeavesNone)
-    {read : List ℕ} {ended : Bool} {output : List ℕ} (o : IsOver read ended output) where
+    {explain : Bool} {read : List ℕ} {ended : Bool} {output : List ℕ} (o : IsOver explain read ended output) where
   -- the entries of the session
   abbrev es : List Entry
   es = entries_of o.live.turns

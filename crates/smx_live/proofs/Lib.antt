@@ -1,6 +1,7 @@
 pub mod BrokenLiveLemmas
 pub mod InboxLemmas
 pub mod LegalLiveLemmas
+pub mod TalkLemmas
 pub mod LiveLemmas
 pub mod LiveOutcomeLemmas
 pub mod LiveStageLemmas

@@ -1,5 +1,5 @@
 -- How a live session goes on: one more turn, more bytes, its beginning and its end.
-use Rattle.std.proofs.Common.{◌≡◌, ℕ, ◌+◌, ◌≤◌, Bool, true, List, [], ◌∷◌, ◌++◌, length, take, drop, refl}
+use Rattle.std.proofs.Common.{◌≡◌, ℕ, ◌+◌, ◌≤◌, Bool, true, false, List, [], ◌∷◌, ◌++◌, length, take, drop, refl}
 use Rattle.std.proofs.Common.{sym, ap, subst, ◌∙◌, append_assoc, arith, inl, inr, Some}
 use Rattle.std.proofs.lemmas.List.{append-nil, length-append, length-take-le}
 use Rattle.smx_types.specs.declared.command.Entry.{Entry}
@@ -25,8 +25,12 @@ use Rattle.smx_live.specs.LiveText.{IsLive, IsOver, closing_text, cut_words}
 use Rattle.smx_live.specs.LiveTurns.{IsClosing}
 use Rattle.smx_live.specs.Tables.{IsTable, table_text}
 use Rattle.smx_live.specs.Turns.{Answer, AsksToShow, Entered, Shown, NotDone, Turn, AreAnswered, IsAnswer, IsEntered}
-use Rattle.smx_live.specs.Turns.{IsEntryOf, IsTaken, IsRefusedFor, answer_text, asked_text, entries_in, entries_of}
-use Rattle.smx_live.specs.Turns.{said_text}
+use Rattle.smx_live.specs.Turns.{AreFollowed, IsBelow, IsEntryOf, IsTaken, IsRefusedFor, answer_text, asked_text}
+use Rattle.smx_live.specs.Turns.{entries_in, entries_of, said_text, traced_changes, traces_after}
+use Rattle.smx_live.specs.Turns.{traces_behind, turn_text}
+use Rattle.smx_live.specs.declared.talk.Progress.{Progress}
+use Rattle.smx_live.specs.declared.turn_fault.TurnFault.{TurnFault}
+use Rattle.smx_live.specs.declared.turn_fault.TurnFault.TheVariants.{NoCommand, NoMemory, Full}
 use Rattle.smx_live.proofs.TableLemmas.{flat_more, still_a_table}
 
 -- a history with one more entry leads where the command of that entry leads
@@ -50,11 +54,36 @@ answered_more v ds h (u ∷ ts) t was one a = (
       (sym (append_assoc h (entries_in u.answer) (entries_of ts))) a),
 )
 
+module _ (explain : Bool) (v : Version) (ds : List DriverSpec) where
+  -- what is below the turn belongs there, after these entries
+  abbrev IsFollowed : Bool → List Entry → Turn → Type 0
+  IsFollowed tracing h t =
+      IsBelow explain v ds tracing (after ds h) (after ds (h ++ entries_in t.answer)) t.line t.answer t.below
+
+  -- turns that are followed by what belongs below them stay so with one more such turn after them
+  followed_more : (h : List Entry) (tracing : Bool) (ts : List Turn) (t : Turn) → AreFollowed explain v ds h tracing ts
+      → IsFollowed (traces_behind tracing ts) (h ++ entries_of ts) t → AreFollowed explain v ds h tracing (ts ++ t ∷ [])
+  followed_more h tracing [] t was is =
+      (subst (λ (es : List Entry). IsFollowed tracing es t) (append-nil h) is, tt)
+  followed_more h tracing (u ∷ ts) t was is = (
+    was.0,
+    followed_more (h ++ entries_in u.answer) (traces_after tracing u.line u.answer) ts t was.1
+        (subst (λ (es : List Entry). IsFollowed (traces_behind (traces_after tracing u.line u.answer) ts) es t)
+        (sym (append_assoc h (entries_in u.answer) (entries_of ts))) is),
+  )
+
+-- the last turn decides whether entries are traced after it
+traces_more : (tracing : Bool) (ts : List Turn) (t : Turn)
+    → traces_behind tracing (ts ++ t ∷ []) ≡ traces_after (traces_behind tracing ts) t.line t.answer
+traces_more tracing [] t = refl
+traces_more tracing (u ∷ ts) t = traces_more (traces_after tracing u.line u.answer) ts t
+
 -- the lines of some turns and one more line are the lines of the turns with that one added
-line_more : (ts : List Turn) (line rest : List ℕ) (a : Answer) → asked_text ts ++ (line ++ LINE_FEED ∷ rest)
-    ≡ asked_text (ts ++ (record { line = line; answer = a }) ∷ []) ++ rest
-line_more ts line rest a =
-    let t : Turn = record { line = line; answer = a } in
+line_more : (ts : List Turn) (line rest : List ℕ) (a : Answer) (below : List ℕ)
+    → asked_text ts ++ (line ++ LINE_FEED ∷ rest)
+    ≡ asked_text (ts ++ (record { line = line; answer = a; below = below }) ∷ []) ++ rest
+line_more ts line rest a below =
+    let t : Turn = record { line = line; answer = a; below = below } in
     let last : List ℕ = line ++ LINE_FEED ∷ [] in
     let inner : asked_text (ts ++ t ∷ []) ++ rest ≡ asked_text ts ++ (line ++ LINE_FEED ∷ rest) =
     ap (λ (l : List ℕ). l ++ rest) (flat_more (λ (u : Turn). u.line ++ LINE_FEED ∷ []) ts t)
@@ -63,74 +92,88 @@ line_more ts line rest a =
 
 -- the opening and the answers, with one more answer, are the opening and the answers with that one added
 said_more : (opening output : List ℕ) (ts : List Turn) (t : Turn) → output ≡ opening ++ said_text ts
-    → output ++ answer_text t.answer ≡ opening ++ said_text (ts ++ t ∷ [])
+    → output ++ turn_text t ≡ opening ++ said_text (ts ++ t ∷ [])
 said_more opening output ts t was =
-    ap (λ (l : List ℕ). l ++ answer_text t.answer) was ∙ append_assoc opening (said_text ts) (answer_text t.answer)
-    ∙ ap (λ (l : List ℕ). opening ++ l) (sym (flat_more (λ (u : Turn). answer_text u.answer) ts t))
+    ap (λ (l : List ℕ). l ++ turn_text t) was ∙ append_assoc opening (said_text ts) (turn_text t)
+    ∙ ap (λ (l : List ℕ). opening ++ l) (sym (flat_more turn_text ts t))
 
 -- ---- one more turn
 
-module _ (further : OneFurther) {read : List ℕ} {ended : Bool} {output : List ℕ} {s : State} {count n : ℕ}
-    {held : List ℕ}
-    (l : IsLive read ended output s count held) (line : HasLine n held) (small : n ≤ MAX_INPUT) where
+module _ (further : OneFurther) {explain : Bool} {read : List ℕ} {ended : Bool} {output : List ℕ} {s : State}
+    {far : Progress} {n : ℕ} {held : List ℕ} (l : IsLive explain read ended output s far held) (line : HasLine n held)
+    (small : n ≤ MAX_INPUT) where
   -- the turn of the first line, with this answer
-  abbrev turn : Answer → Turn
-  turn a = record { line = take n held; answer = a }
+  abbrev turn : Answer → List ℕ → Turn
+  turn a below = record { line = take n held; answer = a; below = below }
 
   -- the first line is accepted
   short : IsShort (take n held)
   short = (line.one, omega (arith, small, length-take-le n held (omega (arith, line.within))))
 
   -- the lines of the turns and what is held are the lines with this one added, and the bytes after it
-  behind : (a : Answer) → asked_text l.turns ++ held ≡ asked_text (l.turns ++ turn a ∷ []) ++ drop (n + 1) held
-  behind a = ap (λ (h : List ℕ). asked_text l.turns ++ h) line.parts
-      ∙ line_more l.turns (take n held) (drop (n + 1) held) a
+  behind : (a : Answer) (below : List ℕ)
+      → asked_text l.turns ++ held ≡ asked_text (l.turns ++ turn a below ∷ []) ++ drop (n + 1) held
+  behind a below = ap (λ (h : List ℕ). asked_text l.turns ++ h) line.parts
+      ∙ line_more l.turns (take n held) (drop (n + 1) held) a below
 
   -- what was read is the table, the lines of the turns with this one added, and the bytes after it
-  read_more : (a : Answer) → read ≡ l.table ++ (asked_text (l.turns ++ turn a ∷ []) ++ drop (n + 1) held)
-  read_more a = l.read_is ∙ ap (λ (h : List ℕ). l.table ++ h) (behind a)
+  read_more : (a : Answer) (below : List ℕ)
+      → read ≡ l.table ++ (asked_text (l.turns ++ turn a below ∷ []) ++ drop (n + 1) held)
+  read_more a below = l.read_is ∙ ap (λ (h : List ℕ). l.table ++ h) (behind a below)
 
   -- the table still ends at the same place if this line is one of the turns
-  over_more : (a : Answer) → IsTable ended l.table (asked_text (l.turns ++ turn a ∷ []) ++ drop (n + 1) held)
-  over_more a = subst (IsTable ended l.table) (behind a) l.over
+  over_more : (a : Answer) (below : List ℕ)
+      → IsTable ended l.table (asked_text (l.turns ++ turn a below ∷ []) ++ drop (n + 1) held)
+  over_more a below = subst (IsTable ended l.table) (behind a below) l.over
 
   -- after an answer that is not an entry, the session's state is as before
-  stays : (a : Answer) → entries_in a ≡ [] → IsAnswer s.version s.drivers (entries_of l.turns) (take n held) a
-      → IsLive read ended (output ++ answer_text a) s count (drop (n + 1) held)
-  stays a none right =
-      let same : entries_of (l.turns ++ turn a ∷ []) ≡ entries_of l.turns =
-      flat_more (λ (u : Turn). entries_in u.answer) l.turns (turn a)
+  stays : (a : Answer) → entries_in a ≡ [] → (below : List ℕ)
+      → ((tracing : Bool) (c d : Configuration)
+      → IsBelow explain s.version s.drivers tracing c d (take n held) a below)
+      → IsAnswer s.version s.drivers (entries_of l.turns) (take n held) a
+      → (later : Progress) → later.entries ≡ far.entries → later.tracing ≡ traces_after far.tracing (take n held) a
+      → IsLive explain read ended (output ++ (answer_text a ++ below)) s later (drop (n + 1) held)
+  stays a none below belongs right later entries tracing =
+      let same : entries_of (l.turns ++ turn a below ∷ []) ≡ entries_of l.turns =
+      flat_more (λ (u : Turn). entries_in u.answer) l.turns (turn a below)
       ∙ ap (λ (es : List Entry). entries_of l.turns ++ es) none ∙ append-nil (entries_of l.turns) in
       record {
         table = l.table;
-        turns = l.turns ++ turn a ∷ [];
-        read_is = read_more a;
-        over = over_more a;
+        turns = l.turns ++ turn a below ∷ [];
+        read_is = read_more a below;
+        over = over_more a below;
         fits = l.fits;
         programs = l.programs;
         spelled = l.spelled;
         drivers = l.drivers;
         valid_drivers = l.valid_drivers;
-        answered = answered_more s.version s.drivers [] l.turns (turn a) l.answered short right;
+        answered = answered_more s.version s.drivers [] l.turns (turn a below) l.answered short right;
         few = subst (λ (es : List Entry). length es ≤ MAX_COMMANDS) (sym same) l.few;
+        followed = followed_more explain s.version s.drivers [] false l.turns (turn a below) l.followed
+            (belongs (traces_behind false l.turns) (after s.drivers (entries_of l.turns))
+            (after s.drivers (entries_of l.turns ++ entries_in a)));
+        tracing = tracing ∙ ap (λ (b : Bool). traces_after b (take n held) a) l.tracing
+            ∙ sym (traces_more false l.turns (turn a below));
         opening = l.opening;
         begins = l.begins;
-        written = said_more l.opening output l.turns (turn a) l.written;
+        written = said_more l.opening output l.turns (turn a below) l.written;
         now = l.now ∙ ap (after s.drivers) (sym same);
-        counted = l.counted ∙ ap (λ (es : List Entry). length es) (sym same);
+        counted = entries ∙ l.counted ∙ ap (λ (es : List Entry). length es) (sym same);
       }
 
   -- after an entry that the session made, the session goes on
-  enters : (e : Entry) (next : State) (more : ℕ) → IsEntered s count (take n held) e next more
-      → IsLive read ended (output ++ entry_line e) next more (drop (n + 1) held)
+  enters : (e : Entry) (next : State) (more : Progress) → IsEntered s far (take n held) e next more
+      → IsLive explain read ended (output ++ (entry_line e
+      ++ traced_changes far.tracing s.drivers s.configuration next.configuration)) next more (drop (n + 1) held)
   enters e next more h =
       let p = h.performs in
       let is : Some e ≡ Some p.entry = sym h.last ∙ p.last in
       let same : p.entry ≡ e = cc in
       let a : Answer = Entered e in
       let es : List Entry = entries_of l.turns in
-      let longer : entries_of (l.turns ++ turn a ∷ []) ≡ es ++ e ∷ [] =
-      flat_more (λ (u : Turn). entries_in u.answer) l.turns (turn a) in
+      let below : List ℕ = traced_changes far.tracing s.drivers s.configuration next.configuration in
+      let longer : entries_of (l.turns ++ turn a below ∷ []) ≡ es ++ e ∷ [] =
+      flat_more (λ (u : Turn). entries_in u.answer) l.turns (turn a below) in
       let does : step s.drivers (after s.drivers es) e.process e.command ≡ (next.configuration, e.reply) =
       ap (λ (c : Configuration). step s.drivers c e.process e.command) (sym l.now)
       ∙ subst (λ (x : Entry). step s.drivers s.configuration x.process x.command ≡ (next.configuration, x.reply)) same
@@ -142,15 +185,25 @@ module _ (further : OneFurther) {read : List ℕ} {ended : Bool} {output : List 
         spelled = h.spelled;
         room = omega (arith, h.room, l.counted);
       } in
-      let answered : AreAnswered s.version s.drivers [] (l.turns ++ turn a ∷ []) =
-      answered_more s.version s.drivers [] l.turns (turn a) l.answered short right in
-      let length_is : length (entries_of (l.turns ++ turn a ∷ [])) ≡ length es + 1 =
+      let answered : AreAnswered s.version s.drivers [] (l.turns ++ turn a below ∷ []) =
+      answered_more s.version s.drivers [] l.turns (turn a below) l.answered short right in
+      let now_is : next.configuration ≡ after s.drivers (es ++ e ∷ []) =
+      sym (ap (λ (x : Configuration × Reply). x.0) does) ∙ sym (further s.drivers es e) in
+      let shown : below ≡ traced_changes (traces_behind false l.turns) s.drivers (after s.drivers es)
+      (after s.drivers (es ++ e ∷ [])) =
+      ap (λ (b : Bool). traced_changes b s.drivers s.configuration next.configuration) l.tracing
+      ∙ ap (λ (c : Configuration). traced_changes (traces_behind false l.turns) s.drivers c next.configuration) l.now
+      ∙ ap (λ (c : Configuration). traced_changes (traces_behind false l.turns) s.drivers (after s.drivers es) c)
+      now_is in
+      let followed : AreFollowed explain s.version s.drivers [] false (l.turns ++ turn a below ∷ []) =
+      followed_more explain s.version s.drivers [] false l.turns (turn a below) l.followed shown in
+      let length_is : length (entries_of (l.turns ++ turn a below ∷ [])) ≡ length es + 1 =
       ap (λ (xs : List Entry). length xs) longer ∙ length-append es (e ∷ []) in
       record {
         table = l.table;
-        turns = l.turns ++ turn a ∷ [];
-        read_is = read_more a;
-        over = over_more a;
+        turns = l.turns ++ turn a below ∷ [];
+        read_is = read_more a below;
+        over = over_more a below;
         fits = l.fits;
         programs = l.programs;
         spelled = subst (λ (v : Version). Spells (programs_grammar v) (table_text l.table) l.programs) (sym p.version)
@@ -158,33 +211,47 @@ module _ (further : OneFurther) {read : List ℕ} {ended : Bool} {output : List 
         drivers = p.drivers ∙ l.drivers;
         valid_drivers = rw p.drivers l.valid_drivers;
         answered = rw (p.version, p.drivers) answered;
+        followed = rw (p.version, p.drivers) followed;
+        tracing = h.tracing ∙ l.tracing ∙ sym (traces_more false l.turns (turn a below));
         few = omega (arith, length_is, h.room, l.counted);
         opening = l.opening;
         begins = rw (p.version, p.drivers) l.begins;
-        written = said_more l.opening output l.turns (turn a) l.written;
-        now = sym (ap (λ (x : Configuration × Reply). x.0) does) ∙ sym (further s.drivers es e)
-            ∙ ap (after s.drivers) (sym longer)
-            ∙ ap (λ (ds : List DriverSpec). after ds (entries_of (l.turns ++ turn a ∷ []))) (sym p.drivers);
+        written = said_more l.opening output l.turns (turn a below) l.written;
+        now = now_is ∙ ap (after s.drivers) (sym longer)
+            ∙ ap (λ (ds : List DriverSpec). after ds (entries_of (l.turns ++ turn a below ∷ []))) (sym p.drivers);
         counted = omega (arith, h.counted, length_is, l.counted);
       }
 
-  -- the session goes on after any answer to the first line
-  pub turned : (a : Answer) (next : State) (more : ℕ) → IsTaken s count (take n held) a next more
-      → IsLive read ended (output ++ answer_text a) next more (drop (n + 1) held)
-  turned (Entered e) next more h = enters e next more h
-  turned (Shown v) next more h =
+  -- the session goes on after any answer to the first line, with what belongs below it
+  pub turned : (a : Answer) (below : List ℕ) (next : State) (more : Progress) → IsTaken s far (take n held) a next more
+      → IsBelow explain s.version s.drivers far.tracing s.configuration next.configuration (take n held) a below
+      → IsLive explain read ended (output ++ (answer_text a ++ below)) next more (drop (n + 1) held)
+  turned (Entered e) below next more h is = rw is (enters e next more h)
+  turned (Shown v) below next more h is =
       let shown : AsksToShow (take n held) × (v ≡ view s.drivers (after s.drivers (entries_of l.turns))) =
       (h.0, h.1 ∙ ap (view s.drivers) l.now) in
-      rw (h.2, h.3) (stays (Shown v) refl shown)
-  turned (NotDone w) next more h =
-      rw (h.1, h.2) (stays (NotDone w) refl (subst (λ (k : ℕ). IsRefusedFor s.version k (take n held) w) l.counted h.0))
+      rw h.2 (stays (Shown v) refl below (λ tracing c d. is) shown more (ap (λ (p : Progress). p.entries) h.3)
+      (ap (λ (p : Progress). p.tracing) h.3))
+  turned (NotDone w) below next more h is =
+      let right = subst (λ (k : ℕ). IsRefusedFor s.version k (take n held) w) l.counted h.0 in
+      rw h.1 (stays (NotDone w) refl below (any w is) right more (ap (λ (p : Progress). p.entries) h.2)
+      (ap (λ (p : Progress). p.tracing) h.2)) where
+        -- what is below a refusal doesn't depend on the configuration
+        any : (w : TurnFault)
+            → IsBelow explain s.version s.drivers far.tracing s.configuration next.configuration (take n held)
+            (NotDone w) below
+            → (tracing : Bool) (c d : Configuration)
+            → IsBelow explain s.version s.drivers tracing c d (take n held) (NotDone w) below
+        any NoCommand is tracing c d = is
+        any NoMemory is tracing c d = is
+        any Full is tracing c d = is
 
   -- if the first line asks for the end, the session has ended once its last lines are written
-  pub ended_by_line : (whole : List ℕ) → IsClosing s (take n held) whole → IsOver read ended (output ++ whole)
+  pub ended_by_line : (whole : List ℕ) → IsClosing s (take n held) whole → IsOver explain read ended (output ++ whole)
   ended_by_line whole h = record {
     before = output;
     s = s;
-    count = count;
+    far = far;
     held = held;
     live = l;
     words = [];
@@ -194,14 +261,14 @@ module _ (further : OneFurther) {read : List ℕ} {ended : Bool} {output : List 
   }
 
 -- a session whose input has ended, within a line or not, has ended once its last lines are written
-pub ended_by_input : {read : List ℕ} {ended : Bool} {output : List ℕ} {s : State} {count : ℕ} {held : List ℕ}
-    → IsLive read ended output s count held
+pub ended_by_input : {explain : Bool} {read : List ℕ} {ended : Bool} {output : List ℕ} {s : State} {far : Progress}
+    {held : List ℕ} → IsLive explain read ended output s far held
     → ended ≡ true → IsShort held → IsSpellableView (view s.drivers s.configuration)
-    → IsOver read ended (output ++ (cut_words held ++ closing_text s))
-ended_by_input {output = output} {s} {count} {held} l is short fits = record {
+    → IsOver explain read ended (output ++ (cut_words held ++ closing_text s))
+ended_by_input {output = output} {s} {far} {held} l is short fits = record {
   before = output;
   s = s;
-  count = count;
+  far = far;
   held = held;
   live = l;
   words = cut_words held;
@@ -213,9 +280,10 @@ ended_by_input {output = output} {s} {count} {held} l is short fits = record {
 -- ---- its beginning, and more bytes
 
 -- a session over a table that was read, and whose opening was written, has no answers yet
-pub begun : {read table held : List ℕ} {ended : Bool} {opening : List ℕ} {s : State} → read ≡ table ++ held
-    → IsTable ended table held → length table ≤ MAX_INPUT → IsStartOf (table_text table) s
-    → BeginsTranscript s.version s.drivers [] opening → IsLive read ended opening s 0 held
+pub begun : {explain : Bool} {read table held : List ℕ} {ended : Bool} {opening : List ℕ} {s : State}
+    → read ≡ table ++ held → IsTable ended table held → length table ≤ MAX_INPUT → IsStartOf (table_text table) s
+    → BeginsTranscript s.version s.drivers [] opening
+    → IsLive explain read ended opening s (record { entries = 0; tracing = false }) held
 begun {table = table} {opening = opening} parts over fits start begins = record {
   table = table;
   turns = [];
@@ -228,6 +296,8 @@ begun {table = table} {opening = opening} parts over fits start begins = record 
   valid_drivers = start.valid_drivers;
   answered = tt;
   few = omega arith;
+  followed = tt;
+  tracing = refl;
   opening = opening;
   begins = begins;
   written = sym (append-nil opening);
@@ -236,9 +306,9 @@ begun {table = table} {opening = opening} parts over fits start begins = record 
 }
 
 -- a session keeps its state and holds more when more is read from an input that has not ended
-pub with_more : {read : List ℕ} (more : List ℕ) {ended now : Bool} {output : List ℕ} {s : State} {count : ℕ}
-    {held : List ℕ} → IsLive read ended output s count held → (ended ≡ true → (more ≡ []) × (now ≡ true))
-    → IsLive (read ++ more) now output s count (held ++ more)
+pub with_more : {explain : Bool} {read : List ℕ} (more : List ℕ) {ended now : Bool} {output : List ℕ} {s : State}
+    {far : Progress} {held : List ℕ} → IsLive explain read ended output s far held
+    → (ended ≡ true → (more ≡ []) × (now ≡ true)) → IsLive explain (read ++ more) now output s far (held ++ more)
 with_more more {ended} {now} {held = held} l stays =
     let together : (asked_text l.turns ++ held) ++ more ≡ asked_text l.turns ++ (held ++ more) =
     append_assoc (asked_text l.turns) held more in
@@ -256,6 +326,8 @@ with_more more {ended} {now} {held = held} l stays =
       valid_drivers = l.valid_drivers;
       answered = l.answered;
       few = l.few;
+      followed = l.followed;
+      tracing = l.tracing;
       opening = l.opening;
       begins = l.begins;
       written = l.written;
@@ -264,8 +336,8 @@ with_more more {ended} {now} {held = held} l stays =
     }
 
 -- at least as many bytes were read as are held
-pub held_of_read : {read : List ℕ} {ended : Bool} {output : List ℕ} {s : State} {count : ℕ} {held : List ℕ}
-    → IsLive read ended output s count held → length held ≤ length read
+pub held_of_read : {explain : Bool} {read : List ℕ} {ended : Bool} {output : List ℕ} {s : State} {far : Progress}
+    {held : List ℕ} → IsLive explain read ended output s far held → length held ≤ length read
 held_of_read {held = held} l =
     omega (
       arith,

@@ -32,6 +32,7 @@ use Rattle.smx_text.specs.declared.text_fault.TextFault.{TextFault}
 use Rattle.smx_run.specs.RunFaults.{RefusesAlone}
 use Rattle.smx_run.specs.declared.run_fault.RunFault.{RunFault}
 use Rattle.smx_run.specs.declared.run_fault.RunFault.TheVariants as run
+use Rattle.smx_explain.specs.ColumnWords.{IsExplanationOf}
 use Rattle.smx_session.specs.Sessions.{State}
 use Rattle.smx_filters.specs.declared.input.TheConstants.{MAX_INPUT}
 use Rattle.smx_filters.proofs.AnswerLemmas.{HaveOneFault, only_memory_refuses}
@@ -40,7 +41,9 @@ use Rattle.smx_live.specs.LiveText.{HasComeSoFar, IsAtEnd, IsLive, IsOver, Refus
 use Rattle.smx_live.specs.Tables.{AreOfTable, HasTableOf, IsCutDriver, IsOverAt, IsTable, begins_driver, table_text}
 use Rattle.smx_live.specs.Turns.{Answer, AreAnswered, AsksToShow, Entered, HasEnoughMemory, IsAnswer, IsEntryOf}
 use Rattle.smx_live.specs.Turns.{NotDone}
-use Rattle.smx_live.specs.Turns.{Shown, Turn, asked_text, entries_in, entries_of, said_text}
+use Rattle.smx_live.specs.Turns.{AreFollowed, IsBelow, Shown, Turn, asked_text, entries_in, entries_of, said_text}
+use Rattle.smx_live.specs.Turns.{traces_after}
+use Rattle.smx_live.specs.declared.talk.Progress.{Progress}
 use Rattle.smx_live.specs.declared.turn_fault.TurnFault.TheVariants.{NoCommand, NoMemory, Full}
 
 -- ---- what other crates' laws say
@@ -55,6 +58,11 @@ HasOneReading = (bytes : List ℕ) (r s : Result ProgramLists TextFault) → Rea
 abbrev pub AreDistinguished : Type 0
 AreDistinguished =
     (x y : ℕ × Command) → FitsCall x → FitsCall y → line_of (call_words x) ≡ line_of (call_words y) → x ≡ y
+
+-- a line of a session has only one explanation
+abbrev pub IsExplainedOnce : Type 0
+IsExplainedOnce = (version : Version) (line one other : List ℕ) → IsExplanationOf version line one
+    → IsExplanationOf version line other → one ≡ other
 
 -- ---- lines
 
@@ -242,8 +250,12 @@ module _ (version : Version) (drivers : List DriverSpec) (history : List Entry) 
   -- a line that asks for the configuration is not that of an entry
   not_shown : (e : Entry) → IsEntryOf version drivers history l e → AsksToShow l → ⊥
   not_shown e is (inl none) = some_call (call_of e) is.in_version.0 (sym is.is_read ∙ none)
-  not_shown e is (inr show) =
+  not_shown e is (inr (inl show)) =
       no_call (call_of e) is.in_version.0 115 (codes "how") (λ ds h. absurd (cc h)) (sym is.is_read ∙ show)
+  not_shown e is (inr (inr (inl on))) =
+      no_call (call_of e) is.in_version.0 116 (codes "race on") (λ ds h. absurd (cc h)) (sym is.is_read ∙ on)
+  not_shown e is (inr (inr (inr off))) =
+      no_call (call_of e) is.in_version.0 116 (codes "race off") (λ ds h. absurd (cc h)) (sym is.is_read ∙ off)
 
   -- the line `end` is not that of an entry
   not_ended : (e : Entry) → IsEntryOf version drivers history l e → l ≡ codes "end" → ⊥
@@ -300,8 +312,12 @@ module _ (version : Version) (drivers : List DriverSpec) (history : List Entry) 
   no_answer (Entered e) is had end = not_ended e is end
   no_answer (Shown v) (inl none, shown) had end =
       let wrong : [] ≡ codes "end" = sym none ∙ end in absurd (cc wrong)
-  no_answer (Shown v) (inr show, shown) had end =
+  no_answer (Shown v) (inr (inl show), shown) had end =
       let wrong : codes "show" ≡ codes "end" = sym show ∙ end in absurd (cc wrong)
+  no_answer (Shown v) (inr (inr (inl on)), shown) had end =
+      let wrong : codes "trace on" ≡ codes "end" = sym on ∙ end in absurd (cc wrong)
+  no_answer (Shown v) (inr (inr (inr off)), shown) had end =
+      let wrong : codes "trace off" ≡ codes "end" = sym off ∙ end in absurd (cc wrong)
   no_answer (NotDone NoCommand) is had end = is.0.1 end
   no_answer (NotDone NoMemory) is had end = had refl
   no_answer (NotDone Full) is had end = is.0.1 end
@@ -325,7 +341,21 @@ words_once ended held words said (inl (more, is, none)) (inr (end, short, cut)) 
 words_once ended held words said (inr (end, short, cut)) (inl (more, is, none)) = absurd (no_end more held short.0 is)
 words_once ended held words said (inr (end, short, cut)) (inr (end_too, short_too, cut_too)) = cut ∙ sym cut_too
 
-module _ (version : Version) (drivers : List DriverSpec) (told_apart : AreDistinguished) (ended : Bool) where
+-- only one text belongs below an answer
+below_once : IsExplainedOnce → (explain : Bool) (version : Version) (drivers : List DriverSpec) (tracing : Bool)
+    (c d : Configuration) (line : List ℕ) (a : Answer) (one other : List ℕ)
+    → IsBelow explain version drivers tracing c d line a one
+    → IsBelow explain version drivers tracing c d line a other → one ≡ other
+below_once once explain version drivers tracing c d line (Entered e) one other is is_too = is ∙ sym is_too
+below_once once explain version drivers tracing c d line (Shown v) one other is is_too = is ∙ sym is_too
+below_once once true version drivers tracing c d line (NotDone NoCommand) one other is is_too =
+    once version line one other is is_too
+below_once once false version drivers tracing c d line (NotDone NoCommand) one other is is_too = is ∙ sym is_too
+below_once once explain version drivers tracing c d line (NotDone NoMemory) one other is is_too = is ∙ sym is_too
+below_once once explain version drivers tracing c d line (NotDone Full) one other is is_too = is ∙ sym is_too
+
+module _ (explain : Bool) (once : IsExplainedOnce) (version : Version) (drivers : List DriverSpec)
+    (told_apart : AreDistinguished) (ended : Bool) where
   -- no line is answered at the end of a session
   none_behind : (history : List Entry) (u : Turn) (rest held words : List ℕ) → IsAtEnd ended held words
       → held ≡ u.line ++ LINE_FEED ∷ rest → IsShort u.line → IsAnswer version drivers history u.line u.answer
@@ -337,34 +367,44 @@ module _ (version : Version) (drivers : List DriverSpec) (told_apart : AreDistin
       not_one u.line rest (subst IsOneLine cut one.0)
 
   -- turns with the same lines are the same
-  turns_once : (history : List Entry) (ts us : List Turn) (held more words said : List ℕ)
+  turns_once : (history : List Entry) (tracing : Bool) (ts us : List Turn) (held more words said : List ℕ)
       → AreAnswered version drivers history ts → AreAnswered version drivers history us
+      → AreFollowed explain version drivers history tracing ts
+      → AreFollowed explain version drivers history tracing us
       → HasEnoughMemory ts → HasEnoughMemory us
       → IsAtEnd ended held words → IsAtEnd ended more said → asked_text ts ++ held ≡ asked_text us ++ more
       → (ts ≡ us) × (words ≡ said)
-  turns_once history [] [] held more words said was was_too had had_too at at_too e =
+  turns_once history tracing [] [] held more words said was was_too told told_too had had_too at at_too e =
       (refl, words_once ended more words said (subst (λ (h : List ℕ). IsAtEnd ended h words) e at) at_too)
-  turns_once history [] (u ∷ us) held more words said was was_too had had_too at at_too e =
+  turns_once history tracing [] (u ∷ us) held more words said was was_too told told_too had had_too at at_too e =
       absurd (none_behind history u (asked_text us ++ more) held words at (e ∙ asked_cons u us more) was_too.0 was_too.1
       had_too.0)
-  turns_once history (t ∷ ts) [] held more words said was was_too had had_too at at_too e =
+  turns_once history tracing (t ∷ ts) [] held more words said was was_too told told_too had had_too at at_too e =
       absurd (none_behind history t (asked_text ts ++ held) more said at_too (sym e ∙ asked_cons t ts held) was.0 was.1
       had.0)
-  turns_once history (t ∷ ts) (u ∷ us) held more words said was was_too had had_too at at_too e =
+  turns_once history tracing (t ∷ ts) (u ∷ us) held more words said was was_too told told_too had had_too at at_too
+      e =
       let cut = apart LINE_FEED t.line u.line (asked_text ts ++ held) (asked_text us ++ more) was.0.0 was_too.0.0
       (sym (asked_cons t ts held) ∙ e ∙ asked_cons u us more) in
       let said_too = subst (λ (l : List ℕ). IsAnswer version drivers history l u.answer) (sym cut.0) was_too.1 in
       let answer : t.answer ≡ u.answer = answer_once version drivers history t.line told_apart t.answer u.answer was.1
       said_too had.0 had_too.0 in
-      let same : t ≡ u = ap (λ (l : List ℕ). turn l t.answer) cut.0 ∙ ap (turn u.line) answer in
+      let below : t.below ≡ u.below = below_once once explain version drivers tracing (after drivers history)
+      (after drivers (history ++ entries_in t.answer)) t.line t.answer t.below u.below told.0
+      (rw (cut.0, answer) told_too.0) in
+      let same : t ≡ u = ap (λ (l : List ℕ). turn l t.answer t.below) cut.0
+      ∙ ap (λ (a : Answer). turn u.line a t.below) answer ∙ ap (turn u.line u.answer) below in
       let behind = subst (λ (a : Answer). AreAnswered version drivers (history ++ entries_in a) us) (sym answer)
       was_too.2 in
-      let others = turns_once (history ++ entries_in t.answer) ts us held more words said was.2 behind had.1 had_too.1
-      at
-      at_too cut.1 in
+      let told_behind = subst (λ (a : Answer). AreFollowed explain version drivers (history ++ entries_in a)
+      (traces_after tracing t.line a) us) (sym answer)
+      (subst (λ (l : List ℕ). AreFollowed explain version drivers (history ++ entries_in u.answer)
+      (traces_after tracing l u.answer) us) (sym cut.0) told_too.1) in
+      let others = turns_once (history ++ entries_in t.answer) (traces_after tracing t.line t.answer) ts us held more
+      words said was.2 behind told.1 told_behind had.1 had_too.1 at at_too cut.1 in
       (ap (λ (x : Turn). x ∷ ts) same ∙ ap (λ (xs : List Turn). u ∷ xs) others.0, others.1) where
-        turn : List ℕ → Answer → Turn
-        turn l a = record { line = l; answer = a }
+        turn : List ℕ → Answer → List ℕ → Turn
+        turn l a below = record { line = l; answer = a; below = below }
 
 -- ---- sessions
 
@@ -375,7 +415,7 @@ whole_output version drivers turns words =
     ++ (words ++ (view_lines (view drivers (after drivers (entries_of turns))) ++ codes "end\n"))
 
 -- what a session that has ended wrote is its output, by its drivers, its turns and its last words
-output_is : (read : List ℕ) (ended : Bool) (output : List ℕ) (o : IsOver read ended output)
+output_is : {explain : Bool} (read : List ℕ) (ended : Bool) (output : List ℕ) (o : IsOver explain read ended output)
     → output ≡ whole_output o.s.version o.s.drivers o.live.turns o.words
 output_is read ended output o =
     o.written ∙ ap (λ (x : List ℕ). x ++ (o.words ++ closing o.s.configuration)) o.live.written
@@ -396,10 +436,10 @@ value_once reading text v w x y h k =
     let same : one ≡ other = reading text one other (v, h, tt) (w, k, tt) tt tt in cc
 
 -- two sessions that ended over the same bytes, and never ran out of memory, have written the same
-pub one_output : HasOneReading → AreDistinguished → (read : List ℕ) (ended : Bool) (one other : List ℕ)
-    (o : IsOver read ended one) (p : IsOver read ended other) → HasEnoughMemory o.live.turns
-    → HasEnoughMemory p.live.turns → one ≡ other
-one_output reading told_apart read ended one other o p had had_too =
+pub one_output : HasOneReading → AreDistinguished → IsExplainedOnce → (explain : Bool) (read : List ℕ) (ended : Bool)
+    (one other : List ℕ) (o : IsOver explain read ended one) (p : IsOver explain read ended other)
+    → HasEnoughMemory o.live.turns → HasEnoughMemory p.live.turns → one ≡ other
+one_output reading told_apart once explain read ended one other o p had had_too =
     output_is read ended one o ∙ ap (λ (v : Version). whole_output v o.s.drivers o.live.turns o.words) version
     ∙ ap (λ (ds : List DriverSpec). whole_output p.s.version ds o.live.turns o.words) drivers
     ∙ ap (λ (ts : List Turn). whole_output p.s.version p.s.drivers ts o.words) turns.0
@@ -422,19 +462,22 @@ one_output reading told_apart read ended one other o p had had_too =
       drivers = o.live.drivers ∙ ap (λ (x : ProgramLists). x.drivers) programs ∙ sym p.live.drivers
 
       turns : (o.live.turns ≡ p.live.turns) × (o.words ≡ p.words)
-      turns = turns_once p.s.version p.s.drivers told_apart ended [] o.live.turns p.live.turns o.held p.held o.words
-          p.words
+      turns = turns_once explain once p.s.version p.s.drivers told_apart ended [] false o.live.turns p.live.turns o.held
+          p.held o.words p.words
           (subst (λ (ds : List DriverSpec). AreAnswered p.s.version ds [] o.live.turns) drivers
           (subst (λ (v : Version). AreAnswered v o.s.drivers [] o.live.turns) version o.live.answered))
-          p.live.answered had had_too o.at_end p.at_end table.1
+          p.live.answered
+          (subst (λ (ds : List DriverSpec). AreFollowed explain p.s.version ds [] false o.live.turns) drivers
+          (subst (λ (v : Version). AreFollowed explain v o.s.drivers [] false o.live.turns) version o.live.followed))
+          p.live.followed had had_too o.at_end p.at_end table.1
 
 -- ---- the session's table and lines
 
 -- the table of a session has no fault as a programs text, except out-of-memory
-pub no_fault : HasOneReading → (read output : List ℕ) (ended : Bool) (fault : TextFault)
-    → HasComeSoFar read ended output
+pub no_fault : HasOneReading → (explain : Bool) (read output : List ℕ) (ended : Bool) (fault : TextFault)
+    → HasComeSoFar explain read ended output
     → HasTableOf read ended (λ text. ReadsAny programs_grammar text (Err fault)) → fault.cause ≢ cause.NoMemory → ⊥
-no_fault reading read output ended fault (s, count, held, l) (table, rest, parts, over, bad) known =
+no_fault reading explain read output ended fault (s, far, held, l) (table, rest, parts, over, bad) known =
     let same = table_once ended table l.table rest _ over l.over (sym parts ∙ l.read_is) in
     let there = subst (λ (t : List ℕ). ReadsAny programs_grammar (table_text t) (Err fault)) same.0 bad in
     let one : Result ProgramLists TextFault = Ok l.programs in
@@ -443,10 +486,10 @@ no_fault reading read output ended fault (s, count, held, l) (table, rest, parts
     absurd (cc wrong)
 
 -- the drivers of a session's table are not refused, except for lack of memory
-pub no_refusal : HasOneReading → HaveOneFault → (read output : List ℕ) (ended : Bool) (fault : RunFault)
-    → HasComeSoFar read ended output
+pub no_refusal : HasOneReading → HaveOneFault → (explain : Bool) (read output : List ℕ) (ended : Bool)
+    (fault : RunFault) → HasComeSoFar explain read ended output
     → HasTableOf read ended (RefusesDriversOf fault) → fault ≡ run.NoMemory
-no_refusal reading determined read output ended fault (s, count, held, l)
+no_refusal reading determined explain read output ended fault (s, far, held, l)
     (table, rest, parts, over, (version, p, spelled, refused)) =
     let same = table_once ended table l.table rest _ over l.over (sym parts ∙ l.read_is) in
     let there = subst (λ (t : List ℕ). Spells (programs_grammar version) (table_text t) p) same.0 spelled in
@@ -464,7 +507,7 @@ all_short version drivers history (t ∷ ts) was =
     (was.0.1, all_short version drivers (history ++ entries_in t.answer) ts was.2)
 
 -- the table of a session and each line that it answered are within the limit
-pub are_short : (read output held : List ℕ) (ended : Bool) (s : State) (count : ℕ)
-    (l : IsLive read ended output s count held)
+pub are_short : (explain : Bool) (read output held : List ℕ) (ended : Bool) (s : State) (far : Progress)
+    (l : IsLive explain read ended output s far held)
     → (length l.table ≤ MAX_INPUT) × AllByRecursion (λ t. length t.line ≤ MAX_INPUT) l.turns
-are_short read output held ended s count l = (l.fits, all_short s.version s.drivers [] l.turns l.answered)
+are_short explain read output held ended s far l = (l.fits, all_short s.version s.drivers [] l.turns l.answered)

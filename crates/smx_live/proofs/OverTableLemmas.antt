@@ -250,14 +250,15 @@ line_fits n held has small (k, many, enough, one) =
     )
 
 -- the table of a session is not too long, nor is any line after it
-pub no_session_is_endless : (read output : List ℕ) (ended : Bool) → HasComeSoFar read ended output
-    → IsEndlessTable read → ⊥
-no_session_is_endless read output ended (s, count, held, l) long =
+pub no_session_is_endless : (explain : Bool) (read output : List ℕ) (ended : Bool)
+    → HasComeSoFar explain read ended output → IsEndlessTable read → ⊥
+no_session_is_endless explain read output ended (s, far, held, l) long =
     not_endless ended l.table _ l.over l.fits (subst IsEndlessTable l.read_is long)
 
 -- what is held when a session has ended is not too long
-pub no_line_at_the_end : (read output : List ℕ) (ended : Bool) (o : IsOver read ended output) → IsTooLong o.held → ⊥
-no_line_at_the_end read output ended o (k, many, enough, one) = elim o.at_end [
+pub no_line_at_the_end : (explain : Bool) (read output : List ℕ) (ended : Bool) (o : IsOver explain read ended output)
+    → IsTooLong o.held → ⊥
+no_line_at_the_end explain read output ended o (k, many, enough, one) = elim o.at_end [
   | inl (more, is, none) ↦
       let (others, same) = within (take k o.held) (drop k o.held) (codes "end") more one
       (take-append-drop k o.held ∙ is) in

@@ -13,12 +13,15 @@ use Rattle.smx_live.specs.declared.turn_fault.TurnFault.TheVariants.{NoCommand, 
 use Rattle.smx_live.proofs.OneOutputLemmas.{no_call}
 use Rattle.smx_live.proofs.WorkedLiveLemmas.{cloned}
 
--- a line that is not empty, `show` or `end` asks neither for the configuration nor for the end
-neither : (line : List ℕ) → line ≢ [] → line ≢ codes "show" → line ≢ codes "end" → AsksForNeither line
-neither line some other last = (
+-- a line other than the words of a session asks neither for the configuration nor for the end
+neither : (line : List ℕ) → line ≢ [] → line ≢ codes "show" → line ≢ codes "trace on" → line ≢ codes "trace off"
+    → line ≢ codes "end" → AsksForNeither line
+neither line some other on off last = (
   λ asks. elim asks [
     | inl none ↦ some none
-    | inr show ↦ other show
+    | inr (inl show) ↦ other show
+    | inr (inr (inl begins)) ↦ on begins
+    | inr (inr (inr ends)) ↦ off ends
   ],
   last,
 )
@@ -26,14 +29,17 @@ neither line some other last = (
 -- the line `x` asks for neither
 x_asks : AsksForNeither (codes "x")
 x_asks = neither (codes "x") (λ is. absurd (cc is)) (λ is. absurd (cc is)) (λ is. absurd (cc is))
+    (λ is. absurd (cc is)) (λ is. absurd (cc is))
 
 -- the line `63 dup 0` asks for neither
 dup_asks : AsksForNeither (codes "63 dup 0")
 dup_asks = neither (codes "63 dup 0") (λ is. absurd (cc is)) (λ is. absurd (cc is)) (λ is. absurd (cc is))
+    (λ is. absurd (cc is)) (λ is. absurd (cc is))
 
 -- the line of a hangup asks for neither
 hangup_asks : AsksForNeither (codes "0 hangup ip 0")
-hangup_asks = neither (codes "0 hangup ip 0") (λ is. absurd (cc is)) (λ is. absurd (cc is)) (λ is. absurd (cc is))
+hangup_asks = neither (codes "0 hangup ip 0") (λ is. absurd (cc is)) (λ is. absurd (cc is))
+    (λ is. absurd (cc is)) (λ is. absurd (cc is)) (λ is. absurd (cc is))
 
 -- the line `x` is not a command of a process in either version
 x_is_none : (version : Version) → IsNoCallLine version (codes "x")
@@ -53,7 +59,7 @@ full_is_reported is = omega (arith, is.2)
 
 -- the configuration is shown even if the history is full
 pub shown_when_full : IsRefusedFor V2 100000 (codes "show") Full → ⊥
-shown_when_full is = is.0.0 (inr refl)
+shown_when_full is = is.0.0 (inr (inl refl))
 
 -- a session may end even if the history is full
 pub ended_when_full : IsRefusedFor V2 100000 (codes "end") Full → ⊥
@@ -77,7 +83,7 @@ no_memory_when_full is = omega (arith, (is dup_asks).1)
 
 -- the configuration may be refused for lack of memory, even if the history is full
 pub no_memory_to_show : IsRefusedFor V1 100000 (codes "show") NoMemory
-no_memory_to_show asks = absurd (asks.0 (inr refl))
+no_memory_to_show asks = absurd (asks.0 (inr (inl refl)))
 
 -- a line that is not a command is not refused for lack of memory
 pub no_memory_for_no_command : IsRefusedFor V1 0 (codes "x") NoMemory → ⊥

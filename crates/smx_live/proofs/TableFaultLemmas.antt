@@ -24,41 +24,44 @@ no_endless : (read : List ℕ) (ended : Bool) (IsSo : List ℕ → Type 0) → H
 no_endless read ended IsSo (table, rest, parts, over, fits, so) long =
     not_endless ended table rest over fits (subst IsEndlessTable parts long)
 
-module _ (read output : List ℕ) (ended flushed : Bool) (reads writes : ℕ) where
+module _ (explain : Bool) (read output : List ℕ) (ended flushed : Bool) (reads writes : ℕ) where
   -- out-of-memory is not reported as the fault of a table
-  pub is_known : (fault : TextFault) → IsOutcome read output ended flushed reads writes (Err (Text fault))
+  pub is_known : (fault : TextFault) → IsOutcome explain read output ended flushed reads writes (Err (Text fault))
       → fault.cause ≢ cause.NoMemory
   is_known fault h = h.2
 
   -- nothing was written if a table has a fault
-  pub is_silent : (fault : TextFault) → IsOutcome read output ended flushed reads writes (Err (Text fault))
+  pub is_silent : (fault : TextFault) → IsOutcome explain read output ended flushed reads writes (Err (Text fault))
       → output ≡ []
   is_silent fault h = h.1
 
   -- nothing was written if drivers are refused
-  pub drivers_are_silent : (fault : RunFault) → IsOutcome read output ended flushed reads writes (Err (Refused fault))
-      → fault ≢ run.NoMemory → output ≡ []
+  pub drivers_are_silent : (fault : RunFault)
+      → IsOutcome explain read output ended flushed reads writes (Err (Refused fault)) → fault ≢ run.NoMemory
+      → output ≡ []
   drivers_are_silent fault (fine, inl (is, broken)) other = absurd (other is)
   drivers_are_silent fault (fine, inr (none, bad)) other = none
 
   -- a table that is reported to have a fault is not too long
-  pub is_short : (fault : TextFault) → IsOutcome read output ended flushed reads writes (Err (Text fault))
+  pub is_short : (fault : TextFault) → IsOutcome explain read output ended flushed reads writes (Err (Text fault))
       → IsEndlessTable read → ⊥
   is_short fault h long =
       no_endless read ended (λ text. ReadsAny programs_grammar text (Err fault)) h.3 long
 
   -- a table whose drivers are refused is not too long
-  pub drivers_are_short : (fault : RunFault) → IsOutcome read output ended flushed reads writes (Err (Refused fault))
-      → fault ≢ run.NoMemory → IsEndlessTable read → ⊥
+  pub drivers_are_short : (fault : RunFault)
+      → IsOutcome explain read output ended flushed reads writes (Err (Refused fault)) → fault ≢ run.NoMemory
+      → IsEndlessTable read → ⊥
   drivers_are_short fault (fine, inl (is, broken)) other long = absurd (other is)
   drivers_are_short fault (fine, inr (none, bad)) other long =
       no_endless read ended (RefusesDriversOf fault) bad long
 
 -- only one fault is reported for a table
-pub one_fault : HasOneReading → (read output : List ℕ) (ended flushed : Bool) (reads writes : ℕ)
-    (one other : TextFault) → IsOutcome read output ended flushed reads writes (Err (Text one))
-    → IsOutcome read output ended flushed reads writes (Err (Text other)) → one ≡ other
-one_fault reading read output ended flushed reads writes one other
+pub one_fault : HasOneReading → (explain : Bool) (read output : List ℕ) (ended flushed : Bool)
+    (reads writes : ℕ)
+    (one other : TextFault) → IsOutcome explain read output ended flushed reads writes (Err (Text one))
+    → IsOutcome explain read output ended flushed reads writes (Err (Text other)) → one ≡ other
+one_fault reading explain read output ended flushed reads writes one other
     (fine, none, known, (table, rest, parts, over, fits, bad))
     (fine_too, none_too, known_too, (second, behind, parts_too, over_too, fits_too, bad_too)) =
     let same = table_once ended table second rest behind over over_too (sym parts ∙ parts_too) in
@@ -72,21 +75,24 @@ fault_of_drivers : (drivers : List DriverSpec) (fault : RunFault) → RefusesAlo
     → (f : ConfigFault) × (fault ≡ run.ConfigFault f) × RefusesDrivers drivers f
 fault_of_drivers drivers (run.ConfigFault f) (is, known) other = (f, refl, is)
 fault_of_drivers drivers run.NoMemory had other = absurd (other refl)
+fault_of_drivers drivers run.NoThread never other = absurd never
 fault_of_drivers drivers (run.Strange process) never other = absurd never
 fault_of_drivers drivers run.HistoryFull never other = absurd never
 fault_of_drivers drivers run.Held never other = absurd never
 fault_of_drivers drivers (run.FewEntries count) never other = absurd never
+fault_of_drivers drivers (run.LongPage count) never other = absurd never
 
 -- the drivers of a table are refused for one fault, if it is not out-of-memory
-pub one_refusal : HasOneReading → HaveOneFault → (read output : List ℕ) (ended flushed : Bool) (reads writes : ℕ)
-    (one other : RunFault) → IsOutcome read output ended flushed reads writes (Err (Refused one))
-    → IsOutcome read output ended flushed reads writes (Err (Refused other)) → one ≢ run.NoMemory
+pub one_refusal : HasOneReading → HaveOneFault → (explain : Bool) (read output : List ℕ) (ended flushed : Bool)
+    (reads writes : ℕ)
+    (one other : RunFault) → IsOutcome explain read output ended flushed reads writes (Err (Refused one))
+    → IsOutcome explain read output ended flushed reads writes (Err (Refused other)) → one ≢ run.NoMemory
     → other ≢ run.NoMemory → one ≡ other
-one_refusal reading determined read output ended flushed reads writes one other (fine, inl (is, broken)) bad no_want
-    none = absurd (no_want is)
-one_refusal reading determined read output ended flushed reads writes one other bad (fine, inl (is, broken)) no_want
-    none = absurd (none is)
-one_refusal reading determined read output ended flushed reads writes one other
+one_refusal reading determined explain read output ended flushed reads writes one other (fine, inl (is, broken)) bad
+    no_want none = absurd (no_want is)
+one_refusal reading determined explain read output ended flushed reads writes one other bad (fine, inl (is, broken))
+    no_want none = absurd (none is)
+one_refusal reading determined explain read output ended flushed reads writes one other
     (fine, inr (silent, (table, rest, parts, over, fits, (v, p, spelled, refused))))
     (fine_too, inr (silent_too, (second, behind, parts_too, over_too, fits_too, (w, q, spelled_too, refused_too))))
     no_want none =
@@ -99,11 +105,12 @@ one_refusal reading determined read output ended flushed reads writes one other
     first.1 ∙ ap run.ConfigFault (determined q.drivers first.0 last.0 first.2 last.2) ∙ sym last.1
 
 -- if the text of a table has a fault, its drivers are not refused
-pub text_or_drivers : HasOneReading → (read output : List ℕ) (ended flushed : Bool) (reads writes : ℕ)
-    (fault : TextFault) (other : RunFault) → IsOutcome read output ended flushed reads writes (Err (Text fault))
-    → IsOutcome read output ended flushed reads writes (Err (Refused other)) → other ≡ run.NoMemory
-text_or_drivers reading read output ended flushed reads writes fault other bad (fine, inl (is, broken)) = is
-text_or_drivers reading read output ended flushed reads writes fault other
+pub text_or_drivers : HasOneReading → (explain : Bool) (read output : List ℕ) (ended flushed : Bool)
+    (reads writes : ℕ)
+    (fault : TextFault) (other : RunFault) → IsOutcome explain read output ended flushed reads writes (Err (Text fault))
+    → IsOutcome explain read output ended flushed reads writes (Err (Refused other)) → other ≡ run.NoMemory
+text_or_drivers reading explain read output ended flushed reads writes fault other bad (fine, inl (is, broken)) = is
+text_or_drivers reading explain read output ended flushed reads writes fault other
     (fine, silent, known, (table, rest, parts, over, fits, bad))
     (fine_too, inr (silent_too, (second, behind, parts_too, over_too, fits_too, (w, q, spelled, refused)))) =
     let same = table_once ended table second rest behind over over_too (sym parts ∙ parts_too) in

@@ -1,5 +1,5 @@
 -- The worked live session.
-use Rattle.std.proofs.Common.{◌≡◌, ℕ, ◌+◌, true, false, List, [], ◌∷◌, ◌++◌, map, take, drop}
+use Rattle.std.proofs.Common.{◌≡◌, ℕ, ◌+◌, Bool, true, false, List, [], ◌∷◌, ◌++◌, map, take, drop}
 use Rattle.std.proofs.Common.{refl, sym, subst}
 use Rattle.std.proofs.Common.{inl, inr, arith, rules}
 use Rattle.std.specs.Fmt.{digits}
@@ -16,13 +16,15 @@ use Rattle.smx_text.specs.TranscriptText.{transcript_grammar}
 use Rattle.smx_words.specs.LineReading.{IsCallLine, IsNoCallLine}
 use Rattle.smx_words.specs.Spelling.{call_words}
 use Rattle.smx_words.specs.Words.{line_of}
+use Rattle.smx_explain.specs.ColumnWords.{IsExplanationOf}
 use Rattle.smx_session.specs.Sessions.{IsStartOf}
 use Rattle.smx_session.specs.WorkedSessions.{begun, drivers, opened, table}
 use Rattle.smx_live.specs.LiveText.{IsLive, IsOver, closing_text}
 use Rattle.smx_live.specs.Tables.{AreOfTable, IsCutDriver, IsTable, IsUnfinished}
 use Rattle.smx_live.specs.Turns.{AsksForNeither, Entered, IsAnswer, IsEntryOf, IsRefusedFor, NotDone}
-use Rattle.smx_live.specs.Turns.{asked_text, said_text}
-use Rattle.smx_live.specs.WorkedLives.{worked_answers, worked_input, worked_output, worked_table, worked_turns}
+use Rattle.smx_live.specs.Turns.{IsExplained, asked_text, said_text, switched}
+use Rattle.smx_live.specs.WorkedLives.{worked_answers, worked_below, worked_input, worked_output, worked_table}
+use Rattle.smx_live.specs.WorkedLives.{worked_turns}
 use Rattle.smx_live.specs.declared.turn_fault.TurnFault.TheVariants.{NoCommand, NoMemory, Full}
 use Rattle.smx_live.proofs.OneOutputLemmas.{no_call, not_one, table_once}
 use Rattle.smx_live.proofs.OverTableLemmas.{finished}
@@ -167,7 +169,7 @@ not_unfinished is =
 
 -- the line `show` is not refused as no command
 pub show_is_asked : IsAnswer V2 drivers [] (codes "show") (NotDone NoCommand) → ⊥
-show_is_asked is = is.0.0 (inr refl)
+show_is_asked is = is.0.0 (inr (inl refl))
 
 -- the line `end` is not refused as no command
 pub end_is_asked : IsAnswer V2 drivers [] (codes "end") (NotDone NoCommand) → ⊥
@@ -189,7 +191,9 @@ asks_for_neither : AsksForNeither (codes "x")
 asks_for_neither = (
   λ asks. elim asks [
     | inl none ↦ absurd (cc none)
-    | inr show ↦ absurd (cc show)
+    | inr (inl show) ↦ absurd (cc show)
+    | inr (inr (inl on)) ↦ absurd (cc on)
+    | inr (inr (inr off)) ↦ absurd (cc off)
   ],
   λ end. absurd (cc end),
 )
@@ -199,7 +203,9 @@ clone_asks_for_neither : AsksForNeither (codes "3 clone eth")
 clone_asks_for_neither = (
   λ asks. elim asks [
     | inl none ↦ absurd (cc none)
-    | inr show ↦ absurd (cc show)
+    | inr (inl show) ↦ absurd (cc show)
+    | inr (inr (inl on)) ↦ absurd (cc on)
+    | inr (inr (inr off)) ↦ absurd (cc off)
   ],
   λ end. absurd (cc end),
 )
@@ -244,21 +250,22 @@ pub begins : BeginsTranscript V2 drivers [] (codes "transcript 2\ndriver eth lea
 begins = record { written = opening_is; drivers_fit = search (rules, arith); entries_fit = tt }
 
 -- the worked answers are the opening and the answers of the worked turns
-said_is : worked_answers
-    ≡ codes "transcript 2\ndriver eth leaf 2 8 3 16\n" ++ said_text worked_turns
+said_is : (explain : Bool)
+    → worked_answers explain ≡ codes "transcript 2\ndriver eth leaf 2 8 3 16\n" ++ said_text (worked_turns explain)
 unfolding digits
-said_is = refl
+said_is true = refl
+said_is false = refl
 
 -- the worked output is the worked answers, followed by the last lines of the transcript
-whole_is : worked_output
-    ≡ worked_answers
-    ++ ([] ++ closing_text opened)
+whole_is : (explain : Bool) → worked_output explain ≡ worked_answers explain ++ ([] ++ closing_text opened)
 unfolding digits
-whole_is = refl
+whole_is true = refl
+whole_is false = refl
 
 -- the worked table has ended if the lines of the worked turns follow it
-pub table_over : IsTable false worked_table (asked_text worked_turns ++ codes "end\n3 exit\n")
-table_over = record {
+pub table_over : (explain : Bool)
+    → IsTable false worked_table (asked_text (worked_turns explain) ++ codes "end\n3 exit\n")
+table_over explain = record {
   lines = codes "programs 2" ∷ codes "driver eth leaf 2 8 3 16" ∷ [];
   cut = [];
   text = refl;
@@ -273,13 +280,21 @@ table_over = record {
   );
 }
 
+-- below the line `x` is its explanation, if lines are explained
+explained : IsExplanationOf V2 (codes "x") (worked_below true) → (explain : Bool)
+    → IsExplained explain V2 (codes "x") (worked_below explain)
+explained told true = told
+explained told false = refl
+
 -- the worked session after its answers, with its line `end` still buffered
-pub answered : IsStartOf table begun → IsLive worked_input false worked_answers opened 1 (codes "end\n3 exit\n")
-answered start = record {
+pub answered : IsStartOf table begun → IsExplanationOf V2 (codes "x") (worked_below true) → (explain : Bool)
+    → IsLive explain worked_input false (worked_answers explain) opened (record { entries = 1; tracing = false })
+    (codes "end\n3 exit\n")
+answered start told explain = record {
   table = worked_table;
-  turns = worked_turns;
+  turns = worked_turns explain;
   read_is = refl;
-  over = table_over;
+  over = table_over explain;
   fits = search arith;
   programs = start.programs;
   spelled = start.spelled;
@@ -295,23 +310,43 @@ answered start = record {
     ),
   );
   few = search arith;
+  followed = (refl, (refl, (explained told explain, tt)));
+  tracing = refl;
   opening = codes "transcript 2\ndriver eth leaf 2 8 3 16\n";
   begins = begins;
-  written = said_is;
+  written = said_is explain;
   now = refl;
   counted = refl;
 }
 
 -- the worked session has ended, and its output is the worked one
-pub over : IsStartOf table begun → IsOver worked_input false worked_output
-over start = record {
-  before = worked_answers;
+pub over : IsStartOf table begun → IsExplanationOf V2 (codes "x") (worked_below true) → (explain : Bool)
+    → IsOver explain worked_input false (worked_output explain)
+over start told explain = record {
+  before = worked_answers explain;
   s = opened;
-  count = 1;
+  far = record { entries = 1; tracing = false };
   held = codes "end\n3 exit\n";
-  live = answered start;
+  live = answered start told explain;
   words = [];
   at_end = inl (codes "3 exit\n", refl, refl);
-  written = whole_is;
+  written = whole_is explain;
   spellable = search (rules, arith);
 }
+
+-- ---- which entries are traced
+
+-- `trace off` ends to trace entries
+pub off_ends : (tracing : Bool) → switched tracing (codes "trace off") ≡ false
+off_ends true = refl
+off_ends false = refl
+
+-- `show` neither begins nor ends to trace entries
+pub show_keeps : (tracing : Bool) → switched tracing (codes "show") ≡ tracing
+show_keeps true = refl
+show_keeps false = refl
+
+-- an empty line neither begins nor ends to trace entries
+pub empty_keeps : (tracing : Bool) → switched tracing [] ≡ tracing
+empty_keeps true = refl
+empty_keeps false = refl

@@ -18,6 +18,7 @@ use Rattle.smx_filters.specs.Output.{AppendsBeginning}
 use Rattle.smx_filters.specs.declared.main_fault.MainFault.{MainFault}
 use Rattle.smx_filters.specs.declared.main_fault.MainFault.TheVariants.{Refused, Text, TooLong, ReadFailed, WriteFailed}
 use Rattle.smx_live.specs.declared.inbox.Inbox.{Inbox}
+use Rattle.smx_live.specs.declared.talk.Progress.{Progress}
 use Rattle.smx_live.specs.declared.talk.Talk.{Talk}
 
 -- a table was read, and what was read after it is held
@@ -52,7 +53,7 @@ TakesCutLine table held now (Err WriteFailed) = ⊥
 -- memory ran out: for the line `end`, if the last line is whole, or in any way that can occur when a session
 -- starts.
 abbrev pub Begins : List ℕ → Result Talk MainFault → Type 0
-Begins table (Ok talk) = IsStartOf (table_text table) talk.session × (talk.count ≡ 0)
+Begins table (Ok talk) = IsStartOf (table_text table) talk.session × (talk.progress ≡ record { entries = 0; tracing = false })
 Begins table (Err (Text fault)) =
     ReadsAny programs_grammar (table_text table) (Err fault) × (fault.cause ≢ cause.NoMemory)
 Begins table (Err (Refused fault)) = ((fault ≡ NoMemory)
@@ -62,17 +63,17 @@ Begins table (Err TooLong) = ⊥
 Begins table (Err ReadFailed) = ⊥
 Begins table (Err WriteFailed) = ⊥
 
-module _ (read output : List ℕ) (ended : Bool) (s : State) (count : ℕ) (held : List ℕ) (before after : Option (List ℕ))
-    (flushed : Bool) (failures : ℕ) where
+module _ (explain : Bool) (read output : List ℕ) (ended : Bool) (s : State) (far : Progress) (held : List ℕ)
+    (before after : Option (List ℕ)) (flushed : Bool) (failures : ℕ) where
   -- The session `IsLive` up to here takes a turn: it goes on with this state, or it has ended.
   abbrev pub TurnsOn : Result Bool MainFault → Type 0
   TurnsOn (Ok true) = (failures ≡ 0) × (flushed ≡ true)
-      × (said : List ℕ) × Appends before after said × IsOver read ended (output ++ said)
+      × (said : List ℕ) × Appends before after said × IsOver explain read ended (output ++ said)
   TurnsOn (Ok false) = (failures ≡ 0) × (flushed ≡ true)
-      × (said : List ℕ) × Appends before after said × IsLive read ended (output ++ said) s count held
+      × (said : List ℕ) × Appends before after said × IsLive explain read ended (output ++ said) s far held
   TurnsOn (Err (Refused fault)) = (failures ≡ 0) × (fault ≡ NoMemory) × Keeps before after
   TurnsOn (Err WriteFailed) = (failures ≡ 1) × (said : List ℕ) × AppendsBeginning before after said
-      × (HasComeSoFar read ended (output ++ said) ⊎ IsOver read ended (output ++ said))
+      × (HasComeSoFar explain read ended (output ++ said) ⊎ IsOver explain read ended (output ++ said))
   TurnsOn (Err (Text fault)) = ⊥
   TurnsOn (Err TooLong) = ⊥
   TurnsOn (Err ReadFailed) = ⊥
@@ -97,24 +98,25 @@ Opens s before after flushed failures (Err (Text fault)) = ⊥
 Opens s before after flushed failures (Err TooLong) = ⊥
 Opens s before after flushed failures (Err ReadFailed) = ⊥
 
-module _ (read output : List ℕ) (ended : Bool) (before after : Option (List ℕ)) (flushed : Bool) (failures : ℕ) where
+module _ (explain : Bool) (read output : List ℕ) (ended : Bool) (before after : Option (List ℕ)) (flushed : Bool)
+    (failures : ℕ) where
   -- The session `IsLive` up to here ends, because its input has ended.
   abbrev pub Finishes : Result (Unit {0}) MainFault → Type 0
   Finishes (Ok done) = (failures ≡ 0) × (flushed ≡ true)
-      × (said : List ℕ) × Appends before after said × IsOver read ended (output ++ said)
+      × (said : List ℕ) × Appends before after said × IsOver explain read ended (output ++ said)
   Finishes (Err (Refused fault)) = (failures ≡ 0) × (fault ≡ NoMemory) × Keeps before after
   Finishes (Err WriteFailed) = (failures ≡ 1) × (said : List ℕ) × AppendsBeginning before after said
-      × IsOver read ended (output ++ said)
+      × IsOver explain read ended (output ++ said)
   Finishes (Err (Text fault)) = ⊥
   Finishes (Err TooLong) = ⊥
   Finishes (Err ReadFailed) = ⊥
 
 -- the session `IsLive` up to here goes on to its end, with this answer
-pub record Converses (read output : List ℕ) (had left : Option (List ℕ)) (ended : Bool) (read_failures : ℕ)
-    (before after : Option (List ℕ)) (flushed : Bool) (write_failures : ℕ) (answer : Result (Unit {0}) MainFault)
-    : Type 0 where
+pub record Converses (explain : Bool) (read output : List ℕ) (had left : Option (List ℕ)) (ended : Bool)
+    (read_failures : ℕ) (before after : Option (List ℕ)) (flushed : Bool) (write_failures : ℕ)
+    (answer : Result (Unit {0}) MainFault) : Type 0 where
   pub more : List ℕ
   pub consumed : Consumes had left more
   pub said : List ℕ
   pub appended : Appends before after said
-  pub outcome : IsOutcome (read ++ more) (output ++ said) ended flushed read_failures write_failures answer
+  pub outcome : IsOutcome explain (read ++ more) (output ++ said) ended flushed read_failures write_failures answer

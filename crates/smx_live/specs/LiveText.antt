@@ -1,5 +1,5 @@
 -- The input and the output of a live session.
-use Rattle.std.specs.Prelude.{◌≡◌, ◌≢◌, ℕ, ◌+◌, ◌^◌, ◌≤◌, ◌⊎◌, Bool, true, List, [], ◌∷◌, ◌++◌, length, map, take}
+use Rattle.std.specs.Prelude.{◌≡◌, ◌≢◌, ℕ, ◌+◌, ◌^◌, ◌≤◌, ◌⊎◌, Bool, true, false, List, [], ◌∷◌, ◌++◌, length, map, take}
 use Rattle.std.specs.Prelude.{Option, Result, Ok, Err, codes}
 use Rattle.std.specs.Io.KnownBytes.{Consumes, Appends}
 use Rattle.smx_types.specs.ProgramLists.{ProgramLists}
@@ -24,16 +24,17 @@ use Rattle.smx_session.specs.Sessions.{State, HasDrivers}
 use Rattle.smx_filters.specs.declared.input.TheConstants.{MAX_INPUT}
 use Rattle.smx_live.specs.Inboxes.{IsShort, IsTooLong}
 use Rattle.smx_live.specs.Tables.{HasShortTableOf, IsEndlessTable, IsTable, IsUnfinished, table_text}
-use Rattle.smx_live.specs.Turns.{AreAnswered, Turn, asked_text, entries_of, said_text}
+use Rattle.smx_live.specs.Turns.{AreAnswered, AreFollowed, Turn, asked_text, entries_of, said_text, traces_behind}
+use Rattle.smx_live.specs.declared.talk.Progress.{Progress}
 use Rattle.smx_filters.specs.declared.main_fault.MainFault.{MainFault}
 use Rattle.smx_filters.specs.declared.main_fault.MainFault.TheVariants.{Refused, Text, TooLong, ReadFailed, WriteFailed}
 
 -- ---- a session up to now
 
--- A session that has read and written these bytes so far. It has this state and `count` entries, and holds these bytes.
--- Its input has ended or not.
-pub record IsLive (read : List ℕ) (ended : Bool) (output : List ℕ) (s : State) (count : ℕ) (held : List ℕ)
-    : Type 0 where
+-- A session that has read and written these bytes so far. It has this state, is this far, and holds these bytes. Its
+-- input has ended or not, and it explains lines that are not commands, or doesn't.
+pub record IsLive (explain : Bool) (read : List ℕ) (ended : Bool) (output : List ℕ) (s : State) (far : Progress)
+    (held : List ℕ) : Type 0 where
   -- It read a driver table, the lines that it answered, and the bytes that it holds.
   pub table : List ℕ
   pub turns : List Turn
@@ -49,17 +50,22 @@ pub record IsLive (read : List ℕ) (ended : Bool) (output : List ℕ) (s : Stat
   -- Each line is answered by the entry of its command, by the configuration, or by why it is refused.
   pub answered : AreAnswered s.version s.drivers [] turns
   pub few : length (entries_of turns) ≤ MAX_COMMANDS
+  -- Below the line of an entry are its changes, if entries are traced then. Below the answer to a line that is not a
+  -- command is its explanation, if lines are explained.
+  pub followed : AreFollowed explain s.version s.drivers [] false turns
+  pub tracing : far.tracing ≡ traces_behind false turns
   -- It wrote the beginning of a transcript, and these answers.
   pub opening : List ℕ
   pub begins : BeginsTranscript s.version s.drivers [] opening
   pub written : output ≡ opening ++ said_text turns
   -- The session's configuration is the one after these entries.
   pub now : s.configuration ≡ after s.drivers (entries_of turns)
-  pub counted : count ≡ length (entries_of turns)
+  pub counted : far.entries ≡ length (entries_of turns)
 
 -- some session is `IsLive` with these bytes read and written
-abbrev pub HasComeSoFar : List ℕ → Bool → List ℕ → Type 0
-HasComeSoFar read ended output = (s : State) × (count : ℕ) × (held : List ℕ) × IsLive read ended output s count held
+abbrev pub HasComeSoFar : Bool → List ℕ → Bool → List ℕ → Type 0
+HasComeSoFar explain read ended output =
+    (s : State) × (far : Progress) × (held : List ℕ) × IsLive explain read ended output s far held
 
 -- ---- its end
 
@@ -78,13 +84,13 @@ IsAtEnd ended held words = ((more : List ℕ) × (held ≡ codes "end\n" ++ more
     ⊎ ((ended ≡ true) × IsShort held × (words ≡ cut_words held))
 
 -- A session that has ended; its input has ended or not.
-pub record IsOver (read : List ℕ) (ended : Bool) (output : List ℕ) : Type 0 where
+pub record IsOver (explain : Bool) (read : List ℕ) (ended : Bool) (output : List ℕ) : Type 0 where
   -- It wrote this before its end,
   pub before : List ℕ
   pub s : State
-  pub count : ℕ
+  pub far : Progress
   pub held : List ℕ
-  pub live : IsLive read ended before s count held
+  pub live : IsLive explain read ended before s far held
   -- has reached its end,
   pub words : List ℕ
   pub at_end : IsAtEnd ended held words
@@ -92,7 +98,7 @@ pub record IsOver (read : List ℕ) (ended : Bool) (output : List ℕ) : Type 0 
   pub written : output ≡ before ++ (words ++ closing_text s)
   pub spellable : IsSpellableView (view s.drivers s.configuration)
 
-module _ {read : List ℕ} {ended : Bool} {output : List ℕ} (o : IsOver read ended output) where
+module _ {explain : Bool} {read : List ℕ} {ended : Bool} {output : List ℕ} (o : IsOver explain read ended output) where
   -- the transcript of the session's entries, with the configuration after them
   abbrev pub transcript_of : Transcript
   transcript_of = transcript_with o.s.version o.s.drivers (entries_of o.live.turns) (view o.s.drivers o.s.configuration)
@@ -109,21 +115,21 @@ module _ {read : List ℕ} {ended : Bool} {output : List ℕ} (o : IsOver read e
 -- ---- from bytes to bytes
 
 -- nothing was written yet, or some session is `IsLive` so far
-abbrev pub IsBroken : List ℕ → Bool → List ℕ → Type 0
-IsBroken read ended output = (output ≡ []) ⊎ HasComeSoFar read ended output
+abbrev pub IsBroken : Bool → List ℕ → Bool → List ℕ → Type 0
+IsBroken explain read ended output = (output ≡ []) ⊎ HasComeSoFar explain read ended output
 
 -- nothing was written, because the table had not ended; or each whole line was answered, and the answers are
 -- flushed
-abbrev pub HasAnsweredAll : List ℕ → Bool → List ℕ → Bool → Type 0
-HasAnsweredAll read ended output flushed = ((output ≡ []) × IsUnfinished read)
-    ⊎ ((flushed ≡ true) × (s : State) × (count : ℕ) × (held : List ℕ) × IsLive read ended output s count held
-    × IsOneLine held)
+abbrev pub HasAnsweredAll : Bool → List ℕ → Bool → List ℕ → Bool → Type 0
+HasAnsweredAll explain read ended output flushed = ((output ≡ []) × IsUnfinished read)
+    ⊎ ((flushed ≡ true) × (s : State) × (far : Progress) × (held : List ℕ)
+    × IsLive explain read ended output s far held × IsOneLine held)
 
 -- the table or the line after it has more than 16,777,216 bytes; or a session is `IsLive` so far, and a line
 -- of it has more bytes, or so many bytes were read that the count of lines can overflow
-abbrev pub IsEndless : List ℕ → Bool → List ℕ → Type 0
-IsEndless read ended output = ((output ≡ []) × IsEndlessTable read)
-    ⊎ ((s : State) × (count : ℕ) × (held : List ℕ) × IsLive read ended output s count held
+abbrev pub IsEndless : Bool → List ℕ → Bool → List ℕ → Type 0
+IsEndless explain read ended output = ((output ≡ []) × IsEndlessTable read)
+    ⊎ ((s : State) × (far : Progress) × (held : List ℕ) × IsLive explain read ended output s far held
     × (IsTooLong held ⊎ (2 ^ 64 ≤ length read + 1)))
 
 -- no device has failed
@@ -134,11 +140,11 @@ AreFine read_failures write_failures = (read_failures ≡ 0) × (write_failures 
 abbrev pub RefusesDriversOf : RunFault → List ℕ → Type 0
 RefusesDriversOf fault text = HasDrivers text (λ drivers. RefusesAlone drivers fault)
 
-module _ (read output : List ℕ) (ended flushed : Bool) (read_failures write_failures : ℕ) where
+module _ (explain : Bool) (read output : List ℕ) (ended flushed : Bool) (read_failures write_failures : ℕ) where
   -- The bytes read and written, if a session returns this result.
   abbrev pub IsOutcome : Result (Unit {0}) MainFault → Type 0
   -- The session has ended, and all is flushed.
-  IsOutcome (Ok done) = AreFine read_failures write_failures × (flushed ≡ true) × IsOver read ended output
+  IsOutcome (Ok done) = AreFine read_failures write_failures × (flushed ≡ true) × IsOver explain read ended output
   -- There was no session: the text of the table has a fault, and is not too long. Out-of-memory is not
   -- reported this way.
   IsOutcome (Err (Text fault)) = AreFine read_failures write_failures × (output ≡ [])
@@ -147,19 +153,21 @@ module _ (read output : List ℕ) (ended flushed : Bool) (read_failures write_fa
   -- The drivers are refused, and the table is not too long; or memory ran out, before there was a session or
   -- after any line of it.
   IsOutcome (Err (Refused fault)) = AreFine read_failures write_failures
-      × (((fault ≡ NoMemory) × IsBroken read ended output)
+      × (((fault ≡ NoMemory) × IsBroken explain read ended output)
       ⊎ ((output ≡ []) × HasShortTableOf read ended (RefusesDriversOf fault)))
   -- The table or a line has more than 16,777,216 bytes.
-  IsOutcome (Err TooLong) = AreFine read_failures write_failures × IsEndless read ended output
+  IsOutcome (Err TooLong) = AreFine read_failures write_failures × IsEndless explain read ended output
   -- The reader failed, and every whole line had been answered.
-  IsOutcome (Err ReadFailed) = (read_failures ≡ 1) × (write_failures ≡ 0) × HasAnsweredAll read ended output flushed
+  IsOutcome (Err ReadFailed) =
+      (read_failures ≡ 1) × (write_failures ≡ 0) × HasAnsweredAll explain read ended output flushed
   -- The writer failed: a part of what was to be written next has been written.
   IsOutcome (Err WriteFailed) = (read_failures ≡ 0) × (write_failures ≡ 1) × (n : ℕ) × (whole : List ℕ)
-      × (output ≡ take n whole) × (HasComeSoFar read ended whole ⊎ IsOver read ended whole)
+      × (output ≡ take n whole) × (HasComeSoFar explain read ended whole ⊎ IsOver explain read ended whole)
 
--- A session from bytes to bytes. The reader had `had` and has `left`, and has ended or not. The writer held
--- `before` and holds `after`, flushed or not. In this call each has failed this number of times.
-pub record LivesText (had left : Option (List ℕ)) (ended : Bool) (read_failures : ℕ)
+-- A session from bytes to bytes, which explains lines that are not commands, or doesn't. The reader had `had` and has
+-- `left`, and has ended or not. The writer held `before` and holds `after`, flushed or not. In this call each has
+-- failed this number of times.
+pub record LivesText (explain : Bool) (had left : Option (List ℕ)) (ended : Bool) (read_failures : ℕ)
     (before after : Option (List ℕ)) (flushed : Bool) (write_failures : ℕ)
     (answer : Result (Unit {0}) MainFault) : Type 0 where
   -- These bytes were read, and no others.
@@ -169,4 +177,4 @@ pub record LivesText (had left : Option (List ℕ)) (ended : Bool) (read_failure
   pub output : List ℕ
   pub appended : Appends before after output
   -- They are what a session reads and writes if it returns this result.
-  pub outcome : IsOutcome read output ended flushed read_failures write_failures answer
+  pub outcome : IsOutcome explain read output ended flushed read_failures write_failures answer

@@ -1,38 +1,43 @@
 -- A worked live session: what it reads and writes, and its answers, typed in by hand.
-use Rattle.std.specs.Prelude.{◌≡◌, ℕ, true, false, List, [], ◌∷◌, ◌++◌, codes, refl}
+use Rattle.std.specs.Prelude.{◌≡◌, ℕ, Bool, true, false, List, [], ◌∷◌, ◌++◌, codes, refl}
 use Rattle.std.specs.Fmt.{digits}
 use Rattle.smx_model.specs.Views.{view}
 use Rattle.smx_model.specs.Worked.Common.{Fd, OpenClone, ◌does◌gets◌, eth}
 use Rattle.smx_session.specs.WorkedSessions.{begun, drivers, hung, one_open}
 use Rattle.smx_live.specs.LiveText.{closing_text, cut_words}
 use Rattle.smx_live.specs.Tables.{begins_driver, table_text}
-use Rattle.smx_live.specs.Turns.{Entered, NotDone, Shown, Turn, answer_text, fault_line}
+use Rattle.smx_live.specs.Turns.{Entered, NotDone, Shown, Turn, answer_text, fault_line, traced_changes}
 use Rattle.smx_live.specs.declared.turn_fault.TurnFault.TheVariants.{NoCommand, NoMemory, Full}
 
 -- the table of a worked session
 abbrev pub worked_table : List ℕ
 worked_table = codes "programs 2\ndriver eth leaf 2 8 3 16\n"
 
+-- what is below the answer to the line `x`, if lines are explained or not
+abbrev pub worked_below : Bool → List ℕ
+worked_below true = codes "  column 1: 'show', 'trace', 'end', or a process from 0 to 63 is wanted\n"
+worked_below false = []
+
 -- a command, an empty line, and a line that is not a command, with their answers
-abbrev pub worked_turns : List Turn
-worked_turns =
-    record { line = codes "3 clone eth"; answer = Entered (3 does OpenClone eth gets Fd 0 0) }
-    ∷ record { line = []; answer = Shown (view drivers one_open) }
-    ∷ record { line = codes "x"; answer = NotDone NoCommand } ∷ []
+abbrev pub worked_turns : Bool → List Turn
+worked_turns explain =
+    record { line = codes "3 clone eth"; answer = Entered (3 does OpenClone eth gets Fd 0 0); below = [] }
+    ∷ record { line = []; answer = Shown (view drivers one_open); below = [] }
+    ∷ record { line = codes "x"; answer = NotDone NoCommand; below = worked_below explain } ∷ []
 
 -- what is read; the session ends before the last line
 abbrev pub worked_input : List ℕ
 worked_input = codes "programs 2\ndriver eth leaf 2 8 3 16\n3 clone eth\n\nx\nend\n3 exit\n"
 
 -- what is written up to the line `end`
-abbrev pub worked_answers : List ℕ
-worked_answers =
+abbrev pub worked_answers : Bool → List ℕ
+worked_answers explain =
     codes "transcript 2\ndriver eth leaf 2 8 3 16\n3 clone eth = fd 0 0\n"
-    ++ codes "config\nnext 1 1\nfd 3 0 eth 0\nshown\n? no command\n"
+    ++ codes "config\nnext 1 1\nfd 3 0 eth 0\nshown\n? no command\n" ++ worked_below explain
 
 -- everything that is written
-abbrev pub worked_output : List ℕ
-worked_output = worked_answers ++ codes "config\nnext 1 1\nfd 3 0 eth 0\nend\n"
+abbrev pub worked_output : Bool → List ℕ
+worked_output explain = worked_answers explain ++ codes "config\nnext 1 1\nfd 3 0 eth 0\nend\n"
 
 -- programs whose only driver has no minor, so it is not valid
 abbrev pub minorless_text : List ℕ
@@ -48,6 +53,11 @@ pub view_shown : answer_text (Shown (view drivers hung.configuration))
     ≡ codes "config\nnext 1 1\nfd 3 0 eth 0\nhung eth 0\nshown\n"
 unfolding digits
 view_shown = refl
+
+-- the changes of a clone, as they are below its entry if entries are traced
+pub changes_shown : traced_changes true drivers begun.configuration one_open ≡ codes "  + fd 3 0 eth 0\n"
+unfolding digits
+changes_shown = refl
 
 -- the last lines of a session without an entry
 pub end_shown : closing_text begun ≡ codes "config\nnext 1 1\nend\n"

@@ -1,30 +1,36 @@
 //! The answers of a live session.
 
-ghost use Rattle.std.specs.Prelude.{◌≡◌, codes};
+ghost use Rattle.std.specs.Prelude.{◌≡◌, ◌++◌, ℕ, Bool, true, List, IfOk, MatchBool, codes};
+ghost use Rattle.smx_explain.specs.ColumnWords.{IsExplanationOf};
 ghost use Rattle.smx_live.specs.LiveTurns.{Says, TakesTurn};
-ghost use Rattle.smx_live.specs.Turns.{AsksForNeither, AsksToShow};
+ghost use Rattle.smx_live.specs.Turns.{AsksForNeither, AsksToShow, IsRefusedFor, fault_line};
+ghost use Rattle.smx_live.specs.declared.turn_fault.TurnFault.TheVariants.{NoCommand};
 
-use crate::talk::{Asked, Talk, asked_by, shown_with};
+use crate::talk::{Asked, Talk, asked_by, shown_with, switched};
 use crate::turn_fault::{TurnFault, line_of_fault};
+use smx_explain::explain_line;
 use smx_filters::{MainFault, Sink, write_all};
 use smx_run::RunFault;
+use smx_types::{NoMemory, Version};
 use std::alloc::Global;
 
-/// Writes the answer to a line and flushes it. Returns `true` if this ends the session, because the line was `end`.
+/// Writes the answer to a line, with what is below it, and flushes it. Returns `true` if this ends the session, because
+/// the line was `end`.
 pub fn answer<S: Sink>(
     alloc: Global,
     sink: &mut S,
     talk: &mut Talk,
     line: &[u8],
+    explain: bool,
 ) -> Result<bool, MainFault>
     requires { S.failures sink.old ≡ 0 }
-    ensures { TakesTurn talk.old.session talk.old.count line.now talk.new.session talk.new.count
+    ensures { TakesTurn explain talk.old.session talk.old.progress line.now talk.new.session talk.new.progress
         (S.contents sink.old) (S.contents sink.new) (S.flushed sink.new) (S.failures sink.new) result }
 {
     match asked_by(line) {
         Asked::Show => show(alloc, sink, talk, line),
         Asked::End => end(alloc, sink, talk, line),
-        Asked::Call => call(alloc, sink, talk, line),
+        Asked::Call => call(alloc, sink, talk, line, explain),
     }
 }
 
@@ -40,15 +46,23 @@ fn say<S: Sink>(sink: &mut S, text: &[u8], over: bool) -> Result<bool, MainFault
     }
 }
 
-// Writes the configuration.
-fn show<S: Sink>(alloc: Global, sink: &mut S, talk: &Talk, line: &[u8]) -> Result<bool, MainFault>
+// Writes the configuration. Begins or ends to trace entries, if the line asks for it.
+fn show<S: Sink>(
+    alloc: Global,
+    sink: &mut S,
+    talk: &mut Talk,
+    line: &[u8],
+) -> Result<bool, MainFault>
     requires asked { AsksToShow line.now }
     requires sunk { S.failures sink.old ≡ 0 }
-    ensures { TakesTurn talk.now.session talk.now.count line.now talk.now.session talk.now.count
-        (S.contents sink.old) (S.contents sink.new) (S.flushed sink.new) (S.failures sink.new) result }
+    ensures { (explain : Bool) → TakesTurn explain talk.old.session talk.old.progress line.now talk.new.session
+        talk.new.progress (S.contents sink.old) (S.contents sink.new) (S.flushed sink.new) (S.failures sink.new) result }
 {
     match shown_with(alloc, &talk.session, b"shown\n") {
-        Ok(text) => say(sink, text.as_slice(), false),
+        Ok(text) => {
+            talk.progress.tracing = switched(talk.progress.tracing, line);
+            say(sink, text.as_slice(), false)
+        }
         Err(_) => say(sink, line_of_fault(TurnFault::NoMemory), false),
     }
 }
@@ -57,8 +71,8 @@ fn show<S: Sink>(alloc: Global, sink: &mut S, talk: &Talk, line: &[u8]) -> Resul
 fn end<S: Sink>(alloc: Global, sink: &mut S, talk: &Talk, line: &[u8]) -> Result<bool, MainFault>
     requires asked { line.now ≡ codes "end" }
     requires sunk { S.failures sink.old ≡ 0 }
-    ensures { TakesTurn talk.now.session talk.now.count line.now talk.now.session talk.now.count
-        (S.contents sink.old) (S.contents sink.new) (S.flushed sink.new) (S.failures sink.new) result }
+    ensures { (explain : Bool) → TakesTurn explain talk.now.session talk.now.progress line.now talk.now.session
+        talk.now.progress (S.contents sink.old) (S.contents sink.new) (S.flushed sink.new) (S.failures sink.new) result }
 {
     match shown_with(alloc, &talk.session, b"end\n") {
         Ok(text) => say(sink, text.as_slice(), true),
@@ -72,15 +86,57 @@ fn call<S: Sink>(
     sink: &mut S,
     talk: &mut Talk,
     line: &[u8],
+    explain: bool,
 ) -> Result<bool, MainFault>
     requires asked { AsksForNeither line.now }
     requires sunk { S.failures sink.old ≡ 0 }
-    ensures { TakesTurn talk.old.session talk.old.count line.now talk.new.session talk.new.count
+    ensures { TakesTurn explain talk.old.session talk.old.progress line.now talk.new.session talk.new.progress
         (S.contents sink.old) (S.contents sink.new) (S.flushed sink.new) (S.failures sink.new) result }
 {
     match talk.perform(alloc, line) {
         Ok(None) => say(sink, talk.text.as_slice(), false),
-        Ok(Some(fault)) => say(sink, line_of_fault(fault), false),
+        Ok(Some(fault)) => refuse(alloc, sink, talk, line, fault, explain),
         Err(_) => Err(MainFault::Refused(RunFault::NoMemory)),
     }
+}
+
+// Writes why a line is refused. If `explain`, writes the explanation of a line that is not a command below that.
+fn refuse<S: Sink>(
+    alloc: Global,
+    sink: &mut S,
+    talk: &Talk,
+    line: &[u8],
+    fault: TurnFault,
+    explain: bool,
+) -> Result<bool, MainFault>
+    requires refused { IsRefusedFor talk.now.session.version talk.now.progress.entries line.now fault }
+    requires sunk { S.failures sink.old ≡ 0 }
+    ensures { TakesTurn explain talk.now.session talk.now.progress line.now talk.now.session talk.now.progress
+        (S.contents sink.old) (S.contents sink.new) (S.flushed sink.new) (S.failures sink.new) result }
+{
+    if is_explained(fault, explain) {
+        return match explained(alloc, talk.session.version(), line) {
+            Ok(text) => say(sink, text.as_slice(), false),
+            Err(_) => Err(MainFault::Refused(RunFault::NoMemory)),
+        };
+    }
+    say(sink, line_of_fault(fault), false)
+}
+
+// Returns whether an explanation is below the line that reports this fault.
+fn is_explained(fault: TurnFault, explain: bool) -> bool
+    ensures { MatchBool result ((fault ≡ NoCommand) × (explain ≡ true)) ((fault ≡ NoCommand) × (explain ≡ true) → ⊥) }
+{
+    explain && fault == TurnFault::NoCommand
+}
+
+// Returns the answer to a line that is not a command, with its explanation. Fails only if it is out of memory.
+fn explained(alloc: Global, version: Version, line: &[u8]) -> Result<Vec<u8>, NoMemory>
+    ensures { IfOk result (λ text. (below : List ℕ) × IsExplanationOf version line.now below
+        × (text.items ≡ fault_line NoCommand ++ below)) }
+{
+    let below = explain_line(alloc, version, line)?;
+    let mut text = Vec::from_slice(alloc, line_of_fault(TurnFault::NoCommand))?;
+    text.extend_from_slice(below.as_slice())?;
+    Ok(text)
 }

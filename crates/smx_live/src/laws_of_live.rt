@@ -6,6 +6,8 @@ ghost use Rattle.smx_types.specs.declared.command.Entry.{Entry};
 ghost use Rattle.smx_types.specs.declared.driver.SpecFault.TheVariants.{BadMinors};
 ghost use Rattle.smx_types.specs.declared.limits.TheConstants.{MAX_COMMANDS};
 ghost use Rattle.smx_types.specs.declared.version.Version.TheVariants.{V1, V2};
+ghost use Rattle.smx_types.specs.declared.view.ConfigView.{ConfigView};
+ghost use Rattle.smx_model.specs.Worked.Common.{Fd, OpenClone, ◌does◌gets◌, eth};
 ghost use Rattle.smx_config.specs.declared.config_fault.ConfigFault.TheVariants as config;
 ghost use Rattle.smx_run.specs.declared.run_fault.RunFault.{RunFault as AnyFault};
 ghost use Rattle.smx_run.specs.declared.run_fault.RunFault.TheVariants as run;
@@ -14,19 +16,24 @@ ghost use Rattle.smx_text.specs.ProgramsText.{programs_grammar};
 ghost use Rattle.smx_text.specs.declared.text_fault.Cause.TheVariants as cause;
 ghost use Rattle.smx_text.specs.declared.text_fault.TextFault.{TextFault};
 ghost use Rattle.smx_session.specs.Sessions.{State};
-ghost use Rattle.smx_session.specs.WorkedSessions.{drivers};
+ghost use Rattle.smx_session.specs.WorkedSessions.{begun, drivers, one_open};
 ghost use Rattle.smx_filters.specs.declared.input.TheConstants.{MAX_INPUT};
 ghost use Rattle.smx_filters.specs.declared.main_fault.MainFault.TheVariants.{Refused, Text};
+ghost use Rattle.smx_explain.specs.ColumnWords.{IsExplanationOf};
 ghost use Rattle.smx_live.specs.Inboxes.{HasLine, IsTooLong};
 ghost use Rattle.smx_live.specs.LiveText.{HasComeSoFar, IsBroken, IsLegalTranscript, IsLive, IsOutcome, IsOver};
 ghost use Rattle.smx_live.specs.LiveText.{RefusesDriversOf};
 ghost use Rattle.smx_live.specs.Tables.{HasTableOf, IsEndlessTable, IsTable, IsUnfinished, table_text};
-ghost use Rattle.smx_live.specs.Turns.{Entered, HasEnoughMemory, IsAnswer, IsRefusedFor, NotDone};
+ghost use Rattle.smx_live.specs.Turns.{Entered, HasEnoughMemory, IsAnswer, IsBelow, IsExplained, IsRefusedFor};
+ghost use Rattle.smx_live.specs.Turns.{NotDone, Shown, traces_after};
 ghost use Rattle.smx_live.specs.WorkedLives.{minorless_text, worked_answers, worked_input, worked_output};
 ghost use Rattle.smx_live.specs.WorkedLives.{worked_table};
+ghost use Rattle.smx_live.specs.declared.talk.Progress.{Progress};
+ghost use Rattle.smx_live.specs.declared.turn_fault.TurnFault.{TurnFault};
 ghost use Rattle.smx_live.specs.declared.turn_fault.TurnFault.TheVariants.{NoCommand, NoMemory, Full};
 
 use smx_config::laws_of_drivers::drivers_have_one_fault;
+use smx_explain::laws_of_columns::{a_line_has_one_explanation, worked_explanations};
 use smx_model::laws::one_entry_more;
 use smx_model::laws_of_hangups::without_a_hangup_none_is_reported;
 use smx_session::laws_of_sessions::a_worked_session;
@@ -38,7 +45,8 @@ use smx_words::laws_of_reading::which_lines_are_calls;
 /// Take the output of a session that has ended, without the answers that are not entries. It is the transcript of a
 /// legal history, and a check finds it legal.
 pub fn live_sessions_are_legal_transcripts()
-    ensures { (read : List ℕ) (ended : Bool) (output : List ℕ) (o : IsOver read ended output) → IsLegalTranscript o }
+    ensures { (explain : Bool) (read : List ℕ) (ended : Bool) (output : List ℕ)
+        (o : IsOver explain read ended output) → IsLegalTranscript o }
 {
     one_entry_more();
     without_a_hangup_none_is_reported();
@@ -47,23 +55,27 @@ pub fn live_sessions_are_legal_transcripts()
 /// The bytes that a session has read determine its output, if the session has ended and no line was refused
 /// for lack of memory.
 pub fn a_session_has_one_output()
-    ensures { (read : List ℕ) (ended : Bool) (one other : List ℕ) (o : IsOver read ended one)
-        (p : IsOver read ended other) → HasEnoughMemory o.live.turns → HasEnoughMemory p.live.turns → one ≡ other }
+    ensures { (explain : Bool) (read : List ℕ) (ended : Bool) (one other : List ℕ) (o : IsOver explain read ended one)
+        (p : IsOver explain read ended other) → HasEnoughMemory o.live.turns → HasEnoughMemory p.live.turns
+        → one ≡ other }
 {
     one_text_has_one_reading();
     one_value_each();
+    a_line_has_one_explanation();
 }
 
 /// The table of a session spells programs whose drivers are not refused, except as out of memory. The table and each
 /// line that the session has answered have at most 16,777,216 bytes.
 pub fn a_session_has_its_drivers()
-    ensures text { (read output : List ℕ) (ended : Bool) (fault : TextFault) → HasComeSoFar read ended output
+    ensures text { (explain : Bool) (read output : List ℕ) (ended : Bool) (fault : TextFault)
+        → HasComeSoFar explain read ended output
         → HasTableOf read ended (λ text. ReadsAny programs_grammar text (Err fault))
         → fault.cause ≢ cause.NoMemory → ⊥ }
-    ensures drivers { (read output : List ℕ) (ended : Bool) (fault : AnyFault) → HasComeSoFar read ended output
+    ensures drivers { (explain : Bool) (read output : List ℕ) (ended : Bool) (fault : AnyFault)
+        → HasComeSoFar explain read ended output
         → HasTableOf read ended (RefusesDriversOf fault) → fault ≡ run.NoMemory }
-    ensures short { (read output held : List ℕ) (ended : Bool) (s : State) (count : ℕ)
-        (l : IsLive read ended output s count held)
+    ensures short { (explain : Bool) (read output held : List ℕ) (ended : Bool) (s : State) (far : Progress)
+        (l : IsLive explain read ended output s far held)
         → (length l.table ≤ MAX_INPUT) × AllByRecursion (λ t. length t.line ≤ MAX_INPUT) l.turns }
 {
     one_text_has_one_reading();
@@ -75,28 +87,36 @@ pub fn a_session_has_its_drivers()
 /// fault of the text. If the text has no fault, its drivers are refused for one fault only, or because memory
 /// has run out.
 pub fn a_table_has_one_fault()
-    ensures one { (read output : List ℕ) (ended flushed : Bool) (reads writes : ℕ) (one other : TextFault)
-        → IsOutcome read output ended flushed reads writes (Err (Text one))
-        → IsOutcome read output ended flushed reads writes (Err (Text other)) → one ≡ other }
-    ensures known { (read output : List ℕ) (ended flushed : Bool) (reads writes : ℕ) (fault : TextFault)
-        → IsOutcome read output ended flushed reads writes (Err (Text fault)) → fault.cause ≢ cause.NoMemory }
-    ensures short { (read output : List ℕ) (ended flushed : Bool) (reads writes : ℕ) (fault : TextFault)
-        → IsOutcome read output ended flushed reads writes (Err (Text fault)) → IsEndlessTable read → ⊥ }
-    ensures drivers { (read output : List ℕ) (ended flushed : Bool) (reads writes : ℕ) (fault : AnyFault)
-        → IsOutcome read output ended flushed reads writes (Err (Refused fault)) → fault ≢ run.NoMemory
+    ensures one { (explain : Bool) (read output : List ℕ) (ended flushed : Bool) (reads writes : ℕ)
+        (one other : TextFault)
+        → IsOutcome explain read output ended flushed reads writes (Err (Text one))
+        → IsOutcome explain read output ended flushed reads writes (Err (Text other)) → one ≡ other }
+    ensures known { (explain : Bool) (read output : List ℕ) (ended flushed : Bool) (reads writes : ℕ)
+        (fault : TextFault)
+        → IsOutcome explain read output ended flushed reads writes (Err (Text fault)) → fault.cause ≢ cause.NoMemory }
+    ensures short { (explain : Bool) (read output : List ℕ) (ended flushed : Bool) (reads writes : ℕ)
+        (fault : TextFault)
+        → IsOutcome explain read output ended flushed reads writes (Err (Text fault)) → IsEndlessTable read → ⊥ }
+    ensures drivers { (explain : Bool) (read output : List ℕ) (ended flushed : Bool) (reads writes : ℕ)
+        (fault : AnyFault)
+        → IsOutcome explain read output ended flushed reads writes (Err (Refused fault)) → fault ≢ run.NoMemory
         → IsEndlessTable read → ⊥ }
-    ensures silent { (read output : List ℕ) (ended flushed : Bool) (reads writes : ℕ) (fault : TextFault)
-        → IsOutcome read output ended flushed reads writes (Err (Text fault)) → output ≡ [] }
-    ensures drivers_silent { (read output : List ℕ) (ended flushed : Bool) (reads writes : ℕ) (fault : AnyFault)
-        → IsOutcome read output ended flushed reads writes (Err (Refused fault)) → fault ≢ run.NoMemory
+    ensures silent { (explain : Bool) (read output : List ℕ) (ended flushed : Bool) (reads writes : ℕ)
+        (fault : TextFault)
+        → IsOutcome explain read output ended flushed reads writes (Err (Text fault)) → output ≡ [] }
+    ensures drivers_silent { (explain : Bool) (read output : List ℕ) (ended flushed : Bool)
+        (reads writes : ℕ) (fault : AnyFault)
+        → IsOutcome explain read output ended flushed reads writes (Err (Refused fault)) → fault ≢ run.NoMemory
         → output ≡ [] }
-    ensures one_refusal { (read output : List ℕ) (ended flushed : Bool) (reads writes : ℕ) (one other : AnyFault)
-        → IsOutcome read output ended flushed reads writes (Err (Refused one))
-        → IsOutcome read output ended flushed reads writes (Err (Refused other)) → one ≢ run.NoMemory
+    ensures one_refusal { (explain : Bool) (read output : List ℕ) (ended flushed : Bool)
+        (reads writes : ℕ) (one other : AnyFault)
+        → IsOutcome explain read output ended flushed reads writes (Err (Refused one))
+        → IsOutcome explain read output ended flushed reads writes (Err (Refused other)) → one ≢ run.NoMemory
         → other ≢ run.NoMemory → one ≡ other }
-    ensures text_first { (read output : List ℕ) (ended flushed : Bool) (reads writes : ℕ) (fault : TextFault)
-        (other : AnyFault) → IsOutcome read output ended flushed reads writes (Err (Text fault))
-        → IsOutcome read output ended flushed reads writes (Err (Refused other)) → other ≡ run.NoMemory }
+    ensures text_first { (explain : Bool) (read output : List ℕ) (ended flushed : Bool) (reads writes : ℕ)
+        (fault : TextFault)
+        (other : AnyFault) → IsOutcome explain read output ended flushed reads writes (Err (Text fault))
+        → IsOutcome explain read output ended flushed reads writes (Err (Refused other)) → other ≡ run.NoMemory }
 {
     one_text_has_one_reading();
     drivers_have_one_fault();
@@ -111,9 +131,10 @@ pub fn what_is_too_long()
     ensures no_table { (ended : Bool) (table rest : List ℕ) → IsTable ended table rest → length table ≤ MAX_INPUT
         → IsEndlessTable (table ++ rest) → ⊥ }
     ensures no_line { (n : ℕ) (held : List ℕ) → HasLine n held → n ≤ MAX_INPUT → IsTooLong held → ⊥ }
-    ensures no_session { (read output : List ℕ) (ended : Bool) → HasComeSoFar read ended output
+    ensures no_session { (explain : Bool) (read output : List ℕ) (ended : Bool) → HasComeSoFar explain read ended output
         → IsEndlessTable read → ⊥ }
-    ensures no_end { (read output : List ℕ) (ended : Bool) (o : IsOver read ended output) → IsTooLong o.held → ⊥ }
+    ensures no_end { (explain : Bool) (read output : List ℕ) (ended : Bool) (o : IsOver explain read ended output)
+        → IsTooLong o.held → ⊥ }
 {}
 
 /// If a table has ended, and each whole line that was read belongs to it, the input has ended. A line belongs to a
@@ -132,7 +153,7 @@ pub fn where_a_table_is_over()
 /// nowhere else. The lines that ask for the configuration or for the end are not refused. A line that is not a command
 /// is not performed.
 pub fn a_worked_live_session()
-    ensures over { IsOver worked_input false worked_output }
+    ensures over { (explain : Bool) → IsOver explain worked_input false (worked_output explain) }
     ensures table { IsTable false worked_table (codes "3 clone eth\n") }
     ensures not_too_early { IsTable false (codes "programs 2\n") (codes "driver eth leaf 2 8 3 16\n3 clone eth\n") → ⊥ }
     ensures not_too_late { IsTable false (codes "programs 2\nshow\n") (codes "end\n") → ⊥ }
@@ -143,28 +164,50 @@ pub fn a_worked_live_session()
     ensures over_within_another { IsTable true (codes "programs 2\n") (codes "3 clone") }
     ensures show_is_asked { IsAnswer V2 drivers [] (codes "show") (NotDone NoCommand) → ⊥ }
     ensures end_is_asked { IsAnswer V2 drivers [] (codes "end") (NotDone NoCommand) → ⊥ }
+    ensures trace_on_is_asked { IsAnswer V2 drivers [] (codes "trace on") (NotDone NoCommand) → ⊥ }
+    ensures trace_off_is_asked { IsAnswer V2 drivers [] (codes "trace off") (NotDone NoCommand) → ⊥ }
+    ensures in_its_version { (line below : List ℕ) → IsExplained true V1 line below → IsExplanationOf V1 line below }
     ensures not_full { IsAnswer V2 drivers [] (codes "x") (NotDone Full) → ⊥ }
     ensures full_is_reported { IsRefusedFor V2 MAX_COMMANDS (codes "3 clone eth") NoMemory → ⊥ }
     ensures no_memory_for_no_command { IsRefusedFor V2 0 (codes "x") NoMemory → ⊥ }
     ensures not_performed { (e : Entry) → IsAnswer V2 drivers [] (codes "x") (Entered e) → ⊥ }
 {
     a_worked_session();
+    worked_explanations();
 }
+
+/// Entries are traced from an answered `trace on` to an answered `trace off`; no other line changes that. An example of
+/// what is below an entry: its changes if entries are traced, and else nothing.
+pub fn when_entries_are_traced()
+    ensures on { (tracing : Bool) (v : ConfigView) → traces_after tracing (codes "trace on") (Shown v) ≡ true }
+    ensures off { (tracing : Bool) (v : ConfigView) → traces_after tracing (codes "trace off") (Shown v) ≡ false }
+    ensures shown { (tracing : Bool) (v : ConfigView) → traces_after tracing (codes "show") (Shown v) ≡ tracing }
+    ensures empty { (tracing : Bool) (v : ConfigView) → traces_after tracing [] (Shown v) ≡ tracing }
+    ensures entered { (tracing : Bool) (line : List ℕ) (e : Entry) → traces_after tracing line (Entered e) ≡ tracing }
+    ensures refused { (tracing : Bool) (line : List ℕ) (w : TurnFault)
+        → traces_after tracing line (NotDone w) ≡ tracing }
+    ensures changes { IsBelow true V2 drivers true begun.configuration one_open (codes "3 clone eth")
+        (Entered (3 does OpenClone eth gets Fd 0 0)) (codes "  + fd 3 0 eth 0\n") }
+    ensures untraced { IsBelow true V2 drivers false begun.configuration one_open (codes "3 clone eth")
+        (Entered (3 does OpenClone eth gets Fd 0 0)) [] }
+{}
 
 /// Examples of the output when memory runs out. It is empty, or the output of the session so far. For the worked
 /// session that is its opening, or its opening and the answers to its lines. It has answers only to lines that were
 /// read, and never only a part of the opening.
 pub fn what_is_out_when_memory_runs_out()
-    ensures nothing { IsBroken worked_input false [] }
-    ensures opening { IsBroken worked_input false (codes "transcript 2\ndriver eth leaf 2 8 3 16\n") }
-    ensures answers { IsBroken worked_input false worked_answers }
-    ensures not_an_answer { IsBroken worked_table true
+    ensures nothing { (explain : Bool) → IsBroken explain worked_input false [] }
+    ensures opening { (explain : Bool)
+        → IsBroken explain worked_input false (codes "transcript 2\ndriver eth leaf 2 8 3 16\n") }
+    ensures answers { (explain : Bool) → IsBroken explain worked_input false (worked_answers explain) }
+    ensures not_an_answer { (explain : Bool) → IsBroken explain worked_table true
         (codes "transcript 2\ndriver eth leaf 2 8 3 16\n3 clone eth = fd 0 0\n") → ⊥ }
-    ensures not_a_refusal { IsBroken worked_table true
+    ensures not_a_refusal { (explain : Bool) → IsBroken explain worked_table true
         (codes "transcript 2\ndriver eth leaf 2 8 3 16\n? no memory\n") → ⊥ }
-    ensures not_a_part { IsBroken worked_table true (codes "transcript 2\n") → ⊥ }
+    ensures not_a_part { (explain : Bool) → IsBroken explain worked_table true (codes "transcript 2\n") → ⊥ }
 {
     a_worked_session();
+    worked_explanations();
     one_text_has_one_reading();
 }
 

@@ -3,6 +3,7 @@
 ghost use Rattle.std.specs.Prelude.{◌≡◌, ◌≢◌, ◌+◌, ◌≤◌, ◌⊎◌, ◌++◌, List, ℕ, Bool, true, false, drop, IfOk};
 ghost use Rattle.std.specs.List.{ends_with};
 ghost use Rattle.std.specs.Prelude.{MatchBool, OnErr, OnOk, codes, nat_eq};
+ghost use Rattle.smx_filters.specs.ExplainText.{answer_of};
 ghost use Rattle.smx_live.specs.Inboxes.{HasLine, IsShort};
 ghost use Rattle.smx_live.specs.LiveStages.{Begins, Converses, Finishes, HasTable, Opens, TakesCutLine, TurnsOn};
 ghost use Rattle.smx_live.specs.LiveStages.{Writes};
@@ -13,48 +14,56 @@ ghost use Rattle.smx_text.specs.TranscriptText.{IsSpellableView};
 
 use crate::answers::answer;
 use crate::inbox::Inbox;
-use crate::talk::{Talk, shown_with};
-use smx_filters::{Feed, MAX_INPUT, MainFault, Sink, write_all};
+use crate::talk::{Progress, Talk, shown_with};
+use smx_filters::{Feed, MAX_INPUT, MainFault, Refusal, Sink, write_all};
 use smx_model::laws::one_entry_more;
 use smx_run::RunFault;
 use smx_session::{Session, StartFault};
 use smx_types::NoMemory;
 use std::alloc::{AllocError, Global};
 
-/// Reads a driver table and then lines, and answers each line at once. A line is a process with a command, `show`,
-/// empty, or `end`. The answer to a command is its entry. The answer to `show` or an empty line is the configuration.
-/// The answer to a refused line is a line that begins with `?`; such a line changes nothing. `end` or the end of the
-/// input ends the transcript. So the output is the transcript of the commands that were performed, with other answers
-/// in between.
+/// Reads a driver table and then lines, and answers each line at once. A line is `show`, `trace on`, `trace off`,
+/// `end`, empty, or a process with a command. The answer to a command is its entry. The answer to `show`, an empty
+/// line, `trace on` or `trace off` is the configuration. Between `trace on` and `trace off` each entry is followed by
+/// the lines of what it changed. The answer to any other line is `? no command` and, if `explain`, what is wrong with
+/// the line. After 100,000 entries the answer to such a line, and to each command, is `? history full`. If memory runs
+/// out for a line, its answer is `? no memory`. A line with one of these three answers changes nothing. `end` or the
+/// end of the input ends the transcript. So the output is the transcript of the commands that were performed, with
+/// other answers in between. If the table or its drivers have a fault, the returned `Refusal` has the table as a
+/// programs text; only tests show this.
 ///
 /// Requires that neither the feed nor the sink has failed before, and that the feed has not ended. Fails with the first
 /// fault that it meets: a failed read; a table or a line that is too long; a fault of the table as a text, and then of
-/// its drivers; a failed write; or out-of-memory, unless that is the answer to a line. It has then written all earlier
-/// answers.
+/// its drivers; a failed write; or out-of-memory, unless that is the answer to a line. Whenever it fails, it has
+/// written all earlier answers.
 pub fn live_text<F: Feed, S: Sink>(
     alloc: Global,
     feed: &mut F,
     sink: &mut S,
-) -> Result<(), MainFault>
+    explain: bool,
+) -> Result<(), Refusal>
     requires before_the_end { F.ended feed.old ≡ false }
     requires fed { F.failures feed.old ≡ 0 }
     requires sunk { S.failures sink.old ≡ 0 }
-    ensures { LivesText (F.remaining feed.old) (F.remaining feed.new) (F.ended feed.new)
+    ensures { LivesText explain (F.remaining feed.old) (F.remaining feed.new) (F.ended feed.new)
         (F.failures feed.new) (S.contents sink.old) (S.contents sink.new) (S.flushed sink.new)
-        (S.failures sink.new) result }
+        (S.failures sink.new) (answer_of result) }
 {
     let mut inbox = Inbox::new(alloc);
     let table = match read_table(alloc, feed, &mut inbox) {
         Ok(table) => table,
-        Err(fault) => return Err(fault),
+        Err(fault) => return Err(Refusal { fault, text: None }),
     };
     let mut talk = match begin(alloc, table) {
         Ok(talk) => talk,
-        Err(fault) => return Err(fault),
+        Err(refusal) => return Err(refusal),
     };
     match open(alloc, sink, &talk.session) {
-        Ok(()) => converse(alloc, feed, sink, &mut inbox, &mut talk),
-        Err(fault) => Err(fault),
+        Ok(()) => match converse(alloc, feed, sink, &mut inbox, &mut talk, explain) {
+            Ok(()) => Ok(()),
+            Err(fault) => Err(Refusal { fault, text: None }),
+        },
+        Err(fault) => Err(Refusal { fault, text: None }),
     }
 }
 
@@ -123,22 +132,37 @@ fn text_of_table(table: Vec<u8>) -> Result<Vec<u8>, AllocError>
     Ok(text)
 }
 
-// Starts a session with the drivers of a table.
-fn begin(alloc: Global, table: Vec<u8>) -> Result<Talk, MainFault>
-    ensures { Begins table.items result }
+// Starts a session with the drivers of a table. Keeps the text of the table if it or its drivers have a fault.
+fn begin(alloc: Global, table: Vec<u8>) -> Result<Talk, Refusal>
+    ensures { Begins table.items (answer_of result) }
 {
     let Ok(text) = text_of_table(table) else {
-        return Err(MainFault::Refused(RunFault::NoMemory));
+        return Err(Refusal {
+            fault: MainFault::Refused(RunFault::NoMemory),
+            text: None,
+        });
     };
     match Session::new(alloc, text.as_slice()) {
         Ok(session) => Ok(Talk {
             session,
-            count: 0,
+            progress: Progress {
+                entries: 0,
+                tracing: false,
+            },
             text: Vec::new(alloc),
         }),
-        Err(StartFault::Text(fault)) => Err(MainFault::Text(fault)),
-        Err(StartFault::Drivers(fault)) => Err(MainFault::Refused(RunFault::from(fault))),
-        Err(StartFault::NoMemory) => Err(MainFault::Refused(RunFault::NoMemory)),
+        Err(StartFault::Text(fault)) => Err(Refusal {
+            fault: MainFault::Text(fault),
+            text: Some(text),
+        }),
+        Err(StartFault::Drivers(fault)) => Err(Refusal {
+            fault: MainFault::Refused(RunFault::from(fault)),
+            text: Some(text),
+        }),
+        Err(StartFault::NoMemory) => Err(Refusal {
+            fault: MainFault::Refused(RunFault::NoMemory),
+            text: None,
+        }),
     }
 }
 
@@ -161,20 +185,21 @@ fn converse<F: Feed, S: Sink>(
     sink: &mut S,
     inbox: &mut Inbox,
     talk: &mut Talk,
+    explain: bool,
 ) -> Result<(), MainFault>
     requires end { F.ended feed.old ≡ inbox.old.ended }
     requires fed { F.failures feed.old ≡ 0 }
     requires sunk { S.failures sink.old ≡ 0 }
     requires flushed { S.flushed sink.old ≡ true }
     ensures { (read output : List ℕ)
-        → IsLive read inbox.old.ended output talk.old.session talk.old.count inbox.old.held.items
-        → Converses read output (F.remaining feed.old) (F.remaining feed.new) (F.ended feed.new)
+        → IsLive explain read inbox.old.ended output talk.old.session talk.old.progress inbox.old.held.items
+        → Converses explain read output (F.remaining feed.old) (F.remaining feed.new) (F.ended feed.new)
         (F.failures feed.new) (S.contents sink.old) (S.contents sink.new) (S.flushed sink.new)
         (S.failures sink.new) result }
 {
     for _turn in 0..u64::MAX {
         match inbox.next_line(feed) {
-            Ok(Some(n)) => match take_turn(alloc, sink, inbox, talk, n) {
+            Ok(Some(n)) => match take_turn(alloc, sink, inbox, talk, n, explain) {
                 Ok(false) => {}
                 Ok(true) => return Ok(()),
                 Err(fault) => return Err(fault),
@@ -193,6 +218,7 @@ fn take_turn<S: Sink>(
     inbox: &mut Inbox,
     talk: &mut Talk,
     n: usize,
+    explain: bool,
 ) -> Result<bool, MainFault>
     requires line { HasLine n inbox.old.held.items }
     requires fits { n ≤ MAX_INPUT }
@@ -202,12 +228,12 @@ fn take_turn<S: Sink>(
     ensures flushed { OnOk result (S.flushed sink.new ≡ true) }
     ensures taken { IfOk result (λ over. over ≡ false → inbox.new.held.items ≡ drop (n + 1) inbox.old.held.items) }
     ensures turn { (read output : List ℕ) (ended : Bool)
-        → IsLive read ended output talk.old.session talk.old.count inbox.old.held.items
-        → TurnsOn read output ended talk.new.session talk.new.count inbox.new.held.items (S.contents sink.old)
-        (S.contents sink.new) (S.flushed sink.new) (S.failures sink.new) result }
+        → IsLive explain read ended output talk.old.session talk.old.progress inbox.old.held.items
+        → TurnsOn explain read output ended talk.new.session talk.new.progress inbox.new.held.items
+        (S.contents sink.old) (S.contents sink.new) (S.flushed sink.new) (S.failures sink.new) result }
 {
     one_entry_more();
-    match answer(alloc, sink, talk, &inbox.held[..n]) {
+    match answer(alloc, sink, talk, &inbox.held[..n], explain) {
         Ok(false) => {
             inbox.drop_line(n);
             Ok(false)
@@ -250,10 +276,10 @@ fn write_last<S: Sink>(sink: &mut S, text: &[u8]) -> Result<(), MainFault>
 // Ends the session at the end of the input, with `held` still buffered.
 fn finish<S: Sink>(alloc: Global, sink: &mut S, talk: &Talk, held: &[u8]) -> Result<(), MainFault>
     requires { S.failures sink.old ≡ 0 }
-    ensures { (read output : List ℕ) (ended : Bool)
-        → IsLive read ended output talk.now.session talk.now.count held.now → ended ≡ true → IsShort held.now
-        → Finishes read output ended (S.contents sink.old) (S.contents sink.new) (S.flushed sink.new)
-        (S.failures sink.new) result }
+    ensures { (explain : Bool) (read output : List ℕ) (ended : Bool)
+        → IsLive explain read ended output talk.now.session talk.now.progress held.now → ended ≡ true
+        → IsShort held.now → Finishes explain read output ended (S.contents sink.old) (S.contents sink.new)
+        (S.flushed sink.new) (S.failures sink.new) result }
 {
     match closing(alloc, &talk.session, held) {
         Ok(text) => write_last(sink, text.as_slice()),

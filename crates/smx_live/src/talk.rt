@@ -1,8 +1,9 @@
-//! A live session: its configuration, its number of entries, and the texts that it answers.
+//! A live session: its configuration, how far it is, and the texts that it answers.
 
-ghost use Rattle.std.specs.Prelude.{◌≡◌, ◌+◌, ◌++◌, ◌<◌, ◌⊎◌, [], Some, None, IfOk, IfSome, OnErr, OnOk};
+ghost use Rattle.std.specs.Prelude.{◌≡◌, ◌+◌, ◌++◌, ◌<◌, ◌⊎◌, [], Some, None, IfOk, IfSome, MatchBool, OnErr, OnOk};
+ghost use Rattle.std.specs.Prelude.{codes};
 ghost use Rattle.smx_live.specs.LiveTurns.{IsAsked};
-ghost use Rattle.smx_live.specs.Turns.{AsksForNeither, IsPerformed};
+ghost use Rattle.smx_live.specs.Turns.{AsksForNeither, IsPerformed, IsTracedView, IsViewOfKept, changes_since, switched};
 ghost use Rattle.smx_live.specs.declared.turn_fault.TurnFault.TheVariants as fault;
 ghost use Rattle.smx_model.specs.Views.{view};
 ghost use Rattle.smx_session.specs.Sessions.{Performs};
@@ -14,9 +15,19 @@ ghost use Rattle.smx_words.specs.Spelling.{entry_line};
 
 use crate::turn_fault::TurnFault;
 use smx_session::{LineFault, Session};
-use smx_types::{MAX_COMMANDS, MAX_MESSAGE, NoMemory, Version};
+use smx_trace::write_changes;
+use smx_types::{ConfigView, MAX_COMMANDS, MAX_MESSAGE, NoMemory, Version};
 use smx_words::call_of_line;
 use std::alloc::Global;
+
+/// How far a session is.
+#[derive(Clone, Copy, Debug, PartialEq, Eq)]
+pub struct Progress {
+    /// The number of its entries.
+    pub entries: usize,
+    /// Whether the changes of each entry are written below it.
+    pub tracing: bool,
+}
 
 // Room for a reply without a list of dropped messages, and for everything around it.
 const REPLY: usize = 2 * MAX_MESSAGE as usize + 64;
@@ -24,18 +35,18 @@ const REPLY: usize = 2 * MAX_MESSAGE as usize + 64;
 // Room for the digits of a serial and the space before them.
 const SERIAL: usize = 11;
 
-/// A session, its number of entries, and a buffer for texts.
+/// A session, how far it is, and a buffer for texts.
 #[derive(Drop)]
 pub struct Talk {
     pub session: Session,
-    pub count: usize,
+    pub progress: Progress,
     pub text: Vec<u8>,
 }
 
 /// The kinds of requests that a line can make.
 #[derive(Clone, Copy, Debug, PartialEq, Eq)]
 pub enum Asked {
-    /// Show the configuration.
+    /// Show the configuration, and perhaps begin or end to trace entries.
     Show,
     /// Write the rest of the transcript.
     End,
@@ -50,8 +61,24 @@ pub fn asked_by(line: &[u8]) -> Asked
     match line {
         b"" | b"show" => Asked::Show,
         b"end" => Asked::End,
+        _ if is_switch(line) => Asked::Show,
         _ => Asked::Call,
     }
+}
+
+// Returns whether a line begins or ends to trace entries.
+fn is_switch(line: &[u8]) -> bool
+    ensures { MatchBool result ((line.now ≡ codes "trace on") ⊎ (line.now ≡ codes "trace off"))
+        ((line.now ≡ codes "trace on") ⊎ (line.now ≡ codes "trace off") → ⊥) }
+{
+    line == "trace on".as_bytes() || line == "trace off".as_bytes()
+}
+
+/// Returns whether entries are traced after this line, which asks for the configuration.
+pub fn switched(tracing: bool, line: &[u8]) -> bool
+    ensures { result ≡ switched tracing line.now }
+{
+    line == "trace on".as_bytes() || (tracing && line != "trace off".as_bytes())
 }
 
 // Empties `text`, and reserves room for the line of the next entry. The line that asks for this entry has `len` bytes,
@@ -78,25 +105,31 @@ fn fault_without_room(alloc: Global, version: Version, line: &[u8]) -> TurnFault
 }
 
 impl Talk {
-    /// Reserves room for the line of an entry, performs the command of a line, and makes the line of its entry. If the
-    /// line is refused, returns the reason, and nothing has changed. Fails if the reserved room was too small; in that
-    /// case the command has already been performed.
+    /// Reserves room for the line of an entry, performs the command of a line, and makes the line of its entry, with its
+    /// changes below it if entries are traced. If the line is refused, returns the reason, and nothing has changed. Fails
+    /// if the reserved room was too small, or if there is no memory for the changes; in that case the command has already
+    /// been performed.
     pub fn perform(&mut self, alloc: Global, line: &[u8]) -> Result<Option<TurnFault>, NoMemory>
         requires { AsksForNeither line.now }
-        ensures answered { IfOk result (λ o. IsPerformed self.old.session self.old.count line.now o
-            self.new.session self.new.count self.new.text.items) }
+        ensures answered { IfOk result (λ o. IsPerformed self.old.session self.old.progress line.now o
+            self.new.session self.new.progress self.new.text.items) }
         ensures performed { OnErr result (Performs self.old.session line.now self.new.session) }
     {
-        if self.count >= MAX_COMMANDS {
+        if self.progress.entries >= MAX_COMMANDS {
             return Ok(Some(TurnFault::Full));
         }
-        if make_room(&mut self.text, line.len(), self.count).is_err() {
+        if make_room(&mut self.text, line.len(), self.progress.entries).is_err() {
             let version = self.session.version();
             return Ok(Some(fault_without_room(alloc, version, line)));
         }
+        let Ok(before) = self.traced_view() else {
+            let version = self.session.version();
+            return Ok(Some(fault_without_room(alloc, version, line)));
+        };
         match self.session.perform(alloc, line) {
             Ok(()) => {
                 self.tell()?;
+                self.tell_changes(alloc, before)?;
                 Ok(None)
             }
             Err(LineFault::NoCommand) => Ok(Some(TurnFault::NoCommand)),
@@ -107,17 +140,44 @@ impl Talk {
     // Makes the line of the last entry and counts the entry.
     fn tell(&mut self) -> Result<(), NoMemory>
         requires empty { self.old.text.items ≡ [] }
-        requires room { self.old.count < MAX_COMMANDS }
+        requires room { self.old.progress.entries < MAX_COMMANDS }
         ensures session { self.new.session ≡ self.old.session }
-        ensures count { OnOk result (self.new.count ≡ self.old.count + 1) }
+        ensures tracing { self.new.progress.tracing ≡ self.old.progress.tracing }
+        ensures count { OnOk result (self.new.progress.entries ≡ self.old.progress.entries + 1) }
         ensures text { OnOk result (IfSome self.old.session.last (λ e. self.new.text.items ≡ entry_line e)) }
         ensures fits { OnOk result (IfSome self.old.session.last FitsEntry) }
     {
         if self.session.write_entry(&mut self.text).is_err() {
             return Err(NoMemory);
         }
-        self.count += 1;
+        self.progress.entries += 1;
         Ok(())
+    }
+
+    // Returns the view of the configuration, if entries are traced.
+    fn traced_view(&self) -> Result<Option<ConfigView>, NoMemory>
+        ensures { IfOk result (IsTracedView self.now.progress.tracing self.now.session) }
+    {
+        if self.progress.tracing {
+            return Ok(Some(self.session.show()?));
+        }
+        Ok(None)
+    }
+
+    // Appends the changes since a view, if there is one, to the text.
+    fn tell_changes(&mut self, alloc: Global, before: Option<ConfigView>) -> Result<(), NoMemory>
+        requires { IfSome before (IsViewOfKept self.old.session.drivers) }
+        ensures session { self.new.session ≡ self.old.session }
+        ensures progress { self.new.progress ≡ self.old.progress }
+        ensures text { OnOk result (self.new.text.items ≡ self.old.text.items
+            ++ changes_since before self.old.session) }
+    {
+        let Some(before) = before else {
+            return Ok(());
+        };
+        let after = self.session.show()?;
+        let drivers = self.session.drivers();
+        write_changes(alloc, &mut self.text, drivers, &before, &after)
     }
 }
 

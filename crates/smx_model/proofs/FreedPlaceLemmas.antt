@@ -2,7 +2,7 @@
 use Rattle.std.proofs.Common.{◌≡◌, ℕ, Bool, true, false, ◌+◌, ◌&&◌, not, cond, List, [], filter, None}
 use Rattle.std.proofs.Common.{refl, rules, sym, ap, ◌∙◌, subst, inl, inr}
 use mathlib.Core.Logic.{◌⊎◌}
-use Rattle.std.specs.Prelude.{slice_get}
+use Rattle.std.specs.Prelude.{slice_get, IfOk}
 use Rattle.std.specs.List.{list_any}
 use Rattle.std.proofs.lemmas.Bool.{both_ways, cases_Bool, and_parts, false≢true}
 use Rattle.smx_types.specs.declared.command.Command.{Command}
@@ -18,6 +18,7 @@ use Rattle.smx_model.specs.Commands.{outcome, done_outcome, link_outcome, send_o
 use Rattle.smx_model.specs.Commands.{with_fd}
 use Rattle.smx_model.specs.Configuration.{Configuration, QueuedMessage, same_place, read_side, write_side}
 use Rattle.smx_model.specs.FreedPlaces.{FreesOnly, freed_by, is_empty_at, is_side_of}
+use Rattle.smx_model.specs.KeptConfigurations.{IsSound}
 use Rattle.smx_model.specs.Lookups.{free_stream, live_stream, live_leaf}
 use Rattle.smx_model.specs.Queues.{after_arrival, after_leaving, first_message, is_full, queue}
 use Rattle.smx_model.specs.Removal.{after_sweep, is_read_below, without_links, without_queues_at}
@@ -27,7 +28,7 @@ use Rattle.smx_model.specs.Swept.{IsSwept}
 use Rattle.smx_model.proofs.DropLemmas.{mux_exists, hung_swept}
 use Rattle.smx_model.proofs.IdleSweepLemmas.{swept_idle}
 use Rattle.smx_model.proofs.AcceptedLemmas.{unlinked}
-use Rattle.smx_model.proofs.OutcomeLemmas.{IfAccepted, at_ok, after_ok, after_test, after_some, after_choice}
+use Rattle.smx_model.proofs.OutcomeLemmas.{IfAccepted, if_ok, at_ok, after_ok, after_test, after_some, after_choice}
 use Rattle.smx_model.proofs.QueueLemmas.{emptied_full, emptied_queue, front_is}
 use Rattle.smx_model.proofs.TestLemmas.{all_filter, all_placed}
 use Rattle.smx_model.proofs.TurningCommandLemmas.{at_stream}
@@ -199,7 +200,7 @@ frees_received : (drivers : List DriverSpec) (c : Configuration) (p : Place)
 frees_received drivers c p = search (after_some, at_ok, frees_at_leaving, rules) depth 12
 
 -- an accepted command, from a swept configuration, frees only places of `freed_by`
-pub frees : (drivers : List DriverSpec) (c : Configuration) (process : ℕ) (k : Command) → IsSwept drivers c
+frees : (drivers : List DriverSpec) (c : Configuration) (process : ℕ) (k : Command) → IsSwept drivers c
     → IfAccepted (λ d r. FreesOnly c d (freed_by drivers c process k d)) (outcome drivers c process k)
 frees drivers c process (command.OpenClone name) h = search (after_ok, at_ok, frees_with_fd drivers, rules) depth 20
 frees drivers c process (command.OpenMinor name minor) h =
@@ -236,3 +237,9 @@ frees drivers c process (command.Transmit name minor) h = search (
 ) depth 20
 frees drivers c process (command.Hangup name minor) h =
     search (after_ok, frees_still, hung_swept, leaf_exists, rules) depth 20
+
+-- the same with the outcome's clauses, from a sound configuration
+pub few_freed : (drivers : List DriverSpec) (c : Configuration) (process : ℕ) (k : Command) → IsSound drivers c
+    → IfOk (outcome drivers c process k) (λ x. FreesOnly c x.0 (freed_by drivers c process k x.0))
+few_freed drivers c process k h = if_ok (λ d. FreesOnly c d (freed_by drivers c process k d)) _
+    (outcome drivers c process k) (λ d m. m) (frees drivers c process k h.swept)

@@ -28,7 +28,7 @@ use Rattle.smx_model.proofs.AcceptedLemmas.{of_rows, at_none}
 use Rattle.smx_model.proofs.HungListLemmas.{hung_kept_by, hung_with}
 use Rattle.smx_model.proofs.OutcomeLemmas.{IfAccepted}
 use Rattle.smx_model.proofs.SettledLemmas.{settled_alone}
-use Rattle.smx_model.proofs.SettlingByMarksLemmas.{none_is_least, settling_stays}
+use Rattle.smx_model.proofs.LeastMarkedLemmas.{none_is_least, settling_stays}
 use Rattle.smx_model.proofs.SweptLemmas.{leaf_exists, swept_accepted}
 use Rattle.smx_model.proofs.TestLemmas.{any_found, keep_all}
 use Rattle.smx_model.proofs.TurningCommandLemmas.{more_hung_turn_none, hung_more}

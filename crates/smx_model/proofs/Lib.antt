@@ -43,11 +43,9 @@ pub mod FewerLemmas
 pub mod FeederLemmas
 pub mod TurningCommandLemmas
 pub mod KnownPlaceLemmas
-pub mod SettlingByMarksLemmas
-pub mod MarkedPlaceLemmas
+pub mod LeastMarkedLemmas
 pub mod FreedPlaceLemmas
 pub mod UndroppedLemmas
-pub mod MarkedCommandLemmas
 pub mod HungStreamLemmas
 pub mod QuietHistoryLemmas
 pub mod HungListLemmas

@@ -1,6 +1,6 @@
 -- The places that changes turn.
 use Rattle.std.proofs.Common.{◌≡◌, ℕ, Bool, true, false, ◌&&◌, not, eqb, List, [], ◌∷◌, ◌++◌, filter, find, Option}
-use Rattle.std.proofs.Common.{Some, None, refl, sym, ap, ◌∙◌, subst, inl, inr}
+use Rattle.std.proofs.Common.{Some, None, refl, sym, ap, ◌∙◌, subst, inl}
 use Rattle.std.specs.List.{list_any}
 use Rattle.std.proofs.lemmas.Bool.{both_ways, and_parts, and_from, or_parts}
 use Rattle.std.proofs.lemmas.Bool.{false_from_ne_true, eqb-true, eq-eqb}
@@ -17,16 +17,16 @@ use Rattle.smx_model.specs.Configuration.{Configuration, QueuedMessage, is_at, s
 use Rattle.smx_model.specs.Configuration.{bind_before, route_before}
 use Rattle.smx_model.specs.FlowOrder.{IsInOrder}
 use Rattle.smx_model.specs.Ordered.{with_inserted}
-use Rattle.smx_model.specs.Queues.{first_message, is_full, after_arrival, after_leaving}
+use Rattle.smx_model.specs.Queues.{first_message, after_arrival, after_leaving}
 use Rattle.smx_model.specs.Settling.{◌>>=◌, after_move, next_open_place, next_place, live_write_side}
 use Rattle.smx_model.specs.SoundLinks.{AreRoutesSound}
 use Rattle.smx_model.proofs.EachLemmas.{each_find}
 use Rattle.smx_model.proofs.TestLemmas.{found_any, find_passes, any_more}
 use Rattle.smx_model.proofs.SettlingLemmas.{open_next}
-use Rattle.smx_model.specs.RunMarks.{AreMarked, next_of_first, next_of, is_one_of, asks_down, asks_up, has_addr}
-use Rattle.smx_model.specs.RunMarks.{is_first_at, either, feeds, is_freed, nowhere, wanted_after}
-use Rattle.smx_model.specs.RunMarks.{woken_by, Stays, TurnsOnly}
-use Rattle.smx_model.proofs.WaitingLemmas.{next_by, next_is, keeps_by, next_of_same, first_left, first_arrived}
+use Rattle.smx_model.specs.RunMarks.{next_of, asks_down, asks_up, has_addr}
+use Rattle.smx_model.specs.RunMarks.{is_first_at, either, nowhere}
+use Rattle.smx_model.specs.RunMarks.{Stays, TurnsOnly}
+use Rattle.smx_model.proofs.WaitingLemmas.{next_by, next_is, next_of_same, first_left, first_arrived}
 use Rattle.smx_model.proofs.FindLemmas.{finds_then, find_placed}
 use Rattle.smx_model.proofs.FindLemmas.{find_filter, find_push_found, find_push_other}
 use Rattle.smx_model.proofs.FindLemmas.{not_same_pair_turned}
@@ -34,32 +34,6 @@ use Rattle.std.proofs.lemmas.Bool.{or_from}
 use Rattle.std.specs.List.{AllByRecursion}
 use Rattle.std.proofs.lemmas.List.Elements.{recursion_from_All}
 use Rattle.smx_model.proofs.EachLemmas.{later_without_first}
-
--- a change that turns only these places keeps the marks valid, if the places that it wakes get a run mark and those
--- that it frees are no longer wanted
-pub wakes : (drivers : List DriverSpec) (c d : Configuration) (run v turned : Place → Bool) → AreMarked drivers c run v
-    → TurnsOnly drivers c d turned
-    → AreMarked drivers d (either run (woken_by drivers c d v turned)) (wanted_after c d v)
-wakes drivers c d run v turned covered h r unmarked =
-    let u = or_parts (run r) (woken_by drivers c d v turned r) unmarked in
-    let o = or_parts (turned r) (feeds drivers d (λ q. is_freed c d q && v q) r) u.1 in
-    elim (h r o.0) [
-      | inl e ↦ keeps_by c d v (wanted_after c d v) (next_of_first drivers c r) (next_of_first drivers d r) (inl e)
-          (λ q a g. let b = and_parts (is_full c q) (v q) g in
-          stays q b (sym (ap (is_one_of (λ q. is_freed c d q && v q)) (e ∙ a)) ∙ o.1)) (covered r u.0)
-      | inr e ↦ rw e refl
-    ]
-  where
-    by : (f g w : Bool) → f ≡ true → w ≡ true → ((f && not g) && w) ≡ false → (g ≡ true) × (not (f && not g) ≡ true)
-    by true true w h u k = (refl, refl)
-    by true false true h u k = absurd (cc)
-    by true false false h u k = absurd (cc)
-    by false g w h u k = absurd (cc)
-
-    stays : (q : Place) → (is_full c q ≡ true) × (v q ≡ true) → (is_freed c d q && v q) ≡ false
-        → (is_full d q && wanted_after c d v q) ≡ true
-    stays q b k =
-        let s = by (is_full c q) (is_full d q) (v q) b.0 b.1 k in and_from _ _ s.0 (and_from _ _ b.1 s.1)
 
 -- ---- the parts of a next place
 

@@ -105,10 +105,6 @@ swept_part drivers old c h = part_of_part old (without_links c _).flow (after_sw
 abbrev FreesUndropped : Configuration → Configuration → Reply → Type 0
 FreesUndropped c d r = r ≡ reply.Done [] → FreesOnly c d nowhere
 
--- a reply other than `done` names no message
-other_reply : (c d : Configuration) (r : Reply) → (r ≡ reply.Done [] → ⊥) → FreesUndropped c d r
-other_reply c d r never e = absurd (never e)
-
 -- if the flow is unchanged, and each place is as full as before or empty, no place that had messages is freed
 none_freed : (c d : Configuration) → HaveFullPlacesMessages c → KeepsOrEmpties c d → d.flow ≡ c.flow
     → FreesOnly c d nowhere

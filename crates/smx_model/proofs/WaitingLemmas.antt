@@ -1,10 +1,9 @@
 -- Waiting places, and changes that keep a place waiting.
-use Rattle.std.proofs.Common.{◌≡◌, ℕ, Bool, true, false, ◌&&◌, ◌||◌, not, List, [], ◌∷◌, ◌++◌, Option, Some, None, refl}
-use Rattle.std.proofs.Common.{sym, ap, ◌∙◌, subst, inl, inr}
-use mathlib.Core.Logic.{◌⊎◌}
+use Rattle.std.proofs.Common.{◌≡◌, ℕ, Bool, true, false, ◌&&◌, not, List, [], ◌∷◌, ◌++◌, Option, Some, None, refl}
+use Rattle.std.proofs.Common.{sym, ap, ◌∙◌, inl, inr}
 use Rattle.std.specs.Option.{is_some}
 use Rattle.std.specs.Prelude.{slice_get, if◌then◌else◌}
-use Rattle.std.proofs.lemmas.Bool.{cases_Bool, and_parts, and_from, or_left, false≢true}
+use Rattle.std.proofs.lemmas.Bool.{cases_Bool, and_parts, false≢true}
 use Rattle.std.proofs.lemmas.Bool.{not-false}
 use Rattle.smx_types.specs.declared.driver.DriverSpec.{DriverSpec}
 use Rattle.smx_types.specs.declared.message.Message.{Message}
@@ -17,10 +16,9 @@ use Rattle.smx_model.specs.DriverList.{is_mux}
 use Rattle.smx_model.specs.FlowOrder.{IsInOrder}
 use Rattle.smx_model.specs.Ordered.{with_inserted, without_first}
 use Rattle.smx_model.specs.Queues.{first_message, is_full, queue}
-use Rattle.smx_model.specs.RunMarks.{AreMarked, all_but, either, is_held_up, is_next_of_first, is_one_of, is_waiting}
+use Rattle.smx_model.specs.RunMarks.{is_held_up, is_waiting}
 use Rattle.smx_model.specs.RunMarks.{next_of, next_of_first}
 use Rattle.smx_model.specs.Settling.{◌>>=◌, is_movable, next_place, place_above, place_below}
-use Rattle.smx_model.proofs.OrderLemmas.{same_self}
 use Rattle.smx_model.proofs.QueueLemmas.{arrived_queue, left_queue, front_is}
 use Rattle.smx_model.proofs.SettlingLemmas.{same_place_is}
 
@@ -38,15 +36,6 @@ next_is drivers c p addr = by p.side refl
     by : (x : Side) → p.side ≡ x → next_place drivers c p addr ≡ next_by drivers c p.stream addr p.side
     by side.Write e = rw e refl
     by side.Read e = rw e refl
-
--- a message that waits still waits, if its next place is the same or none, and that place stays full and wanted
-pub keeps_by : (c d : Configuration) (v w : Place → Bool) (o n : Option Place) → (n ≡ o) ⊎ (n ≡ None)
-    → ((q : Place) → o ≡ Some q → (is_full c q && v q) ≡ true → (is_full d q && w q) ≡ true) → is_held_up c v o ≡ true
-    → is_held_up d w n ≡ true
-keeps_by c d v w None n (inl e) f h = rw e refl
-keeps_by c d v w None n (inr e) f h = rw e refl
-keeps_by c d v w (Some q) n (inl e) f h = rw e (f q refl h)
-keeps_by c d v w (Some q) n (inr e) f h = rw e refl
 
 -- with the same links, routes, bindings and hung-up streams, the next place by stream and side is the same
 next_same : (drivers : List DriverSpec) (c d : Configuration) (s : StreamId) (addr : ℕ) (x : Side) → d.links ≡ c.links
@@ -71,19 +60,6 @@ next_of_same drivers c d p l r b u f = rw f (by (first_message c.flow p))
 abbrev pub if_open : Configuration → Option Place → Option Place
 if_open c o = o >>= (λ q. if is_full c q then None else Some q)
 
--- a message whose next place is missing or full is blocked once that place is wanted
-waits_now : (c : Configuration) (wanted : Place → Bool) (o : Option Place) → is_some (if_open c o) ≡ false
-    → is_held_up c (either wanted (λ q. is_one_of (λ x. same_place x q) o)) o ≡ true
-waits_now c wanted None h = refl
-waits_now c wanted (Some q) h = elim (cases_Bool (is_full c q)) [
-  | inl t ↦ rw (t, same_self q) (by (wanted q))
-  | inr f ↦ let k : true ≡ false = rw f at h in absurd (cc)
-]
-  where
-    by : (b : Bool) → (true && (b || true)) ≡ true
-    by true = refl
-    by false = refl
-
 -- a place is movable exactly if its first message has a next place that isn't full
 pub movable_by : (drivers : List DriverSpec) (c : Configuration) (p : Place)
     → is_movable drivers c p ≡ is_some (if_open c (next_of_first drivers c p))
@@ -104,24 +80,6 @@ waits_not_open c wanted (Some q) h = rw (and_parts (is_full c q) (wanted q) h).0
 pub waiting_stays : (drivers : List DriverSpec) (c : Configuration) (wanted : Place → Bool) (p : Place)
     → is_waiting drivers c wanted p ≡ true → is_movable drivers c p ≡ false
 waiting_stays drivers c wanted p h = movable_by drivers c p ∙ waits_not_open c wanted (next_of_first drivers c p) h
-
--- the run mark of a place that isn't movable can be cleared, if its next place is then wanted
-pub cleared : (drivers : List DriverSpec) (c : Configuration) (run wanted : Place → Bool) (p : Place)
-    → AreMarked drivers c run wanted → is_movable drivers c p ≡ false
-    → AreMarked drivers c (all_but run p) (either wanted (is_next_of_first drivers c p))
-cleared drivers c run wanted p h stuck r unmarked = elim (cases_Bool (same_place p r)) [
-  | inl t ↦ subst (λ (x : Place). is_waiting drivers c (either wanted (is_next_of_first drivers c p)) x ≡ true)
-      (same_place_is p r t) (waits_now c wanted (next_of_first drivers c p) (sym (movable_by drivers c p) ∙ stuck))
-  | inr f ↦
-      let k : (run r && not false) ≡ false = rw f at unmarked in
-      keeps_by c c wanted (either wanted (is_next_of_first drivers c p)) (next_of_first drivers c r)
-      (next_of_first drivers c r) (inl refl) (λ q e g. let a = and_parts (is_full c q) (wanted q) g in
-      and_from _ _ a.0 (or_left _ _ a.1)) (h r (by (run r) k))
-]
-  where
-    by : (b : Bool) → (b && not false) ≡ false → b ≡ false
-    by true e = e
-    by false e = refl
 
 -- when the first message leaves a place, that of another place stays
 pub first_left : (flow : List QueuedMessage) (p r : Place) → same_place p r ≡ false

@@ -14,7 +14,6 @@ pub mod Settling
 pub mod LeastMovable
 pub mod Waits
 pub mod RunMarks
-pub mod SettlingByMarks
 pub mod Removal
 pub mod MeantLinks
 pub mod Outcomes

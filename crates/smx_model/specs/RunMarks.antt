@@ -5,12 +5,11 @@ use Rattle.std.specs.Option.{is_some}
 use Rattle.smx_types.specs.declared.driver.DriverSpec.{DriverSpec}
 use Rattle.smx_types.specs.declared.message.Message.{Message}
 use Rattle.smx_types.specs.declared.stream.Place.{Place}
-use Rattle.smx_types.specs.declared.stream.Side.{Side}
 use Rattle.smx_types.specs.declared.stream.Side.TheVariants as side
 use Rattle.smx_types.specs.declared.stream.StreamId.{StreamId}
-use Rattle.smx_model.specs.Configuration.{Configuration, same_place, same_side, same_stream}
-use Rattle.smx_model.specs.Queues.{is_full, first_message}
-use Rattle.smx_model.specs.Settling.{next_place}
+use Rattle.smx_model.specs.Configuration.{Configuration, place_before, same_place, same_side, same_stream}
+use Rattle.smx_model.specs.Queues.{after_leaving, first_message, is_full}
+use Rattle.smx_model.specs.Settling.{next_open_place, next_place}
 
 -- the place that a message goes to next, full or not; `None` if there is no message or no such place
 abbrev pub next_of : List DriverSpec → Configuration → Place → Option Message → Option Place
@@ -20,15 +19,6 @@ next_of drivers c p (Some m) = next_place drivers c p m.addr
 -- the place that the first message of a place goes to next
 abbrev pub next_of_first : List DriverSpec → Configuration → Place → Option Place
 next_of_first drivers c p = next_of drivers c p (first_message c.flow p)
-
--- there is such a place, and it is one of these
-abbrev pub is_one_of : (Place → Bool) → Option Place → Bool
-is_one_of places None = false
-is_one_of places (Some q) = places q
-
--- the first message of the place goes to one of these places next
-abbrev pub feeds : List DriverSpec → Configuration → (Place → Bool) → Place → Bool
-feeds drivers c places p = is_one_of places (next_of_first drivers c p)
 
 -- there is no next place, or the next place is full and has a wanted mark
 abbrev pub is_held_up : Configuration → (Place → Bool) → Option Place → Bool
@@ -44,6 +34,11 @@ is_waiting drivers c wanted p = is_held_up c wanted (next_of_first drivers c p)
 abbrev pub AreMarked : List DriverSpec → Configuration → (Place → Bool) → (Place → Bool) → Type 0
 AreMarked drivers c run wanted = (p : Place) → run p ≡ false → is_waiting drivers c wanted p ≡ true
 
+-- the least place with a run mark
+pub record IsLeastMarked (run : Place → Bool) (p : Place) : Type 0 where
+  pub marked : run p ≡ true
+  pub none_before : (q : Place) → place_before q p ≡ true → run q ≡ false
+
 -- no place
 abbrev pub nowhere : Place → Bool
 nowhere p = false
@@ -52,21 +47,9 @@ nowhere p = false
 abbrev pub either : (Place → Bool) → (Place → Bool) → Place → Bool
 either these those p = these p || those p
 
--- these places except one
-abbrev pub all_but : (Place → Bool) → Place → Place → Bool
-all_but places p q = places q && not (same_place p q)
-
--- the first message of another place goes to this one next
-abbrev pub is_next_of_first : List DriverSpec → Configuration → Place → Place → Bool
-is_next_of_first drivers c p q = feeds drivers c (λ x. same_place x q) p
-
 -- the place was full and is not full any more
 abbrev pub is_freed : Configuration → Configuration → Place → Bool
 is_freed old new p = is_full old p && not (is_full new p)
-
--- a place that was freed is no longer wanted
-abbrev pub wanted_after : Configuration → Configuration → (Place → Bool) → Place → Bool
-wanted_after old new wanted p = wanted p && not (is_freed old new p)
 
 -- the next place is the same as before, or there is none
 abbrev pub Stays : Option Place → Option Place → Type 0
@@ -77,13 +60,18 @@ abbrev pub TurnsOnly : List DriverSpec → Configuration → Configuration → (
 TurnsOnly drivers old new turned =
     (p : Place) → turned p ≡ false → Stays (next_of_first drivers old p) (next_of_first drivers new p)
 
--- the places that a change wakes: those that it turned, and those that feed a wanted place that it freed
-abbrev pub woken_by : List DriverSpec → Configuration → Configuration → (Place → Bool) → (Place → Bool) → Place → Bool
-woken_by drivers old new wanted turned = either turned (feeds drivers new (λ q. is_freed old new q && wanted q))
-
 -- a message that arrives at this place is its first one
 abbrev pub is_first_at : Configuration → Place → Place → Bool
 is_first_at c p q = same_place p q && not (is_some (first_message c.flow p))
+
+-- after the first message left a place, its arrival turns the place where it arrives, if that was empty
+abbrev pub is_first_there : List DriverSpec → Configuration → Place → Option Place → Place → Bool
+is_first_there drivers c p None = nowhere
+is_first_there drivers c p (Some q) = is_first_at (after_leaving drivers c p) q
+
+-- a move turns the place that the message leaves, and the place that it goes to, if that was empty
+abbrev pub turned_by_move : List DriverSpec → Configuration → Place → Place → Bool
+turned_by_move drivers c p = either (same_place p) (is_first_there drivers c p (next_open_place drivers c p))
 
 -- the message has this address
 abbrev pub has_addr : ℕ → Option Message → Bool
@@ -103,12 +91,3 @@ is_below_driver c driver s = list_any (λ l. same_stream l.lower s && (l.ctl.dri
 abbrev pub asks_up : Configuration → ℕ → ℕ → Place → Bool
 asks_up c driver addr p =
     (same_side p.side side.Read && is_below_driver c driver p.stream) && has_addr addr (first_message c.flow p)
-
--- a write side leads to those of the streams below its driver, a read side to those of the driver above its stream
-abbrev pub leads_to : Configuration → StreamId → StreamId → Side → Bool
-leads_to c from to side.Write = is_below_driver c from.driver to
-leads_to c from to side.Read = is_below_driver c to.driver from
-
--- the places that can feed a place
-abbrev pub can_feed : Configuration → Place → Place → Bool
-can_feed c q p = same_side p.side q.side && leads_to c p.stream q.stream q.side

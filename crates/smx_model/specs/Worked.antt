@@ -34,7 +34,6 @@ pub mod NeighboursKeepTheirRoutes
 pub mod NeighboursKeepTheirLinks
 pub mod PlacesInOrder
 pub mod EachNumberIsItsOwn
-pub mod TurnedFreedAndMoved
 pub mod CommandsThatDrop
 pub mod Reports
 pub mod SecondIsIllegal

@@ -10,6 +10,7 @@ ghost use Rattle.smx_model.specs.LawfulHistories.{IsLawful, IsLawfulThroughout};
 ghost use Rattle.smx_model.specs.Ordered.{IsRising};
 
 /// A prefix of a legal history is legal.
+#[tactic(auto, using(crate::proofs::HistoryLemmas::prefix_legal))]
 pub fn prefixes_are_legal()
     ensures { (drivers : List DriverSpec) (early late : List Entry) → IsLegal drivers (early ++ late)
         → IsLegal drivers early }
@@ -17,6 +18,7 @@ pub fn prefixes_are_legal()
 
 /// After one more entry, the configuration is one step further, and the history stays legal if the entry has the
 /// reply of its command.
+#[tactic(auto, using(crate::proofs::HistoryLemmas::after_push, crate::proofs::HistoryLemmas::legal_push))]
 pub fn one_entry_more()
     ensures after { (drivers : List DriverSpec) (history : List Entry) (e : Entry)
         → after drivers (history ++ e ∷ []) ≡ (step drivers (after drivers history) e.process e.command).0 }
@@ -25,6 +27,7 @@ pub fn one_entry_more()
 {}
 
 /// Commands in a given order have only one legal history: they determine their replies.
+#[tactic(auto, using(crate::proofs::HistoryLemmas::determined))]
 pub fn histories_are_determined()
     ensures { (drivers : List DriverSpec) (one other : List Entry) → IsLegal drivers one → IsLegal drivers other
         → map call_of one ≡ map call_of other → one ≡ other }

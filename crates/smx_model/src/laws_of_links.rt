@@ -18,6 +18,7 @@ pub fn reaches_is_path()
 {}
 
 /// A new link adds paths from every driver that reaches its upper driver to every driver that its lower driver reaches.
+#[tactic(auto, using(crate::proofs::PathLemmas::reaches_push))]
 pub fn one_link_more_joins()
     ensures { (links : List Link) (l : Link) (a b : ℕ) → reaches (links ++ l ∷ []) a b
         ≡ (reaches links a b || (((a == l.ctl.driver) || reaches links a l.ctl.driver)
@@ -25,12 +26,14 @@ pub fn one_link_more_joins()
 {}
 
 /// If one path ends where another starts, the two make one path.
+#[tactic(auto, using(crate::proofs::PathLemmas::reaches_trans))]
 pub fn paths_join()
     ensures { (links : List Link) (a b c : ℕ) → IsTrue (reaches links a b) → IsTrue (reaches links b c)
         → IsTrue (reaches links a c) }
 {}
 
 /// The empty list of links is sound, before the first id.
+#[tactic(auto, using(crate::proofs::SoundLemmas::sound_empty, crate::proofs::IdLemmas::ids_none))]
 pub fn no_links_are_sound()
     ensures sound { AreLinksSound [] }
     ensures ids { AreIdsRising [] 1 }
@@ -38,6 +41,7 @@ pub fn no_links_are_sound()
 
 /// A new link keeps links sound if its lower stream is below no link, its two drivers differ, and no path leads from
 /// its lower driver to its upper one.
+#[tactic(auto, using(crate::proofs::SoundLemmas::sound_push))]
 pub fn linking_keeps_soundness()
     ensures { (links : List Link) (l : Link) → AreLinksSound links → is_below links l.lower ≡ false
         → ((l.lower.driver == l.ctl.driver) || reaches links l.lower.driver l.ctl.driver) ≡ false
@@ -45,6 +49,7 @@ pub fn linking_keeps_soundness()
 {}
 
 /// A new link gets the next id, and the id after it is then the next one.
+#[tactic(auto, using(crate::proofs::IdLemmas::ids_push))]
 pub fn linking_takes_the_next_id()
     ensures { (links : List Link) (l : Link) → AreIdsRising links l.id → AreIdsRising (links ++ l ∷ []) (l.id + 1) }
 {}

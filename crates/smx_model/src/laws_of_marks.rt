@@ -14,6 +14,7 @@ ghost use Rattle.smx_model.specs.Queues.{bytes_at, is_full};
 
 /// After any commands a full place has more bytes than its low water mark, and each other place of the drivers has
 /// fewer than its high water mark.
+#[tactic(auto, using(crate::proofs::WaterMarkLemmas::full_has_more, crate::proofs::WaterMarkLemmas::free_has_less))]
 pub fn marks_bound_the_bytes()
     ensures full { (drivers : List DriverSpec) (history : List Entry) (p : Place) → IsDriverList drivers
         → IsTrue (is_full (after drivers history) p)
@@ -24,6 +25,7 @@ pub fn marks_bound_the_bytes()
 {}
 
 /// A full place has messages: this holds of the empty configuration, and each command preserves it.
+#[tactic(auto, using(crate::proofs::FullPlaceLemmas::empty_filled, crate::proofs::FullPlaceLemmas::step_filled))]
 pub fn full_places_have_messages()
     ensures empty { HaveFullPlacesMessages empty }
     ensures commands { (drivers : List DriverSpec) (c : Configuration) (process : ℕ) (command : Command)

@@ -10,12 +10,14 @@ ghost use Rattle.smx_model.specs.LawfulHistories.{taken_serials, AreDropsAllowed
 ghost use Rattle.smx_model.specs.Settling.{IsSettled};
 
 /// In a legal history serials count from 1.
+#[tactic(auto, using(crate::proofs::ConservationLemmas::numbered_from_one))]
 pub fn serials_count_from_one()
     ensures { (drivers : List DriverSpec) (history : List Entry) → IsLegal drivers history
         → taken_serials history ≡ range_with_len 1 (length (taken_serials history)) }
 {}
 
 /// In a legal history only unlink, punlink, close, exit and flush name dropped messages.
+#[tactic(auto, using(crate::proofs::DropLemmas::few_drop))]
 pub fn few_commands_drop()
     ensures { (drivers : List DriverSpec) (history : List Entry) → IsLegal drivers history → AreDropsAllowed history }
 {}

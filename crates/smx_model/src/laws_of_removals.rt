@@ -19,6 +19,7 @@ ghost use Rattle.smx_model.specs.Swept.{IsSwept};
 /// Unlink removes the ordinary links that it names, if this stream controls them. Punlink removes the persistent links
 /// that it names, if their upper driver is that of this stream. Each other link remains exactly if it is persistent or
 /// its controlling stream still exists.
+#[tactic(auto, using(crate::proofs::RemovalLemmas::unlink_just, crate::proofs::RemovalLemmas::punlink_just))]
 pub fn unlinking_takes_exactly()
     ensures unlink { (drivers : List DriverSpec) (c : Configuration) (process fd : ℕ) (w : Which) (s : StreamId)
         → IsSwept drivers c → mux_stream drivers c process fd ≡ Ok s
@@ -71,6 +72,7 @@ pub fn descriptors_go_by_close_or_exit()
 {}
 
 /// Only two things remove a binding: the unbind of its stream, and the end of its stream.
+#[tactic(auto, using(crate::proofs::BindingLemmas::unbind_looses, crate::proofs::BindingLemmas::others_keep_bound))]
 pub fn bindings_go_by_unbind_or_with_their_stream()
     ensures unbind { (drivers : List DriverSpec) (c : Configuration) (process fd : ℕ) (s : StreamId)
         → IsSwept drivers c → mux_stream drivers c process fd ≡ Ok s

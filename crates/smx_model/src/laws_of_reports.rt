@@ -36,12 +36,14 @@ pub fn reports_are_legal()
 
 /// Programs have at most one report for each order of their commands, apart from the version of its text: the order
 /// determines the drivers, replies and view.
+#[tactic(auto, using(crate::proofs::ReportLemmas::one_report))]
 pub fn reports_are_determined()
     ensures { (programs : ProgramLists) (one other : Transcript) → IsReportOf programs one → IsReportOf programs other
         → map call_of one.entries ≡ map call_of other.entries → one ≡ record other { version = one.version } }
 {}
 
 /// The example is a report of its programs.
+#[tactic(auto, using(crate::proofs::ReportLemmas::is_report))]
 pub fn the_example_is_a_report()
     ensures { IsReportOf programs (report_with (opened ∷ exited ∷ copied ∷ []) two) }
 {}

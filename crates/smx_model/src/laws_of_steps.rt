@@ -20,6 +20,7 @@ ghost use Rattle.smx_model.specs.Settling.{after_move, after_settling};
 ghost use Rattle.smx_model.specs.Swept.{IsSwept};
 
 /// The outcome of an accepted command is sound before settling.
+#[tactic(auto, using(crate::proofs::KeptLemmas::outcome_sound))]
 pub fn outcomes_are_sound()
     ensures { (drivers : List DriverSpec) (c : Configuration) (process : ℕ) (command : Command) → IsSound drivers c
         → IfOk (outcome drivers c process command) (λ x. IsSound drivers x.0) }
@@ -32,18 +33,21 @@ pub fn outcomes_are_swept()
 {}
 
 /// Only refused commands have a fault as their reply, and it is the fault of the refusal.
+#[tactic(auto, using(crate::proofs::RefusalLemmas::fault_is_refusal))]
 pub fn faults_are_refusals()
     ensures { (drivers : List DriverSpec) (c : Configuration) (process : ℕ) (command : Command) (f : Fault)
         → ((step drivers c process command).1 ≡ reply.Fault f ↔ outcome drivers c process command ≡ Err f) }
 {}
 
 /// Refused commands leave the configuration unchanged.
+#[tactic(auto, using(crate::proofs::RefusalLemmas::refused_same))]
 pub fn refusals_change_nothing()
     ensures { (drivers : List DriverSpec) (c : Configuration) (process : ℕ) (command : Command) (f : Fault)
         → (step drivers c process command).1 ≡ reply.Fault f → (step drivers c process command).0 ≡ c }
 {}
 
 /// `EAGAIN links` is the last refusal of a link: there are 1,024 links, or all ids are used up.
+#[tactic(auto, using(crate::proofs::LastRefusalLemmas::links_room))]
 pub fn links_have_room()
     ensures { (drivers : List DriverSpec) (c : Configuration) (process fd arg : ℕ) (k : LinkKind)
         → link_outcome drivers c process fd arg k ≡ Err TooManyLinks
@@ -51,30 +55,35 @@ pub fn links_have_room()
 {}
 
 /// If nothing belongs to streams that don't exist, only the commands that may drop messages name dropped ones.
+#[tactic(auto, using(crate::proofs::DropLemmas::step_drops))]
 pub fn other_commands_drop_none()
     ensures { (drivers : List DriverSpec) (c : Configuration) (process : ℕ) (command : Command) → IsSwept drivers c
         → dropped_by (step drivers c process command).1 ≢ [] → IsTrue (may_drop command) }
 {}
 
 /// If a change leaves nothing to sweep and keeps the flow, its command is done and no message is dropped.
+#[tactic(auto, using(crate::proofs::DropLemmas::done_idle))]
 pub fn idle_changes_drop_none()
     ensures { (drivers : List DriverSpec) (c new : Configuration) → IsSwept drivers new → new.flow ≡ c.flow
         → done_outcome drivers c new ≡ Ok (new, reply.Done []) }
 {}
 
 /// A move keeps a configuration sound.
+#[tactic(auto, using(crate::proofs::KeptLemmas::moved_sound))]
 pub fn moves_keep_soundness()
     ensures { (drivers : List DriverSpec) (c : Configuration) (p : Place) → IsSound drivers c
         → IsSound drivers (after_move drivers c p) }
 {}
 
 /// Settling ends: after as many moves as there are messages times drivers no message can move.
+#[tactic(auto, using(crate::proofs::KeptLemmas::settled_kept))]
 pub fn settling_suffices()
     ensures { (drivers : List DriverSpec) (c : Configuration) → IsSound drivers c
         → IsKept drivers (after_settling drivers c) }
 {}
 
 /// Each command preserves the invariant of configurations.
+#[tactic(auto, using(crate::proofs::KeptLemmas::step_keeps))]
 pub fn commands_keep()
     ensures { (drivers : List DriverSpec) (c : Configuration) (process : ℕ) (command : Command)
         → IsKept drivers c → IsKept drivers (step drivers c process command).0 }
@@ -87,6 +96,7 @@ pub fn empty_is_kept()
 
 /// So the invariant holds after any commands: there is no cycle, everything belongs to streams that exist, each list is
 /// in order, and no message can move.
+#[tactic(auto, using(crate::proofs::KeptLemmas::always_is_kept))]
 pub fn configurations_are_kept()
     ensures { (drivers : List DriverSpec) (history : List Entry) → IsKept drivers (after drivers history) }
 {}

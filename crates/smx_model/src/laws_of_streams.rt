@@ -14,6 +14,7 @@ ghost use Rattle.smx_model.specs.Swept.{IsSwept};
 
 /// If there is no cycle, as many climbs as there are drivers find each stream that exists: no larger number of climbs
 /// finds another one. This also holds before a sweep.
+#[tactic(auto, using(crate::proofs::KeptLemmas::exists_is_stands))]
 pub fn climbs_suffice()
     ensures { (drivers : List DriverSpec) (c : Configuration) (s : StreamId) → AreLinksSound c.links
         → AreControllingKnown drivers c.links
@@ -21,6 +22,7 @@ pub fn climbs_suffice()
 {}
 
 /// The same holds after any commands.
+#[tactic(auto, using(crate::proofs::KeptLemmas::always_exists_is_stands))]
 pub fn climbs_always_suffice()
     ensures { (drivers : List DriverSpec) (history : List Entry) (s : StreamId)
         → (IsTrue (exists drivers (after drivers history) s) ↔ Stands (after drivers history) s) }
@@ -32,11 +34,13 @@ pub fn streams_are_known()
 {}
 
 /// After a sweep the configuration is swept.
+#[tactic(auto, using(crate::proofs::StandingLemmas::swept_is))]
 pub fn sweeping_is_enough()
     ensures { (drivers : List DriverSpec) (c : Configuration) → IsSwept drivers (after_sweep drivers c) }
 {}
 
 /// Sweeping a swept configuration changes nothing.
+#[tactic(auto, using(crate::proofs::IdleSweepLemmas::swept_idle))]
 pub fn sweeping_again_changes_nothing()
     ensures { (drivers : List DriverSpec) (c : Configuration) → IsSwept drivers c → after_sweep drivers c ≡ c }
 {}

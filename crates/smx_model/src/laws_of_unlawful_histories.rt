@@ -7,12 +7,14 @@ ghost use Rattle.smx_model.specs.Worked.Unlawful.{doubled, drivers, dropped_by_d
 ghost use Rattle.smx_model.specs.Worked.Unlawful.{in_a_round, lost, never_taken, one_serial, renumbered, too_early};
 
 /// No history may end with a cycle: a driver below itself, or a cycle of three drivers.
+#[tactic(auto, using(crate::proofs::UnlawfulLemmas::alone, crate::proofs::UnlawfulLemmas::round))]
 pub fn cycles_are_unlawful()
     ensures alone { IsLawfulEnd [] (end_with below_itself) → ⊥ }
     ensures round { IsLawfulEnd [] (end_with in_a_round) → ⊥ }
 {}
 
 /// No history may end with a stream that is below two links.
+#[tactic(auto, using(crate::proofs::UnlawfulLemmas::below_two))]
 pub fn a_stream_below_two_links_is_unlawful()
     ensures { IsLawfulEnd [] (end_with below_two) → ⊥ }
 {}
@@ -29,17 +31,20 @@ pub fn messages_lost_or_doubled_are_unlawful()
 {}
 
 /// A history is unlawful if it accepts two messages with the same serial.
+#[tactic(auto, using(crate::proofs::UnlawfulLemmas::one_serial))]
 pub fn one_serial_for_two_is_unlawful()
     ensures { IsLawful drivers one_serial → ⊥ }
 {}
 
 /// A history with an unlawful prefix is not lawful after each entry, even if its end is lawful.
+#[tactic(auto, using(crate::proofs::UnlawfulLemmas::lawful_end, crate::proofs::UnlawfulLemmas::too_early))]
 pub fn prefixes_count()
     ensures end { IsLawful drivers too_early }
     ensures throughout { IsLawfulThroughout drivers too_early → ⊥ }
 {}
 
 /// A dup may not name a dropped message.
+#[tactic(auto, using(crate::proofs::UnlawfulLemmas::dropped_by_dup))]
 pub fn a_dup_drops_nothing()
     ensures { AreDropsAllowed dropped_by_dup → ⊥ }
 {}

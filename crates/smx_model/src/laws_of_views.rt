@@ -8,6 +8,7 @@ ghost use Rattle.smx_model.specs.KeptConfigurations.{IsSound};
 ghost use Rattle.smx_model.specs.Views.{view};
 
 /// Two sound configurations over the same valid drivers are equal if they have the same view.
+#[tactic(auto, using(crate::proofs::KeptLemmas::view_is_of_one))]
 pub fn views_tell_configurations_apart()
     ensures { (drivers : List DriverSpec) (c d : Configuration) → IsDriverList drivers
         → IsSound drivers c → IsSound drivers d

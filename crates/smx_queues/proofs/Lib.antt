@@ -1,3 +1,4 @@
+pub mod CloneLemmas
 pub mod ChainLemmas
 pub mod FollowLemmas
 pub mod StoreLemmas
@@ -7,7 +8,6 @@ pub mod SeenMessageLemmas
 pub mod SeenPlaceLemmas
 pub mod WalkLemmas
 pub mod QueueTableLemmas
-pub mod CopyLemmas
 pub mod PlaceLemmas
 pub mod NumberLemmas
 pub mod PlacesOfLemmas

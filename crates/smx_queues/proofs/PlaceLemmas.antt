@@ -3,7 +3,7 @@ use Rattle.std.proofs.Common.{◌≡◌, ◌≢◌, ℕ, zero, suc, true, false,
 use Rattle.std.proofs.Common.{arith, inl, inr}
 use Rattle.std.specs.Prelude.{slice_get}
 use Rattle.std.specs.List.{list_any}
-use Rattle.std.proofs.lemmas.Bool.{cases_Bool, false≢true, or_from, or_right}
+use Rattle.std.proofs.lemmas.Bool.{cases_Bool, false≢true, or_from}
 use Rattle.std.proofs.lemmas.Bool.Decides.{nat_tests}
 use Rattle.std.proofs.lemmas.Option.{same_Some}
 use Rattle.smx_types.specs.declared.stream.Place.{Place}
@@ -50,13 +50,6 @@ pub lower_minor : (driver m n : ℕ) (s t : Side) → ltb m n ≡ true
 lower_minor driver m n s t h = grind (arith, nat_tests)
 
 -- ---- the numbers of places
-
--- a place at an index of a list is found in the list
-pub stands : (p : Place) (places : List Place) (i : ℕ) → slice_get places i ≡ Some p
-    → list_any (same_place p) places ≡ true
-stands p [] i e = absurd cc
-stands p (x ∷ places) zero e = let same : x ≡ p = same_Some x p e in rw same (rw (place_self p) refl)
-stands p (x ∷ places) (suc i) e = or_right (same_place p x) _ (stands p places i e)
 
 -- a place that is found in a list has an index in it
 pub where_is : (p : Place) (places : List Place) → list_any (same_place p) places ≡ true

@@ -1,17 +1,16 @@
 -- Places as contracts see them, after one was added, removed, marked or copied.
-use Rattle.std.proofs.Common.{◌≡◌, ℕ, ◌<◌, ◌≤◌, Bool, true, false, List, [], ◌∷◌, ◌++◌, length, map, get_or}
-use Rattle.std.proofs.Common.{set, Option, Some, None, refl, sym, ap, subst, ◌∙◌, arith}
-use Rattle.std.proofs.lemmas.List.{get_or_default}
+use Rattle.std.proofs.Common.{◌≡◌, ℕ, ◌<◌, ◌≤◌, true, false, List, [], ◌∷◌, ◌++◌, length, map, get_or}
+use Rattle.std.proofs.Common.{set, Option, Some, None, refl, sym, ap, ◌∙◌, arith}
 use Rattle.slab.specs.Slab.{Slab}
 use Rattle.smx_types.specs.declared.message.Message.{Message}
 use Rattle.smx_model.specs.Queues.{bytes_of}
 use Rattle.smx_queues.specs.declared.node.Node.{Node}
 use Rattle.smx_queues.specs.declared.chain.Chain.{Chain}
 use Rattle.smx_queues.specs.QueueTable.{Queue, IsPlace, queue_at, without_messages}
-use Rattle.smx_queues.specs.Chains.{IsQueue, IsSound, chain_to_fill, new_chain, no_chain, no_queue, slot_of}
-use Rattle.smx_queues.proofs.SlotLemmas.{slot, slots, same_queue, store_slots, slots-set, slots-push, place_there}
-use Rattle.smx_queues.proofs.StoreLemmas.{bare_queue, IsBare, store_reset, store_push, store_marked}
-use Rattle.smx_queues.proofs.SoundLemmas.{IsSeen, place_at, seen_same, seen_store, set_seen, view_slots}
+use Rattle.smx_queues.specs.Chains.{IsQueue, IsSound, new_chain, no_chain, no_queue, slot_of}
+use Rattle.smx_queues.proofs.SlotLemmas.{slot, slots, store_slots, slots-set, slots-push, place_there}
+use Rattle.smx_queues.proofs.StoreLemmas.{bare_queue, IsBare, store_reset, store_push}
+use Rattle.smx_queues.proofs.SoundLemmas.{IsSeen, place_at, seen_same, seen_store}
 
 -- a chain whose queue has no message has no node
 pub bare_at : (own : ℕ → ℕ × ℕ) (s : Slab Node) (p : ℕ) (chain : Chain) (q : Queue) → IsQueue own s p chain q
@@ -92,62 +91,4 @@ new_is_bare above below high low =
       bytes = refl;
       high_bounded = high;
       low_below = low;
-    }
-
--- with another mark, which is no mark only where there are few bytes, a place is seen with that mark
-pub seen_marked : (s : Slab Node) (chains : List Chain) (sound : IsSound s chains) (view : List (Option Queue))
-    → map (slot_of s) chains ≡ view → (p : ℕ) → IsPlace view p → (chain : Chain) → chain ≡ get_or chains p chain
-    → (full : Bool) → (full ≡ false → bytes_of (queue_at view p).messages < (queue_at view p).high)
-    → IsSeen s (set chains p (record chain { full = full }))
-    (set view p (Some (record (queue_at view p) { full = full })))
-seen_marked s chains sound view is p there chain read full few =
-    let same = view_slots s chains sound view is in
-    let t = place_there chains sound.queues p (rw (← same) there) in
-    let a = place_at s chains sound view is p there chain read in
-    let shown : queue_at view p ≡ get_or sound.queues p no_queue = ap (λ v. queue_at v p) same ∙ t.same in
-    let st = store_marked sound.own s chains sound.queues 0 p full sound.store t.below
-    (λ e. subst (λ (q : Queue). bytes_of q.messages < q.high) shown (few e)) in
-    let seen = set_seen sound.own s chains sound.queues p _ _ t.below sound.store.as_many t.there st in
-    seen_same s s _ _ _ _ refl (ap (λ (c : Chain). set chains p (record c { full = full })) a.read)
-    (same_marked view _ p full _ _ same shown) seen
-  where
-    same_marked : (view view' : List (Option Queue)) (p : ℕ) (full : Bool) (q q' : Queue) → view ≡ view' → q ≡ q'
-        → set view p (Some (record q { full = full })) ≡ set view' p (Some (record q' { full = full }))
-    same_marked view view' p full q q' e f = rw (e, f) refl
-
--- what a chain becomes where it is copied, before its messages come, has no nodes
-pub to_fill_is_bare : (s : Slab Node) (chains : List Chain) (sound : IsSound s chains) (p : ℕ) (chain : Chain)
-    → p < length chains → chain ≡ get_or chains p chain → IsBare (chain_to_fill chain)
-to_fill_is_bare s chains sound p chain below read =
-    let l = sound.store.each p below in
-    let e : chain ≡ get_or chains p no_chain = read ∙ get_or_default chains p chain no_chain below in
-    let high = ap (λ (c : Chain). c.high) e ∙ l.high in
-    let low = ap (λ (c : Chain). c.low) e ∙ l.low in
-    record {
-      count = refl;
-      bytes = refl;
-      high_bounded = omega (arith, l.high_bounded, high);
-      low_below = omega (arith, l.low_below, high, low);
-    }
-
--- what a place that is copied is: its messages, its marks, and few bytes where it is not full
-pub record IsOriginal (view : List (Option Queue)) (p : ℕ) (chain : Chain) : Type 0 where
-  pub bare : IsBare (chain_to_fill chain)
-  pub shown : slot (chain_to_fill chain) (bare_queue (chain_to_fill chain)) ≡ Some (bare_queue (chain_to_fill chain))
-  pub same : (messages : List Message) → messages ≡ (queue_at view p).messages
-      → record (bare_queue (chain_to_fill chain)) { messages = messages; full = chain.full } ≡ queue_at view p
-  pub few : chain.full ≡ false → bytes_of (queue_at view p).messages < chain.high
-
--- the chain of a place that is there is one that can be copied, with its messages and its marks
-pub original : (s : Slab Node) (chains : List Chain) (sound : IsSound s chains) (view : List (Option Queue))
-    → map (slot_of s) chains ≡ view → (p : ℕ) → IsPlace view p → (chain : Chain) → chain ≡ get_or chains p chain
-    → IsOriginal view p chain
-original s chains sound view is p there chain read =
-    let a = place_at s chains sound view is p there chain read in
-    let l = a.queue in
-    record {
-      bare = to_fill_is_bare s chains sound p chain a.below read;
-      shown = rw a.there refl;
-      same = λ messages are. same_queue _ _ are l.full l.high l.low;
-      few = λ e. omega (arith, l.open_below_high (sym l.full ∙ e), l.high);
     }

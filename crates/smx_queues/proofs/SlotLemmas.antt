@@ -104,12 +104,3 @@ place_there (chain ∷ chains) (q ∷ queues) (suc p) is =
       there = r.there;
       same = r.same;
     }
-
--- contracts see each place that exists
-pub there_shown : (chains : List Chain) (queues : List Queue) (p : ℕ) → length queues ≡ length chains
-    → p < length chains → (get_or chains p no_chain).there ≡ true → IsPlace (slots chains queues) p
-there_shown [] queues p many below there = absurd (omega (arith, below))
-there_shown (chain ∷ chains) [] p many below there = absurd (omega (arith, many))
-there_shown (chain ∷ chains) (q ∷ queues) zero many below there = rw there refl
-there_shown (chain ∷ chains) (q ∷ queues) (suc p) many below there =
-    there_shown chains queues p (omega (arith, many)) (omega (arith, below)) there

@@ -15,7 +15,7 @@ use Rattle.smx_queues.specs.QueueTable.{Queue, QueueTable, IsPlace, queue_at}
 use Rattle.smx_queues.specs.Chains.{HasBytesThatFit, IsChain, IsQueue, IsStore, IsSound, no_chain, slot_of}
 use Rattle.smx_queues.proofs.ChainLemmas.{last_owner}
 use Rattle.smx_queues.proofs.FollowLemmas.{node_from}
-use Rattle.smx_queues.proofs.SlotLemmas.{slot, slots, store_slots, slots-set, place_there, there_shown}
+use Rattle.smx_queues.proofs.SlotLemmas.{slot, slots, store_slots, slots-set, place_there}
 use Rattle.smx_queues.proofs.StoreLemmas.{size, detached_queue, store_grown}
 
 -- the queues of a table
@@ -260,12 +260,3 @@ pub open_has_few : (s : Slab Node) (chains : List Chain) (sound : IsSound s chai
 open_has_few s chains sound view is p there unmarked =
     let l = (there_at s chains sound view is p there).queue in
     omega (arith, l.open_below_high unmarked, l.high_bounded)
-
--- a chain whose place exists is a place that contracts see
-pub place_is : (s : Slab Node) (chains : List Chain) (sound : IsSound s chains) (view : List (Option Queue))
-    → map (slot_of s) chains ≡ view → (p : ℕ) (chain : Chain) → p < length chains → chain ≡ get_or chains p chain
-    → chain.there ≡ true → IsPlace view p
-place_is s chains sound view is p chain below read there =
-    let e : chain ≡ get_or chains p no_chain = read ∙ get_or_default chains p chain no_chain below in
-    rw (view_slots s chains sound view is)
-    (there_shown chains sound.queues p sound.store.as_many below (ap (λ (c : Chain). c.there) (sym e) ∙ there))

@@ -1,5 +1,5 @@
 -- The properties that each change of the store and of a chain keeps.
-use Rattle.std.proofs.Common.{◌≡◌, ◌≢◌, ℕ, suc, ◌+◌, ◌<◌, ◌≤◌, ◌-◌, ◌^◌, Bool, true, false, nat_eq, nat_lt}
+use Rattle.std.proofs.Common.{◌≡◌, ◌≢◌, ℕ, suc, ◌+◌, ◌<◌, ◌≤◌, ◌-◌, ◌^◌, true, false, nat_eq, nat_lt}
 use Rattle.std.proofs.Common.{◌&&◌, List, [], ◌∷◌, ◌++◌, length, get_or, set, Option, Some, None, is_some}
 use Rattle.std.proofs.Common.{count_by, refl, sym, ap, subst, ◌∙◌, inl, inr, arith, add-zero}
 use Rattle.std.specs.List.{All}
@@ -345,39 +345,4 @@ store_grown own s s' chains queues loose same st =
       each = λ p below. queue_kept _ _ s s' p _ _ (λ x _ _ _. (ap (λ slots. get_or slots x None) same, refl))
           (st.each p below);
       counted = ap (λ (slots : List (Option Node)). count_by is_some slots) same ∙ st.counted;
-    }
-
--- with another full mark, a chain makes its queue with this mark, if a queue without the mark has fewer bytes than its
--- high water mark
-pub store_marked : (own : ℕ → ℕ × ℕ) (s : Slab Node) (chains : List Chain) (queues : List Queue) (loose p : ℕ)
-    (full : Bool) → IsStore own s chains queues loose → p < length chains
-    → (full ≡ false → bytes_of (get_or queues p no_queue).messages < (get_or queues p no_queue).high)
-    → IsStore own s (set chains p (record (get_or chains p no_chain) { full = full }))
-    (set queues p (record (get_or queues p no_queue) { full = full })) loose
-store_marked own s chains queues loose p full st within few =
-    let l = st.each p within in
-    let marked : IsQueue own s p (record (get_or chains p no_chain) { full = full })
-    (record (get_or queues p no_queue) { full = full }) = record {
-      rank = l.rank;
-      nodes = l.nodes;
-      count = l.count;
-      bytes = l.bytes;
-      full = refl;
-      high = l.high;
-      low = l.low;
-      have_bytes = l.have_bytes;
-      open_below_high = few;
-      high_bounded = l.high_bounded;
-      low_below = l.low_below;
-      none_if_gone = l.none_if_gone;
-    } in
-    record {
-      as_many = length-set queues p _ ∙ st.as_many ∙ sym (length-set chains p _);
-      each = each_set own s chains queues p _ _ within st.as_many marked (λ i below differs. st.each i below);
-      counted = omega (
-        arith,
-        st.counted,
-        sum_by-set (λ (chain : Chain). chain.count) chains p
-            (record (get_or chains p no_chain) { full = full }) no_chain within,
-      );
     }

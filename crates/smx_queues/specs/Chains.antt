@@ -45,19 +45,6 @@ new_chain above below = record {
   low = below;
 }
 
--- the chain without nodes, and marked as full, so that the arrival of a copied message doesn't change the mark
-abbrev pub chain_to_fill : Chain → Chain
-chain_to_fill chain = record {
-  there = chain.there;
-  full = true;
-  first = 0;
-  last = 0;
-  count = 0;
-  bytes = 0;
-  high = chain.high;
-  low = chain.low;
-}
-
 -- the chain with one more node at the end, whose message has this number of bytes
 abbrev pub chain_with_last : Chain → ℕ → ℕ → Chain
 chain_with_last chain key size = record {

@@ -1,7 +1,7 @@
 //! The first and the last node of a place's queue, and the queue's totals and marks.
 
 ghost use Rattle.std.specs.Prelude.{◌≡◌, ◌+◌, ◌<◌, ◌≤◌, ◌^◌, not, position};
-ghost use Rattle.smx_queues.specs.Chains.{chain_to_fill, chain_with_last, chain_without_first, new_chain};
+ghost use Rattle.smx_queues.specs.Chains.{chain_with_last, chain_without_first, new_chain};
 
 /// The nodes of a place, from the first to the last, and its marks.
 #[derive(Clone, Copy, Debug, Drop)]
@@ -31,22 +31,6 @@ impl Chain {
             bytes: 0,
             high,
             low,
-        }
-    }
-
-    // Returns the chain without nodes, and marks it as full. So the arrivals of copied messages don't change the mark.
-    pub fn to_fill(self) -> Chain
-        ensures { result ≡ chain_to_fill self }
-    {
-        Chain {
-            there: self.there,
-            full: true,
-            first: 0,
-            last: 0,
-            count: 0,
-            bytes: 0,
-            high: self.high,
-            low: self.low,
         }
     }
 

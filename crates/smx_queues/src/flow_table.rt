@@ -1,6 +1,6 @@
 //! The queued messages and full marks of all places, by place.
 
-ghost use Rattle.std.specs.Prelude.{◌≡◌, ◌≢◌, ◌+◌, ◌<◌, ◌≤◌, ◌^◌, ◌++◌, [], false, true, length, map, slice_get};
+ghost use Rattle.std.specs.Prelude.{◌≡◌, ◌≢◌, ◌+◌, ◌<◌, ◌≤◌, ◌^◌, ◌++◌, [], false, length, map, slice_get};
 ghost use Rattle.std.specs.Prelude.{vec_capacity, Some, option_copied, IfOk, IfNone, IfSome, IsSome, OnOk, OnSome};
 ghost use Rattle.std.specs.List.{list_any};
 ghost use Rattle.std.specs.Option.{is_some};
@@ -189,8 +189,7 @@ impl FlowTable {
         }
     }
 
-    /// Moves the first message at the place with one number to the place with another, which is not full. Takes no
-    /// memory.
+    /// Moves the first message at place number `from` to place number `to`, which is not full. Takes no memory.
     #[inline(always)]
     pub fn move_front_at(&mut self, from: usize, to: usize)
         requires from { from < length (places_of self.old.drivers) }

@@ -7,12 +7,26 @@ ghost use Rattle.smx_queues.specs.Chains.{with_follower};
 use crate::chain::Chain;
 use slab::Slab;
 use smx_types::{Bytes, Message};
+use std::alloc::AllocError;
 
 /// A queued message, and the key of the next node. The key has no meaning at the last node of a chain.
 #[derive(Debug, Drop)]
 pub struct Node {
     pub message: Message,
     pub next: usize,
+}
+
+impl Clone for Node {
+    ghost use Rattle.std.specs.Prelude.{◌≡◌};
+
+    ghost is_clone = { λ node copy. copy ≡ node };
+
+    fn clone(&self) -> Result<Node, AllocError> {
+        Ok(Node {
+            message: self.message.clone()?,
+            next: self.next,
+        })
+    }
 }
 
 // Makes `key` the successor of the last node of a chain, if the chain has a node.

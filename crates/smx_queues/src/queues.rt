@@ -1,6 +1,5 @@
 //! The queues of all places.
 
-mod copying;
 mod finding;
 mod reading;
 
@@ -166,7 +165,7 @@ impl Queues {
     {
         let chain = self.chains[p];
         let key = self.nodes.insert_reserved(Node { message, next: 0 });
-        // No place has more messages than this.
+        // No place has more messages than the store has nodes in use.
         let _count = self.nodes.len();
         follow(&mut self.nodes, chain, key);
         self.chains[p].add_last(key, size);
@@ -209,7 +208,7 @@ impl Queues {
         let node = &self.nodes[source.first];
         let size = node.message.bytes.as_slice().len();
         let next = node.next;
-        // No place has more messages than this.
+        // No place has more messages than the store has nodes in use.
         let _count = self.nodes.len();
         self.chains[from].drop_first(next, size);
         let target = self.chains[to];
@@ -237,5 +236,17 @@ impl Queues {
         ensures spare { self.new.spare ≡ self.old.spare }
     {
         self.chains[p].full = false;
+    }
+
+    /// Copies the places and their queues into memory from this allocator, which the copy keeps. Fails only if out of
+    /// memory.
+    pub fn copy(&self, alloc: Global) -> Result<Queues, NoMemory>
+        ensures { IfOk result (λ c. c.queues ≡ self.now.queues) }
+    {
+        Ok(Queues {
+            alloc,
+            nodes: self.nodes.clone()?,
+            chains: Vec::from_slice(alloc, &self.chains)?,
+        })
     }
 }

@@ -92,11 +92,13 @@ memory_left apply.NoMemory other = refl
 pub alone_refuses : (drivers : List DriverSpec) (fault : RunFault) → RefusesAlone drivers fault
     → RefusesRun drivers fault
 alone_refuses drivers run.NoMemory h = h
+alone_refuses drivers run.NoThread h = absurd h
 alone_refuses drivers (run.Strange p) h = h
 alone_refuses drivers (run.ConfigFault f) h = h
 alone_refuses drivers run.HistoryFull h = absurd h
 alone_refuses drivers run.Held h = absurd h
 alone_refuses drivers (run.FewEntries count) h = absurd h
+alone_refuses drivers (run.LongPage count) h = absurd h
 
 -- a system without a history is sound
 pub sound_at_first : (s : Recorded) → s.history ≡ [] → s.limit ≡ MAX_COMMANDS → IsDriverList s.drivers

@@ -15,11 +15,14 @@ strange_words process = codes "strange " ++ decimal process
 -- why a run was refused
 abbrev pub run_fault_words : RunFault → List ℕ
 run_fault_words run.NoMemory = no_memory_words
+run_fault_words run.NoThread = no_memory_words
 run_fault_words (run.Strange process) = strange_words process
 run_fault_words (run.ConfigFault fault) = config_fault_words fault
 run_fault_words run.HistoryFull = codes "history full"
 run_fault_words run.Held = codes "turn held"
 run_fault_words (run.FewEntries count) = codes "the transcript has " ++ decimal count ++ codes " entries"
+run_fault_words (run.LongPage count) =
+    codes "a page has room for fewer than " ++ decimal count ++ codes " entries, see replay --at"
 
 -- why no report was made
 abbrev pub gather_fault_words : GatherFault → List ℕ

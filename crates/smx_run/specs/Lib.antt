@@ -8,3 +8,4 @@ pub mod ProgramOrder
 pub mod Reports
 pub mod RunFaults
 pub mod WorkedRuns
+pub mod WorkedFaults

@@ -1,6 +1,9 @@
 //! Laws of runs, each the contract of a function that does nothing: examples and counterexamples of each definition.
 
-ghost use Rattle.std.specs.Prelude.{◌≡◌, ℕ, List, [], ◌∷◌, true, false};
+ghost use Rattle.std.specs.Prelude.{◌≡◌, ℕ, List, [], ◌∷◌, true, false, Result, Err};
+ghost use Rattle.smx_run.specs.RunFaults.{EitherFails};
+ghost use Rattle.smx_run.specs.declared.worker_fault.WorkerFault.{WorkerFault};
+ghost use Rattle.smx_run.specs.declared.worker_fault.WorkerFault.TheVariants as worker;
 ghost use Rattle.smx_types.specs.declared.driver.DriverSpec.{DriverSpec};
 ghost use Rattle.smx_model.specs.Worked.Common.{mux, ip, OpenClone, Dup, CloseAll};
 ghost use Rattle.smx_model.specs.Worked.Reports.{copied, drivers, exited, opened, programs};
@@ -40,6 +43,7 @@ pub fn refusals_of_an_example()
     ensures not_too_many { RefusesRun (mux ip 4 ∷ mux ip 4 ∷ []) (run.ConfigFault config.TooMany) → ⊥ }
     ensures not_no_memory { RefusesRun (mux ip 4 ∷ mux ip 4 ∷ []) run.NoMemory → ⊥ }
     ensures not_by_config { RefusesRun (mux ip 4 ∷ []) (run.ConfigFault config.NoMemory) → ⊥ }
+    ensures not_thread { RefusesRun (mux ip 4 ∷ mux ip 4 ∷ []) run.NoThread → ⊥ }
     ensures not_full { RefusesRun (mux ip 4 ∷ mux ip 4 ∷ []) run.HistoryFull → ⊥ }
     ensures not_held { RefusesRun (mux ip 4 ∷ mux ip 4 ∷ []) run.Held → ⊥ }
 {}
@@ -48,6 +52,7 @@ pub fn refusals_of_an_example()
 /// only for its drivers, or because memory ran out. Every run may be refused for these.
 pub fn refusals_have_few_causes()
     ensures not_strange { (drivers : List DriverSpec) (p : ℕ) → RefusesRun drivers (run.Strange p) → ⊥ }
+    ensures not_thread { (drivers : List DriverSpec) → RefusesAlone drivers run.NoThread → ⊥ }
     ensures not_full { (drivers : List DriverSpec) → RefusesAlone drivers run.HistoryFull → ⊥ }
     ensures not_held { (drivers : List DriverSpec) → RefusesRun drivers run.Held → ⊥ }
     ensures not_held_alone { (drivers : List DriverSpec) → RefusesAlone drivers run.Held → ⊥ }
@@ -134,4 +139,12 @@ pub fn strange_processes_of_an_example()
     ensures not_borne_out { IsLeastStrange (opened ∷ exited ∷ copied ∷ [])
         ((opened ∷ copied ∷ []) ∷ (exited ∷ []) ∷ []) 1 → ⊥ }
     ensures not_later { IsLeastStrange (opened ∷ exited ∷ copied ∷ []) ((opened ∷ []) ∷ []) 1 → ⊥ }
+{}
+
+/// A fault of either of two workers counts.
+pub fn either_of_two_fails()
+    ensures first { (before last : Result ℕ WorkerFault) → before ≡ Err worker.HistoryFull
+        → EitherFails worker.HistoryFull before last }
+    ensures last { (before last : Result ℕ WorkerFault) → last ≡ Err worker.HistoryFull
+        → EitherFails worker.HistoryFull before last }
 {}

@@ -11,6 +11,7 @@ mod run;
 mod run_fault;
 mod threads;
 mod worker;
+mod worker_fault;
 
 pub use gate::{Gate, NoGate};
 pub use gathering::gather;

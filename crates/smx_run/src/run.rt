@@ -36,8 +36,9 @@ pub const MAX_WORKERS: usize = 64;
 /// each command. A run on one worker, or of one process, starts no thread. The report has the front that was seen after
 /// each program had ended.
 ///
-/// Fails before any command is performed if the drivers are invalid. Fails with out of memory if an allocation fails,
-/// or if a worker can't be started. On several workers it may also fail because the history is full.
+/// Fails before any command is performed if the drivers are invalid. Fails with out of memory if an allocation fails.
+/// On several workers it may also fail because a worker's thread can't be started, or because the history is full. Out
+/// of memory takes precedence over a thread that can't be started, and this over a full history.
 pub fn run_programs<R: Threads + Wait + Sync, G: Gate + Sync>(
     rt: &R,
     alloc: Global,
@@ -159,8 +160,9 @@ fn perform_all<K: EntrySink, G: Gate>(
 {
     let mut number = 0;
     for command in commands.into_vec() {
+        let mut command = command;
         gate.before(process, number);
-        let outcome = system.perform(process, command);
+        let outcome = system.perform(process, &mut command);
         gate.after(process, number);
         outcome?;
         number += 1;

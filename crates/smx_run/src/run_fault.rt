@@ -1,5 +1,6 @@
 //! Why a run is refused, in the words that a program prints.
 
+use crate::worker_fault::WorkerFault;
 use smx_config::ConfigFault;
 use smx_shared::{ApplyFault, CloseFault};
 use smx_types::{NoMemory, Process};
@@ -8,8 +9,11 @@ use std::fmt;
 /// Why a run was refused.
 #[derive(Clone, Copy, Debug, PartialEq, Eq)]
 pub enum RunFault {
-    /// An allocation failed, or a worker could not be started.
+    /// An allocation failed.
     NoMemory,
+    /// A worker's thread could not be started. Prints as `NoMemory` does. No contract knows whether a thread starts, so
+    /// only tests show that a run fails with this then, and not with `NoMemory`.
+    NoThread,
     /// The entries of the process with this number in the history are not those that its calls returned. By the law
     /// `refusals_have_few_causes`, no run is refused for this.
     Strange(u32),
@@ -21,6 +25,8 @@ pub enum RunFault {
     Held,
     /// A transcript has this number of entries, fewer than were asked for. No run is refused for this.
     FewEntries(usize),
+    /// A page of this number of entries is over the limit. No run is refused for this.
+    LongPage(usize),
 }
 
 /// Why no report was made of a system and the transcripts of its callers.
@@ -61,14 +67,29 @@ impl From<NoMemory> for RunFault {
 
 impl From<ApplyFault> for RunFault {
     ghost use Rattle.std.specs.Prelude.{◌≡◌};
-    ghost use Rattle.smx_run.specs.RunFaults.{fault_of_worker};
+    ghost use Rattle.smx_run.specs.RunFaults.{fault_of_call};
 
-    ghost from_gives = { λ f e. e ≡ fault_of_worker f };
+    ghost from_gives = { λ f e. e ≡ fault_of_call f };
 
     fn from(fault: ApplyFault) -> RunFault {
         match fault {
             ApplyFault::HistoryFull => RunFault::HistoryFull,
             ApplyFault::NoMemory => RunFault::NoMemory,
+        }
+    }
+}
+
+impl From<WorkerFault> for RunFault {
+    ghost use Rattle.std.specs.Prelude.{◌≡◌};
+    ghost use Rattle.smx_run.specs.RunFaults.{fault_of_worker};
+
+    ghost from_gives = { λ f e. e ≡ fault_of_worker f };
+
+    fn from(fault: WorkerFault) -> RunFault {
+        match fault {
+            WorkerFault::NoMemory => RunFault::NoMemory,
+            WorkerFault::NoThread => RunFault::NoThread,
+            WorkerFault::HistoryFull => RunFault::HistoryFull,
         }
     }
 }
@@ -105,12 +126,16 @@ impl fmt::Display for RunFault {
 
     fn fmt<W: fmt::Write>(&self, f: &mut fmt::Formatter<W>) -> fmt::Result {
         match self {
-            RunFault::NoMemory => f.write_str("no memory"),
+            RunFault::NoMemory | RunFault::NoThread => f.write_str("no memory"),
             RunFault::Strange(process) => write!(f, "strange {process}"),
             RunFault::ConfigFault(fault) => write!(f, "{fault}"),
             RunFault::HistoryFull => f.write_str("history full"),
             RunFault::Held => f.write_str("turn held"),
             RunFault::FewEntries(count) => write!(f, "the transcript has {count} entries"),
+            RunFault::LongPage(count) => write!(
+                f,
+                "a page has room for fewer than {count} entries, see replay --at"
+            ),
         }
     }
 }

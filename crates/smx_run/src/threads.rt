@@ -1,4 +1,4 @@
-//! Many workers, each on a thread of its own.
+//! Many workers on threads. The first worker runs on the calling thread.
 
 ghost use Rattle.std.specs.Prelude.{◌≡◌, ◌≢◌, ◌≤◌, ◌⊎◌, List, [], ◌∷◌, ◌++◌, All, length, map, Err};
 ghost use Rattle.std.specs.Prelude.{IfOk, IfErr, IsErrOf};
@@ -8,19 +8,20 @@ ghost use Rattle.smx_model.specs.DriverList.{IsDriverList};
 ghost use Rattle.smx_model.specs.Histories.{HoldsPrograms};
 ghost use Rattle.smx_shared.specs.Recorded.{IsSoundSystem};
 ghost use Rattle.smx_shared.specs.Seats.{SharedId};
-ghost use Rattle.smx_shared.specs.declared.shared_fault.ApplyFault.TheVariants as apply;
 ghost use Rattle.smx_run.specs.Assignments.{assigned_calls, made_calls, AllHaveEnded, AreFresh, HaveCalled, HaveEnded};
 ghost use Rattle.smx_run.specs.Assignments.{IsFresh, IsSeenFull};
 ghost use Rattle.smx_run.specs.Fronts.{AreFrontsFrom};
 ghost use Rattle.smx_run.specs.ProgramOrder.{Calls, numbered};
-ghost use Rattle.smx_run.specs.RunFaults.{RefusesRun};
+ghost use Rattle.smx_run.specs.RunFaults.{EitherFails, RefusesRun};
+ghost use Rattle.smx_run.specs.declared.worker_fault.WorkerFault.TheVariants as worker;
 
 use crate::assignments::{assign, collect};
 use crate::gate::Gate;
 use crate::meeting::meet_all;
 use crate::run_fault::RunFault;
 use crate::worker::{EndedProgram, SeatedProgram, run_assigned};
-use smx_shared::{ApplyFault, EntrySink, Fronts, Seat, Shared, System};
+use crate::worker_fault::WorkerFault;
+use smx_shared::{EntrySink, Fronts, Seat, Shared, System};
 use smx_types::ProgramList;
 use std::alloc::Global;
 use std::snapshot::Snapshot;
@@ -28,8 +29,8 @@ use std::sync::Wait;
 use std::thread;
 use std::thread::{Promise, Scope, Threads};
 
-/// Runs the programs on `workers` workers, each on a thread of its own. Returns the system that they shared, and the
-/// front that was seen after each program had ended.
+/// Runs the programs on `workers` workers: the first on this thread, and each of the others on a thread of its own.
+/// Returns the system that they shared and, for each program, the front that was seen after this program had ended.
 pub fn run_together<R: Threads + Wait + Sync, K: EntrySink + Send, G: Gate + Sync>(
     rt: &R,
     alloc: Global,
@@ -63,13 +64,13 @@ fn run_seats<R: Threads + Wait + Sync, K: EntrySink + Send, G: Gate + Sync>(
     programs: ProgramList,
     workers: usize,
     gate: &G,
-) -> Result<Vec<EndedProgram<Seat<K>>>, ApplyFault>
+) -> Result<Vec<EndedProgram<Seat<K>>>, WorkerFault>
     requires seats { map (λ s. s.known.process) seats.items ≡ range_with_len 0 (length programs) }
     requires fresh { All (IsFresh shared.now.name) seats.items }
     requires workers { 1 ≤ workers }
     ensures ended { IfOk result (HaveEnded shared.now.name) }
     ensures called { IfOk result (λ v. made_calls v ≡ numbered 0 programs) }
-    ensures full { IsErrOf result apply.HistoryFull → IsSeenFull shared.now.name }
+    ensures full { IsErrOf result worker.HistoryFull → IsSeenFull shared.now.name }
 {
     let processes = programs.as_slice().len();
     let asked = Snapshot::of(&programs);
@@ -78,48 +79,65 @@ fn run_seats<R: Threads + Wait + Sync, K: EntrySink + Send, G: Gate + Sync>(
     Ok(collect(alloc, assignments, processes, asked)?)
 }
 
-// The promise of a worker's thread is about these: the assignment that it was given, and the shared system on which it
-// ran the assignment.
+// Runs an assignment, that is, the programs of one worker with their seats, on this thread.
+fn run_worker<R: Wait, K: EntrySink, G: Gate>(
+    rt: &R,
+    alloc: Global,
+    shared: &Shared<K>,
+    assignment: Vec<SeatedProgram<Seat<K>>>,
+    gate: &G,
+) -> Result<Vec<EndedProgram<Seat<K>>>, WorkerFault>
+    requires { AreFresh shared.now.name assignment }
+    ensures called { IfOk result (λ v. made_calls v ≡ assigned_calls assignment) }
+    ensures ended { IfOk result (HaveEnded shared.now.name) }
+    ensures full { IsErrOf result worker.HistoryFull → IsSeenFull shared.now.name }
+{
+    Ok(run_assigned(rt, alloc, shared, assignment, gate)?)
+}
+
+// The values of which the promise of a worker's thread speaks (`kept_by` below): the assignment that the thread was
+// given, and the shared system on which it ran this assignment.
 #[derive(Drop)]
 struct Runs<K: EntrySink>(Snapshot<Vec<SeatedProgram<Seat<K>>>>, Snapshot<Shared<K>>);
 
-impl<K: EntrySink> Promise<Result<Vec<EndedProgram<Seat<K>>>, ApplyFault>> for Runs<K> {
+impl<K: EntrySink> Promise<Result<Vec<EndedProgram<Seat<K>>>, WorkerFault>> for Runs<K> {
     ghost use Rattle.std.specs.Prelude.{◌≡◌, IfOk, IsErrOf};
-    ghost use Rattle.smx_shared.specs.declared.shared_fault.ApplyFault.TheVariants as apply;
     ghost use Rattle.smx_run.specs.Assignments.{assigned_calls, made_calls, HaveEnded, IsSeenFull};
+    ghost use Rattle.smx_run.specs.declared.worker_fault.WorkerFault.TheVariants as worker;
 
     ghost kept_by = { λ runs result.
         IfOk result (λ v. (made_calls v ≡ assigned_calls runs.0.value) × HaveEnded runs.1.value.name v)
-        × (IsErrOf result apply.HistoryFull → IsSeenFull runs.1.value.name) };
+        × (IsErrOf result worker.HistoryFull → IsSeenFull runs.1.value.name) };
 }
 
-// Runs the first assignment on this thread, and each other one on a thread of its own.
+// Runs the first assignment on this thread, and each of the others on a thread of its own.
 fn run_assignments<R: Threads + Wait + Sync, K: EntrySink + Send, G: Gate + Sync>(
     rt: &R,
     alloc: Global,
     shared: &Shared<K>,
     assignments: Vec<Vec<SeatedProgram<Seat<K>>>>,
     gate: &G,
-) -> Result<Vec<Vec<EndedProgram<Seat<K>>>>, ApplyFault>
+) -> Result<Vec<Vec<EndedProgram<Seat<K>>>>, WorkerFault>
     requires { All (AreFresh shared.now.name) assignments.items }
     ensures called { IfOk result (HaveCalled assignments) }
     ensures ended { IfOk result (AllHaveEnded shared.now.name) }
-    ensures full { IsErrOf result apply.HistoryFull → IsSeenFull shared.now.name }
+    ensures full { IsErrOf result worker.HistoryFull → IsSeenFull shared.now.name }
 {
     thread::scope(
         thread::scope_env(),
         rt,
-        |scope| -> Result<Vec<Vec<EndedProgram<Seat<K>>>>, ApplyFault>
+        |scope| -> Result<Vec<Vec<EndedProgram<Seat<K>>>>, WorkerFault>
             requires { All (AreFresh shared.now.name) assignments.items }
             ensures called { IfOk result (HaveCalled assignments) }
             ensures ended { IfOk result (AllHaveEnded shared.entry.now.name) }
-            ensures full { IsErrOf result apply.HistoryFull → IsSeenFull shared.entry.now.name }
+            ensures full { IsErrOf result worker.HistoryFull → IsSeenFull shared.entry.now.name }
         { run_from(scope, rt, alloc, shared, assignments, gate) },
     )
 }
 
-// Runs the last assignment on a thread of its own, and then those before it. If a thread can't be started, that
-// counts as out of memory.
+// If only one assignment is left, runs it on this thread. Otherwise starts a thread for the last one, meanwhile runs
+// those before it in the same way, and then waits for the thread. If the thread can't be started, those before it are
+// run all the same.
 fn run_from<'s, E, R: Threads + Wait + Sync, K: EntrySink + Send, G: Gate + Sync>(
     scope: &'s Scope<'s, E>,
     rt: &'s R,
@@ -127,56 +145,56 @@ fn run_from<'s, E, R: Threads + Wait + Sync, K: EntrySink + Send, G: Gate + Sync
     shared: &'s Shared<K>,
     mut assignments: Vec<Vec<SeatedProgram<Seat<K>>>>,
     gate: &'s G,
-) -> Result<Vec<Vec<EndedProgram<Seat<K>>>>, ApplyFault>
+) -> Result<Vec<Vec<EndedProgram<Seat<K>>>>, WorkerFault>
     requires { All (AreFresh shared.now.name) assignments.items }
     ensures called { IfOk result (HaveCalled assignments) }
     ensures ended { IfOk result (AllHaveEnded shared.now.name) }
-    ensures full { IsErrOf result apply.HistoryFull → IsSeenFull shared.now.name }
+    ensures full { IsErrOf result worker.HistoryFull → IsSeenFull shared.now.name }
 {
     let Some(assignment) = assignments.pop() else {
         return Ok(Vec::new(alloc));
     };
     if assignments.is_empty() {
-        let first = run_assigned(rt, alloc, shared, assignment, gate);
+        let first = run_worker(rt, alloc, shared, assignment, gate);
         return and_then(Ok(Vec::new(alloc)), first);
     }
     let runs = Runs(Snapshot::of(&assignment), Snapshot::of(shared));
     let worker = scope.spawn_with(
         runs,
-        move || -> Result<Vec<EndedProgram<Seat<K>>>, ApplyFault>
+        move || -> Result<Vec<EndedProgram<Seat<K>>>, WorkerFault>
             requires { AreFresh shared.now.name assignment }
             ensures called { IfOk result (λ v. made_calls v ≡ assigned_calls assignment) }
             ensures ended { IfOk result (HaveEnded shared.entry.now.name) }
-            ensures full { IsErrOf result apply.HistoryFull → IsSeenFull shared.entry.now.name }
-        { run_assigned(rt, alloc, shared, assignment, gate) },
+            ensures full { IsErrOf result worker.HistoryFull → IsSeenFull shared.entry.now.name }
+        { run_worker(rt, alloc, shared, assignment, gate) },
     );
+    let before = run_from(scope, rt, alloc, shared, assignments, gate);
     match worker {
-        Ok(worker) => {
-            let before = run_from(scope, rt, alloc, shared, assignments, gate);
-            and_then(before, worker.join(rt))
-        }
-        Err(_) => {
-            let _ = run_from(scope, rt, alloc, shared, assignments, gate);
-            Err(ApplyFault::NoMemory)
-        }
+        Ok(worker) => and_then(before, worker.join(rt)),
+        Err(_) => and_then(before, Err(WorkerFault::NoThread)),
     }
 }
 
-// Joins the results of some assignments with that of one more. `NoMemory` takes precedence: `HistoryFull` is returned
-// exactly if one of the two results is `HistoryFull` and neither is `NoMemory`.
+// Joins the results of some assignments with that of one more. If both are faults, returns the first one in this order:
+// out of memory, no thread, a full history.
 fn and_then<K: EntrySink>(
-    before: Result<Vec<Vec<EndedProgram<Seat<K>>>>, ApplyFault>,
-    last: Result<Vec<EndedProgram<Seat<K>>>, ApplyFault>,
-) -> Result<Vec<Vec<EndedProgram<Seat<K>>>>, ApplyFault>
+    before: Result<Vec<Vec<EndedProgram<Seat<K>>>>, WorkerFault>,
+    last: Result<Vec<EndedProgram<Seat<K>>>, WorkerFault>,
+) -> Result<Vec<Vec<EndedProgram<Seat<K>>>>, WorkerFault>
+    // what is returned
     ensures called { IfOk result (λ v. (all : List (List Calls)) (one : List Calls)
         → IfOk before (λ b. map made_calls b.items ≡ all) → IfOk last (λ d. made_calls d ≡ one)
         → map made_calls v.items ≡ all ++ one ∷ []) }
     ensures ended { IfOk result (λ v. (name : SharedId)
         → IfOk before (AllHaveEnded name) → IfOk last (HaveEnded name) → AllHaveEnded name v) }
-    ensures memory_first { (before ≡ Err apply.NoMemory) ⊎ (last ≡ Err apply.NoMemory) → result ≡ Err apply.NoMemory }
-    ensures full { result ≡ Err apply.HistoryFull → (before ≡ Err apply.HistoryFull) ⊎ (last ≡ Err apply.HistoryFull) }
-    ensures full_next { (before ≡ Err apply.HistoryFull) ⊎ (last ≡ Err apply.HistoryFull)
-        → before ≢ Err apply.NoMemory → last ≢ Err apply.NoMemory → result ≡ Err apply.HistoryFull }
+    // which fault is returned
+    ensures memory_first { EitherFails worker.NoMemory before last → result ≡ Err worker.NoMemory }
+    ensures thread { result ≡ Err worker.NoThread → EitherFails worker.NoThread before last }
+    ensures thread_next { EitherFails worker.NoThread before last → (EitherFails worker.NoMemory before last → ⊥)
+        → result ≡ Err worker.NoThread }
+    ensures full { result ≡ Err worker.HistoryFull → EitherFails worker.HistoryFull before last }
+    ensures full_last { EitherFails worker.HistoryFull before last → (EitherFails worker.NoMemory before last → ⊥)
+        → (EitherFails worker.NoThread before last → ⊥) → result ≡ Err worker.HistoryFull }
 {
     match (before, last) {
         (Ok(mut all), Ok(done)) => {
@@ -184,11 +202,14 @@ fn and_then<K: EntrySink>(
             all.push_reserved(done);
             Ok(all)
         }
-        (Err(ApplyFault::NoMemory), _) | (_, Err(ApplyFault::NoMemory)) => Err(
-            ApplyFault::NoMemory,
+        (Err(WorkerFault::NoMemory), _) | (_, Err(WorkerFault::NoMemory)) => Err(
+            WorkerFault::NoMemory,
         ),
-        (Err(ApplyFault::HistoryFull), _) | (_, Err(ApplyFault::HistoryFull)) => Err(
-            ApplyFault::HistoryFull,
+        (Err(WorkerFault::NoThread), _) | (_, Err(WorkerFault::NoThread)) => Err(
+            WorkerFault::NoThread,
+        ),
+        (Err(WorkerFault::HistoryFull), _) | (_, Err(WorkerFault::HistoryFull)) => Err(
+            WorkerFault::HistoryFull,
         ),
     }
 }

@@ -92,8 +92,9 @@ where
     let process = D::process(seat);
     let mut number = 0;
     for command in program.into_vec() {
+        let mut command = command;
         gate.before(process, number);
-        let outcome = door.perform(rt, alloc, seat, command);
+        let outcome = door.perform(rt, alloc, seat, &mut command);
         gate.after(process, number);
         outcome?;
         number += 1;

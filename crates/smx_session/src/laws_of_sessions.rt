@@ -72,8 +72,9 @@ pub fn what_is_written_is_a_transcript()
         ≡ transcript_text (transcript_with s.version s.drivers entries (view s.drivers s.configuration)) }
 {}
 
-/// A worked session: how it starts, its states after its lines, and the lines of its entries, with counterexamples of
-/// its states. Also examples of lines that are not performed, and of sessions without an entry.
+/// A worked session: how it starts, its states after its lines, and the lines of its entries. Lines that lead to no
+/// such state, and a line that shows none, are counterexamples. Also examples of lines that are not performed, and of
+/// sessions without an entry.
 pub fn a_worked_session()
     ensures starts { StartsAs table (Ok begun) }
     ensures no_memory { StartsAs table (Err NoMemory) }

@@ -1,6 +1,8 @@
 //! A configuration, with the version of its texts and its last entry.
 
 ghost use Rattle.std.specs.Prelude.{◌≡◌, IfOk, IfErr, OnOk, OnErr, option_copied};
+ghost use Rattle.smx_model.specs.DriverList.{IsDriverList};
+ghost use Rattle.smx_model.specs.KeptConfigurations.{IsKept};
 ghost use Rattle.smx_model.specs.Views.{view};
 ghost use Rattle.smx_session.specs.Sessions.{IsNotPerformed, Performs, StartsAs};
 
@@ -77,7 +79,8 @@ impl Session {
 
     /// Returns the configuration. Fails only if it is out of memory.
     pub fn show(&self) -> Result<ConfigView, NoMemory>
-        ensures { IfOk result (λ v. v ≡ view self.now.drivers self.now.configuration) }
+        ensures view { IfOk result (λ v. v ≡ view self.now.drivers self.now.configuration) }
+        ensures kept { IsKept self.now.drivers self.now.configuration }
     {
         self.config.show()
     }
@@ -91,7 +94,8 @@ impl Session {
 
     /// Returns the drivers, which no line changes. Takes no memory.
     pub fn drivers(&self) -> &[DriverSpec]
-        ensures { result.now ≡ self.now.drivers }
+        ensures value { result.now ≡ self.now.drivers }
+        ensures valid { IsDriverList self.now.drivers }
     {
         self.config.drivers()
     }

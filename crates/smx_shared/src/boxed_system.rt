@@ -60,10 +60,11 @@ impl<K: EntrySink> BoxedSystem<K> {
     }
 
     /// `System::perform`.
-    pub fn perform(&mut self, process: Process, command: Command) -> Result<(), ApplyFault>
-        ensures ok { OnOk result (self.new ≡ with_entry self.old process command) }
+    pub fn perform(&mut self, process: Process, command: &mut Command) -> Result<(), ApplyFault>
+        ensures ok { OnOk result (self.new ≡ with_entry self.old process command.old) }
         ensures full { IsErrOf result HistoryFull ↔ (length self.old.history ≡ self.old.limit) }
         ensures err { OnErr result (self.new ≡ self.old) }
+        ensures kept { OnErr result (command.new ≡ command.old) }
         ensures sound { IsSoundSystem self.new }
     {
         self.system.perform(process, command)

@@ -1,6 +1,6 @@
 //! The calls that a shared system offers, so that another implementation can take its place.
 
-ghost use Rattle.std.specs.Prelude.{◌≡◌, IfErr, IfOk, OnOk};
+ghost use Rattle.std.specs.Prelude.{◌≡◌, IfErr, IfOk, OnErr, OnOk};
 ghost use Rattle.smx_shared.specs.Calls.{AddsEntry, AnswersEntry, HasSeenMore, Refuses, SeesFront};
 
 use crate::front::Front;
@@ -11,7 +11,7 @@ use std::sync::Wait;
 
 /// A system that callers share, each with a seat of its own.
 pub trait Door {
-    ghost use Rattle.std.specs.Prelude.{◌≡◌, IfErr, IfOk, OnOk};
+    ghost use Rattle.std.specs.Prelude.{◌≡◌, IfErr, IfOk, OnErr, OnOk};
     ghost use Rattle.smx_shared.specs.Calls.{AddsEntry, AnswersEntry, HasSeenMore, Refuses, SeesFront};
     ghost use Rattle.smx_shared.specs.Seats.{Known};
 
@@ -44,25 +44,27 @@ pub trait Door {
         ensures answer { IfOk result (AnswersEntry (known seat.old) (known seat.new) command.now) }
         ensures refused { IfErr result (Refuses (known seat.old) (known seat.new)) };
 
-    /// Performs a command as `call` does, for a caller that needs no entry.
+    /// Performs a command as `call` does, for a caller that needs no entry. A door that keeps the command may move it
+    /// out of `command`, but not if it fails.
     fn perform<R: Wait>(
         &self,
         rt: &R,
         alloc: Global,
         seat: &mut Self::Seat,
-        command: Command,
+        command: &mut Command,
     ) -> Result<(), ApplyFault>
         requires { is_seat self.now seat.old }
         ensures seat { is_seat self.now seat.new }
         ensures seen { HasSeenMore (known seat.old) (known seat.new) }
-        ensures added { OnOk result (AddsEntry (known seat.old) command (known seat.new)) }
+        ensures added { OnOk result (AddsEntry (known seat.old) command.old (known seat.new)) }
         ensures refused { IfErr result (Refuses (known seat.old) (known seat.new)) }
+        ensures kept { OnErr result (command.new ≡ command.old) }
     {
-        self.call(rt, alloc, seat, &command)?;
+        self.call(rt, alloc, seat, command)?;
         Ok(())
     }
 
-    /// Returns how far the history has come. Doesn't wait, and takes no memory.
+    /// Returns the front of the history, and whether a seat has the turn. Doesn't wait, and takes no memory.
     fn glance(&self, seat: &mut Self::Seat) -> Front
         requires { is_seat self.now seat.old }
         ensures seat { is_seat self.now seat.new }

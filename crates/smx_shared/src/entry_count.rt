@@ -50,8 +50,8 @@ impl EntrySink for EntryCount {
         Ok(())
     }
 
-    fn add(&mut self, process: Process, command: Command, reply: Reply) {
-        let entry = GhostValue::<Entry>::new(&(process, &command, &reply));
+    fn add(&mut self, process: Process, command: &mut Command, reply: &mut Reply) {
+        let entry = GhostValue::<Entry>::new(&(process, &*command, &*reply));
         self.entries = GhostValue::new(&(&self.entries, &entry));
         self.count += 1;
     }

@@ -1,6 +1,7 @@
 //! Receives the entries of a history.
 
 use smx_types::{Command, Entry, NoMemory, Process, Reply};
+use std::mem::replace;
 
 /// Receives the entries of a history, in order, and keeps only what it needs of them.
 pub trait EntrySink: Drop {
@@ -23,12 +24,13 @@ pub trait EntrySink: Drop {
         ensures same { entries self.new ≡ entries self.old }
         ensures room { OnOk result (has_room self.new) };
 
-    /// Adds the next entry. There must be room for it, so this can't fail.
-    fn add(&mut self, process: Process, command: Command, reply: Reply)
+    /// Adds the next entry. There must be room for it, so this can't fail. A sink that keeps the command or the reply
+    /// moves it out, and leaves any other value in its place.
+    fn add(&mut self, process: Process, command: &mut Command, reply: &mut Reply)
         requires room { has_room self.old }
         requires few { length (entries self.old) < MAX_COMMANDS }
         ensures { entries self.new ≡ entries self.old
-            ++ record { process = process; command = command; reply = reply } ∷ [] };
+            ++ record { process = process; command = command.old; reply = reply.old } ∷ [] };
 }
 
 /// Keeps all entries.
@@ -48,11 +50,11 @@ impl EntrySink for Vec<Entry> {
         Ok(())
     }
 
-    fn add(&mut self, process: Process, command: Command, reply: Reply) {
+    fn add(&mut self, process: Process, command: &mut Command, reply: &mut Reply) {
         self.push_reserved(Entry {
             process,
-            command,
-            reply,
+            command: replace(command, Command::CloseAll),
+            reply: replace(reply, Reply::Eof),
         });
     }
 }

@@ -1,7 +1,7 @@
 //! A system that many threads share: they take turns, and look without waiting.
 
 ghost use Rattle.std.specs.Prelude.{◌≡◌, ◌≤◌, ◌+◌, [], map, vec_capacity};
-ghost use Rattle.std.specs.Prelude.{IfOk, IfErr, IsOk, OnOk};
+ghost use Rattle.std.specs.Prelude.{IfOk, IfErr, IsOk, OnErr, OnOk};
 ghost use Rattle.std.specs.List.{range_with_len};
 ghost use Rattle.smx_types.specs.declared.limits.TheConstants.{MAX_PROCESSES};
 ghost use Rattle.smx_shared.specs.Calls.{AddsEntry, AnswersEntry, EndsAs, GoesOnFrom, HasSeenMore, LooksOnce};
@@ -194,14 +194,15 @@ impl<K: EntrySink> Door for Shared<K> {
         rt: &R,
         _alloc: Global,
         seat: &mut Seat<K>,
-        command: Command,
+        command: &mut Command,
     ) -> Result<(), ApplyFault>
         requires { seat.old.shared ≡ self.now.name }
         ensures rests { Rests seat.old seat.new }
         ensures met { seat.new.met ≡ seat.old.met }
         ensures seen { HasSeenMore seat.old.known seat.new.known }
-        ensures added { OnOk result (AddsEntry seat.old.known command seat.new.known) }
+        ensures added { OnOk result (AddsEntry seat.old.known command.old seat.new.known) }
         ensures refused { IfErr result (Refuses seat.old.known seat.new.known) }
+        ensures kept { OnErr result (command.new ≡ command.old) }
     {
         self.turns.take(rt, &mut seat.token);
         self.turns.perform(&mut seat.token, seat.process, command)

@@ -12,7 +12,7 @@ ghost use Rattle.smx_shared.specs.declared.shared_fault.ApplyFault.TheVariants.{
 use crate::entry_sink::EntrySink;
 use crate::shared_fault::ApplyFault;
 use smx_config::{Config, ConfigFault};
-use smx_types::{Command, Copied, DriverSpec, Entries, Entry, NoMemory, Process};
+use smx_types::{Command, Copied, DriverSpec, Entries, Entry, NoMemory, Process, Reply};
 use std::alloc::Global;
 use std::marker::Model;
 
@@ -136,8 +136,8 @@ impl<K: EntrySink> System<K> {
 
     /// Performs one command, adds its entry with the reply to the history, and returns that same entry. Fails with
     /// `HistoryFull` exactly if the history is full, which is tested first. Otherwise fails if an allocation fails;
-    /// this can happen even for a command that would be refused, because that gets an entry too. A failure changes
-    /// nothing.
+    /// this can happen even for a command that would be refused, because a refused command gets an entry too. A
+    /// failure changes nothing.
     pub fn apply(&mut self, process: Process, command: &Command) -> Result<Entry, ApplyFault>
         // The effect.
         ensures answer { IfOk result (λ e. e ≡ next_entry self.old process command.now) }
@@ -149,10 +149,10 @@ impl<K: EntrySink> System<K> {
         ensures sound { IsSoundSystem self.new }
     {
         make_room(&mut self.sink, self.limit)?;
-        let kept = command.copy(self.alloc)?;
+        let mut kept = command.copy(self.alloc)?;
         let command_again = command.copy(self.alloc)?;
-        let (reply, reply_again) = self.config.step_twin(process, command)?;
-        self.sink.add(process, kept, reply);
+        let (mut reply, reply_again) = self.config.step_twin(process, command)?;
+        self.sink.add(process, &mut kept, &mut reply);
         Ok(Entry {
             process,
             command: command_again,
@@ -160,20 +160,22 @@ impl<K: EntrySink> System<K> {
         })
     }
 
-    /// Performs one command as `apply` does, for a caller that needs no entry: moves the command into the history, and
-    /// copies nothing.
-    pub fn perform(&mut self, process: Process, command: Command) -> Result<(), ApplyFault>
+    /// Performs one command as `apply` does, for a caller that needs no entry. Copies nothing: a sink that keeps the
+    /// command moves it out of `command`. After a failure `command` is unchanged.
+    pub fn perform(&mut self, process: Process, command: &mut Command) -> Result<(), ApplyFault>
         // The effect.
-        ensures ok { OnOk result (self.new ≡ with_entry self.old process command) }
+        ensures ok { OnOk result (self.new ≡ with_entry self.old process command.old) }
         // The refusals.
         ensures full { IsErrOf result HistoryFull ↔ (length self.old.history ≡ self.old.limit) }
         ensures err { OnErr result (self.new ≡ self.old) }
+        ensures kept { OnErr result (command.new ≡ command.old) }
         // The state afterwards, in either case.
         ensures sound { IsSoundSystem self.new }
     {
         make_room(&mut self.sink, self.limit)?;
-        let reply = self.config.step(process, &command)?;
-        self.sink.add(process, command, reply);
+        let mut reply = Reply::Eof;
+        self.config.perform(process, command, &mut reply)?;
+        self.sink.add(process, command, &mut reply);
         Ok(())
     }
 

@@ -1,7 +1,7 @@
 //! The words and the slot of a shared system, and the steps on them.
 
 ghost use Rattle.std.specs.Prelude.{◌≡◌, ◌<◌, ◌≤◌, ◌+◌, ◌*◌, ◌%◌, [], true, false, Some, None};
-ghost use Rattle.std.specs.Prelude.{IfOk, IfErr, IsOk, OnOk};
+ghost use Rattle.std.specs.Prelude.{IfOk, IfErr, IsOk, OnErr, OnOk};
 ghost use Rattle.smx_shared.specs.Calls.{AddsEntry, AnswersEntry, Refuses, EndsAs, GoesOnFrom};
 ghost use Rattle.smx_shared.specs.Fronts.{front_of};
 ghost use Rattle.smx_shared.specs.Recorded.{IsSoundSystem};
@@ -235,16 +235,17 @@ impl<K: EntrySink> TurnTable<K> {
         &self,
         token: &mut Token<K>,
         process: Process,
-        command: Command,
+        command: &mut Command,
     ) -> Result<(), ApplyFault>
         requires table { token.old.table_id ≡ self.now.table.shared.table_id }
         requires turn { HasTurn token.old.me (Some (system_of token.old.me.0)) }
         requires named { (token.old.me.0.named ≡ true) × (token.old.me.0.process ≡ process) }
         ensures table { token.new.table_id ≡ token.old.table_id }
         ensures rest { RestsAfter token.old.me.0 token.new.me }
-        ensures added { OnOk result (AddsEntry (known_of token.old.me.0) command (known_of token.new.me.0)) }
+        ensures added { OnOk result (AddsEntry (known_of token.old.me.0) command.old (known_of token.new.me.0)) }
         ensures counted { token.new.me.0.looks ≡ token.old.me.0.looks + 1 }
         ensures refused { IfErr result (Refuses (known_of token.old.me.0) (known_of token.new.me.0)) }
+        ensures kept { OnErr result (command.new ≡ command.old) }
     {
         let mut system = self.take_out(token);
         let outcome = system.perform(process, command);

@@ -173,7 +173,7 @@ impl Streams {
         Ok((fd, stream))
     }
 
-    /// Opens the lowest minor of the driver whose stream doesn't exist, as the lowest free descriptor. Fails with the
+    /// Opens the driver's lowest minor whose stream doesn't exist, as the lowest free descriptor. Fails with the
     /// first of these: there is no such driver; all its minors are in use; the process has 16 descriptors; an
     /// allocation fails. A failure changes nothing.
     pub fn open_clone(

@@ -27,13 +27,6 @@ name_at drivers n lt =
 abbrev pub number_of : List DriverSpec → List ℕ → Option ℕ
 number_of drivers name = position (λ d. bytes_eq d.name name) drivers
 
--- the driver that is found by a name has this name
-pub named_at : (drivers : List DriverSpec) (name : List ℕ) (n : ℕ) → number_of drivers name ≡ Some n
-    → name_of drivers n ≡ name
-named_at drivers name n e =
-    let p = position-Some (λ (d : DriverSpec). bytes_eq d.name name) drivers n some_driver e in
-    name_at drivers n p.0 ∙ (bytes_eq-Decides _ _).0 p.1
-
 -- a driver is found by its name
 pub found_by_name : (drivers : List DriverSpec) (n : ℕ) → IsDriverList drivers → n < length drivers
     → number_of drivers (name_of drivers n) ≡ Some n

@@ -22,9 +22,6 @@ pub mod DeadLemmas
 pub mod LinesLemmas
 pub mod QueueLemmas
 pub mod DriverNameLemmas
-pub mod ShownItemLemmas
-pub mod LineOrderLemmas
-pub mod AddressLineLemmas
 pub mod DriverListLemmas
 pub mod WalkLemmas
 pub mod KeptLemmas

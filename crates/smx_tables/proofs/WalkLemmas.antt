@@ -1,9 +1,8 @@
 -- A walk over the descriptors of a table, from the first on.
-use Rattle.std.proofs.Common.{◌≡◌, ℕ, ◌+◌, ◌<◌, true, not, List, [], ◌∷◌, ◌++◌, length, map, take, get_or}
+use Rattle.std.proofs.Common.{◌≡◌, ℕ, ◌+◌, ◌<◌, true, not, List, [], ◌∷◌, ◌++◌, length, map}
 use Rattle.std.proofs.Common.{Option, Some, None, refl, sym, ap, subst, ◌∙◌, arith, append_assoc}
 use Rattle.std.specs.List.{All}
 use Rattle.std.proofs.lemmas.Bool.Decides.{nat_tests}
-use Rattle.std.proofs.lemmas.List.{take_more}
 use Rattle.std.proofs.lemmas.List.Elements.{All-filter}
 use Rattle.smx_types.specs.declared.limits.TheConstants.{MAX_DESCRIPTORS}
 use Rattle.smx_types.specs.declared.stream.Descriptor.{Descriptor}
@@ -64,14 +63,3 @@ fewer_left fds d next h = let e = ap length (left_is fds d.process (d.fd + 1) ne
 
 -- the facts about a walk over descriptors
 pub ruleset walk_of_fds = (all_left, left_all, numbered, lines_more, fewer_left)
-
--- with one more correct line, the lines so far and those of the descriptors that are left are the lines of all
-pub shown_more : {Y : Type 0} (f : Descriptor → Y) (fds : List Descriptor) (lines : List Y) (i : ℕ) (d : Descriptor)
-    (y : Y) (next : Option Descriptor) → i < length lines → y ≡ get_or lines i y → y ≡ f d
-    → IsNext fds d.process (d.fd + 1) next
-    → take i lines ++ map f (left_of fds (Some d)) ≡ map f fds
-    → take (i + 1) lines ++ map f (left_of fds next) ≡ map f fds
-shown_more {Y = Y} f fds lines i d y next lt at same h e =
-    ap (λ (ls : List Y). ls ++ map f (left_of fds next))
-    (take_more lines i y lt ∙ ap (λ (z : Y). take i lines ++ z ∷ []) (sym at ∙ same))
-    ∙ lines_more f fds (take i lines) d next (map f fds) h e

@@ -13,7 +13,7 @@ use Rattle.smx_types.specs.declared.link.Link.{Link}
 use Rattle.smx_types.specs.declared.stream.Descriptor.{Descriptor}
 use Rattle.smx_types.specs.declared.stream.StreamId.{StreamId}
 use Rattle.smx_model.specs.Configuration.{same_stream}
-use Rattle.smx_model.specs.Standing.{is_named, is_persistent}
+use Rattle.smx_model.specs.Standing.{is_named}
 use Rattle.smx_model.proofs.TestLemmas.{all_push}
 use Rattle.smx_links.specs.LinkLists.{is_upper}
 use Rattle.smx_streams.specs.StreamTables.{StreamTable, HasHolds, number_at, exists as is_there}

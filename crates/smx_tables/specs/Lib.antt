@@ -6,4 +6,3 @@ pub mod KeptHolds
 pub mod SweepReserves
 pub mod DroppedMessages
 pub mod WorkedDrops
-pub mod ShownAddresses

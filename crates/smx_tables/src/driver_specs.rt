@@ -8,7 +8,6 @@ ghost use Rattle.smx_model.specs.Lookups.{driver_of};
 
 use smx_types::{DriverKind, DriverSpec, Fault, Name};
 
-#[inline(never)]
 fn position_of(drivers: &[DriverSpec], name: &Name) -> Option<usize>
     ensures { result ≡ position (λ d. bytes_eq d.name name.now) drivers.now }
 {
@@ -23,18 +22,6 @@ pub fn driver_of(drivers: &[DriverSpec], name: &Name) -> Result<usize, Fault>
     match position_of(drivers, name) {
         Some(n) => Ok(n),
         None => Err(Fault::NoDriver),
-    }
-}
-
-/// Returns whether the driver with this number has this name. Returns false if there is no such driver.
-#[inline(always)]
-pub fn is_driver_named(drivers: &[DriverSpec], driver: usize, name: &Name) -> bool
-    requires { IsDriverList drivers.now }
-    ensures { IsTrue result → driver_of drivers.now name.now ≡ Ok driver }
-{
-    match drivers.get(driver) {
-        Some(d) => d.name == *name,
-        None => false,
     }
 }
 

@@ -5,7 +5,6 @@
 pub mod arrivals;
 pub mod comparisons;
 pub mod copies;
-pub mod driver_hints;
 pub mod driver_specs;
 pub mod dropped_messages;
 pub mod laws_of_dropped_messages;
@@ -13,7 +12,5 @@ pub mod lists;
 mod orphans;
 pub mod removal;
 pub mod show;
-pub mod shown_addresses;
-pub mod shown_lines;
 pub mod standing;
 pub mod sweep;

@@ -140,7 +140,7 @@ fn drop_orphans(drivers: &[DriverSpec], lists: &mut Lists, room: &mut SweepReser
 
 // Removes the ordinary links whose controlling stream doesn't exist, and then everything that belongs to streams that
 // don't exist. Requires that each stream that doesn't exist, but to which something still belongs, is in `touched`.
-// Afterwards the list has the serials of all messages that were dropped since room was reserved.
+// Afterwards `room` has the serials of all messages that were dropped since it was reserved.
 fn sweep(drivers: &[DriverSpec], lists: &mut Lists, room: &mut SweepReserve)
     requires kept { KeepsHolds lists.old }
     requires known { AreControllingKnown drivers.now lists.old.links.links }

@@ -31,16 +31,11 @@ use Rattle.smx_text.specs.TranscriptText.{line_words, transcript_grammar}
 use Rattle.smx_trace.specs.Answers.{answered, answers}
 use Rattle.smx_trace.specs.TraceWords.{change_text, changes_text, wait_text, waits_text}
 use Rattle.smx_trace.specs.Traces.{IsTraceText, TraceLine, config_lines, entry_lines_from, lines_below}
-use Rattle.smx_trace.specs.Traces.{queue_lines, trace_line_text, trace_lines_text}
+use Rattle.smx_trace.specs.Traces.{lines_of_entry, queue_lines, trace_line_text, trace_lines_text}
 use Rattle.smx_trace.specs.Traces as trace
-use Rattle.smx_trace.specs.Tracing.{HasTraced}
+use Rattle.smx_trace.specs.Tracing.{HasTraced, TracesEntry}
 use Rattle.smx_trace.proofs.ChangeLemmas.{pieces_of}
 use Rattle.smx_trace.proofs.ReplayLemmas.{led_from, more_from, replayed}
-
--- the lines of an entry and below it
-abbrev pub lines_of_entry : Bool → List DriverSpec → Configuration → Entry → List TraceLine
-lines_of_entry each drivers c e =
-    trace.Plain (line.Entry e) ∷ lines_below each drivers c (step drivers c e.process e.command).0
 
 -- one more entry, and the lines below it
 pub entries_push : (each : Bool) (drivers : List DriverSpec) (c : Configuration) (es : List Entry) (e : Entry)
@@ -77,21 +72,53 @@ pub trace_begun : (each : Bool) (drivers : List DriverSpec) (opening : List ℕ)
     → m.configuration ≡ empty → HasTraced each drivers opening [] m opening
 trace_begun each drivers opening m same now = record { same = same; now = now; written = sym (append-nil opening) }
 
--- one more entry is traced, over the drivers of the trace
-more : (each : Bool) (drivers : List DriverSpec) (opening : List ℕ) (asked : List Entry) (e : Entry) (reply : Reply)
-    (n : Machine) (text new : List ℕ)
-    → text ≡ opening ++ trace_lines_text drivers (entry_lines_from each drivers empty (answers drivers asked))
-    → n.drivers ≡ drivers → step drivers (after drivers asked) e.process e.command ≡ (n.configuration, reply)
-    → new ≡ text ++ ((line_of (entry_words (record e { reply = reply })) ++ LINE_FEED ∷ [])
-    ++ (changes_text (changes (view drivers (after drivers asked)) (view drivers n.configuration))
-    ++ waits_if each drivers n.configuration))
-    → HasTraced each drivers opening (asked ++ e ∷ []) n new
-more each drivers opening asked e reply n text new written same stepped wrote =
-    let c : Configuration = after drivers asked in
-    let a : Entry = answered drivers c e in
-    let d : Configuration = (step drivers c e.process e.command).0 in
+-- an entry is traced, as it is written
+pub entry_traced : (each : Bool) (e : Entry) (reply : Reply) (m n : Machine) (v w : ConfigView)
+    (text t1 t2 t3 : List ℕ) → n.drivers ≡ m.drivers
+    → step m.drivers m.configuration e.process e.command ≡ (n.configuration, reply)
+    → v ≡ view m.drivers m.configuration → w ≡ view n.drivers n.configuration
+    → t1 ≡ text ++ (line_of (entry_words (record e { reply = reply })) ++ LINE_FEED ∷ [])
+    → t2 ≡ t1 ++ changes_text (changes v w) → t3 ≡ t2 ++ waits_if each n.drivers n.configuration
+    → TracesEntry each e m n text t3
+entry_traced each e reply m n v w text t1 t2 t3 kept stepped is is' e1 e2 e3 =
+    let ds : List DriverSpec = m.drivers in
+    let c : Configuration = m.configuration in
+    let a : Entry = answered ds c e in
+    let d : Configuration = (step ds c e.process e.command).0 in
     let is_d : n.configuration ≡ d = sym (ap (λ (x : Configuration × Reply). x.0) stepped) in
     let is_reply : reply ≡ a.reply = sym (ap (λ (x : Configuration × Reply). x.1) stepped) in
+    let now : w ≡ view ds n.configuration =
+    is' ∙ ap (λ (x : List DriverSpec). view x n.configuration) kept in
+    let Line : Reply → List ℕ = λ r. line_of (entry_words (record e { reply = r })) ++ LINE_FEED ∷ [] in
+    record {
+      drivers = kept;
+      performed = is_d;
+      written =
+          e3 ∙ ap (λ (t : List ℕ). t ++ waits_if each n.drivers n.configuration)
+          (e2 ∙ ap (λ (t : List ℕ). t ++ changes_text (changes v w)) e1)
+          ∙ ap (λ (x : List DriverSpec). ((text ++ Line reply) ++ changes_text (changes v w)) ++ waits_if each x n.configuration) kept
+          ∙ ap (λ (x : ConfigView). ((text ++ Line reply) ++ changes_text (changes x w)) ++ waits_if each ds n.configuration) is
+          ∙ ap (λ (x : ConfigView). ((text ++ Line reply) ++ changes_text (changes (view ds c) x))
+          ++ waits_if each ds n.configuration) now
+          ∙ append_assoc (text ++ Line reply) _ _ ∙ append_assoc text (Line reply) _
+          ∙ ap (λ (r : Reply). text ++ (Line r ++ (changes_text (changes (view ds c) (view ds n.configuration))
+          ++ waits_if each ds n.configuration))) is_reply
+          ∙ ap (λ (x : Configuration). text ++ (Line a.reply ++ (changes_text (changes (view ds c) (view ds x))
+          ++ waits_if each ds x))) is_d
+          ∙ ap (λ (t : List ℕ). text ++ (Line a.reply ++ t)) (sym (below_text each ds c d));
+    }
+
+-- one more entry is traced
+pub traced_more : (each : Bool) (drivers : List DriverSpec) (opening : List ℕ) (asked : List Entry) (e : Entry)
+    (m n : Machine) (text new : List ℕ) → HasTraced each drivers opening asked m text
+    → TracesEntry each e m n text new → HasTraced each drivers opening (asked ++ e ∷ []) n new
+traced_more each drivers opening asked e m n text new h traced =
+    let c : Configuration = after drivers asked in
+    let a : Entry = answered drivers c e in
+    let here : TracesEntry each e (record { drivers = drivers; configuration = c }) n text new =
+    subst (λ (x : Configuration). TracesEntry each e (record { drivers = drivers; configuration = x }) n text new) h.now
+    (subst (λ (ds : List DriverSpec). TracesEntry each e (record { drivers = ds; configuration = m.configuration }) n text new)
+    h.same traced) in
     let Text : List TraceLine → List ℕ = trace_lines_text drivers in
     let Before : List TraceLine = entry_lines_from each drivers empty (answers drivers asked) in
     let one : entry_lines_from each drivers empty (answers drivers (asked ++ e ∷ []))
@@ -99,57 +126,17 @@ more each drivers opening asked e reply n text new written same stepped wrote =
     ap (entry_lines_from each drivers empty) (more_from drivers empty asked e)
     ∙ entries_push each drivers empty (answers drivers asked) a
     ∙ ap (λ (x : Configuration). Before ++ lines_of_entry each drivers x a) (led_from drivers empty asked) in
-    let line_text : Text (lines_of_entry each drivers c a)
-    ≡ (line_of (entry_words a) ++ LINE_FEED ∷ [])
-    ++ (changes_text (changes (view drivers c) (view drivers d)) ++ waits_if each drivers d) =
-    ap (λ (t : List ℕ). (line_of (entry_words a) ++ LINE_FEED ∷ []) ++ t) (below_text each drivers c d) in
     record {
-      same = same;
-      now = is_d ∙ sym (after_push drivers asked e);
+      same = here.drivers;
+      now = here.performed ∙ sym (after_push drivers asked e);
       written =
-          wrote
-          ∙ ap (λ (r : Reply). text ++ ((line_of (entry_words (record e { reply = r })) ++ LINE_FEED ∷ [])
-          ++ (changes_text (changes (view drivers c) (view drivers n.configuration))
-          ++ waits_if each drivers n.configuration))) is_reply
-          ∙ ap (λ (x : Configuration). text ++ ((line_of (entry_words a) ++ LINE_FEED ∷ [])
-          ++ (changes_text (changes (view drivers c) (view drivers x)) ++ waits_if each drivers x))) is_d
-          ∙ ap (λ (t : List ℕ). t ++ ((line_of (entry_words a) ++ LINE_FEED ∷ [])
-          ++ (changes_text (changes (view drivers c) (view drivers d)) ++ waits_if each drivers d))) written
+          here.written
+          ∙ ap (λ (t : List ℕ). t ++ Text (lines_of_entry each drivers c a)) h.written
           ∙ append_assoc opening (Text Before) _
-          ∙ ap (λ (t : List ℕ). opening ++ (Text Before ++ t)) (sym line_text)
           ∙ ap (λ (t : List ℕ). opening ++ t)
           (sym (flat_map-append (trace_line_text drivers) Before (lines_of_entry each drivers c a)))
           ∙ ap (λ (ls : List TraceLine). opening ++ Text ls) (sym one);
     }
-
--- one more entry is traced
-pub traced_more : (each : Bool) (drivers : List DriverSpec) (opening : List ℕ) (asked : List Entry) (e : Entry)
-    (reply : Reply) (m n : Machine) (v w : ConfigView) (text t1 t2 t3 : List ℕ)
-    → HasTraced each drivers opening asked m text → n.drivers ≡ m.drivers
-    → step m.drivers m.configuration e.process e.command ≡ (n.configuration, reply)
-    → v ≡ view m.drivers m.configuration → w ≡ view n.drivers n.configuration
-    → t1 ≡ text ++ (line_of (entry_words (record e { reply = reply })) ++ LINE_FEED ∷ [])
-    → t2 ≡ t1 ++ changes_text (changes v w) → t3 ≡ t2 ++ waits_if each n.drivers n.configuration
-    → HasTraced each drivers opening (asked ++ e ∷ []) n t3
-traced_more each drivers opening asked e reply m n v w text t1 t2 t3 h kept stepped is is' e1 e2 e3 =
-    let same : n.drivers ≡ drivers = kept ∙ h.same in
-    let Step : List DriverSpec → Configuration → Type 0 =
-    λ ds c. step ds c e.process e.command ≡ (n.configuration, reply) in
-    let stepped' : step drivers (after drivers asked) e.process e.command ≡ (n.configuration, reply) =
-    subst (Step drivers) h.now (subst (λ (ds : List DriverSpec). Step ds m.configuration) h.same stepped) in
-    let was : v ≡ view drivers (after drivers asked) =
-    is ∙ ap (λ (ds : List DriverSpec). view ds m.configuration) h.same ∙ ap (view drivers) h.now in
-    let now : w ≡ view drivers n.configuration =
-    is' ∙ ap (λ (ds : List DriverSpec). view ds n.configuration) same in
-    let Line : List ℕ = line_of (entry_words (record e { reply = reply })) ++ LINE_FEED ∷ [] in
-    more each drivers opening asked e reply n text t3 h.written same stepped'
-    (e3 ∙ ap (λ (t : List ℕ). t ++ waits_if each n.drivers n.configuration)
-    (e2 ∙ ap (λ (t : List ℕ). t ++ changes_text (changes v w)) e1)
-    ∙ ap (λ (ds : List DriverSpec). ((text ++ Line) ++ changes_text (changes v w)) ++ waits_if each ds n.configuration) same
-    ∙ ap (λ (x : ConfigView). ((text ++ Line) ++ changes_text (changes x w)) ++ waits_if each drivers n.configuration) was
-    ∙ ap (λ (x : ConfigView). ((text ++ Line) ++ changes_text (changes (view drivers (after drivers asked)) x))
-    ++ waits_if each drivers n.configuration) now
-    ∙ append_assoc (text ++ Line) _ _ ∙ append_assoc text Line _)
 
 -- ---- the configuration
 

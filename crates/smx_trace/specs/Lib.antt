@@ -10,3 +10,4 @@ pub mod Missing
 pub mod Serials
 pub mod Queues
 pub mod Tracing
+pub mod WorkedTraces

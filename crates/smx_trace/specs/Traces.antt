@@ -42,6 +42,11 @@ abbrev pub lines_below : Bool → List DriverSpec → Configuration → Configur
 lines_below each drivers c d =
     map Changed (changes (view drivers c) (view drivers d)) ++ (if each then map Waits (waits drivers d) else [])
 
+-- the line of an entry, and the lines below it
+abbrev pub lines_of_entry : Bool → List DriverSpec → Configuration → Entry → List TraceLine
+lines_of_entry each drivers c e =
+    Plain (line.Entry e) ∷ lines_below each drivers c (step drivers c e.process e.command).0
+
 -- each entry and the lines below it, from this configuration on
 abbrev pub entry_lines_from : Bool → List DriverSpec → Configuration → List Entry → List TraceLine
 entry_lines_from each drivers c [] = []

@@ -10,15 +10,15 @@ ghost use Rattle.smx_trace.specs.TraceWords.{changes_text, marked};
 use crate::missing::write_missing;
 use crate::moves::write_moves;
 use crate::ranks::Ranked;
-use smx_types::{ConfigView, DriverSpec, NoMemory};
+use smx_types::{ConfigView, DriverSpec, Items, NoMemory};
 use std::alloc::Global;
 
 // Appends the lines of a group that are gone, and then those that are new. Fails only if out of memory.
 fn write_group<T: Ranked>(
     out: &mut Vec<u8>,
     drivers: &[DriverSpec],
-    before: &[T],
-    after: &[T],
+    before: &Items<T>,
+    after: &Items<T>,
 ) -> Result<(), NoMemory>
     requires before { IsRanked (T.rank drivers.now) before.now }
     requires after { IsRanked (T.rank drivers.now) after.now }
@@ -26,12 +26,13 @@ fn write_group<T: Ranked>(
         ++ (flat_map (λ x. marked (codes "  - ") (T.words x)) (missing_from T.eq before.now after.now)
         ++ flat_map (λ y. marked (codes "  + ") (T.words y)) (missing_from T.eq after.now before.now))) }
 {
+    let (before, after) = (before.as_slice(), after.as_slice());
     write_missing(out, drivers, b"  - ", before, after)?;
     write_missing(out, drivers, b"  + ", after, before)
 }
 
-/// Appends the lines of the changes from one view to another, in the time of both views. Fails only if out of memory;
-/// `out` may then contain some of them.
+/// Appends the lines of the changes from one view to another, in time that grows with the size of both views. Fails only
+/// if out of memory; `out` may then contain some of them.
 pub fn write_changes(
     alloc: Global,
     out: &mut Vec<u8>,
@@ -43,36 +44,11 @@ pub fn write_changes(
     requires after { IsShown drivers.now after.now }
     ensures { OnOk result (out.new.items ≡ out.old.items ++ changes_text (changes before.now after.now)) }
 {
-    write_group(out, drivers, before.fds.as_slice(), after.fds.as_slice())?;
-    write_group(
-        out,
-        drivers,
-        before.links.as_slice(),
-        after.links.as_slice(),
-    )?;
-    write_group(
-        out,
-        drivers,
-        before.binds.as_slice(),
-        after.binds.as_slice(),
-    )?;
-    write_group(
-        out,
-        drivers,
-        before.routes.as_slice(),
-        after.routes.as_slice(),
-    )?;
+    write_group(out, drivers, &before.fds, &after.fds)?;
+    write_group(out, drivers, &before.links, &after.links)?;
+    write_group(out, drivers, &before.binds, &after.binds)?;
+    write_group(out, drivers, &before.routes, &after.routes)?;
     write_moves(alloc, out, before.msgs.as_slice(), after.msgs.as_slice())?;
-    write_group(
-        out,
-        drivers,
-        before.fulls.as_slice(),
-        after.fulls.as_slice(),
-    )?;
-    write_group(
-        out,
-        drivers,
-        before.hungs.as_slice(),
-        after.hungs.as_slice(),
-    )
+    write_group(out, drivers, &before.fulls, &after.fulls)?;
+    write_group(out, drivers, &before.hungs, &after.hungs)
 }

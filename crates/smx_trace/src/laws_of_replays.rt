@@ -44,8 +44,8 @@ pub fn replays_are_lawful()
     few_commands_drop();
 }
 
-/// A replay is within the limits of its transcript and needs no later version. If no device hangs up, no reply of the
-/// replay and no line of its view reports a hangup.
+/// If a transcript is within the limits of its version, and each line of its replay can be spelled, the replay is within
+/// these limits too. So a replay in version 1 reports no hangup.
 pub fn replays_can_be_expressed()
     ensures { (t r : Transcript) → IsAllowed t.version t → IsReplayOf t r → IsSpellable r → IsAllowed r.version r }
 {

@@ -20,4 +20,4 @@ pub use changes::write_changes;
 pub use prefix::first_entries;
 pub use queues::write_waits;
 pub use replaying::replay;
-pub use tracing::trace;
+pub use tracing::{trace, trace_entry};

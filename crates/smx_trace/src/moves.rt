@@ -40,7 +40,7 @@ fn with_serial<'a>(
     lines.get(i)
 }
 
-// Appends the line of a message that is gone, if it is. Fails only if out of memory.
+// Appends the line of the message if it is gone. Fails only if out of memory.
 fn write_if_gone(
     out: &mut Vec<u8>,
     line: &MessageLine,
@@ -87,7 +87,7 @@ fn write_moved(out: &mut Vec<u8>, was: &MessageLine, now: &MessageLine) -> Resul
     put(out, b"\n")
 }
 
-// Appends the line of a message that moved or is new, if it did or is. Fails only if out of memory.
+// Appends the line of the message if it moved or is new. Fails only if out of memory.
 fn write_arrival(
     out: &mut Vec<u8>,
     before: &[MessageLine],

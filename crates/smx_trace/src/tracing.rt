@@ -1,13 +1,12 @@
 //! A trace, from the transcript that was read to its text.
 
-ghost use Rattle.std.specs.Prelude.{◌≡◌, ℕ, ◌∷◌, ◌++◌, [], List, IfOk, IfErr, OnOk, if◌then◌else◌};
-ghost use Rattle.smx_types.specs.declared.command.Entry.{Entry as AnyEntry};
+ghost use Rattle.std.specs.Prelude.{◌≡◌, ℕ, ◌++◌, [], List, IfOk, IfErr, OnOk, if◌then◌else◌};
 ghost use Rattle.smx_types.specs.declared.driver.DriverSpec.{DriverSpec as AnyDriver};
 ghost use Rattle.smx_model.specs.Waits.{waits};
 ghost use Rattle.smx_config.specs.DriverFaults.{RefusesDrivers};
 ghost use Rattle.smx_trace.specs.TraceWords.{waits_text};
 ghost use Rattle.smx_trace.specs.Traces.{IsTraceText};
-ghost use Rattle.smx_trace.specs.Tracing.{HasTraced, IsNow};
+ghost use Rattle.smx_trace.specs.Tracing.{HasTraced, IsNow, TracesEntry};
 
 use crate::changes::write_changes;
 use crate::configurations::write_configuration;
@@ -19,10 +18,11 @@ use smx_types::{ConfigView, Entries, Entry, NoMemory, Transcript};
 use smx_words::write_entry;
 use std::alloc::Global;
 
-/// Performs the commands of a transcript as `replay` does. Returns the text of the transcript that they give, with the
-/// changes of each entry below it, and in the configuration the wait of each queue below it; if `each`, also all waits
-/// below each entry. It reuses the memory of `room`, whose bytes are discarded. Keeps two views at a time, and takes for
-/// each entry the time of its views. Fails if the drivers are not valid, or if it is out of memory.
+/// Performs the commands of a transcript as `replay` does. Returns the text of the transcript that they give. Below
+/// each entry are its changes. If the flag `each` is set, the `waits` lines of all queues are there too. In the
+/// configuration, the `waits` line of a queue comes after the lines of its messages. Reuses the memory of `room`, whose
+/// bytes are discarded. Keeps two views at a time, and for each entry takes time that grows with the size of its two
+/// views. Fails if the drivers are not valid, or if it is out of memory.
 pub fn trace(
     alloc: Global,
     transcript: Transcript,
@@ -62,36 +62,32 @@ fn trace_all(
 {
     let mut view = config.show()?;
     for entry in entries.into_vec() {
-        view = trace_entry(alloc, config, entry, view, each, text)?;
+        view = trace_entry(alloc, config, &entry, &view, each, text)?;
     }
     Ok(view)
 }
 
-// Performs the command of an entry. Appends its line, with the reply that it gets, and the lines below it. Returns the
-// view after it. Fails only if out of memory.
-fn trace_entry(
+/// Performs the command of an entry. Appends its line, with the reply that it gets, and below it the changes from
+/// `before`, the view of the configuration before the command. If the flag `each` is set, all waits follow. Returns the
+/// view after the command. Fails only if out of memory; the command may then have been performed, and `text` may
+/// contain some of the lines.
+pub fn trace_entry(
     alloc: Global,
     config: &mut Config,
-    entry: Entry,
-    before: ConfigView,
+    entry: &Entry,
+    before: &ConfigView,
     each: bool,
     text: &mut Vec<u8>,
 ) -> Result<ConfigView, NoMemory>
-    requires { IsNow config.old before }
+    requires { IsNow config.old before.now }
     ensures now { IfOk result (IsNow config.new) }
-    ensures traced { OnOk result ((drivers : List AnyDriver) (opening : List ℕ) (asked : List AnyEntry)
-        → HasTraced each drivers opening asked config.old text.old.items
-        → HasTraced each drivers opening (asked ++ entry ∷ []) config.new text.new.items) }
+    ensures traced { OnOk result
+        (TracesEntry each entry.now config.old config.new text.old.items text.new.items) }
 {
-    let Entry {
-        process,
-        command,
-        ..
-    } = entry;
-    let reply = config.step(process, &command)?;
-    write_entry(text, process, &command, &reply)?;
+    let reply = config.step(entry.process, &entry.command)?;
+    write_entry(text, entry.process, &entry.command, &reply)?;
     let after = config.show()?;
-    write_changes(alloc, text, config.drivers(), &before, &after)?;
+    write_changes(alloc, text, config.drivers(), before, &after)?;
     write_wanted_waits(text, config, &after, each)?;
     Ok(after)
 }

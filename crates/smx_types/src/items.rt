@@ -3,7 +3,7 @@
 ghost use Rattle.std.specs.Prelude.{◌≡◌, ◌++◌, ◌∷◌, [], IfOk, OnOk, OnErr};
 
 use crate::memory::NoMemory;
-use std::alloc::Global;
+use std::alloc::{AllocError, Global};
 use std::marker::Model;
 
 /// Values that can be copied, unless memory runs out.
@@ -125,6 +125,17 @@ impl<T: Copied> Items<T> {
 impl<T: Copied> Copied for Items<T> {
     fn copied(&self, alloc: Global) -> Result<Items<T>, NoMemory> {
         self.copy(alloc)
+    }
+}
+
+impl Clone for Items<u8> {
+    ghost use Rattle.std.specs.Prelude.{◌≡◌};
+
+    ghost is_clone = { λ list copy. copy ≡ list };
+
+    fn clone(&self) -> Result<Items<u8>, AllocError> {
+        let items = Vec::from_slice(*self.items.allocator(), &self.items)?;
+        Ok(Items { items })
     }
 }
 

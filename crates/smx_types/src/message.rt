@@ -4,7 +4,7 @@ ghost use Rattle.std.specs.Prelude.{◌≡◌, IfOk};
 
 use crate::items::{Copied, Items};
 use crate::memory::NoMemory;
-use std::alloc::Global;
+use std::alloc::{AllocError, Global};
 
 /// The bytes of a message, in order.
 pub type Bytes = Items<u8>;
@@ -35,6 +35,20 @@ impl Message {
             serial: self.serial,
             addr: self.addr,
             bytes,
+        })
+    }
+}
+
+impl Clone for Message {
+    ghost use Rattle.std.specs.Prelude.{◌≡◌};
+
+    ghost is_clone = { λ message copy. copy ≡ message };
+
+    fn clone(&self) -> Result<Message, AllocError> {
+        Ok(Message {
+            serial: self.serial,
+            addr: self.addr,
+            bytes: self.bytes.clone()?,
         })
     }
 }

@@ -85,15 +85,6 @@ impl Name {
         })
     }
 
-    /// Returns a hash of the name: equal names have equal hashes, and different names mostly have different ones. No
-    /// clause says so. Does not allocate.
-    #[inline(always)]
-    pub fn short_hash(&self) -> u8 {
-        // The upper byte of a product with the golden ratio.
-        let word = u64::from_le_bytes(self.bytes);
-        word.wrapping_mul(0x9E37_79B9_7F4A_7C15).to_be_bytes()[0]
-    }
-
     /// Returns its bytes, which always are a valid name. Does not allocate.
     pub fn as_bytes(&self) -> &[u8]
         ensures value { result.now ≡ self.now }

@@ -72,7 +72,7 @@ pub enum Reply {
     Done {
         dropped: Serials,
     },
-    /// End of file: the device has hung up, and all messages that came in were read.
+    /// End of file: the device has hung up, and no message is left at the stream's read side.
     Eof,
     /// The command was refused.
     Fault(Fault),

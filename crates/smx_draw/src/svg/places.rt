@@ -19,7 +19,7 @@ const HEADER: Px = Saturating(60);
 // The width of the legend.
 const LEGEND: Px = Saturating(640);
 
-// The number of the lowest layer. Only a cycle of links reaches it.
+// The number of the lowest layer: the longest chain of drivers without a cycle ends there.
 const LOWEST: usize = 127;
 
 // How often the frames of a layer are sorted by the places of the others.
@@ -62,7 +62,8 @@ impl Plan {
         Some(())
     }
 
-    // Puts a column after the last one in its frame, with room for the links to it and to those below it.
+    // Puts a column after the last one in its frame. A frame has several rows of columns; there is room for the links
+    // to this column and to the columns in the rows below it.
     fn pack(&mut self, at: usize) -> Option<()> {
         let block = *self.blocks.get(at)?;
         let number = at.checked_sub(block.frame.saturating_add(1))?;
@@ -82,8 +83,8 @@ impl Plan {
         Some(())
     }
 
-    // Moves the lower driver of each link below the upper one. Each pass settles at least one more link of the longest
-    // path down.
+    // Moves the lower driver of each link below the upper one. Each pass puts at least one more link of the longest
+    // descending path in order.
     fn sink(&mut self) {
         for way in self.ways.as_slice() {
             let above = match self.blocks.get(way.upper) {
@@ -125,7 +126,7 @@ impl Plan {
         Some(())
     }
 
-    // Adds up for each frame where the blocks are to which its links lead.
+    // For each frame, adds up the positions of the columns at the other ends of its links.
     fn weigh(&mut self) {
         for block in self.blocks.iter_mut() {
             block.let_go();
@@ -189,7 +190,7 @@ impl Plan {
         }
     }
 
-    // Puts a block where it belongs, after its frame.
+    // Puts a block where it belongs. Its frame was put first.
     fn put(&mut self, at: usize) -> Option<()> {
         let block = *self.blocks.get(at)?;
         let frame = *self.blocks.get(block.frame)?;

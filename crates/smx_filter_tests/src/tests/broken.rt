@@ -1,4 +1,5 @@
-//! Runs, checks, replays and traces with devices that stop once, at each read and at each write, and would then go on.
+//! Runs, checks, replays, traces and pages with devices that stop once, at each read and at each write, and would then
+//! go on.
 
 use super::devices::{ERRORS, Stop, TWO_ERRORS};
 use super::tasks::{Task, ends_so, outcome};
@@ -20,6 +21,18 @@ const DONE: [(Task, &[u8], &[u8], u8); 6] = [
     (Task::Check, OTHER_CONFIGURATION, b"config differs\n", 4),
     (Task::Replay, IN_TURN, IN_TURN_REPLAYED, 0),
     (Task::Trace, IN_TURN, IN_TURN_TRACED, 0),
+];
+
+// The same of a run and of checks that explain faults.
+const EXPLAINED: [(Task, &[u8], &[u8], u8); 3] = [
+    (Task::ExplainedRun, OPENS_AND_CLOSES, OPENED_AND_CLOSED, 0),
+    (Task::ExplainedCheck, TWO_PROCESSES, b"legal 2\n", 0),
+    (
+        Task::ExplainedCheck,
+        WRONG_REPLY,
+        b"illegal 2\nline 4: 1 clone ip = fd 0 2\nreplay: 1 clone ip = fd 0 1\n",
+        4,
+    ),
 ];
 
 // Checks that nothing is written, and nothing read again, if the read after this many fails.
@@ -76,6 +89,9 @@ fn ends_byte_by_byte(rt: HostRuntime) {
     for (task, input, output, status) in &DONE {
         ends(&rt, *task, *input, *output, *status);
     }
+    for (task, input, output, status) in &EXPLAINED {
+        ends(&rt, *task, *input, *output, *status);
+    }
 }
 
 // Checks that exactly this beginning of the output is left if the writer stops after it.
@@ -117,6 +133,8 @@ fn a_job_reads_no_more(rt: HostRuntime) {
     reads_no_more(&rt, Task::Run, OPENS_AND_CLOSES);
     reads_no_more(&rt, Task::Check, TWO_PROCESSES);
     reads_no_more(&rt, Task::Replay, IN_TURN);
+    reads_no_more(&rt, Task::Steps, IN_TURN);
+    reads_no_more(&rt, Task::Trace, IN_TURN);
 }
 
 #[test]
@@ -127,5 +145,38 @@ fn a_job_writes_no_more(rt: HostRuntime) {
     for kind in &ERRORS {
         let stop = Stop::Fails(*kind);
         leaves(&rt, Task::Run, OPENS_AND_CLOSES, b"transcript 1\n", stop);
+    }
+}
+
+// A page is long, so the writer stops in few places.
+#[test]
+fn a_page_writes_no_more(rt: HostRuntime) {
+    let other = ErrorKind::Other;
+    let stop = Stop::Fails(other);
+    let page = outcome(
+        &rt,
+        Task::Steps,
+        IN_TURN,
+        usize::MAX,
+        other,
+        usize::MAX,
+        stop,
+    );
+    let whole = page.taken.as_slice();
+    ends(&rt, Task::Steps, IN_TURN, whole, 0);
+    leaves(&rt, Task::Steps, IN_TURN, whole, stop);
+    for writes in [0usize, 1, 1_000, 20_000] {
+        if writes < whole.len() {
+            leaves(&rt, Task::Steps, IN_TURN, &whole[..writes], stop);
+            leaves(&rt, Task::Steps, IN_TURN, &whole[..writes], Stop::TakesNone);
+        }
+    }
+    forget(page);
+}
+
+#[test]
+fn a_job_that_explains_writes_no_more(rt: HostRuntime) {
+    for (task, input, output, _status) in &EXPLAINED {
+        writes_no_more(&rt, *task, *input, *output);
     }
 }

@@ -20,29 +20,99 @@ const RUNS: [(&[&str], usize, bool, bool); 5] = [
 ];
 
 // Words that ask for another job.
-const OTHERS: [(&[&str], Job); 9] = [
+const OTHERS: [(&[&str], Job); 16] = [
     (&["muxsim", "check"], Job::Check { explain: false }),
     (
         &["muxsim", "check", "--explain"],
         Job::Check { explain: true },
     ),
-    (&["muxsim", "replay"], Job::Replay { at: None }),
+    (
+        &["muxsim", "replay"],
+        Job::Replay {
+            at: None,
+            explain: false,
+        },
+    ),
     (
         &["muxsim", "replay", "--at", "0"],
-        Job::Replay { at: Some(0) },
+        Job::Replay {
+            at: Some(0),
+            explain: false,
+        },
     ),
     (
-        &["muxsim", "replay", "--at=100000"],
-        Job::Replay { at: Some(100_000) },
+        &["muxsim", "replay", "--explain", "--at=100000"],
+        Job::Replay {
+            at: Some(100_000),
+            explain: true,
+        },
     ),
-    (&["muxsim", "trace"], Job::Trace { waits: false }),
-    (&["muxsim", "trace", "--waits"], Job::Trace { waits: true }),
-    (&["muxsim", "draw", "--dot"], Job::Draw { form: Form::Dot }),
-    (&["muxsim", "live"], Job::Live),
+    (
+        &["muxsim", "trace"],
+        Job::Trace {
+            waits: false,
+            explain: false,
+        },
+    ),
+    (
+        &["muxsim", "trace", "--waits"],
+        Job::Trace {
+            waits: true,
+            explain: false,
+        },
+    ),
+    (
+        &["muxsim", "trace", "--explain"],
+        Job::Trace {
+            waits: false,
+            explain: true,
+        },
+    ),
+    (
+        &["muxsim", "draw"],
+        Job::Draw {
+            form: Form::Svg,
+            explain: false,
+        },
+    ),
+    (
+        &["muxsim", "draw", "--dot"],
+        Job::Draw {
+            form: Form::Dot,
+            explain: false,
+        },
+    ),
+    (
+        &["muxsim", "draw", "--explain"],
+        Job::Draw {
+            form: Form::Svg,
+            explain: true,
+        },
+    ),
+    (
+        &["muxsim", "draw", "--explain", "--dot"],
+        Job::Draw {
+            form: Form::Dot,
+            explain: true,
+        },
+    ),
+    (
+        &["muxsim", "draw", "--steps"],
+        Job::Steps { explain: false },
+    ),
+    (
+        &["muxsim", "draw", "--explain", "--steps"],
+        Job::Steps { explain: true },
+    ),
+    (&["muxsim", "live"], Job::Live { explain: false }),
+    (
+        &["muxsim", "live", "--explain"],
+        Job::Live { explain: true },
+    ),
 ];
 
 // Words that ask for no job.
-const WRONG: [&[&str]; 10] = [
+const WRONG: [&[&str]; 11] = [
     &["muxsim"],
     &["muxsim", "run", "--workers", "0"],
     &["muxsim", "run", "--workers", "65"],
@@ -52,6 +122,7 @@ const WRONG: [&[&str]; 10] = [
     &["muxsim", "replay", "--at"],
     &["muxsim", "replay", "--at", "-1"],
     &["muxsim", "trace", "--at", "1"],
+    &["muxsim", "draw", "--steps", "--dot"],
     &["muxsim", "walk"],
 ];
 

@@ -28,6 +28,32 @@ fn answers_byte_by_byte(rt: HostRuntime) {
     forget(ran);
 }
 
+// A session with lines that are not commands, for different reasons.
+const WRONG_LINES: &[u8] =
+    b"programs 1\ndriver ip mux 4 8 3 16\n0 wirte 0 5 aa\n1 clone ip = fd 0 0\n0 hangup ip 0\n0 write 0 5 AA\ntrace\ntrace of\nshwo\n64 exit\n0 clone ip\n0 exit \nend\n";
+
+// The answers to these lines, with their explanations.
+const EXPLAINED: &[u8] =
+    b"transcript 1\ndriver ip mux 4 8 3 16\n? no command\n  column 3: a command, or in version 2 'hangup' is wanted\n  did you mean 'write'?\n? no command\n  column 12: the end of the line is wanted\n? no command\n  column 3: a command, or in version 2 'hangup' is wanted\n  version 2 has this word, and version 1 has not\n? no command\n  column 13: hex digits in pairs, or '-', is wanted\n  the letters of hex digits are small, 'a' to 'f'\n? no command\n  column 7: 'on' or 'off' is wanted\n? no command\n  column 7: 'on' or 'off' is wanted\n  did you mean 'on'?\n? no command\n  column 1: 'show', 'trace', 'end', or a process from 0 to 63 is wanted\n  did you mean 'show'?\n? no command\n  column 1: 'show', 'trace', 'end', or a process from 0 to 63 is wanted\n0 clone ip = fd 0 0\n? no command\n  column 8: the end of the line is wanted, with no space before it\nconfig\nnext 1 1\nfd 0 0 ip 0\nend\n";
+
+#[test]
+fn explains_lines_that_are_not_commands(rt: HostRuntime) {
+    let reads = WRONG_LINES.len().saturating_add(1);
+    let (kind, stop) = (ErrorKind::Other, Stop::TakesNone);
+    let ran = outcome(
+        &rt,
+        Task::ExplainedLive,
+        WRONG_LINES,
+        reads,
+        kind,
+        usize::MAX,
+        stop,
+    );
+    ends_so(&rt, &ran, "", 0, EXPLAINED);
+    assert!(rt; ran.flushed);
+    forget(ran);
+}
+
 // Checks that a session whose read after this many fails has answered the lines before it, and no more. These are the
 // answers, if given, and they are flushed.
 fn is_left<R: AllocGlobal + Abort + Threads + Wait + Sync>(

@@ -5,7 +5,8 @@ ghost use Rattle.std.specs.Prelude.{◌≡◌, false};
 use super::devices::{Stop, one_byte_feed, one_byte_sink};
 use smx_config::Verdict;
 use smx_filters::{
-    Done, Feed, MainFault, Sink, Source, Target, check_text, replay_text, run_text, trace_text,
+    Done, Feed, MainFault, Refusal, Sink, Source, Target, check_explained, check_text, replay_text,
+    run_explained, run_text, steps_text, trace_text,
 };
 use smx_live::live_text;
 use smx_run::NoGate;
@@ -16,14 +17,26 @@ use std::process::Abort;
 use std::sync::Wait;
 use std::thread::Threads;
 
-/// A filter, or a live session. A run uses one worker.
+/// A filter, a run or check that explains faults, or a live session. A run uses one worker.
 #[derive(Clone, Copy)]
 pub enum Task {
     Run,
     Check,
     Replay,
     Trace,
+    Steps,
+    ExplainedRun,
+    ExplainedCheck,
     Live,
+    ExplainedLive,
+}
+
+// Returns the outcome without the text that was kept.
+fn without_text<T: Drop>(outcome: Result<T, Refusal>) -> Result<T, MainFault> {
+    match outcome {
+        Ok(done) => Ok(done),
+        Err(refusal) => Err(refusal.fault),
+    }
 }
 
 fn finished(outcome: Result<(), MainFault>) -> Result<Done, MainFault> {
@@ -67,9 +80,15 @@ fn perform<R: AllocGlobal + Threads + Wait + Sync, F: Feed, S: Sink>(
     ending(match task {
         Task::Run => finished(run_text(rt, alloc, feed, sink, 1, false, &NoGate)),
         Task::Check => judged(check_text(alloc, feed, sink)),
-        Task::Replay => finished(replay_text(alloc, feed, sink, None)),
-        Task::Trace => finished(trace_text(alloc, feed, sink, true)),
-        Task::Live => finished(live_text(alloc, feed, sink)),
+        Task::Replay => finished(without_text(replay_text(alloc, feed, sink, None))),
+        Task::Trace => finished(without_text(trace_text(alloc, feed, sink, true))),
+        Task::Steps => finished(without_text(steps_text(alloc, feed, sink))),
+        Task::ExplainedRun => {
+            finished(without_text(run_explained(rt, alloc, feed, sink, 1, false, &NoGate)))
+        }
+        Task::ExplainedCheck => judged(without_text(check_explained(alloc, feed, sink))),
+        Task::Live => finished(without_text(live_text(alloc, feed, sink, false))),
+        Task::ExplainedLive => finished(without_text(live_text(alloc, feed, sink, true))),
     })
 }
 

@@ -1,4 +1,4 @@
-//! Checks, replays, traces, and runs with fronts. They also pass if any one allocation fails; tests/refused_growths runs them
+//! Checks, replays, traces, pages, and runs with fronts. They also pass if any one allocation fails; tests/refused_growths runs them
 //! so. The output is written to the stack, so no allocation is a device's.
 
 ghost use Rattle.std.specs.Prelude.{◌≤◌};
@@ -8,18 +8,21 @@ use super::texts::{
     TWO_PROCESSES,
 };
 use smx_config::Verdict;
-use smx_filters::{MainFault, Source, Target, check_text, replay_text, run_text, trace_text};
+use smx_filters::{
+    MainFault, Refusal, Source, Target, check_text, replay_text, run_text, steps_text, trace_text,
+};
 use smx_run::{NoGate, RunFault};
 use smx_text::{Cause, TextFault};
 use std::process::Abort;
 use std::sync::Wait;
 use std::thread::Threads;
 
-// Returns whether memory ran out. The prover can't tell that this happens only if an allocation fails.
+// Returns whether memory ran out, or a thread could not be started. The prover can't tell that this happens only if an
+// allocation fails.
 fn is_want_of_memory(fault: &MainFault) -> bool {
     matches!(
         fault,
-        MainFault::Refused(RunFault::NoMemory)
+        MainFault::Refused(RunFault::NoMemory | RunFault::NoThread)
             | MainFault::Text(TextFault {
                 cause: Cause::NoMemory,
                 ..
@@ -75,7 +78,7 @@ fn is_replay_answered(rt: &(impl AllocGlobal + Abort)) -> bool {
             assert!(rt; buffer.starts_with(IN_TURN_REPLAYED));
             true
         }
-        Err(fault) => {
+        Err(Refusal { fault, .. }) => {
             assert!(rt; is_want_of_memory(&fault));
             assert_eq!(rt; buffer, [0u8; 512]);
             false
@@ -101,7 +104,7 @@ fn is_trace_answered(rt: &(impl AllocGlobal + Abort)) -> bool {
             assert!(rt; buffer.starts_with(IN_TURN_TRACED));
             true
         }
-        Err(fault) => {
+        Err(Refusal { fault, .. }) => {
             assert!(rt; is_want_of_memory(&fault));
             assert_eq!(rt; buffer, [0u8; 1024]);
             false
@@ -115,6 +118,56 @@ fn a_trace(rt: HostRuntime) {
     if !is_trace_answered(&rt) {
         let _ = println!(rt; "a trace wanted memory");
         assert!(rt; is_trace_answered(&rt));
+    }
+}
+
+// Two commands, of which the second is refused.
+const TWO_CLONES: &[u8] =
+    b"transcript 1\ndriver ip mux 1 8 3 16\n0 clone ip = done\n0 clone ip = done\nconfig\nnext 1 1\nend\n";
+
+// The steps of their page, as far as the pictures.
+const TWO_CLONES_STEPPED: [&[u8]; 3] = [
+    b"<section id='beginning'>\n<h2>beginning</h2>\n<pre>transcript 1\ndriver ip mux 1 8 3 16\n</pre>\n<svg ",
+    b"<section id='1'>\n<h2>1</h2>\n<pre>0 clone ip = fd 0 0\n  + fd 0 0 ip 0\n</pre>\n<svg ",
+    b"<section id='2'>\n<h2>2</h2>\n<pre>0 clone ip = ENXIO minor\n</pre>\n<svg ",
+];
+
+// Returns whether the text has this part.
+fn has(text: &[u8], part: &[u8]) -> bool {
+    for at in 0..text.len() {
+        if text[at..].starts_with(part) {
+            return true;
+        }
+    }
+    false
+}
+
+// Returns whether a page is made, with its steps. Else it ran out of memory, and has written nothing.
+fn is_page_answered(rt: &(impl AllocGlobal + Abort)) -> bool {
+    let mut buffer = [0u8; 32_768];
+    let mut sink = Target::new(buffer.as_mut_slice());
+    match steps_text(rt.alloc(), &mut Source::new(TWO_CLONES), &mut sink) {
+        Ok(()) => {
+            assert!(rt; buffer.starts_with(b"<!DOCTYPE html>\n"));
+            for step in &TWO_CLONES_STEPPED {
+                assert!(rt; has(&buffer, *step));
+            }
+            true
+        }
+        Err(Refusal { fault, .. }) => {
+            assert!(rt; is_want_of_memory(&fault));
+            assert_eq!(rt; buffer, [0u8; 32_768]);
+            false
+        }
+    }
+}
+
+// A page that ran out of memory is made when it is tried again.
+#[test]
+fn a_page(rt: HostRuntime) {
+    if !is_page_answered(&rt) {
+        let _ = println!(rt; "a page wanted memory");
+        assert!(rt; is_page_answered(&rt));
     }
 }
 

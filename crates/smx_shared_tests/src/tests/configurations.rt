@@ -2,7 +2,7 @@
 
 use super::made::{clone_of, named, numbered, read};
 use smx_config::{Config, Verdict, check_history};
-use smx_types::{ConfigView, DescriptorLine, Reply};
+use smx_types::{Command, ConfigView, DescriptorLine, Fault, Reply};
 use std::mem::forget;
 use std::process::Abort;
 
@@ -47,6 +47,18 @@ fn opens_twice(rt: &impl Abort, config: &mut Config) {
     forget((reply, twin));
 }
 
+// `perform` writes the reply in place of the one before: an opened stream, and then the refusal of a `close`.
+fn performs_in_place(rt: &impl Abort, config: &mut Config) {
+    let mut reply = Reply::Eof;
+    let clone = clone_of(rt, "eth");
+    assert!(rt; config.perform(numbered(rt, 1), &clone, &mut reply).is_ok());
+    assert!(rt; reply == Reply::Fd { fd: 0, minor: 0 });
+    let close = Command::Close { fd: 7 };
+    assert!(rt; config.perform(numbered(rt, 1), &close, &mut reply).is_ok());
+    assert!(rt; reply == Reply::Fault(Fault::BadDescriptor));
+    forget(reply);
+}
+
 // A copy has the same drivers and shows the same.
 fn is_copied(rt: &(impl AllocGlobal + Abort), config: &Config) {
     let again = config.copy(rt.alloc()).expect(rt, "a copy");
@@ -63,6 +75,7 @@ fn a_configuration_call_by_call(rt: HostRuntime) {
     let drivers = want.drivers.as_slice();
     let mut config = Config::new(rt.alloc(), drivers).expect(&rt, "a configuration");
     opens_twice(&rt, &mut config);
+    performs_in_place(&rt, &mut config);
     is_copied(&rt, &config);
     forget(config);
     let verdict = check_history(rt.alloc(), drivers, want.entries.as_slice(), &want.view);

@@ -68,7 +68,8 @@ fn performs<R: AllocGlobal + Abort + Wait>(
     requires { seat.old.shared ≡ shared.now.name }
     ensures { seat.new.shared ≡ shared.now.name }
 {
-    assert!(rt; shared.perform(rt, rt.alloc(), seat, command).is_ok());
+    let mut command = command;
+    assert!(rt; shared.perform(rt, rt.alloc(), seat, &mut command).is_ok());
 }
 
 // Opens two streams and links them; then a command is refused.
@@ -107,8 +108,10 @@ fn is_full<R: AllocGlobal + Abort + Wait>(rt: &R, shared: &Shared, seat: &mut Se
     assert!(rt; fault == Some(ApplyFault::HistoryFull));
     let fault = shared.try_call(rt.alloc(), seat, &exit).err();
     assert!(rt; fault == Some(TryFault::HistoryFull));
-    let fault = shared.perform(rt, rt.alloc(), seat, exit).err();
+    let mut exit = exit;
+    let fault = shared.perform(rt, rt.alloc(), seat, &mut exit).err();
     assert!(rt; fault == Some(ApplyFault::HistoryFull));
+    assert!(rt; exit == Command::CloseAll);
     assert!(rt; shared.glance(seat) == front(5, 1, false));
 }
 

@@ -2,6 +2,7 @@
 //! entries.
 
 use super::made::{clone_of, numbered, read, system_over, tells_of_want};
+use super::worked::shown;
 use smx_config::Config;
 use smx_shared::{ApplyFault, EntryCount, EntrySink, System};
 use smx_types::{DriverSpec, Entry, Transcript};
@@ -58,14 +59,16 @@ fn performs<K: EntrySink>(
     entries: &[Entry],
 ) {
     for entry in entries {
-        let command = entry.command.copy(rt.alloc()).expect(rt, "a copy");
-        assert!(rt; system.perform(entry.process, command).is_ok());
+        let mut command = entry.command.copy(rt.alloc()).expect(rt, "a copy");
+        assert!(rt; system.perform(entry.process, &mut command).is_ok());
     }
 }
 
 fn has(rt: &impl Abort, system: &System, want: &Transcript) {
     assert!(rt; system.entries() == want.entries.as_slice());
-    assert!(rt; system.config().shows(&want.view));
+    let view = shown(rt, system.config());
+    assert!(rt; view == want.view);
+    forget(view);
 }
 
 fn copy_has(rt: &(impl AllocGlobal + Abort), system: &System, want: &Transcript) {
@@ -81,9 +84,10 @@ fn commands_that_are_given_up(rt: HostRuntime) {
     performs(&rt, &mut system, want.entries.as_slice());
     has(&rt, &system, &want);
     copy_has(&rt, &system, &want);
-    let command = clone_of(&rt, "ip");
-    let refused = system.perform(numbered(&rt, 0), command).err();
+    let mut command = clone_of(&rt, "ip");
+    let refused = system.perform(numbered(&rt, 0), &mut command).err();
     assert!(rt; refused == Some(ApplyFault::HistoryFull));
+    assert!(rt; command == clone_of(&rt, "ip"));
     has(&rt, &system, &want);
     forget(want);
     forget(system);
@@ -106,7 +110,9 @@ fn entries_that_are_only_counted(rt: HostRuntime) {
     assert!(rt; answer.err() == Some(ApplyFault::HistoryFull));
     let (count, config) = system.into_parts();
     assert!(rt; count.count() == 3);
-    assert!(rt; config.shows(&want.view));
+    let view = shown(&rt, &config);
+    assert!(rt; view == want.view);
+    forget(view);
     forget(config);
     forget(want);
 }

@@ -202,7 +202,7 @@ fn entries_by_two<R: AllocGlobal + Abort + Threads + Wait + Sync>(
 #[test]
 fn a_run_on_two_workers(rt: HostRuntime) {
     let mut entries = entries_by_two(&rt);
-    if entries == Err(RunFault::NoMemory) {
+    if entries == Err(RunFault::NoMemory) || entries == Err(RunFault::NoThread) {
         tells_of_want(&rt, "a run");
         entries = entries_by_two(&rt);
     }

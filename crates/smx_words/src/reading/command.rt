@@ -19,8 +19,8 @@ use crate::reading::word::{first_name, name, name_and_number, sides, which};
 use smx_types::{Command, NoMemory, Version};
 use std::alloc::Global;
 
-/// Parses the line of a command. Returns `None` if `version` has no command with this line. Fails only if an allocation
-/// fails while it reads the line of such a command.
+/// Parses the line of a command. Returns `None` if `version` has no command with this line. Fails only if `version` has
+/// a command with this line, and an allocation fails while it is read.
 pub fn command_of(alloc: Global, version: Version, line: &[u8]) -> Result<Option<Command>, NoMemory>
     ensures reading { IfOk result (IsReadAs (FitsCommandIn version) command_words line.now) }
     ensures wanted { IfErr result (λ _. IsCommandLine version line.now) }
@@ -44,7 +44,7 @@ fn lacks(version: Version, verb: Verb) -> bool
     }
 }
 
-// Parses a line that does not start with a verb and a space: only `exit`, which is one word.
+// Parses a line that does not start with a verb and a space. The only command with such a line is `exit`.
 fn lone_command(line: &[u8]) -> Option<Command>
     requires { (v : AnyVerb) (after : List ℕ) → FitsAlways v → line.now ≢ verb_word v ++ SPACE ∷ after }
     ensures { (v : AnyVersion) → IsReadAs (FitsCommandIn v) command_words line.now result }

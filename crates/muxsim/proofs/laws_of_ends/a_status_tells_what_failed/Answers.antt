@@ -1,5 +1,5 @@
 use Rattle.muxsim.proofs.EndLemmas.{draw_not_4, failed, live_not_4, no_words, replay_not_4, run_not_4, trace_not_4}
-use Rattle.muxsim.proofs.EndLemmas.{unwritten}
+use Rattle.muxsim.proofs.EndLemmas.{steps_not_4, unwritten}
 use Rattle.muxsim.proofs.laws_of_ends.a_status_tells_what_failed.Goals as goal
 
 pub returns-clause-failed : goal.returns-clause-failed
@@ -22,6 +22,9 @@ returns-clause-no_verdict_of_a_trace c = trace_not_4
 
 pub returns-clause-no_verdict_of_a_drawing : goal.returns-clause-no_verdict_of_a_drawing
 returns-clause-no_verdict_of_a_drawing c = draw_not_4
+
+pub returns-clause-no_verdict_of_a_page : goal.returns-clause-no_verdict_of_a_page
+returns-clause-no_verdict_of_a_page c = steps_not_4
 
 pub returns-clause-no_verdict_of_a_session : goal.returns-clause-no_verdict_of_a_session
 returns-clause-no_verdict_of_a_session c = live_not_4

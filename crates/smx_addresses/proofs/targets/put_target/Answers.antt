@@ -14,5 +14,5 @@ pub returns-clause-ok : goal.returns-clause-ok
 returns-clause-ok c =
     new_set c.args.targets.now.entries _ c.args.id c.args.key c.insert-2.new.self
     (sym (rw c.in_default.is at c.get_mut.ensures.value))
-    (λ q. c.in_ok-_new-2.ensures.updates.0 q ∙ rw c.in_ok-keys.ensures (when_true (is_key c.args.key q)))
+    (λ q. c.in_ok-_new-2.ensures.updates.0 q ∙ rw c.new-keys.ensures.empty (when_true (is_key c.args.key q)))
     (rw c.get_mut.follows.holds-at-none at c.in_ok-insert.ensures.updates.0)

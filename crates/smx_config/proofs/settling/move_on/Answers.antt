@@ -3,7 +3,7 @@ use Rattle.std.proofs.lemmas.Bool.{false≢true}
 use Rattle.smx_types.specs.declared.stream.Place.{Place}
 use Rattle.smx_model.specs.Configuration.{same_place}
 use Rattle.smx_model.specs.Settling.{after_move}
-use Rattle.smx_model.specs.SettlingByMarks.{turned_by_move}
+use Rattle.smx_model.specs.RunMarks.{turned_by_move}
 use Rattle.smx_model.proofs.WaitingLemmas.{first_left}
 use Rattle.smx_queues.specs.Bits.{has_bit}
 use Rattle.smx_commands.specs.Machine.{Machine}
@@ -17,6 +17,14 @@ use Rattle.smx_config.proofs.PlaceNumberLemmas.{at_number, one_number, one_place
 use Rattle.smx_config.proofs.WakeLemmas.{woken}
 use Rattle.smx_config.proofs.WokenLemmas.{turned_ends}
 use Rattle.smx_config.proofs.settling.move_on.Goals as goal
+use Rattle.smx_config.proofs.settling.move_on.Goals.{After-carry}
+
+-- the move is the model's
+moved : (c : After-carry) → c.carry.new.self ≡ record c.args.tables.now {
+  configuration = after_move c.args.tables.now.drivers c.args.tables.now.configuration c.requires.open.from;
+}
+moved c = moves_there c.args.tables.now c.carry.new.self c.requires.open.from c.requires.open.to c.requires.open.goes
+    (c.carry.ensures c.requires.open.from c.requires.open.to c.requires.open.from_at c.requires.open.to_at)
 
 pub clear_if_empty-requires-clause-marks : goal.clear_if_empty-requires-clause-marks
 clear_if_empty-requires-clause-marks c =
@@ -25,9 +33,7 @@ clear_if_empty-requires-clause-marks c =
     let from = c.requires.open.from in
     let to = c.requires.open.to in
     let from_at = c.requires.open.from_at in
-    let value : c.carry.new.self ≡ record c.args.tables.now { configuration = after_move drivers before from } =
-    moves_there c.args.tables.now c.carry.new.self from to c.requires.open.goes
-    (c.carry.ensures from to from_at c.requires.open.to_at) in
+    let value = moved (goal.at.clear_if_empty-requires-clause-marks c).After-carry in
     let mid = c.release_if_open.new.marks in
     let run = c.mark_unless.new.run in
     let last : Marks = record { run = run; wanted = mid.wanted; waits = mid.waits } in
@@ -72,48 +78,33 @@ carry-requires-clause-differ c = λ same.
 
 pub release_if_open-requires-clause-over : goal.release_if_open-requires-clause-over
 release_if_open-requires-clause-over c =
-    let drivers = c.args.tables.now.drivers in
-    let before = c.args.tables.now.configuration in
-    let from = c.requires.open.from in
-    let from_at = c.requires.open.from_at in
-    let value : c.carry.new.self ≡ record c.args.tables.now { configuration = after_move drivers before from } =
-    moves_there c.args.tables.now c.carry.new.self from c.requires.open.to c.requires.open.goes
-    (c.carry.ensures from c.requires.open.to from_at c.requires.open.to_at) in
+    let value = moved (goal.at.release_if_open-requires-clause-over c).After-carry in
     subst (λ (m : Machine). AreOver m.drivers c.args.marks.now) (sym value) c.requires.marks.over
 
 pub release_if_open-requires-clause-number : goal.release_if_open-requires-clause-number
 release_if_open-requires-clause-number c =
     let drivers = c.args.tables.now.drivers in
-    let before = c.args.tables.now.configuration in
     let from = c.requires.open.from in
     let from_at = c.requires.open.from_at in
-    let value : c.carry.new.self ≡ record c.args.tables.now { configuration = after_move drivers before from } =
-    moves_there c.args.tables.now c.carry.new.self from c.requires.open.to c.requires.open.goes
-    (c.carry.ensures from c.requires.open.to from_at c.requires.open.to_at) in
+    let value = moved (goal.at.release_if_open-requires-clause-number c).After-carry in
     subst (λ (m : Machine). IsNumber m.drivers c.args.next.from) (sym value)
     (at_number drivers c.args.next.from from from_at)
 
 pub clear_if_empty-requires-clause-number : goal.clear_if_empty-requires-clause-number
 clear_if_empty-requires-clause-number c =
     let drivers = c.args.tables.now.drivers in
-    let before = c.args.tables.now.configuration in
     let from = c.requires.open.from in
     let from_at = c.requires.open.from_at in
-    let value : c.carry.new.self ≡ record c.args.tables.now { configuration = after_move drivers before from } =
-    moves_there c.args.tables.now c.carry.new.self from c.requires.open.to c.requires.open.goes
-    (c.carry.ensures from c.requires.open.to from_at c.requires.open.to_at) in
+    let value = moved (goal.at.clear_if_empty-requires-clause-number c).After-carry in
     subst (λ (m : Machine). IsNumber m.drivers c.args.next.from) (sym value)
     (at_number drivers c.args.next.from from from_at)
 
 pub mark_unless-requires : goal.mark_unless-requires
 mark_unless-requires c =
     let drivers = c.args.tables.now.drivers in
-    let before = c.args.tables.now.configuration in
     let from = c.requires.open.from in
     let from_at = c.requires.open.from_at in
-    let value : c.carry.new.self ≡ record c.args.tables.now { configuration = after_move drivers before from } =
-    moves_there c.args.tables.now c.carry.new.self from c.requires.open.to c.requires.open.goes
-    (c.carry.ensures from c.requires.open.to from_at c.requires.open.to_at) in
+    let value = moved (goal.at.mark_unless-requires c).After-carry in
     let over = (c.release_if_open.ensures from
     (subst (λ (m : Machine). IsAt m.drivers c.args.next.from from) (sym value) from_at)).kept.over _
     c.requires.marks.over in
@@ -125,8 +116,6 @@ returns-clause-value c = λ p there.
     let before = c.args.tables.now.configuration in
     let from = c.requires.open.from in
     let from_at = c.requires.open.from_at in
-    let value : c.carry.new.self ≡ record c.args.tables.now { configuration = after_move drivers before from } =
-    moves_there c.args.tables.now c.carry.new.self from c.requires.open.to c.requires.open.goes
-    (c.carry.ensures from c.requires.open.to from_at c.requires.open.to_at) in
+    let value = moved (goal.at.returns-clause-value c).After-carry in
     subst (λ (x : Place). c.carry.new.self ≡ record c.args.tables.now { configuration = after_move drivers before x })
     (one_place drivers c.args.next.from c.args.next.from from p from_at there refl) value

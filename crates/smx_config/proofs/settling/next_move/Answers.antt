@@ -1,5 +1,5 @@
 use Rattle.std.proofs.Common.{subst, arith, sym}
-use Rattle.smx_model.proofs.SettlingByMarksLemmas.{none_is_least}
+use Rattle.smx_model.proofs.LeastMarkedLemmas.{none_is_least}
 use Rattle.smx_queues.specs.Bits.{BitTable}
 use Rattle.smx_config.specs.Marking.{AreMarks}
 use Rattle.smx_config.specs.Moves.{IsNextOf}

@@ -3,7 +3,7 @@ use Rattle.smx_model.specs.Configuration.{Configuration}
 use Rattle.smx_queues.specs.Bits.{BitTable}
 use Rattle.smx_commands.specs.Machine.{Machine}
 use Rattle.smx_config.specs.Marking.{AreMarks, HasNoBit}
-use Rattle.smx_model.proofs.SettlingByMarksLemmas.{none_is_least, settling_stays}
+use Rattle.smx_model.proofs.LeastMarkedLemmas.{none_is_least, settling_stays}
 use Rattle.smx_config.proofs.NextMoveLemmas.{if_none, none_marked, with_run}
 use Rattle.smx_config.proofs.settling.settle.Goals as goal
 

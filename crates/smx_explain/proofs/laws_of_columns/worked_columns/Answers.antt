@@ -1,3 +1,5 @@
+use Rattle.std.proofs.Common.{[], ◌∷◌, inl, inr, refl, arith, rules}
+use Rattle.std.specs.Prelude.{codes}
 use Rattle.smx_explain.proofs.WorkedColumnLemmas as worked
 use Rattle.smx_explain.proofs.laws_of_columns.worked_columns.Goals as goal
 
@@ -27,3 +29,24 @@ returns-clause-other_cause c = worked.other_cause
 
 pub returns-clause-serials : goal.returns-clause-serials
 returns-clause-serials c = worked.serials
+
+pub returns-clause-misspelt : goal.returns-clause-misspelt
+returns-clause-misspelt c = worked.misspelt
+
+pub returns-clause-reply_too_many : goal.returns-clause-reply_too_many
+returns-clause-reply_too_many c = worked.reply_too_many
+
+pub returns-clause-no_switch : goal.returns-clause-no_switch
+returns-clause-no_switch c = worked.no_switch
+
+pub returns-clause-show : goal.returns-clause-show
+returns-clause-show c = (codes "show" ∷ [], (search (rules, arith), refl), inl refl)
+
+pub returns-clause-trace_on : goal.returns-clause-trace_on
+returns-clause-trace_on c = (codes "trace" ∷ codes "on" ∷ [], (search (rules, arith), refl), inr (inl refl))
+
+pub returns-clause-trace_off : goal.returns-clause-trace_off
+returns-clause-trace_off c = (codes "trace" ∷ codes "off" ∷ [], (search (rules, arith), refl), inr (inr (inl refl)))
+
+pub returns-clause-end : goal.returns-clause-end
+returns-clause-end c = (codes "end" ∷ [], (search (rules, arith), refl), inr (inr (inr (inl refl))))

@@ -1,4 +1,4 @@
-use Rattle.smx_explain.proofs.ExplanationLemmas.{legal_reported, nothing_reported}
+use Rattle.smx_explain.proofs.ExplanationLemmas.{legal_reported, legal_unexplained, nothing_reported}
 use Rattle.smx_explain.proofs.laws_of_explanations.a_legal_transcript_needs_none.Goals as goal
 
 pub returns-clause-legal : goal.returns-clause-legal
@@ -7,3 +7,6 @@ returns-clause-legal c =
 
 pub returns-clause-other : goal.returns-clause-other
 returns-clause-other c = nothing_reported c.replays_are_the_legal_transcripts.ensures.legal
+
+pub returns-clause-none : goal.returns-clause-none
+returns-clause-none c = legal_unexplained c.replays_are_the_legal_transcripts.ensures.own

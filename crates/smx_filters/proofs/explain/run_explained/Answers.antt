@@ -1,10 +1,14 @@
-use Rattle.smx_filters.proofs.ExplainTextLemmas.{kept_on}
+use Rattle.std.proofs.Common.{Err, subst}
+use Rattle.smx_filters.proofs.ExplainTextLemmas.{kept_so}
 use Rattle.smx_filters.proofs.explain.run_explained.Goals as goal
 use Rattle.smx_filters.specs.RunText.{running}
+use Rattle.smx_filters.specs.Filters.{Answers}
 
-pub returns-in_err-output : goal.returns-in_err-output
-returns-in_err-output g c =
+pub returns-in-Err : goal.returns-in-Err
+returns-in-Err g c =
     let input = c.in_ok-input.ensures in
-    let said = c.in_err-output.ensures in
-    kept_on (running c.args.fronts c.args.workers) _ _ _ _ _ _ _ c.in_ok-input.input input.0 input.1 c.requires.sunk
-    c.in_err-output.field-0.0 _ c.from_residual-in_err-output.ensures.1 said.answers said.kept said.given_up
+    let said = subst (λ bytes. Answers (running c.args.fronts c.args.workers) bytes (Err c.in-Err.fault)) c.as_slice.ensures.value
+    c.in-Err.ensures in
+    kept_so (running c.args.fronts c.args.workers) _ _ _ _ _ _ _ c.in_ok-input.input input.0 input.1 c.requires.sunk c.kept_for.result
+    c.in-Err.fault c.kept_for.ensures.fault said c.kept_for.ensures.kept
+    c.kept_for.ensures.given_up

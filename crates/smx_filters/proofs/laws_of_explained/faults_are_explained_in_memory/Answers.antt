@@ -12,12 +12,12 @@ returns-clause-run c = λ workers fronts input left output ended flushed answer 
     memory.ends _ input left output ended flushed (answer_of answer) h.filtered
 
 pub returns-clause-check_keeps : goal.returns-clause-check_keeps
-returns-clause-check_keeps c = λ input left output ended flushed refusal fault.
-    keeps_all _ input _ _ _ ended flushed _ _ refusal fault
+returns-clause-check_keeps c = λ input left output ended flushed refusal.
+    keeps_all _ input _ _ _ ended flushed _ _ refusal
 
 pub returns-clause-run_keeps : goal.returns-clause-run_keeps
-returns-clause-run_keeps c = λ workers fronts input left output ended flushed refusal fault.
-    keeps_all _ input _ _ _ ended flushed _ _ refusal fault
+returns-clause-run_keeps c = λ workers fronts input left output ended flushed refusal.
+    keeps_all _ input _ _ _ ended flushed _ _ refusal
 
 pub returns-clause-none_kept : goal.returns-clause-none_kept
-returns-clause-none_kept c = λ input left output ended flushed refusal fault h is. h.given_up fault is
+returns-clause-none_kept c = λ input left output ended flushed refusal h. h.given_up

@@ -1,3 +1,4 @@
+use Rattle.std.proofs.Common.{refl}
 use Rattle.smx_filters.proofs.ReplayTextLemmas.{few_refused, gives, replay_refused}
 use Rattle.smx_filters.proofs.WritingFilterLemmas.{text_refused}
 use Rattle.smx_filters.proofs.replay.text_of_replay.Goals as goal
@@ -5,22 +6,22 @@ use Rattle.smx_filters.specs.ReplayText.{replaying}
 
 pub returns-in_err-transcript : goal.returns-in_err-transcript
 returns-in_err-transcript c =
-    text_refused (replaying c.args.at) _ _ c.as_slice.ensures.value c.in_err-transcript.field-0.0 _
+    text_refused (replaying c.args.at) _ _ refl c.in_err-transcript.field-0.0 _
     c.from_residual.ensures.1 c.in_err-transcript.ensures
 
 pub returns-in_err-part : goal.returns-in_err-part
 returns-in_err-part c =
-    few_refused c.args.at _ _ c.as_slice.ensures.value c.in_ok-transcript.transcript c.in_ok-transcript.ensures
+    few_refused c.args.at _ _ refl c.in_ok-transcript.transcript c.in_ok-transcript.ensures
     c.in_err-part.field-0.0 _
     c.from_residual-in_err-part.ensures.1 c.in_err-part.ensures.few c.in_err-part.ensures.past
 
 pub returns-in_err-text : goal.returns-in_err-text
 returns-in_err-text c =
-    replay_refused c.args.at _ _ c.as_slice.ensures.value c.in_ok-transcript.transcript c.in_ok-part.part
+    replay_refused c.args.at _ _ refl c.in_ok-transcript.transcript c.in_ok-part.part
     c.in_ok-transcript.ensures c.in_ok-part.ensures.part c.in_ok-part.ensures.enough c.in_err-text.field-0.0 _
     c.from_residual-in_err-text.ensures.1 c.in_err-text.ensures.refused
 
 pub returns : goal.returns
 returns c = gives c.replays_can_be_expressed.ensures c.first_entries_are_allowed.ensures c.args.at _ _
-    c.as_slice.ensures.value c.in_ok-transcript.transcript c.in_ok-part.part c.in_ok-transcript.ensures
+    refl c.in_ok-transcript.transcript c.in_ok-part.part c.in_ok-transcript.ensures
     c.in_ok-part.ensures.part c.in_ok-part.ensures.enough c.in_ok-text.text c.in_ok-text.ensures.written

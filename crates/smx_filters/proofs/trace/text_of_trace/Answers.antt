@@ -1,3 +1,4 @@
+use Rattle.std.proofs.Common.{refl}
 use Rattle.smx_filters.proofs.TraceTextLemmas.{not_traced, traced}
 use Rattle.smx_filters.proofs.WritingFilterLemmas.{text_refused}
 use Rattle.smx_filters.proofs.trace.text_of_trace.Goals as goal
@@ -5,16 +6,16 @@ use Rattle.smx_filters.specs.TraceText.{tracing}
 
 pub returns-in_err-transcript : goal.returns-in_err-transcript
 returns-in_err-transcript c =
-    text_refused (tracing c.args.each) _ _ c.as_slice.ensures.value c.in_err-transcript.field-0.0 _
+    text_refused (tracing c.args.each) _ _ refl c.in_err-transcript.field-0.0 _
     c.from_residual.ensures.1 c.in_err-transcript.ensures
 
 pub returns-in_err-text : goal.returns-in_err-text
 returns-in_err-text c =
-    not_traced c.args.each _ _ c.as_slice.ensures.value c.in_ok-transcript.transcript c.in_ok-transcript.ensures
+    not_traced c.args.each _ _ refl c.in_ok-transcript.transcript c.in_ok-transcript.ensures
     c.in_err-text.field-0.0 _
     c.from_residual-in_err-text.ensures.1 c.in_err-text.ensures.refused
 
 pub returns : goal.returns
 returns c =
-    traced c.args.each _ _ c.as_slice.ensures.value c.in_ok-transcript.transcript c.in_ok-transcript.ensures
+    traced c.args.each _ _ refl c.in_ok-transcript.transcript c.in_ok-transcript.ensures
     c.in_ok-text.text c.in_ok-text.ensures.written

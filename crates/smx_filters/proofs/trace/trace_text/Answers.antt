@@ -1,22 +1,14 @@
-use Rattle.std.proofs.Common.{sym, subst}
-use Rattle.smx_filters.proofs.FilterLemmas.{passed_on}
-use Rattle.smx_filters.proofs.WritingFilterLemmas.{written_out}
+use Rattle.std.proofs.Common.{Err, subst}
+use Rattle.smx_filters.proofs.ExplainTextLemmas.{kept_so}
 use Rattle.smx_filters.proofs.trace.trace_text.Goals as goal
 use Rattle.smx_filters.specs.TraceText.{tracing}
-use Rattle.smx_filters.specs.Filters.{GivesFor}
+use Rattle.smx_filters.specs.Filters.{Answers}
 
-pub returns-in_err-output : goal.returns-in_err-output
-returns-in_err-output g c =
+pub returns-in-Err : goal.returns-in-Err
+returns-in-Err g c =
     let input = c.in_ok-input.ensures in
-    passed_on (tracing c.args.each) _ _ _ _ _ _ _ c.in_ok-input.input input.0 input.1 c.requires.sunk
-    c.in_err-output.field-0.0 _ c.from_residual-in_err-output.ensures.1 c.in_err-output.ensures
-
-pub returns : goal.returns
-returns g c =
-    let input = c.in_ok-input.ensures in
-    let wrote = c.write_all.ensures in
-    let given = subst (λ output. GivesFor (tracing c.args.each) c.in_ok-input.input.items tt output)
-    (sym c.as_slice.ensures.value) c.in_ok-output.ensures in
-    written_out (tracing c.args.each) _ _ _ _ _ _ _ _ c.in_ok-input.input input.0 input.1 c.as_slice.result.now given
-    c.write_all.result
-    wrote.written wrote.flushed wrote.fine wrote.beginning wrote.fault wrote.failed
+    let said = subst (λ bytes. Answers (tracing c.args.each) bytes (Err c.in-Err.fault)) c.as_slice.ensures.value
+    c.in-Err.ensures in
+    kept_so (tracing c.args.each) _ _ _ _ _ _ _ c.in_ok-input.input input.0 input.1 c.requires.sunk c.kept_for.result
+    c.in-Err.fault c.kept_for.ensures.fault said c.kept_for.ensures.kept
+    c.kept_for.ensures.given_up

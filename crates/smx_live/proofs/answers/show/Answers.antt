@@ -1,24 +1,33 @@
-use Rattle.std.proofs.Common.{◌∙◌, refl}
+use Rattle.std.proofs.Common.{◌≡◌, ℕ, Bool, ◌∙◌, ap, refl}
 use Rattle.smx_model.specs.Views.{view}
-use Rattle.smx_live.specs.Turns.{NotDone, Shown}
+use Rattle.smx_live.specs.Turns.{NotDone, Shown, switched}
+use Rattle.smx_live.specs.declared.talk.Progress.{Progress}
 use Rattle.smx_live.specs.declared.turn_fault.TurnFault.TheVariants.{NoMemory}
-use Rattle.smx_live.proofs.LiveStageLemmas.{answered}
+use Rattle.smx_live.proofs.LiveStageLemmas.{answered_alone}
 use Rattle.smx_live.proofs.answers.show.Goals as goal
 
 pub returns-in-Ok : goal.returns-in-Ok
 returns-in-Ok g c =
     let talk = c.args.talk.now in
     let sink = c.say.new.sink in
-    answered talk.session talk.session talk.count talk.count c.args.line.now c.as_slice.result.now
+    let far : Progress = record { entries = talk.progress.entries; tracing = c.switched-talk.result } in
+    let tracing : far
+    ≡ record { entries = talk.progress.entries; tracing = switched talk.progress.tracing c.args.line.now } =
+    ap (λ (b : Bool). progress talk.progress.entries b) c.switched-talk.ensures in
+    λ explain. answered_alone explain talk.session talk.session talk.progress far c.args.line.now
+    c.as_slice.result.now
     (g.S.Sink.contents c.args.sink.now) (g.S.Sink.contents sink) (g.S.Sink.flushed sink) (g.S.Sink.failures sink)
     (Shown (view talk.session.drivers talk.session.configuration)) c.say.result c.say.ensures
-    (c.requires.asked, refl, refl, refl) (c.as_slice.ensures.value ∙ c.in-Ok.ensures.written)
+    (c.requires.asked, refl, refl, tracing) refl (c.as_slice.ensures.value ∙ c.in-Ok.ensures.written) where
+      progress : ℕ → Bool → Progress
+      progress entries tracing = record { entries = entries; tracing = tracing }
 
 pub returns-in-Err : goal.returns-in-Err
 returns-in-Err g c =
     let talk = c.args.talk.now in
     let sink = c.say-in-Err.new.sink in
-    answered talk.session talk.session talk.count talk.count c.args.line.now c.line_of_fault.result.now
+    λ explain. answered_alone explain talk.session talk.session talk.progress talk.progress c.args.line.now
+    c.line_of_fault.result.now
     (g.S.Sink.contents c.args.sink.now) (g.S.Sink.contents sink) (g.S.Sink.flushed sink) (g.S.Sink.failures sink)
     (NotDone NoMemory) c.say-in-Err.result c.say-in-Err.ensures
-    ((λ neither. absurd (neither.0 c.requires.asked)), refl, refl) c.line_of_fault.ensures
+    ((λ neither. absurd (neither.0 c.requires.asked)), refl, refl) refl c.line_of_fault.ensures

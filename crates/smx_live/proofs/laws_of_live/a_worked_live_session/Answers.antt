@@ -1,8 +1,9 @@
+use Rattle.std.proofs.Common.{inl, inr, refl}
 use Rattle.smx_live.proofs.WorkedLiveLemmas as worked
 use Rattle.smx_live.proofs.laws_of_live.a_worked_live_session.Goals as goal
 
 pub returns-clause-over : goal.returns-clause-over
-returns-clause-over c = worked.over c.a_worked_session.ensures.starts
+returns-clause-over c = worked.over c.a_worked_session.ensures.starts c.worked_explanations.ensures.no_request
 
 pub returns-clause-table : goal.returns-clause-table
 returns-clause-table c = worked.is_over
@@ -45,3 +46,12 @@ returns-clause-not_before_a_cut_driver c = worked.not_before_a_cut_driver
 
 pub returns-clause-over_within_another : goal.returns-clause-over_within_another
 returns-clause-over_within_another c = worked.over_within_another
+
+pub returns-clause-trace_on_is_asked : goal.returns-clause-trace_on_is_asked
+returns-clause-trace_on_is_asked c = λ is. is.0.0 (inr (inr (inl refl)))
+
+pub returns-clause-trace_off_is_asked : goal.returns-clause-trace_off_is_asked
+returns-clause-trace_off_is_asked c = λ is. is.0.0 (inr (inr (inr refl)))
+
+pub returns-clause-in_its_version : goal.returns-clause-in_its_version
+returns-clause-in_its_version c = λ line below is. is

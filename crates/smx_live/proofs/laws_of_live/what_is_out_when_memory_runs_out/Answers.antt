@@ -4,13 +4,13 @@ use Rattle.smx_live.proofs.BrokenLiveLemmas.{answers_out, not_out, opening_out}
 use Rattle.smx_live.proofs.laws_of_live.what_is_out_when_memory_runs_out.Goals as goal
 
 pub returns-clause-nothing : goal.returns-clause-nothing
-returns-clause-nothing c = inl refl
+returns-clause-nothing c = λ explain. inl refl
 
 pub returns-clause-opening : goal.returns-clause-opening
 returns-clause-opening c = opening_out c.a_worked_session.ensures.starts
 
 pub returns-clause-answers : goal.returns-clause-answers
-returns-clause-answers c = answers_out c.a_worked_session.ensures.starts
+returns-clause-answers c = answers_out c.a_worked_session.ensures.starts c.worked_explanations.ensures.no_request
 
 -- after the 38 bytes of the opening an answer is left
 pub returns-clause-not_an_answer : goal.returns-clause-not_an_answer

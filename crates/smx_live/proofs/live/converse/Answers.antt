@@ -19,7 +19,7 @@ returns-in-Ok-true g c =
     let sink = c.take_turn.new.sink in λ read output l.
     let gone = reads (c.loop-turn.invariant.gone read output l) p.consumed p.held p.stays in
     last_turn gone (g.S.Sink.flushed sink) (g.S.Sink.failures sink) p.fine (g.S.Sink.contents sink) next.session
-    next.count c.take_turn.new.inbox.held.items
+    next.progress c.take_turn.new.inbox.held.items
     (rw c.in-Ok-true.field-0-test at (c.in-Ok-true.ensures.turn (read ++ gone.more) (output ++ gone.said) _ gone.live))
 
 pub returns-in-Err-take_turn : goal.returns-in-Err-take_turn
@@ -29,7 +29,7 @@ returns-in-Err-take_turn g c =
     let sink = c.take_turn.new.sink in λ read output l.
     let gone = reads (c.loop-turn.invariant.gone read output l) p.consumed p.held p.stays in
     failed_turn gone (g.S.Sink.flushed sink) (g.S.Sink.failures sink) p.fine (g.S.Sink.contents sink) next.session
-    next.count c.take_turn.new.inbox.held.items c.in-Err-take_turn.fault
+    next.progress c.take_turn.new.inbox.held.items c.in-Err-take_turn.fault
     (c.in-Err-take_turn.ensures.turn (read ++ gone.more) (output ++ gone.said) _ gone.live)
 
 pub returns-in-Ok-None : goal.returns-in-Ok-None
@@ -39,8 +39,8 @@ returns-in-Ok-None g c =
     let found = rw c.in-Ok-None.field-0-is at p.found in λ read output l.
     let gone = reads (c.loop-turn.invariant.gone read output l) p.consumed p.held p.stays in
     at_the_end gone (g.S.Sink.flushed sink) (g.S.Sink.failures sink) p.fine (g.S.Sink.contents sink) c.finish.result
-    (c.finish.ensures (read ++ gone.more) (output ++ gone.said) _ (rw c.as_slice.ensures.value gone.live) found.0
-    (rw c.as_slice.ensures.value found.1))
+    (c.finish.ensures c.args.explain (read ++ gone.more) (output ++ gone.said) _
+    (rw c.as_slice.ensures.value gone.live) found.0 (rw c.as_slice.ensures.value found.1))
 
 pub returns-in-Err : goal.returns-in-Err
 returns-in-Err g c =

@@ -17,7 +17,16 @@ returns-in-Err-begin g c =
     let (read, t) = c.in-Ok.ensures in
     let parts = ap (λ (h : List ℕ). h ++ read) (sym c.new-inbox.ensures.held) ∙ t.parts in
     no_session read t.consumed c.in-Ok.table.items c.read_table.new.inbox.held.items parts t.over t.fits t.fine
-    c.in-Err-begin.fault c.requires.sunk c.in-Err-begin.ensures
+    c.in-Err-begin.refusal.fault c.requires.sunk c.in-Err-begin.ensures
+
+pub returns-in-Ok-converse : goal.returns-in-Ok-converse
+returns-in-Ok-converse g c =
+    let (read, t) = c.in-Ok.ensures in
+    let begun_so = c.in-Ok-begin.ensures in
+    let (fine, flushed, opening, begins, appended) = c.in-Ok-open.ensures in
+    let parts = ap (λ (h : List ℕ). h ++ read) (sym c.new-inbox.ensures.held) ∙ t.parts in
+    answered_all t.consumed appended (c.in-Ok-converse.ensures read opening
+    (rw (begun_so.1, ← t.end) (begun parts t.over t.fits begun_so.0 begins)))
 
 pub returns-in-Ok-open : goal.returns-in-Ok-open
 returns-in-Ok-open g c =
@@ -25,7 +34,7 @@ returns-in-Ok-open g c =
     let begun_so = c.in-Ok-begin.ensures in
     let (fine, flushed, opening, begins, appended) = c.in-Ok-open.ensures in
     let parts = ap (λ (h : List ℕ). h ++ read) (sym c.new-inbox.ensures.held) ∙ t.parts in
-    answered_all t.consumed appended (c.converse.ensures read opening
+    answered_all t.consumed appended (c.in-Err-converse.ensures read opening
     (rw (begun_so.1, ← t.end) (begun parts t.over t.fits begun_so.0 begins)))
 
 pub returns : goal.returns

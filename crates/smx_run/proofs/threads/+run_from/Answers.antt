@@ -3,8 +3,8 @@ use Rattle.std.specs.Prelude.{IfOk, IsErrOf}
 use Rattle.std.proofs.lemmas.List.{map-append}
 use Rattle.std.proofs.lemmas.List.Elements.{All-pop}
 use Rattle.std.proofs.lemmas.Result.{IfOk-weaker}
-use Rattle.smx_shared.specs.declared.shared_fault.ApplyFault.TheVariants as apply
 use Rattle.smx_run.specs.Assignments.{made_calls, assigned_calls, AreFresh, HaveEnded, IsSeenFull}
+use Rattle.smx_run.specs.declared.worker_fault.WorkerFault.TheVariants as worker
 use Rattle.smx_run.proofs.FullHistoryLemmas.{joined}
 use Rattle.smx_run.proofs.AssignmentLemmas.{all_of_none}
 use Rattle.smx_run.proofs.threads.+run_from.Goals as goal
@@ -18,7 +18,7 @@ returns-then-is_empty-clause-called g n c =
     ∙ ap (λ assignments. map assigned_calls assignments ++ assigned_calls c.in-Some.assignment ∷ []) none in
     IfOk-weaker c.and_then.result _ _
     (λ v both. both [] (assigned_calls c.in-Some.assignment) (ap (map made_calls) c.new-then-is_empty.ensures.items)
-    c.run_assigned-first.ensures.called ∙ sym whole)
+    c.run_worker-first.ensures.called ∙ sym whole)
     c.and_then.ensures.called
 
 pub returns-then-is_empty-clause-ended : goal.returns-then-is_empty-clause-ended
@@ -26,7 +26,7 @@ returns-then-is_empty-clause-ended g n c =
     let name = c.args.shared.now.name in
     IfOk-weaker c.and_then.result _ _
     (λ v both. both name (all_of_none (HaveEnded name) _ c.new-then-is_empty.ensures.items)
-    c.run_assigned-first.ensures.ended)
+    c.run_worker-first.ensures.ended)
     c.and_then.ensures.ended
 
 pub spawn_with-worker-requires-clause-runs : goal.spawn_with-worker-requires-clause-runs
@@ -35,10 +35,6 @@ spawn_with-worker-requires-clause-runs g n c κs within =
 
 pub run_from-before-requires-after_bounds : goal.run_from-before-requires-after_bounds
 run_from-before-requires-after_bounds g n c κs within =
-    (All-pop (AreFresh c.args.shared.now.name) _ _ (Some c.in-Some.assignment) c.in-Some.ensures.items c.requires).0
-
-pub run_from-requires-after_bounds : goal.run_from-requires-after_bounds
-run_from-requires-after_bounds g n c κs within =
     (All-pop (AreFresh c.args.shared.now.name) _ _ (Some c.in-Some.assignment) c.in-Some.ensures.items c.requires).0
 
 pub returns-in-Ok-clause-called : goal.returns-in-Ok-clause-called
@@ -65,9 +61,28 @@ returns-in-Ok-clause-ended g n c =
 
 pub returns-then-is_empty-clause-full : goal.returns-then-is_empty-clause-full
 returns-then-is_empty-clause-full g n c =
-    joined _ _ _ c.and_then.ensures.full (λ none. absurd (cc)) c.run_assigned-first.ensures.full
+    joined _ _ _ c.and_then.ensures.full (λ none. absurd (cc)) c.run_worker-first.ensures.full
 
 pub returns-in-Ok-clause-full : goal.returns-in-Ok-clause-full
 returns-in-Ok-clause-full g n c =
-    let kept : IsErrOf c.join.result apply.HistoryFull → IsSeenFull c.args.shared.now.name = search rules in
+    let kept : IsErrOf c.join.result worker.HistoryFull → IsSeenFull c.args.shared.now.name = search rules in
     joined _ _ _ c.and_then-in-Ok.ensures.full c.run_from-before.ensures.full kept
+
+pub returns-clause-called : goal.returns-clause-called
+returns-clause-called g n c =
+    let whole : map assigned_calls c.args.assignments.items
+    ≡ map assigned_calls c.pop.new.self.items ++ assigned_calls c.in-Some.assignment ∷ [] =
+    ap (map assigned_calls) c.in-Some.ensures.items
+    ∙ map-append assigned_calls c.pop.new.self.items (c.in-Some.assignment ∷ []) in
+    IfOk-weaker c.and_then-in-Err.result _ _
+    (λ v both. both _ (assigned_calls c.in-Some.assignment) c.run_from-before.ensures.called tt ∙ sym whole)
+    c.and_then-in-Err.ensures.called
+
+pub returns-clause-ended : goal.returns-clause-ended
+returns-clause-ended g n c =
+    IfOk-weaker c.and_then-in-Err.result _ _ (λ v both. both c.args.shared.now.name c.run_from-before.ensures.ended tt)
+    c.and_then-in-Err.ensures.ended
+
+pub returns-clause-full : goal.returns-clause-full
+returns-clause-full g n c =
+    joined _ _ _ c.and_then-in-Err.ensures.full c.run_from-before.ensures.full (λ none. absurd (cc))

@@ -1,7 +1,8 @@
 use Rattle.std.proofs.Common.{arith, ◌∷◌, [], refl}
 use Rattle.std.proofs.lemmas.List.{length-append}
+use Rattle.smx_shared.specs.declared.shared_fault.ApplyFault.TheVariants as apply
 use Rattle.smx_run.specs.Assignments.{given, called, HasEndedWith}
-use Rattle.smx_run.proofs.FullHistoryLemmas.{handed_on, memory_is_not_full}
+use Rattle.smx_run.proofs.FullHistoryLemmas.{handed_on, not_full}
 use Rattle.smx_run.proofs.AssignmentLemmas.{one_more, all_more}
 use Rattle.smx_run.proofs.worker.run_assigned.Goals as goal
 
@@ -30,11 +31,13 @@ loop-job-preserved g c =
     }
 
 pub returns-in_err-done-clause-full : goal.returns-in_err-done-clause-full
-returns-in_err-done-clause-full g c = memory_is_not_full _ c.from_residual.ensures.1
+returns-in_err-done-clause-full g c =
+    not_full _ apply.HistoryFull apply.NoMemory c.from_residual.ensures.1 (λ same. absurd (cc))
 
 pub returns-in_err-run_process-clause-full : goal.returns-in_err-run_process-clause-full
 returns-in_err-run_process-clause-full g c =
-    handed_on _ _ _ c.in_err-run_process.was c.from_residual-in_err-run_process.ensures.1 c.run_process.ensures.full
+    handed_on _ _ apply.HistoryFull _ c.in_err-run_process.was c.from_residual-in_err-run_process.ensures.1
+    c.run_process.ensures.full
 
 pub push_reserved-requires : goal.push_reserved-requires
 push_reserved-requires g c =

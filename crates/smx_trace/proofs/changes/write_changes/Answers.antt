@@ -14,56 +14,44 @@ use Rattle.smx_trace.proofs.SerialLemmas.{then_ok}
 use Rattle.smx_trace.proofs.changes.write_changes.Goals as goal
 
 pub write_group-requires-clause-before : goal.write_group-requires-clause-before
-write_group-requires-clause-before c =
-    rw c.as_slice.ensures (fds_ranked c.args.drivers.now c.args.before.now c.requires.before)
+write_group-requires-clause-before c = fds_ranked c.args.drivers.now c.args.before.now c.requires.before
 
 pub write_group-requires-clause-after : goal.write_group-requires-clause-after
-write_group-requires-clause-after c =
-    rw c.as_slice-2.ensures (fds_ranked c.args.drivers.now c.args.after.now c.requires.after)
+write_group-requires-clause-after c = fds_ranked c.args.drivers.now c.args.after.now c.requires.after
 
 pub write_group-requires-2-clause-before : goal.write_group-requires-2-clause-before
-write_group-requires-2-clause-before c =
-    rw c.as_slice-3.ensures (links_ranked c.args.drivers.now c.args.before.now c.requires.before)
+write_group-requires-2-clause-before c = links_ranked c.args.drivers.now c.args.before.now c.requires.before
 
 pub write_group-requires-2-clause-after : goal.write_group-requires-2-clause-after
-write_group-requires-2-clause-after c =
-    rw c.as_slice-4.ensures (links_ranked c.args.drivers.now c.args.after.now c.requires.after)
+write_group-requires-2-clause-after c = links_ranked c.args.drivers.now c.args.after.now c.requires.after
 
 pub write_group-requires-3-clause-before : goal.write_group-requires-3-clause-before
-write_group-requires-3-clause-before c =
-    rw c.as_slice-5.ensures (binds_ranked c.args.drivers.now c.args.before.now c.requires.before)
+write_group-requires-3-clause-before c = binds_ranked c.args.drivers.now c.args.before.now c.requires.before
 
 pub write_group-requires-3-clause-after : goal.write_group-requires-3-clause-after
-write_group-requires-3-clause-after c =
-    rw c.as_slice-6.ensures (binds_ranked c.args.drivers.now c.args.after.now c.requires.after)
+write_group-requires-3-clause-after c = binds_ranked c.args.drivers.now c.args.after.now c.requires.after
 
 pub write_group-requires-4-clause-before : goal.write_group-requires-4-clause-before
-write_group-requires-4-clause-before c =
-    rw c.as_slice-7.ensures (routes_ranked c.args.drivers.now c.args.before.now c.requires.before)
+write_group-requires-4-clause-before c = routes_ranked c.args.drivers.now c.args.before.now c.requires.before
 
 pub write_group-requires-4-clause-after : goal.write_group-requires-4-clause-after
-write_group-requires-4-clause-after c =
-    rw c.as_slice-8.ensures (routes_ranked c.args.drivers.now c.args.after.now c.requires.after)
+write_group-requires-4-clause-after c = routes_ranked c.args.drivers.now c.args.after.now c.requires.after
 
 pub write_group-requires-5-clause-before : goal.write_group-requires-5-clause-before
-write_group-requires-5-clause-before c =
-    rw c.as_slice-11.ensures (fulls_ranked c.args.drivers.now c.args.before.now c.requires.before)
+write_group-requires-5-clause-before c = fulls_ranked c.args.drivers.now c.args.before.now c.requires.before
 
 pub write_group-requires-5-clause-after : goal.write_group-requires-5-clause-after
-write_group-requires-5-clause-after c =
-    rw c.as_slice-12.ensures (fulls_ranked c.args.drivers.now c.args.after.now c.requires.after)
+write_group-requires-5-clause-after c = fulls_ranked c.args.drivers.now c.args.after.now c.requires.after
 
 pub write_group-requires-6-clause-before : goal.write_group-requires-6-clause-before
-write_group-requires-6-clause-before c =
-    rw c.as_slice-13.ensures (hungs_ranked c.args.drivers.now c.args.before.now c.requires.before)
+write_group-requires-6-clause-before c = hungs_ranked c.args.drivers.now c.args.before.now c.requires.before
 
 pub write_group-requires-6-clause-after : goal.write_group-requires-6-clause-after
-write_group-requires-6-clause-after c =
-    rw c.as_slice-14.ensures (hungs_ranked c.args.drivers.now c.args.after.now c.requires.after)
+write_group-requires-6-clause-after c = hungs_ranked c.args.drivers.now c.args.after.now c.requires.after
 
 pub write_moves-requires : goal.write_moves-requires
 write_moves-requires c =
-    rw c.as_slice-9.ensures (serials_apart c.args.drivers.now c.args.before.now c.requires.before)
+    rw c.as_slice.ensures (serials_apart c.args.drivers.now c.args.before.now c.requires.before)
 
 pub returns : goal.returns
 returns c =
@@ -83,21 +71,15 @@ returns c =
     let msgs = message_changes v.msgs w.msgs in
     let fulls = group_changes of_full.ghosts.eq change.Full v.fulls w.fulls in
     let hungs = group_changes of_hung.ghosts.eq change.Hung v.hungs w.hungs in
-    let fd_written = group_written change.Fd of_fd.ghosts.eq v.fds w.fds o0 o1
-    (rw (c.as_slice.ensures, c.as_slice-2.ensures) at c.in_ok-write_group.ensures) in
-    let link_written = group_written change.Link of_link.ghosts.eq v.links w.links o1 o2
-    (rw (c.as_slice-3.ensures, c.as_slice-4.ensures) at c.in_ok-write_group-2.ensures) in
-    let bind_written = group_written change.Bind of_bind.ghosts.eq v.binds w.binds o2 o3
-    (rw (c.as_slice-5.ensures, c.as_slice-6.ensures) at c.in_ok-write_group-3.ensures) in
-    let route_written = group_written change.Route of_route.ghosts.eq v.routes w.routes o3 o4
-    (rw (c.as_slice-7.ensures, c.as_slice-8.ensures) at c.in_ok-write_group-4.ensures) in
-    let full_written = group_written change.Full of_full.ghosts.eq v.fulls w.fulls o5 o6
-    (rw (c.as_slice-11.ensures, c.as_slice-12.ensures) at c.in_ok-write_group-5.ensures) in
-    let msg_written = rw (c.as_slice-9.ensures, c.as_slice-10.ensures) at c.in_ok-write_moves.ensures in
+    let fd_written = group_written change.Fd of_fd.ghosts.eq v.fds w.fds o0 o1 c.in_ok-write_group.ensures in
+    let link_written = group_written change.Link of_link.ghosts.eq v.links w.links o1 o2 c.in_ok-write_group-2.ensures in
+    let bind_written = group_written change.Bind of_bind.ghosts.eq v.binds w.binds o2 o3 c.in_ok-write_group-3.ensures in
+    let route_written = group_written change.Route of_route.ghosts.eq v.routes w.routes o3 o4 c.in_ok-write_group-4.ensures in
+    let full_written = group_written change.Full of_full.ghosts.eq v.fulls w.fulls o5 o6 c.in_ok-write_group-5.ensures in
+    let msg_written = rw (c.as_slice.ensures, c.as_slice-2.ensures) at c.in_ok-write_moves.ensures in
     then_ok c.write_group-6.result
     (λ e.
-    let hung_written = group_written change.Hung of_hung.ghosts.eq v.hungs w.hungs o6 o7
-    (rw (c.as_slice-13.ensures, c.as_slice-14.ensures) at e) in
+    let hung_written = group_written change.Hung of_hung.ghosts.eq v.hungs w.hungs o6 o7 e in
     joined fds (links ++ (binds ++ (routes ++ (msgs ++ (fulls ++ hungs))))) o0 o1 o7 fd_written
     (joined links (binds ++ (routes ++ (msgs ++ (fulls ++ hungs)))) o1 o2 o7 link_written
     (joined binds (routes ++ (msgs ++ (fulls ++ hungs))) o2 o3 o7 bind_written

@@ -10,6 +10,8 @@ pub returns : goal.returns
 returns g c =
     let New : List ℕ = flat_map (λ y. marked (codes "  + ") (g.T.Spell.words y))
     (missing_from g.T.PartialEq.eq c.args.after.now c.args.before.now) in
+    let gone = rw (c.as_slice-before.ensures, c.as_slice-after.ensures) at c.in_ok-write_missing.ensures in
     then_ok c.write_missing-2.result
-    (λ e. e ∙ ap (λ (t : List ℕ). t ++ New) c.in_ok-write_missing.ensures ∙ append_assoc c.args.out.now.items _ New)
+    (λ e. (rw (c.as_slice-before.ensures, c.as_slice-after.ensures) at e)
+    ∙ ap (λ (t : List ℕ). t ++ New) gone ∙ append_assoc c.args.out.now.items _ New)
     c.write_missing-2.ensures

@@ -3,6 +3,7 @@ use Rattle.std.proofs.lemmas.Iterator.Adapters.{YieldsList-from_vec}
 use Rattle.std.proofs.lemmas.Iterator.Consumers.{YieldsList-end}
 use Rattle.std.proofs.lemmas.List.{map-id}
 use Rattle.smx_trace.specs.Tracing.{HasTraced}
+use Rattle.smx_trace.proofs.TraceLemmas.{traced_more}
 use Rattle.smx_trace.proofs.tracing.trace_all.Goals as goal
 
 pub loop-entry-init : goal.loop-entry-init
@@ -15,7 +16,24 @@ pub loop-entry-preserved : goal.loop-entry-preserved
 loop-entry-preserved c = record {
   now = c.in_ok-view-2.ensures.now;
   traced = λ drivers opening start.
-      c.in_ok-view-2.ensures.traced drivers opening _ (c.loop-entry.invariant.traced drivers opening start);
+      traced_more c.args.each drivers opening _ _ _ _ _ _ (c.loop-entry.invariant.traced drivers opening start)
+      c.in_ok-view-2.ensures.traced;
+}
+
+pub loop-entry-preserved-in_ok-view-2 : goal.loop-entry-preserved-in_ok-view-2
+loop-entry-preserved-in_ok-view-2 c = record {
+  now = c.in_ok-view-2.ensures.now;
+  traced = λ drivers opening start.
+      traced_more c.args.each drivers opening _ _ _ _ _ _ (c.loop-entry.invariant.traced drivers opening start)
+      c.in_ok-view-2.ensures.traced;
+}
+
+pub loop-entry-preserved-in_ok-view-2-2 : goal.loop-entry-preserved-in_ok-view-2-2
+loop-entry-preserved-in_ok-view-2-2 c = record {
+  now = c.in_ok-view-2.ensures.now;
+  traced = λ drivers opening start.
+      traced_more c.args.each drivers opening _ _ _ _ _ _ (c.loop-entry.invariant.traced drivers opening start)
+      c.in_ok-view-2.ensures.traced;
 }
 
 pub returns-clause-traced : goal.returns-clause-traced

@@ -3,8 +3,8 @@ use Rattle.smx_commands.specs.Machine.{Machine}
 use Rattle.smx_commands.proofs.DoneLemmas.{hangup_does}
 use Rattle.smx_commands.proofs.tables.Tables.hangup.Goals as goal
 
-pub returns : goal.returns
-returns c = λ process. (
+pub returns-clause-refines : goal.returns-clause-refines
+returns-clause-refines c = λ process. (
   ap (λ (m : Machine). m.drivers) c.self.view_is,
   hangup_does c.args.self.now.drivers c.args.self.now.configuration process c.args.name.now c.args.minor
       c.in_ok-stream.stream _ _ c.requires.swept

@@ -6,8 +6,8 @@ use Rattle.smx_commands.proofs.DoneLemmas.{unbind_does, unbind_refused}
 use Rattle.smx_commands.proofs.LookupLemmas.{any_found, none_found}
 use Rattle.smx_commands.proofs.tables.Tables.unbind.Goals as goal
 
-pub returns-in_default : goal.returns-in_default
-returns-in_default c =
+pub returns-in_default-clause-refines : goal.returns-in_default-clause-refines
+returns-in_default-clause-refines c =
     let bound : Binding → Bool = λ b. eqb b.driver c.in_ok-stream.stream.driver
     && eqb b.minor c.in_ok-stream.stream.minor in
     let binds = c.self.inside.lists.binds in (
@@ -17,8 +17,8 @@ returns-in_default c =
           (rw (← c.self.view_is) (none_found bound binds (sym c.in_default.ensures.binding))),
     )
 
-pub returns : goal.returns
-returns c =
+pub returns-clause-refines : goal.returns-clause-refines
+returns-clause-refines c =
     let bound : Binding → Bool = λ b. eqb b.driver c.in_ok-stream.stream.driver
     && eqb b.minor c.in_ok-stream.stream.minor in
     let binds = c.self.inside.lists.binds in (

@@ -6,8 +6,8 @@ use Rattle.smx_commands.proofs.DoneLemmas.{unroute_does, unroute_refused}
 use Rattle.smx_commands.proofs.LookupLemmas.{any_found, none_found}
 use Rattle.smx_commands.proofs.tables.Tables.unroute.Goals as goal
 
-pub returns-in_default : goal.returns-in_default
-returns-in_default c =
+pub returns-in_default-clause-refines : goal.returns-in_default-clause-refines
+returns-in_default-clause-refines c =
     let routed : Route → Bool = λ r. eqb r.driver c.in_ok-stream.stream.driver && eqb r.addr c.args.addr in
     let routes = c.self.inside.lists.routes in (
       rw (c.unroute.ensures.rest ∙ none_goes routed routes (sym c.in_default.ensures.route)) c.self.view_is,
@@ -16,8 +16,8 @@ returns-in_default c =
           (rw (← c.self.view_is) (none_found routed routes (sym c.in_default.ensures.route))),
     )
 
-pub returns : goal.returns
-returns c =
+pub returns-clause-refines : goal.returns-clause-refines
+returns-clause-refines c =
     let routed : Route → Bool = λ r. eqb r.driver c.in_ok-stream.stream.driver && eqb r.addr c.args.addr in
     let routes = c.self.inside.lists.routes in (
       ap (λ (m : Machine). m.drivers) c.self.view_is,

@@ -5,13 +5,13 @@ use Rattle.smx_shared.proofs.system.System.perform.Goals as goal
 
 pub invariant_of-self-2 : goal.invariant_of-self-2
 invariant_of-self-2 g c =
-    let e : Entry = record { process = c.args.process; command = c.args.command; reply = c.in_ok-reply.reply } in
+    let e : Entry = record { process = c.args.process; command = c.args.command.now; reply = c.perform.new.reply } in
     let old = c.self.inside in
     let entries = g.K.EntrySink.entries in
     let added : entries c.add.new.self ≡ entries old.sink ++ e ∷ [] =
     rw (← c.in_ok-make_room.ensures.same) c.add.ensures in
-    let did = c.in_ok-reply.ensures in
-    one_entry_more old.config c.step.new.self old.limit (entries old.sink)
+    let did = c.in_ok-perform.ensures in
+    one_entry_more old.config c.perform.new.self old.limit (entries old.sink)
     (entries c.add.new.self) e c.self.invariant c.in_ok-make_room.ensures.below did.drivers did.ok added
 
 pub returns-clause-sound : goal.returns-clause-sound

@@ -11,7 +11,7 @@ give_back-requires-clause-more g c =
     let seen = ap (λ s. s.history) out.system ∙ sym (ap (λ (v : SeatView). v.seen) out.turn.0) in
     let process = sym (ap (λ (v : SeatView). v.process) out.turn.0 ∙ c.requires.named.1) in
     adds_by c.perform-outcome.result c.take_out-system.result c.perform-outcome.new.self c.args.process _ _
-    c.args.command did.ok did.err seen process
+    c.args.command.now did.ok did.err seen process
 
 pub returns-clause-counted : goal.returns-clause-counted
 returns-clause-counted g c =
@@ -26,5 +26,5 @@ returns-clause-added g c =
     let w = c.give_back.new.token.me.0 in
     let grown = subst (λ (u : SeatView). HasGrown u w) out.turn.0 back.rest.1 in
     adds_if c.perform-outcome.result v w c.take_out-system.result c.perform-outcome.new.self c.args.process
-    c.args.command out.system c.requires.turn.informed
+    c.args.command.now out.system c.requires.turn.informed
     c.requires.named.0 c.requires.named.1 grown back.rest.2 back.seen did.ok

@@ -1,0 +1,133 @@
+-- Worked words that differ little from a verb, typed in by hand.
+use Rattle.std.specs.Prelude.{◌≡◌, true, false, [], Some, None, ◌++◌, codes, refl}
+use Rattle.smx_types.specs.declared.version.Version.TheVariants.{V1, V2}
+use Rattle.smx_explain.specs.Hints.{is_capital_hex, is_near, meant}
+use Rattle.smx_explain.specs.ColumnWords.{explanation_text}
+use Rattle.smx_explain.specs.WorkedColumns.{choice_at, value_at}
+use Rattle.smx_explain.specs.declared.hints.Hint.TheVariants.{LaterVersion, SmallLetters}
+use Rattle.smx_explain.specs.declared.kinds.Choice.TheVariants.{ProgramsLine, Command, Equals, Reply, SessionLine, Switch, End}
+use Rattle.smx_explain.specs.declared.kinds.Value.TheVariants.{Bytes}
+use Rattle.std.specs.Fmt.{digits}
+
+-- two neighbours are exchanged
+pub exchanged : is_near (codes "wirte") (codes "write") ≡ true
+exchanged = refl
+
+-- the last two are
+pub exchanged_at_the_end : is_near (codes "wriet") (codes "write") ≡ true
+exchanged_at_the_end = refl
+
+-- a letter is replaced
+pub replaced : is_near (codes "wride") (codes "write") ≡ true
+replaced = refl
+
+-- a letter is added
+pub added : is_near (codes "writte") (codes "write") ≡ true
+added = refl
+
+-- a letter is added at the end
+pub added_at_the_end : is_near (codes "writes") (codes "write") ≡ true
+added_at_the_end = refl
+
+-- a letter is left out
+pub left_out : is_near (codes "rite") (codes "write") ≡ true
+left_out = refl
+
+-- the last letter is left out
+pub left_out_at_the_end : is_near (codes "writ") (codes "write") ≡ true
+left_out_at_the_end = refl
+
+-- two edits are too many
+pub two_edits : is_near (codes "rites") (codes "write") ≡ false
+two_edits = refl
+
+-- so is the exchange of letters that are not neighbours
+pub not_neighbours : is_near (codes "eritw") (codes "write") ≡ false
+not_neighbours = refl
+
+-- a word of one letter is near one of two
+pub of_one_letter : is_near (codes "i") (codes "id") ≡ true
+of_one_letter = refl
+
+-- no word is meant by an empty word
+pub no_word : meant V1 Equals [] ≡ None
+no_word = refl
+
+-- another sign may stand for the one between a command and its reply
+pub sign_meant : meant V1 Equals (codes ":") ≡ Some (codes "=")
+sign_meant = refl
+
+-- a line of programs may begin with a command
+pub command_meant : meant V1 ProgramsLine (codes "wirte") ≡ Some (codes "write")
+command_meant = refl
+
+-- or with a word of its own
+pub line_meant : meant V1 ProgramsLine (codes "drivr") ≡ Some (codes "driver")
+line_meant = refl
+
+-- a letter of a longer word is left out
+pub command_left_out : meant V1 Command (codes "punlik") ≡ Some (codes "punlink")
+command_left_out = refl
+
+-- version 1 has no hangup
+pub none_meant : meant V1 Command (codes "hangpu") ≡ None
+none_meant = refl
+
+-- version 2 has
+pub hangup_meant : meant V2 Command (codes "hangpu") ≡ Some (codes "hangup")
+hangup_meant = refl
+
+-- replies too
+pub reply_meant : meant V1 Reply (codes "EINVL") ≡ Some (codes "EINVAL")
+reply_meant = refl
+
+-- hex digits with capital letters
+pub capitals : is_capital_hex (codes "C0FFEE") ≡ true
+capitals = refl
+
+-- small letters are right
+pub small : is_capital_hex (codes "c0ffee") ≡ false
+small = refl
+
+-- no hex digits
+pub no_digits : is_capital_hex (codes "COFFEE") ≡ false
+no_digits = refl
+
+-- every hex digit, with capital letters at both ends
+pub all_digits : is_capital_hex (codes "AF09af") ≡ true
+all_digits = refl
+
+-- the letter after the last digit
+pub no_digit : is_capital_hex (codes "AG") ≡ false
+no_digit = refl
+
+-- a request of a session
+pub request_meant : meant V2 SessionLine (codes "shwo") ≡ Some (codes "show")
+request_meant = refl
+
+-- whether to trace
+pub switch_meant : meant V1 Switch (codes "offf") ≡ Some (codes "off")
+switch_meant = refl
+
+-- two words are near: the line's own word comes first
+pub first_meant : meant V1 ProgramsLine (codes "ead") ≡ Some (codes "end")
+first_meant = refl
+
+-- the words for it
+pub later_words : explanation_text (choice_at 3 Command) 13 (Some LaterVersion)
+    ≡ codes "  column 3: a command, or in version 2 'hangup' is wanted\n"
+    ++ codes "  version 2 has this word, and version 1 has not\n"
+unfolding digits
+later_words = refl
+
+-- the words for capital letters
+pub capital_words : explanation_text (value_at 13 Bytes) 14 (Some SmallLetters)
+    ≡ codes "  column 13: hex digits in pairs, or '-', is wanted\n  the letters of hex digits are small, 'a' to 'f'\n"
+unfolding digits
+capital_words = refl
+
+-- the words for a space at the end of a line
+pub space_words_shown : explanation_text (choice_at 9 End) 8 None
+    ≡ codes "  column 9: the end of the line is wanted, with no space before it\n"
+unfolding digits
+space_words_shown = refl

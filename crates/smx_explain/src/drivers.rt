@@ -1,0 +1,83 @@
+//! Explains why the drivers of a text are refused.
+
+use crate::columns::word_at;
+use crate::lines::line_at;
+use crate::shown::write_line;
+use smx_config::ConfigFault;
+use smx_types::SpecFault;
+use std::fmt;
+
+/// A text and the fault of its drivers. It prints two lines: the line of the driver, with its number, and what is wrong
+/// with it. For a name that an earlier driver has, the second line has this name and the number of that line.
+#[derive(Clone, Copy)]
+pub struct DriverExplanation<'a> {
+    /// The text that has the drivers.
+    pub text: &'a [u8],
+    /// Why they are refused.
+    pub fault: ConfigFault,
+}
+
+impl fmt::Display for DriverExplanation<'_> {
+    fn fmt<W: fmt::Write>(&self, f: &mut fmt::Formatter<W>) -> fmt::Result {
+        match self.fault {
+            ConfigFault::BadSpec(driver, fault) => {
+                write_driver(f, self.text, driver)?;
+                writeln!(f, "{}", spec_reason(fault))
+            }
+            ConfigFault::SameName(driver) => {
+                write_driver(f, self.text, driver)?;
+                write_namesake(f, self.text, line_of_driver(driver))
+            }
+            ConfigFault::TooMany | ConfigFault::NoMemory => Ok(()),
+        }
+    }
+}
+
+// Returns the number of the line of a driver, which is numbered from 0. Lines are numbered from 1, and the first one is
+// the header.
+fn line_of_driver(driver: usize) -> usize {
+    driver.saturating_add(2)
+}
+
+// Writes the line of a driver, with its number.
+fn write_driver<W: fmt::Write>(
+    f: &mut fmt::Formatter<W>,
+    text: &[u8],
+    driver: usize,
+) -> fmt::Result {
+    let number = line_of_driver(driver);
+    write!(f, "line {number}: ")?;
+    write_line(f, line_at(text, number), 1)?;
+    f.write_str("\n")
+}
+
+// Returns what is wrong with a driver.
+fn spec_reason(fault: SpecFault) -> &'static str {
+    match fault {
+        SpecFault::BadMinors => "a driver has 1 to 64 minors",
+        SpecFault::BadMarks => "the high water mark is at most 4096, and the low one is below it",
+        SpecFault::BadMax => "the longest message of a driver has 1 to 1024 bytes",
+    }
+}
+
+// Writes which line before this one has the name of its driver too.
+fn write_namesake<W: fmt::Write>(
+    f: &mut fmt::Formatter<W>,
+    text: &[u8],
+    number: usize,
+) -> fmt::Result {
+    let name = name_in(line_at(text, number));
+    for earlier in 2..number {
+        if name_in(line_at(text, earlier)) == name {
+            write!(f, "line {earlier} has the name '")?;
+            write_line(f, name, 1)?;
+            return f.write_str("' too\n");
+        }
+    }
+    Ok(())
+}
+
+// Returns the name in the line of a driver.
+fn name_in(line: &[u8]) -> &[u8] {
+    word_at(line, b"driver ".len() + 1)
+}

@@ -1,0 +1,95 @@
+//! The fixed word that a misspelt word may stand for.
+
+ghost use Rattle.std.specs.Prelude.{◌≡◌, ◌⊎◌, MatchBool, MatchOption, None, Some};
+ghost use Rattle.smx_explain.specs.Hints.{are_exchanged, first_near, is_near, meant};
+ghost use Rattle.smx_explain.specs.Rows.{rows_in, rows_of};
+ghost use Rattle.smx_explain.specs.declared.kinds.Choice.TheVariants.{ProgramsLine, SessionCommand};
+
+use crate::kinds::{Choice, Value};
+use crate::rows::{later_rows, rows};
+use smx_types::Version;
+
+/// Returns the first fixed word of a choice that one edit makes of this word: a byte is replaced, added or left out, or
+/// two neighbours are exchanged. A line of programs may also begin with a command, and so may what follows a process in
+/// a session. Returns `None` for an empty word.
+#[tactic(auto, using(crate::proofs::NearLemmas::first_found, crate::proofs::NearLemmas::first_missed))]
+pub fn near_word(version: Version, choice: Choice, word: &[u8]) -> Option<&'static str>
+    ensures { MatchOption result (meant version choice word.now ≡ None)
+        (λ verb. meant version choice word.now ≡ Some verb.now) }
+{
+    if word.is_empty() {
+        return None;
+    }
+    match near_fixed(version, choice, word) {
+        Some(verb) => Some(verb),
+        None if may_be_command(choice) => near_fixed(version, Choice::Command, word),
+        None => None,
+    }
+}
+
+// Returns whether a word that makes this choice may be that of a command without a reply.
+fn may_be_command(choice: Choice) -> bool
+    ensures { MatchBool result ((choice ≡ ProgramsLine) ⊎ (choice ≡ SessionCommand))
+        ((choice ≡ ProgramsLine) ⊎ (choice ≡ SessionCommand) → ⊥) }
+{
+    choice == Choice::ProgramsLine || choice == Choice::SessionCommand
+}
+
+// Returns the first fixed word of a choice that is near this word.
+#[tactic(auto, using(crate::proofs::NearLemmas::first_found, crate::proofs::NearLemmas::first_missed))]
+fn near_fixed(version: Version, choice: Choice, word: &[u8]) -> Option<&'static str>
+    ensures { MatchOption result (first_near (rows_in version choice) word.now ≡ None)
+        (λ verb. first_near (rows_in version choice) word.now ≡ Some verb.now) }
+{
+    match version {
+        Version::V1 => near_row(rows(choice), word),
+        Version::V2 => match near_row(later_rows(choice), word) {
+            Some(verb) => Some(verb),
+            None => near_row(rows(choice), word),
+        },
+    }
+}
+
+// Returns the first word of some rows that is near this word.
+fn near_row(
+    rows: &'static [(&'static str, &'static [Value], Choice)],
+    word: &[u8],
+) -> Option<&'static str>
+    ensures { MatchOption result (first_near (rows_of rows.now) word.now ≡ None)
+        (λ verb. first_near (rows_of rows.now) word.now ≡ Some verb.now) }
+{
+    if let [(first, _, _), more @ ..] = rows {
+        if is_near(word, first.as_bytes()) {
+            return Some(*first);
+        }
+        return near_row(more, word);
+    }
+    None
+}
+
+// Returns whether one edit at most makes the verb of the word.
+fn is_near(word: &[u8], verb: &[u8]) -> bool
+    ensures { result ≡ is_near word.now verb.now }
+{
+    let Some((first, rest)) = word.split_first() else {
+        return verb.len() <= 1;
+    };
+    let Some((letter, more)) = verb.split_first() else {
+        return rest.is_empty();
+    };
+    (*first == *letter && is_near(rest, more))
+        || rest == more
+        || rest == verb
+        || word == more
+        || are_exchanged(word, verb)
+}
+
+// Returns whether the words begin with the same two bytes in exchanged order, and go on alike.
+fn are_exchanged(word: &[u8], verb: &[u8]) -> bool
+    ensures { result ≡ are_exchanged word.now verb.now }
+{
+    if word.len() < 2 || verb.len() < 2 {
+        return false;
+    }
+    word[0] == verb[1] && word[1] == verb[0] && word[2..] == verb[2..]
+}

@@ -1,0 +1,26 @@
+use Rattle.std.proofs.Common.{◌∙◌, refl}
+use Rattle.smx_live.specs.Turns.{NotDone}
+use Rattle.smx_live.proofs.LiveStageLemmas.{answered_alone, answered_with, unexplained}
+use Rattle.smx_live.proofs.answers.refuse.Goals as goal
+
+pub returns-in-Ok : goal.returns-in-Ok
+returns-in-Ok g c =
+    let talk = c.args.talk.now in
+    let sink = c.say.new.sink in
+    let (no_command, explains) = c.if-is_explained.ensures in
+    let (below, told, is) = c.in-Ok.ensures in
+    answered_with c.args.explain talk.session talk.session talk.progress talk.progress c.args.line.now
+    c.as_slice.result.now (g.S.Sink.contents c.args.sink.now) (g.S.Sink.contents sink) (g.S.Sink.flushed sink)
+    (g.S.Sink.failures sink) (NotDone c.args.fault) below c.say.result c.say.ensures (c.requires.refused, refl, refl)
+    (rw (no_command, explains) (rw c.version.ensures at told)) (rw no_command (c.as_slice.ensures.value ∙ is))
+
+pub returns : goal.returns
+returns g c =
+    let talk = c.args.talk.now in
+    let sink = c.say-2.new.sink in
+    answered_alone c.args.explain talk.session talk.session talk.progress talk.progress c.args.line.now
+    c.line_of_fault.result.now (g.S.Sink.contents c.args.sink.now) (g.S.Sink.contents sink) (g.S.Sink.flushed sink)
+    (g.S.Sink.failures sink) (NotDone c.args.fault) c.say-2.result c.say-2.ensures (c.requires.refused, refl, refl)
+    (unexplained c.args.explain c.args.fault c.if-is_explained.ensures talk.session.version talk.session.drivers
+    talk.progress.tracing talk.session.configuration talk.session.configuration c.args.line.now)
+    c.line_of_fault.ensures

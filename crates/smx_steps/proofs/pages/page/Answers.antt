@@ -1,0 +1,56 @@
+use Rattle.std.proofs.Common.{rules, ◌≡◌, ◌≤◌, ℕ, List, [], ◌++◌, length, ap, sym, subst, ◌∙◌}
+use Rattle.smx_types.specs.declared.command.Entry.{Entry}
+use Rattle.smx_types.specs.declared.driver.DriverSpec.{DriverSpec}
+use Rattle.smx_model.specs.DriverList.{IsDriverList}
+use Rattle.smx_config.specs.declared.config_fault.ConfigFault.TheVariants.{NoMemory}
+use Rattle.smx_text.specs.GrowingTranscripts.{BeginsTranscript}
+use Rattle.smx_steps.specs.declared.frame.TheConstants.{HEAD}
+use Rattle.smx_steps.specs.declared.page_fault.PageFault.TheVariants.{Refused}
+use Rattle.smx_steps.specs.declared.pages.TheConstants.{MAX_STEPS}
+use Rattle.smx_steps.proofs.StepLemmas.{page_given_up, page_made, refuses_with}
+use Rattle.smx_steps.proofs.pages.page.Goals as goal
+
+pub returns-in_err-write_steps-clause-refused : goal.returns-in_err-write_steps-clause-refused
+returns-in_err-write_steps-clause-refused c =
+    let t = c.args.transcript in
+    let config = c.in_ok-config.ensures in
+    let same : c.in_ok-config.config.drivers ≡ t.drivers = search rules in
+    let can : IsDriverList t.drivers = subst IsDriverList (sym config.drivers.0 ∙ same) config.drivers.1 in
+    let few : length t.entries ≤ MAX_STEPS =
+    subst (λ (es : List Entry). length es ≤ MAX_STEPS) c.as_slice.ensures c.if-as_slice-gt-MAX_STEPS.false in
+    let head : c.put.new.out.items ≡ HEAD.now =
+    c.in_ok-put.ensures ∙ ap (λ (out : List ℕ). out ++ HEAD.now) c.new-out.ensures.items in
+    refuses_with t c.in_err-write_steps.field-0.0 _ c.from_residual-in_err-write_steps.ensures.1
+    (page_given_up t c.in_ok-config.config c.as_slice-4.result.now c.put.new.out.items c.write_beginning.new.out.items can
+    same config.empty
+    (subst (λ (o : List ℕ). BeginsTranscript t.version t.drivers [] o) (sym c.as_slice-4.ensures.value)
+    (subst (λ (ds : List DriverSpec). BeginsTranscript t.version ds [] c.in_ok-opening.opening.items) c.as_slice-3.ensures
+    c.in_ok-opening.ensures))
+    head c.in_ok-view.ensures.added c.as_slice-5.result.now c.in_err-write_steps.field-0.0 c.as_slice-5.ensures few
+    c.in_err-write_steps.ensures.stopped)
+
+pub returns-in_err-put-2-clause-refused : goal.returns-in_err-put-2-clause-refused
+returns-in_err-put-2-clause-refused c =
+    let t = c.args.transcript in
+    let config = c.in_ok-config.ensures in
+    let same : c.in_ok-config.config.drivers ≡ t.drivers = search rules in
+    let can : IsDriverList t.drivers = subst IsDriverList (sym config.drivers.0 ∙ same) config.drivers.1 in
+    let few : length t.entries ≤ MAX_STEPS =
+    subst (λ (es : List Entry). length es ≤ MAX_STEPS) c.as_slice.ensures c.if-as_slice-gt-MAX_STEPS.false in
+    refuses_with t (Refused NoMemory) _ c.from_residual-in_err-put-2.ensures.1 (few, can)
+
+pub returns-clause-written : goal.returns-clause-written
+returns-clause-written c =
+    let t = c.args.transcript in
+    let config = c.in_ok-config.ensures in
+    let same : c.in_ok-config.config.drivers ≡ t.drivers = search rules in
+    let can : IsDriverList t.drivers = subst IsDriverList (sym config.drivers.0 ∙ same) config.drivers.1 in
+    let head : c.put.new.out.items ≡ HEAD.now =
+    c.in_ok-put.ensures ∙ ap (λ (out : List ℕ). out ++ HEAD.now) c.new-out.ensures.items in
+    page_made t c.in_ok-config.config c.as_slice-4.result.now c.put.new.out.items c.write_beginning.new.out.items can
+    same config.empty
+    (subst (λ (o : List ℕ). BeginsTranscript t.version t.drivers [] o) (sym c.as_slice-4.ensures.value)
+    (subst (λ (ds : List DriverSpec). BeginsTranscript t.version ds [] c.in_ok-opening.opening.items) c.as_slice-3.ensures
+    c.in_ok-opening.ensures))
+    head c.in_ok-view.ensures.added c.write_steps.new.config c.as_slice-5.result.now c.write_steps.new.out.items
+    c.put-2.new.out.items c.as_slice-5.ensures c.in_ok-write_steps.ensures.stepped c.in_ok-put-2.ensures

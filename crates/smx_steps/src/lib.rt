@@ -1,0 +1,11 @@
+//! The page of a transcript: a step for each entry, with its trace and the picture after it.
+#![tactic(auto)]
+
+mod frame;
+pub mod laws_of_pages;
+mod page_fault;
+mod pages;
+mod pieces;
+
+pub use page_fault::PageFault;
+pub use pages::{MAX_PAGE, MAX_STEPS, page};

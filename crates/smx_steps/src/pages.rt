@@ -1,0 +1,141 @@
+//! The page of a transcript, from the transcript that was read to the text of the page.
+
+ghost use Rattle.std.specs.Prelude.{◌≡◌, ℕ, ◌+◌, ◌<◌, ◌≤◌, List, [], codes, length, IfOk, IfErr, OnOk};
+ghost use Rattle.std.specs.Bool.{OnFalse, OnTrue};
+ghost use Rattle.smx_types.specs.declared.driver.DriverSpec.{DriverSpec as AnyDriver};
+ghost use Rattle.smx_model.specs.Views.{view};
+ghost use Rattle.smx_trace.specs.Tracing.{IsNow};
+ghost use Rattle.smx_steps.specs.Pages.{IsPageOf, RefusesPage};
+ghost use Rattle.smx_steps.specs.Stepping.{HasStepped, IsStopped, PerformsStep};
+ghost use Rattle.smx_steps.specs.Steps.{AddsStep};
+ghost use Rattle.smx_steps.specs.declared.frame.TheConstants.{FOOT as AnyFoot};
+
+use crate::frame::{FOOT, HEAD};
+use crate::page_fault::PageFault;
+use crate::pieces::{put, put_step};
+use itoa::Buffer;
+use smx_config::Config;
+use smx_draw::write_svg;
+use smx_text::transcript_opening;
+use smx_trace::trace_entry;
+use smx_types::{ConfigView, Entry, NoMemory, Transcript};
+use std::alloc::Global;
+
+/// The largest number of entries of a page.
+pub const MAX_STEPS: usize = 1_000;
+
+/// The largest number of bytes of a page.
+pub const MAX_PAGE: usize = 33_554_432;
+
+/// Performs the commands of a transcript, each for its process, in order, starting with the empty configuration, and
+/// ignores its replies. Returns a page in HTML: a step for the beginning, and a step for each entry, with its line, the
+/// reply that it gets, its changes, all waits, and a picture of the configuration after it. Keeps two views at a time;
+/// the time for each entry grows with the size of its views. Fails if the page is over a limit, if the drivers are not
+/// valid, or if it is out of memory.
+pub fn page(alloc: Global, transcript: Transcript) -> Result<Vec<u8>, PageFault>
+    ensures written { IfOk result (λ text. IsPageOf transcript text.items) }
+    ensures few { OnOk result (length transcript.entries ≤ MAX_STEPS) }
+    ensures short { IfOk result (λ text. length text.items ≤ MAX_PAGE) }
+    ensures refused { IfErr result (RefusesPage transcript) }
+{
+    let Transcript {
+        version,
+        drivers,
+        entries,
+        ..
+    } = transcript;
+    if entries.as_slice().len() > MAX_STEPS {
+        return Err(PageFault::TooLong(MAX_STEPS + 1));
+    }
+    let mut config = Config::new(alloc, drivers.as_slice())?;
+    let opening = transcript_opening(Vec::new(alloc), version, drivers.as_slice())?;
+    let mut out = Vec::new(alloc);
+    put(&mut out, HEAD)?;
+    let view = write_beginning(alloc, &config, opening.as_slice(), &mut out)?;
+    write_steps(alloc, &mut config, entries.as_slice(), view, &mut out)?;
+    put(&mut out, FOOT)?;
+    Ok(out)
+}
+
+// Appends the step of the beginning. Returns the view of the configuration. Fails only if out of memory.
+fn write_beginning(
+    alloc: Global,
+    config: &Config,
+    opening: &[u8],
+    out: &mut Vec<u8>,
+) -> Result<ConfigView, NoMemory>
+    ensures now { IfOk result (IsNow config.now) }
+    ensures added { OnOk result (AddsStep config.now.drivers (view config.now.drivers config.now.configuration)
+        (codes "beginning") opening.now out.old.items out.new.items) }
+{
+    let view = config.show()?;
+    let picture = write_svg(alloc, config.drivers(), &view)?;
+    put_step(out, b"beginning", opening, picture.as_slice())?;
+    Ok(view)
+}
+
+// Performs the commands of all entries, and appends their steps. Fails if the page is too long, or if out of memory.
+fn write_steps(
+    alloc: Global,
+    config: &mut Config,
+    entries: &[Entry],
+    view: ConfigView,
+    out: &mut Vec<u8>,
+) -> Result<(), PageFault>
+    requires { IsNow config.old view }
+    ensures stepped { OnOk result ((drivers : List AnyDriver) (begun : List ℕ)
+        → HasStepped drivers begun [] config.old out.old.items
+        → HasStepped drivers begun entries.now config.new out.new.items) }
+    ensures short { OnOk result (length out.new.items + length AnyFoot.now ≤ MAX_PAGE) }
+    ensures stopped { IfErr result (λ fault. (drivers : List AnyDriver) (begun : List ℕ)
+        → HasStepped drivers begun [] config.old out.old.items → IsStopped drivers begun entries.now fault) }
+{
+    let mut before = view;
+    let mut number = 0usize;
+    'steps: loop {
+        if !fits(out) {
+            return Err(PageFault::TooLong(number));
+        }
+        if number >= entries.len() {
+            return Ok(());
+        }
+        before = write_step(alloc, config, number + 1, &entries[number], &before, out)?;
+        number += 1;
+    }
+}
+
+// Returns whether a page with these steps is short enough.
+fn fits(out: &Vec<u8>) -> bool
+    ensures short { OnTrue result (length out.now.items + length AnyFoot.now ≤ MAX_PAGE) }
+    ensures long { OnFalse result (MAX_PAGE < length out.now.items + length AnyFoot.now) }
+{
+    out.len() <= MAX_PAGE - FOOT.len()
+}
+
+// Performs the command of the entry with this number, from 1, and appends its step. Returns the view after it. Fails only if
+// out of memory.
+fn write_step(
+    alloc: Global,
+    config: &mut Config,
+    number: usize,
+    entry: &Entry,
+    before: &ConfigView,
+    out: &mut Vec<u8>,
+) -> Result<ConfigView, NoMemory>
+    requires { IsNow config.old before.now }
+    ensures now { IfOk result (IsNow config.new) }
+    ensures performed { OnOk result
+        (PerformsStep number entry.now config.old config.new out.old.items out.new.items) }
+{
+    let mut lines = Vec::new(alloc);
+    let after = trace_entry(alloc, config, entry, before, true, &mut lines)?;
+    let picture = write_svg(alloc, config.drivers(), &after)?;
+    let mut name = Buffer::new();
+    put_step(
+        out,
+        name.format(number).as_bytes(),
+        lines.as_slice(),
+        picture.as_slice(),
+    )?;
+    Ok(after)
+}
