@@ -1,4 +1,4 @@
--- The words that faults print.
+-- The words that are printed for a fault.
 use Rattle.std.specs.Prelude.{ℕ, List, codes}
 use Rattle.smx_types.specs.declared.driver.SpecFault.{SpecFault}
 use Rattle.smx_types.specs.declared.driver.SpecFault.TheVariants.{BadMinors, BadMarks, BadMax}
