@@ -179,7 +179,7 @@ first_is_least t (k ∷ hs) h q m o e b f = elim (cases_Bool (t k.place)) [
   ]
 ]
 
--- the first movable place of a flow in order is the least movable place, or there is none
+-- in a flow in order, the first movable place is the least one; without such a place the configuration is settled
 pub least_is : (drivers : List DriverSpec) (c : Configuration) → IsInOrder c.flow
     → IsLeastMovable drivers c (least_movable drivers c)
 least_is drivers c o = by (least_movable drivers c) refl where

@@ -45,7 +45,7 @@ refused_same drivers c process k f e = by (outcome drivers c process k) (answers
   by (Ok x) h e = absurd (false≢true (sym h.holds ∙ ap is_fault e))
   by (Err g) h e = refl
 
--- the reply to a command is a fault exactly if the command is refused with that fault
+-- the reply to a command is a fault exactly if the command is refused with the same fault
 pub fault_is_refusal : (drivers : List DriverSpec) (c : Configuration) (process : ℕ) (k : Command) (f : Fault)
     → ((step drivers c process k).1 ≡ reply.Fault f ↔ outcome drivers c process k ≡ Err f)
 fault_is_refusal drivers c process k f = by (outcome drivers c process k) (answers_accepted drivers c process k) where

@@ -71,7 +71,7 @@ none_out keep (h ∷ hs) e = elim (cases_Bool (keep h)) [
   | inr f ↦ let some : ◌≡◌ {A = List QueuedMessage} (h ∷ filter (λ h. not (keep h)) hs) [] = rw f at e in absurd cc
 ]
 
--- if sorting gives no numbers, there are none
+-- a list of numbers is empty if it is empty after sorting
 none_rising : (ns : List ℕ) → in_rising_order ns ≡ [] → ns ≡ []
 none_rising [] e = refl
 none_rising (n ∷ ns) e =

@@ -40,7 +40,8 @@ missing_from same xs ys = filter (λ x. not (list_any (same x) ys)) xs
 -- the changes of a group: its lines that are gone, then those that are new, in the order of the views
 abbrev pub group_changes : {X : Type 0} → (X → X → Bool) → (X → ViewLine) → List X → List X → List Change
 group_changes same line before after =
-    map (λ x. Gone (line x)) (missing_from same before after) ++ map (λ y. New (line y)) (missing_from same after before)
+    map (λ x. Gone (line x)) (missing_from same before after)
+    ++ map (λ y. New (line y)) (missing_from same after before)
 
 -- both lines show the message with one serial; serials are never used again
 abbrev pub same_serial : MessageLine → MessageLine → Bool

@@ -51,7 +51,7 @@ either these those p = these p || those p
 abbrev pub is_freed : Configuration → Configuration → Place → Bool
 is_freed old new p = is_full old p && not (is_full new p)
 
--- the next place is the same as before, or there is none
+-- the next place is the same as before, or there is no next place any more
 abbrev pub Stays : Option Place → Option Place → Type 0
 Stays was now = (now ≡ was) ⊎ (now ≡ None)
 

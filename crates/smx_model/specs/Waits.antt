@@ -37,11 +37,11 @@ routed_link links routes driver addr = do
   r ← find (λ r. (r.driver == driver) && (r.addr == addr)) routes
   find (λ l. l.id == r.id) links
 
--- the link that has the stream below
+-- the link whose lower stream is this one
 abbrev pub link_above : List Link → StreamId → Option Link
 link_above links s = find (λ l. same_stream l.lower s) links
 
--- why a message with this address has no next place
+-- the reason why a message with this address can't leave this place: it has no next place
 abbrev pub reason_of_end : List DriverSpec → Configuration → Place → ℕ → Reason
 reason_of_end drivers c p addr = toward p.side where
   toward : Side → Reason
