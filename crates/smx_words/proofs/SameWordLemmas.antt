@@ -135,7 +135,7 @@ all_fault =
 abbrev pub fault_at : List (List ℕ) → Option Fault
 fault_at = first_of_these (pointwise bytes_eq) fault_words all_fault
 
--- the fault that is found by the words of a fault is that fault
+-- looking up the words of a fault finds the same fault
 pub found_fault : (f : Fault) → fault_at (fault_words f) ≡ Some f
 found_fault fault.BadDescriptor = refl
 found_fault f = refl
