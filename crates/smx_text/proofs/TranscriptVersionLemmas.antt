@@ -39,7 +39,7 @@ none_of_hangup (e ∷ es) h =
     let both = or_parts (is_of_hangup e) (list_any is_of_hangup es) h in
     (both.0, none_of_hangup es both.1)
 
--- version 1 can express the hung-up streams if there are none
+-- version 1 can express an empty list of hung-up streams
 none_hung : (hs : List HungLine) → nat_lt 0 (length hs) ≡ false → AreHungsIn V1 hs
 none_hung [] h = tt
 none_hung (x ∷ hs) h = let some : nat_lt 0 (length (x ∷ hs)) ≡ true = grind (arith, nat_tests) in absurd cc
@@ -67,7 +67,7 @@ no_hangup : (es : List Entry) → AreEntriesIn V1 es → list_any is_of_hangup e
 no_hangup [] h = refl
 no_hangup (e ∷ es) h = rw (h.0, no_hangup es h.1) refl
 
--- if version 1 can express the hung-up streams, there are none
+-- a list of hung-up streams that version 1 can express is empty
 no_hung : (hs : List HungLine) → AreHungsIn V1 hs → nat_lt 0 (length hs) ≡ false
 no_hung [] h = refl
 no_hung (x ∷ hs) h = absurd (cc h.0)

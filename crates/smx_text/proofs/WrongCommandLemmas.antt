@@ -211,7 +211,7 @@ pub odd_digits : IsNone verb.Write (codes "0" ∷ codes "5" ∷ codes "aab" ∷ 
 odd_digits (command.Write n m bs) fits v e = no_odd_digits bs fits.2 (cc e)
 odd_digits c fits v e = absurd (cc v)
 
--- `write` has a word for its bytes even if there are none
+-- `write` has a word for its bytes, even if it writes no bytes
 pub missing_bytes : IsNone verb.Write (codes "0" ∷ codes "5" ∷ [])
 missing_bytes (command.Write n m bs) fits v e = omega (arith, ap (length {A = List ℕ}) e)
 missing_bytes c fits v e = absurd (cc v)
