@@ -291,7 +291,7 @@ hung_is_used grid records s whole h = rw (opens_at grid records s, holds_at grid
 
 -- a record that counts nothing
 
--- if descriptors and holds together are not more than 0, there are none of either
+-- if the numbers of descriptors and of holds add up to no more than 0, both are 0
 pub counts_none : (x y : ℕ) → nat_lt 0 (x + y) ≡ false → (x ≡ 0) × (y ≡ 0)
 counts_none x y h = (grind (arith, nat_tests), grind (arith, nat_tests))
 

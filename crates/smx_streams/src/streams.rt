@@ -281,15 +281,15 @@ impl Streams {
         }
     }
 
-    /// Returns the first descriptor, in the order of processes and numbers, from this process and number on. Returns
-    /// `None` if there is none.
+    /// Returns the first descriptor, in the order of processes and numbers, from this process and number on, if there
+    /// is one.
     pub fn next_fd(&self, process: Process, fd: u32) -> Option<Descriptor>
         ensures { IsNext self.now.fds process fd result }
     {
         self.descriptors.next(process, fd)
     }
 
-    /// Returns the first descriptor. Returns `None` if there is none.
+    /// Returns the first descriptor, if there is one.
     pub fn first_fd(&self) -> Option<Descriptor>
         ensures { IsNext self.now.fds 0 0 result }
     {
