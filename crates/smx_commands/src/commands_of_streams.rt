@@ -1,6 +1,6 @@
 //! Opening, duplicating and closing descriptors, and hanging up streams.
 
-ghost use Rattle.std.specs.Prelude.{◌≡◌, ◌≢◌, ℕ, ◌+◌, ◌<◌, ◌≤◌, true, false, length, vec_capacity, Some, Err};
+ghost use Rattle.std.specs.Prelude.{◌≡◌, ◌≢◌, ℕ, ◌+◌, ◌<◌, ◌≤◌, true, length, vec_capacity, Some, Err};
 ghost use Rattle.std.specs.List.{list_any};
 ghost use Rattle.smx_types.specs.declared.command.Command.TheVariants.{OpenClone, OpenMinor, Dup};
 ghost use Rattle.smx_types.specs.declared.command.Command.TheVariants.{Close, CloseAll, Hangup};

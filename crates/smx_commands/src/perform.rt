@@ -14,9 +14,9 @@ use smx_types::{Command, Fault, LinkKind, Process, Reply, Side, StreamId};
 
 impl Tables {
     /// Performs a command of a process, before messages move on. `named` is the result of `message_stream` for this
-    /// command. Writes the reply to `reply`, so that no caller has to move the reply in memory. If the command is refused
-    /// or fails for lack of memory, nothing has changed. `dup`, `unbind`, `unroute`, `read`, `transmit` and `hangup` do
-    /// not allocate.
+    /// command. Writes the reply to `reply`, so that no caller has to move the reply in memory. If the command is
+    /// refused or fails for lack of memory, nothing has changed. `dup`, `unbind`, `unroute`, `read`, `transmit` and
+    /// `hangup` do not allocate.
     #[inline(always)]
     pub fn perform(
         &mut self,

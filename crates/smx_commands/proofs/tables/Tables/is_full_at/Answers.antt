@@ -1,9 +1,6 @@
-use Rattle.std.proofs.Common.{◌≡◌, ◌<◌, List, length, Some, subst, ap, sym, ◌∙◌}
-use Rattle.std.specs.Prelude.{slice_get}
-use Rattle.smx_types.specs.declared.driver.DriverSpec.{DriverSpec}
-use Rattle.smx_queues.specs.PlaceLists.{places_of}
+use Rattle.std.proofs.Common.{ap, ◌∙◌}
 use Rattle.smx_commands.specs.Machine.{Machine}
-use Rattle.smx_commands.proofs.PlaceNumberLemmas.{is_there, number_there, queue_drivers}
+use Rattle.smx_commands.proofs.PlaceNumberLemmas.{is_there, number_there}
 use Rattle.smx_commands.proofs.tables.Tables.is_full_at.Goals as goal
 use Rattle.smx_model.specs.Queues.{is_full}
 

@@ -1,9 +1,8 @@
-use Rattle.std.proofs.Common.{◌≡◌, ◌<◌, List, length, Some, subst, ap, sym, ◌∙◌}
+use Rattle.std.proofs.Common.{◌≡◌, List, Some, subst, sym}
 use Rattle.std.specs.Prelude.{slice_get}
 use Rattle.smx_types.specs.declared.driver.DriverSpec.{DriverSpec}
 use Rattle.smx_queues.specs.PlaceLists.{places_of}
-use Rattle.smx_commands.specs.Machine.{Machine}
-use Rattle.smx_commands.proofs.PlaceNumberLemmas.{is_there, number_there, queue_drivers}
+use Rattle.smx_commands.proofs.PlaceNumberLemmas.{number_there, queue_drivers}
 use Rattle.smx_commands.proofs.tables.Tables.place_at.Goals as goal
 
 pub place_at-requires : goal.place_at-requires

@@ -1,9 +1,7 @@
-use Rattle.std.proofs.Common.{◌≡◌, ◌<◌, List, length, Some, subst, ap, sym, ◌∙◌}
-use Rattle.std.specs.Prelude.{slice_get}
+use Rattle.std.proofs.Common.{List, length, ap, sym, ◌∙◌}
 use Rattle.smx_types.specs.declared.driver.DriverSpec.{DriverSpec}
 use Rattle.smx_queues.specs.PlaceLists.{places_of}
-use Rattle.smx_commands.specs.Machine.{Machine}
-use Rattle.smx_commands.proofs.PlaceNumberLemmas.{is_there, number_there, queue_drivers}
+use Rattle.smx_commands.proofs.PlaceNumberLemmas.{queue_drivers}
 use Rattle.smx_commands.proofs.tables.Tables.place_count.Goals as goal
 
 pub returns-clause-count : goal.returns-clause-count
