@@ -120,7 +120,8 @@ open_next drivers c p q h e =
     (λ m. next_place drivers c p m.addr >>= (λ r. cond (is_full c r) None (Some r))) q e in
     let n = bound (next_place drivers c p m.0.addr) (λ r. cond (is_full c r) None (Some r)) q m.2 in
     let o = open_is (is_full c n.0) n.0 q n.2 in
-    let next = subst (λ (x : Place). IsNext drivers p x) o.1 (next_known drivers c p.stream p.side m.0.addr n.0 h n.1) in
+    let next = subst (λ (x : Place). IsNext drivers p x) o.1
+    (next_known drivers c p.stream p.side m.0.addr n.0 h n.1) in
     record {
       some = rw m.1 refl;
       known = next.known;

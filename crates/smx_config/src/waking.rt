@@ -129,7 +129,8 @@ fn drops_none(reply: &Reply) -> bool
 fn release_emptied(tables: &Tables, marks: &mut Marks, stream: StreamId, reply: &Reply)
     requires over { AreOver tables.now.drivers marks.old }
     requires listed { IsListed marks.old }
-    ensures { IsReleased tables.now.drivers tables.now.configuration (freed_under reply.now (wakes.Empties stream)) marks.old marks.new }
+    ensures { IsReleased tables.now.drivers tables.now.configuration (freed_under reply.now (wakes.Empties stream))
+        marks.old marks.new }
 {
     if !drops_none(reply) {
         release_sides(tables, marks, stream);
@@ -140,7 +141,8 @@ fn release_emptied(tables: &Tables, marks: &mut Marks, stream: StreamId, reply: 
 fn release_dropped(tables: &Tables, marks: &mut Marks, reply: &Reply)
     requires over { AreOver tables.now.drivers marks.old }
     requires listed { IsListed marks.old }
-    ensures { IsReleased tables.now.drivers tables.now.configuration (freed_under reply.now wakes.Frees) marks.old marks.new }
+    ensures { IsReleased tables.now.drivers tables.now.configuration (freed_under reply.now wakes.Frees)
+        marks.old marks.new }
 {
     if !drops_none(reply) {
         release_all(tables, marks);
@@ -173,8 +175,8 @@ fn mark_place(tables: &Tables, run: &mut Bits, place: Place)
 
 fn mark_turned(tables: &Tables, run: &mut Bits, wakes: Wakes)
     requires { run.old.count ≡ length (places_of tables.now.drivers) }
-    ensures { IsMarkedWhere tables.now.drivers tables.now.configuration.flow (turned_under tables.now.configuration wakes)
-        run.old run.new }
+    ensures { IsMarkedWhere tables.now.drivers tables.now.configuration.flow
+        (turned_under tables.now.configuration wakes) run.old run.new }
 {
     match wakes {
         Wakes::Turns(place) => mark_place(tables, run, place),
