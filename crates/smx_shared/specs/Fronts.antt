@@ -1,4 +1,4 @@
--- How far a history has come, as numbers and as one word.
+-- The front of a history: the numbers of its entries and links, separately and as one word.
 use Rattle.std.specs.Prelude.{◌≡◌, ℕ, ◌+◌, ◌*◌, Bool, true, false, List, length}
 use Rattle.smx_types.specs.declared.command.Entry.{Entry}
 use Rattle.smx_types.specs.declared.driver.DriverSpec.{DriverSpec}

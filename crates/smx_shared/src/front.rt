@@ -1,4 +1,4 @@
-//! How far the history of a shared system has come, as callers see it.
+//! The front of a shared system: how many entries and links it has, and whether a seat has the turn.
 
 ghost use Rattle.std.specs.Prelude.{◌≡◌, ◌*◌, ◌<◌, ◌^◌};
 ghost use Rattle.smx_shared.specs.Fronts.{word_of};
@@ -6,7 +6,8 @@ ghost use Rattle.smx_shared.specs.Fronts.{word_of};
 use smx_types::{Copied, Items, NoMemory};
 use std::alloc::Global;
 
-/// How far the history of a shared system has come. A caller sees this at once, without waiting.
+/// The number of entries of a shared system so far, the number of its links, and whether a seat has the turn. A caller
+/// gets a front at once, without waiting.
 #[derive(Clone, Copy, Debug, PartialEq, Eq)]
 pub struct Front {
     /// The number of entries of its history.
