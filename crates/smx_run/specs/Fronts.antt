@@ -1,4 +1,4 @@
--- The fronts of a run: how far the history had come when each program ended.
+-- The fronts of a run: the numbers of entries and links that were seen after each program had ended.
 use Rattle.std.specs.Prelude.{◌≡◌, ℕ, ◌+◌, List, [], ◌∷◌, ◌++◌}
 use Rattle.smx_types.specs.declared.command.Command.{Command}
 use Rattle.smx_types.specs.declared.command.Entry.{Entry}

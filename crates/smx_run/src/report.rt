@@ -13,7 +13,7 @@ pub struct Report {
     pub drivers: Drivers,
     pub entries: Entries,
     pub view: ConfigView,
-    /// For each process, how far the history had come when its program had ended. A run fills this list.
+    /// For each process, the front that was seen after its program had ended. A run fills this list.
     pub fronts: Fronts,
 }
 

@@ -50,7 +50,7 @@ where
     Ok(done)
 }
 
-// Runs one process to its end, and then looks how far the history has come.
+// Runs the program of one process to its end, and then looks at the front.
 fn run_process<D: Door, G: Gate, R: Wait>(
     rt: &R,
     alloc: Global,

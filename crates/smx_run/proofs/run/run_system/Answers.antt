@@ -11,7 +11,8 @@ returns-then-workers-lt2-clause-report g c =
     let s = c.run_alone.new.system in
     let drivers : s.drivers ≡ c.args.programs.drivers = search rules in
     report_of c.args.programs s (transcript_in c.args.programs.version s) c.in_ok-fronts.ensures.sound refl refl refl
-    drivers (subst (HoldsPrograms s.history) c.into_parts-drivers.ensures.programs (holds _ _ c.in_ok-fronts.ensures.calls))
+    drivers (subst (HoldsPrograms s.history) c.into_parts-drivers.ensures.programs
+    (holds _ _ c.in_ok-fronts.ensures.calls))
 
 pub returns-clause-report : goal.returns-clause-report
 returns-clause-report g c =
