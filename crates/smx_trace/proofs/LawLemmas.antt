@@ -1,8 +1,8 @@
 -- Laws of traces.
-use Rattle.std.proofs.Common.{rules, ◌≡◌, Bool, true, not, List, [], ◌∷◌, ◌++◌, ℕ, map, refl, sym, ap, ◌∙◌, subst}
+use Rattle.std.proofs.Common.{rules, ◌≡◌, Bool, true, List, [], ◌∷◌, ◌++◌, ℕ, map, refl, sym, ap, ◌∙◌}
 use Rattle.std.proofs.Common.{append_assoc, arith, false, inl, inr, Some, None, Option}
 use Rattle.std.specs.Bool.{Decides}
-use Rattle.std.specs.List.{filter, filter_map, list_any}
+use Rattle.std.specs.List.{list_any}
 use Rattle.std.specs.Prelude.{if◌then◌else◌}
 use Rattle.std.proofs.lemmas.Bool.{cases_Bool}
 use Rattle.std.proofs.lemmas.Bool.Decides.{nat_tests}
@@ -24,12 +24,13 @@ use Rattle.smx_types.specs.declared.view.HungLine.{HungLine}
 use Rattle.smx_types.specs.declared.view.LinkLine.{LinkLine}
 use Rattle.smx_types.specs.declared.view.MessageLine.{MessageLine}
 use Rattle.smx_types.specs.declared.view.RouteLine.{RouteLine}
-use Rattle.smx_model.specs.Changes.{Change, ViewLine, changes, group_changes, message_changes, missing_from, same_serial}
+use Rattle.smx_model.specs.Changes.{Change, ViewLine, changes, group_changes, missing_from, same_serial}
 use Rattle.smx_model.specs.Changes as change
 use Rattle.smx_model.specs.Commands.{step}
 use Rattle.smx_model.specs.Configuration.{Configuration, QueuedMessage, empty, is_at}
 use Rattle.smx_model.specs.Histories.{after, after_from}
-use Rattle.smx_model.specs.Views.{view, view_of_bind, view_of_fd, view_of_full, view_of_hung, view_of_link, view_of_message}
+use Rattle.smx_model.specs.Views.{view, view_of_bind, view_of_fd, view_of_full, view_of_hung, view_of_link}
+use Rattle.smx_model.specs.Views.{view_of_message}
 use Rattle.smx_model.specs.Views.{view_of_route}
 use Rattle.smx_model.specs.Waits.{Wait, wait_at, waits}
 use Rattle.smx_text.specs.TranscriptLines.{TranscriptLine}
@@ -129,7 +130,8 @@ plain_append : (xs ys : List TraceLine) → plain_lines (xs ++ ys) ≡ plain_lin
 plain_append xs ys = filter_map-append _ xs ys
 
 -- lines of a transcript are plain
-all_plain : {X : Type 0} (f : X → TranscriptLine) (xs : List X) → plain_lines (map (λ x. trace.Plain (f x)) xs) ≡ map f xs
+all_plain : {X : Type 0} (f : X → TranscriptLine) (xs : List X)
+    → plain_lines (map (λ x. trace.Plain (f x)) xs) ≡ map f xs
 all_plain f [] = refl
 all_plain f (x ∷ xs) = ap (λ (ls : List TranscriptLine). f x ∷ ls) (all_plain f xs)
 
@@ -218,7 +220,8 @@ plain_config drivers c =
     (map line.Route v.routes ++ (map line.Msg v.msgs ++ (map line.Full v.fulls ++ map line.Hung v.hungs)))
     (plain_group line.Bind (view_of_bind drivers) c.binds) s4 in
     let s2 = both Links (Binds ++ (Routes ++ (Queues ++ (Fulls ++ Hungs)))) (map line.Link v.links)
-    (map line.Bind v.binds ++ (map line.Route v.routes ++ (map line.Msg v.msgs ++ (map line.Full v.fulls ++ map line.Hung v.hungs))))
+    (map line.Bind v.binds
+    ++ (map line.Route v.routes ++ (map line.Msg v.msgs ++ (map line.Full v.fulls ++ map line.Hung v.hungs))))
     (plain_group line.Link (view_of_link drivers) c.links) s3 in
     let s1 = both Fds (Links ++ (Binds ++ (Routes ++ (Queues ++ (Fulls ++ Hungs))))) (map line.Fd v.fds)
     (map line.Link v.links ++ (map line.Bind v.binds ++ (map line.Route v.routes
@@ -245,5 +248,6 @@ transcript_lines each t r h =
     (both Config Last (line.Config ∷ view_body r.view) (line.End ∷ [])
     (plain_config r.drivers (after r.drivers r.entries)
     ∙ ap (λ (v : ConfigView). line.Config ∷ view_body v) shown) refl))
-    ∙ ap (λ (ls : List TranscriptLine). Drivers ++ ls) (sym (append_assoc Entries (line.Config ∷ view_body r.view) (line.End ∷ [])))
+    ∙ ap (λ (ls : List TranscriptLine). Drivers ++ ls)
+    (sym (append_assoc Entries (line.Config ∷ view_body r.view) (line.End ∷ [])))
     ∙ sym (append_assoc Drivers (Entries ++ line.Config ∷ view_body r.view) (line.End ∷ []))

@@ -181,7 +181,8 @@ module _ {X : Type 0} (rank : X → ℕ × ℕ) where
           s.0,
           s.1 ∙ ap (λ (w : List ℕ). w ++ flat_map text (filter Kept (x ∷ []))) written
               ∙ append_assoc start _ _
-              ∙ ap (λ (w : List ℕ). start ++ w) (sym (flat_map-append text (filter Kept (take i lines)) (filter Kept (x ∷ []))))
+              ∙ ap (λ (w : List ℕ). start ++ w)
+              (sym (flat_map-append text (filter Kept (take i lines)) (filter Kept (x ∷ []))))
               ∙ ap (λ (zs : List X). start ++ flat_map text zs)
               (sym (filter-append Kept (take i lines) (x ∷ [])))
               ∙ ap (λ (zs : List X). start ++ flat_map text (filter Kept zs)) (sym more_taken),

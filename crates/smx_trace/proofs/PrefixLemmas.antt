@@ -1,20 +1,17 @@
 -- The first entries of a transcript, and their replay.
-use Rattle.std.proofs.Common.{◌≡◌, ◌≤◌, ℕ, zero, suc, List, [], ◌∷◌, ◌++◌, length, map, take, drop, refl, sym, ap, subst, ◌∙◌}
+use Rattle.std.proofs.Common.{◌≡◌, ℕ, zero, suc, List, [], ◌∷◌, ◌++◌, map, take, drop, refl, sym, ap, subst, ◌∙◌}
 use Rattle.std.proofs.Common.{arith, length-take}
 use Rattle.std.specs.List.{AllByRecursion}
 use Rattle.std.proofs.lemmas.List.{take-append-drop}
-use Rattle.smx_types.specs.Versions.{least_of_transcript}
 use Rattle.smx_types.specs.declared.command.Command.{Command}
 use Rattle.smx_types.specs.declared.command.Entry.{Entry}
 use Rattle.smx_types.specs.declared.driver.DriverSpec.{DriverSpec}
 use Rattle.smx_types.specs.declared.transcript.Transcript.{Transcript}
-use Rattle.smx_types.specs.declared.version.Version.{Version}
-use Rattle.smx_types.specs.declared.view.ConfigView.{ConfigView}
 use Rattle.smx_model.specs.Histories.{IsLegal, after, call_of}
 use Rattle.smx_model.specs.Views.{view}
 use Rattle.smx_text.specs.TranscriptLines.{TranscriptLine}
 use Rattle.smx_text.specs.TranscriptLines as line
-use Rattle.smx_text.specs.TranscriptText.{FitsLine, IsAllowed, body, view_body}
+use Rattle.smx_text.specs.TranscriptText.{FitsLine, IsAllowed, view_body}
 use Rattle.smx_trace.specs.Prefixes.{first_entries}
 use Rattle.smx_trace.specs.Replays.{IsReplayOf}
 

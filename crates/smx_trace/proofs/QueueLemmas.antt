@@ -1,6 +1,7 @@
 -- Queued messages that are left to be written, and their waits.
 use Rattle.std.proofs.Common.{◌≡◌, ℕ, ◌<◌, Bool, true, false, ◌&&◌, ◌||◌, eqb, List, [], ◌∷◌, ◌++◌, length, get_or, map}
-use Rattle.std.proofs.Common.{◌≤◌, not, Ok, Err, Result, Option, Some, None, refl, sym, ap, ◌∙◌, subst, arith, append_assoc, inl, inr}
+use Rattle.std.proofs.Common.{◌≤◌, not, Ok, Err, Result, Option, Some, None, refl, sym, ap, ◌∙◌, arith, append_assoc}
+use Rattle.std.proofs.Common.{inl, inr}
 use Rattle.std.specs.List.{AllByRecursion, cons_option, filter_map, list_any}
 use Rattle.std.specs.Fmt.{decimal}
 use Rattle.std.specs.Option.{is_some, ok_or, option_map_or}
@@ -25,7 +26,6 @@ use Rattle.smx_types.specs.declared.stream.StreamId.{StreamId}
 use Rattle.smx_types.specs.declared.view.MessageLine.{MessageLine}
 use Rattle.smx_model.specs.Configuration.{Configuration, QueuedMessage, is_at, place_before, same_place, same_side}
 use Rattle.smx_model.specs.DriverList.{IsDriverList, minors_of, name_of}
-use Rattle.smx_model.specs.FlowOrder.{IsInOrder}
 use Rattle.smx_model.specs.KeptConfigurations.{IsKept}
 use Rattle.smx_model.specs.KnownStreams.{IsKnown}
 use Rattle.smx_model.specs.Lookups.{driver_of}
@@ -38,7 +38,8 @@ use Rattle.smx_tables.proofs.DriverNameLemmas.{found_by_name, number_of, some_dr
 use Rattle.smx_words.specs.Spelling.{side_word}
 use Rattle.smx_words.specs.Words.{LINE_FEED, SPACE, line_of}
 use Rattle.smx_text.specs.TranscriptLines as line
-use Rattle.smx_trace.specs.Queues.{AreQueued, IsLeft, begins_with_place, place_with, queues_left, wait_below, waits_left}
+use Rattle.smx_trace.specs.Queues.{AreQueued, IsLeft, begins_with_place, place_with, queues_left, wait_below}
+use Rattle.smx_trace.specs.Queues.{waits_left}
 use Rattle.smx_trace.specs.TraceWords.{reason_words, wait_text, waits_text, words_of_place}
 use Rattle.smx_trace.specs.Traces.{TraceLine, queue_lines, trace_line_text, trace_lines_text, wait_line}
 use Rattle.smx_trace.specs.Traces as trace
@@ -223,7 +224,8 @@ rearranged o a n m s d w =
     append_assoc n (32 ∷ (m ++ 32 ∷ (s ++ 32 ∷ Y))) (10 ∷ [])
     ∙ ap (λ (t : List ℕ). n ++ 32 ∷ t) (append_assoc m (32 ∷ (s ++ 32 ∷ Y)) (10 ∷ []))
     ∙ ap (λ (t : List ℕ). n ++ 32 ∷ (m ++ 32 ∷ t)) (append_assoc s (32 ∷ Y) (10 ∷ []))
-    ∙ ap (λ (t : List ℕ). n ++ 32 ∷ (m ++ 32 ∷ (s ++ 32 ∷ t))) (append_assoc (d ++ 58 ∷ []) (32 ∷ w) (10 ∷ []) ∙ tail) in
+    ∙ ap (λ (t : List ℕ). n ++ 32 ∷ (m ++ 32 ∷ (s ++ 32 ∷ t)))
+    (append_assoc (d ++ 58 ∷ []) (32 ∷ w) (10 ∷ []) ∙ tail) in
     whole ∙ ap (λ (t : List ℕ). (o ++ a) ++ t) left ∙ append_assoc o a _
     ∙ ap (λ (t : List ℕ). o ++ (a ++ t)) (sym right)
     ∙ ap (λ (t : List ℕ). o ++ t) (sym (append-nil _))
@@ -244,7 +246,8 @@ wait_written drivers c p m r o0 o1 o2 o3 o4 o5 o6 o7 first is e1 e2 e3 e4 e5 e6 
     let text : wait_text drivers wait
     ≡ codes "  waits " ++ ((Name ++ SPACE ∷ (Minor ++ SPACE ∷ (Side ++ SPACE ∷ ((Serial ++ codes ":") ++ SPACE ∷ Why))))
     ++ LINE_FEED ∷ []) =
-    ap (λ (w : List ℕ). codes "  waits " ++ ((Name ++ SPACE ∷ (Minor ++ SPACE ∷ (Side ++ SPACE ∷ w))) ++ LINE_FEED ∷ []))
+    ap (λ (w : List ℕ). codes "  waits "
+    ++ ((Name ++ SPACE ∷ (Minor ++ SPACE ∷ (Side ++ SPACE ∷ w))) ++ LINE_FEED ∷ []))
     (some_words drivers r (Serial ++ codes ":")) in
     let Words : List ℕ = Name ++ SPACE ∷ (Minor ++ SPACE ∷ (Side ++ SPACE ∷ ((Serial ++ codes ":") ++ SPACE ∷ Why))) in
     let apart : ((((((o0 ++ codes "  waits ") ++ (Name ++ SPACE ∷ (Minor ++ SPACE ∷ Side))) ++ codes " ") ++ Serial)
@@ -312,7 +315,8 @@ more_follow drivers c h hs x rest out can begins one others q =
 -- it is the last of the queue
 pub last_waits : (drivers : List DriverSpec) (c : Configuration) (h : QueuedMessage) (hs : List QueuedMessage)
     (x : MessageLine) (rest : List MessageLine) (p : Place) (out new : List ℕ) → IsDriverList drivers
-    → false ≡ begins_with_place rest x → Some p ≡ Some h.place → new ≡ out ++ trace_lines_text drivers (wait_line drivers c p)
+    → false ≡ begins_with_place rest x → Some p ≡ Some h.place
+    → new ≡ out ++ trace_lines_text drivers (wait_line drivers c p)
     → x ≡ view_of_message drivers h → rest ≡ map (view_of_message drivers) hs → AreQueued drivers (h ∷ hs)
     → new ≡ out ++ trace_lines_text drivers (wait_below drivers c h hs)
 last_waits drivers c h hs x rest p out new can begins at written one others q =

@@ -1,30 +1,29 @@
 -- The lists of a view rise, and the serials of its messages are apart.
-use Rattle.std.proofs.Common.{◌≡◌, ◌≢◌, ℕ, ◌+◌, ◌*◌, ◌<◌, Bool, true, ◌&&◌, ◌||◌, eqb, List, [], ◌∷◌, length, map, Option}
+use Rattle.std.proofs.Common.{◌≡◌, ◌≢◌, ℕ, ◌+◌, ◌*◌, ◌<◌, Bool, true, ◌&&◌, ◌||◌, eqb, List, [], ◌∷◌, length, map}
+use Rattle.std.proofs.Common.{Option}
 use Rattle.std.proofs.Common.{Result, refl, ap, arith}
-use Rattle.std.specs.List.{All, AllByRecursion}
+use Rattle.std.specs.List.{AllByRecursion}
 use Rattle.std.specs.Option.{ok_or}
 use Rattle.std.specs.Prelude.{Ok, Err, nat_lt}
 use Rattle.std.proofs.lemmas.Bool.Decides.{nat_tests}
 use Rattle.std.proofs.lemmas.List.Elements.{recursion_from_All}
 use Rattle.smx_types.specs.declared.driver.DriverSpec.{DriverSpec}
 use Rattle.smx_types.specs.declared.link.Binding.{Binding}
-use Rattle.smx_types.specs.declared.link.Link.{Link}
 use Rattle.smx_types.specs.declared.link.Route.{Route}
 use Rattle.smx_types.specs.declared.reply.Fault.{Fault}
 use Rattle.smx_types.specs.declared.reply.Fault.TheVariants.{NoDriver}
-use Rattle.smx_types.specs.declared.stream.Descriptor.{Descriptor}
 use Rattle.smx_types.specs.declared.stream.Place.{Place}
 use Rattle.smx_types.specs.declared.stream.Side.{Side}
 use Rattle.smx_types.specs.declared.stream.Side.TheVariants as side
 use Rattle.smx_types.specs.declared.stream.StreamId.{StreamId}
 use Rattle.smx_types.specs.declared.view.ConfigView.{ConfigView}
-use Rattle.smx_model.specs.Configuration.{Configuration, QueuedMessage, bind_before, fd_before, pair_before}
+use Rattle.smx_model.specs.Configuration.{QueuedMessage, bind_before, fd_before, pair_before}
 use Rattle.smx_model.specs.Configuration.{place_before, route_before, side_number, stream_before}
 use Rattle.smx_model.specs.DriverList.{IsDriverList, name_of}
 use Rattle.smx_model.specs.KnownStreams.{IsKnown}
 use Rattle.smx_model.specs.Ordered.{AllLater, IsRising}
 use Rattle.smx_model.specs.Removal.{serials}
-use Rattle.smx_model.specs.Views.{view, view_of_bind, view_of_fd, view_of_full, view_of_hung, view_of_link}
+use Rattle.smx_model.specs.Views.{view_of_bind, view_of_fd, view_of_full, view_of_hung, view_of_link}
 use Rattle.smx_model.specs.Views.{view_of_message, view_of_route}
 use Rattle.smx_model.proofs.EachLemmas.{later_pairs}
 use Rattle.smx_tables.proofs.DriverNameLemmas.{found_by_name}
@@ -97,7 +96,8 @@ module _ (drivers : List DriverSpec) (v : ConfigView) (s : IsShown drivers v) wh
       let is : v.binds ≡ map (view_of_bind drivers) c.binds = ap (λ (w : ConfigView). w.binds) s.is in
       let Known : Binding → Type 0 = λ b. IsKnown drivers (record { driver = b.driver; minor = b.minor }) in
       rw is (ranked_lines (bind_rank drivers) bind_before (view_of_bind drivers) Known
-      (λ x y p q h. rw (number_is drivers x.driver s.valid_drivers p.0, number_is drivers y.driver s.valid_drivers q.0) h)
+      (λ x y p q h. rw
+      (number_is drivers x.driver s.valid_drivers p.0, number_is drivers y.driver s.valid_drivers q.0) h)
       c.binds (recursion_from_All Known c.binds s.kept.sound.known.binds) s.kept.sound.ordered.binds)
 
   -- routes
@@ -132,7 +132,8 @@ module _ (drivers : List DriverSpec) (v : ConfigView) (s : IsShown drivers v) wh
       let is : v.hungs ≡ map (view_of_hung drivers) c.hungs = ap (λ (w : ConfigView). w.hungs) s.is in
       let Known : StreamId → Type 0 = λ t. IsKnown drivers t in
       rw is (ranked_lines (hung_rank drivers) stream_before (view_of_hung drivers) Known
-      (λ x y p q h. rw (number_is drivers x.driver s.valid_drivers p.0, number_is drivers y.driver s.valid_drivers q.0) h)
+      (λ x y p q h. rw
+      (number_is drivers x.driver s.valid_drivers p.0, number_is drivers y.driver s.valid_drivers q.0) h)
       c.hungs (recursion_from_All Known c.hungs s.kept.sound.known.hungs) s.kept.sound.ordered.hungs)
 
 -- a serial that differs from later ones differs from those of later lines

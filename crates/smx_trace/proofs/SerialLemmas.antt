@@ -1,9 +1,10 @@
 -- Queued messages by their serials.
 use Rattle.std.proofs.Common.{rules, ◌≡◌, ◌≢◌, ℕ, suc, ◌+◌, ◌<◌, Bool, true, false, cond, not, eqb, List, [], ◌∷◌, ◌++◌}
-use Rattle.std.proofs.Common.{Option, Some, None, Result, Ok, Err, length, get_or, take, drop, drop-cons, map, refl, sym, ap, ◌∙◌, subst}
+use Rattle.std.proofs.Common.{Option, Some, None, Result, Ok, Err, length, get_or, take, drop, drop-cons, map, refl}
+use Rattle.std.proofs.Common.{sym, ap, ◌∙◌, subst}
 use Rattle.std.proofs.Common.{arith, append_assoc, inl, inr, add-one}
 use Rattle.std.specs.Bool.{Decides}
-use Rattle.std.specs.List.{AllByRecursion, filter, flat_map, list_any}
+use Rattle.std.specs.List.{AllByRecursion, filter, list_any}
 use Rattle.std.specs.Prelude.{find, slice_get, OnOk}
 use Rattle.std.proofs.lemmas.Bool.{cases_Bool, false_from_ne_true, or_from}
 use Rattle.std.proofs.lemmas.Bool.Decides.{nat_tests}
@@ -14,7 +15,6 @@ use Rattle.std.proofs.lemmas.Option.{slice_get-get_or}
 use Rattle.smx_types.specs.declared.view.MessageLine.{MessageLine}
 use Rattle.smx_model.specs.Changes.{Change, arrival_change, missing_from, same_serial}
 use Rattle.smx_model.specs.Changes as change
-use Rattle.smx_model.specs.Ordered.{AllLater}
 use Rattle.smx_model.specs.Settling.{◌>>=◌}
 use Rattle.smx_trace.specs.Serials.{AreSerialsApart, FindsBySerial, same_line}
 use Rattle.smx_trace.specs.TraceWords.{change_text, changes_text}

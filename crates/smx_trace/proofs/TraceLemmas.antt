@@ -1,7 +1,7 @@
 -- A trace that is being written.
-use Rattle.std.proofs.Common.{◌≡◌, ℕ, Bool, true, false, List, [], ◌∷◌, ◌++◌, map, refl, sym, ap, ◌∙◌, subst, append_assoc}
+use Rattle.std.proofs.Common.{◌≡◌, ℕ, Bool, true, false, List, [], ◌∷◌, ◌++◌, map, refl, sym, ap, ◌∙◌, subst}
+use Rattle.std.proofs.Common.{append_assoc}
 use Rattle.std.specs.Prelude.{if◌then◌else◌, codes}
-use Rattle.std.specs.List.{flat_map}
 use Rattle.std.proofs.lemmas.Grind.{flat_map-append}
 use Rattle.std.proofs.lemmas.List.{append-nil}
 use Rattle.smx_types.specs.declared.command.Entry.{Entry}
@@ -29,7 +29,7 @@ use Rattle.smx_text.specs.TranscriptLines.{TranscriptLine}
 use Rattle.smx_text.specs.TranscriptLines as line
 use Rattle.smx_text.specs.TranscriptText.{line_words, transcript_grammar}
 use Rattle.smx_trace.specs.Answers.{answered, answers}
-use Rattle.smx_trace.specs.TraceWords.{change_text, changes_text, wait_text, waits_text}
+use Rattle.smx_trace.specs.TraceWords.{changes_text, waits_text}
 use Rattle.smx_trace.specs.Traces.{IsTraceText, TraceLine, config_lines, entry_lines_from, lines_below}
 use Rattle.smx_trace.specs.Traces.{lines_of_entry, queue_lines, trace_line_text, trace_lines_text}
 use Rattle.smx_trace.specs.Traces as trace
@@ -96,8 +96,10 @@ entry_traced each e reply m n v w text t1 t2 t3 kept stepped is is' e1 e2 e3 =
       written =
           e3 ∙ ap (λ (t : List ℕ). t ++ waits_if each n.drivers n.configuration)
           (e2 ∙ ap (λ (t : List ℕ). t ++ changes_text (changes v w)) e1)
-          ∙ ap (λ (x : List DriverSpec). ((text ++ Line reply) ++ changes_text (changes v w)) ++ waits_if each x n.configuration) kept
-          ∙ ap (λ (x : ConfigView). ((text ++ Line reply) ++ changes_text (changes x w)) ++ waits_if each ds n.configuration) is
+          ∙ ap (λ (x : List DriverSpec). ((text ++ Line reply) ++ changes_text (changes v w))
+          ++ waits_if each x n.configuration) kept
+          ∙ ap (λ (x : ConfigView). ((text ++ Line reply) ++ changes_text (changes x w))
+          ++ waits_if each ds n.configuration) is
           ∙ ap (λ (x : ConfigView). ((text ++ Line reply) ++ changes_text (changes (view ds c) x))
           ++ waits_if each ds n.configuration) now
           ∙ append_assoc (text ++ Line reply) _ _ ∙ append_assoc text (Line reply) _
@@ -117,8 +119,8 @@ traced_more each drivers opening asked e m n text new h traced =
     let a : Entry = answered drivers c e in
     let here : TracesEntry each e (record { drivers = drivers; configuration = c }) n text new =
     subst (λ (x : Configuration). TracesEntry each e (record { drivers = drivers; configuration = x }) n text new) h.now
-    (subst (λ (ds : List DriverSpec). TracesEntry each e (record { drivers = ds; configuration = m.configuration }) n text new)
-    h.same traced) in
+    (subst (λ (ds : List DriverSpec). TracesEntry each e (record { drivers = ds; configuration = m.configuration })
+    n text new) h.same traced) in
     let Text : List TraceLine → List ℕ = trace_lines_text drivers in
     let Before : List TraceLine = entry_lines_from each drivers empty (answers drivers asked) in
     let one : entry_lines_from each drivers empty (answers drivers (asked ++ e ∷ []))
@@ -180,16 +182,21 @@ pub configuration_written : (drivers : List DriverSpec) (c : Configuration) (v :
     → b8 ≡ a ++ trace_lines_text drivers (config_lines drivers c)
 configuration_written drivers c v a b0 b1 b2 b3 b4 b5 b6 b7 b8 is e0 e1 e2 e3 e4 e5 e6 e7 e8 =
     let fds = group drivers line.Fd (view_of_fd drivers) c.fds v.fds b1 b2 (ap (λ (w : ConfigView). w.fds) is) e2 in
-    let links = group drivers line.Link (view_of_link drivers) c.links v.links b2 b3 (ap (λ (w : ConfigView). w.links) is) e3 in
-    let binds = group drivers line.Bind (view_of_bind drivers) c.binds v.binds b3 b4 (ap (λ (w : ConfigView). w.binds) is) e4 in
+    let links = group drivers line.Link (view_of_link drivers) c.links v.links b2 b3
+    (ap (λ (w : ConfigView). w.links) is) e3 in
+    let binds = group drivers line.Bind (view_of_bind drivers) c.binds v.binds b3 b4
+    (ap (λ (w : ConfigView). w.binds) is) e4 in
     let routes = group drivers line.Route (view_of_route drivers) c.routes v.routes b4 b5
     (ap (λ (w : ConfigView). w.routes) is) e5 in
-    let fulls = group drivers line.Full (view_of_full drivers) c.fulls v.fulls b6 b7 (ap (λ (w : ConfigView). w.fulls) is) e7 in
-    let hungs = group drivers line.Hung (view_of_hung drivers) c.hungs v.hungs b7 b8 (ap (λ (w : ConfigView). w.hungs) is) e8 in
+    let fulls = group drivers line.Full (view_of_full drivers) c.fulls v.fulls b6 b7
+    (ap (λ (w : ConfigView). w.fulls) is) e7 in
+    let hungs = group drivers line.Hung (view_of_hung drivers) c.hungs v.hungs b7 b8
+    (ap (λ (w : ConfigView). w.hungs) is) e8 in
     let rest = joined drivers _ _ b1 b2 b8 fds (joined drivers _ _ b2 b3 b8 links (joined drivers _ _ b3 b4 b8 binds
     (joined drivers _ _ b4 b5 b8 routes (joined drivers _ _ b5 b6 b8 e6 (joined drivers _ _ b6 b7 b8 fulls hungs))))) in
     let Next : ConfigView → List ℕ = λ w. line_of (next_words (w.next_id, w.next_serial)) ++ LINE_FEED ∷ [] in
-    after_two a b0 b1 b8 (codes "config\n") (Next (view drivers c)) _ e0 (e1 ∙ ap (λ (w : ConfigView). b0 ++ Next w) is) rest
+    after_two a b0 b1 b8 (codes "config\n") (Next (view drivers c)) _ e0
+    (e1 ∙ ap (λ (w : ConfigView). b0 ++ Next w) is) rest
 
 -- ---- the whole text
 
@@ -200,7 +207,8 @@ opening_is : (version : Version) (drivers : List DriverSpec) (opening : List ℕ
     ∷ trace_lines_text drivers (map (λ d. trace.Plain (line.Driver d)) drivers)
 opening_is version drivers opening b =
     b.written
-    ∙ ap (λ (ls : List TranscriptLine). (header (transcript_grammar version) ++ LINE_FEED ∷ []) ++ text_of (map line_words ls))
+    ∙ ap (λ (ls : List TranscriptLine). (header (transcript_grammar version) ++ LINE_FEED ∷ [])
+    ++ text_of (map line_words ls))
     (append-nil (map line.Driver drivers))
     ∙ append_assoc (header (transcript_grammar version)) (LINE_FEED ∷ []) _
     ∙ ap (λ (t : List ℕ). header (transcript_grammar version) ++ LINE_FEED ∷ t)
@@ -240,7 +248,8 @@ whole_trace each t m shown opening lines text output can begins h is wrote ended
           (opening_is t.version ds opening begins)
           ∙ append_assoc Head _ _
           ∙ ap (λ (w : List ℕ). Head ++ LINE_FEED ∷ w)
-          (sym (flat_map-append (trace_line_text ds) Drivers (Entries ++ (config_lines ds c ++ trace.Plain line.End ∷ []))))
+          (sym (flat_map-append (trace_line_text ds) Drivers
+          (Entries ++ (config_lines ds c ++ trace.Plain line.End ∷ []))))
           ∙ ap (λ (x : Configuration). Head ++ LINE_FEED ∷ trace_lines_text ds
           (Drivers ++ (Entries ++ (config_lines ds x ++ trace.Plain line.End ∷ [])))) (sym led);
     }

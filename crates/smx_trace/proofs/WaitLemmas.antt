@@ -11,7 +11,7 @@ use Rattle.smx_types.specs.declared.message.Message.{Message}
 use Rattle.smx_types.specs.declared.stream.Place.{Place}
 use Rattle.smx_model.specs.Configuration.{Configuration, QueuedMessage, is_at, same_place}
 use Rattle.smx_model.specs.Ordered.{AllLater}
-use Rattle.smx_model.specs.Queues.{first_message, is_full}
+use Rattle.smx_model.specs.Queues.{first_message}
 use Rattle.smx_model.specs.Settling.{IsSettled, is_movable, next_place}
 use Rattle.smx_model.specs.Waits.{Wait, places_in, reason_at, wait_at, waits}
 use Rattle.smx_model.proofs.EachLemmas.{each_map}
@@ -40,7 +40,8 @@ not_listed : (p : Place) (hs : List QueuedMessage) → list_any (is_at p) hs ≡
     → AllByRecursion (λ q. same_place p q ≡ false) (places_in hs)
 not_listed p [] e = tt
 not_listed p (h ∷ hs) e =
-    let parts : (is_at p h ≡ false) × (list_any (is_at p) hs ≡ false) = or_parts (is_at p h) (list_any (is_at p) hs) e in
+    let parts : (is_at p h ≡ false) × (list_any (is_at p) hs ≡ false) =
+    or_parts (is_at p h) (list_any (is_at p) hs) e in
     let rest = not_listed p hs parts.1 in
     elim (cases_Bool (list_any (is_at h.place) hs))
     [ inl t ↦ rw t rest | inr f ↦ rw f (same_turned p h.place ∙ parts.0, rest) ]

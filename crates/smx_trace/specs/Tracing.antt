@@ -23,7 +23,8 @@ pub record TracesEntry (each : Bool) (e : Entry) (m n : Machine) (text more : Li
   pub drivers : n.drivers ≡ m.drivers
   pub performed : n.configuration ≡ (step m.drivers m.configuration e.process e.command).0
   pub written : more ≡ text
-      ++ trace_lines_text m.drivers (lines_of_entry each m.drivers m.configuration (answered m.drivers m.configuration e))
+      ++ trace_lines_text m.drivers
+      (lines_of_entry each m.drivers m.configuration (answered m.drivers m.configuration e))
 
 -- A trace up to these entries: its configuration is the one after them, and after its opening it has their lines, with
 -- the replies that they get, and the lines below each.

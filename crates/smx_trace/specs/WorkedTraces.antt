@@ -1,5 +1,5 @@
 -- Two worked traces with waits below each entry, typed in: they have each kind of change and each reason.
-use Rattle.std.specs.Prelude.{◌≡◌, ℕ, List, [], ◌∷◌, ◌++◌, true, codes, refl}
+use Rattle.std.specs.Prelude.{◌≡◌, [], ◌∷◌, ◌++◌, true, codes, refl}
 use Rattle.std.specs.Fmt.{digits}
 use Rattle.hex.specs.Hex.{encode_with}
 use Rattle.smx_types.specs.declared.transcript.Transcript.{Transcript}

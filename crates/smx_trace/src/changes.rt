@@ -31,8 +31,8 @@ fn write_group<T: Ranked>(
     write_missing(out, drivers, b"  + ", after, before)
 }
 
-/// Appends the lines of the changes from one view to another, in time that grows with the size of both views. Fails only
-/// if out of memory; `out` may then contain some of them.
+/// Appends the lines of the changes from one view to another, in time that grows with the size of both views. Fails
+/// only if out of memory; `out` may then contain some of them.
 pub fn write_changes(
     alloc: Global,
     out: &mut Vec<u8>,

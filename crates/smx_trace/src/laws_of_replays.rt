@@ -44,8 +44,8 @@ pub fn replays_are_lawful()
     few_commands_drop();
 }
 
-/// If a transcript is within the limits of its version, and each line of its replay can be spelled, the replay is within
-/// these limits too. So a replay in version 1 reports no hangup.
+/// If a transcript is within the limits of its version, and each line of its replay can be spelled, the replay is
+/// within these limits too. So a replay in version 1 reports no hangup.
 pub fn replays_can_be_expressed()
     ensures { (t r : Transcript) → IsAllowed t.version t → IsReplayOf t r → IsSpellable r → IsAllowed r.version r }
 {

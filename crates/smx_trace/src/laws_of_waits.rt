@@ -1,6 +1,6 @@
 //! Laws of waits, each the contract of a function that does nothing.
 
-ghost use Rattle.std.specs.Prelude.{◌≡◌, List, Some, map, not, true, false};
+ghost use Rattle.std.specs.Prelude.{◌≡◌, List, Some, map, not, false};
 ghost use Rattle.std.specs.List.{list_any};
 ghost use Rattle.std.specs.Option.{is_some};
 ghost use Rattle.smx_types.specs.declared.command.Entry.{Entry};

@@ -5,7 +5,7 @@ ghost use Rattle.indexmap.specs.IndexMap.{get};
 ghost use Rattle.smx_model.specs.Changes.{arrival_change, message_changes, missing_from, same_serial};
 ghost use Rattle.smx_model.specs.Changes as change;
 ghost use Rattle.smx_trace.specs.Serials.{AreSerialsApart, FindsBySerial, same_line};
-ghost use Rattle.smx_trace.specs.TraceWords.{change_text, changes_text, marked, moved_words};
+ghost use Rattle.smx_trace.specs.TraceWords.{changes_text, marked, moved_words};
 
 use crate::missing::write_marked;
 use crate::pieces::{put, put_number, put_place_words};

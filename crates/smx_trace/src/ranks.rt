@@ -1,6 +1,6 @@
 //! The order in which a view lists the lines of a group.
 
-ghost use Rattle.std.specs.Prelude.{◌≡◌, ◌<◌, ◌^◌, IfOk, length};
+ghost use Rattle.std.specs.Prelude.{◌≡◌, ◌<◌};
 ghost use Rattle.smx_model.specs.Configuration.{pair_before};
 ghost use Rattle.smx_trace.specs.Ranks.{number_of};
 

@@ -1,4 +1,4 @@
-use Rattle.std.proofs.Common.{◌≡◌, ◌++◌}
+use Rattle.std.proofs.Common.{◌++◌}
 use Rattle.smx_model.specs.Changes as change
 use Rattle.smx_model.specs.Changes.{group_changes, message_changes}
 use Rattle.smx_types.specs.contracts.view.BindingLinePartialEq.TheImpl as of_bind
@@ -8,7 +8,8 @@ use Rattle.smx_types.specs.contracts.view.HungLinePartialEq.TheImpl as of_hung
 use Rattle.smx_types.specs.contracts.view.LinkLinePartialEq.TheImpl as of_link
 use Rattle.smx_types.specs.contracts.view.RouteLinePartialEq.TheImpl as of_route
 use Rattle.smx_trace.proofs.ChangeLemmas.{group_written, joined}
-use Rattle.smx_trace.proofs.RankLemmas.{binds_ranked, fds_ranked, fulls_ranked, hungs_ranked, links_ranked, routes_ranked}
+use Rattle.smx_trace.proofs.RankLemmas.{binds_ranked, fds_ranked, fulls_ranked, hungs_ranked, links_ranked}
+use Rattle.smx_trace.proofs.RankLemmas.{routes_ranked}
 use Rattle.smx_trace.proofs.RankLemmas.{serials_apart}
 use Rattle.smx_trace.proofs.SerialLemmas.{then_ok}
 use Rattle.smx_trace.proofs.changes.write_changes.Goals as goal
@@ -72,10 +73,14 @@ returns c =
     let fulls = group_changes of_full.ghosts.eq change.Full v.fulls w.fulls in
     let hungs = group_changes of_hung.ghosts.eq change.Hung v.hungs w.hungs in
     let fd_written = group_written change.Fd of_fd.ghosts.eq v.fds w.fds o0 o1 c.in_ok-write_group.ensures in
-    let link_written = group_written change.Link of_link.ghosts.eq v.links w.links o1 o2 c.in_ok-write_group-2.ensures in
-    let bind_written = group_written change.Bind of_bind.ghosts.eq v.binds w.binds o2 o3 c.in_ok-write_group-3.ensures in
-    let route_written = group_written change.Route of_route.ghosts.eq v.routes w.routes o3 o4 c.in_ok-write_group-4.ensures in
-    let full_written = group_written change.Full of_full.ghosts.eq v.fulls w.fulls o5 o6 c.in_ok-write_group-5.ensures in
+    let link_written = group_written change.Link of_link.ghosts.eq v.links w.links o1 o2
+    c.in_ok-write_group-2.ensures in
+    let bind_written = group_written change.Bind of_bind.ghosts.eq v.binds w.binds o2 o3
+    c.in_ok-write_group-3.ensures in
+    let route_written = group_written change.Route of_route.ghosts.eq v.routes w.routes o3 o4
+    c.in_ok-write_group-4.ensures in
+    let full_written = group_written change.Full of_full.ghosts.eq v.fulls w.fulls o5 o6
+    c.in_ok-write_group-5.ensures in
     let msg_written = rw (c.as_slice.ensures, c.as_slice-2.ensures) at c.in_ok-write_moves.ensures in
     then_ok c.write_group-6.result
     (λ e.

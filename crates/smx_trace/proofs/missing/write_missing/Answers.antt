@@ -1,4 +1,3 @@
-use Rattle.std.proofs.Common.{sym}
 use Rattle.smx_trace.specs.TraceWords.{marked}
 use Rattle.smx_trace.proofs.MissingLemmas.{step_on}
 use Rattle.smx_trace.proofs.missing.write_missing.Goals as goal

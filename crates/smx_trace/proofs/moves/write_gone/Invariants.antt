@@ -6,4 +6,5 @@ use Rattle.smx_trace.proofs.moves.write_gone.Given as goal
 
 abbrev pub invariant-loop-line : goal.invariant-loop-line
 invariant-loop-line l = l.out.items ≡ l.initial.out.items
-    ++ changes_text (map (λ m. change.Gone (change.Msg m)) (missing_from same_serial (take l.line-index l.before) l.after))
+    ++ changes_text (map (λ m. change.Gone (change.Msg m))
+    (missing_from same_serial (take l.line-index l.before) l.after))

@@ -15,10 +15,12 @@ returns-in-Some c =
     (λ written h hs one others q.
     last_waits drivers c.args.config.now.configuration h hs c.args.line.now c.args.rest.now c.in-Some.place
     c.args.out.now.items c.write_wait.new.out.items c.drivers-drivers.ensures.list c.if-begin_with_place.ensures
-    ((rw c.drivers-drivers.ensures.value at c.in-Some.ensures) h c.drivers-drivers.ensures.list q.known.0 one) written one others q)
+    ((rw c.drivers-drivers.ensures.value at c.in-Some.ensures) h c.drivers-drivers.ensures.list q.known.0 one)
+    written one others q)
     c.write_wait.ensures
 
 pub returns-in-None : goal.returns-in-None
 returns-in-None c = λ h hs one others q.
     let none : None ≡ Some h.place =
-    (rw c.drivers-drivers.ensures.value at c.in-None.ensures) h c.drivers-drivers.ensures.list q.known.0 one in absurd (cc)
+    (rw c.drivers-drivers.ensures.value at c.in-None.ensures) h c.drivers-drivers.ensures.list q.known.0 one in
+    absurd (cc)

@@ -6,8 +6,10 @@ use Rattle.smx_trace.proofs.tracing.trace_entry.Goals as goal
 pub returns-clause-traced : goal.returns-clause-traced
 returns-clause-traced c =
     entry_traced c.args.each c.args.entry.now c.in_ok-reply.reply c.args.config.now c.step.new.self
-    c.args.before.now c.in_ok-after.after c.args.text.now.items c.write_entry.new.out.items c.write_changes.new.out.items
+    c.args.before.now c.in_ok-after.after c.args.text.now.items c.write_entry.new.out.items
+    c.write_changes.new.out.items
     c.write_wanted_waits.new.text.items c.in_ok-reply.ensures.drivers c.in_ok-reply.ensures.ok c.requires.is
-    c.in_ok-after.ensures.view (c.in_ok-write_entry.ensures.written ∙ append_assoc c.args.text.now.items _ (LINE_FEED ∷ []))
+    c.in_ok-after.ensures.view
+    (c.in_ok-write_entry.ensures.written ∙ append_assoc c.args.text.now.items _ (LINE_FEED ∷ []))
     c.in_ok-write_changes.ensures
     c.in_ok-write_wanted_waits.ensures
