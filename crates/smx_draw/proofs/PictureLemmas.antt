@@ -61,7 +61,8 @@ each_in_svg drivers v output h =
     let streams =
     from_before gauge_element queues under.behind_streams h.behind_under output under.gauges_drawn gauges in
     let ways =
-    from_before stream_element under.streams under.behind_ways under.behind_streams output under.streams_drawn streams in
+    from_before stream_element under.streams under.behind_ways under.behind_streams output under.streams_drawn
+    streams in
     let frames = from_before way_element v.links under.behind_frames under.behind_ways output under.ways_drawn ways in
     record {
       frames = each_drawn frame_element drivers head under.behind_frames output under.frames_drawn frames;

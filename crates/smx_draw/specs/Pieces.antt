@@ -54,7 +54,8 @@ piece_text (piece.Stroke kind) = stroke kind
 piece_text (piece.Side side) = side_word side
 piece_text (piece.Letter side) = side_letter side
 
--- the rest of a template, after a hole `@` or not: a hole and the digit after it stand for the text of this number
+-- the rest of a template, with the text number N in place of each `@N`; the first argument is whether `@` comes just
+-- before the rest
 abbrev pub filled_from : Bool → List ℕ → List (List ℕ) → List ℕ
 filled_from hole [] texts = []
 filled_from true (c ∷ template) texts = get_or texts (c - 48) [] ++ filled_from false template texts

@@ -49,9 +49,9 @@ pub two_are_counted : items (queued (1 ∷ 2 ∷ 3 ∷ 4 ∷ 5 ∷ 6 ∷ 7 ∷ 8
 two_are_counted = refl
 
 -- their number, as it is drawn
-pub as_it_is_drawn : map (λ look. queue_row_text look (record { driver = ip; minor = 1; side = Write; item = More 2 })) (
-    Class ∷ Label ∷ []
-    ) ≡ codes "more queue-ip-1-w" ∷ codes ".. 2 more" ∷ []
+pub as_it_is_drawn : map
+    (λ look. queue_row_text look (record { driver = ip; minor = 1; side = Write; item = More 2 }))
+    (Class ∷ Label ∷ []) ≡ codes "more queue-ip-1-w" ∷ codes ".. 2 more" ∷ []
 unfolding digits
 as_it_is_drawn = refl
 

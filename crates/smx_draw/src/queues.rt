@@ -120,7 +120,7 @@ fn is_same(one: Side, other: Side) -> bool
     one == other
 }
 
-// Returns the water marks of the driver with this name, or 0 and 0 if there is none.
+// Returns the water marks of the driver with this name, or 0 and 0 if there is no such driver.
 fn marks_of(drivers: &[DriverSpec], name: &Name) -> (u32, u32)
     ensures high { result.0 ≡ option_map_or (λ d. d.high) (driver_named drivers.now name.now) 0 }
     ensures low { result.1 ≡ option_map_or (λ d. d.low) (driver_named drivers.now name.now) 0 }

@@ -129,8 +129,8 @@ impl Plan {
         }
     }
 
-    /// Adds the names of the streams, after all other rows. A stream without a row is closed. Fails only if it is out of
-    /// memory.
+    /// Adds the names of the streams, after all other rows. A stream without a row is closed. Fails only if it is out
+    /// of memory.
     pub fn add_names(&mut self) -> Result<(), NoMemory> {
         for block in self.blocks.iter_mut() {
             if let Some(minor) = block.seat.minor() {

@@ -18,9 +18,10 @@ pub enum Row {
     More,
 }
 
-/// The number of kinds, and how far a kind of the read queue comes after that of the write queue.
+/// The number of kinds.
 pub const ROWS: usize = 14;
 
+// A kind of row of the read queue comes this many kinds after the same kind of the write queue.
 const READ: usize = 4;
 
 /// A row of a driver, or of one of its streams.

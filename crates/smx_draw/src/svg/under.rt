@@ -68,7 +68,8 @@ impl Drawn for LinkLine {
         ];
         put(
             out,
-            b"<g class=\"way @1 link-@0\"><title>link @0 @1 by @2 @3</title><path class=\"halo\" d=\"M@4 @5V@6H@7V@8H@9\"/>\
+            b"<g class=\"way @1 link-@0\"><title>link @0 @1 by @2 @3</title>\
+                <path class=\"halo\" d=\"M@4 @5V@6H@7V@8H@9\"/>\
                 <path d=\"M@4 @5V@6H@7V@8H@9\"/></g>\n",
             &values,
         )
@@ -136,7 +137,8 @@ fn put_gauge(out: &mut Vec<u8>, at: Area, bytes: u32, high: u32, low: u32) -> Re
     ];
     put(
         out,
-        b"<svg class=\"gauge\" x=\"@0\" y=\"@1\" width=\"@2\" height=\"14\" viewBox=\"0 0 @4 14\" preserveAspectRatio=\"none\">\
+        b"<svg class=\"gauge\" x=\"@0\" y=\"@1\" width=\"@2\" height=\"14\" \
+            viewBox=\"0 0 @4 14\" preserveAspectRatio=\"none\">\
             <path class=\"bytes\" d=\"M0 0H@3V14H0Z\"/><path class=\"low\" d=\"M0 12H@5V14H0Z\"/></svg>\n",
         &values,
     )

@@ -7,8 +7,8 @@ use crate::svg::seat::Row;
 use std::num::Saturating;
 
 impl Plan {
-    /// Gives each link its way, after all blocks are placed. Links that begin below a column do so in the order of their
-    /// ends, and the longest one of a layer is uppermost, so few of them cross.
+    /// Gives each link its way, after all blocks are placed. Links that begin below a column do so in the order of
+    /// their ends, and the longest one of a layer is uppermost, so few of them cross.
     pub fn route(&mut self) {
         for at in 0..self.ways.len() {
             self.end_way(at);

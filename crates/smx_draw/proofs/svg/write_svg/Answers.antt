@@ -21,7 +21,8 @@ returns c =
       behind_under = c.put_under.new.out.items;
       behind_rows = c.put_view.new.out.items;
       under =
-          subst (λ (t : List ℕ). DrawsUnder drivers view (queue_rows drivers view.msgs) t c.put_under.new.out.items) head
+          subst (λ (t : List ℕ). DrawsUnder drivers view (queue_rows drivers view.msgs) t
+          c.put_under.new.out.items) head
           (subst (λ (qs : List QueueRow). DrawsUnder drivers view qs c.put_head.new.out.items c.put_under.new.out.items)
           (c.as_slice-3.ensures.value ∙ queues) c.in_ok-put_under.ensures);
       rows =
