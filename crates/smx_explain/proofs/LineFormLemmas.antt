@@ -26,7 +26,8 @@ use Rattle.smx_text.specs.TranscriptText as transcript
 use Rattle.smx_explain.specs.Columns.{IsLine, first_choice}
 use Rattle.smx_explain.specs.Rows.{IsRow, programs_lines, transcript_lines}
 use Rattle.smx_explain.specs.declared.kinds.Choice.{Choice}
-use Rattle.smx_explain.specs.declared.kinds.Choice.TheVariants.{ProgramsLine, TranscriptLine, Command, Equals, Reply, End}
+use Rattle.smx_explain.specs.declared.kinds.Choice.TheVariants.{ProgramsLine, TranscriptLine, Command, Equals, Reply}
+use Rattle.smx_explain.specs.declared.kinds.Choice.TheVariants.{End}
 use Rattle.smx_explain.specs.declared.kinds.LineKind.{LineKind}
 use Rattle.smx_explain.specs.declared.kinds.LineKind.TheVariants.{Programs, Transcript, Session}
 use Rattle.smx_explain.specs.declared.kinds.Value.{Value}

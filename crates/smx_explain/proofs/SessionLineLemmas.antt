@@ -104,7 +104,7 @@ module _ (version : Version) (expected : Wanted) (word : List ℕ) (at : LineCol
       let not_any = subst (λ (e : Wanted). IsWithoutHint e version word) is without in
       absurd (cc (not_any refl, capitals))
 
-  -- nor is one that stands for a fixed word
+  -- a misspelt fixed word is not without a hint
   verb_told : (choice : Choice) (verb : List ℕ) → expected ≡ wanted.Choice choice
       → meant version choice word ≡ Some verb → IsWithoutHint expected version word → ⊥
   verb_told choice verb is means without =

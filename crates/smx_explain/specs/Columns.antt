@@ -55,7 +55,7 @@ spaced words = flat_map (λ word. word ++ SPACE ∷ []) words
 abbrev pub AreParts : List ℕ → List (List ℕ) → Type 0
 AreParts line parts = AllByRecursion (IsFree SPACE) parts × (line ++ SPACE ∷ [] ≡ spaced parts)
 
--- the first of some parts, which is empty if there is none
+-- the first of some parts, or an empty part if there are no parts
 abbrev pub first_of : List (List ℕ) → List ℕ
 first_of [] = []
 first_of (part ∷ parts) = part

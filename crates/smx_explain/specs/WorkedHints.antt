@@ -5,7 +5,8 @@ use Rattle.smx_explain.specs.Hints.{is_capital_hex, is_near, meant}
 use Rattle.smx_explain.specs.ColumnWords.{explanation_text}
 use Rattle.smx_explain.specs.WorkedColumns.{choice_at, value_at}
 use Rattle.smx_explain.specs.declared.hints.Hint.TheVariants.{LaterVersion, SmallLetters}
-use Rattle.smx_explain.specs.declared.kinds.Choice.TheVariants.{ProgramsLine, Command, Equals, Reply, SessionLine, Switch, End}
+use Rattle.smx_explain.specs.declared.kinds.Choice.TheVariants.{ProgramsLine, Command, Equals, Reply, SessionLine}
+use Rattle.smx_explain.specs.declared.kinds.Choice.TheVariants.{Switch, End}
 use Rattle.smx_explain.specs.declared.kinds.Value.TheVariants.{Bytes}
 use Rattle.std.specs.Fmt.{digits}
 
@@ -53,7 +54,7 @@ of_one_letter = refl
 pub no_word : meant V1 Equals [] ≡ None
 no_word = refl
 
--- another sign may stand for the one between a command and its reply
+-- a colon in place of the equals sign between a command and its reply is a misspelt equals sign
 pub sign_meant : meant V1 Equals (codes ":") ≡ Some (codes "=")
 sign_meant = refl
 

@@ -1,4 +1,4 @@
-//! The fixed word that a misspelt word may stand for.
+//! The fixed word that was probably meant by a misspelt word.
 
 ghost use Rattle.std.specs.Prelude.{◌≡◌, ◌⊎◌, MatchBool, MatchOption, None, Some};
 ghost use Rattle.smx_explain.specs.Hints.{are_exchanged, first_near, is_near, meant};
