@@ -136,7 +136,7 @@ opens_by_2 =
       version = refl;
     }
 
--- the process of the last entry, or 64 if there is none
+-- the process of the last entry, or 64 if there is no entry
 abbrev process_of : Option Entry → ℕ
 process_of (Some e) = e.process
 process_of None = 64
