@@ -16,7 +16,7 @@ none_left input read left had whole =
     nil_from_length left (omega (arith, length-append read left, ap (length {A = ℕ}) (sym had ∙ whole)))
 
 module _ {V K T : Type 0} (f : Filter V K T) (input left output : List ℕ) (ended flushed : Bool) where
-  -- no device fails
+  -- neither the reader nor the writer fails
   abbrev Filtered : Result T MainFault → Type 0
   Filtered answer = FiltersText f (Some input) (Some left) ended 0 (Some []) (Some output) flushed 0 answer
 

@@ -91,7 +91,11 @@ gives told first at bytes input same t part read is enough text written =
         record {
           replay = h.replay;
           replays = h.replays;
-          written = record { allowed = told (asked_part at t) h.replay allowed h.replays h.spellable; text = h.written };
+          written =
+              record {
+                allowed = told (asked_part at t) h.replay allowed h.replays h.spellable;
+                text = h.written;
+              };
         },
       ),
     )

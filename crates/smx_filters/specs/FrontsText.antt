@@ -1,4 +1,4 @@
--- The fronts text: how far the history was when the program of each process had ended.
+-- The fronts text: for each process, the numbers of entries and links that were seen after its program had ended.
 use Rattle.std.specs.Prelude.{ℕ, ◌+◌, List, [], ◌∷◌, ◌++◌, codes}
 use Rattle.std.specs.Fmt.{decimal}
 use Rattle.smx_words.specs.Words.{LINE_FEED, SPACE}

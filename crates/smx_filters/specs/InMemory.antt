@@ -1,4 +1,4 @@
--- The results of a filter for an input in memory, and if a device fails.
+-- The results of a filter for an input in memory, and if the reader or the writer fails.
 use Rattle.std.specs.Prelude.{◌≡◌, ℕ, ◌+◌, ◌<◌, ◌≤◌, ◌⊎◌, Bool, true, false, List, [], length, take, drop, Result, Ok}
 use Rattle.std.specs.Prelude.{Err}
 use Rattle.smx_run.specs.declared.run_fault.RunFault.TheVariants as run
@@ -8,8 +8,8 @@ use Rattle.smx_filters.specs.declared.main_fault.MainFault.TheVariants.{Refused,
 use Rattle.smx_filters.specs.declared.input.TheConstants.{MAX_INPUT}
 
 module _ {V K T : Type 0} (f : Filter V K T) where
-  -- If no device fails: the input, what is left of it, whether its end was seen, what was written, and whether that
-  -- is flushed.
+  -- If neither the reader nor the writer fails. The arguments are the input, the bytes of it that are left, whether
+  -- its end was seen, the bytes that were written, and whether they are flushed.
   abbrev pub EndsInMemory : List ℕ → List ℕ → Bool → List ℕ → Bool → Result T MainFault → Type 0
   EndsInMemory input left ended output flushed (Ok answer) =
       (length input ≤ MAX_INPUT) × (left ≡ []) × (ended ≡ true) × (flushed ≡ true) × GivesFor f input answer output

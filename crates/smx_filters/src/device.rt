@@ -5,7 +5,7 @@ ghost use Rattle.std.specs.Io.KnownBytes.{Keeps, ReadConsumes, WriteAppends};
 
 use std::io::{Read, Write};
 
-/// The device failed.
+/// The reader or the writer failed.
 #[derive(Clone, Copy, Debug, PartialEq, Eq)]
 pub struct Failed;
 
@@ -21,7 +21,7 @@ pub trait Feed {
     ghost failures: { Self → ℕ };
 
     /// Reads into the beginning of the buffer, which must not be empty, and returns the number of bytes: 0 only at
-    /// the end. Fails only if the device failed; it then gave no bytes.
+    /// the end. Fails only if the reader failed; it then gave no bytes.
     fn read(&mut self, buffer: &mut [u8]) -> Result<usize, Failed>
         requires room { 0 < length buffer.old }
         requires before_the_end { ended self.old ≡ false }
@@ -45,7 +45,7 @@ pub trait Sink {
     /// How many writes and flushes have failed. A write that takes none of its bytes has failed.
     ghost failures: { Self → ℕ };
 
-    /// Writes the beginning of some bytes and returns how many it wrote, at least one. Fails only if the device
+    /// Writes the beginning of some bytes and returns how many it wrote, at least one. Fails only if the writer
     /// failed or took no byte; nothing was written then.
     fn write(&mut self, bytes: &[u8]) -> Result<usize, Failed>
         requires some { 0 < length bytes.now }
@@ -56,7 +56,7 @@ pub trait Sink {
         ensures fine { OnOk result (failures self.new ≡ 0) }
         ensures failed { OnErr result (failures self.new ≡ 1) };
 
-    /// Sends out what was written. Fails only if the device failed.
+    /// Sends out the bytes that were written. Fails only if the writer failed.
     fn flush(&mut self) -> Result<(), Failed>
         requires { failures self.old ≡ 0 }
         ensures bytes { Keeps (contents self.old) (contents self.new) }

@@ -28,9 +28,9 @@ pub fn an_explained_check_is_a_check()
     a_legal_transcript_needs_none();
 }
 
-/// For an input in memory, and devices that don't fail, the results are those of the filter. If the text is
-/// malformed or its drivers are refused, the whole input is kept. On any other fault, such as out-of-memory, nothing is
-/// kept.
+/// For an input in memory, and if neither the reader nor the writer fails, the results are those of the filter. If the
+/// text is malformed or its drivers are refused, the whole input is kept. On any other fault, such as out-of-memory,
+/// nothing is kept.
 pub fn faults_are_explained_in_memory()
     ensures check { (input left output : List ℕ) (ended flushed : Bool) (answer : Result Verdict AnyRefusal)
         → KeepsText explaining (Some input) (Some left) ended 0 (Some []) (Some output) flushed 0 answer

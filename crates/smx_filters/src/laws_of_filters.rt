@@ -1,4 +1,5 @@
-//! Laws of runs, checks, replays, traces, drawings and pages over memory, each the contract of a function that does nothing.
+//! Laws of runs, checks, replays, traces, drawings and pages over memory, each the contract of a function that does
+//! nothing.
 
 ghost use Rattle.std.specs.Prelude.{◌≡◌, ℕ, Bool, true, false, List, [], Option, Result, Some, Err};
 ghost use Rattle.smx_types.specs.ProgramLists.{ProgramLists};
@@ -14,9 +15,9 @@ ghost use Rattle.smx_filters.specs.TraceText.{TracesText, tracing};
 ghost use Rattle.smx_filters.specs.declared.main_fault.MainFault.{MainFault};
 ghost use Rattle.smx_filters.specs.declared.main_fault.MainFault.TheVariants.{ReadFailed};
 
-/// The results of a run for an input in memory, if no device fails. If the reader fails, the run reports that and
-/// writes nothing; if the writer fails, the run has seen the end of the input, and has written a beginning of its
-/// output.
+/// The results of a run for an input in memory, if neither the reader nor the writer fails. If the reader fails, the
+/// run reports that and writes nothing; if the writer fails, the run has seen the end of the input, and has written a
+/// beginning of its output.
 pub fn runs_end_in_memory()
     ensures ends { (input left output : List ℕ) (workers : ℕ) (fronts ended flushed : Bool)
         (answer : Result (Unit {0}) MainFault)

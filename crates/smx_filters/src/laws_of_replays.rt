@@ -19,9 +19,11 @@ pub fn a_legal_transcript_is_given_back()
     replays_are_the_legal_transcripts();
 }
 
-/// A check judges the output of a replay, of all entries or of the first, legal, and each input has only one such output.
+/// A check judges the output of a replay, of all entries or of the first, legal, and each input has only one such
+/// output.
 pub fn a_replay_is_one_legal_transcript()
-    ensures legal { (at : Option ℕ) (input output : List ℕ) (done : Unit {0}) → GivesFor (replaying at) input done output
+    ensures legal { (at : Option ℕ) (input output : List ℕ) (done : Unit {0})
+        → GivesFor (replaying at) input done output
         → (line : List ℕ) × GivesFor checking output Legal line }
     ensures one { (at : Option ℕ) (input one other : List ℕ) (done : Unit {0}) → GivesFor (replaying at) input done one
         → GivesFor (replaying at) input done other → one ≡ other }
