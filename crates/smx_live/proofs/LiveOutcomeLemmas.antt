@@ -1,4 +1,4 @@
--- How a live session ends, by how far it had gone.
+-- How a live session ends, after each stage at which it can end.
 use Rattle.std.proofs.Common.{◌≡◌, ℕ, ◌+◌, ◌^◌, ◌≤◌, Bool, true, List, [], ◌++◌, length, take, Option, Some}
 use Rattle.std.proofs.Common.{None, Result, Ok, Err, refl, sym, subst, ◌∙◌, append_assoc, arith, inl, inr}
 use Rattle.std.proofs.KnownBytes.{Appends-trans, Consumes-trans}
@@ -63,7 +63,7 @@ module _ {explain : Bool} {read output : List ℕ} {start : ℕ} {had left befor
     outcome = ((fed, fine), all, subst (IsOver explain (read ++ g.more) ended) (append_assoc output g.said text) o);
   }
 
-  -- a session that is out of memory fails with that fault
+  -- a session that is out of memory fails with `NoMemory`
   wanting : (now : Option (List ℕ)) (f : RunFault) → writes ≡ 0 → f ≡ NoMemory → Keeps after now
       → Converses explain read output had left ended reads before now flushed writes (Err (Refused f))
   wanting now f fine is p = record {

@@ -53,7 +53,8 @@ TakesCutLine table held now (Err WriteFailed) = ⊥
 -- memory ran out: for the line `end`, if the last line is whole, or in any way that can occur when a session
 -- starts.
 abbrev pub Begins : List ℕ → Result Talk MainFault → Type 0
-Begins table (Ok talk) = IsStartOf (table_text table) talk.session × (talk.progress ≡ record { entries = 0; tracing = false })
+Begins table (Ok talk) = IsStartOf (table_text table) talk.session
+    × (talk.progress ≡ record { entries = 0; tracing = false })
 Begins table (Err (Text fault)) =
     ReadsAny programs_grammar (table_text table) (Err fault) × (fault.cause ≢ cause.NoMemory)
 Begins table (Err (Refused fault)) = ((fault ≡ NoMemory)

@@ -1,5 +1,6 @@
 -- The input and the output of a live session.
-use Rattle.std.specs.Prelude.{◌≡◌, ◌≢◌, ℕ, ◌+◌, ◌^◌, ◌≤◌, ◌⊎◌, Bool, true, false, List, [], ◌∷◌, ◌++◌, length, map, take}
+use Rattle.std.specs.Prelude.{◌≡◌, ◌≢◌, ℕ, ◌+◌, ◌^◌, ◌≤◌, ◌⊎◌, Bool, true, false, List, [], ◌∷◌, ◌++◌, length, map}
+use Rattle.std.specs.Prelude.{take}
 use Rattle.std.specs.Prelude.{Option, Result, Ok, Err, codes}
 use Rattle.std.specs.Io.KnownBytes.{Consumes, Appends}
 use Rattle.smx_types.specs.ProgramLists.{ProgramLists}
@@ -31,8 +32,8 @@ use Rattle.smx_filters.specs.declared.main_fault.MainFault.TheVariants.{Refused,
 
 -- ---- a session up to now
 
--- A session that has read and written these bytes so far. It has this state, is this far, and holds these bytes. Its
--- input has ended or not, and it explains lines that are not commands, or doesn't.
+-- A session that has read and written these bytes so far. It has this state and this progress, and holds these bytes.
+-- Its input has ended or not, and it explains lines that are not commands, or doesn't.
 pub record IsLive (explain : Bool) (read : List ℕ) (ended : Bool) (output : List ℕ) (s : State) (far : Progress)
     (held : List ℕ) : Type 0 where
   -- It read a driver table, the lines that it answered, and the bytes that it holds.
@@ -132,7 +133,7 @@ IsEndless explain read ended output = ((output ≡ []) × IsEndlessTable read)
     ⊎ ((s : State) × (far : Progress) × (held : List ℕ) × IsLive explain read ended output s far held
     × (IsTooLong held ⊎ (2 ^ 64 ≤ length read + 1)))
 
--- no device has failed
+-- neither the reader nor the writer has failed
 abbrev pub AreFine : ℕ → ℕ → Type 0
 AreFine read_failures write_failures = (read_failures ≡ 0) × (write_failures ≡ 0)
 

@@ -56,7 +56,8 @@ fn show<S: Sink>(
     requires asked { AsksToShow line.now }
     requires sunk { S.failures sink.old ≡ 0 }
     ensures { (explain : Bool) → TakesTurn explain talk.old.session talk.old.progress line.now talk.new.session
-        talk.new.progress (S.contents sink.old) (S.contents sink.new) (S.flushed sink.new) (S.failures sink.new) result }
+        talk.new.progress (S.contents sink.old) (S.contents sink.new) (S.flushed sink.new) (S.failures sink.new)
+        result }
 {
     match shown_with(alloc, &talk.session, b"shown\n") {
         Ok(text) => {
@@ -72,7 +73,8 @@ fn end<S: Sink>(alloc: Global, sink: &mut S, talk: &Talk, line: &[u8]) -> Result
     requires asked { line.now ≡ codes "end" }
     requires sunk { S.failures sink.old ≡ 0 }
     ensures { (explain : Bool) → TakesTurn explain talk.now.session talk.now.progress line.now talk.now.session
-        talk.now.progress (S.contents sink.old) (S.contents sink.new) (S.flushed sink.new) (S.failures sink.new) result }
+        talk.now.progress (S.contents sink.old) (S.contents sink.new) (S.flushed sink.new) (S.failures sink.new)
+        result }
 {
     match shown_with(alloc, &talk.session, b"end\n") {
         Ok(text) => say(sink, text.as_slice(), true),
