@@ -22,9 +22,12 @@ high b lt = (λ is. omega (arith, lt, is), λ is. omega (arith, lt, is))
 
 -- a byte by its name, or by itself if it has none
 of_byte : (b : ℕ) (amp lt gt : Bool) → (b == 60) ≡ lt → (b == 62) ≡ gt
-    → AllByRecursion IsNoTag (if amp then codes "&amp;" else (if lt then codes "&lt;" else (if gt then codes "&gt;" else b ∷ [])))
-of_byte b true lt gt e f =
-    (low 38 (omega arith), (high 97 (omega arith), (high 109 (omega arith), (high 112 (omega arith), (low 59 (omega arith), tt)))))
+    → AllByRecursion IsNoTag
+    (if amp then codes "&amp;" else (if lt then codes "&lt;" else (if gt then codes "&gt;" else b ∷ [])))
+of_byte b true lt gt e f = (
+  low 38 (omega arith),
+  (high 97 (omega arith), (high 109 (omega arith), (high 112 (omega arith), (low 59 (omega arith), tt)))),
+)
 of_byte b false true gt e f =
     (low 38 (omega arith), (high 108 (omega arith), (high 116 (omega arith), (low 59 (omega arith), tt))))
 of_byte b false false true e f =

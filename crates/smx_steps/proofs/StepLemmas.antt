@@ -37,7 +37,7 @@ use Rattle.smx_steps.specs.Steps.{AddsEntry, AddsStep, AddsSteps, step_text}
 use Rattle.smx_steps.specs.declared.frame.TheConstants.{FOOT, HEAD}
 use Rattle.smx_steps.specs.declared.page_fault.PageFault.{PageFault}
 use Rattle.smx_steps.specs.declared.page_fault.PageFault.TheVariants.{Refused, TooLong}
-use Rattle.smx_steps.specs.declared.pages.TheConstants.{MAX_PAGE, MAX_STEPS}
+use Rattle.smx_steps.specs.declared.pages.TheConstants.{MAX_STEPS}
 
 -- ---- steps
 
@@ -63,7 +63,8 @@ behind : (drivers : List DriverSpec) (c : Configuration) (n : ℕ) (es : List En
     → AddsSteps drivers c n es a z → (more : List ℕ) × (z ≡ a ++ more)
 behind drivers c n [] a z h = ([], h ∙ sym (append-nil a))
 behind drivers c n (e ∷ es) a z (middle, one, rest) =
-    let Step : List ℕ = step_text (decimal (suc n)) (trace_lines_text drivers (lines_of_entry true drivers c e)) one.picture in
+    let Step : List ℕ = step_text (decimal (suc n)) (trace_lines_text drivers (lines_of_entry true drivers c e))
+    one.picture in
     let later = behind drivers (step drivers c e.process e.command).0 (suc n) es middle z rest in (
       Step ++ later.0,
       later.1 ∙ ap (λ (t : List ℕ). t ++ later.0) one.written ∙ append_assoc a Step later.0,
@@ -86,9 +87,16 @@ pub step_in_page : (t : Transcript) (output : List ℕ) (page : IsPageOf t outpu
     (more : List Entry) → page.replay.entries ≡ before ++ e ∷ more
     → HasStepOf t.drivers before e output
 step_in_page t output page before e more is =
-    let (front, back, rest, one, then) = step_of t.drivers empty 0 before e more (length before) page.begun page.stepped (omega arith)
-    (subst (λ (es : List Entry). AddsSteps t.drivers empty 0 es page.begun page.stepped) is page.steps) in
-    (front, back, rest ++ FOOT.now, one, page.ends ∙ ap (λ (text : List ℕ). text ++ FOOT.now) then ∙ append_assoc back rest FOOT.now)
+    let (front, back, rest, one, then) = step_of t.drivers empty 0 before e more (length before) page.begun page.stepped
+    (omega arith)
+    (subst (λ (es : List Entry). AddsSteps t.drivers empty 0 es page.begun page.stepped) is page.steps) in (
+      front,
+      back,
+      rest ++ FOOT.now,
+      one,
+      page.ends ∙ ap (λ (text : List ℕ). text ++ FOOT.now) then
+          ∙ append_assoc back rest FOOT.now,
+    )
 
 -- ---- a page that is being written
 
@@ -114,7 +122,8 @@ performs number e m n w lines picture before after traced is drawn wrote = recor
     picture = picture;
     drawn =
         subst (λ (v : ConfigView). IsSvgOf m.drivers v picture)
-        (is ∙ ap (λ (ds : List DriverSpec). view ds n.configuration) traced.drivers ∙ ap (view m.drivers) traced.performed)
+        (is ∙ ap (λ (ds : List DriverSpec). view ds n.configuration) traced.drivers
+        ∙ ap (view m.drivers) traced.performed)
         (subst (λ (ds : List DriverSpec). IsSvgOf ds w picture) traced.drivers drawn);
     written = wrote ∙ ap (λ (ls : List ℕ). before ++ step_text (decimal number) ls picture) traced.written;
   };
@@ -127,9 +136,10 @@ stepped_more : (drivers : List DriverSpec) (begun : List ℕ) (asked : List Entr
 stepped_more drivers begun asked e k m n text new at h performed =
     let c : Configuration = after drivers asked in
     let here : PerformsStep (suc k) e (record { drivers = drivers; configuration = c }) n text new =
-    subst (λ (x : Configuration). PerformsStep (suc k) e (record { drivers = drivers; configuration = x }) n text new) h.now
-    (subst (λ (ds : List DriverSpec). PerformsStep (suc k) e (record { drivers = ds; configuration = m.configuration }) n
-    text new) h.same performed) in
+    subst (λ (x : Configuration). PerformsStep (suc k) e (record { drivers = drivers; configuration = x }) n text new)
+    h.now
+    (subst (λ (ds : List DriverSpec). PerformsStep (suc k) e (record { drivers = ds; configuration = m.configuration })
+    n text new) h.same performed) in
     let led : after drivers (answers drivers asked) ≡ c = led_from drivers empty asked in
     let many : length (answers drivers asked) ≡ length asked = as_many drivers empty asked in
     record {
@@ -139,7 +149,8 @@ stepped_more drivers begun asked e k m n text new at h performed =
           subst (λ (es : List Entry). AddsSteps drivers empty 0 es begun new) (sym (more_from drivers empty asked e))
           (adds_more drivers empty 0 (answers drivers asked) (answered drivers c e) k begun text new
           (omega (arith, at, many)) h.written
-          (subst (λ (x : Configuration). AddsEntry drivers x (suc k) (answered drivers c e) text new) (sym led) here.added));
+          (subst (λ (x : Configuration). AddsEntry drivers x (suc k) (answered drivers c e) text new) (sym led)
+          here.added));
     }
 
 -- in a loop over the entries, the next step is written
@@ -183,7 +194,8 @@ Begins t begun =
 pub whole_page : (t : Transcript) (begun : List ℕ) (m : Machine) (text output : List ℕ) → IsDriverList t.drivers
     → Begins t begun → HasStepped t.drivers begun t.entries m text → output ≡ text ++ FOOT.now → IsPageOf t output
 whole_page t begun m text output can begins h ends = record {
-  replay = transcript_with t.version t.drivers (answers t.drivers t.entries) (view t.drivers (after t.drivers t.entries));
+  replay = transcript_with t.version t.drivers (answers t.drivers t.entries)
+      (view t.drivers (after t.drivers t.entries));
   replays = replayed t (view t.drivers (after t.drivers t.entries)) can refl;
   begun = begun;
   beginning = begins;
@@ -212,13 +224,14 @@ module _ (t : Transcript) (m : Machine) (opening head begun : List ℕ) (can : I
     (added : AddsStep m.drivers (view m.drivers m.configuration) (codes "beginning") opening head begun) where
   begins_page : Begins t begun
   begins_page =
-      subst (λ (h : List ℕ). AddsStep t.drivers (view t.drivers empty) (codes "beginning") (opening_text t.version t.drivers) h begun)
+      subst (λ (h : List ℕ). AddsStep t.drivers (view t.drivers empty) (codes "beginning")
+      (opening_text t.version t.drivers) h begun)
       is_head
       (subst (λ (o : List ℕ). AddsStep t.drivers (view t.drivers empty) (codes "beginning") o head begun)
       (opening_is t.version t.drivers opening begins)
       (subst (λ (c : Configuration). AddsStep t.drivers (view t.drivers c) (codes "beginning") opening head begun) none
-      (subst (λ (ds : List DriverSpec). AddsStep ds (view ds m.configuration) (codes "beginning") opening head begun) same
-      added)))
+      (subst (λ (ds : List DriverSpec). AddsStep ds (view ds m.configuration) (codes "beginning") opening head begun)
+      same added)))
 
   -- the page that is made
   pub page_made : (n : Machine) (es : List Entry) (text output : List ℕ) → es ≡ t.entries

@@ -23,8 +23,8 @@ pub record AddsStep (drivers : List DriverSpec) (v : ConfigView) (name lines bef
   pub drawn : IsSvgOf drivers v picture
   pub written : after ≡ before ++ step_text name lines picture
 
--- The same for an entry that is performed in this configuration. Its name is its number. Its lines are those of a trace:
--- the entry, its changes and all waits. The picture is that of the view after it.
+-- The same for an entry that is performed in this configuration. Its name is its number. Its lines are those of a
+-- trace: the entry, its changes and all waits. The picture is that of the view after it.
 abbrev pub AddsEntry : List DriverSpec → Configuration → ℕ → Entry → List ℕ → List ℕ → Type 0
 AddsEntry drivers c number e before after =
     AddsStep drivers (view drivers (step drivers c e.process e.command).0) (decimal number)

@@ -1,6 +1,6 @@
 //! The page of a transcript, from the transcript that was read to the text of the page.
 
-ghost use Rattle.std.specs.Prelude.{◌≡◌, ℕ, ◌+◌, ◌<◌, ◌≤◌, List, [], codes, length, IfOk, IfErr, OnOk};
+ghost use Rattle.std.specs.Prelude.{ℕ, ◌+◌, ◌<◌, ◌≤◌, List, [], codes, length, IfOk, IfErr, OnOk};
 ghost use Rattle.std.specs.Bool.{OnFalse, OnTrue};
 ghost use Rattle.smx_types.specs.declared.driver.DriverSpec.{DriverSpec as AnyDriver};
 ghost use Rattle.smx_model.specs.Views.{view};
@@ -112,8 +112,8 @@ fn fits(out: &Vec<u8>) -> bool
     out.len() <= MAX_PAGE - FOOT.len()
 }
 
-// Performs the command of the entry with this number, from 1, and appends its step. Returns the view after it. Fails only if
-// out of memory.
+// Performs the command of the entry with this number, from 1, and appends its step. Returns the view after it. Fails
+// only if out of memory.
 fn write_step(
     alloc: Global,
     config: &mut Config,

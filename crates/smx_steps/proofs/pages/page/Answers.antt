@@ -21,11 +21,11 @@ returns-in_err-write_steps-clause-refused c =
     let head : c.put.new.out.items ≡ HEAD.now =
     c.in_ok-put.ensures ∙ ap (λ (out : List ℕ). out ++ HEAD.now) c.new-out.ensures.items in
     refuses_with t c.in_err-write_steps.field-0.0 _ c.from_residual-in_err-write_steps.ensures.1
-    (page_given_up t c.in_ok-config.config c.as_slice-4.result.now c.put.new.out.items c.write_beginning.new.out.items can
-    same config.empty
+    (page_given_up t c.in_ok-config.config c.as_slice-4.result.now c.put.new.out.items
+    c.write_beginning.new.out.items can same config.empty
     (subst (λ (o : List ℕ). BeginsTranscript t.version t.drivers [] o) (sym c.as_slice-4.ensures.value)
-    (subst (λ (ds : List DriverSpec). BeginsTranscript t.version ds [] c.in_ok-opening.opening.items) c.as_slice-3.ensures
-    c.in_ok-opening.ensures))
+    (subst (λ (ds : List DriverSpec). BeginsTranscript t.version ds [] c.in_ok-opening.opening.items)
+    c.as_slice-3.ensures c.in_ok-opening.ensures))
     head c.in_ok-view.ensures.added c.as_slice-5.result.now c.in_err-write_steps.field-0.0 c.as_slice-5.ensures few
     c.in_err-write_steps.ensures.stopped)
 
@@ -50,7 +50,7 @@ returns-clause-written c =
     page_made t c.in_ok-config.config c.as_slice-4.result.now c.put.new.out.items c.write_beginning.new.out.items can
     same config.empty
     (subst (λ (o : List ℕ). BeginsTranscript t.version t.drivers [] o) (sym c.as_slice-4.ensures.value)
-    (subst (λ (ds : List DriverSpec). BeginsTranscript t.version ds [] c.in_ok-opening.opening.items) c.as_slice-3.ensures
-    c.in_ok-opening.ensures))
+    (subst (λ (ds : List DriverSpec). BeginsTranscript t.version ds [] c.in_ok-opening.opening.items)
+    c.as_slice-3.ensures c.in_ok-opening.ensures))
     head c.in_ok-view.ensures.added c.write_steps.new.config c.as_slice-5.result.now c.write_steps.new.out.items
     c.put-2.new.out.items c.as_slice-5.ensures c.in_ok-write_steps.ensures.stepped c.in_ok-put-2.ensures

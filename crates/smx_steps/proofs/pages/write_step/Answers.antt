@@ -23,5 +23,6 @@ returns-clause-performed c =
     (subst (λ (t : List ℕ). TracesEntry true c.args.entry.now c.args.config.now c.trace_entry.new.config t lines)
     c.new-lines.ensures.items c.in_ok-after.ensures.traced)
     c.in_ok-after.ensures.now.is
-    (subst (λ (ds : List DriverSpec). IsSvgOf ds c.in_ok-after.after picture) c.drivers.ensures.value c.in_ok-picture.ensures)
+    (subst (λ (ds : List DriverSpec). IsSvgOf ds c.in_ok-after.after picture) c.drivers.ensures.value
+    c.in_ok-picture.ensures)
     wrote

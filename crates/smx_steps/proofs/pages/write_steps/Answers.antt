@@ -1,4 +1,4 @@
-use Rattle.std.proofs.Common.{◌≡◌, ◌≤◌, List, length, subst, arith}
+use Rattle.std.proofs.Common.{List, subst, arith}
 use Rattle.std.proofs.lemmas.List.{take_all}
 use Rattle.smx_types.specs.declared.command.Entry.{Entry}
 use Rattle.smx_steps.specs.Stepping.{HasStepped}
