@@ -18,10 +18,10 @@ use std::mem::forget;
 const VERSION: &str = "0.1.0";
 
 /// Parses the words of the command line, of which the first is the program's name. They ask for a job by `run`, with
-/// or without `--workers` and `--fronts`; `check`; `replay`, with or without `--at`; `trace`, with or without `--waits`;
-/// `draw`, with or without `--dot` or `--steps`; or `live`. Each also takes `--explain`. Fails with clap's error for any
-/// other words, and for a request for help or the version, such as `commands`. If it is out of memory, the kind of the
-/// error is `OutOfMemory`.
+/// or without `--workers` and `--fronts`; `check`; `replay`, with or without `--at`; `trace`, with or without
+/// `--waits`; `draw`, with or without `--dot` or `--steps`; or `live`. Each also takes `--explain`. Fails with clap's
+/// error for any other words, and for a request for help or the version, such as `commands`. If it is out of memory,
+/// the kind of the error is `OutOfMemory`.
 pub fn job<'a, S: AsStr>(alloc: Global, words: &'a [S]) -> Result<Job, Error>
     ensures { IfOk result CanRun }
 {
@@ -73,8 +73,8 @@ fn workers_of(run: &ArgMatches) -> usize
     }
 }
 
-// Returns what is to be drawn: a page of steps, or a picture in the requested language. clap has already rejected `--dot`
-// with `--steps`.
+// Returns what is to be drawn: a page of steps, or a picture in the requested language. clap has already rejected
+// `--dot` with `--steps`.
 fn drawing_of(draw: &ArgMatches) -> Job
     ensures { CanRun result }
 {
