@@ -45,7 +45,7 @@ verdict_is Legal = inl (refl, refl)
 verdict_is (Illegal entry) = inr (λ is. cc, refl)
 verdict_is ConfigDiffers = inr (λ is. cc, refl)
 
--- a fault has the status 5 if a device failed, and else 1 or 3
+-- a fault has the status 5 if the reader or the writer failed, and else 1 or 3
 fault_is : (e : MainFault) → ((e ≢ ReadFailed) × (e ≢ WriteFailed) × ((status_of e ≡ 1) ⊎ (status_of e ≡ 3)))
     ⊎ (((e ≡ ReadFailed) ⊎ (e ≡ WriteFailed)) × (status_of e ≡ 5))
 fault_is (Refused f) = inl (λ is. cc, λ is. cc, inl refl)
@@ -85,12 +85,12 @@ module _ {V K T : Type 0} (f : Filter V K T) (d : Devices) where
       let out : output ≡ bytes = wrote in
       (flushed, rw (read, out) gives)
 
-  -- if a filter succeeds, no device has failed
+  -- if a filter succeeds, neither the reader nor the writer has failed
   fine : (a : T) → Filtered (Ok a) → (d.read_failures ≡ 1) ⊎ (d.write_failures ≡ 1) → ⊥
   fine a h (inl read) = let told : Ok a ≡ Err ReadFailed = h.read_failed.1 read in absurd cc
   fine a h (inr write) = let told : Ok a ≡ Err WriteFailed = h.write_failed.1 write in absurd cc
 
-  -- a fault has the status 5 exactly if a device failed
+  -- a fault has the status 5 exactly if the reader or the writer failed
   broken : (e : MainFault) → Filtered (Err e) → (n : ℕ) → n ≡ status_of e
       → (n ≡ 5) ↔ ((d.read_failures ≡ 1) ⊎ (d.write_failures ≡ 1))
   broken e h n is = (there, back) where
@@ -267,14 +267,15 @@ of_judging f d n (Ok v) h is = elim (verdict_is v) [
 ]
 of_judging f d n (Err e) h is = of_fault f d e h n is
 
--- if no device has failed, neither has
+-- if neither of the two has failed, there is no failure
 none_failed : (a b : ℕ) → AreFine a b → (a ≡ 1) ⊎ (b ≡ 1) → ⊥
 none_failed a b fine (inl one) = omega (arith, fine.0, one)
 none_failed a b fine (inr one) = omega (arith, fine.1, one)
 
--- a fault of a live session has the status 5 exactly if a device failed
+-- a fault of a live session has the status 5 exactly if the reader or the writer failed
 live_broken : (explain : Bool) (d : Devices) (read output : List ℕ) (e : MainFault)
-    → IsOutcome explain read output d.ended d.flushed d.read_failures d.write_failures (Err e) → (n : ℕ) → n ≡ status_of e
+    → IsOutcome explain read output d.ended d.flushed d.read_failures d.write_failures (Err e) → (n : ℕ)
+    → n ≡ status_of e
     → (n ≡ 5) ↔ ((d.read_failures ≡ 1) ⊎ (d.write_failures ≡ 1))
 live_broken explain d read output (Refused f) h n is =
     (λ five. absurd (omega (arith, is, five)), λ broke. absurd (none_failed _ _ h.0 broke))
@@ -324,7 +325,7 @@ tells (Trace waits explain) d code h = of_writing (tracing waits) d _ h.answer h
 tells (Draw form explain) d code h = of_writing (drawing form) d _ h.answer h.drawn h.status
 tells (Steps explain) d code h = of_writing stepping d _ h.answer h.stepped h.status
 
--- the status is 5 exactly if a device failed
+-- the status is 5 exactly if the reader or the writer failed
 pub failed : (job : Job) (d : Devices) (code : ExitCode) → EndsJob job d code
     → (exit_status code ≡ 5) ↔ ((d.read_failures ≡ 1) ⊎ (d.write_failures ≡ 1))
 failed job d code h = (tells job d code h).failed

@@ -1,4 +1,4 @@
-//! Does a job on two devices, and gives the exit status for the result.
+//! Does a job from a reader to a writer, and gives the exit status for the result.
 
 ghost use Rattle.std.specs.Prelude.{◌≡◌, false, true};
 ghost use Rattle.std.specs.Process.{exit_status};
@@ -23,7 +23,7 @@ use std::sync::Wait;
 use std::thread::Threads;
 
 /// Does the job, reading from `feed` and writing to `sink`. Prints a fault on standard error. Requires that neither
-/// device has failed before and that the feed has not ended.
+/// `feed` nor `sink` has failed before and that the feed has not ended.
 pub fn do_job<R: Threads + Wait + Sync + Eprint, F: Feed, S: Sink>(
     rt: &R,
     alloc: Global,

@@ -51,8 +51,9 @@ pub fn a_status_tells_what_was_done()
         → (d.flushed ≡ true) × (v : Verdict) × (v ≢ Legal) × GivesFor (judging explain) input v output }
 {}
 
-/// The status is 5 exactly if a device failed. The statuses 1 and 3 mean that nothing was written, except by a live
-/// session. No job has the status 2, and no run, replay, trace, drawing, page or live session has the status 4.
+/// The status is 5 exactly if the reader or the writer failed. The statuses 1 and 3 mean that nothing was written,
+/// except by a live session. No job has the status 2, and no run, replay, trace, drawing, page or live session has the
+/// status 4.
 pub fn a_status_tells_what_failed()
     ensures failed { (job : AnyJob) (d : Devices) (code : ExitCode) → EndsJob job d code
         → (exit_status code ≡ 5) ↔ ((d.read_failures ≡ 1) ⊎ (d.write_failures ≡ 1)) }
