@@ -101,7 +101,7 @@ pub extern "C" fn muxsim_session_show(
     code_of(&show(alloc, handle, text, len))
 }
 
-/// Ends a session and frees its memory. Returns 0, or 7 if there is none.
+/// Ends a session and frees its memory. Returns 0, or 7 if the handle holds no session.
 #[unsafe(no_mangle)]
 pub extern "C" fn muxsim_session_close(alloc: Global, handle: &mut Handle) -> i32
     ensures { Answers result (Closes handle.old.value handle.new.value) }
