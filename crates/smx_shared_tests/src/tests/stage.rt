@@ -35,8 +35,8 @@ pub enum Part {
     Opens(u32),
 }
 
-/// The parts of the first few seats and of the others, which are played at the same time, the part of the very first
-/// seat afterwards, and how far they are.
+/// The parts of the first few seats and of the others, which are played at the same time; the part that the very first
+/// seat plays afterwards; and counts of the calls and of the turns that were seen.
 #[derive(Drop)]
 pub struct Stage {
     clone_ip: Command,

@@ -1,6 +1,6 @@
-//! Three seats, each on its own thread. Two look on while the third one holds the turn, and one of them also tries. Then
-//! they meet, and a report of the system that they shared is gathered. And a seat meets one that has called on its own
-//! thread.
+//! Three seats, each on its own thread. Two look on while the third one holds the turn, and one of them also tries.
+//! Then they meet, and a report of the system that they shared is gathered. And a seat meets one that has called on its
+//! own thread.
 
 ghost use Rattle.std.specs.Prelude.{◌≡◌, All};
 

@@ -1,7 +1,7 @@
-//! How a worked history is tested. It is typed in as a transcript. Its entries are legal; its commands get their
-//! replies from `step`, twice from `step_twin`, and from a system; and in the end exactly its view is shown, also by
-//! a copy and by a configuration that is consumed. Calls that ran out of memory are repeated; after such a step the
-//! view is as before. Large values are given to `forget`, because a proof grows where such a value is dropped.
+//! How a worked history is tested. It is typed in as a transcript. Its entries are legal. Its commands get the replies
+//! of its entries from `step`, from a system, and twice from `step_twin`. At its end its view is shown, also by a copy
+//! and by a configuration that is consumed. A call that ran out of memory is repeated; after such a step the view is as
+//! before. Large values are given to `forget`, because dropping one makes the proof longer.
 
 use super::made::{read, system_over, tells_of_want};
 use super::systems::plays;
@@ -18,7 +18,7 @@ fn config_over(rt: &(impl AllocGlobal + Abort), drivers: &[DriverSpec]) -> Confi
     }
 }
 
-// Just that is shown which another configuration shows after these entries.
+// Checks that the configuration shows the same view as another one that has performed these entries.
 fn is_behind(rt: &(impl AllocGlobal + Abort), config: &Config, entries: &[Entry]) {
     let mut other = config_over(rt, config.drivers());
     for entry in entries {
@@ -30,7 +30,7 @@ fn is_behind(rt: &(impl AllocGlobal + Abort), config: &Config, entries: &[Entry]
     forget((other, now, want));
 }
 
-// The reply to the command of an entry behind others.
+// Returns the reply to the command of an entry that comes after these others.
 fn reply_to(
     rt: &(impl AllocGlobal + Abort + Print),
     config: &mut Config,
