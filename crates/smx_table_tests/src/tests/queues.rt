@@ -19,7 +19,8 @@ enum Act {
     Move(usize, usize),
     /// All messages of the place are dropped.
     Clear(usize),
-    /// The place has this many bytes, this mark and messages with these serials, the first of them at its front, also in a copy.
+    /// The place has this many bytes, this mark and messages with these serials, the first of them at its front, also
+    /// in a copy.
     Has(usize, usize, bool, &'static [u32]),
 }
 

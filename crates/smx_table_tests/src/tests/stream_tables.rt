@@ -1,5 +1,6 @@
 //! Tables of streams: calls in a row, each with its answer, and a copy; two streams, looked up, held, hung up and
-//! released; tables at their limits, with 16 descriptors for each of 64 processes, also in a copy, and with 128 drivers.
+//! released; tables at their limits, with 16 descriptors for each of 64 processes, also in a copy, and with 128
+//! drivers.
 
 ghost use Rattle.std.specs.Prelude.{◌<◌};
 
@@ -185,7 +186,7 @@ fn answer_all(rt: &impl Abort, table: &mut Streams, calls: &[Call]) {
     }
 }
 
-// What is then asked of the table, and of its copy.
+// Asks the table and its copy the same questions, and checks the answers.
 fn both_answer(rt: &(impl AllocGlobal + Abort), table: &mut Streams) {
     let calls = [
         Call::Exists(stream(0, 0), true),
