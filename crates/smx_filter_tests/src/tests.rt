@@ -1,4 +1,4 @@
-//! Tests, and the devices of tests.
+//! Tests, and their readers and writers.
 
 mod broken;
 mod devices;

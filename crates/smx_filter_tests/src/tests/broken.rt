@@ -1,5 +1,5 @@
-//! Runs, checks, replays, traces and pages with devices that stop once, at each read and at each write, and would then
-//! go on.
+//! Runs, checks, replays, traces and pages with a reader or a writer that stops once, at each read and at each write,
+//! and would then go on.
 
 use super::devices::{ERRORS, Stop, TWO_ERRORS};
 use super::tasks::{Task, ends_so, outcome};

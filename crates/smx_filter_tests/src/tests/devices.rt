@@ -1,5 +1,5 @@
-//! Devices that move one byte in each call, stop once at a given call, and would then go on; and one that takes
-//! everything at once. They count their calls. `Source` and `Target` make a feed and a sink of them.
+//! A reader and a writer that move one byte in each call, stop once at a given call, and would then go on; and a writer
+//! that takes everything at once. They count their calls. `Source` and `Target` make a feed and a sink of them.
 
 ghost use Rattle.std.specs.Prelude.{◌≡◌, Some, false};
 
@@ -8,7 +8,7 @@ use std::alloc::Global;
 use std::io;
 use std::io::{ErrorKind, Read, Write};
 
-/// The behaviour of a device at the call at which it stops.
+/// The behaviour of a reader or a writer at the call at which it stops.
 #[derive(Clone, Copy)]
 pub enum Stop {
     /// The call returns an error of this kind.

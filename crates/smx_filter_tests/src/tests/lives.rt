@@ -1,4 +1,5 @@
-//! Live sessions byte by byte, and on devices that stop. The expected answers were typed in from the rules.
+//! Live sessions byte by byte, and with a reader or a writer that stops. The expected answers were typed in from the
+//! rules.
 
 use super::devices::{ERRORS, Stop, TWO_ERRORS};
 use super::tasks::{Task, ends_so, outcome};

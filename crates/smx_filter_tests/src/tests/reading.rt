@@ -1,4 +1,4 @@
-//! Tests of reading from devices.
+//! Tests of reading a whole input.
 
 use super::devices::{ERRORS, one_byte_feed};
 use smx_filters::{MAX_INPUT, MainFault, Source, read_all};

@@ -92,7 +92,7 @@ fn perform<R: AllocGlobal + Threads + Wait + Sync, F: Feed, S: Sink>(
     })
 }
 
-/// The result of a task between devices that move one byte in each call.
+/// The result of a task whose reader and writer move one byte in each call.
 #[derive(Drop)]
 pub struct Tried {
     line: InlineText<64>,

@@ -1,5 +1,5 @@
-//! Checks, replays, traces, pages, and runs with fronts. They also pass if any one allocation fails; tests/refused_growths runs them
-//! so. The output is written to the stack, so no allocation is a device's.
+//! Checks, replays, traces, pages, and runs with fronts. They also pass if any one allocation fails;
+//! tests/refused_growths runs them so. The output is written to the stack, so the writer allocates nothing.
 
 ghost use Rattle.std.specs.Prelude.{◌≤◌};
 

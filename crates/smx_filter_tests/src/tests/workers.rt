@@ -158,7 +158,8 @@ impl Gate for Counts {
 const FOUR: &[u8] =
     b"programs 1\ndriver ip mux 4 8 3 16\ndriver eth leaf 2 8 3 16\nprocess 0\nclone ip\nexit\nprocess 1\nclone ip\nexit\nprocess 2\nclone ip\nexit\nprocess 3\nclone ip\nexit\nend\n";
 
-// Checks that a run of them by this number of workers reports eight commands to its gate, and writes a legal transcript.
+// Checks that a run of them by this number of workers reports eight commands to its gate, and writes a legal
+// transcript.
 fn reports_all_eight<R: AllocGlobal + Abort + Threads + Wait + Sync>(
     rt: &R,
     workers: usize,

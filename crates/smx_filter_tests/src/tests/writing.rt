@@ -1,4 +1,4 @@
-//! Tests of writing to devices.
+//! Tests of writing a whole output.
 
 ghost use Rattle.std.specs.Prelude.{◌≤◌};
 
