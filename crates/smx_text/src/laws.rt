@@ -21,7 +21,7 @@ pub fn written_is_read()
         → MatchResult r (λ w. w ≡ v) (λ f. f.cause ≡ NoMemory) }
 {}
 
-/// A text that is read equals the text that is written for the result.
+/// If a text is read as some programs, then it is the text that is written for these programs.
 pub fn read_is_written()
     ensures { (bytes : List ℕ) (v : ProgramLists)
         → ReadsAny programs_grammar bytes (Ok v) → bytes ≡ programs_text v }
@@ -34,7 +34,7 @@ pub fn one_text_has_one_reading()
         → IfErr r (λ f. f.cause ≢ NoMemory) → IfErr s (λ f. f.cause ≢ NoMemory) → r ≡ s }
 {}
 
-/// Any bytes have a reading, so out of memory is never the only possible result.
+/// A reader can return a result other than out of memory for any bytes.
 pub fn each_text_has_a_reading()
     ensures { (bytes : List ℕ) → (r : Result ProgramLists TextFault)
         × ReadsAny programs_grammar bytes r × IfErr r (λ f. f.cause ≢ NoMemory) }
@@ -56,7 +56,7 @@ pub fn transcript_written_is_read()
         → MatchResult r (λ u. u ≡ t) (λ f. f.cause ≡ NoMemory) }
 {}
 
-/// A text that is read equals the text that is written for the result.
+/// If a text is read as a transcript, then it is the text that is written for this transcript.
 pub fn transcript_read_is_written()
     ensures { (bytes : List ℕ) (t : Transcript)
         → ReadsAny transcript_grammar bytes (Ok t) → bytes ≡ transcript_text t }
@@ -80,7 +80,7 @@ pub fn one_transcript_has_one_reading()
         → IfErr r (λ f. f.cause ≢ NoMemory) → IfErr s (λ f. f.cause ≢ NoMemory) → r ≡ s }
 {}
 
-/// Any bytes have a reading, so out of memory is never the only possible result.
+/// A reader can return a result other than out of memory for any bytes.
 pub fn each_transcript_has_a_reading()
     ensures { (bytes : List ℕ) → (r : Result Transcript TextFault)
         × ReadsAny transcript_grammar bytes r × IfErr r (λ f. f.cause ≢ NoMemory) }
