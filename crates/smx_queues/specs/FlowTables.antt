@@ -13,8 +13,8 @@ use Rattle.smx_queues.specs.PlaceLists.{places_of, places_where}
 use Rattle.smx_queues.specs.QueueTable.{Queue}
 use Rattle.smx_queues.specs.Slots.{is_marked, messages_in}
 
--- the drivers, and over them the model's flow and full places; and, beside what calls compare, how many messages can
--- arrive with no memory
+-- the drivers, and the model's flow and full places over them; and the number of messages that can arrive without an
+-- allocation, which comparisons of tables ignore
 pub record FlowLists : Type 0 where
   pub drivers : List DriverSpec
   pub flow : List QueuedMessage
@@ -49,7 +49,7 @@ AreQueuesOf drivers (p ∷ places) (Some q ∷ queues) =
 pub record IsFlow (drivers : List DriverSpec) (all : List (Option Queue)) : Type 0 where
   pub queues : AreQueuesOf drivers (places_of drivers) all
 
--- the drivers with what some queues of their places make
+-- the drivers, and the flow and the full places that these queues of their places make
 abbrev pub lists_of : List DriverSpec → List (Option Queue) → ℕ → FlowLists
 lists_of drivers queues spare = record {
   drivers = drivers;

@@ -2,8 +2,9 @@
 use Rattle.std.specs.Prelude.{◌≡◌, ◌⊎◌, ℕ, suc, ◌+◌, ◌<◌, ◌^◌, ◌==◌, not, List, length, count_by}
 use Rattle.std.specs.Prelude.{slice_index_or, slice_set}
 
--- a count of numbers; and for each of them 0 if it is in no ring, otherwise 1 more than the number whose ring it is in.
--- As many nodes follow, at which the rings begin, each in its own
+-- A count of numbers, and the owners of the nodes. The first nodes are the numbers. The owner is 0 if the number is in no
+-- ring, and otherwise 1 more than the number whose ring it is in. After them comes one node for each ring, at which the
+-- ring begins; it is in that ring.
 pub record RingTable : Type 0 where
   pub count : ℕ
   pub owners : List ℕ
@@ -12,7 +13,7 @@ pub record RingTable : Type 0 where
 abbrev pub at : List ℕ → ℕ → ℕ
 at xs i = slice_index_or xs i 0
 
--- how many nodes are in a ring
+-- the number of nodes that are in a ring
 abbrev pub ring_count : RingTable → ℕ
 ring_count t = count_by (λ n. not (n == 0)) t.owners
 
@@ -24,7 +25,7 @@ linked xs p f h = slice_set (slice_set xs p f) h p
 abbrev pub unlinked : List ℕ → ℕ → ℕ → ℕ → List ℕ
 unlinked xs a b p = slice_set (slice_set xs a b) p p
 
--- each of the first `many` nodes leads by the first list to one that leads back by the second
+-- for each of the first `many` nodes: the first list leads to a node from which the second list leads back
 abbrev pub LeadsBack : ℕ → List ℕ → List ℕ → Type 0
 LeadsBack many xs ys = (i : ℕ) → i < many → (at xs i < many) × (at ys (at xs i) ≡ i)
 

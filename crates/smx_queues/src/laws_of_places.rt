@@ -16,7 +16,7 @@ pub fn numbers_of_an_example()
     ensures none { sides_of 1 0 ≡ [] }
 {}
 
-/// The rows and the places of two drivers, and of none.
+/// The rows and the places of two drivers, and of an empty list of drivers.
 pub fn places_of_an_example()
     ensures rows { rows_of few_and_small ≡ rows }
     ensures places { places_of few_and_small ≡ places }

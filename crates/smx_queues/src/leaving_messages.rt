@@ -11,7 +11,7 @@ use crate::queues::Queues;
 use smx_types::{Message, Place};
 use std::marker::Model;
 
-/// An iterator that moves all messages out of a table that nobody needs any more, in order of place. Contracts see the
+/// An iterator that moves all messages out of a table that is no longer needed, in order of place. Contracts see the
 /// list of those that are left. Takes no memory.
 #[derive(Drop)]
 pub struct LeavingMessages {

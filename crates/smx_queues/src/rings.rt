@@ -30,7 +30,7 @@ impl Model for Rings {
     ghost invariant = { λ r. AreRings r.count r.owners.items r.next.items r.previous.items };
 }
 
-// Puts p between h and f, in one direction: h names p then, and p names f.
+// Puts p between h and f, in one direction: h then names p, and p names f.
 fn link(nodes: &mut Vec<usize>, p: usize, f: usize, h: usize)
     requires p { p < length nodes.old.items }
     requires h { h < length nodes.old.items }
@@ -40,7 +40,7 @@ fn link(nodes: &mut Vec<usize>, p: usize, f: usize, h: usize)
     nodes[h] = p;
 }
 
-// Takes out p, in one direction: a names b then, and p itself.
+// Takes p out from between a and b, in one direction: a then names b, and p names itself.
 fn unlink(nodes: &mut Vec<usize>, a: usize, b: usize, p: usize)
     requires a { a < length nodes.old.items }
     requires p { p < length nodes.old.items }
