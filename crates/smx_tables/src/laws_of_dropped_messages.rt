@@ -87,7 +87,7 @@ pub fn what_a_reply_names()
     ensures nothing_of_one_serial_twice { NamesDropped (second ∷ []) (2 ∷ []) (second ∷ []) (Done (7 ∷ [])) }
 {}
 
-/// A flush empties a place if it is this side of this stream, and the command names the side.
+/// A flush of a stream empties one of its sides only if the command names this side. It empties no other place.
 pub fn what_is_flushed()
     ensures named { is_flushed_at (stream 0) sides.W side.Write (at 0 side.Write) ≡ true }
     ensures named_with_the_other { is_flushed_at (stream 0) sides.RW side.Read (at 0 side.Read) ≡ true }
