@@ -12,14 +12,14 @@ machine_of c = c.tables
 
 -- what holds of the fields between any two calls
 pub record ConfigInvariant (c : Inside) : Type 0 where
-  -- the configuration is what commands leave
+  -- the configuration has the properties that every command keeps
   pub kept : IsKept c.tables.drivers c.tables.configuration
   -- each full place has messages, so a command that drops none frees no place
   pub filled : HaveFullPlacesMessages c.tables.configuration
-  -- if a place has no run mark, and its first message has a next place, it waits for that place, which is full and
-  -- wanted
+  -- if a place has no run mark, and its first message has a next place, then the place waits for that next place, which
+  -- is full and wanted
   pub marks : AreMarks c.tables.drivers c.tables.configuration c.marks
   -- the hops of this age lead where messages go next
   pub hops : AreHops c.tables.drivers c.tables.configuration c.hops
-  -- none has a run mark
+  -- no place has a run mark
   pub none : HasNoBit c.marks.run

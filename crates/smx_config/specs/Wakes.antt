@@ -34,7 +34,7 @@ turned_under c (wakes.TurnsReads driver addr) = asks_up c driver addr
 turned_under c (wakes.Empties s) = nowhere
 turned_under c wakes.Frees = nowhere
 
--- it is done, and no message was dropped
+-- the reply is `Done`, and names no dropped message
 abbrev pub drops_none : Reply → Bool
 drops_none (reply.Done []) = true
 drops_none (reply.Done (n ∷ ns)) = false
