@@ -24,18 +24,18 @@ pub record HasSeenMore (old new : Known) : Type 0 where
   pub seen : IsBeginningOf old.seen new.seen
   -- That history is within the limit, legal, and lawful after each entry.
   pub sound : IsSoundSystem (seen_by new)
-  -- The entries made here are exactly those that this history has of the process.
+  -- The entries that were made with the seat are exactly the entries of its process in this history.
   pub exact : new.own ≡ entries_of new.process new.seen
 
--- the call added one entry, of the process and the command, and this is it
+-- the call added this one entry, which has the process and the command
 pub record AnswersEntry (old new : Known) (command : Command) (e : Entry) : Type 0 where
   pub call : call_of e ≡ (old.process, command)
   -- It is the last entry that has been seen.
   pub seen : (before : List Entry) × (new.seen ≡ before ++ e ∷ [])
-  -- It was added to the entries made here.
+  -- It was added to the entries that were made with the seat.
   pub own : new.own ≡ old.own ++ e ∷ []
 
--- the call added one such entry, which it does not return
+-- the call added one entry, which has the process and the command, but doesn't return it
 abbrev pub AddsEntry : Known → Command → Known → Type 0
 AddsEntry old command new = (e : Entry) × AnswersEntry old new command e
 
@@ -54,14 +54,14 @@ pub record Rests (old new : Seated) : Type 0 where
   pub shared : new.shared ≡ old.shared
   pub turn : new.turn ≡ false
 
--- the seat has met the other one, and those that the other had met
+-- the seat has met the other seat, and the seats that the other had met
 pub record Meets (old other new : Seated) : Type 0 where
   pub own : new.known.own ≡ old.known.own
   pub met : new.met ≡ met_seat other.known ∷ other.met ++ old.met
-  -- It has seen what they had seen, and what they knew of their processes is true.
+  -- It has seen all that they had seen, and what they knew of their processes is true.
   pub known : AreMetBy (seen_by new.known) new.met
 
--- the front is the one word that was read in this call, and that of the history that has been seen; nothing was added
+-- the call read one word, which is the front of the history that has now been seen; nothing was added
 pub record LooksOnce (old new : Seated) (front : Front) : Type 0 where
   pub looks : new.looks ≡ old.looks + 1
   pub last : new.last ≡ word_of front
@@ -73,14 +73,14 @@ RefusesTry old new (try.Busy front) = LooksOnce old new front × (front.held ≡
 RefusesTry old new try.HistoryFull = Refuses old.known new.known apply.HistoryFull
 RefusesTry old new try.NoMemory = Refuses old.known new.known apply.NoMemory
 
--- the system that comes back continues the one that was shared
+-- the returned system continues the system that was shared
 pub record GoesOnFrom (shared : SharedAs) (s : Recorded) : Type 0 where
   pub drivers : s.drivers ≡ shared.start.drivers
   pub limit : s.limit ≡ shared.start.limit
-  -- Its history goes on by entries of the processes among which it was shared.
+  -- Each later entry is of a process among which the system was shared.
   pub history : GoesOnNamed shared.processes shared.start.history s.history
 
--- the system that comes back to a caller who knew this and had met these seats, whatever else was done with it
+-- the system that is returned to a caller who knew this and had met these seats, whatever other callers did with it
 pub record EndsAs (old : Known) (met : List MetSeat) (s : Recorded) : Type 0 where
   -- It has the drivers and the limit with which it was shared.
   pub drivers : s.drivers ≡ old.drivers
@@ -88,6 +88,6 @@ pub record EndsAs (old : Known) (met : List MetSeat) (s : Recorded) : Type 0 whe
   -- Its history is within the limit, legal and lawful, and begins with the history that had been seen.
   pub sound : IsSoundSystem s
   pub seen : IsBeginningOf old.seen s.history
-  -- Its entries of the process are exactly those made here, and the same holds for the seats that were met.
+  -- Its entries of the process are exactly those made with the seat. The same holds for each seat that was met.
   pub exact : entries_of old.process s.history ≡ old.own
   pub others : AreMetBy s met

@@ -10,7 +10,7 @@ use Rattle.smx_shared.specs.declared.front.Front.{Front}
 -- the front shows a turn that was never given back
 pub record ShowsHeld (old : Known) (front : Front) : Type 0 where
   pub held : front.held ≡ true
-  -- It is that of a history that begins with the one that had been seen.
+  -- It is the front of a history that begins with the history that had been seen.
   pub history : List Entry
   pub seen : IsBeginningOf old.seen history
   pub numbers : IsFrontOf front old.drivers history

@@ -159,7 +159,7 @@ pub record FoundWord (v w : SeatView) (word : ℕ) : Type 0 where
   pub own : w.own ≡ v.own
   pub front : word ≡ front_of w.drivers w.seen + word % 2
 
--- the word is the front of a history that begins with what a seat has seen, with the turn bit
+-- the word is a front with the turn bit; its history begins with what a seat has seen
 pub record IsWordFrom (v : SeatView) (word : ℕ) : Type 0 where
   pub history : List Entry
   pub seen : IsBeginningOf v.seen history

@@ -61,7 +61,7 @@ pub record Seated : Type 0 where
   -- The seats that it met, and those that they had met.
   pub met : List MetSeat
 
--- a seat that was met, as what it knew
+-- the knowledge of a seat that was met
 abbrev pub met_seat : Known → MetSeat
 met_seat k = record { drivers = k.drivers; limit = k.limit; process = k.process; seen = k.seen; own = k.own }
 
@@ -69,8 +69,8 @@ met_seat k = record { drivers = k.drivers; limit = k.limit; process = k.process;
 pub record IsMetBy (s : Recorded) (m : MetSeat) : Type 0 where
   pub drivers : m.drivers ≡ s.drivers
   pub limit : m.limit ≡ s.limit
-  -- The history begins with what the seat had seen, and its entries of the seat's process are exactly those made
-  -- there.
+  -- The history begins with what the seat had seen. Its entries of the seat's process are exactly those that were made
+  -- with the seat.
   pub seen : IsBeginningOf m.seen s.history
   pub exact : entries_of m.process s.history ≡ m.own
 
@@ -82,7 +82,7 @@ AreMetBy s met = AllByRecursion (IsMetBy s) met
 abbrev pub IsNotMet : ℕ → List MetSeat → Type 0
 IsNotMet process met = AllByRecursion (λ m. m.process ≢ process) met
 
--- of the processes below this number, the only one that was not met is the seat's own
+-- a seat of each process below this number was met, except possibly of the seat's own process
 abbrev pub HasMetAll : ℕ → Known → List MetSeat → Type 0
 HasMetAll processes k met = (p : ℕ) → p < processes → IsNotMet p met → p ≡ k.process
 

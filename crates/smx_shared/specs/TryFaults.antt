@@ -7,7 +7,7 @@ use Rattle.smx_shared.specs.declared.shared_fault.ApplyFault.TheVariants as appl
 use Rattle.smx_shared.specs.declared.try_fault.TryFault.{TryFault}
 use Rattle.smx_shared.specs.declared.try_fault.TryFault.TheVariants as try
 
--- the fault of a call, as that of a try which had the turn
+-- the fault of a try that got the turn, from the fault of its call
 abbrev pub try_fault_of : ApplyFault → TryFault
 try_fault_of apply.HistoryFull = try.HistoryFull
 try_fault_of apply.NoMemory = try.NoMemory

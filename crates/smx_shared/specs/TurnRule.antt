@@ -73,8 +73,8 @@ abbrev pub AreMetApart : List SeatView → Type 0
 AreMetApart views = (i j : ℕ) (v w : SeatView) →
     get_elem? views i ≡ some v → get_elem? views j ≡ some w → IsNamed w → IsNotMet w.process v.met
 
--- what holds of them all, for a system with these drivers, this limit and this history that was shared among
--- `processes` processes
+-- what holds of the words, the slot and all seats, for a system with these drivers, this limit and this history that
+-- was shared among `processes` processes
 pub record TurnRule (drivers : List DriverSpec) (limit : ℕ) (start : List Entry) (processes : ℕ)
     (s : State Slot SeatView) : Type 0 where
   -- There is one history, and each seat has seen a beginning of it. These are the number of names given, the seat
@@ -85,8 +85,8 @@ pub record TurnRule (drivers : List DriverSpec) (limit : ℕ) (start : List Entr
   pub turn : Turn
   -- The history is within the limit, legal, and lawful after each entry.
   pub sound : IsSoundSystem (system_with drivers limit history)
-  -- It continues the history that was shared, by entries of the processes among which it was shared; no others are
-  -- named.
+  -- It continues the history that was shared, by entries of the processes among which it was shared. No seat has the
+  -- name of another process.
   pub begun : GoesOnNamed processes start history
   pub few : names ≤ processes
   -- The first word is the front of the history, plus 1 while the turn is held. The second is the number of names
@@ -98,6 +98,6 @@ pub record TurnRule (drivers : List DriverSpec) (limit : ℕ) (start : List Entr
   pub each : (j : ℕ) (v : SeatView) → get_elem? s.views j ≡ some v → Fits drivers limit history turn names namer j v
   -- While the turn is held, one seat has it.
   pub holder : (j : ℕ) → turn ≡ held j → (v : SeatView) × (get_elem? s.views j ≡ some v) × (v.turn ≡ true)
-  -- Named seats have different processes, and none that a met seat had.
+  -- Named seats have different processes, and no named seat has the process of a met seat.
   pub apart : AreNamedApart s.views
   pub met_apart : AreMetApart s.views

@@ -48,7 +48,7 @@ impl<K: EntrySink> BoxedSystem<K> {
         Box::into_inner(self.system)
     }
 
-    /// `System::apply`.
+    /// Does the work of `System::apply`.
     pub fn apply(&mut self, process: Process, command: &Command) -> Result<Entry, ApplyFault>
         ensures answer { IfOk result (λ e. e ≡ next_entry self.old process command.now) }
         ensures ok { OnOk result (self.new ≡ with_entry self.old process command.now) }
@@ -59,7 +59,7 @@ impl<K: EntrySink> BoxedSystem<K> {
         self.system.apply(process, command)
     }
 
-    /// `System::perform`.
+    /// Does the work of `System::perform`.
     pub fn perform(&mut self, process: Process, command: &mut Command) -> Result<(), ApplyFault>
         ensures ok { OnOk result (self.new ≡ with_entry self.old process command.old) }
         ensures full { IsErrOf result HistoryFull ↔ (length self.old.history ≡ self.old.limit) }

@@ -126,7 +126,7 @@ pub fn look_examples()
         (sits id (knows 1 1 9) 4097 2) (try.Busy (front 1 0 true)) → ⊥ }
 {}
 
-/// A try that isn't busy is refused as a call is.
+/// A try that fails, but not with `Busy`, is refused as a call is.
 pub fn refused_try_examples()
     ensures full { (id : SharedId) → RefusesTry (sits id (knows 1 0 1) 0 0) (sits id (knows 1 1 1) 4096 2)
         try.HistoryFull }
@@ -142,8 +142,8 @@ pub fn refused_try_examples()
         (sits id (knows 0 1 9) 4096 2) try.NoMemory → ⊥ }
 {}
 
-/// A meeting adds no entry. It records the other seat, which has the same limit. What that seat had seen has now been
-/// seen here. The entries of its process are exactly those that were made with it.
+/// A meeting adds no entry. It records the other seat, which has the same limit, and the seats that either had met. The
+/// first seat has now seen all that these had seen. The entries of their processes are exactly those made with them.
 pub fn meeting_examples()
     ensures meets { (id : SharedId) → Meets (sits id (knows 1 0 9) 0 0) (sits id (knows 0 1 9) 4096 1)
         (meets (sits id (knows 1 1 9) 4096 1) (knows 0 1 9)) }
@@ -175,7 +175,7 @@ pub fn meeting_examples()
         (meets (sits id (knows 0 1 9) 4096 1) (knows 1 1 9)) → ⊥ }
 {}
 
-/// A seat has met all others if every process is its own or that of a seat that it met.
+/// A seat has met all others if it met a seat of every process except its own.
 pub fn met_all_examples()
     ensures all { HasMetAll 2 (knows 1 0 9) (met_seat (knows 0 1 9) ∷ []) }
     ensures alone { HasMetAll 1 (knows 0 0 9) [] }
@@ -184,8 +184,8 @@ pub fn met_all_examples()
     ensures not_by_its_own { HasMetAll 2 (knows 0 0 9) (met_seat (knows 0 1 9) ∷ []) → ⊥ }
 {}
 
-/// The system that comes back continues the history that was shared, by entries of its processes. It agrees with what
-/// the seat knew.
+/// The returned system continues the history that was shared, by entries of its processes. It agrees with what the seat
+/// knew.
 pub fn close_examples()
     ensures goes_on { (id : SharedId) → GoesOnFrom (shared_as id (with_first 0 9) 1) (with_first 1 9) }
     ensures not_to_another_limit { (id : SharedId) → GoesOnFrom (shared_as id (with_first 0 9) 1) (with_first 1 8) → ⊥ }
