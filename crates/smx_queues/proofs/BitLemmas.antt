@@ -1,4 +1,4 @@
--- Marks where one word changes, and how many there are.
+-- Marks after a change of one word, and the number of marks.
 use Rattle.std.proofs.Common.{◌≡◌, ◌≢◌, ℕ, zero, suc, ◌+◌, ◌-◌, ◌*◌, ◌/◌, ◌%◌, ◌<◌, ◌≤◌, ◌^◌, Bool, true, false, cond}
 use Rattle.std.proofs.Common.{eqb, ◌&&◌, not, eq-eqb}
 use Rattle.std.proofs.Common.{List, length, set, get_or, refl, sym, ap, ◌∙◌, subst, arith, inl, inr, w64}
@@ -19,17 +19,17 @@ word_below words n below = omega arith
 bit_below : (n : ℕ) → n % 64 < 64
 bit_below n = omega arith
 
--- a number with the same word and the same bit is that number
+-- two numbers with the same word and the same bit are the same
 same_number : (m n : ℕ) → m / 64 ≡ n / 64 → m % 64 ≡ n % 64 → m ≡ n
 same_number m n word bit = omega arith
 
--- where the word of a number is set, its bit is that of the new word
+-- after the word of a number is set, the number is marked if its bit is 1 in the new word
 here_is : (words : List ℕ) (n x : ℕ) → n < 64 * length words
     → bit_of (set words (n / 64) x) n ≡ eqb (bit_at x (n % 64)) 1
 here_is words n x below = ap (λ (w : ℕ). eqb (bit_at w (n % 64)) 1)
     (get_or-set_same words (n / 64) x 0 (word_below words n below))
 
--- where the other bits of that word stay, all other numbers are marked as before
+-- if the other bits of the new word are those of the old one, all other numbers are marked as before
 others_are : (words : List ℕ) (n old x : ℕ) → n < 64 * length words → old ≡ get_or words (n / 64) old
     → ((i : ℕ) → i < 64 → i ≢ n % 64 → bit_at x i ≡ bit_at old i) → (m : ℕ) → m ≢ n
     → bit_of (set words (n / 64) x) m ≡ bit_of words m
@@ -57,7 +57,7 @@ pub set_others : (words : List ℕ) (n old : ℕ) → n < 64 * length words → 
 set_others words n old below read = others_are words n old (bit_or old (1 * 2 ^ (n % 64) % 2 ^ 64)) below read
     (λ i lt other. bit_at_set_other w64 old (n % 64) (bit_below n) i other)
 
--- ---- a mark goes
+-- ---- a mark is cleared
 
 pub clear_here : (words : List ℕ) (n old : ℕ) → n < 64 * length words
     → bit_of (set words (n / 64) (bit_and old (bit_not w64 (1 * 2 ^ (n % 64) % 2 ^ 64)))) n ≡ false
@@ -69,7 +69,7 @@ pub clear_others : (words : List ℕ) (n old : ℕ) → n < 64 * length words �
 clear_others words n old below read = others_are words n old (bit_and old (bit_not w64 (1 * 2 ^ (n % 64) % 2 ^ 64)))
     below read (λ i lt other. bit_at_clear_other w64 old (n % 64) (bit_below n) i lt other)
 
--- where one number has no mark any more, and the others are as before, as many are marked before it
+-- if all other numbers are marked as before, the number of marks before this number is the same
 same_below : (old new : List ℕ) (n k : ℕ) → ((m : ℕ) → m ≢ n → bit_of new m ≡ bit_of old m) → k ≤ n
     → count_below new k ≡ count_below old k
 same_below old new n zero others le = refl
@@ -77,7 +77,7 @@ same_below old new n (suc k) others le =
     ap (λ (c : ℕ). c + cond (bit_of new k) 1 0) (same_below old new n k others (omega arith))
     ∙ ap (λ (b : Bool). count_below old k + cond b 1 0) (others k (λ e. omega (arith, e, le)))
 
--- and one less below each number after it
+-- if the mark of this number was cleared, there are fewer marks before each later number
 less_below : (old new : List ℕ) (n k : ℕ) → ((m : ℕ) → m ≢ n → bit_of new m ≡ bit_of old m)
     → bit_of new n ≡ false → bit_of old n ≡ true → n < k → count_below new k < count_below old k
 less_below old new n zero others gone was lt = absurd (omega (arith, lt))
@@ -94,7 +94,7 @@ less_below old new n (suc k) others gone was lt = elim (cases_eq k n) [
       omega (arith, before, same)
 ]
 
--- so there are fewer marks
+-- if one mark was cleared, there are fewer marks
 pub fewer : (old new : List ℕ) (n : ℕ) → length new ≡ length old → ((m : ℕ) → m ≢ n → bit_of new m ≡ bit_of old m)
     → bit_of new n ≡ false → n < 64 * length old → bit_of old n ≡ true
     → count_below new (64 * length new) < count_below old (64 * length old)
@@ -104,18 +104,19 @@ fewer old new n many others gone below was =
 
 -- ---- the least mark
 
--- in a word without marks no number is marked
+-- no number of a word without marks is marked
 none_in : (words : List ℕ) (m : ℕ) → get_or words (m / 64) 0 ≡ 0 → bit_of words m ≡ false
 none_in words m empty = ap (λ (w : ℕ). eqb (bit_at w (m % 64)) 1) empty
     ∙ ap (λ (b : ℕ). eqb b 1) (bit_at-zero (m % 64))
 
--- a number of no word isn't marked
+-- a number after the last word isn't marked
 pub none_past : (words : List ℕ) (m : ℕ) → length words ≤ m / 64 → bit_of words m ≡ false
 none_past words m past = none_in words m (get_or_past words (m / 64) 0 past)
 
--- ---- what holds of the words after a change
+-- ---- the words after a change
 
--- where one number is marked and the others are as before, what holds of the words holds still
+-- the words stay sound if only one number changed, and the new first word is not after the old one nor after the word
+-- of this number
 pub still_set : (first new_first count : ℕ) (words new : List ℕ) (n : ℕ) → AreBits first count words → n < count
     → length new ≡ length words → ((m : ℕ) → m ≢ n → bit_of new m ≡ bit_of words m) → new_first ≤ first
     → new_first ≤ n / 64 → AreBits new_first count new
@@ -130,7 +131,7 @@ still_set first new_first count words new n h lt many others le low = record {
   ];
 }
 
--- and so where one number is marked no more
+-- the words stay sound if one mark was cleared
 pub still_cleared : (first count : ℕ) (words new : List ℕ) (n : ℕ) → AreBits first count words
     → length new ≡ length words → bit_of new n ≡ false → ((m : ℕ) → m ≢ n → bit_of new m ≡ bit_of words m)
     → AreBits first count new
@@ -148,7 +149,7 @@ still_cleared first count words new n h many gone others = record {
   ];
 }
 
--- a number that was marked is so still, where only this one changed, and is marked now
+-- a number that was marked is still marked if only one number changed, and this one is now marked
 pub still_marked : (words new : List ℕ) (n : ℕ) → bit_of new n ≡ true
     → ((m : ℕ) → m ≢ n → bit_of new m ≡ bit_of words m) → (m : ℕ) → bit_of words m ≡ true → bit_of new m ≡ true
 still_marked words new n here others m was = elim (cases_eq m n) [
@@ -156,17 +157,17 @@ still_marked words new n here others m was = elim (cases_eq m n) [
   | inr other ↦ others m other ∙ was
 ]
 
--- what is true and not false is the same
+-- a test and not false are the test
 and_not : (b : Bool) → (b && not false) ≡ b
 and_not true = refl
 and_not false = refl
 
--- and what is true and not true is false
+-- a test and not true are false
 and_not_true : (b : Bool) → (b && not true) ≡ false
 and_not_true true = refl
 and_not_true false = refl
 
--- where this one is marked no more, the others stay
+-- if one mark was cleared and the others are as before, a number is marked if it was, unless it is this one
 pub all_but_one : (words new : List ℕ) (n : ℕ) → bit_of new n ≡ false
     → ((m : ℕ) → m ≢ n → bit_of new m ≡ bit_of words m) → (m : ℕ) → bit_of new m ≡ (bit_of words m && not (eqb n m))
 all_but_one words new n gone others m = elim (cases_eq m n) [
@@ -180,17 +181,17 @@ all_but_one words new n gone others m = elim (cases_eq m n) [
 
 -- ---- the least mark from a number on
 
--- a number is marked, and none before it from another one on
+-- number `m` is the first marked number from number `n` on
 pub record IsFound (words : List ℕ) (n m : ℕ) : Type 0 where
   pub from : n ≤ m
   pub marked : bit_of words m ≡ true
   pub least : (k : ℕ) → n ≤ k → k < m → bit_of words k ≡ false
 
--- a bit of a word that is shifted is a higher one of the word
+-- a bit of a shifted word is a higher bit of the word
 shifted : (x k i : ℕ) → bit_at (x / 2 ^ k) i ≡ bit_at x (k + i)
 shifted x k i = ap (λ (y : ℕ). y % 2) (shr-shr x k i)
 
--- a number's bit where its word and its bit are known
+-- a number is marked if its bit in its word is 1; the word and the bit are known
 bit_is : (words : List ℕ) (m w x i : ℕ) → m / 64 ≡ w → m % 64 ≡ i → x ≡ get_or words w 0
     → bit_of words m ≡ eqb (bit_at x i) 1
 bit_is words m w x i word bit read = rw (word, bit, ← read) refl
@@ -202,7 +203,7 @@ low_bit x i fits one = elim (cases_lt i 64) [
   | inr le ↦ let zero_bit = bit_at_above x 64 i fits le in absurd (omega (arith, one, zero_bit))
 ]
 
--- the lowest bit of a word from the number's bit on is the least mark
+-- the lowest bit of the number's word, from the number's bit on, is the first mark
 pub found_here : (words : List ℕ) (n x : ℕ) → x ≡ get_or words (n / 64) 0 → x < 2 ^ 64 → 0 < x / 2 ^ (n % 64)
     → x / 2 ^ (n % 64) < 2 ^ 64 → IsFound words n (n + trailing_zeros w64 (x / 2 ^ (n % 64)))
 found_here words n x read fits some fits_too =
@@ -220,7 +221,7 @@ found_here words n x read fits some fits_too =
           (sym (shifted x (n % 64) (k - n)) ∙ z.2 (k - n) (omega (arith, le, lt)));
     }
 
--- where a word has no bits from the number's on, no number of the word is marked from it on
+-- if a word has no bit from the number's bit on, none of its numbers is marked from this number on
 none_here : (words : List ℕ) (n x k : ℕ) → x ≡ get_or words (n / 64) 0 → x / 2 ^ (n % 64) ≡ 0 → n ≤ k
     → k / 64 ≡ n / 64 → bit_of words k ≡ false
 none_here words n x k read empty le word =
@@ -228,7 +229,7 @@ none_here words n x k read empty le word =
     ∙ ap (λ (b : ℕ). eqb b 1) (sym (shifted x (n % 64) (k % 64 - n % 64))
     ∙ (ap (λ (y : ℕ). bit_at y (k % 64 - n % 64)) empty ∙ bit_at-zero (k % 64 - n % 64)))
 
--- so far no number is marked from this one on
+-- if the words up to `next` have no bit from the number's bit on, none of their numbers is marked from this number on
 none_between : (words : List ℕ) (n x next k : ℕ) → x ≡ get_or words (n / 64) 0 → x / 2 ^ (n % 64) ≡ 0
     → ((w : ℕ) → n / 64 + 1 ≤ w → w < next → get_or words w 0 ≡ 0) → n ≤ k → k / 64 < next
     → bit_of words k ≡ false
@@ -237,7 +238,7 @@ none_between words n x next k read empty zeros le lt = elim (cases_eq (k / 64) (
   | inr other ↦ none_in words k (zeros (k / 64) (omega (arith, other, le)) lt)
 ]
 
--- the lowest bit of the next word that has one is the least mark
+-- the lowest bit of the next word with a bit is the first mark
 pub found_later : (words : List ℕ) (n x next y : ℕ) → x ≡ get_or words (n / 64) 0 → x / 2 ^ (n % 64) ≡ 0
     → ((w : ℕ) → n / 64 + 1 ≤ w → w < next → get_or words w 0 ≡ 0) → n / 64 + 1 ≤ next
     → y ≡ get_or words next 0 → 0 < y → y < 2 ^ 64 → IsFound words n (64 * next + trailing_zeros w64 y)
@@ -257,7 +258,7 @@ found_later words n x next y read empty zeros later there some fits =
       ];
     }
 
--- where no later word has a bit, no number is marked from this one on
+-- if no later word has a bit either, no number is marked from this number on
 pub none_later : (words : List ℕ) (n x next : ℕ) → x ≡ get_or words (n / 64) 0 → x / 2 ^ (n % 64) ≡ 0
     → ((w : ℕ) → n / 64 + 1 ≤ w → w < next → get_or words w 0 ≡ 0) → length words ≤ next → (k : ℕ) → n ≤ k
     → bit_of words k ≡ false

@@ -34,7 +34,7 @@ count_in own s p chain q l = elim (cases_Bool chain.there) [
   | inr f ↦ rw f (l.count ∙ ap (λ (ms : List Message). length ms) (l.none_if_gone f))
 ]
 
--- the slot of a chain is marked exactly where the chain is there and full
+-- the slot of a chain is marked exactly if the place of the chain exists and is full
 mark_in : (own : ℕ → ℕ × ℕ) (s : Slab Node) (p : ℕ) (chain : Chain) (q : Queue) → IsQueue own s p chain q
     → (chain.there && chain.full) ≡ is_marked (slot chain q)
 mark_in own s p chain q l = elim (cases_Bool chain.there) [
@@ -42,12 +42,12 @@ mark_in own s p chain q l = elim (cases_Bool chain.there) [
   | inr f ↦ rw f refl
 ]
 
--- a chain has as many nodes as the slot of its number has messages, and its full mark
+-- a chain has as many nodes as the slot of its number has messages, and the same full mark
 pub record IsSlot (view : List (Option Queue)) (p : ℕ) (chain : Chain) : Type 0 where
   pub count : chain.count ≡ length (messages_in (get_or view p None))
   pub mark : (chain.there && chain.full) ≡ is_marked (get_or view p None)
 
--- the chain that was read at a number has as many nodes as the queue there has messages, and its full mark
+-- the chain that was read at a number has as many nodes as the queue there has messages, and the same full mark
 pub slot_at : (s : Slab Node) (chains : List Chain) (sound : IsSound s chains) (view : List (Option Queue))
     → map (slot_of s) chains ≡ view → (p : ℕ) (chain : Chain) → p < length chains → chain ≡ get_or chains p chain
     → IsSlot view p chain
@@ -61,23 +61,23 @@ slot_at s chains sound view is p chain below read =
       mark = rw (e, at) (mark_in _ _ _ _ _ l);
     }
 
--- a slot that has no more than 0 messages has none
+-- a slot whose number of messages is at most 0 has no messages
 pub none_there : (q : Option Queue) → length (messages_in q) ≤ 0 → has_messages q ≡ false
 none_there q le = by (messages_in q) le where
   by : (ms : List Message) → length ms ≤ 0 → nat_lt 0 (length ms) ≡ false
   by [] e = refl
   by (m ∷ ms) e = absurd (omega (arith, e))
 
--- a slot that has more than 0 messages has some
+-- a slot whose number of messages is more than 0 has messages
 pub some_there : (q : Option Queue) → 0 < length (messages_in q) → has_messages q ≡ true
 some_there q lt = by (messages_in q) lt where
   by : (ms : List Message) → 0 < length ms → nat_lt 0 (length ms) ≡ true
   by [] e = absurd (omega (arith, e))
   by (m ∷ ms) e = grind (arith, nat_tests)
 
--- ---- how many there are
+-- ---- the number of messages
 
--- where each chain has as many nodes as its slot has messages, all chains have as many as all slots
+-- if each chain has as many nodes as its slot has messages, all chains together have as many as all slots
 sums_same : (chains : List Chain) (queues : List Queue) → length queues ≡ length chains
     → ((p : ℕ) → p < length chains → (get_or chains p no_chain).count
     ≡ length (messages_in (slot (get_or chains p no_chain) (get_or queues p no_queue))))
@@ -93,7 +93,7 @@ sums_same (c ∷ chains) (q ∷ queues) many each =
     ∙ (ap (λ (n : ℕ). length (messages_in (slot c q)) + n) rest
     ∙ sym (sum_by-cons (λ (x : Option Queue). length (messages_in x)) (slot c q) (slots chains queues))))
 
--- where no number before one passes the test, and that one doesn't, none up to it does
+-- if neither this number nor any before it passes the test, no number up to it does
 pub none_up_to : (passes : Option Queue → Bool) (view : List (Option Queue)) (start p : ℕ)
     → ((k : ℕ) → start ≤ k → k < p → passes (get_or view k None) ≡ false) → passes (get_or view p None) ≡ false
     → (k : ℕ) → start ≤ k → k < p + 1 → passes (get_or view k None) ≡ false
@@ -102,7 +102,7 @@ none_up_to passes view start p before here k le lt = elim (cases_lt k p) [
   | inr more ↦ let e : k ≡ p = omega arith in subst (λ (j : ℕ). passes (get_or view j None) ≡ false) (sym e) here
 ]
 
--- the store has as many nodes as all places have messages
+-- the number of nodes in the store is the number of messages at all places
 pub total_is : (s : Slab Node) (chains : List Chain) (sound : IsSound s chains) (view : List (Option Queue))
     → map (slot_of s) chains ≡ view → slab_len s ≡ message_total view
 total_is s chains sound view is =

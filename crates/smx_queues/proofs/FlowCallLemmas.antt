@@ -26,14 +26,14 @@ use Rattle.smx_queues.proofs.PlaceLemmas.{one_number, place_is}
 use Rattle.smx_queues.proofs.PlacesWhereLemmas.{where_found, where_none}
 use Rattle.smx_queues.proofs.LeftLemmas.{flow_length, many_queues}
 
--- ---- what a number says of its place, in lists as which the tables are seen
+-- ---- what a number says of its place, in the lists that contracts see
 
 -- the number of a place has a queue
 pub place_there : (ds : List DriverSpec) (all : List (Option Queue)) (place : Place) (i : ℕ) → IsFlow ds all
     → slice_get (places_of ds) i ≡ Some place → IsPlace all i
 place_there ds all place i h at = is_place ds (places_of ds) all place i h.queues at
 
--- the queue at a place's number is full exactly where the place is among the full ones
+-- the queue at a place's number is full exactly if the place is one of the full places
 pub mark_is : (ds : List DriverSpec) (all : List (Option Queue)) (n : ℕ) (t : FlowLists) (place : Place) (i : ℕ)
     → IsFlow ds all
     → lists_of ds all n ≡ t → slice_get (places_of ds) i ≡ Some place
@@ -75,27 +75,27 @@ same_drivers : (ds : List DriverSpec) (all : List (Option Queue)) (n : ℕ) (t :
     → t.drivers ≡ ds
 same_drivers ds all n t seen = sym (ap (λ (x : FlowLists). x.drivers) seen)
 
--- a number below the count of places is one below that of the places of the lists
+-- a number below the count of the lists' places is below the count of the drivers' places
 pub number_below : (ds : List DriverSpec) (all : List (Option Queue)) (n : ℕ) (t : FlowLists) (i : ℕ)
     → lists_of ds all n ≡ t → i < length (places_of t.drivers) → i < length (places_of ds)
 number_below ds all n t i seen lt =
     subst (λ (xs : List DriverSpec). i < length (places_of xs)) (same_drivers ds all n t seen) lt
 
--- a place of a number among those of the lists has that number
+-- a place that has a number among the lists' places has the same number among the drivers' places
 pub place_seen : (ds : List DriverSpec) (all : List (Option Queue)) (n : ℕ) (t : FlowLists) (place : Place) (i : ℕ)
     → lists_of ds all n ≡ t → slice_get (places_of t.drivers) i ≡ Some place
     → slice_get (places_of ds) i ≡ Some place
 place_seen ds all n t place i seen at =
     subst (λ (xs : List DriverSpec). slice_get (places_of xs) i ≡ Some place) (same_drivers ds all n t seen) at
 
--- and the other way round
+-- a place that has a number among the drivers' places has the same number among the lists' places
 pub place_shown : (ds : List DriverSpec) (all : List (Option Queue)) (n : ℕ) (t : FlowLists) (place : Place) (i : ℕ)
     → lists_of ds all n ≡ t → slice_get (places_of ds) i ≡ Some place
     → slice_get (places_of t.drivers) i ≡ Some place
 place_shown ds all n t place i seen at =
     subst (λ (xs : List DriverSpec). slice_get (places_of xs) i ≡ Some place) (sym (same_drivers ds all n t seen)) at
 
--- each number below their count is that of a place
+-- each number below the count of places is the number of a place
 pub numbered : (places : List Place) (i : ℕ) → i < length places → (p : Place) × (slice_get places i ≡ Some p)
 numbered [] i lt = absurd (omega arith)
 numbered (x ∷ places) zero lt = (x, refl)
@@ -132,20 +132,20 @@ pub first_is_none : (ds : List DriverSpec) (all : List (Option Queue)) (n : ℕ)
 first_is_none ds all n t place seen none =
     ap (λ (ms : List Message). slice_get ms 0) (queue_is_none ds all n t place seen none) ∙ sym (front_is t.flow place)
 
--- messages have a first one exactly where there are more than 0 of them
+-- a list of messages has a first one exactly if its length is more than 0
 pub some_first : (ms : List Message) (first : Option Message) → slice_get ms 0 ≡ first
     → nat_lt 0 (length ms) ≡ is_some first
 some_first [] first e = ap (λ (o : Option Message). is_some o) e
 some_first (m ∷ ms) first e = grind arith ∙ ap (λ (o : Option Message). is_some o) e
 
--- ---- what the tables are after a call
+-- ---- the tables after a call
 
--- the queues are sound, and are seen as these lists with whatever room there is
+-- the queues are sound, and contracts see them as these lists, with any number of spare nodes
 pub record IsAfter (ds : List DriverSpec) (all : List (Option Queue)) (t : FlowLists) : Type 0 where
   pub sound : IsFlow ds all
   pub is : (n : ℕ) → lists_of ds all n ≡ record t { spare = n }
 
--- queues that are seen as a change of some lists are so with whatever room there is
+-- queues that are seen as a change of some lists are seen so with any number of spare nodes
 after_now : (ds : List DriverSpec) (all new : List (Option Queue)) (n : ℕ) (t : FlowLists)
     (change : FlowLists → FlowLists)
     → lists_of ds all n ≡ t → IsNow ds new (change (lists_of ds all n)) → IsAfter ds new (change t)
@@ -153,7 +153,7 @@ after_now ds all new n t change seen now =
     let here = subst (λ (x : FlowLists). IsNow ds new (change x)) seen now in
     record { sound = now.sound; is = λ m. seen_now ds new (change t) m here }
 
--- where a message arrives at the queue of a place's number, it arrives at the place
+-- if a message arrives at the queue of a place's number, it arrives at the place
 pub put_is : (ds : List DriverSpec) (all new : List (Option Queue)) (n : ℕ) (t : FlowLists) (place : Place) (i : ℕ)
     (m : Message) → IsFlow ds all → lists_of ds all n ≡ t → slice_get (places_of ds) i ≡ Some place
     → new ≡ with_queue all i (with_arrival (queue_at all i) m) → IsAfter ds new (after_arrival t place m)
@@ -161,7 +161,7 @@ put_is ds all new n t place i m h seen at is =
     after_now ds all new n t (λ x. after_arrival x place m) seen
     (rw is (arrived_now ds all n place i m h at))
 
--- where the front leaves the queue of a place's number, the first message leaves the place
+-- if the front leaves the queue of a place's number, the first message leaves the place
 pub take_is : (ds : List DriverSpec) (all new : List (Option Queue)) (n : ℕ) (t : FlowLists) (place : Place) (i : ℕ)
     (m : Message) → IsFlow ds all → lists_of ds all n ≡ t → slice_get (places_of ds) i ≡ Some place
     → slice_get (queue_at all i).messages 0 ≡ Some m → new ≡ with_queue all i (without_front (queue_at all i))
@@ -170,7 +170,7 @@ take_is ds all new n t place i m h seen at first is =
     after_now ds all new n t (λ x. after_leaving x place) seen
     (rw is (left_now ds all n place i m h at first))
 
--- where the front of one number's queue goes to another's, the first message goes from place to place
+-- if the front of one number's queue goes to another number's, the first message goes from place to place
 pub move_is : (ds : List DriverSpec) (all new : List (Option Queue)) (n : ℕ) (t : FlowLists) (from to : Place) (i j : ℕ)
     (m : Message) → IsFlow ds all → lists_of ds all n ≡ t → slice_get (places_of ds) i ≡ Some from
     → slice_get (places_of ds) j ≡ Some to
@@ -181,7 +181,7 @@ move_is ds all new n t from to i j m h seen at there differ first is =
     after_now ds all new n t (λ x. after_arrival (after_leaving x from) to m) seen
     (rw is (moved_now ds all n from to i j m h at there differ first))
 
--- where the queue of a place's number is without_messages, the flow and the full places are without the place
+-- if the queue of a place's number loses its messages and its mark, the lists lose those of the place
 pub drop_is : (ds : List DriverSpec) (all new : List (Option Queue)) (n : ℕ) (t : FlowLists) (place : Place) (i : ℕ)
     → IsFlow ds all → lists_of ds all n ≡ t → slice_get (places_of ds) i ≡ Some place
     → new ≡ with_queue all i (without_messages (queue_at all i)) → IsAfter ds new (without_place t place)
@@ -189,7 +189,7 @@ drop_is ds all new n t place i h seen at is =
     after_now ds all new n t (λ x. without_place x place) seen
     (rw is (emptied_now ds all n place i h at))
 
--- all queues have as many messages as the flow
+-- all queues together have as many messages as the flow
 pub total_is : (ds : List DriverSpec) (all : List (Option Queue)) (n : ℕ) (t : FlowLists) → IsFlow ds all
     → lists_of ds all n ≡ t
     → message_total all ≡ length t.flow
@@ -198,13 +198,13 @@ total_is ds all n t h seen = sym (flow_length (places_of ds) all (many_queues ds
 
 -- ---- a message that leaves, if there is one
 
--- the queues are sound, and where there was a message it left its place as the first
+-- the queues are sound; if there was a message, it left its place as the first one
 pub record IsTaken (ds : List DriverSpec) (all : List (Option Queue)) (n : ℕ) (t : FlowLists) (place : Place)
     (o : Option Message) : Type 0 where
   pub sound : IsFlow ds all
   pub is : OnSome o (lists_of ds all n ≡ record (after_leaving t place) { spare = n })
 
--- the front of a number's queue, if it was taken, has left the place as its first message
+-- the front that was taken from a number's queue, if there was one, has left the place as its first message
 pub taken_by : (ds : List DriverSpec) (old new : QueueTable) (t : FlowLists) (place : Place) (i : ℕ)
     (o : Option Message)
     → IsFlow ds old.queues → lists_of ds old.queues old.spare ≡ t → slice_get (places_of ds) i ≡ Some place
@@ -219,7 +219,7 @@ taken_by ds old new t place i (Some m) h seen at first left none =
 
 -- ---- a place that the drivers don't have
 
--- without a place that the drivers don't have, the lists are as they were
+-- leaving out a place that the drivers don't have changes nothing
 pub drop_none_is : (ds : List DriverSpec) (all : List (Option Queue)) (n : ℕ) (t : FlowLists) (place : Place)
     → IsFlow ds all
     → lists_of ds all n ≡ t → list_any (same_place place) (places_of ds) ≡ false
@@ -230,12 +230,12 @@ drop_none_is ds all n t place h seen none =
 
 -- ---- a message that moves on
 
--- messages of which there is a first one are not none
+-- if a list of messages has a first one, its length is more than 0
 some_there : (ms : List Message) (o : Option Message) → slice_get ms 0 ≡ o → IsSome o → 0 < length ms
 some_there [] o e some = let bad = subst (λ (x : Option Message). IsSome x) (sym e) some in absurd cc
 some_there (m ∷ ms) o e some = omega arith
 
--- where the model has a first message of a place, the queue of the place's number has one
+-- if the model has a first message at a place, the queue of the place's number has a message
 pub some_queued : (ds : List DriverSpec) (all : List (Option Queue)) (n : ℕ) (t : FlowLists) (place : Place) (i : ℕ)
     → IsFlow ds all → lists_of ds all n ≡ t → slice_get (places_of ds) i ≡ Some place
     → IsSome (first_message t.flow place) → 0 < length (queue_at all i).messages
@@ -249,7 +249,7 @@ pub record IsMovedOn (ds : List DriverSpec) (all : List (Option Queue)) (n : ℕ
   pub is : (m : Message) → first_message t.flow from ≡ Some m
       → lists_of ds all n ≡ after_arrival (after_leaving t from) to m
 
--- where the front of one number's queue, this message, has gone to another's, so it has from place to place
+-- if this message, the front of one number's queue, has gone to another's, it has gone from place to place
 moved_at : (ds : List DriverSpec) (old new : QueueTable) (t : FlowLists) (from to : Place) (i j : ℕ) (m : Message)
     → IsFlow ds old.queues → lists_of ds old.queues old.spare ≡ t → slice_get (places_of ds) i ≡ Some from
     → slice_get (places_of ds) j ≡ Some to
@@ -264,7 +264,7 @@ moved_at ds old new t from to i j m h seen at there differ first moved same =
           (same ∙ ap (λ (x : FlowLists). x.spare) seen),
     )
 
--- where the place has a first message, whichever it is, that message has gone from place to place
+-- if the place has a first message, this message has gone from place to place
 moved_some : (ds : List DriverSpec) (old new : QueueTable) (t : FlowLists) (from to : Place) (i j : ℕ)
     (o : Option Message)
     → first_message t.flow from ≡ o → IsSome o → IsFlow ds old.queues → lists_of ds old.queues old.spare ≡ t
@@ -281,7 +281,7 @@ moved_some ds old new t from to i j (Some m) e some h seen at there differ moved
       is = λ x f. (moved_at ds old new t from to i j x h seen at there differ (first ∙ f) (moved x (first ∙ f)) same).1;
     }
 
--- where the front of one number's queue has gone to another's, the first message has gone from place to place
+-- if the front of one number's queue has gone to another's, the first message has gone from place to place
 pub moved_by : (ds : List DriverSpec) (old new : QueueTable) (t : FlowLists) (from to : Place) (i j : ℕ)
     → IsSome (first_message t.flow from) → IsFlow ds old.queues → lists_of ds old.queues old.spare ≡ t
     → slice_get (places_of ds) i ≡ Some from → slice_get (places_of ds) j ≡ Some to → same_place from to ≡ false

@@ -56,12 +56,12 @@ pub found_at : (drivers : List DriverSpec) (queues : List (Option Queue)) (p : P
     (f : IsFound drivers queues p i) → queue_at queues i ≡ f.q
 found_at drivers queues p i f = rw f.slot refl
 
--- the number of a place is that of a queue
+-- the number of a place has a queue
 pub is_place : (drivers : List DriverSpec) (places : List Place) (queues : List (Option Queue)) (p : Place) (i : ℕ)
     → AreQueuesOf drivers places queues → slice_get places i ≡ Some p → IsPlace queues i
 is_place drivers places queues p i h at = let f = found drivers places queues p i h at in rw f.slot refl
 
--- with another queue of the same water marks at one number, the queues are those of the places still
+-- if a queue is replaced by one with the same water marks, there is still a queue for each place
 pub still_queues : (drivers : List DriverSpec) (places : List Place) (queues : List (Option Queue)) (i : ℕ)
     (q new : Queue) → AreQueuesOf drivers places queues → get_or queues i None ≡ Some q
     → new.high ≡ q.high → new.low ≡ q.low → AreQueuesOf drivers places (set queues i (Some new))
@@ -75,7 +75,7 @@ still_queues drivers (r ∷ places) (Some x ∷ queues) zero q new h at high low
 still_queues drivers (r ∷ places) (Some x ∷ queues) (suc i) q new h at high low =
     (h.0, h.1, still_queues drivers places queues i q new h.2 at high low)
 
--- ---- what the tables are after a change, seen as lists
+-- ---- the tables after a change, as lists
 
 -- these queues are seen as these lists
 pub record IsNow (ds : List DriverSpec) (all : List (Option Queue)) (t : FlowLists) : Type 0 where
@@ -84,22 +84,22 @@ pub record IsNow (ds : List DriverSpec) (all : List (Option Queue)) (t : FlowLis
   pub flow : flow_of (places_of ds) all ≡ t.flow
   pub fulls : fulls_of (places_of ds) all ≡ t.fulls
 
--- queues that are seen as these lists make them, with their room
+-- queues that contracts see as these lists make these lists, with their number of spare nodes
 pub seen_now : (ds : List DriverSpec) (all : List (Option Queue)) (t : FlowLists) (n : ℕ) → IsNow ds all t
     → lists_of ds all n ≡ record t { spare = n }
 seen_now ds all t n h = rw (h.flow, h.fulls, h.drivers) refl
 
--- messages of which this is the first are this one and the rest
+-- a list of messages with this first one is this one and the rest
 pub first_is : (ms : List Message) (m : Message) → slice_get ms 0 ≡ Some m → ms ≡ m ∷ drop 1 ms
 first_is [] m e = absurd cc
 first_is (x ∷ ms) m e = ap (λ (y : Message). y ∷ ms) (same_Some x m e)
 
--- the slot of a number that was set has the messages of the queue that was set
+-- the slot of a number whose queue was set has the messages of that queue
 new_slot : (queues : List (Option Queue)) (i : ℕ) (q : Queue) → i < length queues
     → messages_in (get_or (set queues i (Some q)) i None) ≡ q.messages
 new_slot queues i q below = rw (get_or-set_same queues i (Some q) None below) refl
 
--- where a place's number has another queue, the lists are those that it makes
+-- if the queue of a place's number is replaced, the lists are those that the new queue makes
 queue_now : (ds : List DriverSpec) (all : List (Option Queue)) (place : Place) (i : ℕ) (t : FlowLists) → IsFlow ds all
     → slice_get (places_of ds) i ≡ Some place → (f : IsFound ds all place i) (new : Queue) → new.high ≡ f.q.high
     → new.low ≡ f.q.low → ds ≡ t.drivers → flow_of (places_of ds) (set all i (Some new)) ≡ t.flow
@@ -111,7 +111,7 @@ queue_now ds all place i t h at f new high low drivers flow fulls = record {
   fulls = where_set is_marked place (places_of ds) all i (Some new) (places_rise ds) at f.below ∙ fulls;
 }
 
--- where the front left the queue of a place's number, the lists are those without its first message
+-- if the front left the queue of a place's number, the lists have lost the first message of the place
 pub left_now : (ds : List DriverSpec) (all : List (Option Queue)) (n : ℕ) (place : Place) (i : ℕ) (m : Message)
     → IsFlow ds all
     → slice_get (places_of ds) i ≡ Some place → slice_get (queue_at all i).messages 0 ≡ Some m
@@ -134,7 +134,7 @@ left_now ds all n place i m h at first =
           queue_now ds all place i _ h at f (without_front f.q) refl refl refl flow
           (ap (λ (b : Bool). with_mark place b (fulls_of (places_of ds) all)) (rw (mark, ← flow, bytes, ← f.low) refl))
 
--- if a message arrived in the queue of a place's number, the lists are those with it
+-- if a message arrived at the queue of a place's number, the lists have this message too
 pub arrived_now : (ds : List DriverSpec) (all : List (Option Queue)) (n : ℕ) (place : Place) (i : ℕ) (m : Message)
     → IsFlow ds all → slice_get (places_of ds) i ≡ Some place
     → IsNow ds (with_queue all i (with_arrival (queue_at all i) m)) (after_arrival (lists_of ds all n) place m)
@@ -155,7 +155,7 @@ arrived_now ds all n place i m h at =
           queue_now ds all place i _ h at f (with_arrival f.q m) refl refl refl flow
           (ap (λ (b : Bool). with_mark place b (fulls_of (places_of ds) all)) (rw (mark, ← flow, bytes, ← f.high) refl))
 
--- where the queue of a place's number was without_messages, the lists are those without the place
+-- if the queue of a place's number lost its messages and its mark, the lists have lost those of the place
 pub emptied_now : (ds : List DriverSpec) (all : List (Option Queue)) (n : ℕ) (place : Place) (i : ℕ) → IsFlow ds all
     → slice_get (places_of ds) i ≡ Some place
     → IsNow ds (with_queue all i (without_messages (queue_at all i))) (without_place (lists_of ds all n) place)
@@ -171,12 +171,12 @@ emptied_now ds all n place i h at =
 
 -- ---- a message moves on
 
--- where one number's queue is set, each other number has its queue still
+-- if the queue of one number is set, each other number keeps its queue
 other_at : (queues : List (Option Queue)) (i j : ℕ) (q : Queue) → j ≢ i
     → queue_at (set queues i (Some q)) j ≡ queue_at queues j
 other_at queues i j q ne = rw (get_or-set_other queues i j (Some q) None ne) refl
 
--- where a front went from the queue of one number to another's, the lists are those after both
+-- if the front of one number's queue went to another's, the lists have the message moved from place to place
 pub moved_now : (ds : List DriverSpec) (all : List (Option Queue)) (n : ℕ) (from to : Place) (i j : ℕ) (m : Message)
     → IsFlow ds all → slice_get (places_of ds) i ≡ Some from → slice_get (places_of ds) j ≡ Some to
     → same_place from to ≡ false → slice_get (queue_at all i).messages 0 ≡ Some m
@@ -208,7 +208,7 @@ pub open_yet : (drivers : List DriverSpec) (places : List Place) → fulls_of pl
 open_yet drivers [] = refl
 open_yet drivers (p ∷ places) = open_yet drivers places
 
--- new queues are one for each place, with the water marks of its driver
+-- there is one new queue for each place, with the water marks of its driver
 pub queues_yet : (drivers : List DriverSpec) (places : List Place)
     → AreQueuesOf drivers places (new_queues drivers places)
 queues_yet drivers [] = tt
@@ -240,7 +240,7 @@ fulls_without p (r ∷ places) (q ∷ queues) h =
       | inr f ↦ rw f (fulls_without p places queues b.1)
     ]
 
--- queues are seen as the lists without a place that the drivers don't have
+-- leaving out a place that the drivers don't have changes nothing that contracts see
 pub nothing_now : (ds : List DriverSpec) (all : List (Option Queue)) (n : ℕ) (place : Place) → IsFlow ds all
     → list_any (same_place place) (places_of ds) ≡ false → IsNow ds all (without_place (lists_of ds all n) place)
 nothing_now ds all n place h none = record {

@@ -15,13 +15,13 @@ use Rattle.smx_queues.proofs.FlowTableLemmas.{first_is, left_now}
 use Rattle.smx_queues.proofs.LeftLemmas.{flow_skips, skip_rest}
 use Rattle.smx_queues.proofs.StepLemmas.{many, messages_step}
 
--- where no place from a number on has messages, the walk meets none any more
+-- if no place from a number on has messages, the walk reaches no more messages
 pub leaving_ends : (ds : List DriverSpec) (all : List (Option Queue)) (n : ℕ) (now : List QueuedMessage) → IsFlow ds all
     → flow_of (drop n (places_of ds)) (drop n all) ≡ now → IsLeastFrom has_messages all n None → now ≡ []
 leaving_ends ds all n now h seen none =
     sym seen ∙ skip_rest flow_of has_messages None (places_of ds) all n flow_skips refl (many ds all h) none
 
--- from a number on, with another queue there, the flow begins with that queue's messages
+-- if the queue of a number is replaced, the flow from this number on begins with the messages of the new queue
 flow_from : (places : List Place) (queues : List (Option Queue)) (i : ℕ) (place : Place) (q : Queue)
     → slice_get places i ≡ Some place → i < length queues
     → flow_of (drop i places) (drop i (set queues i (Some q)))

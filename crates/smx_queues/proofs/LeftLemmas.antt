@@ -15,12 +15,12 @@ use Rattle.smx_queues.specs.PlaceLists.{places_where}
 use Rattle.smx_queues.specs.QueueTable.{Queue}
 use Rattle.smx_queues.specs.Slots.{IsLeastIn, has_messages, message_total, messages_in}
 
--- a part that shows nothing of what fails the test
+-- a function that shows nothing of the elements that fail the test
 abbrev pub Skips : {X Y : Type 0} → (List Place → List Y → List X) → (Y → Bool) → Type 0
 Skips {X} {Y} shown passes = (p : Place) (places : List Place) (y : Y) (ys : List Y)
     → passes y ≡ false → shown (p ∷ places) (y ∷ ys) ≡ shown places ys
 
--- where nothing passes the test, nothing is shown
+-- if nothing passes the test, nothing is shown
 skip_all : {X Y : Type 0} (shown : List Place → List Y → List X) (passes : Y → Bool) (past : Y)
     (places : List Place) (ys : List Y) → Skips shown passes → shown [] [] ≡ []
     → length ys ≡ length places → ((k : ℕ) → passes (get_or ys k past) ≡ false) → shown places ys ≡ []
@@ -31,7 +31,7 @@ skip_all shown passes past (p ∷ places) (y ∷ ys) skips none many all =
     skips p places y ys (all 0)
     ∙ skip_all shown passes past places ys skips none (omega arith) (λ k. all (suc k))
 
--- where nothing from a number on passes the test, nothing from there on is shown
+-- if nothing from a number on passes the test, nothing from there on is shown
 pub skip_rest : {X Y : Type 0} (shown : List Place → List Y → List X) (passes : Y → Bool) (past : Y)
     (places : List Place) (ys : List Y) (n : ℕ) → Skips shown passes → shown [] [] ≡ []
     → length ys ≡ length places → IsLeastIn past passes ys n None → shown (drop n places) (drop n ys) ≡ []
@@ -43,7 +43,7 @@ skip_rest shown passes past (p ∷ places) [] (suc n) skips none many all = absu
 skip_rest shown passes past (p ∷ places) (y ∷ ys) (suc n) skips none many all =
     skip_rest shown passes past places ys n skips none (omega arith) (λ k le. all (suc k) (omega arith))
 
--- where nothing from one number up to another passes the test, the same is shown from either on
+-- if nothing between two numbers passes the test, the same is shown from either number on
 skip_to : {X Y : Type 0} (shown : List Place → List Y → List X) (passes : Y → Bool) (past : Y)
     (places : List Place) (ys : List Y) (n i : ℕ) → Skips shown passes
     → n ≤ i → i < length places → length ys ≡ length places
@@ -71,7 +71,7 @@ first_left shown past places ys i p below at =
     let there : drop i ys ≡ get_or ys i past ∷ drop (i + 1) ys = drop_more ys i past below in
     ap (λ (ps : List Place). shown ps (drop i ys)) here ∙ ap (shown (p ∷ drop (i + 1) places)) there
 
--- from a number on, the first element that is shown is the first one there that passes the test
+-- the first element that is shown from a number on is the first one there that passes the test
 pub next_shown : {X Y : Type 0} (shown : List Place → List Y → List X) (passes : Y → Bool) (past : Y)
     (places : List Place) (ys : List Y) (n i : ℕ) (p : Place) → Skips shown passes
     → length ys ≡ length places → IsLeastIn past passes ys n (Some i) → slice_get places i ≡ Some p
@@ -80,18 +80,18 @@ next_shown shown passes past places ys n i p skips many least at =
     skip_to shown passes past places ys n i skips least.0 (omega (arith, least.1)) many least.3
     ∙ first_left shown past places ys i p least.1 at
 
--- the places at whose numbers the test passes show nothing of one at which it fails
+-- the list of the places that pass a test shows no place that fails it
 where_skips : {X : Type 0} (passes : X → Bool) → Skips (places_where passes) passes
 where_skips passes p places x xs h = rw h refl
 
--- where nothing from a number on passes the test, none of these places is left there
+-- if nothing from a number on passes the test, no place from there on is in this list
 pub where_end : {X : Type 0} (passes : X → Bool) (past : X) (places : List Place) (xs : List X) (n : ℕ)
     → length xs ≡ length places → IsLeastIn past passes xs n None
     → places_where passes (drop n places) (drop n xs) ≡ []
 where_end passes past places xs n many none =
     skip_rest (places_where passes) passes past places xs n (where_skips passes) refl many none
 
--- from a number on, these places begin with that of the least number there at which the test passes
+-- from a number on, this list begins with the place of the first number there that passes the test
 pub where_next : {X : Type 0} (passes : X → Bool) (past : X) (places : List Place) (xs : List X) (n i : ℕ) (p : Place)
     → length xs ≡ length places → IsLeastIn past passes xs n (Some i) → slice_get places i ≡ Some p
     → places_where passes (drop n places) (drop n xs) ≡ p ∷ places_where passes (drop (i + 1) places) (drop (i + 1) xs)
@@ -100,12 +100,12 @@ where_next passes past places xs n i p many least at =
 
 -- ---- places without messages
 
--- a list of not more than 0 messages is empty
+-- a list whose length is not more than 0 is empty
 none_of : (ms : List Message) → ltb 0 (length ms) ≡ false → ms ≡ []
 none_of [] e = refl
 none_of (m ∷ ms) e = absurd (grind (arith, nat_tests))
 
--- a slot that fails the test for messages has none
+-- a slot that fails the test for messages has no messages
 no_messages : (q : Option Queue) → has_messages q ≡ false → messages_in q ≡ []
 no_messages q h = none_of (messages_in q) h
 
@@ -124,7 +124,7 @@ flow_skips p places q queues h = rw (no_messages q h) refl
 
 -- ---- how many messages there are
 
--- messages that are queued at a place are as many as there were
+-- the messages queued at a place are as many as the messages themselves
 at_length : (p : Place) (ms : List Message) → length (messages_at p ms) ≡ length ms
 at_length p [] = refl
 at_length p (m ∷ ms) = omega (arith, at_length p ms)

@@ -25,7 +25,7 @@ get_right [] ys n k e = ap (slice_get ys) (omega arith)
 get_right (x ∷ xs) ys zero k e = absurd (omega arith)
 get_right (x ∷ xs) ys (suc n) k e = get_right xs ys n k (omega arith)
 
--- within a list, the element at an index is the same if another list is appended
+-- within the first of two lists, the joined list has the same element at each index
 pub left_only : {X : Type 0} (xs ys : List X) (i : ℕ) → i < length xs → slice_get (xs ++ ys) i ≡ slice_get xs i
 left_only [] ys i lt = absurd (omega arith)
 left_only (x ∷ xs) ys zero lt = refl
@@ -37,7 +37,7 @@ get_left xs ys i x at = left_only xs ys i (slice_get_within xs i x at) ∙ at
 
 -- ---- both sides of some minors
 
--- both sides of so many minors are twice as many places
+-- both sides of `n` minors are twice as many places
 pub sides_length : (driver n : ℕ) → length (sides_of driver n) ≡ 2 * n
 sides_length driver zero = refl
 sides_length driver (suc n) = length-append (sides_of driver n)
@@ -67,7 +67,7 @@ sides_at driver (suc n) m s lt = elim (cases_lt m n) [
 abbrev pub IsBelow : ℕ → Place → Type 0
 IsBelow n p = p.stream.driver < n
 
--- both sides of the minors of a driver are of one of the first m drivers where that driver is
+-- both sides of a driver's minors are places of the first `m` drivers, if the driver is one of these
 pub sides_below : (driver n m : ℕ) → driver < m → All (IsBelow m) (sides_of driver n)
 sides_below driver zero m lt = All-nil (IsBelow m)
 sides_below driver (suc n) m lt = All-append (IsBelow m) (sides_of driver n)
@@ -76,24 +76,24 @@ sides_below driver (suc n) m lt = All-append (IsBelow m) (sides_of driver n)
 
 -- ---- two lists that rise, one after the other
 
--- a place that comes before all of two lists comes before all of both together
+-- a place that comes before all places of two lists comes before all of the joined list
 pub before_more : (p : Place) (xs ys : List Place) → ComesBefore place_before p xs → ComesBefore place_before p ys
     → ComesBefore place_before p (xs ++ ys)
 before_more p [] ys h k = k
 before_more p (x ∷ xs) ys h k = (h.0, before_more p xs ys h.1 k)
 
--- each of the first comes before all of the second
+-- each place of the first list comes before all of the second
 abbrev pub AllBefore : List Place → List Place → Type 0
 AllBefore [] ys = Unit {0}
 AllBefore (x ∷ xs) ys = ComesBefore place_before x ys × AllBefore xs ys
 
--- two lists that rise do so together, where each of the first comes before all of the second
+-- if two lists rise, and each place of the first comes before all of the second, the joined list rises
 pub rising_more : (xs ys : List Place) → IsRising place_before xs → IsRising place_before ys → AllBefore xs ys
     → IsRising place_before (xs ++ ys)
 rising_more [] ys h k b = k
 rising_more (x ∷ xs) ys h k b = (before_more x xs ys h.0 b.0, rising_more xs ys h.1 k b.1)
 
--- where each of two lists comes before all of a third, each of both together does
+-- if each place of two lists comes before all of a third, so does each place of the joined list
 all_before_more : (xs zs ys : List Place) → AllBefore xs ys → AllBefore zs ys → AllBefore (xs ++ zs) ys
 all_before_more [] zs ys h k = k
 all_before_more (x ∷ xs) zs ys h k = (h.0, all_before_more xs zs ys h.1 k)
@@ -134,7 +134,7 @@ before_sides p driver (suc n) lt =
 
 -- ---- one driver more
 
--- with one driver more at the end, the places are those before and both sides of each of its minors
+-- one more driver at the end adds both sides of each of its minors to the places
 places_more : (n : ℕ) (ds : List DriverSpec) (d : DriverSpec)
     → places_from n (ds ++ d ∷ []) ≡ places_from n ds ++ sides_of (n + length ds) d.minors
 places_more n [] d = append-nil (sides_of n d.minors) ∙ ap (λ (k : ℕ). sides_of k d.minors) (omega arith)
@@ -142,7 +142,7 @@ places_more n (x ∷ ds) d = ap (λ (ps : List Place). sides_of n x.minors ++ ps
     ∙ (sym (append_assoc (sides_of n x.minors) (places_from (suc n) ds) (sides_of (suc n + length ds) d.minors))
     ∙ ap (λ (k : ℕ). (sides_of n x.minors ++ places_from (suc n) ds) ++ sides_of k d.minors) (omega arith))
 
--- and the rows are those before and one whose first number is that of its first place
+-- one more driver at the end adds its row, with the number of its first place
 rows_more : (first n : ℕ) (ds : List DriverSpec) (d : DriverSpec)
     → rows_from first (ds ++ d ∷ [])
     ≡ rows_from first ds ++ driver_row (first + length (places_from n ds)) d.minors ∷ []
@@ -157,7 +157,7 @@ rows_more first n (x ∷ ds) d =
     ap (λ (rows : List DriverRow). driver_row first x.minors ∷ rows) (rows_more (first + 2 * x.minors) (suc n) ds d
     ∙ ap (λ (k : ℕ). rows_from (first + 2 * x.minors) ds ++ driver_row k d.minors ∷ []) e)
 
--- what the rows and the places are with one driver more
+-- the rows and the places with one more driver
 pub one_driver_more : (ds : List DriverSpec) (rows : List DriverRow) (places : List Place) (d : DriverSpec)
     → ArePlaces ds rows places → ArePlaces (ds ++ d ∷ []) (rows ++ driver_row (length places) d.minors ∷ [])
     (places ++ sides_of (length ds) d.minors)

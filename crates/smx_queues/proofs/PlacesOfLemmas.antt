@@ -89,7 +89,7 @@ before_lower drivers i j p q a b before = elim (cases_lt i j) [
 
 -- ---- the row of a driver
 
--- where no row has its number, there is no such driver
+-- if no row has the number, there is no such driver
 no_row : (first : ℕ) (drivers : List DriverSpec) (k : ℕ) → slice_get (rows_from first drivers) k ≡ None
     → length drivers ≤ k
 no_row first [] k none = omega arith
@@ -225,7 +225,7 @@ number_known drivers i p at =
       subst (λ (k : ℕ). p.stream.minor < minors_of drivers k) e f.1.2,
     )
 
--- a place of a stream that drivers don't have has no number
+-- the place of a stream that the drivers don't have has no number
 unknown_absent : (drivers : List DriverSpec) (p : Place) → (IsKnown drivers p.stream → ⊥)
     → list_any (same_place p) (places_of drivers) ≡ false
 unknown_absent drivers p unknown = elim (cases_Bool (list_any (same_place p) (places_of drivers))) [
@@ -233,7 +233,7 @@ unknown_absent drivers p unknown = elim (cases_Bool (list_any (same_place p) (pl
   | inr f ↦ f
 ]
 
--- where no row has its number, drivers don't have a stream
+-- if no row has the number of its driver, the drivers don't have the stream
 pub no_row_unknown : (drivers : List DriverSpec) (rows : List DriverRow) (places : List Place) (p : Place)
     → ArePlaces drivers rows places → None ≡ slice_get rows p.stream.driver → IsKnown drivers p.stream → ⊥
 no_row_unknown drivers rows places p h none known =
@@ -241,7 +241,7 @@ no_row_unknown drivers rows places p h none known =
     (sym h.rows_are) ∙ sym none) in
     omega (arith, past, known.0)
 
--- where its row has fewer minors, drivers don't have a stream
+-- if the row of its driver has too few minors, the drivers don't have the stream
 pub past_row_unknown : (drivers : List DriverSpec) (rows : List DriverRow) (places : List Place) (p : Place)
     (row : DriverRow) → ArePlaces drivers rows places → Some row ≡ slice_get rows p.stream.driver
     → row.minors ≤ p.stream.minor → IsKnown drivers p.stream → ⊥

@@ -1,4 +1,4 @@
--- Rings that are linked anew where a number comes or goes.
+-- Rings after a number is put into one or taken out.
 use Rattle.std.proofs.Common.{◌≡◌, ◌≢◌, ℕ, suc, ◌+◌, ◌-◌, ◌<◌, List, length, set, get_or, refl, sym, ap, ◌∙◌}
 use Rattle.std.proofs.Common.{subst, arith, inl, inr, cond, eqb, [], ◌∷◌, ◌++◌, add-one, replicate}
 use Rattle.std.specs.Prelude.{◌^◌, ◌==◌, not, count_by, false}
@@ -12,9 +12,9 @@ use Rattle.smx_queues.proofs.RingNodeLemmas.{linked_p, linked_h, linked_other, u
 use Rattle.smx_queues.proofs.RingNodeLemmas.{link_leads, unlink_leads, one_ring, suc_zero, ring_of, alone_back}
 use Rattle.smx_queues.proofs.RingNodeLemmas.{next_differs, previous_differs}
 
--- ---- a number comes into a ring
+-- ---- a number is put into a ring
 
--- the ranks with those of two nodes anew
+-- the ranks, with new ranks for two nodes
 abbrev ranks : (ℕ → ℕ) → ℕ → ℕ → ℕ → ℕ
 ranks rank p h i = cond (eqb i p) (rank h) (cond (eqb i h) (suc (rank h)) (rank i))
 
@@ -27,7 +27,7 @@ rank_h rank p h differ = rw (ne_eqb h p differ, eq-eqb h h refl) refl
 rank_other : (rank : ℕ → ℕ) (p h i : ℕ) → i ≢ p → i ≢ h → ranks rank p h i ≡ rank i
 rank_other rank p h i not_p not_h = rw (ne_eqb i p not_p, ne_eqb i h not_h) refl
 
--- if a number that was in no ring is put after the beginning of one, the rings are linked
+-- if a number that was in no ring is put after the beginning of a ring, the rings are linked
 pub inserted : (count : ℕ) (owners next previous : List ℕ) (p q : ℕ) → AreRings count owners next previous → p < count
     → q < count → at owners p ≡ 0
     → AreRings count (set owners p (suc q)) (linked next p (at next (count + q)) (count + q))
@@ -169,9 +169,9 @@ inserted_now count owners next previous p q head f owners2 next2 previous2 h lt_
     (subst (λ (xs : List ℕ). AreRings count (set owners p (suc q)) (linked next p (at next (count + q)) (count + q)) xs)
     (sym same_previous) (inserted count owners next previous p q h lt_p lt_q none)))
 
--- ---- a number leaves its ring
+-- ---- a number is taken out of its ring
 
--- where a number that was in a ring leaves it, the rings are linked
+-- if a number is taken out of its ring, the rings are linked
 pub removed : (count : ℕ) (owners next previous : List ℕ) (p q : ℕ) → AreRings count owners next previous → p < count
     → at owners p ≡ suc q
     → AreRings count (set owners p 0) (unlinked next (at previous p) (at next p) p)
@@ -270,7 +270,7 @@ removed count owners next previous p q h lt_p own_q = record {
             (sym e) (later.0, own_other (at next i) not_p ∙ later.1, later.2))
       ]
 
--- the same, where its neighbours were read first
+-- the same, if its neighbours were read first
 pub removed_now : (count : ℕ) (owners next previous : List ℕ) (p a b : ℕ) (owners2 next2 previous2 : List ℕ)
     → AreRings count owners next previous → p < count → at owners p ≢ 0 → a ≡ get_or previous p a
     → b ≡ get_or next p b → owners2 ≡ set owners p 0 → next2 ≡ unlinked next a b p
@@ -290,7 +290,7 @@ removed_now count owners next previous p a b owners2 next2 previous2 h lt_p some
 
 -- ---- at first
 
--- so many numbers in no ring, and as many rings without numbers
+-- `count` numbers in no ring, and as many empty rings, are linked rings
 pub at_first : (count : ℕ) (owners next previous : List ℕ) → count < 2 ^ 63 → length owners ≡ count + count
     → length next ≡ count + count → previous ≡ next → ((i : ℕ) → i < count → at owners i ≡ 0)
     → ((q : ℕ) → q < count → at owners (count + q) ≡ suc q) → ((i : ℕ) → i < count + count → at next i ≡ i)
@@ -322,7 +322,7 @@ at_first count owners next previous small many many_next same none begins each =
   twice : (i : ℕ) → i < count + count → at previous (at next i) ≡ i
   twice i lt = ap (at previous) (each i lt) ∙ it i lt
 
--- with the next number at the end, each number is still at its own index
+-- if the next number is added at the end, each number is still at its own index
 pub one_pushed : (old new : List ℕ) (n : ℕ) → new ≡ old ++ n ∷ [] → length old ≡ n
     → ((k : ℕ) → k < n → at old k ≡ k)
     → record { count : length new ≡ n + 1; each : (k : ℕ) → k < n + 1 → at new k ≡ k }
@@ -336,7 +336,7 @@ one_pushed old new n is many each = record {
   ];
 }
 
--- of so many zeros none tells a ring
+-- in `n` zeros no number is in a ring
 pub none_owned : (n : ℕ) (owners : List ℕ) → owners ≡ replicate n 0
     → record {
       count : length owners ≡ n + 0;
@@ -351,7 +351,7 @@ none_owned n owners zeros = record {
   not_less : (r : ℕ) → r < 0 → ⊥
   not_less r lt = omega arith
 
--- one ring more begins in itself
+-- one more ring begins at its own node
 pub one_begins : (n q : ℕ) (old new : List ℕ) → new ≡ old ++ (q + 1) ∷ [] → length old ≡ n + q
     → ((i : ℕ) → i < n → at old i ≡ 0) → ((r : ℕ) → r < q → at old (n + r) ≡ suc r)
     → record {
@@ -377,7 +377,7 @@ one_begins n q old new is many none begins = record {
 counts_one : (n q : ℕ) → n ≡ suc q → cond {A = ℕ} (not (n == 0)) 1 0 ≡ 1
 counts_one n q e = let some : (n == 0) ≡ false = ne_eqb n 0 (λ z. omega (arith, e, z)) in rw some refl
 
--- where a number leaves its ring, fewer are in one
+-- if a number leaves its ring, fewer nodes are in rings
 pub fewer_in : (owners : List ℕ) (p q : ℕ) → at owners p ≡ suc q
     → count_by (λ n. not (n == 0)) (set owners p 0) < count_by (λ n. not (n == 0)) owners
 fewer_in owners p q its = elim (cases_lt p (length owners)) [

@@ -1,4 +1,4 @@
--- The nodes of rings, and lists of nodes that are linked anew.
+-- The nodes of rings, and lists of nodes after two links changed.
 use Rattle.std.proofs.Common.{◌≡◌, ◌≢◌, ℕ, zero, suc, ◌+◌, ◌<◌, List, length, set, get_or, refl, sym, ap, ◌∙◌}
 use Rattle.std.proofs.Common.{subst, arith, inl, inr}
 use Rattle.std.proofs.lemmas.Bool.{cases_eq}
@@ -6,7 +6,7 @@ use Rattle.std.proofs.lemmas.List.{get_or-set_other, get_or-set_same, get_or_def
 use Rattle.std.proofs.lemmas.List.{length-set, set-get_or, set-set}
 use Rattle.smx_queues.specs.Rings.{AreRings, LeadsBack, RingTable, at, linked, unlinked}
 
--- ---- lists of which two elements are set
+-- ---- lists with two links set
 
 -- p leads to f
 pub linked_p : (xs : List ℕ) (p f h : ℕ) → p < length xs → p ≢ h → at (linked xs p f h) p ≡ f
@@ -36,11 +36,11 @@ pub unlinked_other : (xs : List ℕ) (a b p k : ℕ) → k ≢ a → k ≢ p →
 unlinked_other xs a b p k not_a not_p =
     get_or-set_other (set xs a b) p k p 0 not_p ∙ get_or-set_other xs a k b 0 not_a
 
--- where a node leads to another one that leads back, it leads back
+-- if node `y` leads back, and `x` is the same node, then `x` leads back
 pub led : (many : ℕ) (ys : List ℕ) (i x y : ℕ) → x ≡ y → y < many → at ys y ≡ i → (x < many) × (at ys x ≡ i)
 led many ys i x y is below back = subst (λ (z : ℕ). (z < many) × (at ys z ≡ i)) (sym is) (below, back)
 
--- what leads to a node that leads back to another is that one
+-- if one node leads to a second, and the second leads back to a third, the first and the third are the same
 pub from : (many : ℕ) (xs ys : List ℕ) (i j k : ℕ) → LeadsBack many xs ys → i < many → at xs i ≡ j → at ys j ≡ k → i ≡ k
 from many xs ys i j k back below to is = sym (back i below).1 ∙ (ap (at ys) to ∙ is)
 
@@ -98,7 +98,7 @@ unlink_leads many xs ys p a b as_many as_many2 lt_p lt_a lt_b not_a not_b to lea
 pub head_below : (count q : ℕ) → q < count → count + q < count + count
 head_below count q lt = omega arith
 
--- a number in the ring of q is not that of another ring
+-- a number is in only one ring
 pub one_ring : (n q r : ℕ) → n ≡ suc q → n ≡ suc r → q ≡ r
 one_ring n q r a b = let e : suc q ≡ suc r = sym a ∙ b in omega (arith, e)
 
@@ -106,7 +106,7 @@ one_ring n q r a b = let e : suc q ≡ suc r = sym a ∙ b in omega (arith, e)
 pub suc_zero : (n : ℕ) → suc n ≡ 0 → ⊥
 suc_zero n e = omega arith
 
--- a number that is in a ring is in one
+-- an owner that is not 0 is 1 more than the number of a ring
 pub ring_of : (n : ℕ) → n ≢ 0 → (q : ℕ) × (n ≡ suc q)
 ring_of zero some = absurd (some refl)
 ring_of (suc q) some = (q, refl)
@@ -175,7 +175,7 @@ first_read count owners next previous q x h lt read other =
     subst (λ (y : ℕ). (y < count) × (at owners y ≡ suc q)) (sym e)
     (first_in count owners next previous q h lt (λ same. other (e ∙ same)))
 
--- if the ring of a number is set twice, it is the one of the second time
+-- if the ring of a number is set twice, the second ring counts
 pub entered : (old mid new : RingTable) (p n : ℕ) → mid ≡ record old { owners = set old.owners p 0 }
     → new ≡ record mid { owners = set mid.owners p n } → new ≡ record old { owners = set old.owners p n }
 entered old mid new p n first second = second

@@ -23,7 +23,7 @@ bare_at own s p chain q l none =
       low_below = omega (arith, l.low_below, l.high, l.low);
     }
 
--- where a chain without nodes takes the place of one without messages, a contract sees its queue there
+-- if a chain without nodes replaces the chain of a place without messages, contracts see its queue there
 pub seen_reset : (s : Slab Node) (chains : List Chain) (sound : IsSound s chains) (view : List (Option Queue))
     → map (slot_of s) chains ≡ view → (p : ℕ) → IsPlace view p → (queue_at view p).messages ≡ [] → (after : Chain)
     → IsBare after → IsSeen s (set chains p after) (set view p (slot after (bare_queue after)))
@@ -36,7 +36,7 @@ seen_reset s chains sound view is p there none after bare =
     seen_same s s _ _ _ _ refl refl
     (rw same (sym (slots-set chains sound.queues p after _ t.below sound.store.as_many))) seen
 
--- where the mark of a place without messages goes, a contract sees a queue without messages that is not full
+-- if a place without messages loses its full mark, contracts see an empty queue that is not full
 pub seen_unmarked : (s : Slab Node) (chains : List Chain) (sound : IsSound s chains) (view : List (Option Queue))
     → map (slot_of s) chains ≡ view → (p : ℕ) → IsPlace view p → (queue_at view p).messages ≡ [] → (chain : Chain)
     → chain ≡ get_or chains p chain
@@ -53,7 +53,7 @@ seen_unmarked s chains sound view is p there none chain read =
         → Some (without_messages q) ≡ slot (record chain { full = false }) (bare_queue (record chain { full = false }))
     shown q chain there high low = rw (there, high, low) refl
 
--- where the chain of a place without messages is there no longer, a contract sees that the place has gone
+-- if the chain of a place without messages is marked as gone, contracts see that the place has gone
 pub seen_gone : (s : Slab Node) (chains : List Chain) (sound : IsSound s chains) (view : List (Option Queue))
     → map (slot_of s) chains ≡ view → (p : ℕ) → IsPlace view p → (queue_at view p).messages ≡ [] → (chain : Chain)
     → chain ≡ get_or chains p chain → IsSeen s (set chains p (record chain { there = false })) (set view p None)
@@ -63,7 +63,7 @@ seen_gone s chains sound view is p there none chain read =
     seen_reset s chains sound view is p there none (record chain { there = false })
     (record { count = bare.count; bytes = bare.bytes; high_bounded = bare.high_bounded; low_below = bare.low_below })
 
--- with a chain without nodes after all others, a contract sees its queue after the rest
+-- if a chain without nodes is added after all others, contracts see its queue after the others
 pub seen_push : (s : Slab Node) (chains : List Chain) (sound : IsSound s chains) (view : List (Option Queue))
     → map (slot_of s) chains ≡ view → (after : Chain) → IsBare after
     → IsSeen s (chains ++ after ∷ []) (view ++ slot after (bare_queue after) ∷ [])
@@ -72,7 +72,7 @@ seen_push s chains sound view is after bare =
     let seen = seen_store _ s _ _ (store_push _ s chains sound.queues 0 after sound.store bare) in
     seen_same s s _ _ _ _ refl refl (rw same (sym (slots-push chains sound.queues after _ sound.store.as_many))) seen
 
--- where a chain without nodes takes the number of a place that is gone, a contract sees its queue there
+-- if a chain without nodes gets the number of a place that has gone, contracts see its queue there
 pub seen_again : (s : Slab Node) (chains : List Chain) (sound : IsSound s chains) (view : List (Option Queue))
     → map (slot_of s) chains ≡ view → (p : ℕ) → p < length chains → (get_or chains p no_chain).there ≡ false
     → (after : Chain) → IsBare after → IsSeen s (set chains p after) (set view p (slot after (bare_queue after)))
@@ -83,7 +83,7 @@ seen_again s chains sound view is p below gone after bare =
     seen_same s s _ _ _ _ refl refl (rw same (sym (slots-set chains sound.queues p after _ below sound.store.as_many)))
     seen
 
--- a new chain has no nodes, where its high water mark is at most 4,096 and its low one is below that
+-- a new chain has no nodes; its high water mark is at most 4,096, and its low one is below that
 pub new_is_bare : (above below : ℕ) → above ≤ 4096 → below < above → IsBare (new_chain above below)
 new_is_bare above below high low =
     record {

@@ -18,19 +18,19 @@ use Rattle.smx_queues.proofs.LeftLemmas.{flow_skips, many_queues, next_shown, sk
 pub many : (ds : List DriverSpec) (all : List (Option Queue)) → IsFlow ds all → length all ≡ length (places_of ds)
 many ds all h = many_queues ds (places_of ds) all h.queues
 
--- a number of a queue is that of a place
+-- the number of a queue is the number of a place
 pub below : (ds : List DriverSpec) (all : List (Option Queue)) (i : ℕ) → IsFlow ds all → i < length all
     → i < length (places_of ds)
 below ds all i h lt = omega (arith, many ds all h)
 
 -- ---- the full places
 
--- where no place from a number on is full, the walk meets no full place any more
+-- if no place from a number on is full, the walk reaches no more full places
 pub full_ends : (ds : List DriverSpec) (all : List (Option Queue)) (n : ℕ) (now : List Place) → IsFlow ds all
     → fulls_of (drop n (places_of ds)) (drop n all) ≡ now → IsLeastFrom is_marked all n None → now ≡ []
 full_ends ds all n now h seen none = sym seen ∙ where_end is_marked None (places_of ds) all n (many ds all h) none
 
--- the walk meets next the least full place from its number on
+-- the walk next reaches the first full place from its number on
 pub full_steps : (ds : List DriverSpec) (all : List (Option Queue)) (n i : ℕ) (place : Place) (now : List Place)
     → IsFlow ds all
     → fulls_of (drop n (places_of ds)) (drop n all) ≡ now → IsLeastFrom is_marked all n (Some i)
@@ -45,7 +45,7 @@ full_steps ds all n i place now h seen least at =
 pub nothing_added : (xs : List ℕ) (ms : List Message) → [] ≡ ms → xs ≡ xs ++ map (λ m. m.serial) ms
 nothing_added xs ms e = subst (λ (ns : List Message). xs ≡ xs ++ map (λ m. m.serial) ns) e (sym (append-nil xs))
 
--- the place of a number is of one of the drivers
+-- the place of a number is a place of one of the drivers
 pub driver_at : (ds : List DriverSpec) (i : ℕ) (d : Place) → i < length (places_of ds)
     → (get_or (places_of ds) i d).stream.driver < length ds
 driver_at ds i d lt = (number_known ds i (get_or (places_of ds) i d) (slice_get-get_or (places_of ds) i d lt)).0
@@ -61,7 +61,7 @@ slot_messages (x ∷ all) (suc i) = slot_messages all i
 
 -- ---- all messages
 
--- where a place has none left and no later one has any, the walk meets no message any more
+-- if neither the current place nor any later one has messages left, the walk reaches no more messages
 pub messages_end : (ds : List DriverSpec) (all : List (Option Queue)) (n : ℕ) (place : Place) (left : List Message)
     (now : List QueuedMessage) → IsFlow ds all
     → messages_at place left ++ flow_of (drop n (places_of ds)) (drop n all) ≡ now
@@ -71,7 +71,8 @@ messages_end ds all n place left now h seen none least =
     sym seen ∙ (ap (λ (ms : List Message). messages_at place ms ++ flow_of (drop n (places_of ds)) (drop n all)) none
     ∙ skip_rest flow_of has_messages None (places_of ds) all n flow_skips refl (many ds all h) least)
 
--- where a place has none left, the walk meets next the first message of the least later one that has any
+-- if the current place has no messages left, the walk next reaches the first message of the first later place with
+-- messages
 pub messages_step : (ds : List DriverSpec) (all : List (Option Queue)) (n i : ℕ) (was place : Place)
     (left : List Message)
     (now : List QueuedMessage) (m : Message) (rest : List Message) → IsFlow ds all
